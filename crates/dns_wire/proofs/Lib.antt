@@ -1,0 +1,10 @@
+pub mod HeadLemmas
+pub mod Walks
+pub mod Places
+pub mod AnswerLaws
+pub mod WalkLaws
+pub mod LabelsLemmas
+pub mod Spelling
+pub mod Steps
+pub mod Answered
+pub mod ParserLemmas

@@ -1,0 +1,15 @@
+pub mod Fault
+pub mod Names
+pub mod Heads
+pub mod Standing
+pub mod Walking
+pub mod Unique
+pub mod Laws
+pub mod Parsers
+pub mod HeadAnswers
+pub mod Label
+pub mod LabelsAt
+pub mod LabelIter
+pub mod ParsedName
+pub mod Uncompressed
+pub mod NameLabels

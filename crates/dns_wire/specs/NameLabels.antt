@@ -1,0 +1,8 @@
+use Rattle.std.specs.Prelude.{ℕ, List}
+use Rattle.dns_wire.specs.Names.{Labels}
+use Rattle.dns_wire.specs.declared.octets.Octets.{Ghosts}
+use Rattle.dns_wire.specs.declared.name.Name.{Name}
+
+-- the labels of a name in octets of its own
+abbrev pub name_labels : {X : Type 0} {holder : Ghosts X} → Name X holder → Labels
+name_labels name = name.whole.0.0

@@ -1,0 +1,28 @@
+//! Theorems on names in octets. The functions do nothing: each contract is a theorem over all octets and places.
+ghost use Rattle.dns_wire.specs.Laws.{NameOrFault, NameOrFaultNotBoth, OneName, OneFault, StandingNames, EndOrSkipFault, EndOrSkipFaultNotBoth, OneEnd, StandingNamesEnd, SkipFaultsAreFaults};
+
+/// At each place exactly one name stands or exactly one fault is met, never both.
+pub fn one_name_or_fault()
+    ensures some { NameOrFault }
+    ensures not_both { NameOrFaultNotBoth }
+    ensures one_name { OneName }
+    ensures one_fault { OneFault }
+{}
+
+/// What stands at a place is a name: labels of 1 to 63 octets, at most 255 in all.
+pub fn standing_names()
+    ensures { StandingNames }
+{}
+
+/// At each place the walked extent has exactly one end or there is a skip fault, never both.
+pub fn one_end_or_fault()
+    ensures some { EndOrSkipFault }
+    ensures not_both { EndOrSkipFaultNotBoth }
+    ensures one_end { OneEnd }
+{}
+
+/// Where a name parses, skipping ends at the same place. Where skipping fails, parsing fails with the same fault.
+pub fn skipping_agrees()
+    ensures end { StandingNamesEnd }
+    ensures fault { SkipFaultsAreFaults }
+{}

@@ -1,0 +1,22 @@
+//! Octets of DNS messages and the names in them.
+#![tactic(auto)]
+
+mod error;
+mod head;
+mod label;
+mod label_iter;
+pub mod laws;
+mod name;
+mod octets;
+mod parsed_name;
+mod parser;
+mod to_name;
+
+pub use error::{FormError, ParseError};
+pub use label::Label;
+pub use label_iter::LabelIter;
+pub use name::Name;
+pub use octets::Octets;
+pub use parsed_name::ParsedName;
+pub use parser::Parser;
+pub use to_name::ToName;
