@@ -8,3 +8,4 @@ pub mod Spelling
 pub mod Steps
 pub mod Answered
 pub mod ParserLemmas
+pub mod NameLemmas

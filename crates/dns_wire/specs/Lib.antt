@@ -1,3 +1,4 @@
+pub mod FormError
 pub mod Fault
 pub mod Names
 pub mod Heads
@@ -13,3 +14,5 @@ pub mod LabelIter
 pub mod ParsedName
 pub mod Uncompressed
 pub mod NameLabels
+pub mod Octets
+pub mod Converts

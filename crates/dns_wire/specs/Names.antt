@@ -1,5 +1,6 @@
 -- Domain names as values. RFC 1035 sections 2.3.3, 2.3.4 and 3.1.
 use Rattle.std.specs.Prelude.{◌≡◌, ℕ, ◌+◌, ◌≤◌, List, [], ◌∷◌, ◌++◌, length, map, All}
+use Rattle.std.specs.List.{flat_map}
 use Rattle.std.specs.Char.{to_ascii_lowercase}
 
 -- The labels of a name from the left, each a list of octets, without the root label. The root is the empty list.
@@ -24,10 +25,17 @@ pub record IsName (name : Labels) : Type 0 where
   pub labels : All IsLabel name
   pub short : name_size name ≤ max_size
 
--- the octets of a name without pointers: each label behind its length octet, and then the root's zero octet
+-- with the root label, which has no octets, behind the others
+abbrev pub with_root : Labels → Labels
+with_root name = name ++ [] ∷ []
+
+-- a label behind its length octet
+abbrev pub framed : List ℕ → List ℕ
+framed label = length label ∷ label
+
+-- the octets of a name without pointers: each label behind its length octet, the root label's zero octet last
 abbrev pub uncompressed : Labels → List ℕ
-uncompressed [] = 0 ∷ []
-uncompressed (label ∷ name) = length label ∷ label ++ uncompressed name
+uncompressed name = flat_map framed (with_root name)
 
 -- a label with its ASCII letters A to Z lowercased
 abbrev pub lowered_label : List ℕ → List ℕ
@@ -36,7 +44,3 @@ lowered_label label = map to_ascii_lowercase label
 -- a name with its ASCII letters lowercased; names are equal up to ASCII case where these are the same
 abbrev pub lowered : Labels → Labels
 lowered name = map (λ label. lowered_label label) name
-
--- with the root label behind the others
-abbrev pub with_root : Labels → Labels
-with_root name = name ++ [] ∷ []

@@ -1,3 +1,6 @@
+ghost use Rattle.std.specs.Prelude.{◌≡◌};
+
+use std::alloc::AllocError;
 use thiserror::Error;
 
 /// What is wrong with octets that are there: a fixed text says it.
@@ -23,8 +26,27 @@ impl FormError {
         message: "long name",
     };
 
-    /// An error with this text.
-    pub fn new(message: &'static str) -> Self {
+    /// Octets are left over behind the value of record data.
+    pub const TRAILING_DATA: FormError = FormError {
+        message: "trailing data in option",
+    };
+
+    /// A message that has to have one question has none.
+    pub const NO_QUESTION: FormError = FormError {
+        message: "no question",
+    };
+
+    /// A message that has to have one question has more.
+    pub const MULTIPLE_QUESTIONS: FormError = FormError {
+        message: "multiple questions",
+    };
+
+    ghost use Rattle.dns_wire.specs.FormError.{text};
+
+    /// An error that this text tells.
+    pub fn new(message: &'static str) -> Self
+        ensures { text result ≡ message.now }
+    {
         FormError { message }
     }
 }
@@ -38,4 +60,42 @@ pub enum ParseError {
     /// Octets that are there aren't as they have to be.
     #[error("{0}")]
     Form(FormError),
+}
+
+/// A buffer of fixed size has no room for what was to be stored.
+#[derive(Clone, Copy, Debug, PartialEq, Eq, Error)]
+#[error("buffer size exceeded")]
+pub struct ShortBuf;
+
+/// Why octets can't be stored.
+#[derive(Clone, Copy, Debug, PartialEq, Eq, Error)]
+pub enum AppendError {
+    /// They pass the room that there is.
+    #[error("buffer size exceeded")]
+    ShortBuf,
+    /// A growth was refused for want of memory.
+    #[error("out of memory")]
+    OutOfMemory,
+}
+
+impl From<ShortBuf> for AppendError {
+    ghost use Rattle.std.specs.Prelude.{◌≡◌};
+    ghost use Rattle.dns_wire.specs.declared.error.AppendError.TheVariants as errors;
+
+    ghost from_gives = { λ _ e. e ≡ errors.ShortBuf };
+
+    fn from(_: ShortBuf) -> Self {
+        AppendError::ShortBuf
+    }
+}
+
+impl From<AllocError> for AppendError {
+    ghost use Rattle.std.specs.Prelude.{◌≡◌};
+    ghost use Rattle.dns_wire.specs.declared.error.AppendError.TheVariants.{OutOfMemory};
+
+    ghost from_gives = { λ _ e. e ≡ OutOfMemory };
+
+    fn from(_: AllocError) -> Self {
+        AppendError::OutOfMemory
+    }
 }

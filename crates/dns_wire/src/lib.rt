@@ -2,21 +2,24 @@
 #![tactic(auto)]
 
 mod error;
+mod flatten;
 mod head;
 mod label;
 mod label_iter;
 pub mod laws;
 mod name;
+mod name_octets;
 mod octets;
 mod parsed_name;
 mod parser;
 mod to_name;
 
-pub use error::{FormError, ParseError};
+pub use error::{AppendError, FormError, ParseError, ShortBuf};
+pub use flatten::FlattenInto;
 pub use label::Label;
 pub use label_iter::LabelIter;
 pub use name::Name;
-pub use octets::Octets;
+pub use octets::{Octets, OctetsFrom, OctetsMut};
 pub use parsed_name::ParsedName;
 pub use parser::Parser;
 pub use to_name::ToName;

@@ -6,11 +6,12 @@ use crate::head::Head;
 use crate::octets::Octets;
 use crate::parsed_name::ParsedName;
 use crate::to_name::ToName;
+use std::alloc::AllocError;
 
 /// One name without pointers, in octets of its own (RFC 1035 section 3.1).
 #[derive(Debug, Drop)]
 pub struct Name<Octs: Octets> {
-    pub(crate) octets: Octs,
+    octets: Octs,
     ghost whole: { WholeName (Octs.octets octets) } by { WholeName-prop (Octs.octets octets) },
 }
 
@@ -40,7 +41,15 @@ impl<Octs: Octets> Name<Octs> {
         ensures fault { IfErr result (λ e. NotUncompressed (Octs.octets octets) (fault_of e)) }
     {
         check(octets.octets())?;
-        Ok(Name { octets })
+        Ok(Name::of_whole(octets))
+    }
+
+    /// The name that all of the octets are known to spell.
+    pub(crate) fn of_whole(octets: Octs) -> Self
+        requires { WholeName (Octs.octets octets) }
+        ensures { uncompressed (name_labels result) ≡ Octs.octets octets }
+    {
+        Name { octets }
     }
 
     /// The octets of the name.
@@ -83,3 +92,21 @@ impl<Octs: Octets> ToName for Name<Octs> {
         ParsedName::of_whole(self.octets.octets())
     }
 }
+
+/// A clone of the holder. One that doesn't hold the same octets is answered by `AllocError`.
+impl<Octs: Octets + Clone> Clone for Name<Octs> {
+    ghost use Rattle.std.specs.Prelude.{◌≡◌};
+    ghost use Rattle.dns_wire.specs.NameLabels.{name_labels};
+
+    ghost is_clone = { λ name clone. name_labels clone ≡ name_labels name };
+
+    fn clone(&self) -> Result<Self, AllocError> {
+        let octets = self.octets.clone()?;
+        if octets.octets() != self.as_slice() {
+            return Err(AllocError);
+        }
+        Ok(Name::of_whole(octets))
+    }
+}
+
+impl<Octs: Octets + Copy> Copy for Name<Octs> {}
