@@ -9,3 +9,5 @@ pub mod Steps
 pub mod Answered
 pub mod ParserLemmas
 pub mod NameLemmas
+pub mod NameOrderLemmas
+pub mod Orders

@@ -2,7 +2,6 @@
 use Rattle.std.proofs.Common.{◌≡◌, ℕ, ◌+◌, ◌≤◌, List, ◌++◌, length, length-append, arith, ap, ◌∙◌, refl, subst}
 use Rattle.dns_wire.specs.Names.{Labels, IsName, framed, uncompressed}
 use Rattle.dns_wire.specs.Standing.{Stands}
-use Rattle.dns_wire.specs.Unique.{same_name}
 use Rattle.dns_wire.specs.Uncompressed.{WholeName}
 use Rattle.dns_wire.specs.NameLabels.{name_labels}
 use Rattle.dns_wire.specs.ParsedName.{labels}
@@ -11,17 +10,12 @@ use Rattle.dns_wire.specs.declared.name.Name.{Name}
 use Rattle.dns_wire.specs.declared.parsed_name.ParsedName.{ParsedName}
 use Rattle.dns_wire.proofs.AnswerLaws.{standing_name}
 use Rattle.dns_wire.proofs.LabelsLemmas.{length-uncompressed}
+use Rattle.dns_wire.proofs.NameOrderLemmas.{uncompressed-injective}
 use Rattle.dns_wire.proofs.Spelling.{stands_spelled}
 
 -- a name stands at the start of its octets
 stands_in_own : (name : Labels) → IsName name → Stands (uncompressed name) 0 name
 stands_in_own name n = stands_spelled (uncompressed name) 0 name n refl
-
--- names with the same octets are the same
-same_octets : (m n : Labels) → IsName m → IsName n → uncompressed m ≡ uncompressed n → m ≡ n
-same_octets m n is_m is_n e =
-    let P : List ℕ → Type 0 = λ b. Stands b 0 m in
-    same_name (uncompressed n) (subst P e (stands_in_own m is_m)) (stands_in_own n is_n)
 
 name_is : {X : Type 0} {holder : Ghosts X} (name : Name X holder) → IsName (name_labels name)
 name_is name = standing_name name.whole.0.1
@@ -48,9 +42,9 @@ label_room name before label behind e =
 -- names with the same octets have the same labels
 pub same_names : {X Y : Type 0} {holder : Ghosts X} {other_holder : Ghosts Y} (name : Name X holder) (other : Name Y other_holder)
     → uncompressed (name_labels name) ≡ uncompressed (name_labels other) → name_labels name ≡ name_labels other
-same_names name other e = same_octets _ _ (name_is name) (name_is other) e
+same_names name other e = uncompressed-injective _ _ e
 
 -- the same where one of them is a parsed name
 pub same_parsed : {X : Type 0} {holder : Ghosts X} (name : Name X holder) (other : ParsedName)
     → uncompressed (name_labels name) ≡ uncompressed (labels other) → name_labels name ≡ labels other
-same_parsed name other e = same_octets _ _ (name_is name) (parsed_is other) e
+same_parsed name other e = uncompressed-injective _ _ e

@@ -1,7 +1,10 @@
--- What holds of all octets and all places.
-use Rattle.std.specs.Prelude.{◌≡◌, ℕ, ◌⊎◌, List}
+-- What holds of all octets and places, and of all names.
+use Rattle.std.specs.Prelude.{◌≡◌, ◌↔◌, ℕ, ◌⊎◌, List}
+use Rattle.std.specs.Cmp.{IsTotalOrder}
+use Rattle.std.specs.declared.cmp.Ordering.TheVariants.{Equal}
 use Rattle.dns_wire.specs.Fault.{Fault}
-use Rattle.dns_wire.specs.Names.{Labels, IsName}
+use Rattle.dns_wire.specs.Names.{Labels, IsName, lowered}
+use Rattle.dns_wire.specs.NameOrders.{name_order, composed_order, name_hash_input}
 use Rattle.dns_wire.specs.Standing.{Stands, FaultAt}
 use Rattle.dns_wire.specs.Walking.{Walked, SkipFaultAt}
 
@@ -44,3 +47,23 @@ StandingNamesEnd = (b : List ℕ) (p : ℕ) (name : Labels) → Stands b p name 
 -- where skipping meets a fault, parsing meets it
 abbrev pub SkipFaultsAreFaults : Type 0
 SkipFaultsAreFaults = (b : List ℕ) (p : ℕ) (f : Fault) → SkipFaultAt b p f → FaultAt b p f
+
+-- the order of names from the root is total
+abbrev pub NameOrderIsTotal : Type 0
+NameOrderIsTotal = IsTotalOrder name_order
+
+-- so is that of their octets without pointers
+abbrev pub ComposedOrderIsTotal : Type 0
+ComposedOrderIsTotal = IsTotalOrder composed_order
+
+-- the first tells names apart exactly where they are not equal up to ASCII case
+abbrev pub NameOrderAgrees : Type 0
+NameOrderAgrees = (m n : Labels) → (name_order m n ≡ Equal) ↔ (lowered m ≡ lowered n)
+
+-- so does the second
+abbrev pub ComposedOrderAgrees : Type 0
+ComposedOrderAgrees = (m n : Labels) → (composed_order m n ≡ Equal) ↔ (lowered m ≡ lowered n)
+
+-- equal names hash alike
+abbrev pub EqualNamesHashAlike : Type 0
+EqualNamesHashAlike = (m n : Labels) → lowered m ≡ lowered n → name_hash_input m ≡ name_hash_input n

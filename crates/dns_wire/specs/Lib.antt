@@ -16,3 +16,5 @@ pub mod Uncompressed
 pub mod NameLabels
 pub mod Octets
 pub mod Converts
+pub mod NameOrders
+pub mod NameTies

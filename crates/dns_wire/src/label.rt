@@ -1,6 +1,8 @@
 ghost use Rattle.std.specs.Prelude.{◌≡◌, ◌<◌, ◌↔◌, IsTrue, ℕ, List, [], length};
 
 use crate::head::Head;
+use std::cmp::Ordering;
+use std::hash::{Hash, Hasher};
 
 /// One label of a name, without its length octet: 1 to 63 octets, or none for the root label.
 ///
@@ -14,6 +16,7 @@ pub struct Label<'a> {
 impl<'a> Label<'a> {
     ghost use Rattle.dns_wire.specs.Names.{Labels, lowered_label};
     ghost use Rattle.dns_wire.specs.Label.{label_octets, IsFirst};
+    ghost use Rattle.dns_wire.specs.NameOrders.{framed_order};
     ghost use Rattle.dns_wire.specs.Unique.{NameAt};
     ghost use Rattle.dns_wire.specs.Standing.{Stands};
 
@@ -43,6 +46,20 @@ impl<'a> Label<'a> {
         ensures { IsTrue result ↔ (label_octets self.now ≡ []) }
     {
         self.octets.is_empty()
+    }
+
+    /// Whether the octets are the same, with ASCII letters lowercased.
+    pub(crate) fn is_same(&self, other: &Label<'_>) -> bool
+        ensures { IsTrue result ↔ (lowered_label (label_octets self.now) ≡ lowered_label (label_octets other.now)) }
+    {
+        self.octets.eq_ignore_ascii_case(other.octets)
+    }
+
+    /// Compares the length octets, and then the octets with ASCII letters lowercased.
+    pub(crate) fn lowercase_composed_cmp(&self, other: &Label<'_>) -> Ordering
+        ensures { result ≡ framed_order (label_octets self.now) (label_octets other.now) }
+    {
+        self.len().cmp(&other.len()).then(self.cmp(other))
     }
 
     /// The first label of the name at a place, and the place behind it.
@@ -79,7 +96,7 @@ impl PartialEq for Label<'_> {
     ghost laws = { Prim.search (comparing, rules) };
 
     fn eq(&self, other: &Self) -> bool {
-        self.octets.eq_ignore_ascii_case(other.octets)
+        self.is_same(other)
     }
 }
 
@@ -88,4 +105,61 @@ impl Eq for Label<'_> {
     ghost use Rattle.std.specs.Cmp.Rules.{comparing};
 
     ghost laws = { Prim.search (comparing, rules) };
+}
+
+impl PartialOrd for Label<'_> {
+    ghost use Rattle.std.proofs.Common.{rules};
+    ghost use Rattle.std.specs.Cmp.{partial_order_from_own_ties};
+    ghost use Rattle.std.specs.Cmp.Rules.{comparing};
+    ghost use Rattle.std.specs.Ordering.{on, as_partial_cmp};
+    ghost use Rattle.dns_wire.specs.Label.{label_octets};
+    ghost use Rattle.dns_wire.specs.NameOrders.{label_order};
+
+    ghost partial_cmp = { as_partial_cmp (on label_octets label_order) };
+
+    ghost laws = { partial_order_from_own_ties (Prim.search (comparing, rules)) (Prim.search (comparing, rules)) };
+
+    fn partial_cmp(&self, other: &Self) -> Option<Ordering> {
+        Some(self.cmp(other))
+    }
+}
+
+impl Ord for Label<'_> {
+    ghost use Rattle.std.proofs.Common.{rules};
+    ghost use Rattle.std.specs.Cmp.Rules.{comparing};
+    ghost use Rattle.std.specs.Ordering.{on};
+    ghost use Rattle.dns_wire.specs.Label.{label_octets};
+    ghost use Rattle.dns_wire.specs.NameOrders.{label_order};
+
+    ghost cmp = { on label_octets label_order };
+
+    ghost total = { Prim.search (comparing, rules) };
+
+    ghost matches_partial_cmp = { Prim.search (comparing, rules) };
+
+    ghost matches_eq = { Prim.search (comparing, rules) };
+
+    fn cmp(&self, other: &Self) -> Ordering {
+        let others = other.octets.iter().map(|octet| octet.to_ascii_lowercase());
+        let octets = self.octets.iter().map(|octet| octet.to_ascii_lowercase());
+        octets.cmp(others)
+    }
+}
+
+impl Hash for Label<'_> {
+    ghost use Rattle.std.proofs.Common.{rules};
+    ghost use Rattle.std.specs.Cmp.Rules.{hashing};
+    ghost use Rattle.dns_wire.specs.Label.{label_octets};
+    ghost use Rattle.dns_wire.specs.NameOrders.{label_hash_input};
+
+    ghost hash_input = { λ label. label_hash_input (label_octets label) };
+
+    ghost respects_eq = { Prim.search (hashing, rules) };
+
+    fn hash<H: Hasher>(&self, state: &mut H) {
+        state.write_u8(self.len() as u8);
+        for octet in self.octets {
+            state.write_u8(octet.to_ascii_lowercase());
+        }
+    }
 }

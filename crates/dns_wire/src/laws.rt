@@ -1,5 +1,6 @@
 //! Theorems on names in octets. The functions do nothing: each contract is a theorem over all octets and places.
 ghost use Rattle.dns_wire.specs.Laws.{NameOrFault, NameOrFaultNotBoth, OneName, OneFault, StandingNames, EndOrSkipFault, EndOrSkipFaultNotBoth, OneEnd, StandingNamesEnd, SkipFaultsAreFaults};
+ghost use Rattle.dns_wire.specs.Laws.{NameOrderIsTotal, ComposedOrderIsTotal, NameOrderAgrees, ComposedOrderAgrees, EqualNamesHashAlike};
 
 /// At each place exactly one name stands or exactly one fault is met, never both.
 pub fn one_name_or_fault()
@@ -25,4 +26,13 @@ pub fn one_end_or_fault()
 pub fn skipping_agrees()
     ensures end { StandingNamesEnd }
     ensures fault { SkipFaultsAreFaults }
+{}
+
+/// Both orders of names are total and agree with equality up to ASCII case, and equal names hash alike.
+pub fn name_orders()
+    ensures name_order { NameOrderIsTotal }
+    ensures composed_order { ComposedOrderIsTotal }
+    ensures name_order_agrees { NameOrderAgrees }
+    ensures composed_order_agrees { ComposedOrderAgrees }
+    ensures hash { EqualNamesHashAlike }
 {}

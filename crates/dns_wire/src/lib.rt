@@ -1,6 +1,7 @@
 //! Octets of DNS messages and the names in them.
 #![tactic(auto)]
 
+mod compare;
 mod error;
 mod flatten;
 mod head;
@@ -22,4 +23,4 @@ pub use name::Name;
 pub use octets::{Octets, OctetsFrom, OctetsMut};
 pub use parsed_name::ParsedName;
 pub use parser::Parser;
-pub use to_name::ToName;
+pub use to_name::{ToName, ToNameExt};

@@ -1,12 +1,15 @@
 ghost use Rattle.std.specs.Prelude.{◌≡◌, ◌+◌, ◌≤◌, ℕ, [], length, OnOk, IfOk, IfErr, IsOk};
 ghost use Rattle.dns_wire.specs.Uncompressed.{WholeName, WholeName-prop};
 
+use crate::compare::hash_labels;
 use crate::error::{FormError, ParseError};
 use crate::head::Head;
 use crate::octets::Octets;
 use crate::parsed_name::ParsedName;
-use crate::to_name::ToName;
+use crate::to_name::{ToName, ToNameExt};
 use std::alloc::AllocError;
+use std::cmp::Ordering;
+use std::hash::{Hash, Hasher};
 
 /// One name without pointers, in octets of its own (RFC 1035 section 3.1).
 #[derive(Debug, Drop)]
@@ -110,3 +113,79 @@ impl<Octs: Octets + Clone> Clone for Name<Octs> {
 }
 
 impl<Octs: Octets + Copy> Copy for Name<Octs> {}
+
+impl<Octs: Octets> PartialEq for Name<Octs> {
+    ghost use Rattle.std.specs.Cmp.{on_equiv, partial_equiv_from_equiv};
+    ghost use Rattle.std.specs.Ordering.{on};
+    ghost use Rattle.dns_wire.specs.NameLabels.{name_labels};
+    ghost use Rattle.dns_wire.specs.NameOrders.{names_equal};
+    ghost use Rattle.dns_wire.specs.NameTies.{names_equal-equiv};
+
+    ghost eq = { on (λ n. name_labels n) names_equal };
+
+    ghost laws = { partial_equiv_from_equiv (on_equiv (λ n. name_labels n) names_equal-equiv) };
+
+    fn eq(&self, other: &Self) -> bool {
+        self.name_eq(other)
+    }
+}
+
+impl<Octs: Octets> Eq for Name<Octs> {
+    ghost use Rattle.std.specs.Cmp.{on_equiv};
+    ghost use Rattle.dns_wire.specs.NameLabels.{name_labels};
+    ghost use Rattle.dns_wire.specs.NameTies.{names_equal-equiv};
+
+    ghost laws = { on_equiv (λ n. name_labels n) names_equal-equiv };
+}
+
+impl<Octs: Octets> PartialOrd for Name<Octs> {
+    ghost use Rattle.std.specs.Cmp.{on_po};
+    ghost use Rattle.std.specs.Ordering.{on, as_partial_cmp};
+    ghost use Rattle.dns_wire.specs.NameLabels.{name_labels};
+    ghost use Rattle.dns_wire.specs.NameOrders.{name_order};
+    ghost use Rattle.dns_wire.specs.NameTies.{name_order-partial};
+
+    ghost partial_cmp = { on (λ n. name_labels n) (as_partial_cmp name_order) };
+
+    ghost laws = { on_po (λ n. name_labels n) name_order-partial };
+
+    fn partial_cmp(&self, other: &Self) -> Option<Ordering> {
+        Some(self.cmp(other))
+    }
+}
+
+/// By the labels from the root leftwards, the case of ASCII letters ignored (RFC 4034 section 6.1).
+impl<Octs: Octets> Ord for Name<Octs> {
+    ghost use Rattle.std.proofs.Common.{refl};
+    ghost use Rattle.std.specs.Cmp.{on_total};
+    ghost use Rattle.std.specs.Ordering.{on};
+    ghost use Rattle.dns_wire.specs.NameLabels.{name_labels};
+    ghost use Rattle.dns_wire.specs.NameOrders.{name_order};
+    ghost use Rattle.dns_wire.specs.NameTies.{name_order-total, name_order-ties};
+
+    ghost cmp = { on (λ n. name_labels n) name_order };
+
+    ghost total = { on_total (λ n. name_labels n) name_order-total };
+
+    ghost matches_partial_cmp = { λ x y. refl };
+
+    ghost matches_eq = { λ x y. name_order-ties (name_labels x) (name_labels y) };
+
+    fn cmp(&self, other: &Self) -> Ordering {
+        self.name_cmp(other)
+    }
+}
+
+impl<Octs: Octets> Hash for Name<Octs> {
+    ghost use Rattle.dns_wire.specs.NameLabels.{name_labels};
+    ghost use Rattle.dns_wire.specs.NameOrders.{name_hash_input};
+    ghost use Rattle.dns_wire.specs.NameTies.{name_hash_input-alike};
+
+    ghost hash_input = { λ n. name_hash_input (name_labels n) };
+
+    ghost respects_eq = { λ x y same. name_hash_input-alike (name_labels x) (name_labels y) same };
+
+    fn hash<H: Hasher>(&self, state: &mut H) {
+        hash_labels(&self.as_parsed(), state);
+    }
+}

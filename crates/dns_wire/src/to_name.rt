@@ -1,4 +1,6 @@
+use crate::compare::{order_composed, order_from_root, same_labels, same_octets};
 use crate::parsed_name::ParsedName;
+use std::cmp::Ordering;
 
 /// What stands for a name.
 pub trait ToName {
@@ -14,6 +16,44 @@ pub trait ToName {
         ensures labels { labels result ≡ name self.now }
         ensures is_name { IsName (name self.now) };
 }
+
+/// Comparisons of whatever stands for a name. They take no memory.
+pub trait ToNameExt: ToName {
+    ghost use Rattle.std.specs.Prelude.{◌≡◌, ◌↔◌, IsTrue};
+    ghost use Rattle.dns_wire.specs.Names.{lowered};
+    ghost use Rattle.dns_wire.specs.NameOrders.{name_order, composed_order};
+
+    /// Whether two names are equal up to ASCII case (RFC 1035 section 2.3.3).
+    fn name_eq<N: ToName>(&self, other: &N) -> bool
+        ensures { IsTrue result ↔ (lowered (Self.name self.now) ≡ lowered (N.name other.now)) }
+    {
+        same_labels(&self.as_parsed(), &other.as_parsed())
+    }
+
+    /// Whether two names are equal octet for octet: they have the same labels in the same letter case.
+    fn octets_eq<N: ToName>(&self, other: &N) -> bool
+        ensures { IsTrue result ↔ (Self.name self.now ≡ N.name other.now) }
+    {
+        same_octets(&self.as_parsed(), &other.as_parsed())
+    }
+
+    /// Compares labels, lowercased, from the root leftwards (RFC 4034 section 6.1). A name stands before those of which
+    /// it is a proper ending.
+    fn name_cmp<N: ToName>(&self, other: &N) -> Ordering
+        ensures { result ≡ name_order (Self.name self.now) (N.name other.now) }
+    {
+        order_from_root(&self.as_parsed(), &other.as_parsed())
+    }
+
+    /// Compares the octets of the names without pointers, lowercased (RFC 4034 sections 6.2 and 6.3).
+    fn lowercase_composed_cmp<N: ToName>(&self, other: &N) -> Ordering
+        ensures { result ≡ composed_order (Self.name self.now) (N.name other.now) }
+    {
+        order_composed(&self.as_parsed(), &other.as_parsed())
+    }
+}
+
+impl<T: ToName> ToNameExt for T {}
 
 impl ToName for ParsedName<'_> {
     ghost use Rattle.dns_wire.specs.ParsedName.{labels};
