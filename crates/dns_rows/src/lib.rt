@@ -1,0 +1,15 @@
+//! Tests of the library's public calls: the worked examples, one table a subject, with answers from outside.
+//!
+//! Every test that crosses crates stands here, so that the crates below are proved once. Nothing is exported.
+#![tactic(auto)]
+
+#[cfg(test)]
+mod error;
+#[cfg(test)]
+mod names;
+#[cfg(test)]
+mod octets;
+#[cfg(test)]
+mod orders;
+#[cfg(test)]
+mod parser;

@@ -1,0 +1,257 @@
+//! Names in octets: parsed, skipped, gone over from both ends, and held in octets of their own.
+use dns_wire::{FormError, Name, ParseError, ParsedName, Parser, ToName, ToNameExt};
+use std::process::Abort;
+use std::test::Fail;
+
+const BAD_LABEL: ParseError = ParseError::Form(FormError::BAD_LABEL);
+
+const BAD_POINTER: ParseError = ParseError::Form(FormError::BAD_POINTER);
+
+const LONG_NAME: ParseError = ParseError::Form(FormError::LONG_NAME);
+
+/// A message of a question and an answer, both for example.com.
+const POSITIVE_RESPONSE: &[u8] =
+    b"\x00\x00\x81\xA0\x00\x01\x00\x01\x00\x00\x00\x00\x07example\x03com\x00\x00\x01\x00\x01\xC0\x0C\x00\x01\x00\x01\x00\x00\x0E\x10\x00\x04\xCB\x00\x71\x01";
+
+/// A place in a message, and what parsing and skipping a name there answer.
+#[derive(Clone, Copy)]
+struct Case {
+    message: &'static [u8],
+    place: usize,
+    /// The octets of the name without pointers, and the place behind it.
+    parsed: Result<(&'static [u8], usize), ParseError>,
+    /// The place behind the name.
+    skipped: Result<usize, ParseError>,
+}
+
+const CASES: [Case; 11] = [
+    // a question's name, and an owner that points to it
+    Case {
+        message: POSITIVE_RESPONSE,
+        place: 12,
+        parsed: Ok((b"\x07example\x03com\x00", 25)),
+        skipped: Ok(25),
+    },
+    Case {
+        message: POSITIVE_RESPONSE,
+        place: 29,
+        parsed: Ok((b"\x07example\x03com\x00", 31)),
+        skipped: Ok(31),
+    },
+    // a pointer to the middle of a name
+    Case {
+        message: b"\x07example\x03com\x00\x01a\xC0\x08",
+        place: 13,
+        parsed: Ok((b"\x01a\x03com\x00", 17)),
+        skipped: Ok(17),
+    },
+    // compression loop
+    Case {
+        message: b"\x00\x00\x00\x00\x00\x01\x00\x00\x00\x00\x00\x00\x01\x61\xC0\x0C\x00\x01\x00\x01",
+        place: 12,
+        parsed: Err(LONG_NAME),
+        skipped: Ok(16),
+    },
+    // pointer to its own place
+    Case {
+        message: b"\x00\x00\x00\x00\x00\x01\x00\x00\x00\x00\x00\x00\xC0\x0C\x00\x01\x00\x01",
+        place: 12,
+        parsed: Err(BAD_POINTER),
+        skipped: Ok(14),
+    },
+    // pointer into the header, where octet 4 is zero
+    Case {
+        message: b"\x00\x00\x00\x00\x00\x01\x00\x00\x00\x00\x00\x00\xC0\x04\x00\x01\x00\x01",
+        place: 12,
+        parsed: Ok((b"\x00", 14)),
+        skipped: Ok(14),
+    },
+    // reserved label types
+    Case {
+        message: b"\x00\x00\x00\x00\x00\x01\x00\x00\x00\x00\x00\x00\x40\x00\x00\x01\x00\x01",
+        place: 12,
+        parsed: Err(BAD_LABEL),
+        skipped: Err(BAD_LABEL),
+    },
+    Case {
+        message: b"\x00\x00\x00\x00\x00\x01\x00\x00\x00\x00\x00\x00\x80\x00\x00\x01\x00\x01",
+        place: 12,
+        parsed: Err(BAD_LABEL),
+        skipped: Err(BAD_LABEL),
+    },
+    // nothing behind the header
+    Case {
+        message: b"\x00\x00\x00\x00\x00\x01\x00\x00\x00\x00\x00\x00",
+        place: 12,
+        parsed: Err(ParseError::ShortInput),
+        skipped: Err(ParseError::ShortInput),
+    },
+    // half a pointer, and a label that runs past the end
+    Case {
+        message: b"\x00\xC0",
+        place: 1,
+        parsed: Err(ParseError::ShortInput),
+        skipped: Err(ParseError::ShortInput),
+    },
+    Case {
+        message: b"\x03co",
+        place: 0,
+        parsed: Err(ParseError::ShortInput),
+        skipped: Err(ParseError::ShortInput),
+    },
+];
+
+#[test]
+fn parses_and_skips(rt: HostRuntime) -> Result<(), Fail> {
+    for case in CASES {
+        let mut parser = Parser::new(case.message);
+        parser.seek(case.place)?;
+        let mut skipper = parser;
+        match case.parsed {
+            Ok((octets, end)) => {
+                let name = ParsedName::parse(&mut parser)?;
+                assert!(rt; name.octets_eq(&Name::from_octets(octets)?));
+                assert_eq!(rt; name.compose_len(), octets.len());
+                assert_eq!(rt; name.is_root(), octets.len() == 1);
+                assert_eq!(rt; parser.pos(), end);
+            }
+            Err(fault) => {
+                assert_eq!(rt; ParsedName::parse(&mut parser).map(|_| ()), Err(fault));
+                assert_eq!(rt; parser.pos(), case.place);
+            }
+        }
+        let skipped = ParsedName::skip(&mut skipper);
+        assert_eq!(rt; skipped.map(|()| skipper.pos()), case.skipped);
+        assert_eq!(rt; skipper.pos(), case.skipped.unwrap_or(case.place));
+    }
+    Ok(())
+}
+
+#[test]
+fn sees_no_further_than_the_data(rt: HostRuntime) -> Result<(), Fail> {
+    // a CNAME record whose data of one octet is the first of a pointer
+    let message =
+        b"\x00\x00\x00\x00\x00\x00\x00\x01\x00\x00\x00\x00\x00\x00\x05\x00\x01\x00\x00\x00\x00\x00\x01\xC0\x0C";
+    let mut parser = Parser::new(message);
+    parser.advance(23)?;
+    let mut inner = parser.parse_parser(1)?;
+    let short = Err(ParseError::ShortInput);
+    assert_eq!(rt; ParsedName::parse(&mut inner).map(|_| ()), short);
+    assert_eq!(rt; ParsedName::skip(&mut inner), short);
+    assert_eq!(rt; inner.pos(), 23);
+    let mut whole = Parser::new(message);
+    whole.seek(23)?;
+    assert!(rt; ParsedName::parse(&mut whole)?.is_root());
+    Ok(())
+}
+
+#[test]
+fn has_at_most_255_octets(rt: HostRuntime) -> Result<(), Fail> {
+    // labels of 63, 63, 63 and 61 octets
+    let mut longest = [b'a'; 255];
+    longest[0] = 63;
+    longest[64] = 63;
+    longest[128] = 63;
+    longest[192] = 61;
+    longest[254] = 0;
+    let mut parser = Parser::new(&longest);
+    let name = ParsedName::parse(&mut parser)?;
+    assert_eq!(rt; name.compose_len(), 255);
+    assert_eq!(rt; parser.pos(), 255);
+    assert!(rt; Name::from_octets(longest.as_slice())?.octets_eq(&name));
+    // the last of 62
+    let mut longer = [b'a'; 256];
+    longer[0] = 63;
+    longer[64] = 63;
+    longer[128] = 63;
+    longer[192] = 62;
+    longer[255] = 0;
+    let mut parser = Parser::new(&longer);
+    assert_eq!(rt; ParsedName::parse(&mut parser).map(|_| ()), Err(LONG_NAME));
+    assert_eq!(rt; ParsedName::skip(&mut parser), Err(LONG_NAME));
+    assert_eq!(rt; parser.pos(), 0);
+    assert_eq!(rt; Name::from_octets(longer.as_slice()).map(|_| ()), Err(LONG_NAME));
+    // the size is tested before the octets are asked for
+    let cut = &longer[..200];
+    assert_eq!(rt;
+        ParsedName::parse(&mut Parser::new(cut)).map(|_| ()),
+        Err(LONG_NAME)
+    );
+    assert_eq!(rt; ParsedName::skip(&mut Parser::new(cut)), Err(LONG_NAME));
+    Ok(())
+}
+
+#[test]
+fn goes_over_labels_from_both_ends(rt: HostRuntime) -> Result<(), Fail> {
+    let mut parser = Parser::new(b"\x03com\x00\x07example\xC0\x00\x01a\xC0\x05");
+    parser.seek(15)?;
+    let name = ParsedName::parse(&mut parser)?;
+    let texts = [b"a".as_slice(), b"example", b"com", b""];
+    let mut labels = name.iter_labels();
+    for text in texts {
+        assert_eq!(rt; labels.next().map(|label| label.as_slice()), Some(text));
+    }
+    assert!(rt; labels.next().is_none() && labels.next_back().is_none());
+    let mut labels = name.iter_labels();
+    for text in texts.iter().rev() {
+        assert_eq!(rt;
+            labels.next_back().map(|label| label.as_slice()),
+            Some(*text)
+        );
+    }
+    assert!(rt; labels.next_back().is_none() && labels.next().is_none());
+    let mut labels = name.iter_labels();
+    assert_eq!(rt; labels.next().map(|label| label.len()), Some(1));
+    assert_eq!(rt; labels.next_back().map(|label| label.is_root()), Some(true));
+    assert_eq!(rt;
+        labels.next_back().map(|label| label.is_root()),
+        Some(false)
+    );
+    assert_eq!(rt; labels.map(|label| label.len()).max(), Some(7));
+    Ok(())
+}
+
+#[test]
+fn takes_whole_octets_alone(rt: HostRuntime) -> Result<(), Fail> {
+    for (octets, answer) in [
+        (b"\x00".as_slice(), Ok(())),
+        (b"\x02Ab\x00", Ok(())),
+        (b"\x02Ab\x00\x00", Err(LONG_NAME)),
+        (b"\x02Ab\xC0\x00", Err(BAD_POINTER)),
+        (b"\x40\x00", Err(BAD_LABEL)),
+        (b"\x80\x00", Err(BAD_LABEL)),
+        (b"\x02Ab", Err(ParseError::ShortInput)),
+        (b"\x02A", Err(ParseError::ShortInput)),
+        (b"\xC0", Err(ParseError::ShortInput)),
+        (b"", Err(ParseError::ShortInput)),
+    ] {
+        assert_eq!(rt;
+            Name::from_octets(octets).map(|_| ()),
+            answer,
+            "at {octets:?}"
+        );
+    }
+    assert_eq!(rt;
+        Name::from_octets(b"\x02Ab\x00".as_slice())?.as_slice(),
+        b"\x02Ab\x00".as_slice()
+    );
+    assert_eq!(rt; Name::root_slice().as_slice(), b"\x00".as_slice());
+    Ok(())
+}
+
+fn assert_is_ab<N: ToName>(rt: &impl Abort, name: &N) {
+    let parsed = name.as_parsed();
+    let first = parsed.iter_labels().next();
+    assert_eq!(rt; first.map(|label| label.as_slice()), Some(b"Ab".as_slice()));
+    assert_eq!(rt; parsed.compose_len(), 4);
+}
+
+#[test]
+fn stands_for_a_name(rt: HostRuntime) -> Result<(), Fail> {
+    let octets = *b"\x02Ab\x00";
+    let name = Name::from_octets(octets)?;
+    assert_is_ab(&rt, &name);
+    assert_is_ab(&rt, &&name);
+    assert_is_ab(&rt, &ParsedName::parse(&mut Parser::new(&octets))?);
+    Ok(())
+}

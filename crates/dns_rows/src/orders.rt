@@ -1,0 +1,90 @@
+//! Comparisons and hashes of labels and names.
+use dns_wire::{Label, Name, ParsedName, Parser, ToName, ToNameExt};
+use std::cmp::Ordering;
+use std::hash::{DefaultHasher, Hash, Hasher};
+use std::test::Fail;
+
+fn hash_of<T: Hash>(value: &T) -> u64 {
+    let mut state = DefaultHasher::new();
+    value.hash(&mut state);
+    state.finish()
+}
+
+fn compare<T: Ord>(value: &T, other: &T) -> Ordering {
+    value.cmp(other)
+}
+
+/// The names of RFC 4034 section 6.1 in canonical order, one behind the other.
+const CANONICAL_ORDER: &[u8] =
+    b"\x07example\x00\x01a\x07example\x00\x08yljkjljk\x01a\x07example\x00\x01Z\x01a\x07example\x00\x04zABC\x01a\x07EXAMPLE\x00\x01z\x07example\x00\x01\x01\x01z\x07example\x00\x01*\x01z\x07example\x00\x01\xC8\x01z\x07example\x00";
+
+#[test]
+fn orders_names_from_the_root(rt: HostRuntime) -> Result<(), Fail> {
+    let mut parser = Parser::new(CANONICAL_ORDER);
+    let mut before = ParsedName::parse(&mut parser)?;
+    for _ in 0..8 {
+        let name = ParsedName::parse(&mut parser)?;
+        assert_eq!(rt; before.name_cmp(&name), Ordering::Less);
+        assert_eq!(rt; name.name_cmp(&before), Ordering::Greater);
+        assert_eq!(rt; compare(&before, &name), Ordering::Less);
+        assert!(rt; before < name);
+        before = name;
+    }
+    assert_eq!(rt; parser.remaining(), 0);
+    Ok(())
+}
+
+#[test]
+fn ignores_letter_case_but_for_octets_eq(rt: HostRuntime) -> Result<(), Fail> {
+    let mut parser = Parser::new(b"\x03www\x02dE\x00\xC0\x00\x03WwW\x02De\x00\x01x\x02de\x00");
+    let name = ParsedName::parse(&mut parser)?;
+    let pointer = ParsedName::parse(&mut parser)?;
+    let upper = ParsedName::parse(&mut parser)?;
+    let short = ParsedName::parse(&mut parser)?;
+    assert!(rt; name.octets_eq(&pointer) && name.name_eq(&pointer));
+    assert!(rt; !name.octets_eq(&upper) && name.name_eq(&upper));
+    assert!(rt; !name.octets_eq(&short) && !name.name_eq(&short));
+    assert!(rt; name == upper && name != short);
+    assert_eq!(rt; compare(&name, &upper), Ordering::Equal);
+    assert_eq!(rt; hash_of(&name), hash_of(&upper));
+    // www after x by the length of the first label, before it by its letters
+    assert_eq!(rt; name.lowercase_composed_cmp(&upper), Ordering::Equal);
+    assert_eq!(rt; name.lowercase_composed_cmp(&short), Ordering::Greater);
+    assert_eq!(rt; name.name_cmp(&short), Ordering::Less);
+    Ok(())
+}
+
+#[test]
+fn compares_across_holders(rt: HostRuntime) -> Result<(), Fail> {
+    let name = Name::from_octets(*b"\x01A\x00")?;
+    let same = Name::from_octets(*b"\x01a\x00")?;
+    let other = Name::from_octets(b"\x01b\x00".as_slice())?;
+    assert!(rt; name == same && name <= same);
+    assert_eq!(rt; hash_of(&name), hash_of(&same));
+    assert_eq!(rt; hash_of(&name), hash_of(&name.as_parsed()));
+    assert!(rt; !name.name_eq(&other));
+    assert_eq!(rt; name.name_cmp(&other), Ordering::Less);
+    assert_eq!(rt; name.partial_cmp(&same), Some(Ordering::Equal));
+    Ok(())
+}
+
+/// The first label of the name that the octets are.
+fn first_label(octets: &[u8]) -> Result<Label<'_>, Fail> {
+    let name = ParsedName::parse(&mut Parser::new(octets))?;
+    Ok(name.iter_labels().next().ok_or("no label")?)
+}
+
+#[test]
+fn compares_labels_lowercased(rt: HostRuntime) -> Result<(), Fail> {
+    let label = first_label(b"\x02aB\x00")?;
+    let same = first_label(b"\x02Ab\x00")?;
+    let longer = first_label(b"\x03abc\x00")?;
+    let bracket = first_label(b"\x02a[\x00")?;
+    assert_eq!(rt; label, same);
+    assert_eq!(rt; hash_of(&label), hash_of(&same));
+    assert_eq!(rt; compare(&label, &same), Ordering::Equal);
+    assert!(rt; label < longer);
+    // the bracket stands between the upper and the lower case
+    assert!(rt; bracket < label);
+    Ok(())
+}
