@@ -13,3 +13,5 @@ mod octets;
 mod orders;
 #[cfg(test)]
 mod parser;
+#[cfg(test)]
+mod tour;

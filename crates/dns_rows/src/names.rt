@@ -170,7 +170,10 @@ fn has_at_most_255_octets(rt: HostRuntime) -> Result<(), Fail> {
     assert_eq!(rt; ParsedName::parse(&mut parser).map(|_| ()), Err(LONG_NAME));
     assert_eq!(rt; ParsedName::skip(&mut parser), Err(LONG_NAME));
     assert_eq!(rt; parser.pos(), 0);
-    assert_eq!(rt; Name::from_octets(longer.as_slice()).map(|_| ()), Err(LONG_NAME));
+    assert_eq!(rt;
+        Name::from_octets(longer.as_slice()).map(|_| ()),
+        Err(LONG_NAME)
+    );
     // the size is tested before the octets are asked for
     let cut = &longer[..200];
     assert_eq!(rt;

@@ -7,7 +7,7 @@ use Rattle.dns_wire.specs.Fault.{Fault}
 use Rattle.dns_wire.specs.Fault.Fault.{ShortInput, Form}
 use Rattle.dns_wire.specs.Names.{Labels, IsLabel, IsName, name_size, max_size}
 use Rattle.dns_wire.specs.Heads.{head_at}
-use Rattle.dns_wire.specs.Standing.{Stands, Faulty, FaultAt, label_at}
+use Rattle.dns_wire.specs.Standing.{Stands, Faulty, label_at}
 use Rattle.dns_wire.specs.Standing.Faulty.{head, long, cut, ahead, label, pointer}
 use Rattle.dns_wire.specs.declared.head.Head.{Head}
 use Rattle.dns_wire.specs.declared.head.Head.TheVariants.{Root, Label, Pointer}

@@ -1,17 +1,17 @@
--- What parsing or skipping answered is the only answer.
-use Rattle.std.proofs.Common.{◌≡◌, ℕ, ◌+◌, arith}
+-- What parsing or skipping answered is the only answer, and the two agree.
+use Rattle.std.proofs.Common.{ℕ, arith}
 use Rattle.std.specs.Prelude.{Result, Ok, Err, IsOk, refl}
-use Rattle.dns_wire.specs.Fault.{Fault}
 use Rattle.dns_wire.specs.Standing.{FaultAt}
 use Rattle.dns_wire.specs.Walking.{Walked, SkipFaultAt}
 use Rattle.dns_wire.specs.Unique.{same_name}
 use Rattle.dns_wire.specs.Parsers.{seen, place}
+use Rattle.dns_wire.specs.Laws.{SkippingEndsAlike, SkippingFailsAlike}
 use Rattle.dns_wire.specs.ParsedName.{labels, ParsesName, SkipsName, ReadsStanding, AnswersFault}
 use Rattle.dns_wire.specs.declared.error.ParseError.{ParseError}
 use Rattle.dns_wire.specs.declared.parser.Parser.{Parser}
 use Rattle.dns_wire.specs.declared.parsed_name.ParsedName.{ParsedName}
 use Rattle.dns_wire.proofs.AnswerLaws.{not_both, one_fault, standing_short}
-use Rattle.dns_wire.proofs.WalkLaws.{end_or_fault, skip_fault}
+use Rattle.dns_wire.proofs.WalkLaws.{end_or_fault, skip_fault, one_end}
 
 pub reads_standing : (old new : Parser) (r : Result ParsedName ParseError) → ParsesName old new r → ReadsStanding (seen old) (place old) r
 reads_standing old new (Ok name) h other x = same_name (seen old) h.0 x
@@ -28,3 +28,11 @@ skips_walked old new (Err e) h q w = absurd (end_or_fault (seen old) w h.0)
 pub skip_answers_fault : (old new : Parser) (r : Result Unit ParseError) → SkipsName old new r → AnswersFault (SkipFaultAt (seen old) (place old)) r
 skip_answers_fault old new (Ok done) h f x = absurd (end_or_fault (seen old) h.0 x)
 skip_answers_fault old new (Err e) h f x = one_fault (seen old) (skip_fault (seen old) h.0) (skip_fault (seen old) x)
+
+pub ends_alike : SkippingEndsAlike
+ends_alike old parsed skipped name (Ok done) h k = (refl, one_end (seen old) k.0 h.1.0)
+ends_alike old parsed skipped name (Err e) h k = absurd (end_or_fault (seen old) h.1.0 k.0)
+
+pub fails_alike : SkippingFailsAlike
+fails_alike old parsed skipped e (Ok name) k h = absurd (end_or_fault (seen old) h.1.0 k.0)
+fails_alike old parsed skipped e (Err f) k h = one_fault (seen old) h.0 (skip_fault (seen old) k.0)

@@ -1,5 +1,5 @@
 -- What is known of the labels of a name.
-use Rattle.std.proofs.Common.{◌≡◌, ℕ, ◌+◌, ◌≤◌, List, [], ◌∷◌, ◌++◌, length, length-append, arith, ap, refl, sym, ◌∙◌}
+use Rattle.std.proofs.Common.{◌≡◌, ℕ, ◌+◌, List, [], ◌∷◌, length, length-append, arith, refl}
 use Rattle.dns_wire.specs.Names.{Labels, name_size, uncompressed, with_root}
 use Rattle.dns_wire.specs.Standing.{Stands}
 use Rattle.dns_wire.specs.Unique.{NameOfSize}

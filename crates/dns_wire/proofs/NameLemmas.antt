@@ -1,5 +1,5 @@
 -- What is known of names by their labels alone.
-use Rattle.std.proofs.Common.{◌≡◌, ℕ, ◌+◌, ◌≤◌, List, ◌++◌, length, length-append, arith, ap, ◌∙◌, refl, subst}
+use Rattle.std.proofs.Common.{◌≡◌, ℕ, ◌+◌, ◌≤◌, List, ◌++◌, length, length-append, arith, ap, ◌∙◌, refl}
 use Rattle.dns_wire.specs.Names.{Labels, IsName, framed, uncompressed}
 use Rattle.dns_wire.specs.Standing.{Stands}
 use Rattle.dns_wire.specs.Uncompressed.{WholeName}

@@ -1,20 +1,19 @@
 -- Names without pointers where they stand in octets.
-use Rattle.std.proofs.Common.{◌≡◌, ℕ, zero, suc, ◌+◌, ◌-◌, ◌<◌, ◌≤◌, List, [], ◌∷◌, ◌++◌, length, length-append, length-take, length-drop, take, drop, get_or, arith, ap, sym, ◌∙◌, subst, refl}
-use Rattle.std.specs.Prelude.{Option, Some, None, Ok, slice_get, All}
+use Rattle.std.proofs.Common.{◌≡◌, ℕ, zero, suc, ◌+◌, ◌-◌, ◌<◌, ◌≤◌, List, [], ◌∷◌, ◌++◌, length, length-append, length-drop, take, drop, get_or, arith, ap, sym, ◌∙◌, subst, refl}
+use Rattle.std.specs.Prelude.{Some, Ok, slice_get}
 use Rattle.std.proofs.lemmas.List.{take-append-drop, drop-drop}
-use Rattle.std.proofs.lemmas.List.Elements.{All-head, All-tail, All-cons}
+use Rattle.std.proofs.lemmas.List.Elements.{All-head, All-tail}
 use Rattle.std.proofs.lemmas.Option.{get_or_from_slice_get, slice_get_within}
 use Rattle.std.proofs.Math.Seq.{drop-cons, drop-append_seam, take-append_seam}
 use Rattle.dns_wire.specs.Fault.{Fault}
-use Rattle.dns_wire.specs.Fault.Fault.{Form}
 use Rattle.dns_wire.specs.Names.{Labels, IsLabel, IsName, name_size, max_size, uncompressed}
 use Rattle.dns_wire.specs.Heads.{head_at}
 use Rattle.dns_wire.specs.HeadAnswers.{Begins}
 use Rattle.dns_wire.specs.Standing.{Stands, label_at}
-use Rattle.dns_wire.specs.Walking.{WalkedBehind, SkipFaulty, SkipFaultAt}
+use Rattle.dns_wire.specs.Walking.{SkipFaulty}
 use Rattle.dns_wire.specs.Uncompressed.{IsUncompressed, WholeName, WholeName-prop}
 use Rattle.dns_wire.specs.declared.head.Head.TheVariants.{Root, Label, Pointer}
-use Rattle.dns_wire.proofs.HeadLemmas.{label_there, root_there, root_begins, label_begins, root_within, label_head}
+use Rattle.dns_wire.proofs.HeadLemmas.{label_there, root_there, root_begins, label_begins}
 use Rattle.dns_wire.proofs.AnswerLaws.{not_both}
 use Rattle.dns_wire.proofs.WalkLaws.{skip_fault}
 use Rattle.dns_wire.proofs.Walks.{Passes, passes_none, passes_label, name_size-label_at, length_label}

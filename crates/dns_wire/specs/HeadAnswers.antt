@@ -6,7 +6,7 @@ use Rattle.dns_wire.specs.Heads.{head_at}
 use Rattle.dns_wire.specs.Walking.{SkipFaulty}
 use Rattle.dns_wire.specs.declared.error.ParseError.{ParseError}
 use Rattle.dns_wire.specs.declared.head.Head.{Head}
-use Rattle.dns_wire.specs.declared.head.Head.TheVariants.{Root, Label, Pointer}
+use Rattle.dns_wire.specs.declared.head.Head.TheVariants.{Label}
 
 -- it is what begins there, or its fault
 abbrev pub Reads : Result Head ParseError → Result Head Fault → Type 0

@@ -1,5 +1,5 @@
 -- The first labels of a name where it stands, by the octets that they take.
-use Rattle.std.specs.Prelude.{◌≡◌, ℕ, zero, suc, ◌+◌, ◌≤◌, List, [], ◌∷◌, length, take}
+use Rattle.std.specs.Prelude.{◌≡◌, ℕ, zero, suc, ◌≤◌, List, [], ◌∷◌, length, take}
 use Rattle.std.proofs.Common.{ap, subst, refl, arith}
 use Rattle.std.proofs.Props.{props}
 use Rattle.dns_wire.specs.Names.{Labels, name_size, with_root}

@@ -1,12 +1,17 @@
 -- What holds of all octets and places, and of all names.
-use Rattle.std.specs.Prelude.{◌≡◌, ◌↔◌, ℕ, ◌⊎◌, List}
+use Rattle.std.specs.Prelude.{◌≡◌, ◌↔◌, ℕ, ◌⊎◌, List, Result, Ok, Err, IsOk, IsErrAnd}
 use Rattle.std.specs.Cmp.{IsTotalOrder}
 use Rattle.std.specs.declared.cmp.Ordering.TheVariants.{Equal}
-use Rattle.dns_wire.specs.Fault.{Fault}
+use Rattle.dns_wire.specs.Fault.{Fault, fault_of}
 use Rattle.dns_wire.specs.Names.{Labels, IsName, lowered}
 use Rattle.dns_wire.specs.NameOrders.{name_order, composed_order, name_hash_input}
 use Rattle.dns_wire.specs.Standing.{Stands, FaultAt}
 use Rattle.dns_wire.specs.Walking.{Walked, SkipFaultAt}
+use Rattle.dns_wire.specs.Parsers.{place}
+use Rattle.dns_wire.specs.ParsedName.{ParsesName, SkipsName}
+use Rattle.dns_wire.specs.declared.error.ParseError.{ParseError}
+use Rattle.dns_wire.specs.declared.parser.Parser.{Parser}
+use Rattle.dns_wire.specs.declared.parsed_name.ParsedName.{ParsedName}
 
 -- a name stands at each place, or a fault is met there
 abbrev pub NameOrFault : Type 0
@@ -47,6 +52,16 @@ StandingNamesEnd = (b : List ℕ) (p : ℕ) (name : Labels) → Stands b p name 
 -- where skipping meets a fault, parsing meets it
 abbrev pub SkipFaultsAreFaults : Type 0
 SkipFaultsAreFaults = (b : List ℕ) (p : ℕ) (f : Fault) → SkipFaultAt b p f → FaultAt b p f
+
+-- where parsing gives a name, skipping ends at the same place
+abbrev pub SkippingEndsAlike : Type 0
+SkippingEndsAlike = (old parsed skipped : Parser) (name : ParsedName) (r : Result Unit ParseError)
+    → ParsesName old parsed (Ok name) → SkipsName old skipped r → IsOk r × (place skipped ≡ place parsed)
+
+-- where skipping fails, parsing fails with the same fault
+abbrev pub SkippingFailsAlike : Type 0
+SkippingFailsAlike = (old parsed skipped : Parser) (e : ParseError) (r : Result ParsedName ParseError)
+    → SkipsName old skipped (Err e) → ParsesName old parsed r → IsErrAnd r (λ f. fault_of f ≡ fault_of e)
 
 -- the order of names from the root is total
 abbrev pub NameOrderIsTotal : Type 0

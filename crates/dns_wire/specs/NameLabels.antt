@@ -1,4 +1,3 @@
-use Rattle.std.specs.Prelude.{ℕ, List}
 use Rattle.dns_wire.specs.Names.{Labels}
 use Rattle.dns_wire.specs.declared.octets.Octets.{Ghosts}
 use Rattle.dns_wire.specs.declared.name.Name.{Name}

@@ -1,5 +1,5 @@
 -- What the comparisons of names cite of the orders of names.
-use Rattle.std.specs.Prelude.{◌≡◌, ℕ, List, [], ◌∷◌, ◌++◌, map, reverse, IsTrue}
+use Rattle.std.specs.Prelude.{◌≡◌, List, [], ◌∷◌, ◌++◌, map, reverse, IsTrue}
 use Rattle.std.proofs.Common.{refl, sym, ap, ◌∙◌}
 use Rattle.std.proofs.lemmas.List.{map-append, reverse-append, reverse-reverse}
 use Rattle.std.specs.Bool.{Decides, one_answer}
@@ -10,7 +10,7 @@ use Rattle.std.specs.Hash as fed
 use Rattle.std.specs.List.{flat_map}
 use Rattle.std.specs.Ordering.{as_partial_cmp, nat_cmp, on, ordering_then, is_eq, eq_by_cmp}
 use Rattle.std.specs.declared.cmp.Ordering.{Ordering}
-use Rattle.dns_wire.specs.Names.{Labels, lowered_label, lowered, uncompressed}
+use Rattle.dns_wire.specs.Names.{Labels, lowered, uncompressed}
 use Rattle.dns_wire.specs.NameOrders.{names_equal, name_order, name_hash_input}
 
 -- `names_equal` is true exactly of names with the same labels

@@ -1,5 +1,5 @@
 -- Domain names as values. RFC 1035 sections 2.3.3, 2.3.4 and 3.1.
-use Rattle.std.specs.Prelude.{◌≡◌, ℕ, ◌+◌, ◌≤◌, List, [], ◌∷◌, ◌++◌, length, map, All}
+use Rattle.std.specs.Prelude.{ℕ, ◌+◌, ◌≤◌, List, [], ◌∷◌, ◌++◌, length, map, All}
 use Rattle.std.specs.List.{flat_map}
 use Rattle.std.specs.Char.{to_ascii_lowercase}
 

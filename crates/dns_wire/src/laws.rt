@@ -1,5 +1,5 @@
 //! Theorems on names in octets. The functions do nothing: each contract is a theorem over all octets and places.
-ghost use Rattle.dns_wire.specs.Laws.{NameOrFault, NameOrFaultNotBoth, OneName, OneFault, StandingNames, EndOrSkipFault, EndOrSkipFaultNotBoth, OneEnd, StandingNamesEnd, SkipFaultsAreFaults};
+ghost use Rattle.dns_wire.specs.Laws.{NameOrFault, NameOrFaultNotBoth, OneName, OneFault, StandingNames, EndOrSkipFault, EndOrSkipFaultNotBoth, OneEnd, StandingNamesEnd, SkipFaultsAreFaults, SkippingEndsAlike, SkippingFailsAlike};
 ghost use Rattle.dns_wire.specs.Laws.{NameOrderIsTotal, ComposedOrderIsTotal, NameOrderAgrees, ComposedOrderAgrees, EqualNamesHashAlike};
 
 /// At each place exactly one name stands or exactly one fault is met, never both.
@@ -24,8 +24,10 @@ pub fn one_end_or_fault()
 
 /// Where a name parses, skipping ends at the same place. Where skipping fails, parsing fails with the same fault.
 pub fn skipping_agrees()
-    ensures end { StandingNamesEnd }
-    ensures fault { SkipFaultsAreFaults }
+    ensures names_end { StandingNamesEnd }
+    ensures faults { SkipFaultsAreFaults }
+    ensures ends_alike { SkippingEndsAlike }
+    ensures fails_alike { SkippingFailsAlike }
 {}
 
 /// Both orders of names are total and agree with equality up to ASCII case, and equal names hash alike.

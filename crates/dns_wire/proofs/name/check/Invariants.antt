@@ -1,4 +1,4 @@
-use Rattle.std.proofs.Common.{length, ◌-◌}
+use Rattle.std.proofs.Common.{◌-◌}
 use Rattle.dns_wire.proofs.Spelling.{Spells}
 use Rattle.dns_wire.proofs.name.check.Given as goal
 

@@ -1,4 +1,4 @@
-use Rattle.std.proofs.Common.{◌≡◌, ◌≢◌, ◌+◌, ◌≤◌, length, arith, rules, ap}
+use Rattle.std.proofs.Common.{◌≡◌, ◌≢◌, ◌+◌, length, arith, rules, ap}
 use Rattle.dns_wire.specs.Label.{label_octets}
 use Rattle.dns_wire.proofs.Steps.{step_fits, step_has, step_gives, step_fewer}
 use Rattle.dns_wire.proofs.label_iter.LabelIterIterator.next.Goals as goal

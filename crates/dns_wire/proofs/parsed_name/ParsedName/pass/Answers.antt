@@ -1,7 +1,5 @@
-use Rattle.std.proofs.Common.{◌≡◌, ◌<◌, ◌≤◌, arith, refl, length}
-use Rattle.std.specs.Prelude.{Ok}
+use Rattle.std.proofs.Common.{◌≤◌, arith, refl, length}
 use Rattle.std.proofs.lemmas.Result.{err_from_is_err_and}
-use Rattle.dns_wire.specs.Heads.{head_at}
 use Rattle.dns_wire.specs.HeadAnswers.{Begins}
 use Rattle.dns_wire.specs.Parsers.{seen}
 use Rattle.dns_wire.specs.declared.head.Head.TheVariants.{Label}

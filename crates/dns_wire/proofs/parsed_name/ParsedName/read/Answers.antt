@@ -1,4 +1,4 @@
-use Rattle.std.proofs.Common.{◌≡◌, ◌<◌, arith, refl, length, rules, take, length-take, ap}
+use Rattle.std.proofs.Common.{◌≡◌, arith, refl, rules}
 use Rattle.std.specs.Prelude.{Ok}
 use Rattle.std.proofs.lemmas.Result.{err_from_is_err_and}
 use Rattle.dns_wire.specs.Heads.{head_at}
@@ -6,7 +6,7 @@ use Rattle.dns_wire.specs.HeadAnswers.{Begins}
 use Rattle.dns_wire.specs.Parsers.{seen}
 use Rattle.dns_wire.specs.Standing.{Faulty}
 use Rattle.dns_wire.specs.declared.head.Head.TheVariants.{Root, Label, Pointer}
-use Rattle.dns_wire.proofs.Walks.{leads_none, leads_label, leads_pointer, leads_root, leads_end}
+use Rattle.dns_wire.proofs.Walks.{leads_label, leads_pointer, leads_root, leads_end}
 use Rattle.dns_wire.proofs.WalkLaws.{skip_fault}
 use Rattle.dns_wire.proofs.LabelsLemmas.{name_stands}
 use Rattle.dns_wire.proofs.ParserLemmas.{length-seen}
