@@ -11,3 +11,4 @@ pub mod ParserLemmas
 pub mod NameLemmas
 pub mod NameOrderLemmas
 pub mod Orders
+pub mod PlainTargets

@@ -1,6 +1,12 @@
 -- What is known of names by their labels alone.
-use Rattle.std.proofs.Common.{◌≡◌, ℕ, ◌+◌, ◌≤◌, List, ◌++◌, length, length-append, arith, ap, ◌∙◌, refl}
-use Rattle.dns_wire.specs.Names.{Labels, IsName, framed, uncompressed}
+use Rattle.std.proofs.Common.{◌≡◌, ℕ, ◌+◌, ◌≤◌, List, [], ◌∷◌, ◌++◌, length, length-append, arith, ap, sym, ◌∙◌, refl}
+use Rattle.std.specs.Prelude.{All, map}
+use Rattle.std.specs.Char.{to_ascii_lowercase}
+use Rattle.std.proofs.lemmas.Bool.Decides.{nat_tests}
+use Rattle.std.proofs.lemmas.Grind.{common_steps}
+use Rattle.std.proofs.lemmas.List.{map-append, length-map}
+use Rattle.std.proofs.lemmas.List.Elements.{All-head, All-tail}
+use Rattle.dns_wire.specs.Names.{Labels, IsLabel, IsName, framed, lowered_label, lowered, uncompressed}
 use Rattle.dns_wire.specs.Standing.{Stands}
 use Rattle.dns_wire.specs.Uncompressed.{WholeName}
 use Rattle.dns_wire.specs.NameLabels.{name_labels}
@@ -48,3 +54,19 @@ same_names name other e = uncompressed-injective _ _ e
 pub same_parsed : {X : Type 0} {holder : Ghosts X} (name : Name X holder) (other : ParsedName)
     → uncompressed (name_labels name) ≡ uncompressed (labels other) → name_labels name ≡ labels other
 same_parsed name other e = uncompressed-injective _ _ e
+
+lower_short : (n : ℕ) → n ≤ 63 → to_ascii_lowercase n ≡ n
+lower_short n h = grind (arith, nat_tests, common_steps)
+
+lower_labels : (name : Labels) → All IsLabel name → map to_ascii_lowercase (uncompressed name) ≡ uncompressed (lowered name)
+lower_labels [] h = refl
+lower_labels (label ∷ name) h =
+    let short = (All-head IsLabel label name h).short in
+    let behind = lower_labels name (All-tail IsLabel label name h) in
+    map-append to_ascii_lowercase (framed label) (uncompressed name)
+    ∙ ap (λ (c : List ℕ). map to_ascii_lowercase (framed label) ++ c) behind
+    ∙ ap (λ k. k ∷ (lowered_label label ++ uncompressed (lowered name))) (lower_short (length label) short ∙ sym (length-map label to_ascii_lowercase))
+
+-- no length octet is a letter, so all octets may be lowercased
+pub lower_uncompressed : (name : ParsedName) → map to_ascii_lowercase (uncompressed (labels name)) ≡ uncompressed (lowered (labels name))
+lower_uncompressed name = lower_labels (labels name) (parsed_is name).labels

@@ -18,3 +18,9 @@ pub mod Octets
 pub mod Converts
 pub mod NameOrders
 pub mod NameTies
+pub mod Memory
+pub mod Pieces
+pub mod PutName
+pub mod Parts
+pub mod Spelled
+pub mod Targets

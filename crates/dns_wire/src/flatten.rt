@@ -5,7 +5,7 @@ ghost use Rattle.dns_wire.specs.Converts.{Converts};
 ghost use Rattle.dns_wire.specs.Label.{label_octets};
 ghost use Rattle.dns_wire.specs.NameLabels.{name_labels};
 ghost use Rattle.dns_wire.specs.ParsedName.{labels};
-ghost use Rattle.dns_wire.specs.Names.{framed, uncompressed};
+ghost use Rattle.dns_wire.specs.Names.{framed, lowered, uncompressed};
 
 use crate::error::AppendError;
 use crate::label::Label;
@@ -47,6 +47,15 @@ impl ParsedName<'_> {
         for label in self.iter_labels() {
             append_label(&mut octets, label);
         }
+        octets
+    }
+
+    /// The same octets with ASCII letters lowercased.
+    pub(crate) fn lowercased(self) -> ArrayVec<u8, 255>
+        ensures { result.items ≡ uncompressed (lowered (labels self.entry)) }
+    {
+        let mut octets = self.uncompressed();
+        octets.as_mut_slice().make_ascii_lowercase();
         octets
     }
 }

@@ -2,6 +2,7 @@
 #![tactic(auto)]
 
 mod compare;
+mod composer;
 mod error;
 mod flatten;
 mod head;
@@ -15,6 +16,7 @@ mod parsed_name;
 mod parser;
 mod to_name;
 
+pub use composer::{CloneTarget, Composer, FreezeBuilder};
 pub use error::{AppendError, FormError, ParseError, ShortBuf};
 pub use flatten::FlattenInto;
 pub use label::Label;

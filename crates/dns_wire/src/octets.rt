@@ -81,7 +81,7 @@ impl<T: Octets> Octets for &T {
 }
 
 /// Writes octets over those of the target from a place on.
-fn overwrite(target: &mut [u8], place: usize, octets: &[u8])
+pub(crate) fn overwrite_slice(target: &mut [u8], place: usize, octets: &[u8])
     requires { place + length octets.now ≤ length target.old }
     ensures { target.new ≡ overwritten target.old place octets.now }
 {
@@ -90,19 +90,19 @@ fn overwrite(target: &mut [u8], place: usize, octets: &[u8])
 
 impl OctetsMut for Vec<u8> {
     fn write_at(&mut self, place: usize, octets: &[u8]) {
-        overwrite(self.as_mut_slice(), place, octets);
+        overwrite_slice(self.as_mut_slice(), place, octets);
     }
 }
 
 impl<const N: usize> OctetsMut for ArrayVec<u8, N> {
     fn write_at(&mut self, place: usize, octets: &[u8]) {
-        overwrite(self.as_mut_slice(), place, octets);
+        overwrite_slice(self.as_mut_slice(), place, octets);
     }
 }
 
 impl<const N: usize> OctetsMut for [u8; N] {
     fn write_at(&mut self, place: usize, octets: &[u8]) {
-        overwrite(self, place, octets);
+        overwrite_slice(self, place, octets);
     }
 }
 

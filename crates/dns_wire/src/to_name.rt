@@ -1,4 +1,6 @@
 use crate::compare::{order_composed, order_from_root, same_labels, same_octets};
+use crate::composer::Composer;
+use crate::error::AppendError;
 use crate::parsed_name::ParsedName;
 use std::cmp::Ordering;
 
@@ -17,10 +19,12 @@ pub trait ToName {
         ensures is_name { IsName (name self.now) };
 }
 
-/// Comparisons of whatever stands for a name. They take no memory.
+/// Comparisons of whatever stands for a name, which take no memory, and its canonical form.
 pub trait ToNameExt: ToName {
     ghost use Rattle.std.specs.Prelude.{◌≡◌, ◌↔◌, IsTrue};
-    ghost use Rattle.dns_wire.specs.Names.{lowered};
+    ghost use Rattle.dns_wire.specs.Names.{lowered, uncompressed};
+    ghost use Rattle.dns_wire.specs.Pieces.{put_octets};
+    ghost use Rattle.dns_wire.specs.Targets.{Appends};
     ghost use Rattle.dns_wire.specs.NameOrders.{name_order, composed_order};
 
     /// Whether two names are equal up to ASCII case (RFC 1035 section 2.3.3).
@@ -50,6 +54,14 @@ pub trait ToNameExt: ToName {
         ensures { result ≡ composed_order (Self.name self.now) (N.name other.now) }
     {
         order_composed(&self.as_parsed(), &other.as_parsed())
+    }
+
+    /// Appends the octets of the name without pointers, lowercased (RFC 4034 section 6.2). A refused append changes
+    /// nothing.
+    fn compose_canonical<T: Composer>(&self, target: &mut T) -> Result<(), AppendError>
+        ensures { Appends T.room T.grows (put_octets (uncompressed (lowered (Self.name self.now)))) (T.written target.old) (T.written target.new) result }
+    {
+        target.append_slice(self.as_parsed().lowercased().as_slice())
     }
 }
 

@@ -1,0 +1,5 @@
+use Rattle.dns_wire.proofs.PlainTargets.{nothing_is_kept}
+use Rattle.dns_wire.proofs.composer.ArrayVecU8Composer.as_slice.Goals as goal
+
+pub returns-clause-is_target : goal.returns-clause-is_target
+returns-clause-is_target g c = nothing_is_kept _

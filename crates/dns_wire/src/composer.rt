@@ -1,0 +1,184 @@
+ghost use Rattle.std.specs.Prelude.{◌≡◌, ◌+◌, ◌≤◌, ℕ, Bool, Option, Some, None, true, false, length, refl, IfOk, OnErr, IsTrue};
+ghost use Rattle.dns_wire.specs.Memory.{IsClear, nothing};
+ghost use Rattle.dns_wire.specs.Pieces.{Rule, Plain, compresses, put_octets};
+ghost use Rattle.dns_wire.specs.PutName.{put_name};
+ghost use Rattle.dns_wire.specs.Targets.{Written, IsTarget, Fits, Appends, cut_to, overwrite};
+
+use crate::error::AppendError;
+use crate::octets::{Octets, overwrite_slice};
+use crate::to_name::ToName;
+use arrayvec::ArrayVec;
+use std::alloc::AllocError;
+
+/// What a message is written to: a content of octets, and what is remembered of the names in it.
+///
+/// A refused append changes nothing. It is `ShortBuf` where the octets pass the room, and `OutOfMemory` where a growth
+/// was refused.
+pub trait Composer: Drop {
+    /// How names are written.
+    ghost rule: { Rule };
+
+    /// The most octets that the content can have, if there is such a bound.
+    ghost room: { Option ℕ };
+
+    /// Whether an append may take memory.
+    ghost grows: { Bool };
+
+    /// The content, and what is remembered.
+    ghost written: { Self → Written };
+
+    /// The content.
+    fn as_slice(&self) -> &[u8]
+        ensures octets { result.now ≡ (written self.now).octets }
+        ensures is_target { IsTarget (written self.now) }
+        ensures fits { Fits room (length (written self.now).octets) };
+
+    /// Appends octets as they are. Nothing of them is remembered.
+    fn append_slice(&mut self, octets: &[u8]) -> Result<(), AppendError>
+        ensures { Appends room grows (put_octets octets.now) (written self.old) (written self.new) result };
+
+    /// Appends a name, compressed by the target's rule (RFC 1035 section 4.1.4).
+    fn append_compressed_name<N: ToName>(&mut self, name: &N) -> Result<(), AppendError>
+        ensures { Appends room grows (put_name rule (N.name name.now)) (written self.old) (written self.new) result };
+
+    /// Whether names are compressed.
+    fn can_compress(&self) -> bool
+        ensures { result ≡ compresses rule };
+
+    /// Cuts the content to its first `len` octets, if it has more, and forgets the names that end behind them.
+    fn truncate(&mut self, len: usize)
+        ensures { written self.new ≡ cut_to len (written self.old) };
+
+    /// Writes octets over those from a place on.
+    fn write_at(&mut self, place: usize, octets: &[u8])
+        requires within { place + length octets.now ≤ length (written self.old).octets }
+        requires clear { IsClear (written self.old).memory place (length octets.now) }
+        ensures { written self.new ≡ overwrite place octets.now (written self.old) };
+
+    /// What doesn't compress remembers nothing.
+    ghost plain_forgets: { rule ≡ Plain → (t : Self) → (written t).memory ≡ nothing };
+}
+
+/// A target that can be taken for the octets that it holds.
+pub trait FreezeBuilder: Composer {
+    /// What holds the octets.
+    type Octets: Octets;
+
+    /// The content. It takes no memory.
+    fn freeze(self) -> Self::Octets
+        ensures { Self.Octets.octets result ≡ (Self.written self).octets };
+}
+
+/// A target that can be cloned where there is memory.
+pub trait CloneTarget: Composer + Sized {
+    /// An equal target.
+    fn clone_target(&self) -> Result<Self, AllocError>
+        ensures equal { IfOk result (λ clone. Self.written clone ≡ Self.written self.now) }
+        ensures memory { OnErr result (IsTrue Self.grows) };
+}
+
+impl Composer for Vec<u8> {
+    ghost rule = { Plain };
+
+    ghost room = { None };
+
+    ghost grows = { true };
+
+    ghost written = { λ v. record { octets = v.items; memory = nothing } };
+
+    ghost plain_forgets = { λ _ _. refl };
+
+    fn as_slice(&self) -> &[u8] {
+        self.as_slice()
+    }
+
+    fn append_slice(&mut self, octets: &[u8]) -> Result<(), AppendError> {
+        self.extend_from_slice(octets)
+            .map_err(|_| AppendError::OutOfMemory)
+    }
+
+    #[tactic(auto, unfolding(crate::specs::PutName::put_name))]
+    fn append_compressed_name<N: ToName>(&mut self, name: &N) -> Result<(), AppendError> {
+        self.append_slice(name.as_parsed().uncompressed().as_slice())
+    }
+
+    fn can_compress(&self) -> bool {
+        false
+    }
+
+    #[tactic(auto, using(crate::proofs::PlainTargets::cut_nothing))]
+    fn truncate(&mut self, len: usize) {
+        self.truncate(len);
+    }
+
+    fn write_at(&mut self, place: usize, octets: &[u8]) {
+        overwrite_slice(self.as_mut_slice(), place, octets);
+    }
+}
+
+impl FreezeBuilder for Vec<u8> {
+    type Octets = Vec<u8>;
+
+    fn freeze(self) -> Vec<u8> {
+        self
+    }
+}
+
+impl CloneTarget for Vec<u8> {
+    fn clone_target(&self) -> Result<Self, AllocError> {
+        Vec::clone(self)
+    }
+}
+
+impl<const N: usize> Composer for ArrayVec<u8, N> {
+    ghost rule = { Plain };
+
+    ghost room = { Some N };
+
+    ghost grows = { false };
+
+    ghost written = { λ v. record { octets = v.items; memory = nothing } };
+
+    ghost plain_forgets = { λ _ _. refl };
+
+    fn as_slice(&self) -> &[u8] {
+        self.as_slice()
+    }
+
+    fn append_slice(&mut self, octets: &[u8]) -> Result<(), AppendError> {
+        self.try_extend_from_slice(octets)
+            .map_err(|_| AppendError::ShortBuf)
+    }
+
+    #[tactic(auto, unfolding(crate::specs::PutName::put_name))]
+    fn append_compressed_name<M: ToName>(&mut self, name: &M) -> Result<(), AppendError> {
+        self.append_slice(name.as_parsed().uncompressed().as_slice())
+    }
+
+    fn can_compress(&self) -> bool {
+        false
+    }
+
+    #[tactic(auto, using(crate::proofs::PlainTargets::cut_nothing))]
+    fn truncate(&mut self, len: usize) {
+        self.truncate(len)
+    }
+
+    fn write_at(&mut self, place: usize, octets: &[u8]) {
+        overwrite_slice(self.as_mut_slice(), place, octets);
+    }
+}
+
+impl<const N: usize> FreezeBuilder for ArrayVec<u8, N> {
+    type Octets = ArrayVec<u8, N>;
+
+    fn freeze(self) -> ArrayVec<u8, N> {
+        self
+    }
+}
+
+impl<const N: usize> CloneTarget for ArrayVec<u8, N> {
+    fn clone_target(&self) -> Result<Self, AllocError> {
+        ArrayVec::clone(self)
+    }
+}
