@@ -14,4 +14,6 @@ mod orders;
 #[cfg(test)]
 mod parser;
 #[cfg(test)]
+mod targets;
+#[cfg(test)]
 mod tour;
