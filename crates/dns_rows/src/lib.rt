@@ -4,6 +4,8 @@
 #![tactic(auto)]
 
 #[cfg(test)]
+mod codes;
+#[cfg(test)]
 mod error;
 #[cfg(test)]
 mod names;
@@ -17,3 +19,5 @@ mod parser;
 mod targets;
 #[cfg(test)]
 mod tour;
+#[cfg(test)]
+mod ttl;

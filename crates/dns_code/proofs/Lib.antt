@@ -1,0 +1,9 @@
+pub mod MnemonicLemmas
+pub mod TableLemmas
+pub mod NumberedLemmas
+pub mod TextLemmas
+pub mod HeaderLemmas
+pub mod SectionLemmas
+pub mod FlagsLemmas
+pub mod TokensLemmas
+pub mod OctetsLemmas

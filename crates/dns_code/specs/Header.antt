@@ -1,0 +1,47 @@
+-- The header of a message: four octets, and the fields in them. RFC 1035 section 4.1.1; AD and CD: RFC 4035 sections 3.2.2 and 3.2.3.
+use Rattle.std.specs.Prelude.{ℕ, Bool, List, slice_index}
+use Rattle.dns_code.specs.Bits.{bit, bits, number_in}
+use Rattle.dns_code.specs.declared.flags.Flags.{Flags}
+use Rattle.dns_code.specs.declared.header.Header.{Header}
+
+-- what a header says; the opcode and the rcode are numbers of four bits
+pub record HeaderFields : Type 0 where
+  pub id : ℕ
+  pub qr : Bool
+  pub opcode : ℕ
+  pub aa : Bool
+  pub tc : Bool
+  pub rd : Bool
+  pub ra : Bool
+  pub z : Bool
+  pub ad : Bool
+  pub cd : Bool
+  pub rcode : ℕ
+
+-- Where the fields stand in four octets. Bit 7 of an octet is its highest, the first that the RFC draws.
+abbrev pub fields_in : List ℕ → HeaderFields
+fields_in b = record {
+  id = number_in b 0;
+  qr = bit (slice_index b 2) 7;
+  opcode = bits (slice_index b 2) 3 4;
+  aa = bit (slice_index b 2) 2;
+  tc = bit (slice_index b 2) 1;
+  rd = bit (slice_index b 2) 0;
+  ra = bit (slice_index b 3) 7;
+  z = bit (slice_index b 3) 6;
+  ad = bit (slice_index b 3) 5;
+  cd = bit (slice_index b 3) 4;
+  rcode = bits (slice_index b 3) 0 4;
+}
+
+-- the four octets of a header
+abbrev pub header_octets : Header → List ℕ
+header_octets header = header.octets
+
+-- the fields of a header
+abbrev pub fields : Header → HeaderFields
+fields header = fields_in (header_octets header)
+
+-- the seven flags among the fields; Z is none of them
+abbrev pub flags_in : HeaderFields → Flags
+flags_in f = record { qr = f.qr; aa = f.aa; tc = f.tc; rd = f.rd; ra = f.ra; ad = f.ad; cd = f.cd }

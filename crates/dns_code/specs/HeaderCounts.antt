@@ -1,0 +1,23 @@
+-- The counts of a message: eight octets, and the four numbers in them. RFC 1035 section 4.1.1; RFC 2136 section 2.2.
+use Rattle.std.specs.Prelude.{ℕ, List}
+use Rattle.dns_code.specs.Bits.{number_in}
+use Rattle.dns_code.specs.declared.counts.HeaderCounts.{HeaderCounts}
+
+-- How many entries each section has. In an UPDATE message these are ZOCOUNT, PRCOUNT, UPCOUNT and ADCOUNT.
+pub record Counts : Type 0 where
+  pub qdcount : ℕ
+  pub ancount : ℕ
+  pub nscount : ℕ
+  pub arcount : ℕ
+
+-- where the counts stand in eight octets
+abbrev pub counts_in : List ℕ → Counts
+counts_in b = record { qdcount = number_in b 0; ancount = number_in b 2; nscount = number_in b 4; arcount = number_in b 6 }
+
+-- the eight octets of the counts
+abbrev pub counts_octets : HeaderCounts → List ℕ
+counts_octets c = c.octets
+
+-- the four counts
+abbrev pub counts : HeaderCounts → Counts
+counts c = counts_in (counts_octets c)

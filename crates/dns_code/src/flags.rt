@@ -1,0 +1,130 @@
+ghost use Rattle.std.specs.Prelude.{◌≡◌, Some, MatchOption, IsErr, Ok, false};
+ghost use Rattle.std.specs.Fmt.{WritesOnOk};
+ghost use Rattle.std.specs.List.{list_all};
+ghost use Rattle.dns_code.specs.Flags.{flags_read, flags_text, is_flags_token, is_named, joined, names_shown, tokens};
+
+use crate::error::FlagsFromStrError;
+use std::fmt;
+use std::str::FromStr;
+
+/// The flags of a header, all but Z (RFC 1035 section 4.1.1; AD and CD: RFC 4035 section 3).
+///
+/// Their text is the two-letter names of those that are set, with one space between two.
+#[derive(Clone, Copy, Debug, Default, PartialEq, Eq, Hash)]
+pub struct Flags {
+    /// This is an answer, and not a query.
+    pub qr: bool,
+
+    /// The server that answers is an authority for the name.
+    pub aa: bool,
+
+    /// The message was cut short.
+    pub tc: bool,
+
+    /// The server is asked to query others.
+    pub rd: bool,
+
+    /// The server queries others where it is asked to.
+    pub ra: bool,
+
+    /// The server holds all data for authentic.
+    pub ad: bool,
+
+    /// The server is to leave the check of signatures to others.
+    pub cd: bool,
+}
+
+impl Flags {
+    /// No flag is set.
+    pub fn new() -> Self
+        ensures { result ≡ record { qr = false; aa = false; tc = false; rd = false; ra = false; ad = false; cd = false } }
+    {
+        Flags::default()
+    }
+}
+
+/// The names of the flags that are set, in the order of the fields.
+impl fmt::Display for Flags {
+    ghost output = { λ flags. Some (flags_text flags) };
+
+    fn fmt<W: fmt::Write>(&self, f: &mut fmt::Formatter<W>) -> fmt::Result {
+        write_names(
+            f,
+            &[
+                (self.qr, "QR"),
+                (self.aa, "AA"),
+                (self.tc, "TC"),
+                (self.rd, "RD"),
+                (self.ra, "RA"),
+                (self.ad, "AD"),
+                (self.cd, "CD"),
+            ],
+        )
+    }
+}
+
+/// Prints the names of the flags that are set, with one space between two.
+fn write_names<W: fmt::Write>(f: &mut fmt::Formatter<W>, names: &[(bool, &str)]) -> fmt::Result
+    ensures { WritesOnOk W.write_str_gives f.old result (joined (names_shown names.now)) f.new }
+{
+    let mut separator = "";
+    for (is_set, name) in names {
+        if *is_set {
+            f.write_str(separator)?;
+            f.write_str(name)?;
+            separator = " ";
+        }
+    }
+    Ok(())
+}
+
+/// Reads names of flags in any ASCII case. Each space ends a token, and empty tokens are passed over.
+impl FromStr for Flags {
+    type Err = FlagsFromStrError;
+
+    ghost from_str_gives = { λ text result. MatchOption (flags_read text) (IsErr result) (λ flags. result ≡ Ok flags) };
+
+    fn from_str(text: &str) -> Result<Self, FlagsFromStrError> {
+        if !is_flags_text(text) {
+            return Err(FlagsFromStrError::new());
+        }
+        Ok(Flags {
+            qr: names(text, "QR"),
+            aa: names(text, "AA"),
+            tc: names(text, "TC"),
+            rd: names(text, "RD"),
+            ra: names(text, "RA"),
+            ad: names(text, "AD"),
+            cd: names(text, "CD"),
+        })
+    }
+}
+
+/// Whether a token may stand in a text of flags.
+fn is_token(token: &str) -> bool
+    ensures { result ≡ is_flags_token token.now }
+{
+    token.is_empty()
+        || token.eq_ignore_ascii_case("QR")
+        || token.eq_ignore_ascii_case("AA")
+        || token.eq_ignore_ascii_case("TC")
+        || token.eq_ignore_ascii_case("RD")
+        || token.eq_ignore_ascii_case("RA")
+        || token.eq_ignore_ascii_case("AD")
+        || token.eq_ignore_ascii_case("CD")
+}
+
+/// Whether each token of the text may stand in one.
+fn is_flags_text(text: &str) -> bool
+    ensures { result ≡ list_all is_flags_token (tokens text.now) }
+{
+    text.split(' ').all(is_token)
+}
+
+/// Whether a token of the text is that name.
+fn names(text: &str, name: &str) -> bool
+    ensures { result ≡ is_named (tokens text.now) name.now }
+{
+    text.split(' ')
+        .any(|token| token.eq_ignore_ascii_case(name))
+}

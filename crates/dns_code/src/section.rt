@@ -1,0 +1,83 @@
+ghost use Rattle.std.specs.Prelude.{◌≡◌, ◌≤◌, ◌+◌, length, take, replicate, slice_range};
+
+use crate::counts::HeaderCounts;
+use crate::header::Header;
+use dns_wire::{ParseError, Parser};
+
+/// The first twelve octets of a message: the header and then the counts (RFC 1035 section 4.1.1).
+#[derive(Clone, Copy, Debug, Default, PartialEq, Eq)]
+pub struct HeaderSection {
+    octets: [u8; 12],
+}
+
+impl HeaderSection {
+    ghost use Rattle.dns_wire.specs.Parsers.{seen, place, Takes};
+    ghost use Rattle.dns_code.specs.Header.{header_octets};
+    ghost use Rattle.dns_code.specs.HeaderCounts.{counts_octets};
+    ghost use Rattle.dns_code.specs.HeaderSection.{section_octets, section_header, section_counts};
+
+    /// A header section of zero bits.
+    pub fn new() -> Self
+        ensures { section_octets result ≡ replicate 12 0 }
+    {
+        HeaderSection { octets: [0; 12] }
+    }
+
+    /// The header section of a message: its first twelve octets.
+    pub fn for_message_slice(message: &[u8]) -> Self
+        requires { 12 ≤ length message.now }
+        ensures { section_octets result ≡ take 12 message.now }
+    {
+        let mut octets = [0; 12];
+        octets.copy_from_slice(&message[..12]);
+        HeaderSection { octets }
+    }
+
+    /// Reads twelve octets and passes them. Where they aren't there it is `ShortInput`, and the parser stays.
+    pub fn parse(parser: &mut Parser<'_>) -> Result<Self, ParseError>
+        ensures { Takes parser.old parser.new 12 result (λ section.
+            section_octets section ≡ slice_range (seen parser.old) (place parser.old) (place parser.old + 12)) }
+    {
+        let octets = parser.peek(12)?;
+        parser.advance(12)?;
+        Ok(HeaderSection::for_message_slice(octets))
+    }
+
+    /// The twelve octets as they stand in a message.
+    pub fn as_slice(&self) -> &[u8]
+        ensures octets { result.now ≡ section_octets self.now }
+        ensures length { length result.now ≡ 12 }
+    {
+        &self.octets
+    }
+
+    /// The header.
+    pub fn header(&self) -> Header
+        ensures { result ≡ section_header self.now }
+    {
+        Header::for_message_slice(&self.octets)
+    }
+
+    /// The counts.
+    pub fn counts(&self) -> HeaderCounts
+        ensures { result ≡ section_counts self.now }
+    {
+        HeaderCounts::for_message_slice(&self.octets)
+    }
+
+    /// Changes the header. The counts stay.
+    pub fn set_header(&mut self, header: Header)
+        ensures header { section_header self.new ≡ header }
+        ensures counts { section_counts self.new ≡ section_counts self.old }
+    {
+        self.octets[..4].copy_from_slice(header.as_slice());
+    }
+
+    /// Changes the counts. The header stays.
+    pub fn set_counts(&mut self, counts: HeaderCounts)
+        ensures header { section_header self.new ≡ section_header self.old }
+        ensures counts { section_counts self.new ≡ counts }
+    {
+        self.octets[4..].copy_from_slice(counts.as_slice());
+    }
+}
