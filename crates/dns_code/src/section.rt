@@ -2,7 +2,7 @@ ghost use Rattle.std.specs.Prelude.{◌≡◌, ◌≤◌, ◌+◌, length, take,
 
 use crate::counts::HeaderCounts;
 use crate::header::Header;
-use dns_wire::{ParseError, Parser};
+use dns_wire::{AppendError, Composer, ParseError, Parser};
 
 /// The first twelve octets of a message: the header and then the counts (RFC 1035 section 4.1.1).
 #[derive(Clone, Copy, Debug, Default, PartialEq, Eq)]
@@ -12,6 +12,8 @@ pub struct HeaderSection {
 
 impl HeaderSection {
     ghost use Rattle.dns_wire.specs.Parsers.{seen, place, Takes};
+    ghost use Rattle.dns_wire.specs.Pieces.{put_octets};
+    ghost use Rattle.dns_wire.specs.Targets.{Appends};
     ghost use Rattle.dns_code.specs.Header.{header_octets};
     ghost use Rattle.dns_code.specs.HeaderCounts.{counts_octets};
     ghost use Rattle.dns_code.specs.HeaderSection.{section_octets, section_header, section_counts};
@@ -41,6 +43,13 @@ impl HeaderSection {
         let octets = parser.peek(12)?;
         parser.advance(12)?;
         Ok(HeaderSection::for_message_slice(octets))
+    }
+
+    /// Appends the twelve octets. A refused append changes nothing.
+    pub fn compose<T: Composer>(&self, target: &mut T) -> Result<(), AppendError>
+        ensures { Appends T.room T.grows (put_octets (section_octets self.now)) (T.written target.old) (T.written target.new) result }
+    {
+        target.append_slice(&self.octets)
     }
 
     /// The twelve octets as they stand in a message.

@@ -1,4 +1,7 @@
-//! Questions and records of a DNS message, and TTLs.
+//! Questions and records of DNS messages. Today it has TTLs.
+//!
+//! It promises that every result of a TTL's arithmetic is the number that its call names, and that it is `None` or asked
+//! for exactly where that number isn't a TTL.
 #![tactic(auto)]
 
 mod ttl;

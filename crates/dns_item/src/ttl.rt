@@ -1,10 +1,12 @@
 ghost use Rattle.std.specs.Prelude.{◌≡◌, ◌↔◌, ℕ, ◌+◌, ◌-◌, ◌*◌, ◌/◌, ◌%◌, ◌^◌, ◌<◌, ◌≤◌, min, sum, IsTrue, SomeIff};
-ghost use Rattle.std.specs.Int.{w32};
+ghost use Rattle.std.specs.Int.{to_be_bytes, w32};
 ghost use Rattle.std.specs.Duration.{as_nanos};
 ghost use Rattle.dns_wire.specs.Parsers.{seen, place, number_at, Takes};
+ghost use Rattle.dns_wire.specs.Pieces.{put_octets};
+ghost use Rattle.dns_wire.specs.Targets.{Appends};
 ghost use Rattle.dns_item.specs.Ttl.{FitsTtl, most_seconds, cap_seconds, whole_seconds, nanos_of_seconds};
 
-use dns_wire::{ParseError, Parser};
+use dns_wire::{AppendError, Composer, ParseError, Parser};
 use std::marker::Model;
 use std::ops::{Add, AddAssign, Div, DivAssign, Mul, MulAssign, Sub, SubAssign};
 use std::time::Duration;
@@ -213,6 +215,14 @@ impl Ttl {
             total = total.checked_add(*ttl)?;
         }
         Some(total)
+    }
+
+    /// Appends the number of seconds as four octets, the highest one first (RFC 1035 section 4.1.3). A refused append
+    /// changes nothing.
+    pub fn compose<T: Composer>(&self, target: &mut T) -> Result<(), AppendError>
+        ensures { Appends T.room T.grows (put_octets (to_be_bytes w32 self.now)) (T.written target.old) (T.written target.new) result }
+    {
+        target.append_slice(&self.0.to_be_bytes())
     }
 
     /// Reads four octets as the number of seconds, the highest one first, and passes them

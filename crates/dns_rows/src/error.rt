@@ -19,7 +19,6 @@ fn faults_of_octets(rt: HostRuntime) -> Result<(), Fail> {
             ParseError::Form(FormError::MULTIPLE_QUESTIONS),
             "multiple questions",
         ),
-        (ParseError::Form(FormError::new("own text")), "own text"),
     ] {
         assert_eq!(rt; format!(in rt.alloc(); "{error}")?.as_str(), text);
     }

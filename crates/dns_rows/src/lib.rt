@@ -8,6 +8,8 @@ mod codes;
 #[cfg(test)]
 mod error;
 #[cfg(test)]
+mod header;
+#[cfg(test)]
 mod names;
 #[cfg(test)]
 mod octets;

@@ -1,5 +1,5 @@
 -- What is known of a place by what begins there.
-use Rattle.std.proofs.Common.{◌≡◌, ℕ, ◌+◌, ◌<◌, ◌≤◌, List, length, arith, refl, ap, ◌∙◌}
+use Rattle.std.proofs.Common.{◌≡◌, ℕ, ◌+◌, ◌-◌, ◌*◌, ◌/◌, ◌%◌, ◌<◌, ◌≤◌, List, length, arith, refl, ap, ◌∙◌}
 use Rattle.std.specs.Prelude.{Option, Some, None, Ok, slice_get}
 use Rattle.std.proofs.lemmas.Option.{slice_get_within}
 use Rattle.std.proofs.lemmas.Bool.Decides.{nat_tests}
@@ -64,3 +64,19 @@ root_begins b p h = ap (λ (x : Option ℕ). head_of x (slice_get b (p + 1))) h 
 pub label_begins : (b : List ℕ) (p n : ℕ) → 1 ≤ n → n ≤ 63 → slice_get b p ≡ Some n → head_at b p ≡ Ok (Label n)
 unfolding head_at
 label_begins b p n some short h = ap (λ (x : Option ℕ). head_of x (slice_get b (p + 1))) h ∙ head_of_label n (slice_get b (p + 1)) some short
+
+head_of_pointer : (t : ℕ) → t < 16384 → head_of (Some (192 + t / 256)) (Some (t % 256)) ≡ Ok (Pointer t)
+head_of_pointer t h =
+    let low : t / 256 < 64 = omega arith in
+    let back : (192 + t / 256 - 192) * 256 + t % 256 ≡ t = omega arith in
+    grind (arith, nat_tests, common_steps)
+
+-- where the two octets of a pointer are it begins
+pub pointer_begins : (b : List ℕ) (p t : ℕ) → t < 16384 → slice_get b p ≡ Some (192 + t / 256) → slice_get b (p + 1) ≡ Some (t % 256) → head_at b p ≡ Ok (Pointer t)
+unfolding head_at
+pointer_begins b p t small first second = (λ i. head_of (first i) (second i)) ∙ head_of_pointer t small
+
+-- two octets decide what begins at the first
+pub same_head : (b c : List ℕ) (p : ℕ) → slice_get b p ≡ slice_get c p → slice_get b (p + 1) ≡ slice_get c (p + 1) → head_at b p ≡ head_at c p
+unfolding head_at
+same_head b c p first second = λ i. head_of (first i) (second i)

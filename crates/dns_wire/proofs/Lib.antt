@@ -12,3 +12,13 @@ pub mod NameLemmas
 pub mod NameOrderLemmas
 pub mod Orders
 pub mod PlainTargets
+pub mod NameSizes
+pub mod Choices
+pub mod OctetsAt
+pub mod Memories
+pub mod GrowingPieces
+pub mod SpelledNames
+pub mod PutNames
+pub mod PieceLaws
+pub mod Stability
+pub mod TargetTheorems

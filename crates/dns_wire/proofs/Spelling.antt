@@ -26,7 +26,8 @@ drop_at b p x there =
     let s : suc p ≡ p + 1 = omega arith in
     drop-cons b p 0 within ∙ ap (λ y. y ∷ drop (suc p) b) e ∙ ap (λ k. x ∷ drop k b) s
 
-get_drop : (b : List ℕ) (p x : ℕ) (xs : List ℕ) → drop p b ≡ x ∷ xs → slice_get b p ≡ Some x
+-- what a list from a place on begins with is there
+pub get_drop : (b : List ℕ) (p x : ℕ) (xs : List ℕ) → drop p b ≡ x ∷ xs → slice_get b p ≡ Some x
 get_drop [] zero x xs e = cc
 get_drop [] (suc p) x xs e = cc
 get_drop (y ∷ ys) zero x xs e = cc
@@ -71,7 +72,8 @@ rooted b p e =
     let one : 1 ≡ length b - p = ap length e ∙ length-drop p b in
     (root_begins b p there, omega arith)
 
-name_tail : (label : List ℕ) (name : Labels) → IsName (label ∷ name) → IsLabel label × IsName name
+-- the first label of a name is a label, and the others are a name
+pub name_tail : (label : List ℕ) (name : Labels) → IsName (label ∷ name) → IsLabel label × IsName name
 name_tail label name h =
     (All-head IsLabel label name h.labels, record { labels = All-tail IsLabel label name h.labels; short = omega (arith, h.short) })
 

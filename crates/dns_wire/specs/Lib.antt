@@ -1,4 +1,3 @@
-pub mod FormError
 pub mod Fault
 pub mod Names
 pub mod Heads
@@ -24,3 +23,7 @@ pub mod PutName
 pub mod Parts
 pub mod Spelled
 pub mod Targets
+pub mod StandsIn
+pub mod Pointed
+pub mod Choice
+pub mod TargetLaws

@@ -4,7 +4,7 @@ use Rattle.std.specs.List.{list_all}
 use Rattle.std.specs.FinMap.{get, len}
 use Rattle.dns_wire.specs.Names.{Labels, framed, uncompressed}
 use Rattle.dns_wire.specs.Memory.{Memory, Spot, remember}
-use Rattle.dns_wire.specs.Pieces.{Rule, Plain, Static, Tree, Hash, Laid, Piece}
+use Rattle.dns_wire.specs.Pieces.{Rule, Plain, Static, Tree, Hash, Piece}
 
 -- the two octets of a pointer to a place below 16,384
 abbrev pub pointer : ℕ → List ℕ

@@ -1,5 +1,5 @@
 -- What a target holds, and what its calls do to it.
-use Rattle.std.specs.Prelude.{◌≡◌, OnOk, OnErr, ℕ, ◌+◌, ◌≤◌, ◌<◌, Bool, IsTrue, Option, None, Some, Result, Ok, Err, List, ◌++◌, length, take}
+use Rattle.std.specs.Prelude.{◌≡◌, OnOk, OnErr, ℕ, ◌≤◌, ◌<◌, Bool, IsTrue, Option, None, Some, Result, Ok, Err, List, ◌++◌, length, take}
 use Rattle.dns_wire.specs.Memory.{Memory, cut}
 use Rattle.dns_wire.specs.Octets.{overwritten}
 use Rattle.dns_wire.specs.Pieces.{Piece}

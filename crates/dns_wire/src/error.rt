@@ -1,54 +1,46 @@
-ghost use Rattle.std.specs.Prelude.{◌≡◌};
-
 use std::alloc::AllocError;
 use thiserror::Error;
 
-/// What is wrong with octets that are there: a fixed text says it.
+/// What is wrong with octets that are there: one of six fixed texts says it.
 #[derive(Clone, Copy, Debug, PartialEq, Eq, Error)]
-#[error("{message}")]
-pub struct FormError {
-    message: &'static str,
+#[error("{0}")]
+pub struct FormError(Cause);
+
+/// The texts of `FormError`.
+#[derive(Clone, Copy, Debug, PartialEq, Eq, Error)]
+enum Cause {
+    #[error("bad label")]
+    BadLabel,
+    #[error("bad pointer")]
+    BadPointer,
+    #[error("long name")]
+    LongName,
+    #[error("trailing data in option")]
+    TrailingData,
+    #[error("no question")]
+    NoQuestion,
+    #[error("multiple questions")]
+    MultipleQuestions,
 }
 
 impl FormError {
     /// A length octet has the high bits 01 or 10.
-    pub const BAD_LABEL: FormError = FormError {
-        message: "bad label",
-    };
+    pub const BAD_LABEL: FormError = FormError(Cause::BadLabel);
 
     /// A pointer doesn't lead strictly back, or stands where none may.
-    pub const BAD_POINTER: FormError = FormError {
-        message: "bad pointer",
-    };
+    pub const BAD_POINTER: FormError = FormError(Cause::BadPointer);
 
     /// A name has more than 255 octets, or octets are left over behind it.
-    pub const LONG_NAME: FormError = FormError {
-        message: "long name",
-    };
+    pub const LONG_NAME: FormError = FormError(Cause::LongName);
 
     /// Octets are left over behind the value of record data.
-    pub const TRAILING_DATA: FormError = FormError {
-        message: "trailing data in option",
-    };
+    pub const TRAILING_DATA: FormError = FormError(Cause::TrailingData);
 
     /// A message that has to have one question has none.
-    pub const NO_QUESTION: FormError = FormError {
-        message: "no question",
-    };
+    pub const NO_QUESTION: FormError = FormError(Cause::NoQuestion);
 
     /// A message that has to have one question has more.
-    pub const MULTIPLE_QUESTIONS: FormError = FormError {
-        message: "multiple questions",
-    };
-
-    ghost use Rattle.dns_wire.specs.FormError.{text};
-
-    /// An error that this text tells.
-    pub fn new(message: &'static str) -> Self
-        ensures { text result ≡ message.now }
-    {
-        FormError { message }
-    }
+    pub const MULTIPLE_QUESTIONS: FormError = FormError(Cause::MultipleQuestions);
 }
 
 /// Why octets can't be read.

@@ -14,6 +14,7 @@ mod name_octets;
 mod octets;
 mod parsed_name;
 mod parser;
+pub mod target_laws;
 mod to_name;
 
 pub use composer::{CloneTarget, Composer, FreezeBuilder};

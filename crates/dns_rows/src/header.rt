@@ -1,0 +1,238 @@
+//! Headers, flags and counts of messages.
+use dns_code::{
+    CountOverflow, Flags, FlagsFromStrError, Header, HeaderCounts, HeaderSection, Opcode, Rcode,
+};
+use dns_wire::{ParseError, Parser};
+use std::test::Fail;
+
+const SECTION: [u8; 12] = *b"\x01\x02\x00\x00\x12\x34\x56\x78\x9a\xbc\xde\xf0";
+
+#[test]
+fn takes_a_slice_of_a_message(rt: HostRuntime) -> Result<(), Fail> {
+    let header = Header::for_message_slice(&SECTION);
+    let counts = HeaderCounts::for_message_slice(&SECTION);
+    let section = HeaderSection::for_message_slice(&SECTION);
+    assert_eq!(rt; header.as_slice(), b"\x01\x02\x00\x00".as_slice());
+    assert_eq!(rt;
+        counts.as_slice(),
+        b"\x12\x34\x56\x78\x9a\xbc\xde\xf0".as_slice()
+    );
+    assert_eq!(rt; section.as_slice(), SECTION.as_slice());
+    assert!(rt; section.header() == header && section.counts() == counts);
+    Ok(())
+}
+
+#[test]
+fn keeps_each_field_apart(rt: HostRuntime) -> Result<(), Fail> {
+    let mut header = Header::new();
+    assert_eq!(rt; header.as_slice(), b"\x00\x00\x00\x00".as_slice());
+    assert_eq!(rt; (header.id(), header.opcode()), (0, Opcode::QUERY));
+    assert_eq!(rt;
+        (header.rcode(), header.flags()),
+        (Rcode::NOERROR, Flags::new())
+    );
+    assert!(rt; !header.qr() && !header.aa() && !header.tc() && !header.rd());
+    assert!(rt; !header.ra() && !header.z() && !header.ad() && !header.cd());
+    header.set_id(0x1234);
+    header.set_opcode(Opcode::NOTIFY);
+    header.set_rcode(Rcode::REFUSED);
+    header.set_flags(Flags {
+        qr: true,
+        ..Flags::new()
+    });
+    assert_eq!(rt; (header.id(), header.opcode()), (0x1234, Opcode::NOTIFY));
+    assert_eq!(rt; header.rcode(), Rcode::REFUSED);
+    assert_eq!(rt; header.as_slice(), b"\x12\x34\xA0\x05".as_slice());
+    Ok(())
+}
+
+#[test]
+fn sets_and_clears_each_flag(rt: HostRuntime) -> Result<(), Fail> {
+    let mut header = Header::new();
+    header.set_qr(true);
+    header.set_aa(true);
+    header.set_tc(true);
+    header.set_rd(true);
+    assert_eq!(rt; header.as_slice(), b"\x00\x00\x87\x00".as_slice());
+    header.set_ra(true);
+    header.set_z(true);
+    header.set_ad(true);
+    header.set_cd(true);
+    assert_eq!(rt; header.as_slice(), b"\x00\x00\x87\xF0".as_slice());
+    assert!(rt; header.qr() && header.aa() && header.tc() && header.rd());
+    assert!(rt; header.ra() && header.z() && header.ad() && header.cd());
+    header.set_qr(false);
+    header.set_tc(false);
+    header.set_ra(false);
+    header.set_ad(false);
+    assert_eq!(rt; header.as_slice(), b"\x00\x00\x05\x50".as_slice());
+    Ok(())
+}
+
+#[test]
+fn writes_four_bits_of_an_opcode(rt: HostRuntime) -> Result<(), Fail> {
+    let mut header = Header::new();
+    header.set_opcode(Opcode::from_int(0x10));
+    assert_eq!(rt; header.as_slice(), b"\x00\x00\x00\x00".as_slice());
+    header.set_opcode(Opcode::from_int(0x1f));
+    assert_eq!(rt; header.as_slice(), b"\x00\x00\x78\x00".as_slice());
+    Ok(())
+}
+
+#[test]
+fn reads_texts_of_flags(rt: HostRuntime) -> Result<(), Fail> {
+    let none = Flags::new();
+    let four = Flags {
+        aa: true,
+        tc: true,
+        rd: true,
+        cd: true,
+        ..none
+    };
+    let all = Flags {
+        qr: true,
+        aa: true,
+        tc: true,
+        rd: true,
+        ra: true,
+        ad: true,
+        cd: true,
+    };
+    for (text, flags) in [
+        ("tC Aa CD rd", Some(four)),
+        (
+            "RD CD",
+            Some(Flags {
+                rd: true,
+                cd: true,
+                ..none
+            }),
+        ),
+        ("", Some(none)),
+        ("QR AA TC RD RA AD CD", Some(all)),
+        (
+            "  qr  aa ",
+            Some(Flags {
+                qr: true,
+                aa: true,
+                ..none
+            }),
+        ),
+        ("XXXX", None),
+        ("QR,AA", None),
+        ("QR\tAA", None),
+    ] {
+        assert_eq!(rt; text.parse::<Flags>().ok(), flags, "at {text:?}");
+    }
+    for (flags, text) in [
+        (all, "QR AA TC RD RA AD CD"),
+        (
+            Flags {
+                rd: true,
+                cd: true,
+                ..none
+            },
+            "RD CD",
+        ),
+        (none, ""),
+    ] {
+        assert_eq!(rt; flags.to_string(rt.alloc())?.as_str(), text);
+    }
+    Ok(())
+}
+
+#[test]
+fn counts_up_and_down(rt: HostRuntime) -> Result<(), Fail> {
+    let mut message = [0; 12];
+    message[4..].copy_from_slice(b"\x01\x02\x03\x04\x05\x06\x07\x08");
+    let mut counts = HeaderCounts::for_message_slice(&message);
+    assert_eq!(rt; (counts.qdcount(), counts.ancount()), (0x0102, 0x0304));
+    assert_eq!(rt; (counts.nscount(), counts.arcount()), (0x0506, 0x0708));
+    assert_eq!(rt; (counts.zocount(), counts.prcount()), (0x0102, 0x0304));
+    assert_eq!(rt; (counts.upcount(), counts.adcount()), (0x0506, 0x0708));
+    counts.inc_qdcount()?;
+    counts.inc_ancount()?;
+    counts.inc_nscount()?;
+    counts.inc_arcount()?;
+    assert_eq!(rt;
+        counts.as_slice(),
+        b"\x01\x03\x03\x05\x05\x07\x07\x09".as_slice()
+    );
+    for update in [false, true] {
+        let mut counts = HeaderCounts::new();
+        if update {
+            counts.set_zocount(0x0807);
+            counts.set_prcount(0x0605);
+            counts.set_upcount(0x0403);
+            counts.set_adcount(0x0201);
+        } else {
+            counts.set_qdcount(0x0807);
+            counts.set_ancount(0x0605);
+            counts.set_nscount(0x0403);
+            counts.set_arcount(0x0201);
+        }
+        assert_eq!(rt;
+            counts.as_slice(),
+            b"\x08\x07\x06\x05\x04\x03\x02\x01".as_slice()
+        );
+    }
+    let mut copy = HeaderCounts::new();
+    copy.set(counts);
+    assert_eq!(rt; copy, counts);
+    Ok(())
+}
+
+#[test]
+fn refuses_a_count_past_65535(rt: HostRuntime) -> Result<(), Fail> {
+    let mut counts = HeaderCounts::new();
+    counts.set_qdcount(0xfffe);
+    counts.set_ancount(0xffff);
+    counts.set_nscount(0xffff);
+    counts.set_arcount(0xffff);
+    counts.inc_qdcount()?;
+    assert!(rt; counts.inc_qdcount().is_err() && counts.inc_ancount().is_err());
+    assert!(rt; counts.inc_nscount().is_err() && counts.inc_arcount().is_err());
+    assert_eq!(rt;
+        counts.as_slice(),
+        b"\xff\xff\xff\xff\xff\xff\xff\xff".as_slice()
+    );
+    Ok(())
+}
+
+#[test]
+fn parses_a_section(rt: HostRuntime) -> Result<(), Fail> {
+    let mut parser = Parser::new(&SECTION);
+    let mut section = HeaderSection::parse(&mut parser)?;
+    assert_eq!(rt; section, HeaderSection::for_message_slice(&SECTION));
+    assert_eq!(rt; parser.pos(), 12);
+    section.set_header(Header::new());
+    section.set_counts(HeaderCounts::new());
+    assert_eq!(rt; section, HeaderSection::new());
+    let mut target = Vec::new(rt.alloc());
+    HeaderSection::for_message_slice(&SECTION).compose(&mut target)?;
+    assert_eq!(rt; target.as_slice(), SECTION.as_slice());
+    let mut short = Parser::new(&SECTION[..11]);
+    assert_eq!(rt;
+        HeaderSection::parse(&mut short),
+        Err(ParseError::ShortInput)
+    );
+    assert_eq!(rt; short.pos(), 0);
+    Ok(())
+}
+
+#[test]
+fn tells_what_is_wrong(rt: HostRuntime) -> Result<(), Fail> {
+    let mut counts = HeaderCounts::new();
+    counts.set_qdcount(0xffff);
+    let overflow: Option<CountOverflow> = counts.inc_qdcount().err();
+    let overflow = overflow.ok_or("no overflow")?;
+    let text = "increasing a header count lead to an overflow";
+    assert_eq!(rt; format!(in rt.alloc(); "{overflow}")?.as_str(), text);
+    let token: Option<FlagsFromStrError> = "XXXX".parse::<Flags>().err();
+    let token = token.ok_or("no error")?;
+    assert_eq!(rt;
+        format!(in rt.alloc(); "{token}")?.as_str(),
+        "illegal flags token"
+    );
+    Ok(())
+}

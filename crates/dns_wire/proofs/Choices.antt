@@ -1,0 +1,159 @@
+-- The text of a name is the choice by indices.
+use Rattle.std.proofs.Common.{◌≡◌, ℕ, zero, suc, ◌+◌, ◌<◌, ◌≤◌, ◌⊎◌, inl, inr, Bool, true, false, cond, List, [], ◌∷◌, ◌++◌, take, drop, length, append_assoc, arith, ap, refl, subst}
+use Rattle.std.specs.Prelude.{Option, Some, None, nat_lt, ◌&&◌}
+use Rattle.std.specs.List.{list_all, flat_map}
+use Rattle.std.proofs.lemmas.Bool.{and_parts}
+use Rattle.std.proofs.lemmas.Grind.{common_steps}
+use Rattle.std.specs.FinMap.{get, len}
+use Rattle.dns_wire.specs.Names.{Labels, framed}
+use Rattle.dns_wire.specs.Memory.{Memory, Spot, remember}
+use Rattle.dns_wire.specs.Pieces.{Rule, Plain, Static, Tree, Hash}
+use Rattle.dns_wire.specs.PutName.{spell, spell_label, is_kept, put_name, pointer}
+use Rattle.dns_wire.specs.Choice.{place_of, first_suffixes, IsFirstKnown, IsFar, Chooses, IsAmong, NamesByChoice}
+use Rattle.dns_wire.specs.Choice.Chooses.{shared, written_out}
+
+-- a label that may be remembered is not too far
+far_not : (rule : Rule) (held place : ℕ) → is_kept rule place held ≡ true → IsFar rule held place → ⊥
+far_not Plain held place e h = cc
+far_not Static held place e (inl h) = grind (arith, common_steps)
+far_not Static held place e (inr h) = grind (arith, common_steps)
+far_not Tree held place e h = grind (arith, common_steps)
+far_not Hash held place e h = h
+
+far_static : (place held : ℕ) (b : Bool) → nat_lt place 16384 ≡ b → b && nat_lt held 24 ≡ false → (16384 ≤ place) ⊎ (24 ≤ held)
+far_static place held true t e = inr (grind (arith, common_steps))
+far_static place held false t e = inl (grind (arith, common_steps))
+
+-- each other label is
+far_is : (rule : Rule) (held place : ℕ) → is_kept rule place held ≡ false → IsFar rule held place
+far_is Plain held place e = tt
+far_is Static held place e = far_static place held (nat_lt place 16384) refl e
+far_is Tree held place e = grind (arith, common_steps)
+far_is Hash held place e = cc
+
+-- the same where the numbers are written in another way
+far_same : (rule : Rule) (held held' place place' : ℕ) → held ≡ held' → place ≡ place' → IsFar rule held place → IsFar rule held' place'
+far_same rule held held' place place' e f far = subst (λ x. IsFar rule x place') e (subst (λ x. IsFar rule held x) f far)
+
+-- where neither the first label is too far nor one of the next k, none of the first k + 1 is
+not_far_step : (rule : Rule) (w held : ℕ) (label : List ℕ) (rest : Labels) (k : ℕ) → (IsFar rule held w → ⊥)
+    → ((i : ℕ) → i < k → IsFar rule (held + 1 + i) (place_of (w + 1 + length label) rest i) → ⊥)
+    → (i : ℕ) → i < suc k → IsFar rule (held + i) (place_of w (label ∷ rest) i) → ⊥
+not_far_step rule w held label rest k here h zero l far = here (far_same rule (held + 0) held (w + 0) w (omega arith) (omega arith) far)
+not_far_step rule w held label rest k here h (suc i) l far = h i (omega arith) (far_same rule _ _ _ _ (omega arith) (omega arith) far)
+
+-- where the whole name is not known nor one of the first j of the others, none of the first j + 1 is
+before_step : (m : Memory) (label : List ℕ) (rest : Labels) (j : ℕ) → get m (label ∷ rest) ≡ None
+    → ((i : ℕ) → i < j → get m (drop i rest) ≡ None) → (i : ℕ) → i < suc j → get m (drop i (label ∷ rest)) ≡ None
+before_step m label rest j e h zero l = e
+before_step m label rest j e h (suc i) l = h i (omega arith)
+
+-- where the whole name is not known, it is the first of the others
+known_step : (m : Memory) (label : List ℕ) (rest : Labels) (j : ℕ) → get m (label ∷ rest) ≡ None → IsFirstKnown m rest j → IsFirstKnown m (label ∷ rest) (suc j)
+known_step m label rest j e h = record {
+  within = omega (arith, h.within);
+  before = before_step m label rest j e (λ i l. h.before i l);
+  there = h.there;
+}
+
+-- where it is known, it is the first
+known_here : (m : Memory) (label : List ℕ) (rest : Labels) (x : Spot) → get m (label ∷ rest) ≡ Some x → IsFirstKnown m (label ∷ rest) 0
+known_here m label rest x e = record { within = omega arith; before = λ i l. absurd (omega arith); there = inr (x, e) }
+
+-- the root has no suffix
+known_none : (m : Memory) → IsFirstKnown m [] 0
+known_none m = record { within = omega arith; before = λ i l. absurd (omega arith); there = inl refl }
+
+known_one : (m : Memory) (label : List ℕ) (rest : Labels) (o : Option Spot) → get m (label ∷ rest) ≡ o
+    → (j : ℕ) × IsFirstKnown m rest j → (j : ℕ) × IsFirstKnown m (label ∷ rest) j
+known_one m label rest (Some x) e h = (0, known_here m label rest x e)
+known_one m label rest None e h = (suc h.0, known_step m label rest h.0 e h.1)
+
+-- each name has one
+first_known : (m : Memory) (name : Labels) → (j : ℕ) × IsFirstKnown m name j
+first_known m [] = (0, known_none m)
+first_known m (label ∷ rest) = known_one m label rest (get m (label ∷ rest)) refl (first_known m rest)
+
+-- a label that is written out before what is chosen for the others
+chooses_step : (rule : Rule) (m : Memory) (w held : ℕ) (label : List ℕ) (rest : Labels) {text : List ℕ} {ss : List (Labels × ℕ)}
+    → get m (label ∷ rest) ≡ None → (IsFar rule held w → ⊥)
+    → Chooses rule m (w + 1 + length label) (held + 1) rest text ss → Chooses rule m w held (label ∷ rest) (framed label ++ text) ((label ∷ rest, w) ∷ ss)
+chooses_step rule m w held label rest e here (shared j end known ends near) =
+    let P : List ℕ → Type 0 = λ text. Chooses rule m w held (label ∷ rest) text (first_suffixes (suc j) (label ∷ rest) w) in
+    subst P (append_assoc (framed label) (flat_map framed (take j rest)) end)
+    (shared (suc j) end (known_step m label rest j e known) ends (not_far_step rule w held label rest j here near))
+chooses_step rule m w held label rest e here (written_out c j known less far near) =
+    written_out (suc c) (suc j) (known_step m label rest j e known) (omega arith)
+    (far_same rule (held + 1 + c) (held + suc c) (place_of (w + 1 + length label) rest c) (place_of w (label ∷ rest) (suc c)) (omega arith) (omega arith) far)
+    (not_far_step rule w held label rest c here near)
+
+chooses_one : (rule : Rule) (m : Memory) (w held : ℕ) (o : Option Spot) (keep : Bool) (label : List ℕ) (rest : Labels) (after : List ℕ × List (Labels × ℕ))
+    → get m (label ∷ rest) ≡ o → is_kept rule w held ≡ keep → Chooses rule m (w + 1 + length label) (held + 1) rest after.0 after.1
+    → let spelled = spell_label o keep label rest w after in Chooses rule m w held (label ∷ rest) spelled.0 spelled.1
+chooses_one rule m w held (Some x) keep label rest after e k h =
+    shared 0 (pointer x.place) (known_here m label rest x e) (inr (x, e, refl)) (λ i l far. omega arith)
+chooses_one rule m w held None true label rest after e k h = chooses_step rule m w held label rest e (far_not rule held w k) h
+chooses_one rule m w held None false label rest after e k h =
+    let known = first_known m rest in
+    written_out 0 (suc known.0) (known_step m label rest known.0 e known.1) (omega arith)
+    (far_same rule held (held + 0) w (w + 0) (omega arith) (omega arith) (far_is rule held w k)) (λ i l far. omega arith)
+
+-- the text of a name, and the suffixes that are written out, are chosen
+chooses : (rule : Rule) (m : Memory) (w held : ℕ) (name : Labels) → let spelled = spell rule m w held name in Chooses rule m w held name spelled.0 spelled.1
+chooses rule m w held [] = shared 0 (0 ∷ []) (known_none m) (inl (refl, refl)) (λ i l far. omega arith)
+chooses rule m w held (label ∷ rest) =
+    let behind = w + 1 + length label in
+    chooses_one rule m w held (get m (label ∷ rest)) (is_kept rule w held) label rest (spell rule m behind (held + 1) rest) refl refl (chooses rule m behind (held + 1) rest)
+
+-- whether a pointer can lead to a suffix
+abbrev near_test : Labels × ℕ → Bool
+near_test s = nat_lt s.1 16384
+
+-- a pointer can lead to each of these
+abbrev AreNear : List (Labels × ℕ) → Type 0
+AreNear ss = (s : Labels × ℕ) → IsAmong s ss → s.1 < 16384
+
+-- to one of these none can
+abbrev OneIsFar : List (Labels × ℕ) → Type 0
+OneIsFar ss = (s : Labels × ℕ) × IsAmong s ss × (16384 ≤ s.1)
+
+-- where the test passes, a pointer can lead to each
+all_near : (ss : List (Labels × ℕ)) → list_all (λ s. near_test s) ss ≡ true → AreNear ss
+all_near [] e s h = absurd h
+all_near (t ∷ ss) e s (inl h) =
+    let small = (and_parts (near_test t) (list_all (λ s. near_test s) ss) e).0 in
+    let l : t.1 < 16384 = grind (arith, common_steps) in
+    let p : s.1 ≡ t.1 = ap (λ (x : Labels × ℕ). x.1) h in
+    omega arith
+all_near (t ∷ ss) e s (inr h) = all_near ss (and_parts (near_test t) (list_all (λ s. near_test s) ss) e).1 s h
+
+some_far_one : (t : Labels × ℕ) (ss : List (Labels × ℕ)) (b : Bool) → near_test t ≡ b → b && list_all (λ s. near_test s) ss ≡ false
+    → (list_all (λ s. near_test s) ss ≡ false → OneIsFar ss) → OneIsFar (t ∷ ss)
+some_far_one t ss true small e rec = let r = rec e in (r.0, inr r.1, r.2)
+some_far_one t ss false small e rec = (t, inl refl, grind (arith, common_steps))
+
+-- where it fails, there is one to which none can
+some_far : (ss : List (Labels × ℕ)) → list_all (λ s. near_test s) ss ≡ false → OneIsFar ss
+some_far [] e = cc
+some_far (t ∷ ss) e = some_far_one t ss (near_test t) refl e (some_far ss)
+
+-- all suffixes are remembered, or none is, since one is too far for a pointer
+hash_memory : (m : Memory) (ss : List (Labels × ℕ)) (q : ℕ) (b : Bool) → list_all (λ s. near_test s) ss ≡ b
+    → (AreNear ss × (remember m (cond b ss []) q ≡ remember m ss q)) ⊎ (OneIsFar ss × (remember m (cond b ss []) q ≡ m))
+hash_memory m ss q true e = inl (all_near ss e, refl)
+hash_memory m ss q false e = inr (some_far ss e, refl)
+
+-- the text and the memory of a name are by choice under each rule of compression
+pub names_by_choice : NamesByChoice
+unfolding put_name
+names_by_choice = record {
+  static = λ m w name. record { suffixes = (spell Static m w (len m) name).1; chooses = chooses Static m w (len m) name; memory = refl };
+  tree = λ m w name. record { suffixes = (spell Tree m w (len m) name).1; chooses = chooses Tree m w (len m) name; memory = refl };
+  hash = λ m w name.
+      let spelled = spell Hash m w (len m) name in
+      record {
+        suffixes = spelled.1;
+        chooses = chooses Hash m w (len m) name;
+        memory = hash_memory m spelled.1 (w + length spelled.0) (list_all (λ s. near_test s) spelled.1) refl;
+      };
+}

@@ -1,0 +1,115 @@
+-- What a cut leaves of a memory, and what is added to it.
+use Rattle.std.proofs.Common.{◌≡◌, ℕ, ◌≤◌, ◌<◌, Bool, true, false, cond, Option, Some, None, ap, sym, ◌∙◌, subst, refl, arith, inl, inr}
+use Rattle.std.specs.Prelude.{nat_le}
+use Rattle.std.proofs.lemmas.Grind.{common_steps}
+use Rattle.std.proofs.lemmas.Option.{cond_some}
+use Rattle.std.specs.FinMap.{get, insert, same_map, get-retain_keys, get-insert}
+use Rattle.std.specs.Cmp.{Equal-is}
+use Rattle.std.specs.Ordering.{eq_by_cmp}
+use Rattle.dns_wire.specs.Names.{Labels}
+use Rattle.dns_wire.specs.Memory.{suffix_cmp, suffix_total, suffix_exact, Spot, Memory, ends_within, cut, IsWithin, IsBehind, IsOldOrNew, Extends}
+
+-- what a cut has at a suffix
+pub get-cut : (m : Memory) (len : ℕ) (q : Labels) → get (cut m len) q ≡ cond (ends_within len (get m q)) (get m q) None
+unfolding cut
+get-cut m len q = get-retain_keys m (λ s. ends_within len (get m s)) q (λ x e. ap (λ s. ends_within len (get m s)) (sym (suffix_exact q x e)))
+
+cut_some : (len : ℕ) (o : Option Spot) (x : Spot) → cond (ends_within len o) o None ≡ Some x → (o ≡ Some x) × (x.end ≤ len)
+cut_some len None x e = absurd (grind (arith, common_steps))
+cut_some len (Some y) x e =
+    let w = cond_some (nat_le y.end len) y x e in
+    let s : y ≡ x = w.1 in
+    let l : y.end ≤ len = let t = w.0 in grind (arith, common_steps) in
+    (ap (λ (z : Spot). Some z) s, subst (λ (z : Spot). z.end ≤ len) s l)
+
+-- a suffix that a cut leaves was remembered, and its name ends within
+pub get_of_cut : (m : Memory) (len : ℕ) (s : Labels) (x : Spot) → get (cut m len) s ≡ Some x → (get m s ≡ Some x) × (x.end ≤ len)
+get_of_cut m len s x e = cut_some len (get m s) x (sym (get-cut m len s) ∙ e)
+
+some_cut : (len : ℕ) (o : Option Spot) (x : Spot) → o ≡ Some x → x.end ≤ len → cond (ends_within len o) o None ≡ Some x
+some_cut len o x e l = rw e (grind (arith, common_steps))
+
+-- a cut leaves each suffix of a name that ends within
+pub get_in_cut : (m : Memory) (len : ℕ) (s : Labels) (x : Spot) → get m s ≡ Some x → x.end ≤ len → get (cut m len) s ≡ Some x
+get_in_cut m len s x e l = get-cut m len s ∙ some_cut len (get m s) x e l
+
+-- memories that have the same at each suffix are the same
+pub same_memory : (m n : Memory) → ((q : Labels) → get m q ≡ get n q) → m ≡ n
+same_memory m n h = same_map suffix_total suffix_exact m n h
+
+within_all : (w : ℕ) (o : Option Spot) → ((x : Spot) → o ≡ Some x → x.end ≤ w) → cond (ends_within w o) o None ≡ o
+within_all w None h = refl
+within_all w (Some x) h = let l : x.end ≤ w = h x refl in grind (arith, common_steps)
+
+-- nothing is forgotten of what ends within
+pub cut-within : (m : Memory) (w : ℕ) → IsWithin m w → cut m w ≡ m
+cut-within m w h = same_memory _ _ (λ q. get-cut m w q ∙ within_all w (get m q) (λ x e. h q x e))
+
+cut_new : (e w v : ℕ) (before after : Option Spot) → e ≤ w → IsOldOrNew before after w v
+    → cond (ends_within e after) after None ≡ cond (ends_within e before) before None
+cut_new e w v before after l (inl same) = ap (λ o. cond (ends_within e o) o None) same
+cut_new e w v before after l (inr new) = rw (new.0, new.1.1) (let late : e < new.1.0.end = omega (arith, new.1.3) in grind (arith, common_steps))
+
+-- a cut at or below the place forgets just what is new
+pub cut-extends : (m n : Memory) (w v e : ℕ) → e ≤ w → Extends m n w v → cut n e ≡ cut m e
+cut-extends m n w v e l x = same_memory _ _ (λ q. get-cut n e q ∙ cut_new e w v (get m q) (get n q) l (x.each q) ∙ sym (get-cut m e q))
+
+-- the same memory, with nothing new
+pub extends_refl : (m : Memory) (w v : ℕ) → Extends m m w v
+extends_refl m w v = record { each = λ s. inl refl }
+
+widen_one : (before after : Option Spot) (w v w' v' : ℕ) → w' ≤ w → v ≤ v' → IsOldOrNew before after w v → IsOldOrNew before after w' v'
+widen_one before after w v w' v' l k (inl same) = inl same
+widen_one before after w v w' v' l k (inr new) = inr (new.0, (new.1.0, new.1.1, omega (arith, new.1.2), omega (arith, new.1.3), omega (arith, new.1.4)))
+
+-- what was written between two places was written between two wider ones
+pub extends_wider : (m n : Memory) (w v w' v' : ℕ) → w' ≤ w → v ≤ v' → Extends m n w v → Extends m n w' v'
+extends_wider m n w v w' v' l k x = record { each = λ s. widen_one (get m s) (get n s) w v w' v' l k (x.each s) }
+
+join_one : (a b c : Option Spot) (w v : ℕ) → IsOldOrNew a b w v → IsOldOrNew b c w v → IsOldOrNew a c w v
+join_one a b c w v (inl p) (inl q) = inl (q ∙ p)
+join_one a b c w v (inl p) (inr q) = inr (sym p ∙ q.0, q.1)
+join_one a b c w v (inr p) (inl q) = inr (p.0, (p.1.0, q ∙ p.1.1, p.1.2, p.1.3, p.1.4))
+join_one a b c w v (inr p) (inr q) = absurd (let e : Some p.1.0 ≡ None = sym p.1.1 ∙ q.0 in cc)
+
+-- what is added in two steps is added
+pub extends_join : (a b c : Memory) (w v : ℕ) → Extends a b w v → Extends b c w v → Extends a c w v
+extends_join a b c w v x y = record { each = λ s. join_one (get a s) (get b s) (get c s) w v (x.each s) (y.each s) }
+
+inserted_one : (before after found : Option Spot) (x : Spot) (w v : ℕ) (b : Bool) → found ≡ cond b (Some x) after → (b ≡ true → before ≡ None)
+    → IsOldOrNew before after w v → w ≤ x.place → w < x.end → x.end ≤ v → IsOldOrNew before found w v
+inserted_one before after found x w v true e h (inl same) p q r = inr (h refl, (x, e, p, q, r))
+inserted_one before after found x w v true e h (inr new) p q r = inr (h refl, (x, e, p, q, r))
+inserted_one before after found x w v false e h (inl same) p q r = inl (e ∙ same)
+inserted_one before after found x w v false e h (inr new) p q r = inr (new.0, (new.1.0, e ∙ new.1.1, new.1.2, new.1.3, new.1.4))
+
+-- suffixes that the order does not tell apart are the same
+pub tied : (q k : Labels) → eq_by_cmp suffix_cmp q k ≡ true → q ≡ k
+tied q k e = suffix_exact q k ((Equal-is (suffix_cmp q k)).0 e)
+
+-- one more suffix is new
+pub inserted : (m n : Memory) (k : Labels) (x : Spot) (w v : ℕ) → Extends m n w v → get m k ≡ None → w ≤ x.place → w < x.end → x.end ≤ v
+    → Extends m (insert n k x) w v
+inserted m n k x w v g none p q r = record {
+  each = λ s. inserted_one (get m s) (get n s) _ x w v (eq_by_cmp suffix_cmp s k) (get-insert suffix_total n k x s) (λ e. ap (get m) (tied s k e) ∙ none) (g.each s) p q r;
+}
+
+old_kept : (before after : Option Spot) (w v : ℕ) (x : Spot) → IsOldOrNew before after w v → before ≡ Some x → after ≡ Some x
+old_kept before after w v x (inl same) e = same ∙ e
+old_kept before after w v x (inr new) e = absurd (let n : None ≡ Some x = sym new.0 ∙ e in cc)
+
+-- nothing is forgotten
+pub gets : {m n : Memory} {w v : ℕ} → Extends m n w v → (s : Labels) (x : Spot) → get m s ≡ Some x → get n s ≡ Some x
+gets {m = m} {n = n} {w = w} {v = v} g s x e = old_kept (get m s) (get n s) w v x (g.each s) e
+
+behind_one : (a w v : ℕ) (before after : Option Spot) → a ≤ w → IsOldOrNew before after w v
+    → ((x : Spot) → before ≡ Some x → a ≤ x.place) → (x : Spot) → after ≡ Some x → a ≤ x.place
+behind_one a w v before after l (inl same) h x e = h x (sym same ∙ e)
+behind_one a w v before after l (inr new) h x e =
+    let s : Some new.1.0 ≡ Some x = sym new.1.1 ∙ e in
+    let same : new.1.0 ≡ x = cc in
+    subst (λ (z : Spot). a ≤ z.place) same (omega (arith, new.1.2))
+
+-- what is new stands behind what was there
+pub behind_more : {m n : Memory} {w v : ℕ} (a : ℕ) → a ≤ w → Extends m n w v → IsBehind m a → IsBehind n a
+behind_more {m = m} {n = n} {w = w} {v = v} a l g h = record { each = λ s x e. behind_one a w v (get m s) (get n s) l (g.each s) (λ y f. h.each s y f) x e }

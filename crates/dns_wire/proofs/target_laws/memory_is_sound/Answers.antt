@@ -1,0 +1,24 @@
+use Rattle.dns_wire.proofs.GrowingPieces.{put_name_grows, put_octets_grows, put_parts_grows, both_grows}
+use Rattle.dns_wire.proofs.PieceLaws.{puts_put_name, puts_octets, cut_undoes}
+use Rattle.dns_wire.proofs.SpelledNames.{remembers_cut, remembers_over}
+use Rattle.dns_wire.proofs.Stability.{stands_behind}
+use Rattle.dns_wire.proofs.TargetTheorems.{remembers_what_stands, nothing_is_target, pieces_stay_behind, names_stay_behind}
+use Rattle.dns_wire.proofs.target_laws.memory_is_sound.Goals as goal
+
+pub returns : goal.returns
+returns c = record {
+  stands = remembers_what_stands;
+  stands_behind = stands_behind;
+  nothing = nothing_is_target;
+  name = λ rule t name is h. (puts_put_name rule name is).keeps t h;
+  octets = λ t xs h. (puts_octets xs).keeps t h;
+  cut = λ t len h. remembers_cut len h;
+  overwritten = λ t place over clear h. remembers_over place over clear h;
+  undone = cut_undoes;
+  names_grow = put_name_grows;
+  octets_grow = put_octets_grows;
+  parts_grow = put_parts_grows;
+  both_grow = both_grows;
+  behind = pieces_stay_behind;
+  names_behind = names_stay_behind;
+}

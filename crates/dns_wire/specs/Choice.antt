@@ -1,0 +1,70 @@
+-- How a name is written, by the indices of its labels: the same as the recursion over them. RFC 1035 section 4.1.4.
+use Rattle.std.specs.Prelude.{◌≡◌, ℕ, zero, suc, ◌+◌, ◌<◌, ◌≤◌, ◌⊎◌, Some, None, List, [], ◌∷◌, ◌++◌, length, take, drop}
+use Rattle.std.specs.List.{flat_map}
+use Rattle.std.specs.FinMap.{get, len}
+use Rattle.dns_wire.specs.Names.{Labels, framed, name_size, uncompressed}
+use Rattle.dns_wire.specs.Memory.{Memory, Spot, remember}
+use Rattle.dns_wire.specs.Pieces.{Rule, Plain, Static, Tree, Hash, Laid}
+use Rattle.dns_wire.specs.PutName.{pointer, put_name}
+
+-- where label i is written, if the name is written at w
+abbrev pub place_of : ℕ → Labels → ℕ → ℕ
+place_of w name i = w + name_size (take i name)
+
+-- the name without its first 0, 1, .. labels, as many as i, each with its place
+abbrev pub first_suffixes : ℕ → Labels → ℕ → List (Labels × ℕ)
+first_suffixes zero name w = []
+first_suffixes (suc i) [] w = []
+first_suffixes (suc i) (label ∷ rest) w = (label ∷ rest, w) ∷ first_suffixes i rest (w + 1 + length label)
+
+-- the suffix behind the first j labels is the first that is remembered, or there is none and j is the number of labels
+pub record IsFirstKnown (m : Memory) (name : Labels) (j : ℕ) : Type 0 where
+  pub within : j ≤ length name
+  pub before : (i : ℕ) → i < j → get m (drop i name) ≡ None
+  pub there : (drop j name ≡ []) ⊎ ((x : Spot) × (get m (drop j name) ≡ Some x))
+
+-- what is written behind the labels: a zero octet, or a pointer to the others
+abbrev pub EndsWith : Memory → Labels → List ℕ → Type 0
+EndsWith m others end = ((others ≡ []) × (end ≡ 0 ∷ [])) ⊎ ((x : Spot) × (get m others ≡ Some x) × (end ≡ pointer x.place))
+
+-- a label that is too far to be remembered, where so many suffixes are held
+abbrev pub IsFar : Rule → ℕ → ℕ → Type 0
+IsFar Plain held place = Unit {0}
+IsFar Static held place = (16384 ≤ place) ⊎ (24 ≤ held)
+IsFar Tree held place = 16384 ≤ place
+IsFar Hash held place = ⊥
+
+-- the text of a name at w, and the suffixes that are written out and not too far
+pub data Chooses (rule : Rule) (m : Memory) (w held : ℕ) (name : Labels) : List ℕ → List (Labels × ℕ) → Type 0 where
+  -- no label before the known suffix is too far
+  shared : (j : ℕ) (end : List ℕ) → IsFirstKnown m name j → EndsWith m (drop j name) end
+      → ((i : ℕ) → i < j → IsFar rule (held + i) (place_of w name i) → ⊥)
+      → Chooses rule m w held name (flat_map framed (take j name) ++ end) (first_suffixes j name w)
+  -- c is the first that is too far
+  written_out : (c j : ℕ) → IsFirstKnown m name j → c < j → IsFar rule (held + c) (place_of w name c)
+      → ((i : ℕ) → i < c → IsFar rule (held + i) (place_of w name i) → ⊥)
+      → Chooses rule m w held name (uncompressed name) (first_suffixes c name w)
+
+-- a suffix and its place are one of these
+abbrev pub IsAmong : Labels × ℕ → List (Labels × ℕ) → Type 0
+IsAmong t [] = ⊥
+IsAmong t (s ∷ ss) = (t ≡ s) ⊎ IsAmong t ss
+
+-- the name is written as chosen, and the suffixes are remembered
+pub record PutsByChoice (rule : Rule) (m : Memory) (w : ℕ) (name : Labels) (laid : Laid) : Type 0 where
+  pub suffixes : List (Labels × ℕ)
+  pub chooses : Chooses rule m w (len m) name laid.text suffixes
+  pub memory : laid.memory ≡ remember m suffixes (w + length laid.text)
+
+-- the same, but nothing is remembered where one of the suffixes stands too far for a pointer
+pub record PutsByHash (m : Memory) (w : ℕ) (name : Labels) (laid : Laid) : Type 0 where
+  pub suffixes : List (Labels × ℕ)
+  pub chooses : Chooses Hash m w (len m) name laid.text suffixes
+  pub memory : (((s : Labels × ℕ) → IsAmong s suffixes → s.1 < 16384) × (laid.memory ≡ remember m suffixes (w + length laid.text)))
+      ⊎ (((s : Labels × ℕ) × IsAmong s suffixes × (16384 ≤ s.1)) × (laid.memory ≡ m))
+
+-- each compressor writes a name by the first suffix that it knows and the first label that is too far
+pub record NamesByChoice : Type 0 where
+  pub static : (m : Memory) (w : ℕ) (name : Labels) → PutsByChoice Static m w name (put_name Static name m w)
+  pub tree : (m : Memory) (w : ℕ) (name : Labels) → PutsByChoice Tree m w name (put_name Tree name m w)
+  pub hash : (m : Memory) (w : ℕ) (name : Labels) → PutsByHash m w name (put_name Hash name m w)

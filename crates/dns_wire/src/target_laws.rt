@@ -1,0 +1,49 @@
+//! Theorems on targets and what is put there. The functions do nothing: each contract is a theorem over all contents, names and parts.
+ghost use Rattle.dns_wire.specs.Choice.{NamesByChoice};
+ghost use Rattle.dns_wire.specs.TargetLaws.{StandsWhereAgreed, StandsWithMore, StandsInAll, StandsOfIn, StandsWhenOverwritten};
+ghost use Rattle.dns_wire.specs.TargetLaws.{RemembersWhatStands, StandsBehind, NothingIsTarget, NameKeeps, OctetsKeep, CutKeeps, OverwriteKeeps};
+ghost use Rattle.dns_wire.specs.TargetLaws.{CutUndoes, NamesGrow, OctetsGrow, PartsGrow, BothGrow, PiecesStayBehind, NamesStayBehind};
+ghost use Rattle.dns_wire.specs.TargetLaws.{NamesReadBack, PartsReadBack, NamesAreShort};
+
+/// A name that stands in a content stands in every longer one, and where octets that it does not use are overwritten.
+pub fn standing_is_stable()
+    ensures agreed { StandsWhereAgreed }
+    ensures more { StandsWithMore }
+    ensures all { StandsInAll }
+    ensures back { StandsOfIn }
+    ensures overwritten { StandsWhenOverwritten }
+{}
+
+/// What a target remembers stands where it says, and appends, cuts and overwrites keep that. A cut at the length before a piece undoes it.
+pub fn memory_is_sound()
+    ensures stands { RemembersWhatStands }
+    ensures stands_behind { StandsBehind }
+    ensures nothing { NothingIsTarget }
+    ensures name { NameKeeps }
+    ensures octets { OctetsKeep }
+    ensures cut { CutKeeps }
+    ensures overwritten { OverwriteKeeps }
+    ensures undone { CutUndoes }
+    ensures names_grow { NamesGrow }
+    ensures octets_grow { OctetsGrow }
+    ensures parts_grow { PartsGrow }
+    ensures both_grow { BothGrow }
+    ensures behind { PiecesStayBehind }
+    ensures names_behind { NamesStayBehind }
+{}
+
+/// Names and parts that were put stand where they were put and read back the same, under every rule.
+pub fn names_and_parts_read_back()
+    ensures names { NamesReadBack }
+    ensures parts { PartsReadBack }
+{}
+
+/// Each compressor writes a name by the first suffix that it knows and the first label that is too far to be remembered.
+pub fn names_by_choice()
+    ensures { NamesByChoice }
+{}
+
+/// What is written of a name takes at most the octets that it has without pointers, under every rule.
+pub fn names_are_short()
+    ensures { NamesAreShort }
+{}
