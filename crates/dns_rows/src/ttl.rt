@@ -55,17 +55,11 @@ fn writes_four_octets(rt: HostRuntime) -> Result<(), Fail> {
     Ok(())
 }
 
-/// The seconds that stand at the parser's place.
-fn ttl_at(parser: &mut Parser<'_>) -> Result<u32, ParseError> {
-    let ttl = Ttl::parse(parser)?;
-    Ok(ttl.as_secs())
-}
-
 #[test]
 fn reads_four_octets(rt: HostRuntime) -> Result<(), Fail> {
     let mut parser = Parser::new(b"\x00\x00\x0E\x10\x00");
-    assert_eq!(rt; ttl_at(&mut parser), Ok(3_600));
-    assert_eq!(rt; ttl_at(&mut parser), Err(ParseError::ShortInput));
+    assert_eq!(rt; Ttl::parse(&mut parser), Ok(Ttl::HOUR));
+    assert_eq!(rt; Ttl::parse(&mut parser), Err(ParseError::ShortInput));
     assert_eq!(rt; parser.pos(), 4);
     Ok(())
 }
