@@ -22,3 +22,4 @@ pub mod PutNames
 pub mod PieceLaws
 pub mod Stability
 pub mod TargetTheorems
+pub mod NameTextLemmas

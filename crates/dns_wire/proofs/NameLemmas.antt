@@ -23,10 +23,12 @@ use Rattle.dns_wire.proofs.Spelling.{stands_spelled}
 stands_in_own : (name : Labels) → IsName name → Stands (uncompressed name) 0 name
 stands_in_own name n = stands_spelled (uncompressed name) 0 name n refl
 
-name_is : {X : Type 0} {holder : Ghosts X} (name : Name X holder) → IsName (name_labels name)
+-- its labels are those of a name
+pub name_is : {X : Type 0} {holder : Ghosts X} (name : Name X holder) → IsName (name_labels name)
 name_is name = standing_name name.whole.0.1
 
-parsed_is : (name : ParsedName) → IsName (labels name)
+-- so are those of a parsed name
+pub parsed_is : (name : ParsedName) → IsName (labels name)
 parsed_is name = standing_name name.name_at.0.1
 
 -- its octets are one name

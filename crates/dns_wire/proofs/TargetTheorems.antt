@@ -1,10 +1,9 @@
 -- What is remembered stands, and what is put reads back.
-use Rattle.std.proofs.Common.{◌≡◌, ℕ, List, [], ◌∷◌, length, arith, sym, ◌∙◌}
-use Rattle.std.specs.Prelude.{Some, None, Ok}
-use Rattle.std.specs.FinMap.{get-empty}
+use Rattle.std.proofs.Common.{◌≡◌, ℕ, List, [], ◌∷◌, length, arith}
+use Rattle.std.specs.Prelude.{Ok}
 use Rattle.dns_wire.specs.Names.{Labels}
 use Rattle.dns_wire.specs.Heads.{head_at}
-use Rattle.dns_wire.specs.Memory.{Memory, suffix_cmp}
+use Rattle.dns_wire.specs.Memory.{Memory}
 use Rattle.dns_wire.specs.Parts.{put_parts}
 use Rattle.dns_wire.specs.Pointed.{WellPointed}
 use Rattle.dns_wire.specs.Spelled.{Spelled, Labelled, Remembers}

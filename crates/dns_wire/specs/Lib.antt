@@ -27,3 +27,4 @@ pub mod StandsIn
 pub mod Pointed
 pub mod Choice
 pub mod TargetLaws
+pub mod NameTexts

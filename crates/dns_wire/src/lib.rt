@@ -11,6 +11,7 @@ mod label_iter;
 pub mod laws;
 mod name;
 mod name_octets;
+mod name_print;
 mod octets;
 mod parsed_name;
 mod parser;
