@@ -23,3 +23,5 @@ pub mod PieceLaws
 pub mod Stability
 pub mod TargetTheorems
 pub mod NameTextLemmas
+pub mod OctetTexts
+pub mod NameTextReading

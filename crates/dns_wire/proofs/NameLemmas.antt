@@ -1,5 +1,5 @@
 -- What is known of names by their labels alone.
-use Rattle.std.proofs.Common.{◌≡◌, ℕ, ◌+◌, ◌≤◌, List, [], ◌∷◌, ◌++◌, length, length-append, arith, ap, sym, ◌∙◌, refl}
+use Rattle.std.proofs.Common.{◌≡◌, ℕ, ◌+◌, ◌≤◌, List, [], ◌∷◌, ◌++◌, length, length-append, arith, ap, sym, ◌∙◌, refl, subst}
 use Rattle.std.specs.Prelude.{All, map}
 use Rattle.std.specs.Char.{to_ascii_lowercase}
 use Rattle.std.proofs.lemmas.Bool.Decides.{nat_tests}
@@ -30,6 +30,14 @@ name_is name = standing_name name.whole.0.1
 -- so are those of a parsed name
 pub parsed_is : (name : ParsedName) → IsName (labels name)
 parsed_is name = standing_name name.name_at.0.1
+
+-- the octets of labels of a name are one name
+pub octets_whole : (name : Labels) (b : List ℕ) → IsName name → uncompressed name ≡ b → WholeName b
+octets_whole name b n e = subst WholeName e ((name, stands_in_own name n), refl)
+
+-- a name with the octets of labels has these labels
+pub labels_of_octets : {X : Type 0} {holder : Ghosts X} (name : Name X holder) (own : Labels) (b : List ℕ) → uncompressed (name_labels name) ≡ b → uncompressed own ≡ b → own ≡ name_labels name
+labels_of_octets name own b e same = uncompressed-injective _ _ (same ∙ sym e)
 
 -- its octets are one name
 pub name_whole : {X : Type 0} {holder : Ghosts X} (name : Name X holder) → WholeName (uncompressed (name_labels name))

@@ -28,3 +28,4 @@ pub mod Pointed
 pub mod Choice
 pub mod TargetLaws
 pub mod NameTexts
+pub mod NameReading

@@ -30,7 +30,8 @@ pub trait FlattenInto<Target>: Sized {
         ensures { Converts result (keeps self) (too_long self) takes_memory };
 }
 
-fn append_label(target: &mut ArrayVec<u8, 255>, label: Label<'_>)
+/// Appends a label behind its length octet.
+pub(crate) fn append_label(target: &mut ArrayVec<u8, 255>, label: Label<'_>)
     requires { array_vec_len target.old + length (framed (label_octets label)) ≤ 255 }
     ensures { target.new.items ≡ target.old.items ++ framed (label_octets label.entry) }
 {

@@ -4,6 +4,7 @@ ghost use Rattle.dns_wire.specs.Uncompressed.{WholeName, WholeName-prop};
 use crate::compare::hash_labels;
 use crate::error::{FormError, ParseError};
 use crate::head::Head;
+pub use crate::name_error::{FromStrError, PresentationError};
 use crate::octets::Octets;
 use crate::parsed_name::ParsedName;
 use crate::to_name::{ToName, ToNameExt};
