@@ -25,3 +25,5 @@ pub mod TargetTheorems
 pub mod NameTextLemmas
 pub mod OctetTexts
 pub mod NameTextReading
+pub mod PrintedNames
+pub mod NameTextFaults

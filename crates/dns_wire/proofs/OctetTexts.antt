@@ -1,5 +1,5 @@
 -- Which octet a text begins with.
-use Rattle.std.proofs.Common.{◌≡◌, ◌∙◌, ℕ, ◌-◌, ◌<◌, ◌≤◌, Bool, true, false, nat_eq, nat_lt, List, [], ◌∷◌, ◌++◌, length, take, drop, get_or, length-append, ap, sym, subst, refl, arith}
+use Rattle.std.proofs.Common.{◌⊎◌, inl, inr, ◌≡◌, ◌∙◌, ℕ, ◌-◌, ◌<◌, ◌≤◌, Bool, true, false, nat_eq, nat_lt, List, [], ◌∷◌, ◌++◌, length, take, drop, get_or, length-append, ap, sym, subst, refl, arith}
 use Rattle.std.specs.Prelude.{Option, Some, None, ◌&&◌, if◌then◌else◌, not}
 use Rattle.std.proofs.lemmas.Bool.{and_from}
 use Rattle.std.proofs.lemmas.Bool.Decides.{nat_tests}
@@ -116,7 +116,8 @@ plain_from c g d b = and_from _ _ g (grind (arith, nat_tests))
 pub fails : (b : Bool) → false ≡ b → b ≡ true → ⊥
 fails b e h = cc
 
-octet_long : {front : List ℕ} {o : ℕ} → SpellsOctet front o → 0 < length front
+-- what spells an octet is not empty
+pub octet_long : {front : List ℕ} {o : ℕ} → SpellsOctet front o → 0 < length front
 octet_long (SpellsOctet.plain p) = omega arith
 octet_long (SpellsOctet.escaped g d) = omega arith
 octet_long (SpellsOctet.decimal x y z small) = omega arith
@@ -124,3 +125,57 @@ octet_long (SpellsOctet.decimal x y z small) = omega arith
 -- less text is left behind an octet
 pub first_shorter : {text rest : List ℕ} {o : ℕ} → SpellsFirst text o rest → length rest < length text
 first_shorter {rest = rest} s = omega (arith, ap length s.whole, length-append s.front rest, octet_long s.spelled)
+
+-- a front of the text spells an octet that is read
+abbrev pub HasFirst : List ℕ → Type 0
+HasFirst text = (o : ℕ) × (rest : List ℕ) × SpellsFirst text o rest
+
+decimal_view : (a b c : ℕ) (rest : List ℕ) → is_digit a ≡ true → (x y z : Bool) → is_digit b ≡ x → is_digit c ≡ y → nat_lt (decimal_value a b c) 256 ≡ z
+    → (decimal_read a b c rest ≡ None) ⊎ HasFirst (backslash ∷ a ∷ b ∷ c ∷ rest)
+decimal_view a b c rest d true true true p q r =
+    let small : decimal_value a b c < 256 = grind (arith, nat_tests) in
+    inr (decimal_value a b c, rest, record { front = backslash ∷ a ∷ b ∷ c ∷ []; whole = refl; spelled = SpellsOctet.decimal d p q small })
+decimal_view a b c rest d true true false p q r = inl (rw (p, q, r) refl)
+decimal_view a b c rest d true false z p q r = inl (rw (p, q) refl)
+decimal_view a b c rest d false y z p q r = inl (rw p refl)
+
+digits_view : (a : ℕ) (text : List ℕ) → is_digit a ≡ true → (digits_read a text ≡ None) ⊎ HasFirst (backslash ∷ a ∷ text)
+digits_view a [] d = inl refl
+digits_view a (b ∷ []) d = inl refl
+digits_view a (b ∷ c ∷ rest) d = decimal_view a b c rest d _ _ _ refl refl refl
+
+escape_at : (a : ℕ) (text : List ℕ) (d g : Bool) → is_digit a ≡ d → is_graphic a ≡ g → (escape_read (a ∷ text) ≡ None) ⊎ HasFirst (backslash ∷ a ∷ text)
+escape_at a text true g p q = elim (digits_view a text p) [ inl e ↦ inl (rw p e) | inr s ↦ inr s ]
+escape_at a text false true p q = inr (a, text, escaped_first a text q p)
+escape_at a text false false p q = inl (rw (p, q) refl)
+
+escape_view : (text : List ℕ) → (escape_read text ≡ None) ⊎ HasFirst (backslash ∷ text)
+escape_view [] = inl refl
+escape_view (a ∷ text) = escape_at a text _ _ refl refl
+
+octet_at : (c : ℕ) (text : List ℕ) (b p : Bool) → nat_eq c backslash ≡ b → is_plain c ≡ p → (octet_read (c ∷ text) ≡ None) ⊎ HasFirst (c ∷ text)
+octet_at c text true p e q =
+    let is : c ≡ backslash = grind (arith, nat_tests) in
+    subst (λ d. (octet_read (d ∷ text) ≡ None) ⊎ HasFirst (d ∷ text)) (sym is) (escape_view text)
+octet_at c text false true e q = inr (c, text, plain_first c text q)
+octet_at c text false false e q = inl (rw (q, e) refl)
+
+-- either a front of a text spells an octet, or none is read
+pub octet_view : (text : List ℕ) → (octet_read text ≡ None) ⊎ HasFirst text
+octet_view [] = inl refl
+octet_view (c ∷ text) = octet_at c text _ _ refl refl
+
+-- where nothing is spelled none is read
+pub none_read : (text : List ℕ) → SpellsNone text → octet_read text ≡ None
+none_read text h = elim (octet_view text) [ inl e ↦ e | inr s ↦ absurd (h s.0 s.1 s.2) ]
+
+not_true : (b : Bool) → not b ≡ true → b ≡ false
+not_true true h = cc
+not_true false h = refl
+
+-- what is no graphic character is read as no octet
+pub symbol_read : (c : ℕ) (text : List ℕ) → not (is_graphic c) ≡ true → octet_read (c ∷ text) ≡ None
+symbol_read c text h =
+    let other : nat_eq c backslash ≡ false = grind (arith, nat_tests) in
+    let black : is_graphic c ≡ false = not_true _ h in
+    rw (black, other) refl

@@ -29,3 +29,4 @@ pub mod Choice
 pub mod TargetLaws
 pub mod NameTexts
 pub mod NameReading
+pub mod NameTextLaws

@@ -1,6 +1,7 @@
 //! Theorems on names in octets. The functions do nothing: each contract is a theorem over all octets and places.
 ghost use Rattle.dns_wire.specs.Laws.{NameOrFault, NameOrFaultNotBoth, OneName, OneFault, StandingNames, EndOrSkipFault, EndOrSkipFaultNotBoth, OneEnd, StandingNamesEnd, SkipFaultsAreFaults, SkippingEndsAlike, SkippingFailsAlike};
 ghost use Rattle.dns_wire.specs.Laws.{NameOrderIsTotal, ComposedOrderIsTotal, NameOrderAgrees, ComposedOrderAgrees, EqualNamesHashAlike};
+ghost use Rattle.dns_wire.specs.NameTextLaws.{OneTextFault, PrintedNamesSpell, TextNameOrFaultNotBoth};
 
 /// At each place exactly one name stands or exactly one fault is met, never both.
 pub fn one_name_or_fault()
@@ -37,4 +38,11 @@ pub fn name_orders()
     ensures name_order_agrees { NameOrderAgrees }
     ensures composed_order_agrees { ComposedOrderAgrees }
     ensures hash { EqualNamesHashAlike }
+{}
+
+/// A text has one leftmost fault at most, and none where it spells a name. The text that a name of octets is printed as spells it, but for the root.
+pub fn names_as_texts()
+    ensures not_both { TextNameOrFaultNotBoth }
+    ensures one_fault { OneTextFault }
+    ensures printed { PrintedNamesSpell }
 {}

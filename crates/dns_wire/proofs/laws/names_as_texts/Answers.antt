@@ -1,0 +1,12 @@
+use Rattle.dns_wire.proofs.NameTextFaults.{one_text_fault, text_name_or_fault_not_both}
+use Rattle.dns_wire.proofs.PrintedNames.{printed_names_spell}
+use Rattle.dns_wire.proofs.laws.names_as_texts.Goals as goal
+
+pub returns-clause-not_both : goal.returns-clause-not_both
+returns-clause-not_both c = text_name_or_fault_not_both
+
+pub returns-clause-one_fault : goal.returns-clause-one_fault
+returns-clause-one_fault c = one_text_fault
+
+pub returns-clause-printed : goal.returns-clause-printed
+returns-clause-printed c = printed_names_spell
