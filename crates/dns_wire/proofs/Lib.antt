@@ -27,3 +27,5 @@ pub mod OctetTexts
 pub mod NameTextReading
 pub mod PrintedNames
 pub mod NameTextFaults
+pub mod NameOrTextFault
+pub mod OneTextName

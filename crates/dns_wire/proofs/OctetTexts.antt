@@ -179,3 +179,16 @@ symbol_read c text h =
     let other : nat_eq c backslash ≡ false = grind (arith, nat_tests) in
     let black : is_graphic c ≡ false = not_true _ h in
     rw (black, other) refl
+
+other_than : (c d : ℕ) → nat_eq c d ≡ false → c ≡ d → ⊥
+other_than c d e h = grind (arith, nat_tests)
+
+symbol_if : (c : ℕ) (text : List ℕ) (g : Bool) → is_graphic c ≡ g → nat_eq c dot ≡ false → nat_eq c backslash ≡ false → octet_read (c ∷ text) ≡ None → not (is_graphic c) ≡ true
+symbol_if c text true e d b none =
+    let read = first_is (plain_first c text (plain_from c e (λ h. other_than c _ d h) (λ h. other_than c _ b h))) in
+    cc
+symbol_if c text false e d b none = ap not e
+
+-- what is no dot and no backslash, and is read as no octet, is no graphic character
+pub symbol_of : (c : ℕ) (text : List ℕ) → nat_eq c dot ≡ false → nat_eq c backslash ≡ false → octet_read (c ∷ text) ≡ None → not (is_graphic c) ≡ true
+symbol_of c text d b none = symbol_if c text _ refl d b none

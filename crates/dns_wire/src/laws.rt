@@ -1,7 +1,7 @@
 //! Theorems on names in octets. The functions do nothing: each contract is a theorem over all octets and places.
 ghost use Rattle.dns_wire.specs.Laws.{NameOrFault, NameOrFaultNotBoth, OneName, OneFault, StandingNames, EndOrSkipFault, EndOrSkipFaultNotBoth, OneEnd, StandingNamesEnd, SkipFaultsAreFaults, SkippingEndsAlike, SkippingFailsAlike};
 ghost use Rattle.dns_wire.specs.Laws.{NameOrderIsTotal, ComposedOrderIsTotal, NameOrderAgrees, ComposedOrderAgrees, EqualNamesHashAlike};
-ghost use Rattle.dns_wire.specs.NameTextLaws.{OneTextFault, PrintedNamesSpell, TextNameOrFaultNotBoth};
+ghost use Rattle.dns_wire.specs.NameTextLaws.{OneTextFault, OneTextName, PrintedNamesSpell, TextNameOrFault, TextNameOrFaultNotBoth};
 
 /// At each place exactly one name stands or exactly one fault is met, never both.
 pub fn one_name_or_fault()
@@ -40,9 +40,11 @@ pub fn name_orders()
     ensures hash { EqualNamesHashAlike }
 {}
 
-/// A text has one leftmost fault at most, and none where it spells a name. The text that a name of octets is printed as spells it, but for the root.
+/// A text spells one name or has one leftmost fault, never both. The text that a name of octets is printed as spells it, but for the root.
 pub fn names_as_texts()
+    ensures some { TextNameOrFault }
     ensures not_both { TextNameOrFaultNotBoth }
+    ensures one_name { OneTextName }
     ensures one_fault { OneTextFault }
     ensures printed { PrintedNamesSpell }
 {}
