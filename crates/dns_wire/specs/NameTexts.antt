@@ -18,7 +18,7 @@ backslash = 0x5c
 abbrev pub zero_digit : ℕ
 zero_digit = 0x30
 
--- 0x21 to 0x7e: a character that is printed with ink
+-- a graphic character: 0x21 to 0x7e
 abbrev pub is_graphic : ℕ → Bool
 is_graphic c = is_in_range 0x21 0x7e c
 
