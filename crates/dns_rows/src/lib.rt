@@ -6,9 +6,13 @@
 #[cfg(test)]
 mod codes;
 #[cfg(test)]
+mod compressors;
+#[cfg(test)]
 mod error;
 #[cfg(test)]
 mod header;
+#[cfg(test)]
+mod name_texts;
 #[cfg(test)]
 mod names;
 #[cfg(test)]

@@ -91,7 +91,7 @@ fn refuses_what_passes_the_room(rt: HostRuntime) -> Result<(), Fail> {
 
 /// A target whose every growth is refused.
 #[derive(Drop)]
-struct Refusing;
+pub(crate) struct Refusing;
 
 impl Composer for Refusing {
     ghost use Rattle.std.specs.Prelude.{None, true, [], refl};

@@ -15,7 +15,7 @@ use Rattle.dns_wire.proofs.SpelledNames.{spelled_long, spelled_more, kept_more, 
 use Rattle.dns_wire.proofs.PutNames.{ends_within_content, puts_name}
 
 -- targets with the same octets and the same memory are the same
-same_written : (t u : Written) → t.octets ≡ u.octets → t.memory ≡ u.memory → t ≡ u
+pub same_written : (t u : Written) → t.octets ≡ u.octets → t.memory ≡ u.memory → t ≡ u
 same_written t u p q = λ i. record { octets = p i; memory = q i }
 
 -- a cut at the length before a growing piece gives back what was there

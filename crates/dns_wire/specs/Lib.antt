@@ -23,6 +23,7 @@ pub mod PutName
 pub mod Parts
 pub mod Spelled
 pub mod Targets
+pub mod WrittenCode
 pub mod StandsIn
 pub mod Pointed
 pub mod Choice

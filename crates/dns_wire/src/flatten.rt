@@ -41,7 +41,7 @@ pub(crate) fn append_label(target: &mut ArrayVec<u8, 255>, label: Label<'_>)
 
 impl ParsedName<'_> {
     /// The octets of the name without pointers, 255 at most (RFC 1035, section 3.1).
-    pub(crate) fn uncompressed(self) -> ArrayVec<u8, 255>
+    pub fn uncompressed(self) -> ArrayVec<u8, 255>
         ensures { result.items ≡ uncompressed (labels self.entry) }
     {
         let mut octets = ArrayVec::new();

@@ -1,0 +1,5 @@
+pub mod Tree
+pub mod Nodes
+pub mod Lookup
+pub mod State
+pub mod Rules

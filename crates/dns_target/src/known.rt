@@ -1,0 +1,156 @@
+//! How a tree writes a name, and what it adds of it.
+ghost use Rattle.std.specs.Prelude.{◌≡◌, ◌++◌, ◌≤◌, ◌<◌, ◌+◌, ◌-◌, [], length, take, drop, None, IfSome};
+ghost use Rattle.std.specs.FinMap.{len};
+ghost use Rattle.dns_wire.specs.Names.{uncompressed, name_size};
+ghost use Rattle.dns_wire.specs.Memory.{remember};
+ghost use Rattle.dns_wire.specs.Pieces.{Tree as TreeRule};
+ghost use Rattle.dns_wire.specs.PutName.{spell, pointer};
+ghost use Rattle.dns_target.specs.Tree.{IsTree, memory_of, last_end};
+ghost use Rattle.dns_target.specs.Lookup.{IsPath, IsEnd, IsNew, IsWritable, first, nearer as nearer_of, reaches as reaches_of, reach as reach_of, tree_text};
+
+use crate::label_starts::LabelStarts;
+use crate::tree::Tree;
+use arrayvec::ArrayVec;
+
+/// The places that a pointer can lead to are below this one: they have 14 bits (RFC 1035 section 4.1.4).
+pub(crate) const PLACES_END: usize = 16_384;
+
+/// What a tree has of a name: the node of the labels from `from` on, and the longest suffix with a place.
+#[derive(Clone, Copy)]
+pub(crate) struct Known {
+    pub(crate) rest: Option<usize>,
+    pub(crate) from: usize,
+    pub(crate) pointer: Option<(usize, u16)>,
+}
+
+/// The place of a suffix, or what was found behind it.
+fn nearer(place: Option<u16>, from: usize, later: Option<(usize, u16)>) -> Option<(usize, u16)>
+    ensures { result ≡ nearer_of place from later }
+{
+    match place {
+        Some(place) => Some((from, place)),
+        None => later,
+    }
+}
+
+/// Looks the suffixes of a name up, the shortest first.
+pub(crate) fn look_up(tree: &Tree, labels: &LabelStarts<'_>) -> Known
+    requires { IsTree tree.now.entries }
+    ensures path { IsPath tree.now.entries labels.now result.rest result.from }
+    ensures end { IsEnd tree.now.entries labels.now result.rest result.from }
+    ensures new { IsNew (memory_of tree.now.entries) labels.now result.from }
+    ensures pointer { result.pointer ≡ first (memory_of tree.now.entries) 0 labels.now }
+{
+    let mut rest = None;
+    let mut from = labels.len();
+    let mut pointer = None;
+    while from > 0 {
+        let Some(node) = tree.find(rest, labels.label(from - 1)) else {
+            return Known {
+                rest,
+                from,
+                pointer,
+            };
+        };
+        rest = Some(node);
+        from -= 1;
+        pointer = nearer(tree.place(node), from, pointer);
+    }
+    Known {
+        rest,
+        from,
+        pointer,
+    }
+}
+
+/// The octets of the name without pointers.
+fn whole(labels: &LabelStarts<'_>) -> ArrayVec<u8, 255>
+    ensures { result.items ≡ uncompressed labels.now }
+{
+    let octets = labels.octets();
+    let mut text = ArrayVec::new();
+    text.try_extend_from_slice(octets).unwrap();
+    text
+}
+
+/// The octets of the labels before `from`, and a pointer to a place.
+fn with_pointer(labels: &LabelStarts<'_>, from: usize, at: u16) -> ArrayVec<u8, 255>
+    requires from { from < length labels.now }
+    requires at { at < PLACES_END }
+    ensures { result.items ≡ take (name_size (take from labels.now)) (uncompressed labels.now) ++ pointer at }
+{
+    let octets = labels.octets();
+    let before = labels.start(from);
+    let mut text = ArrayVec::new();
+    text.try_extend_from_slice(&octets[..before]).unwrap();
+    text.push(192 + (at / 256) as u8);
+    text.push((at % 256) as u8);
+    text
+}
+
+/// Whether each label before `from` begins where a pointer reaches.
+fn reaches(labels: &LabelStarts<'_>, place: usize, from: usize) -> bool
+    requires { from < length labels.now }
+    ensures { result ≡ reaches_of place labels.now from }
+{
+    from == 0 || place < PLACES_END - labels.start(from - 1)
+}
+
+/// The octets of a name at a place.
+pub(crate) fn spelled(
+    labels: &LabelStarts<'_>,
+    place: usize,
+    pointer: Option<(usize, u16)>,
+) -> ArrayVec<u8, 255>
+    requires { IfSome pointer (λ p. IsWritable labels.now p) }
+    ensures { result.items ≡ tree_text place labels.now pointer }
+{
+    let Some((from, at)) = pointer else {
+        return whole(labels);
+    };
+    if reaches(labels, place, from) {
+        return with_pointer(labels, from, at);
+    }
+    whole(labels)
+}
+
+/// A place as a pointer holds it.
+fn reach(place: usize) -> Option<u16>
+    ensures { result ≡ reach_of place }
+{
+    if place < PLACES_END {
+        Some(place as u16)
+    } else {
+        None
+    }
+}
+
+/// Remembers the suffixes of a name that was written from `place` to `end`.
+pub(crate) fn grow(
+    tree: &mut Tree,
+    labels: &LabelStarts<'_>,
+    place: usize,
+    end: usize,
+    known: Known,
+)
+    requires tree { IsTree tree.old.entries }
+    requires path { IsPath tree.old.entries labels.now known.rest known.from }
+    requires end { IsEnd tree.old.entries labels.now known.rest known.from }
+    requires new { IsNew (memory_of tree.old.entries) labels.now known.from }
+    requires room { length tree.old.entries + known.from ≤ tree.old.capacity }
+    requires near { place < PLACES_END }
+    requires last { last_end tree.old.entries ≤ end }
+    requires long { place + name_size (take known.from labels.now) < end }
+    requires written { (spell TreeRule (memory_of tree.old.entries) (place + name_size (take known.from labels.now)) (len (memory_of tree.old.entries) + known.from) (drop known.from labels.now)).1 ≡ [] }
+    ensures tree { IsTree tree.new.entries }
+    ensures memory { memory_of tree.new.entries ≡ remember (memory_of tree.old.entries) (spell TreeRule (memory_of tree.old.entries) place (len (memory_of tree.old.entries)) labels.now).1 end }
+    ensures last { last_end tree.new.entries ≤ end }
+{
+    let mut rest = known.rest;
+    let mut from = known.from;
+    while from > 0 {
+        from -= 1;
+        let kept = reach(place + labels.start(from));
+        rest = Some(tree.push(labels.label(from), kept, end, rest));
+    }
+}

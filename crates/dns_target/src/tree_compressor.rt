@@ -1,0 +1,114 @@
+//! A target that remembers each suffix that a pointer can lead to.
+ghost use Rattle.std.specs.Prelude.{◌≡◌, true};
+ghost use Rattle.dns_wire.specs.Memory.{nothing};
+ghost use Rattle.dns_wire.specs.Pieces.{Plain, Tree as TreeRule};
+ghost use Rattle.dns_target.specs.Rules.{tree_not_plain};
+
+use crate::known::{PLACES_END, grow, look_up, spelled};
+use crate::label_starts::LabelStarts;
+use crate::tree::Tree;
+use dns_wire::{AppendError, Composer, ToName};
+use std::alloc::Global;
+use std::marker::Model;
+
+/// A target that compresses names, over one that doesn't (RFC 1035 section 4.1.4).
+///
+/// It remembers each suffix that it writes out below 16,384, and knows it again octet for octet.
+#[derive(Drop)]
+pub struct TreeCompressor<Target: Composer> {
+    target: Target,
+    tree: Tree,
+}
+
+impl<Target: Composer> Model for TreeCompressor<Target> {
+    ghost use Rattle.dns_wire.specs.Targets.{Written};
+    ghost use Rattle.dns_wire.specs.WrittenCode.{written_code};
+    ghost use Rattle.dns_target.specs.Tree.{memory_of};
+    ghost use Rattle.dns_target.specs.State.{IsTreeState};
+
+    ghost Value = { Written };
+
+    ghost coded = { written_code };
+
+    ghost view = { λ s. record { octets = (Target.written s.target).octets; memory = memory_of s.tree.entries } };
+
+    ghost invariant = { λ s. IsTreeState Target.rule (Target.written s.target) s.tree.entries };
+}
+
+impl<Target: Composer> TreeCompressor<Target> {
+    /// A compressor over a target that doesn't compress. The content stays, and nothing is remembered.
+    ///
+    /// What is remembered takes memory from `alloc`.
+    pub fn new(alloc: Global, target: Target) -> Self
+        requires { Target.rule ≡ Plain }
+        ensures { result ≡ record { octets = (Target.written target).octets; memory = nothing } }
+    {
+        TreeCompressor {
+            target,
+            tree: Tree::new(alloc),
+        }
+    }
+
+    /// The target, which holds the content.
+    pub fn as_target(&self) -> &Target
+        ensures { Target.written result.now ≡ record { octets = self.now.octets; memory = nothing } }
+    {
+        &self.target
+    }
+
+    /// The target, which holds the content. What was remembered is given up.
+    pub fn into_target(self) -> Target
+        ensures { Target.written result ≡ record { octets = self.octets; memory = nothing } }
+    {
+        self.target
+    }
+}
+
+impl<Target: Composer> Composer for TreeCompressor<Target> {
+    ghost rule = { TreeRule };
+
+    ghost room = { Target.room };
+
+    ghost grows = { true };
+
+    ghost written = { λ w. w };
+
+    ghost plain_forgets = { λ e _. tree_not_plain e };
+
+    fn as_slice(&self) -> &[u8] {
+        self.target.as_slice()
+    }
+
+    fn append_slice(&mut self, octets: &[u8]) -> Result<(), AppendError> {
+        self.target.append_slice(octets)
+    }
+
+    fn append_compressed_name<N: ToName>(&mut self, name: &N) -> Result<(), AppendError> {
+        let labels = LabelStarts::new(name.as_parsed());
+        let place = self.target.as_slice().len();
+        let found = look_up(&self.tree, &labels);
+        let text = spelled(&labels, place, found.pointer);
+        if self.tree.reserve(found.from).is_err() {
+            return Err(AppendError::OutOfMemory);
+        }
+        self.target.append_slice(text.as_slice())?;
+        if place < PLACES_END {
+            let end = self.target.as_slice().len();
+            grow(&mut self.tree, &labels, place, end, found);
+        }
+        Ok(())
+    }
+
+    fn can_compress(&self) -> bool {
+        true
+    }
+
+    fn truncate(&mut self, len: usize) {
+        self.target.truncate(len);
+        self.tree.cut(len);
+    }
+
+    fn write_at(&mut self, place: usize, octets: &[u8]) {
+        self.target.write_at(place, octets);
+    }
+}
