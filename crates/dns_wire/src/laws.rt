@@ -1,4 +1,4 @@
-//! Theorems on names in octets. The functions do nothing: each contract is a theorem over all octets and places.
+//! Theorems on names in octets and as texts. The functions do nothing: each contract is a theorem over all octets and places, or all texts.
 ghost use Rattle.dns_wire.specs.Laws.{NameOrFault, NameOrFaultNotBoth, OneName, OneFault, StandingNames, EndOrSkipFault, EndOrSkipFaultNotBoth, OneEnd, StandingNamesEnd, SkipFaultsAreFaults, SkippingEndsAlike, SkippingFailsAlike};
 ghost use Rattle.dns_wire.specs.Laws.{NameOrderIsTotal, ComposedOrderIsTotal, NameOrderAgrees, ComposedOrderAgrees, EqualNamesHashAlike};
 ghost use Rattle.dns_wire.specs.NameTextLaws.{OneTextFault, OneTextName, PrintedNamesSpell, TextNameOrFault, TextNameOrFaultNotBoth};

@@ -1,4 +1,8 @@
-//! Octets of DNS messages and the names in them.
+//! Octets of DNS messages and the names in them: the parser, names in octets and as texts, holders of octets, and the
+//! targets that messages are written to.
+//!
+//! It promises that a name is read exactly where one stands (RFC 1035 section 4.1.4), that the leftmost fault is answered
+//! elsewhere, and that what is put into a target is read back, under every rule of compression.
 #![tactic(auto)]
 
 mod compare;
