@@ -1,1 +1,5 @@
 pub mod Ttl
+pub mod Items
+pub mod Entries
+pub mod Question
+pub mod EntryLaws

@@ -4,6 +4,8 @@
 //! for exactly where that number isn't a TTL.
 #![tactic(auto)]
 
+pub mod question;
 mod ttl;
 
+pub use question::{ComposeQuestion, Question};
 pub use ttl::Ttl;

@@ -3,7 +3,7 @@ use Rattle.std.proofs.Common.{◌≡◌, ℕ, ◌+◌, ◌≤◌, ◌<◌, Bool,
 use Rattle.std.specs.FinMap.{get}
 use Rattle.dns_wire.specs.Names.{Labels}
 use Rattle.dns_wire.specs.Memory.{Spot, Memory, remember, Extends}
-use Rattle.dns_wire.specs.Pieces.{IsGrowing, Rule, Plain, Static, Tree, Hash, Piece, put_octets, both}
+use Rattle.dns_wire.specs.Pieces.{IsGrowing, Rule, Plain, Static, Tree, Hash, Piece, put_octets, both, with_length}
 use Rattle.dns_wire.specs.PutName.{spell_label, spell, kept, put_name}
 use Rattle.dns_wire.specs.Parts.{Part, Octets, CompressibleName, put_part, put_parts}
 use Rattle.dns_wire.proofs.Memories.{extends_refl, extends_wider, extends_join, inserted}
@@ -85,6 +85,14 @@ both_grows a b g h = record {
       extends_join m first.memory second.memory w end
       (extends_wider m first.memory w v w end (omega arith) (omega arith) (g.grows m w))
       (extends_wider first.memory second.memory v (v + length second.text) w end (omega arith) (omega arith) (h.grows first.memory v));
+}
+
+-- so is a growing piece behind its length
+pub with_length_grows : (a : Piece) → IsGrowing a → IsGrowing (with_length a)
+with_length_grows a g = record {
+  grows = λ m w.
+      let laid = a m (w + 2) in
+      extends_wider m laid.memory (w + 2) (w + 2 + length laid.text) w _ (omega arith) (omega arith) (g.grows m (w + 2));
 }
 
 put_part_grows : (rule : Rule) (part : Part) → IsGrowing (put_part rule part)

@@ -20,6 +20,8 @@ pub mod GrowingPieces
 pub mod SpelledNames
 pub mod PutNames
 pub mod PieceLaws
+pub mod Composing
+pub mod LengthPieces
 pub mod Stability
 pub mod TargetTheorems
 pub mod NameTextLemmas

@@ -4,6 +4,7 @@ use Rattle.dns_wire.specs.Names.{Labels, uncompressed}
 use Rattle.dns_wire.specs.Memory.{Memory, Spot}
 use Rattle.dns_wire.specs.Pieces.{Rule, Plain, Static, Tree, Hash}
 use Rattle.dns_wire.specs.PutName.{spell, spell_label, put_name}
+use Rattle.dns_wire.specs.Parts.{Part, Octets, CompressibleName, put_part, put_parts, part_size, parts_size}
 use Rattle.dns_wire.specs.TargetLaws.{NamesAreShort}
 use Rattle.dns_wire.proofs.LabelsLemmas.{length-uncompressed}
 
@@ -32,3 +33,17 @@ names_are_short Plain name m w = omega arith
 names_are_short Static name m w = spell_short Static m w _ name
 names_are_short Tree name m w = spell_short Tree m w _ name
 names_are_short Hash name m w = spell_short Hash m w _ name
+
+part_short : (rule : Rule) (part : Part) (m : Memory) (w : ℕ) → length (put_part rule part m w).text ≤ part_size part
+part_short rule (Octets octets) m w = omega arith
+part_short rule (CompressibleName name) m w = names_are_short rule name m w
+
+-- parts take at most the octets that they have without pointers
+pub parts_are_short : (rule : Rule) (parts : List Part) (m : Memory) (w : ℕ) → length (put_parts rule parts m w).text ≤ parts_size parts
+unfolding put_parts
+parts_are_short rule [] m w = omega arith
+parts_are_short rule (part ∷ parts) m w =
+    let first = put_part rule part m w in
+    let a = part_short rule part m w in
+    let b = parts_are_short rule parts first.memory (w + length first.text) in
+    rw length-append (omega (arith, a, b))

@@ -27,7 +27,7 @@ cut_undoes piece t grows is =
     ∙ cut-within t.memory (length t.octets) (ends_within_content is))
 
 -- one piece and then another are both
-lay-both : (a b : Piece) (t : Written) → lay b (lay a t) ≡ lay (both a b) t
+pub lay-both : (a b : Piece) (t : Written) → lay b (lay a t) ≡ lay (both a b) t
 lay-both a b t = rw length-append (same_written _ _ (simp append_assoc) refl)
 
 -- Laid on a target a piece leaves a target, where P holds of the places between which the piece stands.
@@ -37,19 +37,19 @@ pub record Puts (piece : Piece) (P : Written → ℕ → ℕ → Type 0) : Type 
   pub puts : (t : Written) → IsTarget t → P (lay piece t) (length t.octets) (length (lay piece t).octets)
 
 -- what holds stays so behind each growing piece
-record IsStable (P : Written → ℕ → ℕ → Type 0) : Type 0 where
-  stays : (piece : Piece) (t : Written) (p q : ℕ) → IsGrowing piece → P t p q → P (lay piece t) p q
+pub record IsStable (P : Written → ℕ → ℕ → Type 0) : Type 0 where
+  pub stays : (piece : Piece) (t : Written) (p q : ℕ) → IsGrowing piece → P t p q → P (lay piece t) p q
 
 -- one fact up to a place, and another behind it
-abbrev Behind : (P Q : Written → ℕ → ℕ → Type 0) → Written → ℕ → ℕ → Type 0
+abbrev pub Behind : (P Q : Written → ℕ → ℕ → Type 0) → Written → ℕ → ℕ → Type 0
 Behind P Q t p q = (r : ℕ) × P t p r × Q t r q
 
 -- both stay
-stable_behind : (P Q : Written → ℕ → ℕ → Type 0) → IsStable P → IsStable Q → IsStable (Behind P Q)
+pub stable_behind : (P Q : Written → ℕ → ℕ → Type 0) → IsStable P → IsStable Q → IsStable (Behind P Q)
 stable_behind P Q f g = record { stays = λ piece t p q grows h. (h.0, f.stays piece t p h.0 grows h.1, g.stays piece t h.0 q grows h.2) }
 
 -- two pieces put both
-puts_both : (a b : Piece) (P Q : Written → ℕ → ℕ → Type 0) → IsStable P → Puts a P → Puts b Q → Puts (both a b) (Behind P Q)
+pub puts_both : (a b : Piece) (P Q : Written → ℕ → ℕ → Type 0) → IsStable P → Puts a P → Puts b Q → Puts (both a b) (Behind P Q)
 puts_both a b P Q f x y = record {
   grows = both_grows a b x.grows y.grows;
   keeps = λ t h. subst (λ (u : Written). IsTarget u) (lay-both a b t) (y.keeps (lay a t) (x.keeps t h));
@@ -63,11 +63,11 @@ puts_both a b P Q f x y = record {
 }
 
 -- the octets stand between the places
-abbrev HasOctets : List ℕ → Written → ℕ → ℕ → Type 0
+abbrev pub HasOctets : List ℕ → Written → ℕ → ℕ → Type 0
 HasOctets xs t p q = At t.octets p xs × (q ≡ p + length xs)
 
 -- octets stay
-stable_octets : (xs : List ℕ) → IsStable (HasOctets xs)
+pub stable_octets : (xs : List ℕ) → IsStable (HasOctets xs)
 stable_octets xs = record { stays = λ piece t p q grows h. (at_append _ h.0, h.1) }
 
 -- octets stand where they were put
@@ -79,11 +79,11 @@ puts_octets xs = record {
 }
 
 -- the name is spelled between the places
-abbrev HasName : Labels → Written → ℕ → ℕ → Type 0
+abbrev pub HasName : Labels → Written → ℕ → ℕ → Type 0
 HasName name t p q = Spelled t.memory t.octets q p name
 
 -- a name stays spelled
-stable_name : (name : Labels) → IsStable (HasName name)
+pub stable_name : (name : Labels) → IsStable (HasName name)
 stable_name name = record { stays = λ piece t p q grows h. spelled_more _ _ (gets (grows.grows t.memory (length t.octets))) h }
 
 -- a name is spelled where it was put
@@ -98,10 +98,16 @@ puts_put_name rule name is = record {
 }
 
 -- the parts fill the places, one behind the other
-abbrev HasParts : List Part → Written → ℕ → ℕ → Type 0
+abbrev pub HasParts : List Part → Written → ℕ → ℕ → Type 0
 HasParts [] t p q = p ≡ q
 HasParts (Octets xs ∷ parts) t p q = Behind (HasOctets xs) (HasParts parts) t p q
 HasParts (CompressibleName name ∷ parts) t p q = Behind (HasName name) (HasParts parts) t p q
+
+-- parts stay
+pub stable_parts : (parts : List Part) → IsStable (HasParts parts)
+stable_parts [] = record { stays = λ piece t p q grows h. h }
+stable_parts (Octets xs ∷ parts) = stable_behind (HasOctets xs) (HasParts parts) (stable_octets xs) (stable_parts parts)
+stable_parts (CompressibleName name ∷ parts) = stable_behind (HasName name) (HasParts parts) (stable_name name) (stable_parts parts)
 
 -- no part
 puts_none : Puts (put_octets []) (HasParts [])
@@ -119,10 +125,16 @@ puts_parts rule (CompressibleName name ∷ parts) is =
     puts_both (put_name rule name) (put_parts rule parts) (HasName name) (HasParts parts) (stable_name name) (puts_put_name rule name is.0) (puts_parts rule parts is.1)
 
 -- parts do not end before they begin
-parts_rise : (parts : List Part) (t : Written) (p q : ℕ) → HasParts parts t p q → p ≤ q
+pub parts_rise : (parts : List Part) (t : Written) (p q : ℕ) → HasParts parts t p q → p ≤ q
 parts_rise [] t p q h = omega arith
 parts_rise (Octets xs ∷ parts) t p q h = let r = parts_rise parts t h.0 q h.2 in let e = h.1.1 in omega arith
 parts_rise (CompressibleName name ∷ parts) t p q h = let r = parts_rise parts t h.0 q h.2 in let w = spelled_long h.1 in omega arith
+
+-- parts end within the content
+pub parts_within : (parts : List Part) (t : Written) (p q : ℕ) → p ≤ length t.octets → HasParts parts t p q → q ≤ length t.octets
+parts_within [] t p q l h = omega arith
+parts_within (Octets xs ∷ parts) t p q l h = let w = h.1.0.within in let e = h.1.1 in parts_within parts t h.0 q (omega arith) h.2
+parts_within (CompressibleName name ∷ parts) t p q l h = let w = spelled_long h.1 in parts_within parts t h.0 q w.1 h.2
 
 -- parts that fill places of a target stand there
 pub parts_stand : (parts : List Part) (t : Written) (p q : ℕ) → AreParts parts → IsTarget t → HasParts parts t p q → PartsStand t.octets q p parts

@@ -1,5 +1,5 @@
 -- What holds of every target, and of all names and parts that are put there. RFC 1035 section 4.1.4.
-use Rattle.std.specs.Prelude.{◌≡◌, ℕ, ◌<◌, ◌≤◌, Some, Ok, List, ◌++◌, length, take, ◌⊎◌, ◌+◌}
+use Rattle.std.specs.Prelude.{◌≡◌, ℕ, ◌<◌, ◌≤◌, Some, Ok, List, ◌++◌, length, take, ◌⊎◌, ◌+◌, Bool, Option, Result, Err}
 use Rattle.std.specs.FinMap.{get}
 use Rattle.dns_wire.specs.Names.{Labels, IsName, uncompressed}
 use Rattle.dns_wire.specs.Heads.{head_at}
@@ -12,7 +12,8 @@ use Rattle.dns_wire.specs.Pieces.{Rule, Piece, IsGrowing, put_octets, both}
 use Rattle.dns_wire.specs.PutName.{put_name}
 use Rattle.dns_wire.specs.Parts.{Part, PartsStand, AreParts, put_parts}
 use Rattle.dns_wire.specs.Spelled.{Remembers}
-use Rattle.dns_wire.specs.Targets.{Written, IsTarget, lay, cut_to, overwrite}
+use Rattle.dns_wire.specs.Targets.{Written, IsTarget, lay, cut_to, overwrite, Appends, Composes}
+use Rattle.dns_wire.specs.declared.error.AppendError.{AppendError}
 use Rattle.dns_wire.specs.declared.head.Head.TheVariants.{Label}
 
 -- a name stands in all octets that agree with these from lo to hi, where all octets are that it takes
@@ -121,3 +122,18 @@ PartsReadBack = (rule : Rule) (t : Written) (parts : List Part) → AreParts par
 -- what is written of a name takes at most its octets without pointers
 abbrev pub NamesAreShort : Type 0
 NamesAreShort = (rule : Rule) (name : Labels) (m : Memory) (w : ℕ) → length (put_name rule name m w).text ≤ length (uncompressed name)
+
+-- one append of a piece composes it
+abbrev pub AppendsCompose : Type 0
+AppendsCompose = (room : Option ℕ) (grows : Bool) (piece : Piece) (t u : Written) (r : Result Unit AppendError)
+    → Appends room grows piece t u r → Composes room grows piece t u r
+
+-- a piece that is there, and another that is composed behind it, whatever the answer, compose both
+abbrev pub ComposesBoth : Type 0
+ComposesBoth = (room : Option ℕ) (grows : Bool) (a b : Piece) (t u v : Written) (r : Result Unit AppendError)
+    → IsGrowing a → u ≡ lay a t → Composes room grows b u v r → Composes room grows (both a b) t v r
+
+-- where the first of two pieces is refused, so are both
+abbrev pub ComposesFirst : Type 0
+ComposesFirst = (room : Option ℕ) (grows : Bool) (a b : Piece) (t u : Written) (r q : Result Unit AppendError) (e : AppendError)
+    → r ≡ Err e → q ≡ Err e → Composes room grows a t u r → Composes room grows (both a b) t u q

@@ -3,7 +3,7 @@ ghost use Rattle.dns_wire.specs.Choice.{NamesByChoice};
 ghost use Rattle.dns_wire.specs.TargetLaws.{StandsWhereAgreed, StandsWithMore, StandsInAll, StandsOfIn, StandsWhenOverwritten};
 ghost use Rattle.dns_wire.specs.TargetLaws.{RemembersWhatStands, StandsBehind, NothingIsTarget, NameKeeps, OctetsKeep, CutKeeps, OverwriteKeeps};
 ghost use Rattle.dns_wire.specs.TargetLaws.{CutUndoes, NamesGrow, OctetsGrow, PartsGrow, BothGrow, PiecesStayBehind, NamesStayBehind};
-ghost use Rattle.dns_wire.specs.TargetLaws.{NamesReadBack, PartsReadBack, NamesAreShort};
+ghost use Rattle.dns_wire.specs.TargetLaws.{NamesReadBack, PartsReadBack, NamesAreShort, AppendsCompose, ComposesBoth, ComposesFirst};
 
 /// A name that stands in a content stands in every longer one, and where octets that it does not use are overwritten.
 pub fn standing_is_stable()
@@ -46,4 +46,11 @@ pub fn names_by_choice()
 /// What is written of a name takes at most the octets that it has without pointers, under every rule.
 pub fn names_are_short()
     ensures { NamesAreShort }
+{}
+
+/// What is appended by several calls is composed: each append composes its piece, pieces one behind the other compose both, and the refusal of one is that of all.
+pub fn pieces_compose()
+    ensures one { AppendsCompose }
+    ensures both { ComposesBoth }
+    ensures first { ComposesFirst }
 {}

@@ -1,0 +1,3 @@
+pub mod Names
+pub mod EntryLemmas
+pub mod QuestionLemmas

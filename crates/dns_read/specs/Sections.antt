@@ -1,0 +1,45 @@
+-- The sections of a message: how many entries each has, where it starts, and what reading it gives. RFC 1035 sections 4.1 and 4.1.1.
+--
+-- `b` are the octets of the message.
+use Rattle.std.specs.Prelude.{ℕ, List, Result}
+use Rattle.std.specs.Int.{w16}
+use Rattle.dns_wire.specs.Fault.{Fault}
+use Rattle.dns_wire.specs.Parsers.{number_at}
+use Rattle.dns_item.specs.Entries.{SkipsQuestion, SkipsRecord, ReadsQuestion, ReadsRecord, RecordEntry, QuestionFaultAt, RecordFaultAt}
+use Rattle.dns_item.specs.Items.{QuestionItem}
+use Rattle.dns_read.specs.Reading.{Passed, Reading}
+
+-- the octets of the header section, behind which the question section starts
+abbrev pub header_size : ℕ
+header_size = 12
+
+-- the counts of the header section
+abbrev pub question_count : List ℕ → ℕ
+question_count b = number_at w16 b 4
+
+abbrev pub answer_count : List ℕ → ℕ
+answer_count b = number_at w16 b 6
+
+abbrev pub authority_count : List ℕ → ℕ
+authority_count b = number_at w16 b 8
+
+abbrev pub additional_count : List ℕ → ℕ
+additional_count b = number_at w16 b 10
+
+-- each section behind the first starts at a place, where all entries of those before it can be skipped
+abbrev pub AnswersStart : List ℕ → ℕ → Type 0
+AnswersStart b p = Passed (SkipsQuestion b) (question_count b) header_size p
+
+abbrev pub AuthoritiesStart : List ℕ → ℕ → Type 0
+AuthoritiesStart b p = (before : ℕ) × AnswersStart b before × Passed (SkipsRecord b) (answer_count b) before p
+
+abbrev pub AdditionalsStart : List ℕ → ℕ → Type 0
+AdditionalsStart b p = (before : ℕ) × AuthoritiesStart b before × Passed (SkipsRecord b) (authority_count b) before p
+
+-- the reading of at most so many questions from a place on
+abbrev pub ReadingQuestions : List ℕ → ℕ → ℕ → List (Result QuestionItem Fault) → Type 0
+ReadingQuestions b n p xs = Reading (ReadsQuestion b) (QuestionFaultAt b) n p xs
+
+-- the reading of at most so many records from a place on
+abbrev pub ReadingRecords : List ℕ → ℕ → ℕ → List (Result RecordEntry Fault) → Type 0
+ReadingRecords b n p xs = Reading (ReadsRecord b) (RecordFaultAt b) n p xs
