@@ -13,7 +13,7 @@ use Rattle.dns_item.specs.Entries.QuestionSkipFaultAt.{name as name_skip_fault, 
 use Rattle.dns_item.specs.Entries.RecordFaultAt.{owner as owner_fault, short as short_record}
 use Rattle.dns_item.specs.Entries.RecordSkipFaultAt.{owner as owner_skip_fault, short as unended_record}
 use Rattle.dns_item.specs.Entries.LacksRecord.{fields, rdata}
-use Rattle.dns_item.specs.EntryLaws.{QuestionOrFault, RecordOrFault, QuestionEndOrFault, RecordEndOrFault}
+use Rattle.dns_item.specs.EntryLaws.{QuestionOrFault, RecordOrFault, QuestionEndOrFault, RecordEndOrFault, QuestionSkipAgrees, RecordSkipAgrees}
 use Rattle.dns_item.proofs.Names.{name_or_fault, not_both, one_name, one_fault, end_or_skip_fault, end_not_both, one_end, names_end, skip_faults}
 
 module _ (b : List ℕ) where
@@ -181,3 +181,9 @@ record_or_fault b = record { some = record_at b; one = same_record b; not_both =
 
 pub record_end_or_fault : RecordEndOrFault
 record_end_or_fault b = record { some = record_end b; one = one_record_end b; not_both = only_record_end b; one_fault = one_record_skip_fault b }
+
+pub question_skip_agrees : QuestionSkipAgrees
+question_skip_agrees = record { ends_alike = λ b p q x h. h.skips; fails_alike = λ b p q x f fault h. only_question_end b p q f h.skips fault }
+
+pub record_skip_agrees : RecordSkipAgrees
+record_skip_agrees = record { ends_alike = λ b p q x h. h.skips; fails_alike = λ b p q x f fault h. only_record_end b p q f h.skips fault }

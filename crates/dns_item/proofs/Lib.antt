@@ -1,3 +1,4 @@
 pub mod Names
 pub mod EntryLemmas
 pub mod QuestionLemmas
+pub mod ItemLemmas

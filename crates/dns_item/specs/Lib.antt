@@ -3,3 +3,4 @@ pub mod Items
 pub mod Entries
 pub mod Question
 pub mod EntryLaws
+pub mod ItemLaws

@@ -4,6 +4,7 @@
 //! for exactly where that number isn't a TTL.
 #![tactic(auto)]
 
+pub mod laws;
 pub mod question;
 mod ttl;
 

@@ -1,0 +1,29 @@
+//! Theorems on questions and records where they stand and where they are put. The functions do nothing: each contract is a theorem over all octets, places and items.
+ghost use Rattle.dns_item.specs.EntryLaws.{QuestionOrFault, RecordOrFault, QuestionEndOrFault, RecordEndOrFault, QuestionSkipAgrees, RecordSkipAgrees};
+ghost use Rattle.dns_item.specs.ItemLaws.{QuestionsGrow, RecordsGrow, QuestionsReadBack, RecordsReadBack};
+
+/// At each place exactly one question can be read or exactly one fault is met, never both; so for records.
+pub fn one_entry_or_fault()
+    ensures questions { QuestionOrFault }
+    ensures records { RecordOrFault }
+{}
+
+/// At each place a question can be skipped to exactly one end or there is exactly one fault, never both; so for records.
+pub fn one_end_or_fault()
+    ensures questions { QuestionEndOrFault }
+    ensures records { RecordEndOrFault }
+{}
+
+/// Where a question or a record can be read, skipping ends at the same place; where it can't be skipped it can't be read.
+pub fn skipping_agrees()
+    ensures questions { QuestionSkipAgrees }
+    ensures records { RecordSkipAgrees }
+{}
+
+/// Questions and records that are put remember only what they write, and can be read where they were put, under every rule.
+pub fn items_read_back()
+    ensures questions_grow { QuestionsGrow }
+    ensures records_grow { RecordsGrow }
+    ensures questions { QuestionsReadBack }
+    ensures records { RecordsReadBack }
+{}
