@@ -1,0 +1,5 @@
+pub mod Messages
+pub mod Folds
+pub mod FoldReading
+pub mod Moves
+pub mod Shown

@@ -1,0 +1,89 @@
+-- What a builder stands for: a header, a limit and four lists of items. RFC 1035 section 4.1.
+use Rattle.std.specs.Prelude.{◌≡◌, ℕ, ◌≤◌, List, [], ◌∷◌, ◌++◌, length, Option, Some, None, ◌==◌, if◌then◌else◌}
+use Rattle.dns_code.specs.Header.{header_octets}
+use Rattle.dns_code.specs.HeaderCounts.{Counts}
+use Rattle.dns_code.specs.declared.header.Header.{Header}
+use Rattle.dns_item.specs.Items.{QuestionItem, RecordItem, IsQuestion, IsRecord}
+
+-- which section a builder is at; at first it is at none
+pub data Stage : Type 0 where
+  InBuilder : Stage
+  InQuestion : Stage
+  InAnswer : Stage
+  InAuthority : Stage
+  InAdditional : Stage
+
+-- the greatest limit that there is stands for none
+abbrev pub no_limit : ℕ
+no_limit = 18446744073709551615
+
+-- a header, the most octets that the message may have, and the items of the four sections
+pub record State : Type 0 where
+  pub stage : Stage
+  pub header : Header
+  pub limit : ℕ
+  pub questions : List QuestionItem
+  pub answers : List RecordItem
+  pub authorities : List RecordItem
+  pub additionals : List RecordItem
+
+-- it holds of each
+abbrev pub Every : {X : Type 0} → (X → Type 0) → List X → Type 0
+Every P [] = Unit {0}
+Every P (x ∷ xs) = P x × Every P xs
+
+-- the most entries that a section's count can tell
+abbrev pub most_entries : ℕ
+most_entries = 65535
+
+-- a state whose items a message can hold and count
+pub record IsState (s : State) : Type 0 where
+  pub header : length (header_octets s.header) ≡ 4
+  pub questions : Every IsQuestion s.questions
+  pub answers : Every IsRecord s.answers
+  pub authorities : Every IsRecord s.authorities
+  pub additionals : Every IsRecord s.additionals
+  pub few_questions : length s.questions ≤ most_entries
+  pub few_answers : length s.answers ≤ most_entries
+  pub few_authorities : length s.authorities ≤ most_entries
+  pub few_additionals : length s.additionals ≤ most_entries
+
+-- without the lists behind the stage's own
+abbrev pub up_to : Stage → State → State
+up_to InBuilder s = record s { questions = []; answers = []; authorities = []; additionals = [] }
+up_to InQuestion s = record s { answers = []; authorities = []; additionals = [] }
+up_to InAnswer s = record s { authorities = []; additionals = [] }
+up_to InAuthority s = record s { additionals = [] }
+up_to InAdditional s = s
+
+-- a move sets the stage and empties the lists behind its own
+abbrev pub move_to : Stage → State → State
+move_to stage s = record (up_to stage s) { stage = stage }
+
+-- a rewind empties the stage's own list too
+abbrev pub rewound : Stage → State → State
+rewound InBuilder s = s
+rewound InQuestion s = up_to InBuilder s
+rewound InAnswer s = up_to InQuestion s
+rewound InAuthority s = up_to InAnswer s
+rewound InAdditional s = up_to InAuthority s
+
+-- with a question at the end of its list
+abbrev pub with_question : QuestionItem → State → State
+with_question x s = record s { questions = s.questions ++ x ∷ [] }
+
+-- with another header
+abbrev pub with_header : Header → State → State
+with_header header s = record s { header = header }
+
+-- the number of entries in each list
+abbrev pub item_counts : State → Counts
+item_counts s = record { qdcount = length s.questions; ancount = length s.answers; nscount = length s.authorities; arcount = length s.additionals }
+
+-- a limit as it is shown
+abbrev pub limit_shown : ℕ → Option ℕ
+limit_shown limit = if limit == no_limit then None else Some limit
+
+-- with another limit
+abbrev pub with_limit : ℕ → State → State
+with_limit limit s = record s { limit = limit }

@@ -1,0 +1,16 @@
+//! Builders of messages, a section at a time (RFC 1035 section 4.1).
+//!
+//! A builder stands for a state: a header, a limit and the items of the four sections. It promises that its octets are
+//! those of one fold over the state, and that a push is refused only for room, memory, limit or count, in this order,
+//! and then changes nothing.
+#![tactic(auto)]
+
+pub mod laws;
+mod message_builder;
+mod push_error;
+mod question_builder;
+mod settle;
+
+pub use message_builder::MessageBuilder;
+pub use push_error::PushError;
+pub use question_builder::QuestionBuilder;

@@ -1,0 +1,208 @@
+//! The builder of a message before its sections, on which the builders of the sections stand.
+ghost use Rattle.std.specs.Prelude.{◌≡◌, ◌+◌, ◌≤◌, [], ◌∷◌, IfOk, length};
+ghost use Rattle.dns_wire.specs.Pieces.{Plain};
+ghost use Rattle.dns_wire.specs.Targets.{Answers, cut_to, overwrite};
+ghost use Rattle.dns_code.specs.Header.{header_octets};
+ghost use Rattle.dns_code.specs.HeaderCounts.{counts};
+ghost use Rattle.dns_item.specs.Items.{IsQuestion, put_question};
+ghost use Rattle.dns_build.specs.Built.{PushesOn};
+ghost use Rattle.dns_build.specs.Fold.{fold};
+ghost use Rattle.dns_build.specs.Standing.{StandsFor, Moves, fresh};
+ghost use Rattle.dns_build.specs.State.{State, InBuilder, InQuestion, move_to, with_header, with_limit, no_limit, item_counts, limit_shown};
+
+use crate::push_error::PushError;
+use crate::question_builder::QuestionBuilder;
+use crate::settle::settle;
+use dns_code::{Header, HeaderCounts};
+use dns_item::ComposeQuestion;
+use dns_wire::{AppendError, Composer};
+use std::alloc::Global;
+use std::marker::Model;
+
+/// The place of QDCOUNT in a message, in octets.
+pub(crate) const QDCOUNT_PLACE: usize = 4;
+
+/// The octets of a header section.
+pub(crate) const HEADER_LEN: usize = 12;
+
+/// A message with a header and no item.
+///
+/// A contract sees any builder as what its target holds, its limit and where its record sections start; `StandsFor` ties
+/// that to the states that it stands for.
+#[derive(Debug, Drop)]
+pub struct MessageBuilder<T: Composer> {
+    target: T,
+    /// The most octets that the message may have.
+    limit: usize,
+}
+
+impl<T: Composer> Model for MessageBuilder<T> {
+    ghost use Rattle.std.specs.Prelude.{[]};
+    ghost use Rattle.dns_build.specs.Built.{Built, built_code, IsMessage};
+
+    ghost Value = { Built };
+
+    ghost coded = { built_code };
+
+    ghost view = { λ b. record { written = T.written b.target; limit = b.limit; starts = [] } };
+
+    ghost invariant = { λ b. IsMessage (T.written b.target) };
+}
+
+impl MessageBuilder<Vec<u8>> {
+    /// A builder over an empty vector.
+    pub fn new_vec(alloc: Global) -> Result<Self, AppendError>
+        ensures { IfOk result (λ b. StandsFor InBuilder Plain fresh b) }
+    {
+        MessageBuilder::from_target(Vec::new(alloc))
+    }
+}
+
+impl<T: Composer> MessageBuilder<T> {
+    /// A builder over a target, which is emptied: twelve zero octets.
+    ///
+    /// It is `ShortBuf` exactly where the target has no room for them.
+    pub fn from_target(target: T) -> Result<Self, AppendError>
+        ensures fresh { IfOk result (λ b. StandsFor InBuilder T.rule fresh b) }
+        ensures answer { Answers T.room T.grows 12 result }
+    {
+        let mut target = target;
+        let _octets = target.as_slice();
+        target.truncate(0);
+        target.append_slice(&[0; HEADER_LEN])?;
+        Ok(MessageBuilder {
+            target,
+            limit: usize::MAX,
+        })
+    }
+
+    /// Pushes a question and counts it.
+    pub(crate) fn push_question<Q: ComposeQuestion>(
+        &mut self,
+        question: &Q,
+    ) -> Result<(), PushError>
+        ensures pushes { PushesOn T.room T.grows 4 (put_question T.rule (Q.question question.now)) self.old self.new result }
+        ensures item { IsQuestion (Q.question question.now) }
+    {
+        let old = self.target.as_slice().len();
+        let composed = question.compose_question(&mut self.target);
+        settle(&mut self.target, old, self.limit, QDCOUNT_PLACE, composed)
+    }
+
+    /// Cuts the message to its first `start` octets, and writes zero into the count at a place.
+    pub(crate) fn empty_section(&mut self, start: usize, place: usize)
+        requires start { 12 ≤ start }
+        requires in_header { place + 2 ≤ 12 }
+        ensures { self.new ≡ record self.old { written = overwrite place (0 ∷ 0 ∷ []) (cut_to start self.old.written) } }
+    {
+        self.target.truncate(start);
+        self.target.write_at(place, &[0, 0]);
+    }
+
+    /// Writes a header over that of the message.
+    pub(crate) fn write_header(&mut self, header: Header)
+        ensures written { self.new ≡ record self.old { written = overwrite 0 (header_octets header) self.old.written } }
+        ensures length { length (header_octets header) ≡ 4 }
+    {
+        self.target.write_at(0, header.as_slice());
+    }
+
+    /// Writes a limit over that of the builder.
+    pub(crate) fn write_limit(&mut self, limit: usize)
+        ensures { self.new ≡ record self.old { limit = limit } }
+    {
+        self.limit = limit;
+    }
+
+    /// The octets of the message so far.
+    pub fn as_slice(&self) -> &[u8]
+        ensures octets { result.now ≡ self.now.written.octets }
+        ensures fold { (s : State) → StandsFor InBuilder T.rule s self.now → result.now ≡ (fold T.rule s).octets }
+        ensures long { 12 ≤ length result.now }
+    {
+        self.target.as_slice()
+    }
+
+    /// The header.
+    pub fn header(&self) -> Header
+        ensures { (s : State) → StandsFor InBuilder T.rule s self.now → result ≡ s.header }
+    {
+        Header::for_message_slice(self.as_slice())
+    }
+
+    /// Changes the header.
+    pub fn set_header(&mut self, header: Header)
+        ensures { Moves InBuilder InBuilder T.rule (with_header header) self.old self.new }
+    {
+        self.write_header(header);
+    }
+
+    /// The counts of the four sections.
+    pub fn counts(&self) -> HeaderCounts
+        ensures { (s : State) → StandsFor InBuilder T.rule s self.now → counts result ≡ item_counts s }
+    {
+        HeaderCounts::for_message_slice(self.as_slice())
+    }
+
+    /// Sets the most octets that the message may have. Nothing is cut.
+    pub fn set_push_limit(&mut self, limit: usize)
+        ensures { Moves InBuilder InBuilder T.rule (with_limit limit) self.old self.new }
+    {
+        self.write_limit(limit);
+    }
+
+    /// Takes the limit away.
+    pub fn clear_push_limit(&mut self)
+        ensures { Moves InBuilder InBuilder T.rule (with_limit no_limit) self.old self.new }
+    {
+        self.write_limit(usize::MAX);
+    }
+
+    /// The limit as it is shown.
+    pub(crate) fn limit(&self) -> Option<usize>
+        ensures { result ≡ limit_shown self.now.limit }
+    {
+        if self.limit == usize::MAX {
+            None
+        } else {
+            Some(self.limit)
+        }
+    }
+
+    /// The most octets that the message may have, if there is a limit.
+    pub fn push_limit(&self) -> Option<usize>
+        ensures { (s : State) → StandsFor InBuilder T.rule s self.now → result ≡ limit_shown s.limit }
+    {
+        self.limit()
+    }
+
+    /// The target.
+    pub fn as_target(&self) -> &T
+        ensures { T.written result.now ≡ self.now.written }
+    {
+        &self.target
+    }
+
+    /// The target, with the message.
+    pub fn finish(self) -> T
+        ensures written { T.written result ≡ self.written }
+        ensures fold { (s : State) → StandsFor InBuilder T.rule s self → T.written result ≡ fold T.rule s }
+    {
+        let MessageBuilder { target, .. } = self;
+        target
+    }
+
+    /// This builder.
+    pub fn builder(self) -> Self
+        ensures { Moves InBuilder InBuilder T.rule (move_to InBuilder) self result }
+    {
+        self
+    }
+
+    /// The builder of the question section.
+    pub fn question(self) -> QuestionBuilder<T>
+        ensures { Moves InBuilder InQuestion T.rule (move_to InQuestion) self result }
+    {
+        QuestionBuilder::over(self)
+    }
+}
