@@ -1,0 +1,4 @@
+pub mod StartLemmas
+pub mod QuestionsFromLemmas
+pub mod HeaderLemmas
+pub mod CursorLemmas

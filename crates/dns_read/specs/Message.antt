@@ -1,0 +1,12 @@
+-- What a message holds. RFC 1035 section 4.1.
+use Rattle.std.specs.Prelude.{ℕ, List}
+use Rattle.dns_wire.specs.declared.octets.Octets.{Ghosts}
+use Rattle.dns_read.specs.declared.message.Message.{Message}
+
+-- the holder of a message's octets
+abbrev pub holder_of : {X : Type 0} {holds : Ghosts X} → Message X holds → X
+holder_of message = message.octets
+
+-- the octets of a message
+abbrev pub message_octets : {X : Type 0} {holds : Ghosts X} → Message X holds → List ℕ
+message_octets {holds = holds} message = holds.octets (holder_of message)

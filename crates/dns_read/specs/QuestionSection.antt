@@ -1,0 +1,40 @@
+-- What a cursor over the questions of a message has before it, and how it moves. RFC 1035 sections 4.1 and 4.1.2.
+use Rattle.std.specs.Prelude.{◌≡◌, ℕ, List, [], Option, Some, None, Result, Ok, Err}
+use Rattle.dns_wire.specs.Fault.{Fault, fault_of}
+use Rattle.dns_wire.specs.Parsers.{seen, place}
+use Rattle.dns_wire.specs.declared.error.ParseError.{ParseError}
+use Rattle.dns_wire.specs.declared.parsed_name.ParsedName.{ParsedName}
+use Rattle.dns_item.specs.Entries.{ReadsQuestion, QuestionFaultAt}
+use Rattle.dns_item.specs.Items.{QuestionItem}
+use Rattle.dns_item.specs.Question.{parsed_question}
+use Rattle.dns_item.specs.declared.question.Question.{Question}
+use Rattle.dns_read.specs.QuestionsFrom.{questions_from}
+use Rattle.dns_read.specs.declared.question_section.QuestionSection.{QuestionSection}
+
+-- the octets of the message
+abbrev pub octets_of : QuestionSection → List ℕ
+octets_of section = seen section.parser
+
+-- the place behind the questions that were given
+abbrev pub position : QuestionSection → ℕ
+position section = place section.parser
+
+-- the reading of at most so many questions, and nothing once a fault was given
+abbrev pub questions_behind : List ℕ → ℕ → Result ℕ ParseError → List (Result QuestionItem Fault)
+questions_behind b p (Ok n) = questions_from b n p
+questions_behind b p (Err e) = []
+
+-- what is left to be given
+abbrev pub questions_left : QuestionSection → List (Result QuestionItem Fault)
+questions_left section = questions_behind (octets_of section) (position section) section.left
+
+-- what an answer of the cursor says: a question, or a fault
+abbrev pub question_answer : Result (Question ParsedName) ParseError → Result QuestionItem Fault
+question_answer (Ok question) = Ok (parsed_question question)
+question_answer (Err e) = Err (fault_of e)
+
+-- The cursor moves behind a question that it gave. Else it stays: where no question can be read, and at the end.
+abbrev pub PassesQuestion : QuestionSection → QuestionSection → Option (Result (Question ParsedName) ParseError) → Type 0
+PassesQuestion old new (Some (Ok question)) = ReadsQuestion (octets_of old) (position old) (position new) (parsed_question question)
+PassesQuestion old new (Some (Err e)) = QuestionFaultAt (octets_of old) (position old) (fault_of e) × (position new ≡ position old)
+PassesQuestion old new None = position new ≡ position old

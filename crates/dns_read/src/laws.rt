@@ -1,0 +1,15 @@
+//! Theorems on what reading sections gives. The functions do nothing: each contract is a theorem over all octets.
+ghost use Rattle.dns_read.specs.QuestionsFrom.{QuestionsFromAreRead};
+ghost use Rattle.dns_read.specs.Readings.{OneReadingOfQuestions, OneReadingOfRecords, OneStart};
+
+/// From each place on, at most so many questions or records have exactly one reading.
+pub fn one_reading()
+    ensures questions { OneReadingOfQuestions }
+    ensures records { OneReadingOfRecords }
+    ensures questions_from { QuestionsFromAreRead }
+{}
+
+/// Each section starts at one place at most.
+pub fn one_start()
+    ensures { OneStart }
+{}

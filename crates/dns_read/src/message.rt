@@ -1,0 +1,214 @@
+ghost use Rattle.std.specs.Prelude.{◌≡◌, ◌≢◌, ◌↔◌, ◌<◌, ◌≤◌, length, take, drop, slice_range, IsTrue, IfOk, IfErr, IsErr};
+ghost use Rattle.dns_read.specs.Sections.{header_size};
+
+use crate::error::ShortMessage;
+use crate::question_section::QuestionSection;
+use dns_code::{Header, HeaderCounts, HeaderSection, Rcode};
+use dns_wire::{Octets, OctetsMut};
+use std::alloc::AllocError;
+use std::convert::AsSlice;
+
+/// A message: octets of which the first twelve are its header section (RFC 1035 section 4.1).
+///
+/// Nothing else is tested when it is made. What stands behind the header section is read where it is asked for.
+#[derive(Debug, Drop)]
+pub struct Message<Octs: Octets> {
+    octets: Octs,
+    ghost long: { header_size ≤ length (Octs.octets octets) },
+}
+
+impl<'a> Message<&'a [u8]> {
+    ghost use Rattle.dns_read.specs.Message.{message_octets};
+
+    /// The message of these octets. Fewer than twelve are refused.
+    pub fn from_slice(slice: &'a [u8]) -> Result<Self, ShortMessage>
+        ensures octets { IfOk result (λ message. message_octets message ≡ slice.now) }
+        ensures short { IsErr result ↔ (length slice.now < header_size) }
+    {
+        Message::from_octets(slice)
+    }
+}
+
+impl<Octs: Octets> Message<Octs> {
+    ghost use Rattle.dns_code.specs.Header.{fields_in, header_octets};
+    ghost use Rattle.dns_code.specs.HeaderCounts.{counts, counts_octets};
+    ghost use Rattle.dns_code.specs.HeaderSection.{section_octets};
+    ghost use Rattle.dns_read.specs.Message.{holder_of, message_octets};
+    ghost use Rattle.dns_read.specs.QuestionSection.{octets_of, position, questions_left};
+    ghost use Rattle.dns_read.specs.QuestionsFrom.{questions_from};
+    ghost use Rattle.dns_read.specs.Sections.{question_count, answer_count, authority_count, additional_count};
+
+    /// The message of these octets. Fewer than twelve are refused.
+    pub fn from_octets(octets: Octs) -> Result<Self, ShortMessage>
+        ensures holder { IfOk result (λ message. holder_of message ≡ octets) }
+        ensures short { IsErr result ↔ (length (Octs.octets octets) < header_size) }
+    {
+        Message::try_from_octets(octets).map_err(|_| ShortMessage)
+    }
+
+    /// The message of these octets. Fewer than twelve are given back.
+    pub fn try_from_octets(octets: Octs) -> Result<Self, Octs>
+        ensures holder { IfOk result (λ message. holder_of message ≡ octets) }
+        ensures back { IfErr result (λ refused. refused ≡ octets) }
+        ensures short { IsErr result ↔ (length (Octs.octets octets) < header_size) }
+    {
+        if octets.octets().len() < 12 {
+            return Err(octets);
+        }
+        Ok(Message::of_long(octets))
+    }
+
+    /// The message of these octets, which are known to be twelve or more.
+    pub(crate) fn of_long(octets: Octs) -> Self
+        requires { header_size ≤ length (Octs.octets octets) }
+        ensures { holder_of result ≡ octets }
+    {
+        Message { octets }
+    }
+
+    /// The same message, over a slice of its octets.
+    pub fn for_slice(&self) -> Message<&[u8]>
+        ensures { message_octets result ≡ message_octets self.now }
+    {
+        self.for_slice_ref()
+    }
+
+    /// The same message, over a slice of its octets.
+    pub fn for_slice_ref(&self) -> Message<&[u8]>
+        ensures { message_octets result ≡ message_octets self.now }
+    {
+        Message::of_long(self.octets.octets())
+    }
+
+    /// The holder of the octets.
+    pub fn as_octets(&self) -> &Octs
+        ensures { result.now ≡ holder_of self.now }
+    {
+        &self.octets
+    }
+
+    /// The holder of the octets, taken out.
+    pub fn into_octets(self) -> Octs
+        ensures { result ≡ holder_of self }
+    {
+        let Message { octets } = self;
+        octets
+    }
+
+    /// The octets.
+    pub fn as_slice(&self) -> &[u8]
+        ensures octets { result.now ≡ message_octets self.now }
+        ensures long { header_size ≤ length result.now }
+    {
+        self.octets.octets()
+    }
+
+    /// The header.
+    pub fn header(&self) -> Header
+        ensures { header_octets result ≡ take 4 (message_octets self.now) }
+    {
+        Header::for_message_slice(self.as_slice())
+    }
+
+    /// The counts of the sections.
+    pub fn header_counts(&self) -> HeaderCounts
+        ensures octets { counts_octets result ≡ slice_range (message_octets self.now) 4 header_size }
+        ensures qdcount { (counts result).qdcount ≡ question_count (message_octets self.now) }
+        ensures ancount { (counts result).ancount ≡ answer_count (message_octets self.now) }
+        ensures nscount { (counts result).nscount ≡ authority_count (message_octets self.now) }
+        ensures arcount { (counts result).arcount ≡ additional_count (message_octets self.now) }
+    {
+        HeaderCounts::for_message_slice(self.as_slice())
+    }
+
+    /// The header and the counts.
+    pub fn header_section(&self) -> HeaderSection
+        ensures { section_octets result ≡ take header_size (message_octets self.now) }
+    {
+        HeaderSection::for_message_slice(self.as_slice())
+    }
+
+    /// Whether the rcode of the header is `NOERROR`, which is 0.
+    pub fn no_error(&self) -> bool
+        ensures { IsTrue result ↔ ((fields_in (take 4 (message_octets self.now))).rcode ≡ 0) }
+    {
+        self.header().rcode() == Rcode::NOERROR
+    }
+
+    /// Whether the rcode of the header isn't `NOERROR`, which is 0.
+    pub fn is_error(&self) -> bool
+        ensures { IsTrue result ↔ ((fields_in (take 4 (message_octets self.now))).rcode ≢ 0) }
+    {
+        self.header().rcode() != Rcode::NOERROR
+    }
+
+    /// The question section.
+    pub fn question(&self) -> QuestionSection<'_>
+        ensures octets { octets_of result ≡ message_octets self.now }
+        ensures position { position result ≡ header_size }
+        ensures questions { let b = message_octets self.now in questions_left result ≡ questions_from b (question_count b) header_size }
+    {
+        QuestionSection::new(self.as_slice())
+    }
+
+    /// The zone section of an UPDATE message, which is the question section (RFC 2136 section 2.3).
+    pub fn zone(&self) -> QuestionSection<'_>
+        ensures octets { octets_of result ≡ message_octets self.now }
+        ensures position { position result ≡ header_size }
+        ensures questions { let b = message_octets self.now in questions_left result ≡ questions_from b (question_count b) header_size }
+    {
+        self.question()
+    }
+}
+
+impl<Octs: OctetsMut> Message<Octs> {
+    ghost use Rattle.dns_code.specs.Header.{header_octets};
+    ghost use Rattle.dns_read.specs.Message.{message_octets};
+
+    /// Writes the header over the first four octets. The others stay.
+    pub fn set_header(&mut self, header: Header)
+        ensures header { take 4 (message_octets self.new) ≡ header_octets header }
+        ensures others { drop 4 (message_octets self.new) ≡ drop 4 (message_octets self.old) }
+    {
+        self.octets.write_at(0, header.as_slice());
+    }
+}
+
+/// A clone of the holder. One that doesn't hold the same octets is answered by `AllocError`.
+impl<Octs: Octets + Clone> Clone for Message<Octs> {
+    ghost use Rattle.dns_read.specs.Message.{message_octets};
+
+    ghost is_clone = { λ message clone. message_octets clone ≡ message_octets message };
+
+    fn clone(&self) -> Result<Self, AllocError> {
+        let octets = self.octets.clone()?;
+        if octets.octets() != self.as_slice() {
+            return Err(AllocError);
+        }
+        Ok(Message::of_long(octets))
+    }
+}
+
+impl<Octs: Octets + Copy> Copy for Message<Octs> {}
+
+/// The holder of the octets.
+impl<Octs: Octets> AsRef<Octs> for Message<Octs> {
+    ghost use Rattle.dns_read.specs.Message.{holder_of};
+
+    fn as_ref(&self) -> &Octs
+        ensures { result.now ≡ holder_of self.now }
+    {
+        self.as_octets()
+    }
+}
+
+/// The octets.
+impl<Octs: Octets> AsSlice<u8> for Message<Octs> {
+    ghost use Rattle.dns_read.specs.Message.{message_octets};
+
+    ghost items = { λ message. message_octets message };
+
+    fn as_slice(&self) -> &[u8] {
+        self.octets.octets()
+    }
+}

@@ -1,0 +1,75 @@
+ghost use Rattle.std.specs.Prelude.{◌≡◌, ◌≤◌, length};
+ghost use Rattle.dns_read.specs.Sections.{header_size, question_count};
+
+use dns_code::HeaderCounts;
+use dns_item::Question;
+use dns_wire::{ParseError, ParsedName, Parser};
+
+/// A cursor over the questions of a message (RFC 1035 section 4.1.2).
+///
+/// It gives the questions in a row, at most as many as the header says. The first that can't be read is answered by one
+/// error, and then there are no more.
+#[derive(Clone, Copy, Debug)]
+pub struct QuestionSection<'a> {
+    parser: Parser<'a>,
+    /// How many questions may still come, or the error that was given.
+    left: Result<u16, ParseError>,
+}
+
+impl<'a> QuestionSection<'a> {
+    ghost use Rattle.dns_read.specs.QuestionSection.{octets_of, position, questions_left};
+    ghost use Rattle.dns_read.specs.QuestionsFrom.{questions_from};
+
+    /// The question section of a message of these octets.
+    pub(crate) fn new(octets: &'a [u8]) -> Self
+        requires { header_size ≤ length octets.now }
+        ensures octets { octets_of result ≡ octets.now }
+        ensures position { position result ≡ header_size }
+        ensures questions { questions_left result ≡ questions_from octets.now (question_count octets.now) header_size }
+    {
+        let mut parser = Parser::new(octets);
+        parser.advance(12).unwrap();
+        QuestionSection {
+            parser,
+            left: Ok(HeaderCounts::for_message_slice(octets).qdcount()),
+        }
+    }
+
+    /// The place behind the questions that were given, counted in octets from the start of the message.
+    pub fn pos(&self) -> usize
+        ensures { result ≡ position self.now }
+    {
+        self.parser.pos()
+    }
+}
+
+impl<'a> Iterator for QuestionSection<'a> {
+    ghost use Rattle.std.specs.Prelude.{◌≡◌, ⊤};
+    ghost use Rattle.std.specs.Iterator.{YieldsFirstBy, MakesProgress, item_count};
+    ghost use Rattle.dns_read.specs.QuestionSection.{octets_of, questions_left, question_answer, PassesQuestion};
+
+    type Item = Result<Question<ParsedName<'a>>, ParseError>;
+
+    ghost next_gives = { YieldsFirstBy question_answer questions_left };
+
+    ghost remaining = { item_count questions_left };
+
+    fn next(&mut self) -> Option<Self::Item>
+        ensures steps { YieldsFirstBy question_answer questions_left self.old result self.new }
+        ensures goes { MakesProgress (λ _. ⊤) (item_count questions_left) self.old result self.new }
+        ensures octets { octets_of self.new ≡ octets_of self.old }
+        ensures passes { PassesQuestion self.old self.new result }
+    {
+        let left = self.left.ok()?.checked_sub(1)?;
+        match Question::parse(&mut self.parser) {
+            Ok(question) => {
+                self.left = Ok(left);
+                Some(Ok(question))
+            }
+            Err(error) => {
+                self.left = Err(error);
+                Some(Err(error))
+            }
+        }
+    }
+}
