@@ -100,8 +100,8 @@ module _ (s : State) (four : length (header_octets s.header) ≡ 4) where
   counted-questions x few =
       let more : count_at 4 (head_of s) + 1 ≡ length (s.questions ++ x ∷ []) = ap (λ n. n + 1) (count_questions (omega arith)) ∙ sym (length-append s.questions (x ∷ [])) in
       let over : overwritten (head_of s).octets 4 (to_be_bytes w16 (count_at 4 (head_of s) + 1)) ≡ (head_of (with_question x s)).octets =
-          written_behind (header_octets s.header) _ 4 (length s.questions) (count_at 4 (head_of s) + 1) four
-          ∙ ap (λ n. header_octets s.header ++ (to_be_bytes w16 n ++ (to_be_bytes w16 (length s.answers) ++ (to_be_bytes w16 (length s.authorities) ++ to_be_bytes w16 (length s.additionals))))) more in
+      written_behind (header_octets s.header) _ 4 (length s.questions) (count_at 4 (head_of s) + 1) four
+      ∙ ap (λ n. header_octets s.header ++ (to_be_bytes w16 n ++ (to_be_bytes w16 (length s.answers) ++ (to_be_bytes w16 (length s.authorities) ++ to_be_bytes w16 (length s.additionals))))) more in
       same_written _ _ over refl
 
 -- a header section alone is a message
@@ -186,8 +186,8 @@ module _ (rule : Rule) (s : State) (four : length (header_octets s.header) ≡ 4
   pub fold-empty : s ≡ up_to InQuestion s → overwrite 4 (0 ∷ 0 ∷ []) (cut_to 12 (fold rule s)) ≡ fold rule (up_to InBuilder s)
   fold-empty last =
       let heads : overwrite 4 (0 ∷ 0 ∷ []) (head_of s) ≡ head_of (up_to InBuilder s) =
-          same_written _ _ (written_behind (header_octets s.header) _ 4 (length s.questions) 0 four) refl
-          ∙ ap (λ (t : State). head_of (record t { questions = [] })) last in
+      same_written _ _ (written_behind (header_octets s.header) _ 4 (length s.questions) 0 four) refl
+      ∙ ap (λ (t : State). head_of (record t { questions = [] })) last in
       ap (λ n. overwrite 4 (0 ∷ 0 ∷ []) (cut_to n (fold rule s))) (sym length-empty)
       ∙ fold-back 4 (0 ∷ 0 ∷ []) (up_to InBuilder s) (map (put_question rule) s.questions) (omega arith)
       (ap (pieces_of rule) last ∙ (simp append-nil))
@@ -200,8 +200,8 @@ module _ (rule : Rule) (s : State) (four : length (header_octets s.header) ≡ 4
   fold-header header is =
       let long : 12 ≤ length (head_of s).octets = (message-head s four).long in
       let behind : drop (0 + length (header_octets header)) (header_octets s.header ++ counts_of s) ≡ counts_of s =
-          ap (λ n. drop n (header_octets s.header ++ counts_of s)) (let n : 0 + length (header_octets header) ≡ length (header_octets s.header) = omega arith in n)
-          ∙ drop-append_seam (header_octets s.header) (counts_of s) in
+      ap (λ n. drop n (header_octets s.header ++ counts_of s)) (let n : 0 + length (header_octets header) ≡ length (header_octets s.header) = omega arith in n)
+      ∙ drop-append_seam (header_octets s.header) (counts_of s) in
       let heads : overwrite 0 (header_octets header) (head_of s) ≡ head_of (record s { header = header }) =
-          same_written _ _ (ap (λ (xs : List ℕ). header_octets header ++ xs) behind) refl in
+      same_written _ _ (ap (λ (xs : List ℕ). header_octets header ++ xs) behind) refl in
       overwrite-lay 0 (header_octets header) (all_of (pieces_of rule s)) (head_of s) (omega arith) ∙ ap (lay (all_of (pieces_of rule s))) heads

@@ -1,5 +1,5 @@
 //! The builder of a message before its sections, on which the builders of the sections stand.
-ghost use Rattle.std.specs.Prelude.{◌≡◌, ◌+◌, ◌≤◌, [], ◌∷◌, IfOk, length};
+ghost use Rattle.std.specs.Prelude.{◌≡◌, ◌+◌, ◌≤◌, [], ◌∷◌, IfOk, OnErr, IsTrue, length};
 ghost use Rattle.dns_wire.specs.Pieces.{Plain};
 ghost use Rattle.dns_wire.specs.Targets.{Answers, cut_to, overwrite};
 ghost use Rattle.dns_code.specs.Header.{header_octets};
@@ -7,6 +7,8 @@ ghost use Rattle.dns_code.specs.HeaderCounts.{counts};
 ghost use Rattle.dns_item.specs.Items.{IsQuestion, put_question};
 ghost use Rattle.dns_build.specs.Built.{PushesOn};
 ghost use Rattle.dns_build.specs.Fold.{fold};
+ghost use Rattle.dns_read.specs.Message.{message_octets};
+ghost use Rattle.dns_build.specs.ReadsBack.{ReadsBack};
 ghost use Rattle.dns_build.specs.Standing.{StandsFor, Moves, fresh};
 ghost use Rattle.dns_build.specs.State.{State, InBuilder, InQuestion, move_to, with_header, with_limit, no_limit, item_counts, limit_shown};
 
@@ -15,8 +17,10 @@ use crate::question_builder::QuestionBuilder;
 use crate::settle::settle;
 use dns_code::{Header, HeaderCounts};
 use dns_item::ComposeQuestion;
-use dns_wire::{AppendError, Composer};
-use std::alloc::Global;
+use dns_read::Message;
+use dns_wire::{AppendError, CloneTarget, Composer, FreezeBuilder, Octets};
+use std::alloc::{AllocError, Global};
+use std::convert::AsSlice;
 use std::marker::Model;
 
 /// The place of QDCOUNT in a message, in octets.
@@ -47,6 +51,14 @@ impl<T: Composer> Model for MessageBuilder<T> {
     ghost view = { λ b. record { written = T.written b.target; limit = b.limit; starts = [] } };
 
     ghost invariant = { λ b. IsMessage (T.written b.target) };
+}
+
+/// The message of octets that are known to be twelve or more.
+pub(crate) fn long_message<Octs: Octets>(octets: Octs) -> Message<Octs>
+    requires { 12 ≤ length (Octs.octets octets) }
+    ensures { message_octets result ≡ Octs.octets octets }
+{
+    Message::from_octets(octets).unwrap()
 }
 
 impl MessageBuilder<Vec<u8>> {
@@ -183,6 +195,14 @@ impl<T: Composer> MessageBuilder<T> {
         &self.target
     }
 
+    /// The message so far.
+    pub fn as_message(&self) -> Message<&[u8]>
+        ensures octets { message_octets result ≡ self.now.written.octets }
+        ensures reads_back { (s : State) → StandsFor InBuilder T.rule s self.now → ReadsBack s (message_octets result) }
+    {
+        long_message(self.as_slice())
+    }
+
     /// The target, with the message.
     pub fn finish(self) -> T
         ensures written { T.written result ≡ self.written }
@@ -204,5 +224,57 @@ impl<T: Composer> MessageBuilder<T> {
         ensures { Moves InBuilder InQuestion T.rule (move_to InQuestion) self result }
     {
         QuestionBuilder::over(self)
+    }
+}
+
+impl<T: FreezeBuilder> MessageBuilder<T> {
+    /// The message, in the octets that the target gives.
+    pub fn into_message(self) -> Message<T::Octets>
+        ensures octets { message_octets result ≡ self.written.octets }
+        ensures reads_back { (s : State) → StandsFor InBuilder T.rule s self → ReadsBack s (message_octets result) }
+    {
+        long_message(self.finish().freeze())
+    }
+}
+
+impl<T: CloneTarget> MessageBuilder<T> {
+    /// An equal builder, with an equal target.
+    pub fn clone(&self) -> Result<Self, AllocError>
+        ensures equal { IfOk result (λ clone. clone ≡ self.now) }
+        ensures memory { OnErr result (IsTrue T.grows) }
+    {
+        Ok(MessageBuilder {
+            target: self.target.clone_target()?,
+            limit: self.limit,
+        })
+    }
+}
+
+/// The octets of the message so far.
+impl<T: Composer> AsSlice<u8> for MessageBuilder<T> {
+    ghost items = { λ b. b.written.octets };
+
+    fn as_slice(&self) -> &[u8] {
+        self.as_target().as_slice()
+    }
+}
+
+/// The target.
+impl<T: Composer> AsRef<T> for MessageBuilder<T> {
+    ghost use Rattle.std.specs.Prelude.{◌≡◌};
+
+    fn as_ref(&self) -> &T
+        ensures { T.written result.now ≡ self.now.written }
+    {
+        self.as_target()
+    }
+}
+
+/// The move back to the builder before the sections.
+impl<T: Composer> From<QuestionBuilder<T>> for MessageBuilder<T> {
+    ghost from_gives = { λ old new. Moves InQuestion InBuilder T.rule (move_to InBuilder) old new };
+
+    fn from(builder: QuestionBuilder<T>) -> Self {
+        builder.builder()
     }
 }

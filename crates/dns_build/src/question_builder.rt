@@ -1,15 +1,20 @@
 //! The builder of the question section.
-ghost use Rattle.std.specs.Prelude.{◌≡◌, ◌≤◌, length};
+ghost use Rattle.std.specs.Prelude.{◌≡◌, ◌≤◌, IfOk, OnErr, IsTrue, length};
 ghost use Rattle.dns_code.specs.HeaderCounts.{counts};
 ghost use Rattle.dns_build.specs.Fold.{fold};
+ghost use Rattle.dns_read.specs.Message.{message_octets};
+ghost use Rattle.dns_build.specs.ReadsBack.{ReadsBack};
 ghost use Rattle.dns_build.specs.Standing.{StandsFor, Takes, Moves};
 ghost use Rattle.dns_build.specs.State.{State, InBuilder, InQuestion, move_to, rewound, with_question, with_header, with_limit, no_limit, item_counts, limit_shown};
 
-use crate::message_builder::{HEADER_LEN, MessageBuilder, QDCOUNT_PLACE};
+use crate::message_builder::{HEADER_LEN, MessageBuilder, QDCOUNT_PLACE, long_message};
 use crate::push_error::PushError;
 use dns_code::{Header, HeaderCounts};
 use dns_item::ComposeQuestion;
-use dns_wire::Composer;
+use dns_read::Message;
+use dns_wire::{CloneTarget, Composer, FreezeBuilder};
+use std::alloc::AllocError;
+use std::convert::AsSlice;
 use std::marker::Model;
 
 /// A message with questions.
@@ -110,6 +115,14 @@ impl<T: Composer> QuestionBuilder<T> {
         self.inner.as_target()
     }
 
+    /// The message so far.
+    pub fn as_message(&self) -> Message<&[u8]>
+        ensures octets { message_octets result ≡ self.now.written.octets }
+        ensures reads_back { (s : State) → StandsFor InQuestion T.rule s self.now → ReadsBack s (message_octets result) }
+    {
+        long_message(self.as_slice())
+    }
+
     /// The target, with the message.
     pub fn finish(self) -> T
         ensures written { T.written result ≡ self.written }
@@ -133,5 +146,56 @@ impl<T: Composer> QuestionBuilder<T> {
         ensures { Moves InQuestion InQuestion T.rule (move_to InQuestion) self result }
     {
         self
+    }
+}
+
+impl<T: FreezeBuilder> QuestionBuilder<T> {
+    /// The message, in the octets that the target gives.
+    pub fn into_message(self) -> Message<T::Octets>
+        ensures octets { message_octets result ≡ self.written.octets }
+        ensures reads_back { (s : State) → StandsFor InQuestion T.rule s self → ReadsBack s (message_octets result) }
+    {
+        long_message(self.finish().freeze())
+    }
+}
+
+impl<T: CloneTarget> QuestionBuilder<T> {
+    /// An equal builder, with an equal target.
+    pub fn clone(&self) -> Result<Self, AllocError>
+        ensures equal { IfOk result (λ clone. clone ≡ self.now) }
+        ensures memory { OnErr result (IsTrue T.grows) }
+    {
+        Ok(QuestionBuilder {
+            inner: self.inner.clone()?,
+        })
+    }
+}
+
+/// The octets of the message so far.
+impl<T: Composer> AsSlice<u8> for QuestionBuilder<T> {
+    ghost items = { λ b. b.written.octets };
+
+    fn as_slice(&self) -> &[u8] {
+        self.as_target().as_slice()
+    }
+}
+
+/// The target.
+impl<T: Composer> AsRef<T> for QuestionBuilder<T> {
+    ghost use Rattle.std.specs.Prelude.{◌≡◌};
+
+    fn as_ref(&self) -> &T
+        ensures { T.written result.now ≡ self.now.written }
+    {
+        self.as_target()
+    }
+}
+
+/// The move to the question section.
+impl<T: Composer> From<MessageBuilder<T>> for QuestionBuilder<T> {
+    ghost from_gives = { λ old new. Moves InBuilder InQuestion T.rule (move_to InQuestion) old new };
+
+    fn from(builder: MessageBuilder<T>) -> Self {
+        builder.question()
     }
 }
