@@ -1,0 +1,164 @@
+//! Lists of calls on the builders of a message.
+ghost use Rattle.std.specs.Prelude.{◌≡◌, ◌++◌, IfOk, IfErr, OnErr, List, MatchResult};
+ghost use Rattle.dns_build.specs.State.{State};
+ghost use Rattle.dns_message.specs.Script.{StageStandsFor, Steps, Runs, octets_of};
+
+use dns_build::laws::folds_read_back;
+use dns_build::{MessageBuilder, PushError, QuestionBuilder};
+use dns_code::Header;
+use dns_item::ComposeQuestion;
+use dns_wire::Composer;
+
+/// A builder at one of its stages.
+#[derive(Debug, Drop)]
+pub enum Stage<T: Composer> {
+    /// Before the sections.
+    Builder(MessageBuilder<T>),
+    /// At the question section.
+    Question(QuestionBuilder<T>),
+}
+
+/// A call on a builder.
+#[derive(Clone, Copy, Debug, Drop)]
+pub enum Call<Q> {
+    /// Pushes a question.
+    PushQuestion(Q),
+    /// Takes out all items of the section.
+    Rewind,
+    /// Moves before the sections, and takes out all items.
+    ToBuilder,
+    /// Moves to the question section, and takes out all records.
+    ToQuestion,
+    /// Changes the header.
+    SetHeader(Header),
+    /// Sets the most octets that the message may have.
+    SetLimit(usize),
+    /// Takes the limit away.
+    ClearLimit,
+}
+
+/// The reply to a call.
+#[derive(Clone, Copy, Debug)]
+pub enum Reply {
+    /// It was done.
+    Done,
+    /// The push was refused, and nothing has changed.
+    Refused(PushError),
+    /// The stage lacks the call, and nothing has changed.
+    Misplaced,
+}
+
+impl<T: Composer> Stage<T> {
+    /// The octets of the message so far.
+    pub fn as_slice(&self) -> &[u8]
+        ensures { result.now ≡ octets_of self.now }
+    {
+        match self {
+            Stage::Builder(builder) => builder.as_slice(),
+            Stage::Question(builder) => builder.as_slice(),
+        }
+    }
+}
+
+fn reply_of(outcome: Result<(), PushError>) -> Reply
+    ensures { MatchResult outcome (λ _. result ≡ Reply.Done) (λ error. result ≡ Reply.Refused error) }
+{
+    match outcome {
+        Ok(()) => Reply::Done,
+        Err(error) => Reply::Refused(error),
+    }
+}
+
+/// A call on the builder before the sections, and the reply.
+fn step_builder<T: Composer, Q: ComposeQuestion>(
+    mut builder: MessageBuilder<T>,
+    call: &Call<Q>,
+) -> (Stage<T>, Reply)
+    ensures { Steps T.room T.grows Q.question T.rule (Stage.Builder builder) call.now result.1 result.0 }
+{
+    match call {
+        Call::PushQuestion(_) | Call::Rewind => (Stage::Builder(builder), Reply::Misplaced),
+        Call::ToBuilder => (Stage::Builder(builder.builder()), Reply::Done),
+        Call::ToQuestion => (Stage::Question(builder.question()), Reply::Done),
+        Call::SetHeader(header) => {
+            builder.set_header(*header);
+            (Stage::Builder(builder), Reply::Done)
+        }
+        Call::SetLimit(limit) => {
+            builder.set_push_limit(*limit);
+            (Stage::Builder(builder), Reply::Done)
+        }
+        Call::ClearLimit => {
+            builder.clear_push_limit();
+            (Stage::Builder(builder), Reply::Done)
+        }
+    }
+}
+
+/// A call on the builder of the question section, and the reply.
+fn step_question<T: Composer, Q: ComposeQuestion>(
+    mut builder: QuestionBuilder<T>,
+    call: &Call<Q>,
+) -> (Stage<T>, Reply)
+    ensures { Steps T.room T.grows Q.question T.rule (Stage.Question builder) call.now result.1 result.0 }
+{
+    match call {
+        Call::PushQuestion(question) => {
+            let reply = reply_of(builder.push(question));
+            (Stage::Question(builder), reply)
+        }
+        Call::Rewind => {
+            builder.rewind();
+            (Stage::Question(builder), Reply::Done)
+        }
+        Call::ToBuilder => (Stage::Builder(builder.builder()), Reply::Done),
+        Call::ToQuestion => (Stage::Question(builder.question()), Reply::Done),
+        Call::SetHeader(header) => {
+            builder.set_header(*header);
+            (Stage::Question(builder), Reply::Done)
+        }
+        Call::SetLimit(limit) => {
+            builder.set_push_limit(*limit);
+            (Stage::Question(builder), Reply::Done)
+        }
+        Call::ClearLimit => {
+            builder.clear_push_limit();
+            (Stage::Question(builder), Reply::Done)
+        }
+    }
+}
+
+/// A call on a stage, and the reply.
+fn step<T: Composer, Q: ComposeQuestion>(stage: Stage<T>, call: &Call<Q>) -> (Stage<T>, Reply)
+    ensures { Steps T.room T.grows Q.question T.rule stage call.now result.1 result.0 }
+{
+    match stage {
+        Stage::Builder(builder) => step_builder(builder, call),
+        Stage::Question(builder) => step_question(builder, call),
+    }
+}
+
+/// Makes the calls in order, and appends a reply to each.
+///
+/// Room for the replies is taken first. Where that is refused the stage is given back unchanged, with no reply.
+pub fn run<T: Composer, Q: ComposeQuestion>(
+    stage: Stage<T>,
+    calls: &[Call<Q>],
+    replies: &mut Vec<Reply>,
+) -> Result<Stage<T>, Stage<T>>
+    ensures same { IfErr result (λ same. same ≡ stage) }
+    ensures untold { OnErr result (replies.new.items ≡ replies.old.items) }
+    ensures ran { IfOk result (λ new. (told : List Reply) × (replies.new.items ≡ replies.old.items ++ told) × ((s : State) → StageStandsFor T.rule s stage → Runs T.room T.grows Q.question T.rule s calls.now told new)) }
+{
+    if replies.reserve(calls.len()).is_err() {
+        return Err(stage);
+    }
+    let mut stage = stage;
+    for call in calls {
+        let (next, reply) = step(stage, call);
+        stage = next;
+        replies.push_reserved(reply);
+    }
+    folds_read_back();
+    Ok(stage)
+}
