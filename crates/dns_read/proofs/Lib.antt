@@ -1,3 +1,4 @@
+pub mod ReadingLemmas
 pub mod StartLemmas
 pub mod QuestionsFromLemmas
 pub mod HeaderLemmas

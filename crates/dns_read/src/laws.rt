@@ -1,12 +1,18 @@
 //! Theorems on what reading sections gives. The functions do nothing: each contract is a theorem over all octets.
 ghost use Rattle.dns_read.specs.QuestionsFrom.{QuestionsFromAreRead};
-ghost use Rattle.dns_read.specs.Readings.{OneReadingOfQuestions, OneReadingOfRecords, OneStart};
+ghost use Rattle.dns_read.specs.Readings.{OneReadingOfQuestions, OneReadingOfRecords, OneStart, ReadingsOfQuestionsEnd, ReadingsOfRecordsEnd};
 
 /// From each place on, at most so many questions or records have exactly one reading.
 pub fn one_reading()
     ensures questions { OneReadingOfQuestions }
     ensures records { OneReadingOfRecords }
     ensures questions_from { QuestionsFromAreRead }
+{}
+
+/// A reading has at most as many items as are asked for, and at most one fault, which is the last of them.
+pub fn readings_end()
+    ensures questions { ReadingsOfQuestionsEnd }
+    ensures records { ReadingsOfRecordsEnd }
 {}
 
 /// Each section starts at one place at most.

@@ -1,4 +1,8 @@
-//! Messages, read lazily.
+//! Messages, read lazily: their headers, and the questions in them.
+//!
+//! A message is twelve octets or more, and nothing else is tested when it is made. It promises that a question section gives
+//! the questions that can be read in a row, at most as many as the header says, and the fault of the first that can't be
+//! read (RFC 1035 section 4.1); and that of all octets there is exactly one such reading.
 #![tactic(auto)]
 
 mod error;

@@ -12,6 +12,8 @@ mod error;
 #[cfg(test)]
 mod header;
 #[cfg(test)]
+mod messages;
+#[cfg(test)]
 mod name_texts;
 #[cfg(test)]
 mod names;

@@ -1,0 +1,39 @@
+-- How many items a reading has, and where its fault is.
+use Rattle.std.proofs.Common.{◌≡◌, ℕ, ◌≤◌, List, [], ◌∷◌, ◌++◌, length, arith}
+use Rattle.std.specs.Prelude.{Result, Err}
+use Rattle.dns_wire.specs.Fault.{Fault}
+use Rattle.dns_item.specs.Entries.{ReadsQuestion, ReadsRecord, QuestionFaultAt, RecordFaultAt}
+use Rattle.dns_read.specs.Reading.{Reading}
+use Rattle.dns_read.specs.Reading.Reading.{none, entry, stop}
+use Rattle.dns_read.specs.Readings.{ReadingsEnd, ReadingsOfQuestionsEnd, ReadingsOfRecordsEnd}
+
+module _ {X : Type 0} (Reads : ℕ → ℕ → X → Type 0) (FaultOf : ℕ → Fault → Type 0) where
+  short_reading : {n p : ℕ} {xs : List (Result X Fault)} → Reading Reads FaultOf n p xs → length xs ≤ n
+  short_reading none = omega arith
+  short_reading (entry {n = n} {xs = xs} h r) = let s = short_reading r in omega (arith, s)
+  short_reading (stop {n = n} h) = omega arith
+
+  -- what has an item isn't empty
+  not_empty : (before behind : List (Result X Fault)) (x : Result X Fault) → let empty : List (Result X Fault) = [] in empty ≡ before ++ x ∷ behind → ⊥
+  not_empty [] behind x e = cc
+  not_empty (y ∷ before) behind x e = cc
+
+  -- of a list with one item, that is the last
+  single : (g f : Fault) (before behind : List (Result X Fault)) → let one : List (Result X Fault) = Err g ∷ [] in one ≡ before ++ Err f ∷ behind → behind ≡ []
+  single g f [] behind e = cc
+  single g f (y ∷ before) behind e = absurd (not_empty before behind (Err f) (cc))
+
+  last_fault : {n p : ℕ} {xs : List (Result X Fault)} (before behind : List (Result X Fault)) (f : Fault) → Reading Reads FaultOf n p xs → xs ≡ before ++ Err f ∷ behind → behind ≡ []
+  last_fault before behind f none e = absurd (not_empty before behind (Err f) e)
+  last_fault [] behind f (entry h r) e = cc
+  last_fault (y ∷ before) behind f (entry h r) e = last_fault before behind f r (cc)
+  last_fault before behind f (stop {f = g} h) e = single g f before behind e
+
+  readings_end : ReadingsEnd Reads FaultOf
+  readings_end = record { short = λ n p xs r. short_reading r; last = λ n p xs before behind f r e. last_fault before behind f r e }
+
+pub readings_of_questions_end : ReadingsOfQuestionsEnd
+readings_of_questions_end b = readings_end (ReadsQuestion b) (QuestionFaultAt b)
+
+pub readings_of_records_end : ReadingsOfRecordsEnd
+readings_of_records_end b = readings_end (ReadsRecord b) (RecordFaultAt b)
