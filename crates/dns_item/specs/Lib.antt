@@ -4,3 +4,8 @@ pub mod Entries
 pub mod Question
 pub mod EntryLaws
 pub mod ItemLaws
+pub mod QuestionErrors
+pub mod Words
+pub mod QuestionTexts
+pub mod QuestionReading
+pub mod QuestionPrinting

@@ -21,6 +21,12 @@ qtype_of q = q.qtype
 abbrev pub qclass_of : {N : Type 0} → Question N → ℕ
 qclass_of q = q.qclass
 
+-- the question with these fields
+pub record HasFields {N : Type 0} (q : Question N) (qname : N) (qtype qclass : ℕ) : Type 0 where
+  pub name : qname_of q ≡ qname
+  pub rtype : qtype_of q ≡ qtype
+  pub class : qclass_of q ≡ qclass
+
 -- what a question asks, by the labels of its name
 abbrev pub question_item : {N : Type 0} → (N → Labels) → Question N → QuestionItem
 question_item labels_of q = record { name = labels_of (qname_of q); rtype = qtype_of q; class = qclass_of q }

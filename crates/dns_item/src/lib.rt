@@ -6,6 +6,9 @@
 
 pub mod laws;
 pub mod question;
+mod question_error;
+mod question_print;
+mod question_text;
 mod ttl;
 
 pub use question::{ComposeQuestion, Question};

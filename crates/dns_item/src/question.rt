@@ -5,8 +5,9 @@ ghost use Rattle.dns_wire.specs.Parsers.{seen, place};
 ghost use Rattle.dns_wire.specs.Targets.{Composes};
 ghost use Rattle.dns_item.specs.Entries.{SkipsQuestion, QuestionFaultAt, QuestionSkipFaultAt};
 ghost use Rattle.dns_item.specs.Items.{QuestionItem, IsQuestion, put_question};
-ghost use Rattle.dns_item.specs.Question.{qname_of, qtype_of, qclass_of, question_item, ParsesQuestion, ReadsReadable, SkipsOverQuestion};
+ghost use Rattle.dns_item.specs.Question.{qname_of, qtype_of, qclass_of, HasFields, question_item, ParsesQuestion, ReadsReadable, SkipsOverQuestion};
 
+pub use crate::question_error::{FromStrError, PresentationError, PresentationErrorEnum};
 use dns_code::{Class, Rtype};
 use dns_wire::{AppendError, Composer, ParseError, ParsedName, Parser, ToName};
 
@@ -68,6 +69,23 @@ impl<N> Question<N> {
         ensures { result ≡ qclass_of self.now }
     {
         self.qclass
+    }
+}
+
+impl<N> From<(N, Rtype, Class)> for Question<N> {
+    ghost from_gives = { λ fields question. HasFields question fields.0 fields.1 fields.2 };
+
+    fn from((qname, qtype, qclass): (N, Rtype, Class)) -> Self {
+        Question::new(qname, qtype, qclass)
+    }
+}
+
+/// A question in the class IN.
+impl<N> From<(N, Rtype)> for Question<N> {
+    ghost from_gives = { λ fields question. HasFields question fields.0 fields.1 1 };
+
+    fn from((qname, qtype): (N, Rtype)) -> Self {
+        Question::new_in(qname, qtype)
     }
 }
 
@@ -161,5 +179,24 @@ impl<Q: ComposeQuestion> ComposeQuestion for &Q {
 
     fn compose_question<T: Composer>(&self, target: &mut T) -> Result<(), AppendError> {
         (**self).compose_question(target)
+    }
+}
+
+impl<N: ToName> ComposeQuestion for (N, Rtype, Class) {
+    ghost question = { λ fields. record { name = N.name fields.0; rtype = fields.1; class = fields.2 } };
+
+    fn compose_question<T: Composer>(&self, target: &mut T) -> Result<(), AppendError> {
+        let (qname, qtype, qclass) = self;
+        Question::new(qname, *qtype, *qclass).compose(target)
+    }
+}
+
+/// In the class IN.
+impl<N: ToName> ComposeQuestion for (N, Rtype) {
+    ghost question = { λ fields. record { name = N.name fields.0; rtype = fields.1; class = 1 } };
+
+    fn compose_question<T: Composer>(&self, target: &mut T) -> Result<(), AppendError> {
+        let (qname, qtype) = self;
+        Question::new_in(qname, *qtype).compose(target)
     }
 }

@@ -1,6 +1,57 @@
 //! DNS messages: read lazily from octets, and built a section at a time.
 //!
-//! A user depends on this crate alone: the modules have what the crates below it hold.
+//! A user depends on this crate alone: its modules have what the crates below it hold. It promises, of every list of calls
+//! on a builder (`script::run`), that the octets are those of one fold over the current header and the standing items,
+//! that reading gives these back in order, and that a push is refused only for room, memory, limit or count.
 #![tactic(auto)]
 
+pub mod builder {
+    //! Builders of messages.
+    pub use dns_build::{MessageBuilder, PushError, QuestionBuilder};
+}
+
+pub mod code {
+    //! Types, classes and codes.
+    pub use dns_code::{Class, Opcode, OptRcode, OptionCode, Rcode, Rtype, class, rtype};
+}
+
+pub mod header {
+    //! The header section of a message.
+    pub use dns_code::{
+        CountOverflow, Flags, FlagsFromStrError, Header, HeaderCounts, HeaderSection,
+    };
+}
+
+pub mod message {
+    //! Messages read lazily.
+    pub use dns_read::{Message, QuestionSection, ShortMessage};
+}
+
+pub mod name {
+    //! Names, in octets and as texts.
+    pub use dns_wire::name::{FromStrError, PresentationError};
+    pub use dns_wire::{Label, LabelIter, Name, ParsedName, ToName, ToNameExt};
+}
+
+pub mod record {
+    //! Parts of records.
+    pub use dns_item::Ttl;
+}
+
 pub mod script;
+
+pub mod target {
+    //! What messages are written to.
+    pub use dns_target::TreeCompressor;
+    pub use dns_wire::{CloneTarget, Composer, FreezeBuilder};
+}
+
+pub mod wire {
+    //! The parser, holders of octets, and the errors of both.
+    pub use dns_wire::{
+        AppendError, FlattenInto, FormError, Octets, OctetsFrom, OctetsMut, ParseError, Parser,
+        ShortBuf,
+    };
+}
+
+pub use dns_item::question;

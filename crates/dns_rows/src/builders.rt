@@ -1,0 +1,218 @@
+//! Builders: what their octets are, and how a push is refused.
+use arrayvec::ArrayVec;
+use dns_build::{MessageBuilder, PushError, QuestionBuilder};
+use dns_code::{Class, Header, Opcode, Rcode, Rtype};
+use dns_item::Question;
+use dns_read::Message;
+use dns_target::TreeCompressor;
+use dns_wire::{AppendError, Composer, Name, Octets, ToNameExt};
+use std::alloc::Global;
+use std::process::Abort;
+use std::test::Fail;
+
+/// The question for an A record of the root.
+fn root_question() -> Question<Name<&'static [u8]>> {
+    Question::new_in(Name::root_slice(), Rtype::A)
+}
+
+/// A builder of the question section over an empty vector.
+fn questions_in_vec(alloc: Global) -> Result<QuestionBuilder<Vec<u8>>, AppendError> {
+    Ok(MessageBuilder::new_vec(alloc)?.question())
+}
+
+/// A push of a root question is refused for this cause, and the message keeps its octets, counts and header.
+fn assert_refused<T: Composer>(
+    rt: &impl Abort,
+    builder: &mut QuestionBuilder<T>,
+    cause: PushError,
+) -> Result<(), Fail> {
+    let len = builder.as_slice().len();
+    let counts = builder.counts();
+    let header = builder.header();
+    let refusal = builder.push(root_question());
+    match (refusal, cause) {
+        (Err(PushError::ShortBuf), PushError::ShortBuf)
+        | (Err(PushError::LimitExceeded), PushError::LimitExceeded)
+        | (Err(PushError::CountOverflow), PushError::CountOverflow) => {}
+        _ => panic!(rt; "another answer"),
+    }
+    assert_eq!(rt; builder.as_slice().len(), len);
+    assert!(rt; builder.counts() == counts);
+    assert!(rt; builder.header() == header);
+    Ok(())
+}
+
+/// The message has so many questions in the class IN for A records, and no fault.
+fn assert_questions<Octs: Octets>(
+    rt: &impl Abort,
+    message: &Message<Octs>,
+    names: &[&[u8]],
+) -> Result<(), Fail> {
+    assert_eq!(rt; usize::from(message.header_counts().qdcount()), names.len());
+    let mut questions = message.question();
+    for name in names {
+        let Some(Ok(question)) = questions.next() else {
+            panic!(rt; "no question");
+        };
+        assert!(rt; question.qname().octets_eq(&Name::from_octets(*name)?));
+        assert!(rt; question.qtype() == Rtype::A && question.qclass() == Class::IN);
+    }
+    assert!(rt; questions.next().is_none());
+    Ok(())
+}
+
+#[test]
+fn builds_the_first_run(rt: HostRuntime) -> Result<(), Fail> {
+    let mut builder = questions_in_vec(rt.alloc())?;
+    builder.push((Name::from_octets(*b"\x07example\x03com\x00")?, Rtype::A))?;
+    let message = builder.into_message();
+    assert_eq!(rt;
+        message.as_slice(),
+        b"\x00\x00\x00\x00\x00\x01\x00\x00\x00\x00\x00\x00\x07example\x03com\x00\x00\x01\x00\x01".as_slice()
+    );
+    assert_questions(&rt, &message, &[b"\x07example\x03com\x00"])
+}
+
+#[test]
+fn builds_an_empty_message(rt: HostRuntime) -> Result<(), Fail> {
+    let builder = MessageBuilder::new_vec(rt.alloc())?;
+    assert_eq!(rt; builder.as_slice(), [0; 12].as_slice());
+    assert!(rt; builder.push_limit().is_none());
+    assert_questions(&rt, &builder.as_message(), &[])?;
+    assert_eq!(rt; builder.finish().len(), 12);
+    Ok(())
+}
+
+#[test]
+fn a_target_is_emptied_or_has_no_room(rt: HostRuntime) -> Result<(), Fail> {
+    let mut target = ArrayVec::<u8, 12>::new();
+    target.append_slice(b"some octets")?;
+    let builder = MessageBuilder::from_target(target)?;
+    assert_eq!(rt; builder.as_slice(), [0; 12].as_slice());
+    let refusal = MessageBuilder::from_target(ArrayVec::<u8, 11>::new()).err();
+    assert_eq!(rt; refusal, Some(AppendError::ShortBuf));
+    Ok(())
+}
+
+#[test]
+fn a_limit_is_inclusive(rt: HostRuntime) -> Result<(), Fail> {
+    let mut builder = questions_in_vec(rt.alloc())?;
+    builder.set_push_limit(16);
+    assert_refused(&rt, &mut builder, PushError::LimitExceeded)?;
+    builder.set_push_limit(17);
+    builder.push(root_question())?;
+    assert_eq!(rt; builder.as_slice().len(), 17);
+    assert_eq!(rt; builder.push_limit(), Some(17));
+    builder.set_push_limit(usize::MAX);
+    assert!(rt; builder.push_limit().is_none());
+
+    let mut builder = questions_in_vec(rt.alloc())?;
+    builder.set_push_limit(18);
+    builder.push(root_question())?;
+    assert_eq!(rt; builder.as_slice().len(), 17);
+    assert_refused(&rt, &mut builder, PushError::LimitExceeded)?;
+    builder.clear_push_limit();
+    builder.push(root_question())?;
+    assert_eq!(rt; builder.as_slice().len(), 22);
+    Ok(())
+}
+
+#[test]
+fn a_section_has_at_most_65535_questions(rt: HostRuntime) -> Result<(), Fail> {
+    let mut builder = questions_in_vec(rt.alloc())?;
+    for _ in 0..65_535u32 {
+        builder.push(root_question())?;
+    }
+    assert_eq!(rt; builder.as_slice().len(), 327_687);
+    assert_eq!(rt; builder.counts().qdcount(), 65_535);
+    assert_refused(&rt, &mut builder, PushError::CountOverflow)?;
+    builder.set_push_limit(327_691);
+    assert_refused(&rt, &mut builder, PushError::LimitExceeded)?;
+    builder.set_push_limit(327_692);
+    assert_refused(&rt, &mut builder, PushError::CountOverflow)?;
+    builder.set_push_limit(327_693);
+    assert_refused(&rt, &mut builder, PushError::CountOverflow)
+}
+
+#[test]
+fn room_is_tested_before_the_limit(rt: HostRuntime) -> Result<(), Fail> {
+    let mut builder = MessageBuilder::from_target(ArrayVec::<u8, 17>::new())?.question();
+    builder.push(root_question())?;
+    builder.set_push_limit(17);
+    assert_refused(&rt, &mut builder, PushError::ShortBuf)?;
+    assert_eq!(rt; builder.as_slice().len(), 17);
+    Ok(())
+}
+
+#[test]
+fn moves_and_rewinds_take_questions_out(rt: HostRuntime) -> Result<(), Fail> {
+    let mut header = Header::new();
+    header.set_id(0x1234);
+    header.set_qr(true);
+    header.set_opcode(Opcode::NOTIFY);
+    header.set_rcode(Rcode::REFUSED);
+    let mut builder = questions_in_vec(rt.alloc())?;
+    builder.set_header(header);
+    builder.set_push_limit(100);
+    builder.push(root_question())?;
+    builder.rewind();
+    assert_eq!(rt; builder.as_slice(), b"\x12\x34\xA0\x05\x00\x00\x00\x00\x00\x00\x00\x00".as_slice());
+    builder.push(root_question())?;
+    let builder = builder.question();
+    assert_eq!(rt; builder.as_slice().len(), 17);
+    let mut builder = builder.builder();
+    assert_eq!(rt; builder.as_slice().len(), 12);
+    assert!(rt; builder.header() == header);
+    assert_eq!(rt; builder.push_limit(), Some(100));
+    assert_eq!(rt; builder.counts().qdcount(), 0);
+    builder.set_header(Header::new());
+    assert_eq!(rt; builder.builder().as_slice(), [0; 12].as_slice());
+    Ok(())
+}
+
+#[test]
+fn clones_go_on_by_themselves(rt: HostRuntime) -> Result<(), Fail> {
+    let name = Name::from_octets(*b"\x01a\x00")?;
+    let mut builder = questions_in_vec(rt.alloc())?;
+    builder.push((name, Rtype::A))?;
+    let mut clone = builder.clone()?;
+    clone.push((name, Rtype::A))?;
+    assert_eq!(rt; clone.as_slice().len(), 26);
+    assert_eq!(rt; builder.as_slice().len(), 19);
+    Ok(())
+}
+
+/// Pushes four questions whose names share endings, and answers the length after each.
+fn lengths_of_shared_endings<T: Composer>(
+    builder: &mut QuestionBuilder<T>,
+) -> Result<[usize; 4], Fail> {
+    builder.push((Name::from_octets(*b"\x01a\x01b\x01c\x00")?, Rtype::A))?;
+    let first = builder.as_slice().len();
+    builder.push((Name::from_octets(*b"\x01b\x01c\x00")?, Rtype::A))?;
+    let second = builder.as_slice().len();
+    builder.push((Name::from_octets(*b"\x01x\x01b\x01c\x00")?, Rtype::A))?;
+    let third = builder.as_slice().len();
+    builder.push((Name::from_octets(*b"\x01c\x00")?, Rtype::A))?;
+    Ok([first, second, third, builder.as_slice().len()])
+}
+
+#[test]
+fn compresses_suffixes_of_suffixes(rt: HostRuntime) -> Result<(), Fail> {
+    let names: [&[u8]; 4] = [
+        b"\x01a\x01b\x01c\x00",
+        b"\x01b\x01c\x00",
+        b"\x01x\x01b\x01c\x00",
+        b"\x01c\x00",
+    ];
+    let mut plain = questions_in_vec(rt.alloc())?;
+    assert_eq!(rt; lengths_of_shared_endings(&mut plain)?, [23, 32, 43, 50]);
+    assert_questions(&rt, &plain.as_message(), &names)?;
+
+    let target = TreeCompressor::new(rt.alloc(), Vec::new(rt.alloc()));
+    let mut tree = MessageBuilder::from_target(target)?.question();
+    assert_eq!(rt; lengths_of_shared_endings(&mut tree)?, [23, 29, 37, 43]);
+    assert_questions(&rt, &tree.as_message(), &names)?;
+    tree.rewind();
+    assert_eq!(rt; lengths_of_shared_endings(&mut tree)?, [23, 29, 37, 43]);
+    Ok(())
+}
