@@ -5,3 +5,6 @@ pub mod ItemLemmas
 pub mod FieldWords
 pub mod WordLemmas
 pub mod QuestionTextLemmas
+pub mod SpelledNumbers
+pub mod OneWords
+pub mod OneAnswer

@@ -9,3 +9,4 @@ pub mod Words
 pub mod QuestionTexts
 pub mod QuestionReading
 pub mod QuestionPrinting
+pub mod QuestionTextLaws

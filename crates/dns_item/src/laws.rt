@@ -1,6 +1,7 @@
-//! Theorems on questions and records where they stand and where they are put. The functions do nothing: each contract is a theorem over all octets, places and items.
+//! Theorems on questions and records where they stand and where they are put, and on questions as texts. The functions do nothing: each contract is a theorem over all octets, places, items and texts.
 ghost use Rattle.dns_item.specs.EntryLaws.{QuestionOrFault, RecordOrFault, QuestionEndOrFault, RecordEndOrFault, QuestionSkipAgrees, RecordSkipAgrees};
 ghost use Rattle.dns_item.specs.ItemLaws.{QuestionsGrow, RecordsGrow, QuestionsReadBack, RecordsReadBack};
+ghost use Rattle.dns_item.specs.QuestionTextLaws.{EachTextAnswered, OneTextAnswer, EachWordsAnswered, OneWordsAnswer};
 
 /// At each place exactly one question can be read or exactly one fault is met, never both; so for records.
 pub fn one_entry_or_fault()
@@ -26,4 +27,12 @@ pub fn items_read_back()
     ensures records_grow { RecordsGrow }
     ensures questions { QuestionsReadBack }
     ensures records { RecordsReadBack }
+{}
+
+/// Every text is read as a question or as one that has a fault, and as one thing only. So is every list of words.
+pub fn questions_as_texts()
+    ensures each_text { EachTextAnswered }
+    ensures one_answer { OneTextAnswer }
+    ensures each_words { EachWordsAnswered }
+    ensures one_answer_of_words { OneWordsAnswer }
 {}

@@ -1,7 +1,8 @@
-//! Questions and records of DNS messages. Today it has TTLs.
+//! Questions of DNS messages, and of records the TTL.
 //!
-//! It promises that every result of a TTL's arithmetic is the number that its call names, and that it is `None` or asked
-//! for exactly where that number isn't a TTL.
+//! It promises that a question is read exactly where one stands (RFC 1035 section 4.1.2) and is composed as one piece under
+//! every rule of compression, that what is put is read back, that a text is read as a question by one table, and that every
+//! result of a TTL's arithmetic is the number that its call names.
 #![tactic(auto)]
 
 pub mod laws;
