@@ -12,7 +12,7 @@ use Rattle.dns_item.specs.declared.question_error.PresentationErrorEnum.TheVaria
 abbrev pub kind_of : PresentationError → PresentationErrorEnum
 kind_of error = error.0
 
--- that is wrong with the text
+-- the error tells that this is wrong with the text
 abbrev pub IsKind : PresentationErrorEnum → FromStrError → Type 0
 IsKind kind e = (error : PresentationError) × (e ≡ Presentation error) × (kind_of error ≡ kind)
 

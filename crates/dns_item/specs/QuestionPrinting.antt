@@ -13,6 +13,6 @@ tab = 0x09
 abbrev pub fields_text : List ℕ → ℕ → ℕ → List ℕ
 fields_text name rtype class = name ++ codes "." ++ tab ∷ type_text rtype ++ tab ∷ class_text class
 
--- how a question is printed, where it is said how its name is
+-- how a question is printed, where it is known how its name is
 abbrev pub question_text : {N : Type 0} → (N → Option (List ℕ)) → Question N → Option (List ℕ)
 question_text name_text q = option_map (λ name. fields_text name (qtype_of q) (qclass_of q)) (name_text (qname_of q))

@@ -25,17 +25,17 @@ abbrev pub named : Labels → Fields → Answer
 named name (Ok (rtype, class)) = Ok (asks name rtype class)
 named name (Err f) = Err f
 
--- Behind every word that spells a name, the words are read so.
+-- behind every word that spells a name, the words are read so
 abbrev pub ReadsBehindName : List (List ℕ) → Fields → Type 0
 ReadsBehindName words fields = (a : List ℕ) (name : Labels) → SpellsName a name → ReadsWords (a ∷ words) (named name fields)
 
--- Of the second word and the third, if there is one. A fault there is one whatever stands behind a third word.
+-- What is read of the second word and of the third, if there is one. A fault of three words is one whatever stands behind them.
 abbrev pub ReadsFields : List ℕ → Option (Bor (List ℕ)) → Fields → Type 0
 ReadsFields b None fields = ReadsBehindName (b ∷ []) fields
 ReadsFields b (Some c) (Ok x) = ReadsBehindName (b ∷ c.now ∷ []) (Ok x)
 ReadsFields b (Some c) (Err f) = (more : List (List ℕ)) → ReadsBehindName (b ∷ c.now ∷ more) (Err f)
 
--- of the text behind the first word
+-- what is read of the text behind the first word
 abbrev pub ReadsTextBehindName : List ℕ → Fields → Type 0
 ReadsTextBehindName text fields = IsUtf8 text → (words : List (List ℕ)) × AreWords text words × ReadsBehindName words fields
 

@@ -1,4 +1,4 @@
--- The words of a text, between Unicode white space. RFC 1035 section 5.1 has them; the white space is that of Unicode.
+-- The words of a text, as RFC 1035 section 5.1 has them, but between Unicode white space.
 use Rattle.std.specs.Prelude.{ℕ, ◌<◌, List, [], ◌∷◌, ◌++◌, length}
 use Rattle.std.specs.Char.{is_whitespace, is_not_whitespace}
 use Rattle.std.specs.Str.{NoCharPasses, EmptyOrStartsWithPassing}

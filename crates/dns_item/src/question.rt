@@ -72,6 +72,7 @@ impl<N> Question<N> {
     }
 }
 
+/// The question of a name, a type and a class.
 impl<N> From<(N, Rtype, Class)> for Question<N> {
     ghost from_gives = { λ fields question. HasFields question fields.0 fields.1 fields.2 };
 

@@ -1,5 +1,5 @@
 -- What a cursor over questions gives next.
-use Rattle.std.proofs.Common.{◌≡◌, ◌∙◌, ℕ, suc, ◌-◌, ◌<◌, ◌≤◌, List, [], ◌∷◌, length, ap, sym, arith}
+use Rattle.std.proofs.Common.{◌≡◌, ◌∙◌, ℕ, suc, ◌-◌, ◌≤◌, List, [], ◌∷◌, ap, sym, arith}
 use Rattle.std.specs.Prelude.{Some, Result, Ok, Err}
 use Rattle.std.specs.Result.{result_ok}
 use Rattle.dns_wire.specs.Fault.{Fault}
@@ -45,7 +45,3 @@ gives_question section new n left x e h reads =
 pub gives_fault : (section : QuestionSection) (n left : ℕ) (f : Fault) → Some n ≡ result_ok section.left → (1 ≤ n) × (left ≡ n - 1)
     → QuestionFaultAt (octets_of section) (position section) f → questions_left section ≡ Err f ∷ []
 gives_fault section n left f e h fault = one_more section n left e h ∙ questions_from-stop (octets_of section) left (position section) f fault
-
--- the list is one longer
-pub fewer : {X : Type 0} (x : X) (xs ys : List X) → ys ≡ x ∷ xs → length xs < length ys
-fewer x xs ys e = let n : length ys ≡ length (x ∷ xs) = ap length e in omega arith

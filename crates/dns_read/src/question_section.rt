@@ -17,7 +17,8 @@ pub struct QuestionSection<'a> {
 }
 
 impl<'a> QuestionSection<'a> {
-    ghost use Rattle.dns_read.specs.QuestionSection.{octets_of, position, questions_left};
+    ghost use Rattle.std.specs.Iterator.{YieldsFirstBy};
+    ghost use Rattle.dns_read.specs.QuestionSection.{octets_of, position, questions_left, question_answer, PassesQuestion};
     ghost use Rattle.dns_read.specs.QuestionsFrom.{questions_from};
 
     /// The question section of a message of these octets.
@@ -41,24 +42,14 @@ impl<'a> QuestionSection<'a> {
     {
         self.parser.pos()
     }
-}
 
-impl<'a> Iterator for QuestionSection<'a> {
-    ghost use Rattle.std.specs.Prelude.{◌≡◌, ⊤};
-    ghost use Rattle.std.specs.Iterator.{YieldsFirstBy, MakesProgress, item_count};
-    ghost use Rattle.dns_read.specs.QuestionSection.{octets_of, questions_left, question_answer, PassesQuestion};
-
-    type Item = Result<Question<ParsedName<'a>>, ParseError>;
-
-    ghost next_gives = { YieldsFirstBy question_answer questions_left };
-
-    ghost remaining = { item_count questions_left };
-
-    fn next(&mut self) -> Option<Self::Item>
+    /// The next question, or the error of the first that can't be read. After that there are no more.
+    ///
+    /// The cursor is then behind the question. At one that can't be read, and at the end, it stays.
+    pub fn next(&mut self) -> Option<Result<Question<ParsedName<'a>>, ParseError>>
         ensures steps { YieldsFirstBy question_answer questions_left self.old result self.new }
-        ensures goes { MakesProgress (λ _. ⊤) (item_count questions_left) self.old result self.new }
-        ensures octets { octets_of self.new ≡ octets_of self.old }
         ensures passes { PassesQuestion self.old self.new result }
+        ensures octets { octets_of self.new ≡ octets_of self.old }
     {
         let left = self.left.ok()?.checked_sub(1)?;
         match Question::parse(&mut self.parser) {
@@ -71,5 +62,21 @@ impl<'a> Iterator for QuestionSection<'a> {
                 Some(Err(error))
             }
         }
+    }
+}
+
+/// As the method `next`.
+impl<'a> Iterator for QuestionSection<'a> {
+    ghost use Rattle.std.specs.Iterator.{YieldsFirstBy, item_count};
+    ghost use Rattle.dns_read.specs.QuestionSection.{questions_left, question_answer};
+
+    type Item = Result<Question<ParsedName<'a>>, ParseError>;
+
+    ghost next_gives = { YieldsFirstBy question_answer questions_left };
+
+    ghost remaining = { item_count questions_left };
+
+    fn next(&mut self) -> Option<Self::Item> {
+        QuestionSection::next(self)
     }
 }

@@ -3,7 +3,7 @@ use arrayvec::ArrayVec;
 use dns_code::{Class, Header, Rcode, Rtype};
 use dns_item::Question;
 use dns_read::{Message, ShortMessage};
-use dns_wire::{AppendError, FormError, Name, OctetsFrom, ParseError, ParsedName, ToName, ToNameExt};
+use dns_wire::{AppendError, FormError, Name, OctetsFrom, ParseError, ToName, ToNameExt};
 use std::process::Abort;
 use std::test::Fail;
 
@@ -78,10 +78,9 @@ fn assert_one_question<N: ToName>(
 ) -> Result<(), Fail> {
     let message = Message::from_octets(octets)?;
     let mut questions = message.question();
-    let Some(question) = questions.next() else {
+    let Some(Ok(question)) = questions.next() else {
         panic!(rt; "no question")
     };
-    let question = question?;
     assert!(rt; question.qname().octets_eq(expected.qname()));
     assert_eq!(rt; question.qtype(), expected.qtype());
     assert_eq!(rt; question.qclass(), expected.qclass());
@@ -102,7 +101,10 @@ fn takes_twelve_octets(rt: HostRuntime) -> Result<(), Fail> {
         panic!(rt; "taken")
     };
     assert_eq!(rt; refused.as_slice(), [1; 11].as_slice());
-    assert_eq!(rt; format!(in rt.alloc(); "{ShortMessage}")?.as_str(), "short message");
+    assert_eq!(rt;
+        format!(in rt.alloc(); "{ShortMessage}")?.as_str(),
+        "short message"
+    );
     // cut in the header
     for n in 0..12 {
         assert!(rt; Message::from_octets(&POSITIVE_RESPONSE[..n]).is_err());
@@ -114,18 +116,27 @@ fn takes_twelve_octets(rt: HostRuntime) -> Result<(), Fail> {
 fn has_a_header(rt: HostRuntime) -> Result<(), Fail> {
     let mut message = Message::from_octets(*POSITIVE_RESPONSE)?;
     assert_eq!(rt; message.header().as_slice(), b"\x00\x00\x81\xA0".as_slice());
-    assert_eq!(rt; message.header_section().as_slice(), &POSITIVE_RESPONSE[..12]);
+    assert_eq!(rt;
+        message.header_section().as_slice(),
+        b"\x00\x00\x81\xA0\x00\x01\x00\x01\x00\x00\x00\x00".as_slice()
+    );
     let counts = message.header_counts();
     assert_eq!(rt; (counts.qdcount(), counts.ancount()), (1, 1));
     assert_eq!(rt; (counts.nscount(), counts.arcount()), (0, 0));
     assert!(rt; message.no_error() && !message.is_error());
+    let first = message.header();
     let mut header = Header::new();
     header.set_id(0x1234);
     header.set_rcode(Rcode::NXDOMAIN);
     message.set_header(header);
     assert!(rt; message.is_error() && !message.no_error());
-    assert_eq!(rt; &message.as_slice()[..4], b"\x12\x34\x00\x03".as_slice());
-    assert_eq!(rt; &message.into_octets()[4..], &POSITIVE_RESPONSE[4..]);
+    assert_eq!(rt; message.header().as_slice(), b"\x12\x34\x00\x03".as_slice());
+    // the other octets stayed
+    message.set_header(first);
+    assert_eq!(rt;
+        message.into_octets().as_slice(),
+        POSITIVE_RESPONSE.as_slice()
+    );
     Ok(())
 }
 
@@ -187,8 +198,10 @@ fn reads_the_longest_name(rt: HostRuntime) -> Result<(), Fail> {
 /// Whether a question asks for the name. A question that can't be read is an error.
 fn asks_for<N: ToName>(message: &Message<&[u8]>, name: &N) -> Result<bool, ParseError> {
     for question in message.question() {
-        if question?.qname().name_eq(name) {
-            return Ok(true);
+        match question {
+            Ok(question) if question.qname().name_eq(name) => return Ok(true),
+            Ok(_) => {}
+            Err(error) => return Err(error),
         }
     }
     Ok(false)
@@ -197,7 +210,8 @@ fn asks_for<N: ToName>(message: &Message<&[u8]>, name: &N) -> Result<bool, Parse
 #[test]
 fn goes_over_questions(rt: HostRuntime) -> Result<(), Fail> {
     // questions for a. and b., and one that can't be read
-    let octets = b"\x00\x00\x00\x00\x00\x03\x00\x00\x00\x00\x00\x00\x01a\x00\x00\x01\x00\x01\x01b\x00\x00\x01\x00\x01\xC0\x1A\x00\x01\x00\x01";
+    let octets =
+        b"\x00\x00\x00\x00\x00\x03\x00\x00\x00\x00\x00\x00\x01a\x00\x00\x01\x00\x01\x01b\x00\x00\x01\x00\x01\xC0\x1A\x00\x01\x00\x01";
     let message = Message::from_slice(octets)?;
     assert!(rt; asks_for(&message, &Name::from_octets(*b"\x01B\x00")?)?);
     let other = Name::from_octets(*b"\x01c\x00")?;
