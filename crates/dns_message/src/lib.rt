@@ -42,7 +42,7 @@ pub mod script;
 
 pub mod target {
     //! What messages are written to.
-    pub use dns_target::TreeCompressor;
+    pub use dns_target::{HashCompressor, StaticCompressor, TreeCompressor};
     pub use dns_wire::{CloneTarget, Composer, FreezeBuilder};
 }
 

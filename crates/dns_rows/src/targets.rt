@@ -33,7 +33,7 @@ fn clone_of<T: CloneTarget>(rt: &impl Abort, target: &T) -> Result<T, Fail> {
     Ok(clone)
 }
 
-fn assert_freezes<T: FreezeBuilder>(rt: &impl Abort, target: T, octets: &[u8]) {
+pub(crate) fn assert_freezes<T: FreezeBuilder>(rt: &impl Abort, target: T, octets: &[u8]) {
     let frozen = target.freeze();
     assert_eq!(rt; frozen.octets(), octets);
 }

@@ -5,3 +5,11 @@ pub mod Starts
 pub mod Spelling
 pub mod Growth
 pub mod States
+pub mod Remembered
+pub mod HeldSpots
+pub mod HeldLists
+pub mod Choosing
+pub mod HeldStates
+pub mod KeyTables
+pub mod KeyedNames
+pub mod HashStates

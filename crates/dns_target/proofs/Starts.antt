@@ -6,6 +6,8 @@ use Rattle.std.proofs.lemmas.List.{append-nil, drop-drop, drop_more, drop_at, ta
 use Rattle.std.proofs.lemmas.List.Elements.{All-head, All-tail, All-get_or}
 use Rattle.dns_wire.specs.Names.{Labels, IsLabel, IsName, uncompressed, name_size}
 use Rattle.dns_wire.proofs.LabelsLemmas.{length-uncompressed}
+use Rattle.dns_wire.specs.Standing.{Stands}
+use Rattle.dns_wire.proofs.Spelling.{name_tail, stands_spelled}
 use Rattle.dns_target.specs.Lookup.{starts_of}
 
 -- each label has a start
@@ -163,3 +165,14 @@ before_fits n octets i start h e l is =
     let t = size-take-le n (i + 1) in
     let long : length octets ≡ name_size n + 1 = ap length e ∙ length-uncompressed n in
     (omega (arith, h.short), omega arith)
+
+-- the name from a label on stands where that label begins
+pub suffix_stands : (n : Labels) (i : ℕ) (octets : List ℕ) (start : ℕ) → IsName n → octets ≡ uncompressed n → i < length n → start ≡ name_size (take i n)
+    → Stands octets start (drop i n)
+suffix_stands n i octets start h e l is =
+    stands_spelled octets start (drop i n) (suffix_name n i h) (sym (ap (drop start) e ∙ ap (λ (k : ℕ). drop k (uncompressed n)) is ∙ drop-uncompressed n i (omega arith)))
+  where
+    suffix_name : (n : Labels) (i : ℕ) → IsName n → IsName (drop i n)
+    suffix_name n zero h = h
+    suffix_name [] (suc i) h = h
+    suffix_name (label ∷ rest) (suc i) h = suffix_name rest i (name_tail label rest h).1

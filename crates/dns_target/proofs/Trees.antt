@@ -7,32 +7,23 @@ use Rattle.std.specs.Str.{bytes_eq}
 use Rattle.std.specs.Cmp.Lexicographic.{bytes_decides}
 use Rattle.std.specs.FinMap.{get, get-insert, get-empty}
 use Rattle.std.specs.Ordering.{eq_by_cmp}
-use Rattle.std.proofs.lemmas.Cmp.{eq_by_cmp_equiv}
 use Rattle.dns_wire.specs.Names.{Labels}
-use Rattle.dns_wire.specs.Memory.{suffix_cmp, suffix_total, Spot, Memory, ends_within, cut, IsWithin}
-use Rattle.dns_wire.proofs.Memories.{get-cut, same_memory, cut-within, tied}
+use Rattle.dns_wire.specs.Memory.{suffix_cmp, suffix_total, Spot, Memory, cut, IsWithin}
+use Rattle.dns_wire.proofs.Memories.{cut-within, tied}
 use Rattle.dns_wire.proofs.PlainTargets.{cut_nothing}
 use Rattle.dns_target.specs.Tree.{Entry, entry_at, same, find, name_at, spot, note, memory_of, IsIn, last_end, IsPlaced, IsNext, IsTree, cut_entries}
+use Rattle.dns_target.proofs.Remembered.{get-insert_same, get-insert_other, cut-insert_late}
 use Rattle.dns_target.proofs.Siblings.{not_last, is_last, entry-older, same_true, same_refl}
-
--- suffixes that differ are told apart
-untied_by : (q k : Labels) (b : Bool) → eq_by_cmp suffix_cmp q k ≡ b → q ≢ k → b ≡ false
-untied_by q k true e n = absurd (n (tied q k e))
-untied_by q k false e n = refl
-
--- each suffix is itself
-tied_self : (q : Labels) → eq_by_cmp suffix_cmp q q ≡ true
-tied_self q = (eq_by_cmp_equiv suffix_total).refl q
 
 -- a note changes no other suffix
 pub get-note_other : (m : Memory) (k : Labels) (p : Option ℕ) (e : ℕ) (q : Labels) → q ≢ k → get (note m k p e) q ≡ get m q
 get-note_other m k None e q n = refl
-get-note_other m k (Some p) e q n = get-insert suffix_total m k _ q ∙ ap (λ b. cond b (Some (record { place = p; end = e })) (get m q)) (untied_by q k _ refl n)
+get-note_other m k (Some p) e q n = get-insert_other m k (record { place = p; end = e }) q n
 
 -- and is found where the suffix was not remembered
 pub get-note_same : (m : Memory) (k : Labels) (p : Option ℕ) (e : ℕ) → get m k ≡ None → get (note m k p e) k ≡ spot p e
 get-note_same m k None e n = n
-get-note_same m k (Some p) e n = get-insert suffix_total m k _ k ∙ ap (λ b. cond b (Some (record { place = p; end = e })) (get m k)) (tied_self k)
+get-note_same m k (Some p) e n = get-insert_same m k (record { place = p; end = e })
 
 -- the suffix of an older node stays
 pub name-older : (t : Entry) (ts : List Entry) (o : Option ℕ) → IsIn (length ts) o → name_at (t ∷ ts) o ≡ name_at ts o
@@ -281,19 +272,10 @@ ordered (t ∷ ts) g s x e = ordered_by (noted_cases (memory_of ts) (t.label ∷
     ordered_by (inl k) h = spot-ordered t.place t.end x g.0.placed (sym k.1 ∙ e)
     ordered_by (inr k) h = h (sym k ∙ e)
 
--- a spot that ends past a cut is forgotten
-late_spot : (p : Option ℕ) (e len : ℕ) → len < e → cond (ends_within len (spot p e)) (spot p e) None ≡ None
-late_spot None e len l = refl
-late_spot (Some p) e len l = let b : nat_le e len ≡ false = grind (arith, nat_tests) in rw b refl
-
 -- a name that ends past the cut leaves nothing
 forgotten : (m : Memory) (k : Labels) (p : Option ℕ) (e len : ℕ) → get m k ≡ None → len < e → cut (note m k p e) len ≡ cut m len
-forgotten m k p e len none l = same_memory _ _ (λ q. get-cut (note m k p e) len q ∙ forgotten_by q (noted_cases m k p e q none) ∙ sym (get-cut m len q))
-  where
-    forgotten_by : (q : Labels) → ((q ≡ k) × (get (note m k p e) q ≡ spot p e) × (get m q ≡ None)) ⊎ (get (note m k p e) q ≡ get m q)
-        → cond (ends_within len (get (note m k p e) q)) (get (note m k p e) q) None ≡ cond (ends_within len (get m q)) (get m q) None
-    forgotten_by q (inl h) = rw (h.1, h.2) (late_spot p e len l)
-    forgotten_by q (inr h) = ap (λ o. cond (ends_within len o) o None) h
+forgotten m k None e len none l = refl
+forgotten m k (Some p) e len none l = cut-insert_late m k (record { place = p; end = e }) len none l
 
 -- to take nodes out is to cut what is remembered
 pub cut-memory : (ts : List Entry) (len : ℕ) → IsTree ts → memory_of (cut_entries len ts) ≡ cut (memory_of ts) len

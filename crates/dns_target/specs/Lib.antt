@@ -1,5 +1,11 @@
 pub mod Tree
 pub mod Nodes
 pub mod Lookup
+pub mod Found
+pub mod Held
+pub mod HeldPlaces
+pub mod LabelHash
+pub mod Table
+pub mod Keys
 pub mod State
 pub mod Rules

@@ -6,14 +6,12 @@ ghost use Rattle.dns_wire.specs.Memory.{remember};
 ghost use Rattle.dns_wire.specs.Pieces.{Tree as TreeRule};
 ghost use Rattle.dns_wire.specs.PutName.{spell, pointer};
 ghost use Rattle.dns_target.specs.Tree.{IsTree, memory_of, last_end};
-ghost use Rattle.dns_target.specs.Lookup.{IsPath, IsEnd, IsNew, IsWritable, first, nearer as nearer_of, reaches as reaches_of, reach as reach_of, tree_text};
+ghost use Rattle.dns_target.specs.Lookup.{IsPath, IsEnd, IsNew, IsWritable, first, nearer as nearer_of, reach as reach_of, tree_text};
 
 use crate::label_starts::LabelStarts;
+use crate::texts::{PLACES_END, reaches, whole, with_pointer};
 use crate::tree::Tree;
 use arrayvec::ArrayVec;
-
-/// The places that a pointer can lead to are below this one: they have 14 bits (RFC 1035 section 4.1.4).
-pub(crate) const PLACES_END: usize = 16_384;
 
 /// What a tree has of a name: the node of the labels from `from` on, and the longest suffix with a place.
 #[derive(Clone, Copy)]
@@ -61,39 +59,6 @@ pub(crate) fn look_up(tree: &Tree, labels: &LabelStarts<'_>) -> Known
         from,
         pointer,
     }
-}
-
-/// The octets of the name without pointers.
-fn whole(labels: &LabelStarts<'_>) -> ArrayVec<u8, 255>
-    ensures { result.items ≡ uncompressed labels.now }
-{
-    let octets = labels.octets();
-    let mut text = ArrayVec::new();
-    text.try_extend_from_slice(octets).unwrap();
-    text
-}
-
-/// The octets of the labels before `from`, and a pointer to a place.
-fn with_pointer(labels: &LabelStarts<'_>, from: usize, at: u16) -> ArrayVec<u8, 255>
-    requires from { from < length labels.now }
-    requires at { at < PLACES_END }
-    ensures { result.items ≡ take (name_size (take from labels.now)) (uncompressed labels.now) ++ pointer at }
-{
-    let octets = labels.octets();
-    let before = labels.start(from);
-    let mut text = ArrayVec::new();
-    text.try_extend_from_slice(&octets[..before]).unwrap();
-    text.push(192 + (at / 256) as u8);
-    text.push((at % 256) as u8);
-    text
-}
-
-/// Whether each label before `from` begins where a pointer reaches.
-fn reaches(labels: &LabelStarts<'_>, place: usize, from: usize) -> bool
-    requires { from < length labels.now }
-    ensures { result ≡ reaches_of place labels.now from }
-{
-    from == 0 || place < PLACES_END - labels.start(from - 1)
 }
 
 /// The octets of a name at a place.

@@ -1,8 +1,9 @@
 //! The labels of a name, and where they begin in its octets without pointers.
-ghost use Rattle.std.specs.Prelude.{◌≡◌, ◌≤◌, ◌<◌, ◌+◌, [], length, take, get_or};
+ghost use Rattle.std.specs.Prelude.{◌≡◌, ◌≤◌, ◌<◌, ◌+◌, [], length, take, drop, get_or};
 ghost use Rattle.dns_wire.specs.Names.{IsName, uncompressed, name_size, max_size};
 ghost use Rattle.dns_wire.specs.ParsedName.{labels};
 
+use crate::standing::name_at;
 use arrayvec::ArrayVec;
 use dns_wire::ParsedName;
 use std::marker::Model;
@@ -80,5 +81,13 @@ impl<'a> LabelStarts<'a> {
         ensures name { IsName self.now }
     {
         self.octets.as_slice()
+    }
+
+    /// The name from a label on.
+    pub(crate) fn suffix(&self, index: usize) -> ParsedName<'_>
+        requires { index < length self.now }
+        ensures { labels result ≡ drop index self.now }
+    {
+        name_at(self.octets(), self.start(index)).unwrap()
     }
 }

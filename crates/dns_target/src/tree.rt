@@ -1,5 +1,5 @@
 //! Suffixes of names as a tree, whose nodes stand in one vector.
-ghost use Rattle.std.specs.Prelude.{◌≡◌, ◌+◌, ◌<◌, ◌≤◌, ◌∷◌, [], length, None, OnOk};
+ghost use Rattle.std.specs.Prelude.{◌≡◌, ◌+◌, ◌<◌, ◌≤◌, ◌∷◌, [], length, None, OnOk, IfOk};
 ghost use Rattle.dns_target.specs.Tree.{IsIn, newest, find, entry_at, cut_entries};
 
 use arrayvec::ArrayVec;
@@ -7,7 +7,7 @@ use std::alloc::{AllocError, Global};
 use std::marker::Model;
 
 /// A label before the suffix of another node.
-#[derive(Drop)]
+#[derive(Clone, Debug, Drop)]
 struct Node {
     label: ArrayVec<u8, 63>,
     /// Where the suffix was written, if a pointer can lead there.
@@ -23,7 +23,7 @@ struct Node {
 }
 
 /// The nodes, each behind that of its rest. The root is none of them.
-#[derive(Drop)]
+#[derive(Debug, Drop)]
 pub(crate) struct Tree {
     nodes: Vec<Node>,
     /// The newest of the nodes without a rest.
@@ -50,6 +50,16 @@ impl Tree {
             nodes: Vec::new(alloc),
             newest: None,
         }
+    }
+
+    /// A tree with the same nodes.
+    pub(crate) fn clone(&self) -> Result<Self, AllocError>
+        ensures { IfOk result (λ clone. clone.entries ≡ self.now.entries) }
+    {
+        Ok(Tree {
+            nodes: self.nodes.clone()?,
+            newest: self.newest,
+        })
     }
 
     /// Takes memory for more nodes.

@@ -1,20 +1,22 @@
 //! A target that remembers each suffix that a pointer can lead to.
-ghost use Rattle.std.specs.Prelude.{◌≡◌, true};
+ghost use Rattle.std.specs.Prelude.{◌≡◌, true, IfOk};
 ghost use Rattle.dns_wire.specs.Memory.{nothing};
 ghost use Rattle.dns_wire.specs.Pieces.{Plain, Tree as TreeRule};
 ghost use Rattle.dns_target.specs.Rules.{tree_not_plain};
 
-use crate::known::{PLACES_END, grow, look_up, spelled};
+use crate::known::{grow, look_up, spelled};
 use crate::label_starts::LabelStarts;
+use crate::texts::PLACES_END;
 use crate::tree::Tree;
-use dns_wire::{AppendError, Composer, ToName};
-use std::alloc::Global;
+use dns_wire::{AppendError, CloneTarget, Composer, FreezeBuilder, ToName};
+use std::alloc::{AllocError, Global};
+use std::convert::AsSlice;
 use std::marker::Model;
 
 /// A target that compresses names, over one that doesn't (RFC 1035 section 4.1.4).
 ///
 /// It remembers each suffix that it writes out below 16,384, and knows it again octet for octet.
-#[derive(Drop)]
+#[derive(Debug, Drop)]
 pub struct TreeCompressor<Target: Composer> {
     target: Target,
     tree: Tree,
@@ -61,6 +63,25 @@ impl<Target: Composer> TreeCompressor<Target> {
         ensures { Target.written result ≡ record { octets = self.octets; memory = nothing } }
     {
         self.target
+    }
+
+    /// The content.
+    pub fn as_slice(&self) -> &[u8]
+        ensures { result.now ≡ self.now.octets }
+    {
+        self.target.as_slice()
+    }
+}
+
+impl<Target: CloneTarget> TreeCompressor<Target> {
+    /// A compressor with the same content that remembers the same.
+    pub fn clone(&self) -> Result<Self, AllocError>
+        ensures { IfOk result (λ clone. clone ≡ self.now) }
+    {
+        Ok(TreeCompressor {
+            target: self.target.clone_target()?,
+            tree: self.tree.clone()?,
+        })
     }
 }
 
@@ -110,5 +131,27 @@ impl<Target: Composer> Composer for TreeCompressor<Target> {
 
     fn write_at(&mut self, place: usize, octets: &[u8]) {
         self.target.write_at(place, octets);
+    }
+}
+
+impl<Target: Composer> AsSlice<u8> for TreeCompressor<Target> {
+    ghost items = { λ w. w.octets };
+
+    fn as_slice(&self) -> &[u8] {
+        self.target.as_slice()
+    }
+}
+
+impl<Target: FreezeBuilder> FreezeBuilder for TreeCompressor<Target> {
+    type Octets = Target::Octets;
+
+    fn freeze(self) -> Target::Octets {
+        self.target.freeze()
+    }
+}
+
+impl<Target: CloneTarget> CloneTarget for TreeCompressor<Target> {
+    fn clone_target(&self) -> Result<Self, AllocError> {
+        self.clone()
     }
 }

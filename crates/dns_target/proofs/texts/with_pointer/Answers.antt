@@ -3,7 +3,7 @@ use Rattle.std.proofs.lemmas.Grind.{common_steps}
 use Rattle.dns_wire.specs.Names.{uncompressed}
 use Rattle.dns_wire.specs.PutName.{pointer}
 use Rattle.dns_target.proofs.Starts.{before_fits}
-use Rattle.dns_target.proofs.known.with_pointer.Goals as goal
+use Rattle.dns_target.proofs.texts.with_pointer.Goals as goal
 
 pub slice_bounds-try_extend_from_slice-end : goal.slice_bounds-try_extend_from_slice-end
 slice_bounds-try_extend_from_slice-end c = let k = before_fits c.args.labels.now c.octets-octets.result.now c.args.from c.start-before.result c.octets-octets.ensures.name c.octets-octets.ensures.octets c.requires.from c.start-before.ensures.start in let l = k.1 in grind (arith, common_steps)
