@@ -4,8 +4,8 @@ use dns_build::{MessageBuilder, PushError, QuestionBuilder};
 use dns_code::{Class, Header, Opcode, Rcode, Rtype};
 use dns_item::Question;
 use dns_read::Message;
-use dns_target::TreeCompressor;
-use dns_wire::{AppendError, Composer, Name, Octets, ToNameExt};
+use dns_target::{HashCompressor, StaticCompressor, TreeCompressor};
+use dns_wire::{AppendError, Composer, FreezeBuilder, Name, Octets, ToNameExt};
 use std::alloc::Global;
 use std::process::Abort;
 use std::test::Fail;
@@ -196,23 +196,66 @@ fn lengths_of_shared_endings<T: Composer>(
     Ok([first, second, third, builder.as_slice().len()])
 }
 
+/// Pushes the four questions, takes them out and pushes them again, over a target that compresses.
+fn assert_shares_endings<T: Composer>(rt: &impl Abort, target: T) -> Result<(), Fail> {
+    let mut builder = MessageBuilder::from_target(target)?.question();
+    assert_eq!(rt; lengths_of_shared_endings(&mut builder)?, [23, 29, 37, 43]);
+    assert_questions(rt, &builder.as_message(), &SHARED_ENDINGS)?;
+    builder.rewind();
+    assert_eq!(rt; lengths_of_shared_endings(&mut builder)?, [23, 29, 37, 43]);
+    Ok(())
+}
+
+/// The names of the four questions.
+const SHARED_ENDINGS: [&[u8]; 4] = [
+    b"\x01a\x01b\x01c\x00",
+    b"\x01b\x01c\x00",
+    b"\x01x\x01b\x01c\x00",
+    b"\x01c\x00",
+];
+
 #[test]
 fn compresses_suffixes_of_suffixes(rt: HostRuntime) -> Result<(), Fail> {
-    let names: [&[u8]; 4] = [
-        b"\x01a\x01b\x01c\x00",
-        b"\x01b\x01c\x00",
-        b"\x01x\x01b\x01c\x00",
-        b"\x01c\x00",
-    ];
     let mut plain = questions_in_vec(rt.alloc())?;
     assert_eq!(rt; lengths_of_shared_endings(&mut plain)?, [23, 32, 43, 50]);
-    assert_questions(&rt, &plain.as_message(), &names)?;
+    assert_questions(&rt, &plain.as_message(), &SHARED_ENDINGS)?;
+    assert_shares_endings(&rt, StaticCompressor::new(Vec::new(rt.alloc())))?;
+    assert_shares_endings(&rt, TreeCompressor::new(rt.alloc(), Vec::new(rt.alloc())))?;
+    assert_shares_endings(&rt, HashCompressor::new(rt.alloc(), Vec::new(rt.alloc())))
+}
 
-    let target = TreeCompressor::new(rt.alloc(), Vec::new(rt.alloc()));
-    let mut tree = MessageBuilder::from_target(target)?.question();
-    assert_eq!(rt; lengths_of_shared_endings(&mut tree)?, [23, 29, 37, 43]);
-    assert_questions(&rt, &tree.as_message(), &names)?;
-    tree.rewind();
-    assert_eq!(rt; lengths_of_shared_endings(&mut tree)?, [23, 29, 37, 43]);
+/// Pushes the questions a. to x., and y. twice; the message then has so many octets.
+fn assert_25_names<T: Composer>(rt: &impl Abort, target: T, len: usize) -> Result<(), Fail> {
+    let mut builder = MessageBuilder::from_target(target)?.question();
+    for letter in b'a'..=b'x' {
+        builder.push((Name::from_octets([1, letter, 0])?, Rtype::A))?;
+    }
+    assert_eq!(rt; builder.as_slice().len(), 180);
+    let last = Name::from_octets(*b"\x01y\x00")?;
+    builder.push((last, Rtype::A))?;
+    assert_eq!(rt; builder.as_slice().len(), 187);
+    builder.push((last, Rtype::A))?;
+    assert_eq!(rt; builder.as_slice().len(), len);
     Ok(())
+}
+
+#[test]
+fn a_static_compressor_holds_24_suffixes(rt: HostRuntime) -> Result<(), Fail> {
+    assert_25_names(&rt, StaticCompressor::new(Vec::new(rt.alloc())), 194)?;
+    assert_25_names(&rt, TreeCompressor::new(rt.alloc(), Vec::new(rt.alloc())), 193)?;
+    assert_25_names(&rt, HashCompressor::new(rt.alloc(), Vec::new(rt.alloc())), 193)
+}
+
+/// An empty message over a target is twelve zero octets.
+fn assert_frozen_empty<T: FreezeBuilder>(rt: &impl Abort, target: T) -> Result<(), Fail> {
+    let message = MessageBuilder::from_target(target)?.into_message();
+    assert_eq!(rt; message.as_slice(), [0; 12].as_slice());
+    Ok(())
+}
+
+#[test]
+fn compressors_give_their_message(rt: HostRuntime) -> Result<(), Fail> {
+    assert_frozen_empty(&rt, StaticCompressor::new(Vec::new(rt.alloc())))?;
+    assert_frozen_empty(&rt, TreeCompressor::new(rt.alloc(), Vec::new(rt.alloc())))?;
+    assert_frozen_empty(&rt, HashCompressor::new(rt.alloc(), Vec::new(rt.alloc())))
 }
