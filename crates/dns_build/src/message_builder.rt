@@ -1,5 +1,5 @@
 //! The builder of a message before its sections, on which the builders of the sections stand.
-ghost use Rattle.std.specs.Prelude.{◌≡◌, ◌+◌, ◌≤◌, [], ◌∷◌, IfOk, OnErr, IsTrue, length};
+ghost use Rattle.std.specs.Prelude.{◌≡◌, ◌+◌, ◌≤◌, [], ◌∷◌, IfOk, IfErr, OnErr, IsTrue, length};
 ghost use Rattle.dns_wire.specs.Pieces.{Plain};
 ghost use Rattle.dns_wire.specs.Targets.{Answers, cut_to, overwrite};
 ghost use Rattle.dns_code.specs.Header.{header_octets};
@@ -64,7 +64,8 @@ pub(crate) fn long_message<Octs: Octets>(octets: Octs) -> Message<Octs>
 impl MessageBuilder<Vec<u8>> {
     /// A builder over an empty vector.
     pub fn new_vec(alloc: Global) -> Result<Self, AppendError>
-        ensures { IfOk result (λ b. StandsFor InBuilder Plain fresh b) }
+        ensures fresh { IfOk result (λ b. StandsFor InBuilder Plain fresh b) }
+        ensures memory { IfErr result (λ error. error ≡ AppendError.OutOfMemory) }
     {
         MessageBuilder::from_target(Vec::new(alloc))
     }
