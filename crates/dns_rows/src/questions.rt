@@ -1,0 +1,233 @@
+//! Questions: read from texts and from octets, printed, and composed.
+use arrayvec::ArrayVec;
+use dns_code::{Class, Rtype};
+use dns_item::question::{FromStrError, PresentationError, PresentationErrorEnum};
+use dns_item::{ComposeQuestion, Question};
+use dns_wire::{AppendError, Name, ParseError, Parser, name};
+use std::alloc::Global;
+use std::process::Abort;
+use std::test::Fail;
+
+/// The octets of example.com. A IN.
+const EXAMPLE: &[u8] = b"\x07example\x03com\x00\x00\x01\x00\x01";
+
+/// Texts of the question example.com. A IN.
+const SPELLINGS: [&str; 5] = [
+    "example.com A",
+    "example.com. IN a",
+    "example.com A IN",
+    "\t example.com\u{3000}in  TYPE1\n",
+    "example.com. a class1",
+];
+
+/// A text, what is wrong with it, and how that is printed.
+#[derive(Clone, Copy)]
+struct Faulty {
+    text: &'static str,
+    kind: PresentationErrorEnum,
+    printed: &'static str,
+}
+
+const FAULTY: [Faulty; 15] = [
+    Faulty {
+        text: "",
+        kind: PresentationErrorEnum::MissingQname,
+        printed: "missing qname",
+    },
+    Faulty {
+        text: " \t\u{2003}\n",
+        kind: PresentationErrorEnum::MissingQname,
+        printed: "missing qname",
+    },
+    Faulty {
+        text: "a",
+        kind: PresentationErrorEnum::MissingClassAndQtype,
+        printed: "missing class and qtype",
+    },
+    Faulty {
+        text: "a IN",
+        kind: PresentationErrorEnum::MissingQtype,
+        printed: "missing qtype",
+    },
+    Faulty {
+        text: "a xx",
+        kind: PresentationErrorEnum::BadQtype,
+        printed: "invalid qtype",
+    },
+    Faulty {
+        text: "a xx IN b",
+        kind: PresentationErrorEnum::BadQtype,
+        printed: "invalid qtype",
+    },
+    Faulty {
+        text: "a IN IN",
+        kind: PresentationErrorEnum::BadQtype,
+        printed: "invalid qtype",
+    },
+    Faulty {
+        text: "a IN xx b",
+        kind: PresentationErrorEnum::BadQtype,
+        printed: "invalid qtype",
+    },
+    Faulty {
+        text: "a A xx",
+        kind: PresentationErrorEnum::BadClass,
+        printed: "invalid class",
+    },
+    Faulty {
+        text: "a A xx b",
+        kind: PresentationErrorEnum::BadClass,
+        printed: "invalid class",
+    },
+    Faulty {
+        text: "a IN A b",
+        kind: PresentationErrorEnum::TrailingData,
+        printed: "trailing data",
+    },
+    Faulty {
+        text: "a A IN b c",
+        kind: PresentationErrorEnum::TrailingData,
+        printed: "trailing data",
+    },
+    Faulty {
+        text: "a..b",
+        kind: PresentationErrorEnum::BadName(name::PresentationError::EmptyLabel),
+        printed: "empty label",
+    },
+    Faulty {
+        text: "a\\256 xx b c",
+        kind: PresentationErrorEnum::BadName(name::PresentationError::BadEscape),
+        printed: "illegal escape",
+    },
+    Faulty {
+        text: "\u{e9} IN A",
+        kind: PresentationErrorEnum::BadName(name::PresentationError::BadSymbol),
+        printed: "illegal symbol",
+    },
+];
+
+/// Reads a question into a buffer.
+fn buffered(text: &str) -> Result<Question<Name<ArrayVec<u8, 255>>>, FromStrError> {
+    text.parse::<Question<Name<ArrayVec<u8, 255>>>>()
+}
+
+/// The octets of a question.
+fn composed<Q: ComposeQuestion>(alloc: Global, question: &Q) -> Result<Vec<u8>, AppendError> {
+    let mut target = Vec::new(alloc);
+    question.compose_question(&mut target)?;
+    Ok(target)
+}
+
+/// The kind of fault and its text.
+fn assert_faulty(
+    rt: &impl Abort,
+    alloc: Global,
+    error: Option<FromStrError>,
+    case: Faulty,
+) -> Result<(), Fail> {
+    let Some(FromStrError::Presentation(error)) = error else {
+        panic!(rt; "{}", case.text);
+    };
+    assert!(rt; error.kind() == case.kind, "{}", case.text);
+    assert_eq!(rt; error.to_string(alloc)?.as_str(), case.printed);
+    assert_eq!(rt; case.kind.to_string(alloc)?.as_str(), case.printed);
+    let error = FromStrError::Presentation(error);
+    assert_eq!(rt; error.to_string(alloc)?.as_str(), case.printed);
+    Ok(())
+}
+
+#[test]
+fn reads_spellings(rt: HostRuntime) -> Result<(), Fail> {
+    let first = Question::vec_from_str(rt.alloc(), "example.com A")?;
+    for text in SPELLINGS {
+        let question = Question::vec_from_str(rt.alloc(), text)?;
+        assert!(rt; question == first, "{text}");
+        assert!(rt; buffered(text)? == buffered("example.com A")?, "{text}");
+        assert_eq!(rt; composed(rt.alloc(), &question)?.as_slice(), EXAMPLE);
+        assert_eq!(rt; composed(rt.alloc(), &buffered(text)?)?.as_slice(), EXAMPLE);
+    }
+    assert!(rt; buffered("example.com CH ANY")? != buffered("example.com ANY")?);
+    Ok(())
+}
+
+#[test]
+fn tells_what_is_wrong(rt: HostRuntime) -> Result<(), Fail> {
+    for case in FAULTY {
+        let read = Question::vec_from_str(rt.alloc(), case.text);
+        assert_faulty(&rt, rt.alloc(), read.err(), case)?;
+        assert_faulty(&rt, rt.alloc(), buffered(case.text).err(), case)?;
+    }
+    Ok(())
+}
+
+#[test]
+fn converts_errors(rt: HostRuntime) -> Result<(), Fail> {
+    let fault = name::PresentationError::LongName;
+    let error = PresentationError::from(fault);
+    assert!(rt; error.kind() == PresentationErrorEnum::BadName(fault));
+    let presentation = name::FromStrError::Presentation(fault);
+    assert!(rt; FromStrError::from(presentation) == FromStrError::Presentation(error));
+    let short = FromStrError::from(name::FromStrError::ShortBuf);
+    assert_eq!(rt;
+        short.to_string(rt.alloc())?.as_str(),
+        "buffer size exceeded"
+    );
+    let memory = FromStrError::from(name::FromStrError::OutOfMemory);
+    assert_eq!(rt; memory.to_string(rt.alloc())?.as_str(), "out of memory");
+    Ok(())
+}
+
+#[test]
+fn prints(rt: HostRuntime) -> Result<(), Fail> {
+    let question = buffered("Example.COM aaaa")?;
+    assert_eq!(rt;
+        question.to_string(rt.alloc())?.as_str(),
+        "Example.COM.\tAAAA\tIN"
+    );
+    let question = Question::vec_from_str(rt.alloc(), ". CLASS254 TYPE65280")?;
+    assert_eq!(rt;
+        question.to_string(rt.alloc())?.as_str(),
+        ".\tTYPE65280\tCLASS254"
+    );
+    Ok(())
+}
+
+#[test]
+fn composes_tuples(rt: HostRuntime) -> Result<(), Fail> {
+    let triple = composed(rt.alloc(), &(Name::root_slice(), Rtype::NS, Class::CH))?;
+    assert_eq!(rt; triple.as_slice(), b"\x00\x00\x02\x00\x03".as_slice());
+    let pair = composed(rt.alloc(), &(Name::root_slice(), Rtype::SOA))?;
+    assert_eq!(rt; pair.as_slice(), b"\x00\x00\x06\x00\x01".as_slice());
+    Ok(())
+}
+
+#[test]
+fn makes_questions_of_tuples(rt: HostRuntime) -> Result<(), Fail> {
+    let root = Name::root_slice();
+    let triple = Question::from((&root, Rtype::MX, Class::HS));
+    assert_eq!(rt;
+        composed(rt.alloc(), &triple)?.as_slice(),
+        b"\x00\x00\x0f\x00\x04".as_slice()
+    );
+    let pair = Question::from((&root, Rtype::TXT));
+    assert_eq!(rt;
+        composed(rt.alloc(), &&pair)?.as_slice(),
+        b"\x00\x00\x10\x00\x01".as_slice()
+    );
+    Ok(())
+}
+
+#[test]
+fn passes_broken_names(rt: HostRuntime) -> Result<(), Fail> {
+    let looped = b"\x00\x00\x00\x00\x00\x01\x00\x00\x00\x00\x00\x00\x01a\xc0\x0c\x00\x01\x00\x01";
+    let itself = b"\x00\x00\x00\x00\x00\x01\x00\x00\x00\x00\x00\x00\xc0\x0c\x00\x01\x00\x01";
+    for (octets, end) in [(looped.as_slice(), 20), (itself.as_slice(), 18)] {
+        let mut parser = Parser::new(octets);
+        parser.seek(12)?;
+        assert!(rt; matches!(Question::parse(&mut parser), Err(ParseError::Form(_))));
+        assert_eq!(rt; parser.pos(), 12);
+        Question::skip(&mut parser)?;
+        assert_eq!(rt; parser.pos(), end);
+    }
+    Ok(())
+}
