@@ -38,7 +38,12 @@ pub mod record {
     pub use dns_item::Ttl;
 }
 
+mod fault;
+mod line;
+mod output;
+mod program;
 pub mod script;
+mod stage;
 
 pub mod target {
     //! What messages are written to.
@@ -55,3 +60,4 @@ pub mod wire {
 }
 
 pub use dns_item::question;
+pub use program::tool;

@@ -26,6 +26,8 @@ mod orders;
 #[cfg(test)]
 mod parser;
 #[cfg(test)]
+mod program;
+#[cfg(test)]
 mod questions;
 #[cfg(test)]
 mod targets;

@@ -1,0 +1,15 @@
+-- How the program ends early: with which status, and which line it prints.
+use Rattle.std.specs.Prelude.{ℕ, List, [], ◌∷◌, ◌++◌, codes, decimal}
+use Rattle.dns_message.specs.declared.fault.Fault.{Fault}
+use Rattle.dns_message.specs.declared.fault.Fault.TheVariants.{Usage, BadLine, Failed}
+
+abbrev pub status_of : Fault → ℕ
+status_of (BadLine n) = 1
+status_of Usage = 2
+status_of Failed = 3
+
+-- the line, with its line feed
+abbrev pub fault_line : Fault → List ℕ
+fault_line (BadLine n) = codes "bad line " ++ decimal n ++ 10 ∷ []
+fault_line Usage = codes "usage: dnsmsg build TARGET | dnsmsg show" ++ 10 ∷ []
+fault_line Failed = codes "failed" ++ 10 ∷ []

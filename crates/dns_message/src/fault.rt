@@ -1,0 +1,69 @@
+//! Why the program ends early.
+ghost use Rattle.std.specs.Prelude.{◌≡◌, OnOk};
+ghost use Rattle.std.specs.Io.KnownBytes.{Appends};
+ghost use Rattle.dns_message.specs.Faults.{fault_line, status_of};
+ghost use Rattle.dns_message.specs.declared.fault.Fault.TheVariants as faults;
+
+use dns_wire::AppendError;
+use std::alloc::AllocError;
+use std::io;
+use std::io::Write;
+
+/// Why the program ends before all is done.
+#[derive(Clone, Copy, Debug)]
+pub(crate) enum Fault {
+    /// The arguments aren't those of the program.
+    Usage,
+    /// The line with this number, from 1, can't be read, or its call is misplaced.
+    BadLine(usize),
+    /// Reading, writing or memory failed.
+    Failed,
+}
+
+impl From<io::Error> for Fault {
+    ghost from_gives = { λ _ fault. fault ≡ faults.Failed };
+
+    fn from(_: io::Error) -> Self {
+        Fault::Failed
+    }
+}
+
+impl From<AllocError> for Fault {
+    ghost from_gives = { λ _ fault. fault ≡ faults.Failed };
+
+    fn from(_: AllocError) -> Self {
+        Fault::Failed
+    }
+}
+
+impl From<AppendError> for Fault {
+    ghost from_gives = { λ _ fault. fault ≡ faults.Failed };
+
+    fn from(_: AppendError) -> Self {
+        Fault::Failed
+    }
+}
+
+impl Fault {
+    /// The exit status.
+    pub(crate) fn status(self) -> u8
+        ensures { result ≡ status_of self }
+    {
+        match self {
+            Fault::BadLine(_) => 1,
+            Fault::Usage => 2,
+            Fault::Failed => 3,
+        }
+    }
+
+    /// Prints a line that tells the fault.
+    pub(crate) fn print<W: Write>(self, writer: &mut W) -> io::Result<()>
+        ensures { OnOk result (Appends (W.contents writer.old) (W.contents writer.new) (fault_line self)) }
+    {
+        match self {
+            Fault::BadLine(number) => writeln!(writer, "bad line {number}"),
+            Fault::Usage => writeln!(writer, "usage: dnsmsg build TARGET | dnsmsg show"),
+            Fault::Failed => writeln!(writer, "failed"),
+        }
+    }
+}

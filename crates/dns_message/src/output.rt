@@ -1,0 +1,68 @@
+//! What the program prints: replies, octets and why it ends early.
+ghost use Rattle.std.specs.Prelude.{◌≡◌, ◌<◌, ◌/◌, ◌%◌, ◌++◌, ◌∷◌, [], OnOk, codes, decimal};
+ghost use Rattle.std.specs.Io.KnownBytes.{Appends};
+ghost use Rattle.dns_message.specs.Output.{hex_digit, hex_pair, hex_text, refusal};
+
+use crate::script::Reply;
+use dns_build::PushError;
+use std::io;
+use std::io::Write;
+
+/// The lower-case hexadecimal digit of a number.
+fn hex_digit_of(number: u8) -> u8
+    requires { number < 16 }
+    ensures { result ≡ hex_digit number }
+{
+    match number {
+        0..=9 => b'0' + number,
+        _ => b'a' + (number - 10),
+    }
+}
+
+/// The two lower-case hexadecimal digits of an octet.
+fn hex_pair_of(octet: u8) -> [u8; 2]
+    ensures { result ≡ hex_pair octet }
+{
+    [hex_digit_of(octet / 16), hex_digit_of(octet % 16)]
+}
+
+/// Prints octets as one line of lower-case hexadecimal digits.
+pub(crate) fn print_octets<W: Write>(writer: &mut W, octets: &[u8]) -> io::Result<()>
+    ensures { OnOk result (Appends (W.contents writer.old) (W.contents writer.new) (hex_text octets.now ++ 10 ∷ [])) }
+{
+    for octet in octets {
+        writer.write_all(&hex_pair_of(*octet))?;
+    }
+    writer.write_all(b"\n")
+}
+
+/// The word that tells a refusal.
+fn word_of(error: PushError) -> &'static str
+    ensures { result.now ≡ refusal error }
+{
+    match error {
+        PushError::ShortBuf => "short",
+        PushError::LimitExceeded => "limit",
+        PushError::CountOverflow => "count",
+        PushError::OutOfMemory => "memory",
+    }
+}
+
+/// Prints that a call was done, with the length of the message behind it.
+pub(crate) fn print_done<W: Write>(writer: &mut W, len: usize) -> io::Result<()>
+    ensures { OnOk result (Appends (W.contents writer.old) (W.contents writer.new) (codes "ok " ++ decimal len ++ 10 ∷ [])) }
+{
+    writeln!(writer, "ok {len}")
+}
+
+/// Prints that a push was refused, with the length of the message behind it.
+pub(crate) fn print_refused<W: Write>(
+    writer: &mut W,
+    error: PushError,
+    len: usize,
+) -> io::Result<()>
+    ensures { OnOk result (Appends (W.contents writer.old) (W.contents writer.new) (codes "refused " ++ refusal error ++ 32 ∷ decimal len ++ 10 ∷ [])) }
+{
+    let word = word_of(error);
+    writeln!(writer, "refused {word} {len}")
+}

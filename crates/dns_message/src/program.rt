@@ -1,0 +1,177 @@
+//! The work of the program `dnsmsg`.
+ghost use Rattle.std.specs.Prelude.{◌≤◌};
+
+use crate::fault::Fault;
+use crate::line::Line;
+use crate::script::{Call, Reply, Stage, run};
+use crate::{line, output};
+use arrayvec::ArrayVec;
+use dns_build::MessageBuilder;
+use dns_code::Header;
+use dns_item::Question;
+use dns_item::question::FromStrError;
+use dns_wire::{Composer, Name};
+use std::alloc::{AllocError, Global};
+use std::io;
+use std::io::{Read, Write};
+
+/// The target that a message is built over.
+#[derive(Clone, Copy, Debug)]
+enum Target {
+    /// A vector.
+    Plain,
+    /// An array of 512 octets.
+    Fixed,
+}
+
+impl Target {
+    fn of_arguments(args: &[String]) -> Option<Self> {
+        let [verb, target] = args else {
+            return None;
+        };
+        match (verb.as_str(), target.as_str()) {
+            ("build", "plain") => Some(Target::Plain),
+            ("build", "fixed") => Some(Target::Fixed),
+            _ => None,
+        }
+    }
+}
+
+/// Does what the program `dnsmsg` does with the words behind its name, and gives its exit status.
+///
+/// `build TARGET` reads a script, builds a message over the target, and prints the replies and the octets. The status is
+/// 0; 1 where a line is bad; 2 for other words; 3 where reading, writing or memory fails, but for a push that is refused.
+pub fn tool<R: Read + Drop, W: Write + Drop>(
+    alloc: Global,
+    args: &[String],
+    reader: R,
+    writer: W,
+) -> u8
+    ensures { result ≤ 3 }
+{
+    let mut reader = reader;
+    let mut writer = writer;
+    let Err(fault) = perform(alloc, args, &mut reader, &mut writer) else {
+        return 0;
+    };
+    if tell(fault, &mut writer).is_ok() {
+        return fault.status();
+    }
+    let _ = tell(Fault::Failed, &mut writer);
+    Fault::Failed.status()
+}
+
+/// Prints a line that tells the fault.
+fn tell<W: Write>(fault: Fault, writer: &mut W) -> io::Result<()> {
+    fault.print(writer)?;
+    writer.flush()
+}
+
+fn perform<R: Read, W: Write>(
+    alloc: Global,
+    args: &[String],
+    reader: &mut R,
+    writer: &mut W,
+) -> Result<(), Fault> {
+    let Some(target) = Target::of_arguments(args) else {
+        return Err(Fault::Usage);
+    };
+    let mut script = Vec::new(alloc);
+    reader.read_to_end(&mut script)?;
+    match target {
+        Target::Plain => {
+            let built = build(alloc, MessageBuilder::new_vec(alloc)?, &script, writer)?;
+            output::print_octets(writer, built.as_slice())?;
+        }
+        Target::Fixed => {
+            let builder = MessageBuilder::from_target(ArrayVec::<u8, 512>::new())?;
+            let built = build(alloc, builder, &script, writer)?;
+            output::print_octets(writer, built.as_slice())?;
+        }
+    }
+    writer.flush()?;
+    Ok(())
+}
+
+/// Builds a message as a script says, prints the replies, and gives the target with the message.
+fn build<T: Composer, W: Write>(
+    alloc: Global,
+    builder: MessageBuilder<T>,
+    script: &[u8],
+    writer: &mut W,
+) -> Result<T, Fault> {
+    let mut stage = Stage::Builder(builder);
+    let lines = script.split_inclusive(|octet| *octet == b'\n');
+    for (number, line) in (1..=usize::MAX).zip(lines) {
+        let line = line.strip_suffix(b"\n").unwrap_or(line);
+        if !line::is_passed_over(line) {
+            stage = follow(alloc, stage, number, line, writer)?;
+        }
+    }
+    Ok(stage.finish())
+}
+
+/// Makes the call of a line, and prints the reply.
+fn follow<T: Composer, W: Write>(
+    alloc: Global,
+    stage: Stage<T>,
+    number: usize,
+    line: &[u8],
+    writer: &mut W,
+) -> Result<Stage<T>, Fault> {
+    let Some(line) = line::read(alloc, line)? else {
+        return Err(Fault::BadLine(number));
+    };
+    let Some(call) = call_of(alloc, stage.header(), line)? else {
+        return Err(Fault::BadLine(number));
+    };
+    let (stage, reply) = make(alloc, stage, call)?;
+    let len = stage.as_slice().len();
+    match reply {
+        Reply::Done => output::print_done(writer, len)?,
+        Reply::Refused(error) => output::print_refused(writer, error, len)?,
+        Reply::Misplaced => return Err(Fault::BadLine(number)),
+    }
+    Ok(stage)
+}
+
+/// A call of a script.
+type ScriptCall = Call<Question<Name<Vec<u8>>>>;
+
+/// The call that a line asks for where the header is this one, `None` where there is none.
+fn call_of(alloc: Global, header: Header, line: Line) -> Result<Option<ScriptCall>, AllocError> {
+    match line {
+        Line::ToBuilder => Ok(Some(Call::ToBuilder)),
+        Line::ToQuestion => Ok(Some(Call::ToQuestion)),
+        Line::Rewind => Ok(Some(Call::Rewind)),
+        Line::Push(words) => push_of(alloc, &words),
+        Line::Limit(limit) => Ok(Some(Call::SetLimit(limit))),
+        Line::NoLimit => Ok(Some(Call::ClearLimit)),
+        Line::Change(change) => Ok(Some(Call::SetHeader(change.made_to(header)))),
+    }
+}
+
+/// The push of the question that the words spell, `None` where they spell none.
+fn push_of(alloc: Global, words: &str) -> Result<Option<ScriptCall>, AllocError> {
+    match Question::<Name<Vec<u8>>>::vec_from_str(alloc, words) {
+        Ok(question) => Ok(Some(Call::PushQuestion(question))),
+        Err(FromStrError::OutOfMemory) => Err(AllocError),
+        Err(_) => Ok(None),
+    }
+}
+
+/// Makes one call.
+fn make<T: Composer>(
+    alloc: Global,
+    stage: Stage<T>,
+    call: ScriptCall,
+) -> Result<(Stage<T>, Reply), AllocError> {
+    let mut replies = Vec::new(alloc);
+    let Ok(stage) = run(stage, &[call], &mut replies) else {
+        return Err(AllocError);
+    };
+    match replies.pop() {
+        Some(reply) => Ok((stage, reply)),
+        None => Err(AllocError),
+    }
+}

@@ -1,0 +1,30 @@
+//! What a stage gives of its builder.
+ghost use Rattle.std.specs.Prelude.{◌≡◌};
+ghost use Rattle.dns_build.specs.State.{State};
+ghost use Rattle.dns_message.specs.Script.{StageStandsFor, built_of};
+
+use crate::script::Stage;
+use dns_code::Header;
+use dns_wire::Composer;
+
+impl<T: Composer> Stage<T> {
+    /// The header as it stands.
+    pub fn header(&self) -> Header
+        ensures { (s : State) → StageStandsFor T.rule s self.now → result ≡ s.header }
+    {
+        match self {
+            Stage::Builder(builder) => builder.header(),
+            Stage::Question(builder) => builder.header(),
+        }
+    }
+
+    /// The target with the message.
+    pub fn finish(self) -> T
+        ensures { T.written result ≡ (built_of self).written }
+    {
+        match self {
+            Stage::Builder(builder) => builder.finish(),
+            Stage::Question(builder) => builder.finish(),
+        }
+    }
+}

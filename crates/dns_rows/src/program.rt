@@ -1,0 +1,319 @@
+//! The program `dnsmsg`: what it prints, and its status.
+use dns_message::tool;
+use std::alloc::Global;
+use std::io::{ErrorKind, Read, Write};
+use std::process::Abort;
+use std::test::Fail;
+use std::{io, str};
+
+/// Words behind the program's name, what is on standard input, and what is printed with which status.
+type Run<'a> = (&'a [&'a str], &'a [u8], &'a str, u8);
+
+fn strings(alloc: Global, words: &[&str]) -> Result<Vec<String>, Fail> {
+    let mut strings = Vec::new(alloc);
+    for word in words {
+        strings.push(String::from_str(alloc, word)?)?;
+    }
+    Ok(strings)
+}
+
+fn assert_runs(rt: &impl Abort, alloc: Global, runs: &[Run<'_>]) -> Result<(), Fail> {
+    for (words, input, printed, status) in runs {
+        let mut output = Vec::new(alloc);
+        let ended = tool(alloc, &strings(alloc, words)?, *input, &mut output);
+        let output = str::from_utf8(&output)?;
+        assert_eq!(rt; output, *printed);
+        assert_eq!(rt; ended, *status, "after {output}");
+    }
+    Ok(())
+}
+
+/// The words for a vector.
+const PLAIN: &[&str] = &["build", "plain"];
+
+#[test]
+fn builds_messages(rt: HostRuntime) -> Result<(), Fail> {
+    let runs: [Run<'_>; 6] = [
+        // first run
+        (
+            PLAIN,
+            b"question\npush example.com. A\n",
+            "ok 12\nok 29\n000000000001000000000000076578616d706c6503636f6d0000010001\n",
+            0,
+        ),
+        // root question
+        (
+            PLAIN,
+            b"question\npush . A\n",
+            "ok 12\nok 17\n0000000000010000000000000000010001\n",
+            0,
+        ),
+        // header fields
+        (
+            PLAIN,
+            b"id 4660\nopcode 4\nflags QR AA\nrcode 3\n",
+            "ok 12\nok 12\nok 12\nok 12\n1234a4030000000000000000\n",
+            0,
+        ),
+        // the same with leading zeros, and into an array
+        (
+            &["build", "fixed"],
+            b"id 0000000000000000000000004660\nopcode 04\nflags qr Aa\nrcode 003\n",
+            "ok 12\nok 12\nok 12\nok 12\n1234a4030000000000000000\n",
+            0,
+        ),
+        // flags anew, a rewind and a move back
+        (
+            PLAIN,
+            b"flags TC\nflags\nquestion\npush . A\nrewind\npush . A\nbuilder\n",
+            "ok 12\nok 12\nok 12\nok 17\nok 12\nok 17\nok 12\n000000000000000000000000\n",
+            0,
+        ),
+        // nothing
+        (PLAIN, b"", "000000000000000000000000\n", 0),
+    ];
+    assert_runs(&rt, rt.alloc(), &runs)
+}
+
+#[test]
+fn takes_lines_apart(rt: HostRuntime) -> Result<(), Fail> {
+    let built = "ok 12\nok 17\n0000000000010000000000000000010001\n";
+    let runs: [Run<'_>; 6] = [
+        // empty lines and comments
+        (PLAIN, b"# a\n\n#\nquestion\n\npush . A\n#b", built, 0),
+        // spaces and tabs
+        (PLAIN, b" question\t\npush\t .\tA IN  \n", built, 0),
+        // no line feed behind the last line
+        (PLAIN, b"question\npush . A", built, 0),
+        // a carriage return is a character of its line, and white space of a question
+        (PLAIN, b"#\r\nquestion\npush . A\r\n", built, 0),
+        (PLAIN, b"question\r\n", "bad line 1\n", 1),
+        // a tab between flags
+        (
+            PLAIN,
+            b"flags QR\tRD\n",
+            "ok 12\n000081000000000000000000\n",
+            0,
+        ),
+    ];
+    assert_runs(&rt, rt.alloc(), &runs)
+}
+
+#[test]
+fn refuses_bad_lines(rt: HostRuntime) -> Result<(), Fail> {
+    let lines: [&[u8]; 33] = [
+        b"rcode 16",
+        b"push . A",
+        b"rewind",
+        b"bogus",
+        b" ",
+        b"\t \t",
+        b" #",
+        b"\r",
+        b"# \xC3\xA9",
+        b"#\xFF",
+        b"\xC3\xA9",
+        b"flags \xC3\xA9",
+        b"Question",
+        b"question question",
+        b"question\x00",
+        b"nolimit 1",
+        b"limit",
+        b"limit 1 1",
+        b"limit +1",
+        b"limit -1",
+        b"limit 0x1",
+        b"limit 1.",
+        b"limit 18446744073709551616",
+        b"id",
+        b"id 65536",
+        b"id a",
+        b"opcode 16",
+        b"opcode 18446744073709551616",
+        b"rcode",
+        b"flags XX",
+        b"flags QRAA",
+        b"push",
+        b"show",
+    ];
+    for line in lines {
+        assert_runs(&rt, rt.alloc(), &[(PLAIN, line, "bad line 1\n", 1)])?;
+    }
+    Ok(())
+}
+
+#[test]
+fn numbers_bad_lines(rt: HostRuntime) -> Result<(), Fail> {
+    let runs: [Run<'_>; 4] = [
+        (
+            PLAIN,
+            b"question\nrewind",
+            "ok 12\nok 12\n000000000000000000000000\n",
+            0,
+        ),
+        (PLAIN, b"question\ntcrewind\n", "ok 12\nbad line 2\n", 1),
+        (
+            PLAIN,
+            b"\n# a\nquestion\npush\nbogus\n",
+            "ok 12\nbad line 4\n",
+            1,
+        ),
+        (
+            PLAIN,
+            b"question\npush . A\nbuilder\npush . A\n",
+            "ok 12\nok 17\nok 12\nbad line 4\n",
+            1,
+        ),
+    ];
+    assert_runs(&rt, rt.alloc(), &runs)
+}
+
+#[test]
+fn tells_refusals_by_the_limit(rt: HostRuntime) -> Result<(), Fail> {
+    let runs: [Run<'_>; 2] = [
+        (
+            PLAIN,
+            b"question\nlimit 16\npush . A\nlimit 17\npush . A\npush . A\n",
+            "ok 12\nok 12\nrefused limit 12\nok 12\nok 17\nrefused limit 17\n0000000000010000000000000000010001\n",
+            0,
+        ),
+        (
+            PLAIN,
+            b"limit 0\nquestion\npush . A\nnolimit\npush . A\nlimit 18446744073709551615\n",
+            "ok 12\nok 12\nrefused limit 12\nok 12\nok 17\nok 17\n0000000000010000000000000000010001\n",
+            0,
+        ),
+    ];
+    assert_runs(&rt, rt.alloc(), &runs)
+}
+
+/// The line with this place from 0 of what is printed for an array, the lines and then 101 pushes of five octets.
+fn assert_line(
+    rt: &impl Abort,
+    alloc: Global,
+    lines: &str,
+    place: usize,
+    printed: &str,
+) -> Result<(), Fail> {
+    let mut script = String::from_str(alloc, lines)?;
+    for _ in 0..101 {
+        script.push_str("push . A\n")?;
+    }
+    let mut output = Vec::new(alloc);
+    let status = tool(
+        alloc,
+        &strings(alloc, &["build", "fixed"])?,
+        script.as_bytes(),
+        &mut output,
+    );
+    assert_eq!(rt; status, 0);
+    assert_eq!(rt; str::from_utf8(&output)?.lines().nth(place), Some(printed));
+    Ok(())
+}
+
+#[test]
+fn fills_an_array(rt: HostRuntime) -> Result<(), Fail> {
+    let alloc = rt.alloc();
+    assert_line(&rt, alloc, "question\n", 100, "ok 512")?;
+    assert_line(&rt, alloc, "question\n", 101, "refused short 512")?;
+    let limited = "question\nlimit 512\n";
+    assert_line(&rt, alloc, limited, 100, "ok 507")?;
+    assert_line(&rt, alloc, limited, 101, "ok 512")?;
+    assert_line(&rt, alloc, limited, 102, "refused short 512")
+}
+
+#[test]
+fn tells_its_usage(rt: HostRuntime) -> Result<(), Fail> {
+    let usage = "usage: dnsmsg build TARGET | dnsmsg show\n";
+    let runs: [Run<'_>; 6] = [
+        (&[], b"question\n", usage, 2),
+        (&["build"], b"", usage, 2),
+        (&["build", "other"], b"", usage, 2),
+        (&["build", "plain", "plain"], b"", usage, 2),
+        (&["Build", "plain"], b"", usage, 2),
+        (&["show", "plain"], b"", usage, 2),
+    ];
+    assert_runs(&rt, rt.alloc(), &runs)
+}
+
+/// Gives some octets, and then fails.
+#[derive(Drop)]
+struct Cut<'a>(&'a [u8]);
+
+impl Read for Cut<'_> {
+    fn read(&mut self, buf: &mut [u8]) -> io::Result<usize> {
+        if self.0.is_empty() {
+            return Err(io::Error::from(ErrorKind::BrokenPipe));
+        }
+        self.0.read(buf)
+    }
+}
+
+/// Takes octets, but for the write with one number from 0, which fails.
+#[derive(Drop)]
+struct Gap {
+    taken: Vec<u8>,
+    writes: u64,
+    gap: u64,
+}
+
+impl Write for Gap {
+    fn write(&mut self, buf: &[u8]) -> io::Result<usize> {
+        let fails = self.writes == self.gap;
+        self.writes = self.writes.saturating_add(1);
+        if fails {
+            return Err(io::Error::from(ErrorKind::BrokenPipe));
+        }
+        self.taken.write(buf)
+    }
+
+    fn flush(&mut self) -> io::Result<()> {
+        Ok(())
+    }
+}
+
+#[test]
+fn fails_where_reading_fails(rt: HostRuntime) -> Result<(), Fail> {
+    let alloc = rt.alloc();
+    let mut output = Vec::new(alloc);
+    let status = tool(
+        alloc,
+        &strings(alloc, PLAIN)?,
+        Cut(b"question\n"),
+        &mut output,
+    );
+    assert_eq!(rt; str::from_utf8(&output)?, "failed\n");
+    assert_eq!(rt; status, 3);
+    Ok(())
+}
+
+/// The status where the write with this number fails, and how many writes there are.
+fn run_with_gap(alloc: Global, words: &[&str], script: &[u8], gap: u64) -> Result<(u8, Gap), Fail> {
+    let mut writer = Gap {
+        taken: Vec::new(alloc),
+        writes: 0,
+        gap,
+    };
+    let status = tool(alloc, &strings(alloc, words)?, script, &mut writer);
+    Ok((status, writer))
+}
+
+#[test]
+fn fails_where_a_write_fails(rt: HostRuntime) -> Result<(), Fail> {
+    let alloc = rt.alloc();
+    let runs: [(&[&str], &[u8]); 3] = [
+        (PLAIN, b"question\nlimit 17\npush . A\npush . A\n"),
+        (PLAIN, b"question\nbogus\n"),
+        (&[], b""),
+    ];
+    for (words, script) in runs {
+        let (_, whole) = run_with_gap(alloc, words, script, u64::MAX)?;
+        assert!(rt; whole.writes > 0);
+        for gap in 0..whole.writes {
+            let (status, writer) = run_with_gap(alloc, words, script, gap)?;
+            assert_eq!(rt; status, 3, "at the write {gap}");
+            assert!(rt; writer.taken.ends_with(b"failed\n"));
+        }
+    }
+    Ok(())
+}
