@@ -1,9 +1,16 @@
-//! The example of README.md.
-ghost use Rattle.std.specs.Prelude.{◌≡◌, ◌↔◌, IsTrue};
+//! The examples of README.md.
+ghost use Rattle.std.specs.Prelude.{◌≡◌, ◌↔◌, IsTrue, IfOk, ◌∷◌, []};
 ghost use Rattle.dns_wire.specs.Names.{Labels, lowered};
 ghost use Rattle.dns_wire.specs.Standing.{Stands};
+ghost use Rattle.dns_read.specs.Message.{message_octets};
+ghost use Rattle.dns_rows.specs.Tour.{HasQuestions};
 
-use dns_wire::{Name, ParsedName, Parser, ToName, ToNameExt};
+use dns_message::builder::{MessageBuilder, PushError};
+use dns_message::code::Rtype;
+use dns_message::message::Message;
+use dns_message::name::{Name, ParsedName, ToName, ToNameExt};
+use dns_message::wire::Parser;
+use std::alloc::Global;
 use std::test::Fail;
 
 /// Whether the name that stands at the start of the octets is this one, up to ASCII case.
@@ -22,5 +29,24 @@ fn finds_a_name(rt: HostRuntime) -> Result<(), Fail> {
     assert!(rt; begins_with(b"\x07EXAMPLE\x03com\x00\x00\x01\x00\x01", &name));
     assert!(rt; !begins_with(b"\x03com\x00", &name));
     assert!(rt; !begins_with(b"\x07example", &name));
+    Ok(())
+}
+
+/// The message that asks for the IPv4 address of a name.
+fn address_query<N: ToName + Drop>(alloc: Global, name: N) -> Result<Message<Vec<u8>>, PushError>
+    ensures { IfOk result (λ message. HasQuestions (message_octets message) (record { name = N.name name; rtype = 1; class = 1 } ∷ [])) }
+{
+    let mut builder = MessageBuilder::new_vec(alloc)?.question();
+    builder.push((name, Rtype::A))?;
+    Ok(builder.into_message())
+}
+
+#[test]
+fn asks_for_an_address(rt: HostRuntime) -> Result<(), Fail> {
+    let query = address_query(rt.alloc(), Name::from_octets(*b"\x07example\x03com\x00")?)?;
+    for question in query.question() {
+        assert!(rt; begins_with(b"\x07EXAMPLE\x03com\x00", question?.qname()));
+    }
+    assert_eq!(rt; query.as_slice().len(), 29);
     Ok(())
 }

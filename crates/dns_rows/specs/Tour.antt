@@ -1,0 +1,9 @@
+-- What an example of README.md says.
+use Rattle.std.specs.Prelude.{◌≡◌, ℕ, List, map, Ok}
+use Rattle.dns_item.specs.Items.{QuestionItem}
+use Rattle.dns_read.specs.QuestionsFrom.{questions_from}
+use Rattle.dns_read.specs.Sections.{header_size, question_count}
+
+-- reading the question section of these octets gives exactly these questions, without a fault
+abbrev pub HasQuestions : List ℕ → List QuestionItem → Type 0
+HasQuestions b questions = questions_from b (question_count b) header_size ≡ map Ok questions
