@@ -156,7 +156,10 @@ fn moves_and_rewinds_take_questions_out(rt: HostRuntime) -> Result<(), Fail> {
     builder.set_push_limit(100);
     builder.push(root_question())?;
     builder.rewind();
-    assert_eq!(rt; builder.as_slice(), b"\x12\x34\xA0\x05\x00\x00\x00\x00\x00\x00\x00\x00".as_slice());
+    assert_eq!(rt;
+        builder.as_slice(),
+        b"\x12\x34\xA0\x05\x00\x00\x00\x00\x00\x00\x00\x00".as_slice()
+    );
     builder.push(root_question())?;
     let builder = builder.question();
     assert_eq!(rt; builder.as_slice().len(), 17);
@@ -242,8 +245,16 @@ fn assert_25_names<T: Composer>(rt: &impl Abort, target: T, len: usize) -> Resul
 #[test]
 fn a_static_compressor_holds_24_suffixes(rt: HostRuntime) -> Result<(), Fail> {
     assert_25_names(&rt, StaticCompressor::new(Vec::new(rt.alloc())), 194)?;
-    assert_25_names(&rt, TreeCompressor::new(rt.alloc(), Vec::new(rt.alloc())), 193)?;
-    assert_25_names(&rt, HashCompressor::new(rt.alloc(), Vec::new(rt.alloc())), 193)
+    assert_25_names(
+        &rt,
+        TreeCompressor::new(rt.alloc(), Vec::new(rt.alloc())),
+        193,
+    )?;
+    assert_25_names(
+        &rt,
+        HashCompressor::new(rt.alloc(), Vec::new(rt.alloc())),
+        193,
+    )
 }
 
 /// An empty message over a target is twelve zero octets.

@@ -1,6 +1,12 @@
 //! Targets that compress names (RFC 1035 section 4.1.4), each over a target that doesn't.
 //!
-//! A compressor is a `Composer`: what its calls promise is said there, and its rule says how names are written.
+//! A compressor is a `Composer`: what its calls promise is said there, and its rule says how names are written. Each knows
+//! a suffix again only octet for octet, and a cut forgets exactly the names that end behind it.
+//!
+//! - [`StaticCompressor`] remembers 24 suffixes by their places, and takes no memory of its own.
+//! - [`TreeCompressor`] remembers each suffix that a pointer can lead to.
+//! - [`HashCompressor`] does so by a hash that is fast and has no seed, for names that no stranger chooses. A name of which
+//!   a suffix begins too far for a pointer isn't remembered at all.
 #![tactic(auto)]
 
 mod hash_compressor;

@@ -193,6 +193,7 @@ impl Suffixes {
         ensures suffixes { self.new.suffixes ≡ record { label = label.now; rest = rest; place = place; end = end } ∷ self.old.suffixes }
         ensures room { self.old.room ≤ self.new.room + 1 }
     {
+        // There is room for it, and the key is new.
         let _ = self.places.insert(key_of(label, rest), place);
         self.keys.push_reserved(EndedKey {
             key: key_of(label, rest),
