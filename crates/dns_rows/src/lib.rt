@@ -14,6 +14,8 @@ mod error;
 #[cfg(test)]
 mod header;
 #[cfg(test)]
+mod history;
+#[cfg(test)]
 mod messages;
 #[cfg(test)]
 mod name_texts;
