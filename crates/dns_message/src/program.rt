@@ -79,28 +79,33 @@ fn perform<R: Read, W: Write>(
     let mut script = Vec::new(alloc);
     reader.read_to_end(&mut script)?;
     match target {
-        Target::Plain => {
-            let built = build(alloc, MessageBuilder::new_vec(alloc)?, &script, writer)?;
-            output::print_octets(writer, built.as_slice())?;
-        }
-        Target::Fixed => {
-            let builder = MessageBuilder::from_target(ArrayVec::<u8, 512>::new())?;
-            let built = build(alloc, builder, &script, writer)?;
-            output::print_octets(writer, built.as_slice())?;
-        }
+        Target::Plain => print_build(alloc, Vec::new(alloc), &script, writer)?,
+        Target::Fixed => print_build(alloc, ArrayVec::<u8, 512>::new(), &script, writer)?,
     }
     writer.flush()?;
     Ok(())
 }
 
-/// Builds a message as a script says, prints the replies, and gives the target with the message.
+/// Builds a message over a target as a script says, and prints the replies and the octets.
+fn print_build<T: Composer, W: Write>(
+    alloc: Global,
+    target: T,
+    script: &[u8],
+    writer: &mut W,
+) -> Result<(), Fault> {
+    let built = build(alloc, target, script, writer)?;
+    output::print_octets(writer, built.as_slice())?;
+    Ok(())
+}
+
+/// Builds a message over a target as a script says, prints the replies, and gives the target with the message.
 fn build<T: Composer, W: Write>(
     alloc: Global,
-    builder: MessageBuilder<T>,
+    target: T,
     script: &[u8],
     writer: &mut W,
 ) -> Result<T, Fault> {
-    let mut stage = Stage::Builder(builder);
+    let mut stage = Stage::Builder(MessageBuilder::from_target(target)?);
     let lines = script.split_inclusive(|octet| *octet == b'\n');
     for (number, line) in (1..=usize::MAX).zip(lines) {
         let line = line.strip_suffix(b"\n").unwrap_or(line);
