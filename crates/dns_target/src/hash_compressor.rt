@@ -4,9 +4,10 @@ ghost use Rattle.dns_wire.specs.Memory.{nothing};
 ghost use Rattle.dns_wire.specs.Pieces.{Plain, Hash as HashRule};
 ghost use Rattle.dns_target.specs.Rules.{hash_not_plain};
 
-use crate::label_starts::LabelStarts;
+use crate::label_starts::{LabelStarts, write_out};
 use crate::suffixes::Suffixes;
-use crate::texts::{reaches, shortened};
+use crate::texts::{append_found, reaches};
+use arrayvec::ArrayVec;
 use dns_wire::{AppendError, CloneTarget, Composer, FreezeBuilder, ToName};
 use std::alloc::{AllocError, Global};
 use std::convert::AsSlice;
@@ -106,14 +107,17 @@ impl<Target: Composer> Composer for HashCompressor<Target> {
     }
 
     fn append_compressed_name<N: ToName>(&mut self, name: &N) -> Result<(), AppendError> {
-        let labels = LabelStarts::new(name.as_parsed());
+        let parsed = name.as_parsed();
+        let mut octets = ArrayVec::new();
+        let mut starts = ArrayVec::new();
+        write_out(&parsed, &mut octets, &mut starts);
+        let labels = LabelStarts::new(parsed, octets.as_slice(), starts.as_slice());
         let place = self.target.as_slice().len();
         let found = self.suffixes.look_up(&labels);
-        let text = shortened(&labels, found);
         if self.suffixes.reserve(found.from).is_err() {
             return Err(AppendError::OutOfMemory);
         }
-        self.target.append_slice(text.as_slice())?;
+        append_found(&mut self.target, &labels, found)?;
         if reaches(&labels, place, found.from) {
             let end = self.target.as_slice().len();
             self.suffixes.remember(&labels, found, place, end);

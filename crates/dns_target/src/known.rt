@@ -3,15 +3,16 @@ ghost use Rattle.std.specs.Prelude.{◌≡◌, ◌++◌, ◌≤◌, ◌<◌, ◌
 ghost use Rattle.std.specs.FinMap.{len};
 ghost use Rattle.dns_wire.specs.Names.{uncompressed, name_size};
 ghost use Rattle.dns_wire.specs.Memory.{remember};
-ghost use Rattle.dns_wire.specs.Pieces.{Tree as TreeRule};
+ghost use Rattle.dns_wire.specs.Pieces.{Tree as TreeRule, put_octets};
 ghost use Rattle.dns_wire.specs.PutName.{spell, pointer};
+ghost use Rattle.dns_wire.specs.Targets.{Appends};
 ghost use Rattle.dns_target.specs.Tree.{IsTree, memory_of, last_end};
 ghost use Rattle.dns_target.specs.Lookup.{IsPath, IsEnd, IsNew, IsWritable, first, nearer as nearer_of, reach as reach_of, tree_text};
 
 use crate::label_starts::LabelStarts;
-use crate::texts::{PLACES_END, reaches, whole, with_pointer};
+use crate::texts::{PLACES_END, append_with_pointer, reaches};
 use crate::tree::Tree;
-use arrayvec::ArrayVec;
+use dns_wire::{AppendError, Composer};
 
 /// What a tree has of a name: the node of the labels from `from` on, and the longest suffix with a place.
 #[derive(Clone, Copy)]
@@ -61,22 +62,23 @@ pub(crate) fn look_up(tree: &Tree, labels: &LabelStarts<'_>) -> Known
     }
 }
 
-/// The octets of a name at a place.
-pub(crate) fn spelled(
+/// Appends the octets of a name at a place.
+pub(crate) fn append_spelled<T: Composer>(
+    target: &mut T,
     labels: &LabelStarts<'_>,
     place: usize,
     pointer: Option<(usize, u16)>,
-) -> ArrayVec<u8, 255>
+) -> Result<(), AppendError>
     requires { IfSome pointer (λ p. IsWritable labels.now p) }
-    ensures { result.items ≡ tree_text place labels.now pointer }
+    ensures { Appends T.room T.grows (put_octets (tree_text place labels.now pointer)) (T.written target.old) (T.written target.new) result }
 {
     let Some((from, at)) = pointer else {
-        return whole(labels);
+        return target.append_slice(labels.octets());
     };
     if reaches(labels, place, from) {
-        return with_pointer(labels, from, at);
+        return append_with_pointer(target, labels, from, at);
     }
-    whole(labels)
+    target.append_slice(labels.octets())
 }
 
 /// A place as a pointer holds it.

@@ -1,19 +1,22 @@
 //! The labels of a name, and where they begin in its octets without pointers.
-ghost use Rattle.std.specs.Prelude.{◌≡◌, ◌≤◌, ◌<◌, ◌+◌, [], length, take, drop, get_or};
-ghost use Rattle.dns_wire.specs.Names.{IsName, uncompressed, name_size, max_size};
+ghost use Rattle.std.specs.Prelude.{◌≡◌, ◌≤◌, ◌<◌, ◌+◌, ◌++◌, [], length, take, drop, get_or};
+ghost use Rattle.arrayvec.specs.ArrayVec.{array_vec_len};
+ghost use Rattle.dns_wire.specs.Label.{label_octets};
+ghost use Rattle.dns_wire.specs.Names.{IsName, framed, uncompressed, name_size, max_size};
 ghost use Rattle.dns_wire.specs.ParsedName.{labels};
+ghost use Rattle.dns_target.specs.Lookup.{IsStarted};
 
 use crate::standing::name_at;
 use arrayvec::ArrayVec;
-use dns_wire::ParsedName;
+use dns_wire::{Label, ParsedName};
 use std::marker::Model;
 
 /// A name with its octets without pointers, and where each label begins in them.
 #[derive(Drop)]
 pub(crate) struct LabelStarts<'a> {
     name: ParsedName<'a>,
-    octets: ArrayVec<u8, 255>,
-    starts: ArrayVec<u8, 128>,
+    octets: &'a [u8],
+    starts: &'a [u8],
 }
 
 impl<'a> Model for LabelStarts<'a> {
@@ -25,21 +28,53 @@ impl<'a> Model for LabelStarts<'a> {
 
     ghost view = { λ l. labels l.name };
 
-    ghost invariant = { λ l. IsStarted (labels l.name) l.octets.items l.starts.items };
+    ghost invariant = { λ l. IsStarted (labels l.name) l.octets.now l.starts.now };
+}
+
+/// Appends a label behind its length octet.
+fn append_label(octets: &mut ArrayVec<u8, 255>, label: Label<'_>)
+    requires { array_vec_len octets.old + length (framed (label_octets label)) ≤ 255 }
+    ensures { octets.new.items ≡ octets.old.items ++ framed (label_octets label.entry) }
+{
+    octets.push(label.len() as u8);
+    octets.try_extend_from_slice(label.as_slice()).unwrap();
+}
+
+/// Writes the octets of a name without pointers.
+fn write_octets(name: &ParsedName<'_>, octets: &mut ArrayVec<u8, 255>)
+    requires { octets.old.items ≡ [] }
+    ensures { octets.new.items ≡ uncompressed (labels name.now) }
+{
+    for label in name.iter_labels() {
+        append_label(octets, label);
+    }
+}
+
+/// Writes the octets of a name without pointers, and where each label begins in them.
+pub(crate) fn write_out(
+    name: &ParsedName<'_>,
+    octets: &mut ArrayVec<u8, 255>,
+    starts: &mut ArrayVec<u8, 128>,
+)
+    requires octets { octets.old.items ≡ [] }
+    requires starts { starts.old.items ≡ [] }
+    ensures { IsStarted (labels name.now) octets.new.items starts.new.items }
+{
+    write_octets(name, octets);
+    let text = octets.as_slice();
+    let mut at = 0;
+    while text[at] != 0 {
+        starts.push(at as u8);
+        at += 1 + usize::from(text[at]);
+    }
 }
 
 impl<'a> LabelStarts<'a> {
-    pub(crate) fn new(name: ParsedName<'a>) -> Self
+    /// A name that was written out.
+    pub(crate) fn new(name: ParsedName<'a>, octets: &'a [u8], starts: &'a [u8]) -> Self
+        requires { IsStarted (labels name) octets.now starts.now }
         ensures { result ≡ labels name.entry }
     {
-        let octets = name.uncompressed();
-        let text = octets.as_slice();
-        let mut starts = ArrayVec::new();
-        let mut at = 0;
-        while text[at] != 0 {
-            starts.push(at as u8);
-            at += 1 + usize::from(text[at]);
-        }
         LabelStarts {
             name,
             octets,
@@ -70,7 +105,7 @@ impl<'a> LabelStarts<'a> {
         ensures short { length result.now ≤ 63 }
     {
         let start = self.start(index);
-        let octets = self.octets.as_slice();
+        let octets = self.octets;
         let end = start + 1 + usize::from(octets[start]);
         &octets[start + 1..end]
     }
@@ -80,7 +115,7 @@ impl<'a> LabelStarts<'a> {
         ensures octets { result.now ≡ uncompressed self.now }
         ensures name { IsName self.now }
     {
-        self.octets.as_slice()
+        self.octets
     }
 
     /// The name from a label on.

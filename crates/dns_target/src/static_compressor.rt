@@ -5,9 +5,10 @@ ghost use Rattle.dns_wire.specs.Pieces.{Plain, Static as StaticRule};
 ghost use Rattle.dns_target.specs.Found.{Keeps};
 ghost use Rattle.dns_target.specs.Rules.{static_not_plain};
 
-use crate::label_starts::LabelStarts;
+use crate::label_starts::{LabelStarts, write_out};
 use crate::places::{PLACES, Places};
-use crate::texts::{PLACES_END, kept_text};
+use crate::texts::{PLACES_END, append_kept};
+use arrayvec::ArrayVec;
 use dns_wire::{AppendError, CloneTarget, Composer, FreezeBuilder, ToName};
 use std::alloc::AllocError;
 use std::convert::AsSlice;
@@ -119,13 +120,16 @@ impl<Target: Composer> Composer for StaticCompressor<Target> {
     }
 
     fn append_compressed_name<N: ToName>(&mut self, name: &N) -> Result<(), AppendError> {
-        let labels = LabelStarts::new(name.as_parsed());
+        let parsed = name.as_parsed();
+        let mut octets = ArrayVec::new();
+        let mut starts = ArrayVec::new();
+        write_out(&parsed, &mut octets, &mut starts);
+        let labels = LabelStarts::new(parsed, octets.as_slice(), starts.as_slice());
         let content = self.target.as_slice();
         let place = content.len();
         let found = self.places.look_up(content, &labels);
         let count = kept(&labels, place, self.places.len(), found.from);
-        let text = kept_text(&labels, found, count);
-        self.target.append_slice(text.as_slice())?;
+        append_kept(&mut self.target, &labels, found, count)?;
         let end = self.target.as_slice().len();
         self.places.remember(&labels, count, place, end);
         Ok(())

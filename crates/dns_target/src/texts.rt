@@ -1,12 +1,15 @@
 //! The octets that are written of a name.
 ghost use Rattle.std.specs.Prelude.{◌≡◌, ◌++◌, ◌<◌, ◌≤◌, length, take};
 ghost use Rattle.dns_wire.specs.Names.{uncompressed, name_size};
+ghost use Rattle.dns_wire.specs.Pieces.{put_octets};
 ghost use Rattle.dns_wire.specs.PutName.{pointer};
+ghost use Rattle.dns_wire.specs.Targets.{Appends};
 ghost use Rattle.dns_target.specs.Lookup.{reaches as reaches_of};
-ghost use Rattle.dns_target.specs.Found.{IsReachable, found_text, kept_text as kept_text_of};
+ghost use Rattle.dns_target.specs.Found.{IsReachable, found_text, kept_text};
 
 use crate::label_starts::LabelStarts;
 use arrayvec::ArrayVec;
+use dns_wire::{AppendError, Composer};
 
 /// The places that a pointer can lead to are below this one: they have 14 bits (RFC 1035 section 4.1.4).
 pub(crate) const PLACES_END: usize = 16_384;
@@ -27,18 +30,8 @@ pub(crate) fn reaches(labels: &LabelStarts<'_>, place: usize, from: usize) -> bo
     from == 0 || place < PLACES_END - labels.start(from - 1)
 }
 
-/// The octets of the name without pointers.
-pub(crate) fn whole(labels: &LabelStarts<'_>) -> ArrayVec<u8, 255>
-    ensures { result.items ≡ uncompressed labels.now }
-{
-    let octets = labels.octets();
-    let mut text = ArrayVec::new();
-    text.try_extend_from_slice(octets).unwrap();
-    text
-}
-
 /// The octets of the labels before `from`, and a pointer to a place.
-pub(crate) fn with_pointer(labels: &LabelStarts<'_>, from: usize, at: u16) -> ArrayVec<u8, 255>
+fn with_pointer(labels: &LabelStarts<'_>, from: usize, at: u16) -> ArrayVec<u8, 255>
     requires from { from < length labels.now }
     requires at { at < PLACES_END }
     ensures { result.items ≡ take (name_size (take from labels.now)) (uncompressed labels.now) ++ pointer at }
@@ -52,25 +45,48 @@ pub(crate) fn with_pointer(labels: &LabelStarts<'_>, from: usize, at: u16) -> Ar
     text
 }
 
-/// The octets of the labels that are not remembered, and a pointer to the others, if there are any.
-pub(crate) fn shortened(labels: &LabelStarts<'_>, found: Found) -> ArrayVec<u8, 255>
+/// Appends the labels before `from`, and a pointer to a place.
+pub(crate) fn append_with_pointer<T: Composer>(
+    target: &mut T,
+    labels: &LabelStarts<'_>,
+    from: usize,
+    at: u16,
+) -> Result<(), AppendError>
+    requires from { from < length labels.now }
+    requires at { at < PLACES_END }
+    ensures { Appends T.room T.grows (put_octets (take (name_size (take from labels.now)) (uncompressed labels.now) ++ pointer at)) (T.written target.old) (T.written target.new) result }
+{
+    target.append_slice(with_pointer(labels, from, at).as_slice())
+}
+
+/// Appends the labels that are not remembered, and a pointer to the others, if there are any.
+pub(crate) fn append_found<T: Composer>(
+    target: &mut T,
+    labels: &LabelStarts<'_>,
+    found: Found,
+) -> Result<(), AppendError>
     requires { IsReachable labels.now found.from found.place }
-    ensures { result.items ≡ found_text labels.now found.from found.place }
+    ensures { Appends T.room T.grows (put_octets (found_text labels.now found.from found.place)) (T.written target.old) (T.written target.new) result }
 {
     match found.place {
-        Some(place) => with_pointer(labels, found.from, place),
-        None => whole(labels),
+        Some(place) => append_with_pointer(target, labels, found.from, place),
+        None => target.append_slice(labels.octets()),
     }
 }
 
-/// What is written of a name, where so many of the labels that are not remembered are kept: if these aren't all of them,
-/// the whole name.
-pub(crate) fn kept_text(labels: &LabelStarts<'_>, found: Found, count: usize) -> ArrayVec<u8, 255>
+/// Appends what is written of a name, where so many of the labels that are not remembered are kept: if these aren't all
+/// of them, the whole name.
+pub(crate) fn append_kept<T: Composer>(
+    target: &mut T,
+    labels: &LabelStarts<'_>,
+    found: Found,
+    count: usize,
+) -> Result<(), AppendError>
     requires { IsReachable labels.now found.from found.place }
-    ensures { result.items ≡ kept_text_of labels.now count found.from found.place }
+    ensures { Appends T.room T.grows (put_octets (kept_text labels.now count found.from found.place)) (T.written target.old) (T.written target.new) result }
 {
     if count < found.from {
-        return whole(labels);
+        return target.append_slice(labels.octets());
     }
-    shortened(labels, found)
+    append_found(target, labels, found)
 }

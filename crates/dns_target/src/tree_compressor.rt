@@ -4,10 +4,11 @@ ghost use Rattle.dns_wire.specs.Memory.{nothing};
 ghost use Rattle.dns_wire.specs.Pieces.{Plain, Tree as TreeRule};
 ghost use Rattle.dns_target.specs.Rules.{tree_not_plain};
 
-use crate::known::{grow, look_up, spelled};
-use crate::label_starts::LabelStarts;
+use crate::known::{append_spelled, grow, look_up};
+use crate::label_starts::{LabelStarts, write_out};
 use crate::texts::PLACES_END;
 use crate::tree::Tree;
+use arrayvec::ArrayVec;
 use dns_wire::{AppendError, CloneTarget, Composer, FreezeBuilder, ToName};
 use std::alloc::{AllocError, Global};
 use std::convert::AsSlice;
@@ -105,14 +106,17 @@ impl<Target: Composer> Composer for TreeCompressor<Target> {
     }
 
     fn append_compressed_name<N: ToName>(&mut self, name: &N) -> Result<(), AppendError> {
-        let labels = LabelStarts::new(name.as_parsed());
+        let parsed = name.as_parsed();
+        let mut octets = ArrayVec::new();
+        let mut starts = ArrayVec::new();
+        write_out(&parsed, &mut octets, &mut starts);
+        let labels = LabelStarts::new(parsed, octets.as_slice(), starts.as_slice());
         let place = self.target.as_slice().len();
         let found = look_up(&self.tree, &labels);
-        let text = spelled(&labels, place, found.pointer);
         if self.tree.reserve(found.from).is_err() {
             return Err(AppendError::OutOfMemory);
         }
-        self.target.append_slice(text.as_slice())?;
+        append_spelled(&mut self.target, &labels, place, found.pointer)?;
         if place < PLACES_END {
             let end = self.target.as_slice().len();
             grow(&mut self.tree, &labels, place, end, found);

@@ -6,24 +6,24 @@ use Rattle.dns_target.proofs.static_compressor.StaticCompressorComposer.append_c
 pub look_up-found-requires : goal.look_up-found-requires
 look_up-found-requires g c = held_standing _ _ c.self.inside.places _ c.self.invariant c.as_slice-content.ensures.octets
 
-pub kept_text-text-requires : goal.kept_text-text-requires
-kept_text-text-requires g c = held_reachable _ (g.Target.Composer.written c.self.inside.target) c.self.inside.places c.as_slice-content.result.now _ _ _ c.self.invariant c.as_slice-content.ensures.octets c.look_up-found.ensures
+pub append_kept-requires : goal.append_kept-requires
+append_kept-requires g c = held_reachable _ (g.Target.Composer.written c.self.inside.target) c.self.inside.places c.as_slice-content.result.now _ _ _ c.self.invariant c.as_slice-content.ensures.octets c.look_up-found.ensures
 
-pub returns-in_err-append_slice : goal.returns-in_err-append_slice
-returns-in_err-append_slice g c =
-    let put = static_written _ (g.Target.Composer.written c.self.inside.target) c.self.inside.places (g.N.ToName.name c.args.name.now) c.new-labels.result c.as_slice-content.result.now _ _ c.look_up-found.result.from c.kept-count.result c.look_up-found.result.place c.self.invariant (c.new-labels.ensures ∙ c.as_parsed.ensures.labels) c.as_slice-content.ensures.octets c.len.ensures.len c.look_up-found.ensures c.kept-count.ensures.keeps (c.as_slice.ensures.value ∙ c.kept_text-text.ensures) in
+pub returns-in_err-append_kept : goal.returns-in_err-append_kept
+returns-in_err-append_kept g c =
+    let put = static_written _ (g.Target.Composer.written c.self.inside.target) c.self.inside.places (g.N.ToName.name c.args.name.now) c.new-labels.result c.as_slice-content.result.now _ _ c.look_up-found.result.from c.kept-count.result c.look_up-found.result.place c.self.invariant (c.new-labels.ensures ∙ c.as_parsed-parsed.ensures.labels) c.as_slice-content.ensures.octets c.len.ensures.len c.look_up-found.ensures c.kept-count.ensures.keeps refl in
     let p = err_from_is_err_and c.from_residual.result c.from_residual.ensures.1 in
-    name_refused _ _ g.Target.Composer.grows g.Target.Composer.grows (g.Target.Composer.written c.self.inside.target) _ _ c.self.inside.places _ _ _ _ _ c.in_err-append_slice.field-0.0 (p.1 ∙ ap Err p.2) (λ grow. grow) c.in_err-append_slice.ensures put refl c.self.view_is
+    name_refused _ _ g.Target.Composer.grows g.Target.Composer.grows (g.Target.Composer.written c.self.inside.target) _ _ c.self.inside.places _ _ _ _ _ c.in_err-append_kept.field-0.0 (p.1 ∙ ap Err p.2) (λ grow. grow) c.in_err-append_kept.ensures put refl c.self.view_is
 
 pub invariant_of-self-2 : goal.invariant_of-self-2
 invariant_of-self-2 g c =
-    let put = static_written _ (g.Target.Composer.written c.self.inside.target) c.self.inside.places (g.N.ToName.name c.args.name.now) c.new-labels.result c.as_slice-content.result.now _ _ c.look_up-found.result.from c.kept-count.result c.look_up-found.result.place c.self.invariant (c.new-labels.ensures ∙ c.as_parsed.ensures.labels) c.as_slice-content.ensures.octets c.len.ensures.len c.look_up-found.ensures c.kept-count.ensures.keeps (c.as_slice.ensures.value ∙ c.kept_text-text.ensures) in
-    held_put _ _ (g.Target.Composer.written c.self.inside.target) _ c.self.inside.places _ _ _ _ c.as_parsed.ensures.is_name c.self.invariant c.in_ok-append_slice.ensures.ok put
-    (static_spots (g.Target.Composer.written c.self.inside.target) (g.Target.Composer.written c.append_slice.new.self) c.self.inside.places _ (g.N.ToName.name c.args.name.now) c.new-labels.result c.as_slice-content.result.now _ c.as_slice-end.result.now c.kept-count.result (c.new-labels.ensures ∙ c.as_parsed.ensures.labels) c.as_slice-content.ensures.octets c.as_slice-end.ensures.octets c.in_ok-append_slice.ensures.ok c.remember.ensures)
+    let put = static_written _ (g.Target.Composer.written c.self.inside.target) c.self.inside.places (g.N.ToName.name c.args.name.now) c.new-labels.result c.as_slice-content.result.now _ _ c.look_up-found.result.from c.kept-count.result c.look_up-found.result.place c.self.invariant (c.new-labels.ensures ∙ c.as_parsed-parsed.ensures.labels) c.as_slice-content.ensures.octets c.len.ensures.len c.look_up-found.ensures c.kept-count.ensures.keeps refl in
+    held_put _ _ (g.Target.Composer.written c.self.inside.target) _ c.self.inside.places _ _ _ _ c.as_parsed-parsed.ensures.is_name c.self.invariant c.in_ok-append_kept.ensures.ok put
+    (static_spots (g.Target.Composer.written c.self.inside.target) (g.Target.Composer.written c.append_kept.new.target) c.self.inside.places _ (g.N.ToName.name c.args.name.now) c.new-labels.result c.as_slice-content.result.now _ c.as_slice-end.result.now c.kept-count.result (c.new-labels.ensures ∙ c.as_parsed-parsed.ensures.labels) c.as_slice-content.ensures.octets c.as_slice-end.ensures.octets c.in_ok-append_kept.ensures.ok c.remember.ensures)
 
 pub returns : goal.returns
 returns g c =
-    let put = static_written _ (g.Target.Composer.written c.self.inside.target) c.self.inside.places (g.N.ToName.name c.args.name.now) c.new-labels.result c.as_slice-content.result.now _ _ c.look_up-found.result.from c.kept-count.result c.look_up-found.result.place c.self.invariant (c.new-labels.ensures ∙ c.as_parsed.ensures.labels) c.as_slice-content.ensures.octets c.len.ensures.len c.look_up-found.ensures c.kept-count.ensures.keeps (c.as_slice.ensures.value ∙ c.kept_text-text.ensures) in
-    name_appended _ _ _ g.Target.Composer.grows g.Target.Composer.grows (g.Target.Composer.written c.self.inside.target) (g.Target.Composer.written c.append_slice.new.self) _ c.self.inside.places _ _ _ _ c.as_parsed.ensures.is_name c.self.invariant c.in_ok-append_slice.ensures put
-    (static_spots (g.Target.Composer.written c.self.inside.target) (g.Target.Composer.written c.append_slice.new.self) c.self.inside.places _ (g.N.ToName.name c.args.name.now) c.new-labels.result c.as_slice-content.result.now _ c.as_slice-end.result.now c.kept-count.result (c.new-labels.ensures ∙ c.as_parsed.ensures.labels) c.as_slice-content.ensures.octets c.as_slice-end.ensures.octets c.in_ok-append_slice.ensures.ok c.remember.ensures)
+    let put = static_written _ (g.Target.Composer.written c.self.inside.target) c.self.inside.places (g.N.ToName.name c.args.name.now) c.new-labels.result c.as_slice-content.result.now _ _ c.look_up-found.result.from c.kept-count.result c.look_up-found.result.place c.self.invariant (c.new-labels.ensures ∙ c.as_parsed-parsed.ensures.labels) c.as_slice-content.ensures.octets c.len.ensures.len c.look_up-found.ensures c.kept-count.ensures.keeps refl in
+    name_appended _ _ _ g.Target.Composer.grows g.Target.Composer.grows (g.Target.Composer.written c.self.inside.target) (g.Target.Composer.written c.append_kept.new.target) _ c.self.inside.places _ _ _ _ c.as_parsed-parsed.ensures.is_name c.self.invariant c.in_ok-append_kept.ensures put
+    (static_spots (g.Target.Composer.written c.self.inside.target) (g.Target.Composer.written c.append_kept.new.target) c.self.inside.places _ (g.N.ToName.name c.args.name.now) c.new-labels.result c.as_slice-content.result.now _ c.as_slice-end.result.now c.kept-count.result (c.new-labels.ensures ∙ c.as_parsed-parsed.ensures.labels) c.as_slice-content.ensures.octets c.as_slice-end.ensures.octets c.in_ok-append_kept.ensures.ok c.remember.ensures)
     c.self.view_is

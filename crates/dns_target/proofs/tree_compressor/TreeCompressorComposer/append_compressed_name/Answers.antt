@@ -1,19 +1,19 @@
-use Rattle.std.proofs.Common.{Err, ap, ◌∙◌}
+use Rattle.std.proofs.Common.{Err, ap, ◌∙◌, refl}
 use Rattle.std.proofs.lemmas.Result.{err_from_is_err_and}
 use Rattle.dns_target.proofs.States.{writable, grow_long, grow_written, finish_near, finish_far, finish_refused, state_near, state_far}
 use Rattle.dns_target.proofs.tree_compressor.TreeCompressorComposer.append_compressed_name.Goals as goal
 
-pub spelled-text-requires : goal.spelled-text-requires
-spelled-text-requires g c = writable c.self.inside.tree.entries c.new-labels.result _ c.self.invariant.tree c.look_up-found.ensures.pointer
+pub append_spelled-requires : goal.append_spelled-requires
+append_spelled-requires g c = writable c.self.inside.tree.entries c.new-labels.result _ c.self.invariant.tree c.look_up-found.ensures.pointer
 
-pub returns-in_err-append_slice : goal.returns-in_err-append_slice
-returns-in_err-append_slice g c =
+pub returns-in_err-append_spelled : goal.returns-in_err-append_spelled
+returns-in_err-append_spelled g c =
     let p = err_from_is_err_and c.from_residual.result c.from_residual.ensures.1 in
-    finish_refused _ _ (g.Target.Composer.written c.self.inside.target) _ c.self.inside.tree.entries c.reserve.new.self.entries (g.N.ToName.name c.args.name.now) c.new-labels.result _ c.as_slice-place.result.now c.look_up-found.result.pointer _ _ c.in_err-append_slice.field-0.0 (p.1 ∙ ap Err p.2) c.self.view_is c.reserve.ensures.entries (c.new-labels.ensures ∙ c.as_parsed.ensures.labels) c.as_slice-place.ensures.octets (c.as_slice.ensures.value ∙ c.spelled-text.ensures) c.look_up-found.ensures.pointer c.in_err-append_slice.ensures
+    finish_refused _ _ (g.Target.Composer.written c.self.inside.target) _ c.self.inside.tree.entries c.reserve.new.self.entries (g.N.ToName.name c.args.name.now) c.new-labels.result _ c.as_slice-place.result.now c.look_up-found.result.pointer _ _ c.in_err-append_spelled.field-0.0 (p.1 ∙ ap Err p.2) c.self.view_is c.reserve.ensures.entries (c.new-labels.ensures ∙ c.as_parsed-parsed.ensures.labels) c.as_slice-place.ensures.octets refl c.look_up-found.ensures.pointer c.in_err-append_spelled.ensures
 
 pub grow-requires-clause-long : goal.grow-requires-clause-long
 grow-requires-clause-long g c =
-    grow_long (g.Target.Composer.written c.self.inside.target) (g.Target.Composer.written c.append_slice.new.self) _ c.new-labels.result c.as_slice.result.now c.as_slice-place.result.now c.as_slice-end.result.now c.look_up-found.result.from c.look_up-found.result.pointer c.as_slice-place.ensures.octets c.as_slice-end.ensures.octets c.in_ok-append_slice.ensures.ok (c.as_slice.ensures.value ∙ c.spelled-text.ensures) c.look_up-found.ensures.pointer c.look_up-found.ensures.new c.look_up-found.ensures.path.within
+    grow_long (g.Target.Composer.written c.self.inside.target) (g.Target.Composer.written c.append_spelled.new.target) _ c.new-labels.result _ c.as_slice-place.result.now c.as_slice-end.result.now c.look_up-found.result.from c.look_up-found.result.pointer c.as_slice-place.ensures.octets c.as_slice-end.ensures.octets c.in_ok-append_spelled.ensures.ok refl c.look_up-found.ensures.pointer c.look_up-found.ensures.new c.look_up-found.ensures.path.within
 
 pub grow-requires-clause-written : goal.grow-requires-clause-written
 grow-requires-clause-written g c =
@@ -21,17 +21,17 @@ grow-requires-clause-written g c =
 
 pub returns-then-place-lt-PLACES_END : goal.returns-then-place-lt-PLACES_END
 returns-then-place-lt-PLACES_END g c =
-    finish_near _ g.Target.Composer.grows (g.Target.Composer.written c.self.inside.target) (g.Target.Composer.written c.append_slice.new.self) c.self.inside.tree.entries c.reserve.new.self.entries c.grow.new.tree.entries (g.N.ToName.name c.args.name.now) c.new-labels.result c.as_slice.result.now c.as_slice-place.result.now c.as_slice-end.result.now c.look_up-found.result.pointer _ c.self.view_is c.reserve.ensures.entries (c.new-labels.ensures ∙ c.as_parsed.ensures.labels) c.as_slice-place.ensures.octets c.as_slice-end.ensures.octets c.in_ok-append_slice.ensures.ok (c.as_slice.ensures.value ∙ c.spelled-text.ensures) c.look_up-found.ensures.pointer c.grow.ensures.memory c.in_ok-append_slice.ensures.answer
+    finish_near _ g.Target.Composer.grows (g.Target.Composer.written c.self.inside.target) (g.Target.Composer.written c.append_spelled.new.target) c.self.inside.tree.entries c.reserve.new.self.entries c.grow.new.tree.entries (g.N.ToName.name c.args.name.now) c.new-labels.result _ c.as_slice-place.result.now c.as_slice-end.result.now c.look_up-found.result.pointer _ c.self.view_is c.reserve.ensures.entries (c.new-labels.ensures ∙ c.as_parsed-parsed.ensures.labels) c.as_slice-place.ensures.octets c.as_slice-end.ensures.octets c.in_ok-append_spelled.ensures.ok refl c.look_up-found.ensures.pointer c.grow.ensures.memory c.in_ok-append_spelled.ensures.answer
 
 pub returns-else-place-lt-PLACES_END : goal.returns-else-place-lt-PLACES_END
 returns-else-place-lt-PLACES_END g c =
-    finish_far _ g.Target.Composer.grows (g.Target.Composer.written c.self.inside.target) (g.Target.Composer.written c.append_slice.new.self) c.self.inside.tree.entries c.reserve.new.self.entries (g.N.ToName.name c.args.name.now) c.new-labels.result c.as_slice.result.now c.as_slice-place.result.now c.look_up-found.result.pointer _ c.self.view_is c.reserve.ensures.entries (c.new-labels.ensures ∙ c.as_parsed.ensures.labels) c.as_slice-place.ensures.octets c.in_ok-append_slice.ensures.ok (c.as_slice.ensures.value ∙ c.spelled-text.ensures) c.look_up-found.ensures.pointer c.if-place-lt-PLACES_END.false c.in_ok-append_slice.ensures.answer
+    finish_far _ g.Target.Composer.grows (g.Target.Composer.written c.self.inside.target) (g.Target.Composer.written c.append_spelled.new.target) c.self.inside.tree.entries c.reserve.new.self.entries (g.N.ToName.name c.args.name.now) c.new-labels.result _ c.as_slice-place.result.now c.look_up-found.result.pointer _ c.self.view_is c.reserve.ensures.entries (c.new-labels.ensures ∙ c.as_parsed-parsed.ensures.labels) c.as_slice-place.ensures.octets c.in_ok-append_spelled.ensures.ok refl c.look_up-found.ensures.pointer c.if-place-lt-PLACES_END.false c.in_ok-append_spelled.ensures.answer
 
 pub invariant_of-self-then-place-lt-PLACES_END : goal.invariant_of-self-then-place-lt-PLACES_END
 invariant_of-self-then-place-lt-PLACES_END g c =
-    state_near _ (g.Target.Composer.written c.self.inside.target) (g.Target.Composer.written c.append_slice.new.self) c.self.inside.tree.entries c.grow.new.tree.entries (g.N.ToName.name c.args.name.now) c.args.self.now c.as_slice-end.result.now _ c.as_parsed.ensures.is_name c.self.invariant c.self.view_is
-    (finish_near _ g.Target.Composer.grows (g.Target.Composer.written c.self.inside.target) (g.Target.Composer.written c.append_slice.new.self) c.self.inside.tree.entries c.reserve.new.self.entries c.grow.new.tree.entries (g.N.ToName.name c.args.name.now) c.new-labels.result c.as_slice.result.now c.as_slice-place.result.now c.as_slice-end.result.now c.look_up-found.result.pointer _ c.self.view_is c.reserve.ensures.entries (c.new-labels.ensures ∙ c.as_parsed.ensures.labels) c.as_slice-place.ensures.octets c.as_slice-end.ensures.octets c.in_ok-append_slice.ensures.ok (c.as_slice.ensures.value ∙ c.spelled-text.ensures) c.look_up-found.ensures.pointer c.grow.ensures.memory c.in_ok-append_slice.ensures.answer)
+    state_near _ (g.Target.Composer.written c.self.inside.target) (g.Target.Composer.written c.append_spelled.new.target) c.self.inside.tree.entries c.grow.new.tree.entries (g.N.ToName.name c.args.name.now) c.args.self.now c.as_slice-end.result.now _ c.as_parsed-parsed.ensures.is_name c.self.invariant c.self.view_is
+    (finish_near _ g.Target.Composer.grows (g.Target.Composer.written c.self.inside.target) (g.Target.Composer.written c.append_spelled.new.target) c.self.inside.tree.entries c.reserve.new.self.entries c.grow.new.tree.entries (g.N.ToName.name c.args.name.now) c.new-labels.result _ c.as_slice-place.result.now c.as_slice-end.result.now c.look_up-found.result.pointer _ c.self.view_is c.reserve.ensures.entries (c.new-labels.ensures ∙ c.as_parsed-parsed.ensures.labels) c.as_slice-place.ensures.octets c.as_slice-end.ensures.octets c.in_ok-append_spelled.ensures.ok refl c.look_up-found.ensures.pointer c.grow.ensures.memory c.in_ok-append_spelled.ensures.answer)
     c.grow.ensures.tree c.grow.ensures.last c.as_slice-end.ensures.octets
 
 pub invariant_of-self-else-place-lt-PLACES_END : goal.invariant_of-self-else-place-lt-PLACES_END
-invariant_of-self-else-place-lt-PLACES_END g c = state_far _ (g.Target.Composer.written c.self.inside.target) _ c.self.inside.tree.entries _ _ c.self.invariant c.reserve.ensures.entries c.in_ok-append_slice.ensures.ok
+invariant_of-self-else-place-lt-PLACES_END g c = state_far _ (g.Target.Composer.written c.self.inside.target) _ c.self.inside.tree.entries _ _ c.self.invariant c.reserve.ensures.entries c.in_ok-append_spelled.ensures.ok

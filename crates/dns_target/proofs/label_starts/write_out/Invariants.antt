@@ -1,7 +1,7 @@
 use Rattle.std.proofs.Common.{◌-◌, length}
 use Rattle.dns_wire.specs.ParsedName.{labels}
 use Rattle.dns_target.proofs.Starts.{IsWalked}
-use Rattle.dns_target.proofs.label_starts.LabelStarts.new.Given as goal
+use Rattle.dns_target.proofs.label_starts.write_out.Given as goal
 
 abbrev pub invariant-loop-at : goal.invariant-loop-at
 invariant-loop-at l = IsWalked (labels l.name) l.text l.starts.items l.at

@@ -1,0 +1,43 @@
+#!/usr/bin/env bash
+# Builds crates/dns_bench, which proves it and the crates below it, and prints the times and the allocations of names
+# that are written by the three compressors. With COUNT=1 it also prints instructions, by valgrind.
+set -eu
+here=$(cd "$(dirname "$0")" && pwd)
+crate=$here/../crates/dns_bench
+kit=$(dirname "$(rt doc)")
+build=$(mktemp -d)
+trap 'rm -rf "$build"' EXIT
+
+(cd "$crate" && rt lib) >"$build/proof" 2>&1 || { cat "$build/proof" >&2; exit 1; }
+
+compile() {
+  local to=$1
+  shift
+  "${CC:-cc}" -std=gnu11 -O2 -Wall -Wextra "$@" "$here/driver.c" "$crate/out/libdns_bench.a" "$kit/c/liblibc_c.a" -o "$to"
+}
+compile "$build/times"
+compile "$build/allocations" -DCOUNT_ALLOCATIONS "$here/count.c"
+
+sed -n 's/^model name[^:]*: //p' /proc/cpuinfo | head -n 1
+echo
+printf '%-14s %-9s %12s %12s\n' compressor workload 'ns, median' 'ns, least'
+"$build/times"
+echo
+printf '%-14s %-9s %12s\n' compressor workload allocations
+"$build/allocations"
+[ "${COUNT:-}" ] || exit 0
+
+# The instructions of a message: those of more messages less those of fewer, so that the start is left out.
+instructions() {
+  valgrind --tool=callgrind --callgrind-out-file=/dev/null "$build/times" "$1" "$2" "$3" 2>&1 |
+    sed -n 's/.*refs: *//p' | tr -d ,
+}
+echo
+printf '%-14s %-9s %12s\n' compressor workload instructions
+for row in static tree hash 'static, fresh' 'tree, fresh' 'hash, fresh'; do
+  for workload in zone response; do
+    few=$(instructions "$row" "$workload" 10)
+    more=$(instructions "$row" "$workload" 60)
+    printf '%-14s %-9s %12d\n' "$row" "$workload" $(((more - few) / 50))
+  done
+done
