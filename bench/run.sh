@@ -18,8 +18,6 @@ compile() {
 compile "$build/times"
 compile "$build/allocations" -DCOUNT_ALLOCATIONS "$here/count.c"
 
-sed -n 's/^model name[^:]*: //p' /proc/cpuinfo | head -n 1
-echo
 printf '%-14s %-9s %12s %12s\n' compressor workload 'ns, median' 'ns, least'
 "$build/times"
 echo
