@@ -2,18 +2,12 @@
 use arrayvec::ArrayVec;
 use dns_build::{MessageBuilder, PushError, QuestionBuilder};
 use dns_code::{Class, Header, Opcode, Rcode, Rtype};
-use dns_item::Question;
 use dns_read::Message;
 use dns_target::{HashCompressor, StaticCompressor, TreeCompressor};
 use dns_wire::{AppendError, Composer, FreezeBuilder, Name, Octets, ToNameExt};
 use std::alloc::Global;
 use std::process::Abort;
 use std::test::Fail;
-
-/// The question for an A record of the root.
-fn root_question() -> Question<Name<&'static [u8]>> {
-    Question::new_in(Name::root_slice(), Rtype::A)
-}
 
 /// A builder of the question section over an empty vector.
 fn questions_in_vec(alloc: Global) -> Result<QuestionBuilder<Vec<u8>>, AppendError> {
@@ -29,7 +23,7 @@ fn assert_refused<T: Composer>(
     let len = builder.as_slice().len();
     let counts = builder.counts();
     let header = builder.header();
-    let refusal = builder.push(root_question());
+    let refusal = builder.push((Name::from_octets([0])?, Rtype::A));
     match (refusal, cause) {
         (Err(PushError::ShortBuf), PushError::ShortBuf)
         | (Err(PushError::LimitExceeded), PushError::LimitExceeded)
@@ -100,7 +94,7 @@ fn a_limit_is_inclusive(rt: HostRuntime) -> Result<(), Fail> {
     builder.set_push_limit(16);
     assert_refused(&rt, &mut builder, PushError::LimitExceeded)?;
     builder.set_push_limit(17);
-    builder.push(root_question())?;
+    builder.push((Name::from_octets([0])?, Rtype::A))?;
     assert_eq!(rt; builder.as_slice().len(), 17);
     assert_eq!(rt; builder.push_limit(), Some(17));
     builder.set_push_limit(usize::MAX);
@@ -108,11 +102,11 @@ fn a_limit_is_inclusive(rt: HostRuntime) -> Result<(), Fail> {
 
     let mut builder = questions_in_vec(rt.alloc())?;
     builder.set_push_limit(18);
-    builder.push(root_question())?;
+    builder.push((Name::from_octets([0])?, Rtype::A))?;
     assert_eq!(rt; builder.as_slice().len(), 17);
     assert_refused(&rt, &mut builder, PushError::LimitExceeded)?;
     builder.clear_push_limit();
-    builder.push(root_question())?;
+    builder.push((Name::from_octets([0])?, Rtype::A))?;
     assert_eq!(rt; builder.as_slice().len(), 22);
     Ok(())
 }
@@ -121,7 +115,7 @@ fn a_limit_is_inclusive(rt: HostRuntime) -> Result<(), Fail> {
 fn a_section_has_at_most_65535_questions(rt: HostRuntime) -> Result<(), Fail> {
     let mut builder = questions_in_vec(rt.alloc())?;
     for _ in 0..65_535u32 {
-        builder.push(root_question())?;
+        builder.push((Name::from_octets([0])?, Rtype::A))?;
     }
     assert_eq!(rt; builder.as_slice().len(), 327_687);
     assert_eq!(rt; builder.counts().qdcount(), 65_535);
@@ -137,7 +131,7 @@ fn a_section_has_at_most_65535_questions(rt: HostRuntime) -> Result<(), Fail> {
 #[test]
 fn room_is_tested_before_the_limit(rt: HostRuntime) -> Result<(), Fail> {
     let mut builder = MessageBuilder::from_target(ArrayVec::<u8, 17>::new())?.question();
-    builder.push(root_question())?;
+    builder.push((Name::from_octets([0])?, Rtype::A))?;
     builder.set_push_limit(17);
     assert_refused(&rt, &mut builder, PushError::ShortBuf)?;
     assert_eq!(rt; builder.as_slice().len(), 17);
@@ -154,13 +148,13 @@ fn moves_and_rewinds_take_questions_out(rt: HostRuntime) -> Result<(), Fail> {
     let mut builder = questions_in_vec(rt.alloc())?;
     builder.set_header(header);
     builder.set_push_limit(100);
-    builder.push(root_question())?;
+    builder.push((Name::from_octets([0])?, Rtype::A))?;
     builder.rewind();
     assert_eq!(rt;
         builder.as_slice(),
         b"\x12\x34\xA0\x05\x00\x00\x00\x00\x00\x00\x00\x00".as_slice()
     );
-    builder.push(root_question())?;
+    builder.push((Name::from_octets([0])?, Rtype::A))?;
     let builder = builder.question();
     assert_eq!(rt; builder.as_slice().len(), 17);
     let mut builder = builder.builder();
