@@ -1,0 +1,55 @@
+-- Parts that are appended one behind the other.
+use Rattle.std.proofs.Common.{◌≡◌, [], ◌∷◌, length, arith, refl, sym, subst}
+use Rattle.std.specs.Prelude.{Ok, Err}
+use Rattle.std.proofs.lemmas.List.{append-nil}
+use Rattle.dns_wire.specs.Names.{Labels, IsName}
+use Rattle.dns_wire.specs.Parts.{Part, Octets, CompressibleName, put_part, put_parts}
+use Rattle.dns_wire.specs.Pieces.{Rule, IsGrowing, put_octets}
+use Rattle.dns_wire.specs.Targets.{Written, Fits, lay}
+use Rattle.dns_wire.proofs.Composing.{appends_compose, composes_both, composes_first}
+use Rattle.dns_wire.proofs.GrowingPieces.{put_octets_grows, put_name_grows}
+use Rattle.dns_wire.proofs.LabelsLemmas.{length-uncompressed}
+use Rattle.dns_wire.proofs.PieceLaws.{same_written}
+use Rattle.dns_data.specs.RecordData.{IsData}
+use Rattle.dns_data.specs.Laws.{NoPartComposes, OnePartComposes, PartsComposeBehind, RefusedPartComposes}
+
+-- no octets change nothing
+lay-nothing : (t : Written) → t ≡ lay (put_octets []) t
+lay-nothing t = same_written _ _ (sym (append-nil t.octets)) refl
+
+-- no part composes nothing
+pub no_part_composes : NoPartComposes
+unfolding put_parts
+no_part_composes room grows rule t fits =
+    record { ok = lay-nothing t; err = tt; answer = subst (λ (u : Written). Fits room (length u.octets)) (lay-nothing t) fits }
+
+-- a part is a growing piece
+pub part_grows : (rule : Rule) (part : Part) → IsGrowing (put_part rule part)
+part_grows rule (Octets octets) = put_octets_grows octets
+part_grows rule (CompressibleName name) = put_name_grows rule name
+
+-- what is behind a part composes with it
+pub parts_compose_behind : PartsComposeBehind
+unfolding put_parts
+parts_compose_behind room grows rule part parts t u v r is h =
+    composes_both room grows (put_part rule part) (put_parts rule parts) t u v r (part_grows rule part) is h
+
+-- where the first is refused, so are all
+pub refused_part_composes : RefusedPartComposes
+unfolding put_parts
+refused_part_composes room grows rule part parts t u r q e is out h =
+    composes_first room grows (put_part rule part) (put_parts rule parts) t u r q e is out (appends_compose room grows (put_part rule part) t u r h)
+
+-- one append composes one part
+pub one_part_composes : OnePartComposes
+one_part_composes room grows rule part t u (Ok done) h =
+    parts_compose_behind room grows rule part [] t u u (Ok done) h.ok
+    (no_part_composes room grows rule u (subst (λ (w : Written). Fits room (length w.octets)) (sym h.ok) h.answer))
+one_part_composes room grows rule part t u (Err e) h = refused_part_composes room grows rule part [] t u (Err e) (Err e) e refl refl h
+
+-- one name is short enough to be data
+pub name_is_data : (name : Labels) → IsName name → IsData (CompressibleName name ∷ [])
+name_is_data name is = record {
+  names = (is, tt);
+  short = let size = length-uncompressed name in let few = is.short in omega arith;
+}

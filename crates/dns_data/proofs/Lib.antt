@@ -1,0 +1,5 @@
+pub mod ComposedParts
+pub mod WrittenLengths
+pub mod SoaNumbers
+pub mod DataAnswers
+pub mod StandingParts

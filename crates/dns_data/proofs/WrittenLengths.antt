@@ -1,0 +1,48 @@
+-- A piece behind two octets into which its length is written.
+use Rattle.std.proofs.Common.{◌≡◌, ℕ, ◌+◌, ◌≤◌, ◌⊎◌, inl, inr, Bool, Option, Some, Result, Err, List, [], ◌∷◌, length, length-append, ap, sym, ◌∙◌, subst}
+use Rattle.std.specs.FinMap.{get}
+use Rattle.dns_wire.specs.Memory.{Spot, IsClear, IsOldOrNew, Extends}
+use Rattle.dns_wire.specs.Pieces.{Piece, IsGrowing, put_octets, both, with_length}
+use Rattle.dns_wire.specs.Targets.{Written, IsTarget, Answers, lay, Composes}
+use Rattle.dns_wire.specs.declared.error.AppendError.{AppendError}
+use Rattle.dns_wire.proofs.Composing.{composes_both}
+use Rattle.dns_wire.proofs.GrowingPieces.{put_octets_grows}
+use Rattle.dns_wire.proofs.PutNames.{ends_within_content}
+
+-- the two octets before the length is known
+abbrev blank : List ℕ
+blank = 0 ∷ 0 ∷ []
+
+one_clear : (before after : Option Spot) (w v : ℕ) → IsOldOrNew before after (w + 2) v → ((x : Spot) → before ≡ Some x → x.end ≤ w)
+    → (y : Spot) → after ≡ Some y → (y.end ≤ w) ⊎ (w + 2 ≤ y.place)
+one_clear before after w v (inl same) h y e = inl (h y (sym same ∙ e))
+one_clear before after w v (inr new) h y e =
+    let both : Some new.1.0 ≡ Some y = sym new.1.1 ∙ e in
+    let is : new.1.0 ≡ y = cc in
+    inr (subst (λ (z : Spot). w + 2 ≤ z.place) is new.1.2)
+
+-- no remembered name has an octet of the two
+pub clear_length : (a : Piece) (t v u : Written) → IsGrowing a → IsTarget t → v ≡ lay (put_octets blank) t → u ≡ lay a v → IsClear u.memory (length t.octets) 2
+clear_length a t v u grows is first second s x e =
+    let start = length t.octets + 2 in
+    let extends : Extends t.memory (a t.memory start).memory start _ = grows.grows t.memory start in
+    let found : get (a t.memory start).memory s ≡ Some x =
+    ap (λ n. get (a t.memory n).memory s) (sym (length-append t.octets blank))
+    ∙ ap (λ (w : Written). get w.memory s) (sym (second ∙ ap (lay a) first)) ∙ e in
+    one_clear (get t.memory s) _ (length t.octets) _ (extends.each s) (ends_within_content is s) x found
+
+refused : (room : Option ℕ) (may_grow : Bool) (a : Piece) (t u : Written) (e : AppendError)
+    → Composes room may_grow (both (put_octets blank) a) t u {X = Unit} (Err e) → Composes room may_grow (with_length a) t u {X = Unit} (Err e)
+refused room may_grow a t u e h = record {
+  ok = tt;
+  err = h.err;
+  answer =
+      let n : length (lay (both (put_octets blank) a) t).octets ≡ length (lay (with_length a) t).octets = length-append t.octets _ ∙ sym (length-append t.octets _) in
+      subst (λ n. Answers {X = Unit} room may_grow n (Err e)) n h.answer;
+}
+
+-- where the piece is refused behind the two octets, it is refused with its length
+pub piece_refused : (room : Option ℕ) (may_grow : Bool) (a : Piece) (t v u : Written) (r q : Result Unit AppendError) (e : AppendError)
+    → r ≡ Err e → q ≡ Err e → v ≡ lay (put_octets blank) t → Composes room may_grow a v u r → Composes room may_grow (with_length a) t u q
+piece_refused room may_grow a t v u r q e is out first h =
+    rw out (refused room may_grow a t u e (composes_both room may_grow (put_octets blank) a t v u (Err e) (put_octets_grows blank) first (rw is at h)))

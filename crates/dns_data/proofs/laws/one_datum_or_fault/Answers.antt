@@ -1,0 +1,5 @@
+use Rattle.dns_data.proofs.DataAnswers as answers
+use Rattle.dns_data.proofs.laws.one_datum_or_fault.Goals as goal
+
+pub returns : goal.returns
+returns c = answers.one_datum_or_fault

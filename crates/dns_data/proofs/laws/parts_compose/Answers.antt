@@ -1,0 +1,10 @@
+use Rattle.dns_data.proofs.ComposedParts as composed
+use Rattle.dns_data.proofs.laws.parts_compose.Goals as goal
+
+pub returns : goal.returns
+returns c = record {
+  none = composed.no_part_composes;
+  one = composed.one_part_composes;
+  behind = composed.parts_compose_behind;
+  refused = composed.refused_part_composes;
+}

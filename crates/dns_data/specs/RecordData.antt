@@ -1,0 +1,44 @@
+-- What reading and writing the data of a record answers. RFC 1035 sections 3.3 and 4.1.3; the canonical form is that of RFC 4034 section 6.2.
+use Rattle.std.specs.Prelude.{◌≡◌, ℕ, ◌≤◌, ◌==◌, if◌then◌else◌, List, map, Option, None, Some, Result, Ok, Err}
+use Rattle.dns_wire.specs.Fault.{fault_of}
+use Rattle.dns_wire.specs.Names.{lowered, uncompressed}
+use Rattle.dns_wire.specs.Parsers.{seen, place, MovesTo}
+use Rattle.dns_wire.specs.Parts.{Part, AreParts, parts_size}
+use Rattle.dns_wire.specs.Parts.Part.{Octets, CompressibleName}
+use Rattle.dns_wire.specs.declared.error.ParseError.{ParseError}
+use Rattle.dns_wire.specs.declared.parser.Parser.{Parser}
+use Rattle.dns_data.specs.Layout.{Layout, DataStands, DataFaultAt}
+
+-- parts that the data of a record can have: their names are names, and without compression they take at most 65,535 octets
+pub record IsData (parts : List Part) : Type 0 where
+  pub names : AreParts parts
+  pub short : parts_size parts ≤ 65535
+
+-- a part in canonical form: a name is lowercased, and never compressed
+abbrev pub canonical_part : Part → Part
+canonical_part (Octets octets) = Octets octets
+canonical_part (CompressibleName name) = Octets (uncompressed (lowered name))
+
+-- parts in canonical form
+abbrev pub canonical : List Part → List Part
+canonical parts = map canonical_part parts
+
+-- a layout for one record type alone
+abbrev pub only : ℕ → Layout → ℕ → Option Layout
+only taken layout rtype = if rtype == taken then Some layout else None
+
+module _ {D : Type 0} (rtype_of : D → ℕ) (parts_of : D → List Part) where
+  -- What reading data that is laid out so gives: the data that stands at the parser's place, behind which the parser then stands; or the first fault there, and the parser stays.
+  abbrev pub ParsesLaidOut : Layout → ℕ → Parser → Parser → Result D ParseError → Type 0
+  ParsesLaidOut layout rtype old new (Ok value) =
+      (rtype_of value ≡ rtype) × DataStands (seen old) layout (place old) (place new) (parts_of value) × MovesTo old new (place new)
+  ParsesLaidOut layout rtype old new (Err e) = DataFaultAt (seen old) layout (place old) (fault_of e) × (new ≡ old)
+
+  -- The same where the type may not be taken: then there is no value, and the parser stays.
+  abbrev pub ParsesTaken : Option Layout → ℕ → Parser → Parser → Result (Option D) ParseError → Type 0
+  ParsesTaken None rtype old new (Ok None) = new ≡ old
+  ParsesTaken None rtype old new (Ok (Some value)) = ⊥
+  ParsesTaken None rtype old new (Err e) = ⊥
+  ParsesTaken (Some layout) rtype old new (Ok None) = ⊥
+  ParsesTaken (Some layout) rtype old new (Ok (Some value)) = ParsesLaidOut layout rtype old new (Ok value)
+  ParsesTaken (Some layout) rtype old new (Err e) = ParsesLaidOut layout rtype old new (Err e)

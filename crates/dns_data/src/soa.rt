@@ -1,0 +1,190 @@
+//! The start of a zone of authority (RFC 1035 section 3.3.13).
+ghost use Rattle.std.specs.Prelude.{◌≡◌, ◌+◌, ◌≤◌, length, slice_range};
+ghost use Rattle.std.specs.Int.{to_be_bytes, w32};
+ghost use Rattle.dns_data.specs.Layout.{DomainName, Fixed, End};
+ghost use Rattle.dns_data.specs.RecordData.{only};
+ghost use Rattle.dns_data.specs.Soa.{mname_of, rname_of, serial_of, refresh_of, retry_of, expire_of, minimum_of, number_octets, soa_parts};
+
+use crate::octets::take_octets;
+use crate::record_data::{ComposeRecordData, ParseRecordData, RecordData};
+use dns_code::Rtype;
+use dns_wire::{AppendError, Composer, ParseError, ParsedName, Parser, ToName, ToNameExt};
+
+/// The start of a zone of authority (RFC 1035 section 3.3.13).
+#[derive(Clone, Copy, Debug, PartialEq, Eq, PartialOrd, Ord, Hash, Drop)]
+pub struct Soa<N> {
+    mname: N,
+    rname: N,
+    serial: u32,
+    refresh: u32,
+    retry: u32,
+    expire: u32,
+    minimum: u32,
+}
+
+impl<N> Soa<N> {
+    /// The data of these fields. All times are in seconds.
+    pub fn new(
+        mname: N,
+        rname: N,
+        serial: u32,
+        refresh: u32,
+        retry: u32,
+        expire: u32,
+        minimum: u32,
+    ) -> Self
+        ensures mname { mname_of result ≡ mname }
+        ensures rname { rname_of result ≡ rname }
+        ensures serial { serial_of result ≡ serial }
+        ensures refresh { refresh_of result ≡ refresh }
+        ensures retry { retry_of result ≡ retry }
+        ensures expire { expire_of result ≡ expire }
+        ensures minimum { minimum_of result ≡ minimum }
+    {
+        Soa {
+            mname,
+            rname,
+            serial,
+            refresh,
+            retry,
+            expire,
+            minimum,
+        }
+    }
+
+    /// The primary name server of the zone.
+    pub fn mname(&self) -> &N
+        ensures { result.now ≡ mname_of self.now }
+    {
+        &self.mname
+    }
+
+    /// The mailbox of the person responsible for the zone.
+    pub fn rname(&self) -> &N
+        ensures { result.now ≡ rname_of self.now }
+    {
+        &self.rname
+    }
+
+    /// The version number of the zone.
+    pub fn serial(&self) -> u32
+        ensures { result ≡ serial_of self.now }
+    {
+        self.serial
+    }
+
+    /// The seconds until the zone should be refreshed.
+    pub fn refresh(&self) -> u32
+        ensures { result ≡ refresh_of self.now }
+    {
+        self.refresh
+    }
+
+    /// The seconds until a refresh that failed should be tried again.
+    pub fn retry(&self) -> u32
+        ensures { result ≡ retry_of self.now }
+    {
+        self.retry
+    }
+
+    /// The seconds after which the zone is no longer authoritative.
+    pub fn expire(&self) -> u32
+        ensures { result ≡ expire_of self.now }
+    {
+        self.expire
+    }
+
+    /// The seconds for which a negative answer may be kept (RFC 2308 section 4).
+    pub fn minimum(&self) -> u32
+        ensures { result ≡ minimum_of self.now }
+    {
+        self.minimum
+    }
+
+    /// The octets of the five numbers.
+    #[tactic(auto, unfolding(crate::specs::Soa::number_octets))]
+    fn number_octets(&self) -> [u8; 20]
+        ensures { result ≡ number_octets self.now }
+    {
+        let mut octets = [0; 20];
+        octets[..4].copy_from_slice(&self.serial.to_be_bytes());
+        octets[4..8].copy_from_slice(&self.refresh.to_be_bytes());
+        octets[8..12].copy_from_slice(&self.retry.to_be_bytes());
+        octets[12..16].copy_from_slice(&self.expire.to_be_bytes());
+        octets[16..].copy_from_slice(&self.minimum.to_be_bytes());
+        octets
+    }
+
+    /// The data of two names and the octets of the five numbers.
+    fn of_octets(mname: N, rname: N, octets: &[u8]) -> Self
+        requires { length octets.now ≡ 20 }
+        ensures mname { mname_of result ≡ mname }
+        ensures rname { rname_of result ≡ rname }
+        ensures numbers { number_octets result ≡ octets.now }
+    {
+        Soa::new(
+            mname,
+            rname,
+            number_at(octets, 0),
+            number_at(octets, 4),
+            number_at(octets, 8),
+            number_at(octets, 12),
+            number_at(octets, 16),
+        )
+    }
+}
+
+/// The number of four octets at a place.
+fn number_at(octets: &[u8], place: usize) -> u32
+    requires { place + 4 ≤ length octets.now }
+    ensures { to_be_bytes w32 result ≡ slice_range octets.now place (place + 4) }
+{
+    u32::from_be_bytes([
+        octets[place],
+        octets[place + 1],
+        octets[place + 2],
+        octets[place + 3],
+    ])
+}
+
+impl<N: ToName> RecordData for Soa<N> {
+    ghost rtype_of = { λ _. 6 };
+
+    ghost parts = { soa_parts N.name };
+
+    fn rtype(&self) -> Rtype {
+        Rtype::SOA
+    }
+}
+
+impl<N: ToName> ComposeRecordData for Soa<N> {
+    fn compose_rdata<T: Composer>(&self, target: &mut T) -> Result<(), AppendError> {
+        let mname = self.mname.as_parsed();
+        let rname = self.rname.as_parsed();
+        target.append_compressed_name(&mname)?;
+        target.append_compressed_name(&rname)?;
+        target.append_slice(&self.number_octets())
+    }
+
+    fn compose_canonical_rdata<T: Composer>(&self, target: &mut T) -> Result<(), AppendError> {
+        self.mname.compose_canonical(target)?;
+        self.rname.compose_canonical(target)?;
+        target.append_slice(&self.number_octets())
+    }
+}
+
+impl<'a> ParseRecordData<'a> for Soa<ParsedName<'a>> {
+    ghost layout = { only 6 (DomainName (DomainName (Fixed 20 End))) };
+
+    fn parse_rdata(rtype: Rtype, parser: &mut Parser<'a>) -> Result<Option<Self>, ParseError> {
+        if rtype != Rtype::SOA {
+            return Ok(None);
+        }
+        let mut ahead = *parser;
+        let mname = ParsedName::parse(&mut ahead)?;
+        let rname = ParsedName::parse(&mut ahead)?;
+        let numbers = take_octets(&mut ahead, 20)?;
+        *parser = ahead;
+        Ok(Some(Soa::of_octets(mname, rname, numbers)))
+    }
+}

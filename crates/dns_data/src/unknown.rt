@@ -1,0 +1,116 @@
+//! Opaque data (RFC 3597 section 4).
+ghost use Rattle.std.specs.Prelude.{◌≤◌, length};
+
+use crate::error::LongRecordData;
+use crate::record_data::{ComposeRecordData, ParseAnyRecordData, ParseRecordData, RecordData};
+use dns_code::Rtype;
+use dns_wire::{AppendError, Composer, Octets, ParseError, Parser};
+use std::alloc::AllocError;
+
+/// The data of a record of any type as mere octets, at most 65,535 (RFC 3597 section 4).
+#[derive(Debug, Drop)]
+pub struct UnknownRecordData<Octs: Octets> {
+    rtype: Rtype,
+    octets: Octs,
+    ghost short: { length (Octs.octets octets) ≤ 65535 },
+}
+
+impl<Octs: Octets> UnknownRecordData<Octs> {
+    ghost use Rattle.std.specs.Prelude.{◌≡◌, ◌<◌, ◌↔◌, length, IfOk, IsErr};
+    ghost use Rattle.dns_data.specs.UnknownData.{unknown_rtype_of, unknown_holder_of};
+
+    /// The data of a record of this type. More than 65,535 octets are refused.
+    pub fn from_octets(rtype: Rtype, octets: Octs) -> Result<Self, LongRecordData>
+        ensures rtype { IfOk result (λ unknown. unknown_rtype_of unknown ≡ rtype) }
+        ensures octets { IfOk result (λ unknown. unknown_holder_of unknown ≡ octets) }
+        ensures long { IsErr result ↔ (65535 < length (Octs.octets octets)) }
+    {
+        if octets.octets().len() > 65535 {
+            return Err(LongRecordData);
+        }
+        Ok(UnknownRecordData { rtype, octets })
+    }
+
+    /// The holder of the octets.
+    pub fn data(&self) -> &Octs
+        ensures { result.now ≡ unknown_holder_of self.now }
+    {
+        &self.octets
+    }
+}
+
+impl<Octs: Octets> RecordData for UnknownRecordData<Octs> {
+    ghost use Rattle.std.specs.Prelude.{[], ◌∷◌};
+    ghost use Rattle.dns_wire.specs.Parts.{Octets};
+    ghost use Rattle.dns_data.specs.UnknownData.{unknown_rtype_of, unknown_octets};
+
+    ghost rtype_of = { unknown_rtype_of };
+
+    ghost parts = { λ unknown. Octets (unknown_octets unknown) ∷ [] };
+
+    fn rtype(&self) -> Rtype {
+        self.rtype
+    }
+}
+
+impl<Octs: Octets> ComposeRecordData for UnknownRecordData<Octs> {
+    fn compose_rdata<T: Composer>(&self, target: &mut T) -> Result<(), AppendError> {
+        target.append_slice(self.octets.octets())
+    }
+
+    fn compose_canonical_rdata<T: Composer>(&self, target: &mut T) -> Result<(), AppendError> {
+        self.compose_rdata(target)
+    }
+}
+
+/// All octets up to the parser's end. More than 65,535 are `ShortInput`.
+impl<'a> ParseAnyRecordData<'a> for UnknownRecordData<&'a [u8]> {
+    ghost use Rattle.dns_data.specs.UnknownData.{opaque_layout};
+
+    ghost any_layout = { λ _. opaque_layout };
+
+    fn parse_any_rdata(rtype: Rtype, parser: &mut Parser<'a>) -> Result<Self, ParseError> {
+        let octets = parser.peek(parser.remaining())?;
+        let Ok(unknown) = UnknownRecordData::from_octets(rtype, octets) else {
+            return Err(ParseError::ShortInput);
+        };
+        parser.advance(octets.len())?;
+        Ok(unknown)
+    }
+}
+
+/// As `parse_any_rdata`.
+impl<'a> ParseRecordData<'a> for UnknownRecordData<&'a [u8]> {
+    ghost use Rattle.std.specs.Prelude.{Some};
+    ghost use Rattle.dns_data.specs.UnknownData.{opaque_layout};
+
+    ghost layout = { λ _. Some opaque_layout };
+
+    fn parse_rdata(rtype: Rtype, parser: &mut Parser<'a>) -> Result<Option<Self>, ParseError> {
+        match UnknownRecordData::parse_any_rdata(rtype, parser) {
+            Ok(unknown) => Ok(Some(unknown)),
+            Err(error) => Err(error),
+        }
+    }
+}
+
+/// A clone of the holder. One that doesn't hold the same octets is answered by `AllocError`.
+impl<Octs: Octets + Clone> Clone for UnknownRecordData<Octs> {
+    ghost use Rattle.std.specs.Prelude.{◌≡◌};
+    ghost use Rattle.dns_data.specs.UnknownData.{unknown_rtype_of, unknown_octets};
+
+    ghost is_clone = { λ unknown clone. (unknown_rtype_of clone ≡ unknown_rtype_of unknown) × (unknown_octets clone ≡ unknown_octets unknown) };
+
+    fn clone(&self) -> Result<Self, AllocError> {
+        let octets = self.octets.clone()?;
+        if octets.octets() != self.octets.octets() {
+            return Err(AllocError);
+        }
+        Ok(UnknownRecordData {
+            rtype: self.rtype,
+            octets,
+        })
+    }
+}
+
+impl<Octs: Octets + Copy> Copy for UnknownRecordData<Octs> {}
