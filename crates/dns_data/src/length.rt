@@ -1,11 +1,11 @@
 //! Data behind its length (RFC 1035 section 4.1.3).
-ghost use Rattle.std.specs.Prelude.{◌≡◌, ◌+◌, ◌-◌, ◌≤◌, length};
+ghost use Rattle.std.specs.Prelude.{◌≡◌, ◌+◌, ◌-◌, ◌≤◌, length, OnOk};
 ghost use Rattle.std.specs.Int.{to_be_bytes, w16};
 ghost use Rattle.dns_wire.specs.Memory.{IsClear};
 ghost use Rattle.dns_wire.specs.Parts.{put_parts};
 ghost use Rattle.dns_wire.specs.Pieces.{with_length};
 ghost use Rattle.dns_wire.specs.Targets.{Composes, overwrite};
-ghost use Rattle.dns_data.specs.RecordData.{canonical};
+ghost use Rattle.dns_data.specs.RecordData.{IsData, canonical};
 
 use crate::record_data::ComposeRecordData;
 use dns_wire::{AppendError, Composer};
@@ -18,7 +18,8 @@ pub fn compose_len_rdata<D: ComposeRecordData, T: Composer>(
     data: &D,
     target: &mut T,
 ) -> Result<(), AppendError>
-    ensures { Composes T.room T.grows (with_length (put_parts T.rule (D.parts «data».now))) (T.written target.old) (T.written target.new) result }
+    ensures composes { Composes T.room T.grows (with_length (put_parts T.rule (D.parts «data».now))) (T.written target.old) (T.written target.new) result }
+    ensures is_data { OnOk result (IsData (D.parts «data».now)) }
 {
     let place = target.as_slice().len();
     target.append_slice(&[0, 0])?;

@@ -7,13 +7,14 @@ use Rattle.dns_wire.specs.Fault.Fault.{ShortInput}
 use Rattle.dns_wire.specs.Parsers.{number_at}
 use Rattle.dns_wire.specs.Walking.{Walked}
 use Rattle.dns_item.specs.Items.{QuestionItem}
-use Rattle.dns_item.specs.Entries.{SkipsQuestion, SkipsRecord, ReadsQuestion, ReadsRecord, RecordEntry, QuestionFaultAt, QuestionSkipFaultAt, LacksRecord, RecordFaultAt, RecordSkipFaultAt}
+use Rattle.dns_item.specs.Entries.{SkipsQuestion, SkipsRecord, ReadsQuestion, HeaderEntry, ReadsHeader, ReadsRecord, RecordEntry, QuestionFaultAt, QuestionSkipFaultAt, HeaderFaultAt, LacksRecord, RecordFaultAt, RecordSkipFaultAt}
 use Rattle.dns_item.specs.Entries.QuestionFaultAt.{name as name_fault, short as short_question}
 use Rattle.dns_item.specs.Entries.QuestionSkipFaultAt.{name as name_skip_fault, short as unended_question}
+use Rattle.dns_item.specs.Entries.HeaderFaultAt.{owner as header_owner_fault, short as short_header}
 use Rattle.dns_item.specs.Entries.RecordFaultAt.{owner as owner_fault, short as short_record}
 use Rattle.dns_item.specs.Entries.RecordSkipFaultAt.{owner as owner_skip_fault, short as unended_record}
 use Rattle.dns_item.specs.Entries.LacksRecord.{fields, rdata}
-use Rattle.dns_item.specs.EntryLaws.{QuestionOrFault, RecordOrFault, QuestionEndOrFault, RecordEndOrFault, QuestionSkipAgrees, RecordSkipAgrees}
+use Rattle.dns_item.specs.EntryLaws.{QuestionOrFault, HeaderOrFault, RecordOrFault, QuestionEndOrFault, RecordEndOrFault, QuestionSkipAgrees, RecordSkipAgrees}
 use Rattle.dns_item.proofs.Names.{name_or_fault, not_both, one_name, one_fault, end_or_skip_fault, end_not_both, one_end, names_end, skip_faults}
 
 module _ (b : List ℕ) where
@@ -80,6 +81,62 @@ module _ (b : List ℕ) where
   one_question_skip_fault p f g (name_skip_fault h) (unended_question w l) = absurd (end_not_both b p _ f w h)
   one_question_skip_fault p f g (unended_question w l) (name_skip_fault k) = absurd (end_not_both b p _ g w k)
   one_question_skip_fault p f g (unended_question w l) (unended_question v m) = refl
+
+  -- the same of a record's header
+  header_at : (p : ℕ) → ((q : ℕ) × (x : HeaderEntry) × ReadsHeader b p q x) ⊎ ((f : Fault) × HeaderFaultAt b p f)
+  header_at p = elim (name_or_fault b p) [
+    | inl h ↦
+        let w = names_end b p h.0 h.1 in
+        elim (leb_tells (w.0 + 10) (length b)) [
+          | inl l ↦ inl (
+            w.0 + 10,
+            record {
+              owner = h.0;
+              rtype = number_at w16 b w.0;
+              class = number_at w16 b (w.0 + 2);
+              ttl = number_at w32 b (w.0 + 4);
+              rdlen = number_at w16 b (w.0 + 8);
+            },
+            record {
+              name_end = w.0;
+              walked = w.1;
+              end = refl;
+              within = l.1;
+              owner = h.1;
+              rtype = refl;
+              class = refl;
+              ttl = refl;
+              rdlen = refl;
+            },
+          )
+          | inr l ↦ inr (ShortInput, short_header h.1 w.1 (omega (arith, l.1)))
+        ]
+    | inr f ↦ inr (f.0, header_owner_fault f.1)
+  ]
+
+  same_header : (p q r : ℕ) (x y : HeaderEntry) → ReadsHeader b p q x → ReadsHeader b p r y → (q ≡ r) × (x ≡ y)
+  same_header p q r x y h k =
+      let e : h.name_end ≡ k.name_end = one_end b p _ _ h.walked k.walked in
+      let owner : x.owner ≡ y.owner = one_name b p _ _ h.owner k.owner in
+      let rtype : x.rtype ≡ y.rtype = h.rtype ∙ ap (number_at w16 b) e ∙ sym k.rtype in
+      let class : x.class ≡ y.class = h.class ∙ ap (λ n. number_at w16 b (n + 2)) e ∙ sym k.class in
+      let ttl : x.ttl ≡ y.ttl = h.ttl ∙ ap (λ n. number_at w32 b (n + 4)) e ∙ sym k.ttl in
+      let rdlen : x.rdlen ≡ y.rdlen = h.rdlen ∙ ap (λ n. number_at w16 b (n + 8)) e ∙ sym k.rdlen in
+      let end : q ≡ r = h.end ∙ ap (λ n. n + 10) e ∙ sym k.end in
+      (end, λ i. record { owner = owner i; rtype = rtype i; class = class i; ttl = ttl i; rdlen = rdlen i })
+
+  lacking_header : (p q r : ℕ) (x : HeaderEntry) → ReadsHeader b p q x → Walked b p r → length b < r + 10 → ⊥
+  lacking_header p q r x h w l = let e = one_end b p _ _ h.walked w in let a = h.end in let m = h.within in omega arith
+
+  only_header : (p q : ℕ) (x : HeaderEntry) (f : Fault) → ReadsHeader b p q x → HeaderFaultAt b p f → ⊥
+  only_header p q x f h (header_owner_fault g) = not_both b p x.owner f h.owner g
+  only_header p q x f h (short_header {r = r} s w l) = lacking_header p q r x h w l
+
+  one_header_fault : (p : ℕ) (f g : Fault) → HeaderFaultAt b p f → HeaderFaultAt b p g → f ≡ g
+  one_header_fault p f g (header_owner_fault h) (header_owner_fault k) = one_fault b p f g h k
+  one_header_fault p f g (header_owner_fault h) (short_header s w l) = absurd (not_both b p _ f s h)
+  one_header_fault p f g (short_header s w l) (header_owner_fault k) = absurd (not_both b p _ g s k)
+  one_header_fault p f g (short_header s w l) (short_header t v m) = refl
 
   -- the same of records
   ends_record : (p r : ℕ) → Walked b p r → r + 10 + number_at w16 b (r + 8) ≤ length b → SkipsRecord b p (r + 10 + number_at w16 b (r + 8))
@@ -175,6 +232,9 @@ question_or_fault b = record { some = question_at b; one = same_question b; not_
 
 pub question_end_or_fault : QuestionEndOrFault
 question_end_or_fault b = record { some = question_end b; one = one_question_end b; not_both = only_question_end b; one_fault = one_question_skip_fault b }
+
+pub header_or_fault : HeaderOrFault
+header_or_fault b = record { some = header_at b; one = same_header b; not_both = only_header b; one_fault = one_header_fault b }
 
 pub record_or_fault : RecordOrFault
 record_or_fault b = record { some = record_at b; one = same_record b; not_both = only_record b; one_fault = one_record_fault b }

@@ -8,3 +8,6 @@ pub mod QuestionTextLemmas
 pub mod SpelledNumbers
 pub mod OneWords
 pub mod OneAnswer
+pub mod RecordReadingLemmas
+pub mod HeaderLemmas
+pub mod RecordLemmas

@@ -33,6 +33,26 @@ pub record ReadsQuestion (b : List ℕ) (p q : ℕ) (x : QuestionItem) : Type 0 
   pub rtype : x.rtype ≡ number_at w16 b skips.name_end
   pub class : x.class ≡ number_at w16 b (skips.name_end + 2)
 
+-- what is read of a record's header: its fields, the length of the data the last
+pub record HeaderEntry : Type 0 where
+  pub owner : Labels
+  pub rtype : ℕ
+  pub class : ℕ
+  pub ttl : ℕ
+  pub rdlen : ℕ
+
+-- a record's header can be read from p to q, and this is it; the data behind it plays no part
+pub record ReadsHeader (b : List ℕ) (p q : ℕ) (x : HeaderEntry) : Type 0 where
+  pub name_end : ℕ
+  pub walked : Walked b p name_end
+  pub end : q ≡ name_end + 10
+  pub within : q ≤ length b
+  pub owner : Stands b p x.owner
+  pub rtype : x.rtype ≡ number_at w16 b name_end
+  pub class : x.class ≡ number_at w16 b (name_end + 2)
+  pub ttl : x.ttl ≡ number_at w32 b (name_end + 4)
+  pub rdlen : x.rdlen ≡ number_at w16 b (name_end + 8)
+
 -- what is read of a record: its fields, and the places from which to which its data goes
 pub record RecordEntry : Type 0 where
   pub owner : Labels
@@ -61,6 +81,11 @@ pub data QuestionFaultAt (b : List ℕ) (p : ℕ) : Fault → Type 0 where
 pub data QuestionSkipFaultAt (b : List ℕ) (p : ℕ) : Fault → Type 0 where
   name : {f : Fault} → SkipFaultAt b p f → QuestionSkipFaultAt b p f
   short : {r : ℕ} → Walked b p r → length b < r + 4 → QuestionSkipFaultAt b p ShortInput
+
+-- Why no record header can be read at p: its owner has a fault, or the octets behind an owner that stands aren't all there.
+pub data HeaderFaultAt (b : List ℕ) (p : ℕ) : Fault → Type 0 where
+  owner : {f : Fault} → FaultAt b p f → HeaderFaultAt b p f
+  short : {owner : Labels} {r : ℕ} → Stands b p owner → Walked b p r → length b < r + 10 → HeaderFaultAt b p ShortInput
 
 -- the fixed fields behind an owner that ends at r aren't all there, or the data isn't
 pub data LacksRecord (b : List ℕ) (r : ℕ) : Type 0 where

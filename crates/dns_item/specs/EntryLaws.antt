@@ -1,7 +1,7 @@
 -- What holds of questions and records in all octets. RFC 1035 sections 4.1.2 and 4.1.3.
 use Rattle.std.specs.Prelude.{◌≡◌, ◌⊎◌, ℕ, List}
 use Rattle.dns_wire.specs.Fault.{Fault}
-use Rattle.dns_item.specs.Entries.{SkipsQuestion, SkipsRecord, ReadsQuestion, ReadsRecord, RecordEntry, QuestionFaultAt, QuestionSkipFaultAt, RecordFaultAt, RecordSkipFaultAt}
+use Rattle.dns_item.specs.Entries.{SkipsQuestion, SkipsRecord, ReadsQuestion, ReadsHeader, ReadsRecord, RecordEntry, QuestionFaultAt, QuestionSkipFaultAt, HeaderFaultAt, RecordFaultAt, RecordSkipFaultAt}
 use Rattle.dns_item.specs.Items.{QuestionItem}
 
 -- At each place there is exactly one thing to read, with one end, or exactly one fault, and never both.
@@ -25,6 +25,10 @@ QuestionOrFault = (b : List ℕ) → ReadsOrFaults (ReadsQuestion b) (QuestionFa
 -- so for records
 abbrev pub RecordOrFault : Type 0
 RecordOrFault = (b : List ℕ) → ReadsOrFaults (ReadsRecord b) (RecordFaultAt b)
+
+-- and for the headers of records
+abbrev pub HeaderOrFault : Type 0
+HeaderOrFault = (b : List ℕ) → ReadsOrFaults (ReadsHeader b) (HeaderFaultAt b)
 
 -- a question can be skipped at a place, or there is a fault
 abbrev pub QuestionEndOrFault : Type 0

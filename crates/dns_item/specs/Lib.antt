@@ -2,6 +2,10 @@ pub mod Ttl
 pub mod Items
 pub mod Entries
 pub mod Question
+pub mod RecordHeader
+pub mod ParsedRecord
+pub mod Record
+pub mod RecordReading
 pub mod EntryLaws
 pub mod ItemLaws
 pub mod QuestionErrors

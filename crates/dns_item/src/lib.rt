@@ -6,11 +6,18 @@
 #![tactic(auto)]
 
 pub mod laws;
+mod parsed_record;
 pub mod question;
 mod question_error;
 mod question_print;
 mod question_text;
+pub mod record;
+mod record_header;
+mod record_reading;
 mod ttl;
 
+pub use parsed_record::ParsedRecord;
 pub use question::{ComposeQuestion, Question};
+pub use record::{ComposeRecord, Record};
+pub use record_header::RecordHeader;
 pub use ttl::Ttl;

@@ -15,8 +15,8 @@ use dns_wire::{AppendError, Composer, ParseError, ParsedName, Parser, ToName};
 #[derive(Clone, Copy, Debug, PartialEq, Eq, PartialOrd, Ord, Hash, Drop)]
 pub struct Question<N> {
     qname: N,
-    qtype: Rtype,
-    qclass: Class,
+    qtype: u16,
+    qclass: u16,
 }
 
 impl<N> Question<N> {
@@ -28,8 +28,8 @@ impl<N> Question<N> {
     {
         Question {
             qname,
-            qtype,
-            qclass,
+            qtype: qtype.to_int(),
+            qclass: qclass.to_int(),
         }
     }
 
@@ -61,14 +61,14 @@ impl<N> Question<N> {
     pub fn qtype(&self) -> Rtype
         ensures { result ≡ qtype_of self.now }
     {
-        self.qtype
+        Rtype::from_int(self.qtype)
     }
 
     /// The class.
     pub fn qclass(&self) -> Class
         ensures { result ≡ qclass_of self.now }
     {
-        self.qclass
+        Class::from_int(self.qclass)
     }
 }
 
@@ -149,8 +149,8 @@ impl<N: ToName> Question<N> {
         ensures item { IsQuestion (question_item N.name self.now) }
     {
         let name = self.qname.as_parsed();
-        let [a, b] = self.qtype.to_int().to_be_bytes();
-        let [c, d] = self.qclass.to_int().to_be_bytes();
+        let [a, b] = self.qtype().to_int().to_be_bytes();
+        let [c, d] = self.qclass().to_int().to_be_bytes();
         target.append_compressed_name(&name)?;
         target.append_slice(&[a, b, c, d])
     }

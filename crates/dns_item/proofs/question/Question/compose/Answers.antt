@@ -26,7 +26,7 @@ returns-clause-composes g c =
     let x = question_item g.N.ToName.name c.args.self.now in
     composes_both _ _ (put_name g.T.Composer.rule x.name) (put_octets (question_fields x)) _ _ _ _ (put_name_grows g.T.Composer.rule x.name)
     (rw c.as_parsed-name.ensures.labels at c.in_ok-append_compressed_name.ensures.ok)
-    (appends_compose _ _ _ _ _ _ (rw (c.to_be_bytes.ensures, c.to_be_bytes-2.ensures, c.to_int.ensures, c.to_int-2.ensures) at c.append_slice.ensures))
+    (appends_compose _ _ _ _ _ _ (rw (c.to_be_bytes.ensures, c.to_be_bytes-2.ensures, c.to_int.ensures, c.to_int-2.ensures, c.qtype.ensures, c.qclass.ensures) at c.append_slice.ensures))
 
 pub returns-clause-item : goal.returns-clause-item
 returns-clause-item g c = record { name = c.as_parsed-name.ensures.is_name; rtype = omega arith; class = omega arith }

@@ -1,0 +1,55 @@
+-- What parsing and skipping a record answer, in both directions.
+use Rattle.std.proofs.Common.{◌≡◌, ℕ, ◌+◌, ◌<◌, ◌≤◌, List, length, arith, ap, sym, ◌∙◌, refl, subst}
+use Rattle.std.specs.Int.{w16}
+use Rattle.std.specs.Prelude.{Result, Ok, Err, IsOk}
+use Rattle.dns_wire.specs.Fault.{fault_of}
+use Rattle.dns_wire.specs.ParsedName.{AnswersFault, MovesBehindName}
+use Rattle.dns_wire.specs.Parsers.{seen, place, number_at, MovesTo}
+use Rattle.dns_wire.specs.declared.error.ParseError.{ParseError}
+use Rattle.dns_wire.specs.declared.error.ParseError.TheVariants.{ShortInput}
+use Rattle.dns_wire.specs.declared.parser.Parser.{Parser}
+use Rattle.dns_item.specs.Entries.{SkipsRecord, RecordFaultAt, RecordSkipFaultAt}
+use Rattle.dns_item.specs.Entries.LacksRecord.{fields, rdata}
+use Rattle.dns_item.specs.Entries.RecordSkipFaultAt.{short as unended_record}
+use Rattle.dns_item.specs.ParsedRecord.{ParsesRecord, ReadsReadableRecord, SkipsOverRecord}
+use Rattle.dns_item.specs.declared.parsed_record.ParsedRecord.{ParsedRecord}
+use Rattle.dns_item.proofs.EntryLemmas.{record_or_fault, record_end_or_fault}
+
+-- what can be read is what is given
+pub reads_readable : (old new : Parser) (r : Result ParsedRecord ParseError) → ParsesRecord old new r → ReadsReadableRecord (seen old) (place old) r
+reads_readable old new (Ok r) h q x reads = ((record_or_fault (seen old)).one (place old) _ _ _ _ h.0 reads).1
+reads_readable old new (Err e) h q x reads = absurd ((record_or_fault (seen old)).not_both (place old) q x (fault_of e) reads h.0)
+
+-- a fault is what is answered
+pub parse_answers_fault : (old new : Parser) (r : Result ParsedRecord ParseError) → ParsesRecord old new r → AnswersFault (RecordFaultAt (seen old) (place old)) r
+parse_answers_fault old new (Ok r) h f fault = absurd ((record_or_fault (seen old)).not_both (place old) _ _ f h.0 fault)
+parse_answers_fault old new (Err e) h f fault = (record_or_fault (seen old)).one_fault (place old) _ _ h.0 fault
+
+-- what can be skipped is skipped
+pub skips_skippable : (old new : Parser) (r : Result Unit ParseError) → SkipsOverRecord old new r → (q : ℕ) → SkipsRecord (seen old) (place old) q → IsOk r
+skips_skippable old new (Ok _) h q skips = refl
+skips_skippable old new (Err e) h q skips = absurd ((record_end_or_fault (seen old)).not_both (place old) q (fault_of e) skips h.0)
+
+-- a fault is what is answered
+pub skip_answers_fault : (old new : Parser) (r : Result Unit ParseError) → SkipsOverRecord old new r → AnswersFault (RecordSkipFaultAt (seen old) (place old)) r
+skip_answers_fault old new (Ok _) h f fault = absurd ((record_end_or_fault (seen old)).not_both (place old) _ f h.0 fault)
+skip_answers_fault old new (Err e) h f fault = (record_end_or_fault (seen old)).one_fault (place old) _ _ h.0 fault
+
+-- of the ten octets behind a passed owner, some aren't there
+pub without_fields : (old mid : Parser) (n : ℕ) (e : ParseError) → MovesBehindName old mid → n < place mid + 10 → n ≡ length (seen mid) → e ≡ ShortInput
+    → RecordSkipFaultAt (seen old) (place old) (fault_of e)
+without_fields old mid n e moves l long is =
+    let k : length (seen mid) ≡ length (seen old) = ap length moves.1.seen in
+    subst (λ e. RecordSkipFaultAt (seen old) (place old) (fault_of e)) (sym is) (unended_record moves.0 (fields (omega arith)))
+
+-- the ten octets are there, but not all of the data
+pub without_data : (old mid behind last : Parser) (n : ℕ) (e : ParseError) → MovesBehindName old mid → MovesTo mid behind (place mid + 8) → MovesTo behind last (place behind + 2)
+    → place behind + 2 ≤ length (seen behind) → n ≡ number_at w16 (seen behind) (place behind) → length (seen last) < place last + n → e ≡ ShortInput → RecordSkipFaultAt (seen old) (place old) (fault_of e)
+without_data old mid behind last n e moves first second long is l short_input =
+    let there : seen behind ≡ seen old = first.seen ∙ moves.1.seen in
+    let k : length (seen behind) ≡ length (seen old) = ap length there in
+    let m : length (seen last) ≡ length (seen behind) = ap length second.seen in
+    let p = first.place in
+    let q = second.place in
+    let number : n ≡ number_at w16 (seen old) (place mid + 8) = is ∙ ap (λ (b : List ℕ). number_at w16 b (place behind)) there ∙ ap (number_at w16 (seen old)) p in
+    subst (λ e. RecordSkipFaultAt (seen old) (place old) (fault_of e)) (sym short_input) (unended_record moves.0 (rdata (omega arith) (omega arith)))

@@ -1,0 +1,42 @@
+-- The parts of a record that was read, and what parsing and skipping one answer. RFC 1035 section 4.1.3.
+use Rattle.std.specs.Prelude.{◌≡◌, ℕ, List, Result, Ok, Err, IsOkAnd}
+use Rattle.dns_wire.specs.Fault.{fault_of}
+use Rattle.dns_wire.specs.Parsers.{seen, place, MovesTo}
+use Rattle.dns_wire.specs.declared.error.ParseError.{ParseError}
+use Rattle.dns_wire.specs.declared.parsed_name.ParsedName.{ParsedName}
+use Rattle.dns_wire.specs.declared.parser.Parser.{Parser}
+use Rattle.dns_item.specs.Entries.{SkipsRecord, RecordEntry, ReadsRecord, RecordFaultAt, RecordSkipFaultAt}
+use Rattle.dns_item.specs.RecordHeader.{record_at}
+use Rattle.dns_item.specs.declared.parsed_record.ParsedRecord.{ParsedRecord}
+use Rattle.dns_item.specs.declared.record_header.RecordHeader.{RecordHeader}
+
+-- the header
+abbrev pub header_of : ParsedRecord → RecordHeader ParsedName
+header_of r = r.header
+
+-- the parser that stands at the data
+abbrev pub data_parser : ParsedRecord → Parser
+data_parser r = r.«data»
+
+-- the octets that the record and its data are read from
+abbrev pub octets_of : ParsedRecord → List ℕ
+octets_of r = seen (data_parser r)
+
+-- what is read of the record
+abbrev pub parsed_entry : ParsedRecord → RecordEntry
+parsed_entry r = record_at (header_of r) (place (data_parser r))
+
+-- What parsing gives is the record that can be read at the parser's place, behind which the parser then stands, and the data's parser sees the same octets. Or it is the fault there, and the parser stays.
+abbrev pub ParsesRecord : Parser → Parser → Result ParsedRecord ParseError → Type 0
+ParsesRecord old new (Ok r) =
+    ReadsRecord (seen old) (place old) (place new) (parsed_entry r) × MovesTo old new (place new) × MovesTo old (data_parser r) (place (data_parser r))
+ParsesRecord old new (Err e) = RecordFaultAt (seen old) (place old) (fault_of e) × (new ≡ old)
+
+-- a record that can be read at the place is what is given
+abbrev pub ReadsReadableRecord : List ℕ → ℕ → Result ParsedRecord ParseError → Type 0
+ReadsReadableRecord b p result = (q : ℕ) (x : RecordEntry) → ReadsRecord b p q x → IsOkAnd result (λ r. parsed_entry r ≡ x)
+
+-- Skipping moves behind the record, or answers the fault of one that can't be skipped, and the parser stays.
+abbrev pub SkipsOverRecord : Parser → Parser → Result Unit ParseError → Type 0
+SkipsOverRecord old new (Ok _) = SkipsRecord (seen old) (place old) (place new) × MovesTo old new (place new)
+SkipsOverRecord old new (Err e) = RecordSkipFaultAt (seen old) (place old) (fault_of e) × (new ≡ old)

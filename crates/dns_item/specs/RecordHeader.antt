@@ -1,0 +1,68 @@
+-- The fields of a record's header, and what parsing one answers. RFC 1035 section 4.1.3.
+use Rattle.std.specs.Prelude.{◌≡◌, ℕ, ◌+◌, List, Result, Ok, Err, IsOkAnd}
+use Rattle.std.specs.Int.{w16, w32}
+use Rattle.dns_wire.specs.Fault.{fault_of}
+use Rattle.dns_wire.specs.ParsedName.{labels}
+use Rattle.dns_wire.specs.Parsers.{seen, place, number_at, MovesTo}
+use Rattle.dns_wire.specs.declared.error.ParseError.{ParseError}
+use Rattle.dns_wire.specs.declared.parsed_name.ParsedName.{ParsedName}
+use Rattle.dns_wire.specs.declared.parser.Parser.{Parser}
+use Rattle.dns_item.specs.Entries.{HeaderEntry, ReadsHeader, HeaderFaultAt, RecordEntry, ReadsRecord, RecordFaultAt}
+use Rattle.dns_item.specs.declared.record_header.RecordHeader.{RecordHeader}
+
+-- the fields
+abbrev pub owner_of : {N : Type 0} → RecordHeader N → N
+owner_of header = header.owner
+
+abbrev pub rtype_of : {N : Type 0} → RecordHeader N → ℕ
+rtype_of header = header.rtype
+
+abbrev pub class_of : {N : Type 0} → RecordHeader N → ℕ
+class_of header = header.class
+
+abbrev pub ttl_of : {N : Type 0} → RecordHeader N → ℕ
+ttl_of header = header.ttl
+
+abbrev pub rdlen_of : {N : Type 0} → RecordHeader N → ℕ
+rdlen_of header = header.rdlen
+
+-- what a header over a name in an input says
+abbrev pub parsed_header : RecordHeader ParsedName → HeaderEntry
+parsed_header header = record { owner = labels (owner_of header); rtype = rtype_of header; class = class_of header; ttl = ttl_of header; rdlen = rdlen_of header }
+
+-- the record of a header whose data starts at a place
+abbrev pub record_at : RecordHeader ParsedName → ℕ → RecordEntry
+record_at header start =
+    record {
+      owner = labels (owner_of header);
+      rtype = rtype_of header;
+      class = class_of header;
+      ttl = ttl_of header;
+      data_start = start;
+      data_end = start + rdlen_of header;
+    }
+
+-- What parsing gives is the header that can be read at the parser's place, behind which the parser then stands; or the fault there, and the parser stays.
+abbrev pub ParsesHeader : Parser → Parser → Result (RecordHeader ParsedName) ParseError → Type 0
+ParsesHeader old new (Ok header) = ReadsHeader (seen old) (place old) (place new) (parsed_header header) × MovesTo old new (place new)
+ParsesHeader old new (Err e) = HeaderFaultAt (seen old) (place old) (fault_of e) × (new ≡ old)
+
+-- a header that can be read at the place is what is given
+abbrev pub ReadsReadableHeader : List ℕ → ℕ → Result (RecordHeader ParsedName) ParseError → Type 0
+ReadsReadableHeader b p result = (q : ℕ) (x : HeaderEntry) → ReadsHeader b p q x → IsOkAnd result (λ header. parsed_header header ≡ x)
+
+-- The same where the data is passed too: a header is given where a record of its fields can be read, behind which the parser then stands.
+abbrev pub ParsesAndSkips : Parser → Parser → Result (RecordHeader ParsedName) ParseError → Type 0
+ParsesAndSkips old new (Ok header) = ((start : ℕ) × ReadsRecord (seen old) (place old) (place new) (record_at header start)) × MovesTo old new (place new)
+ParsesAndSkips old new (Err e) = RecordFaultAt (seen old) (place old) (fault_of e) × (new ≡ old)
+
+-- the header of a record that can be read at the place is what is given
+abbrev pub ReadsHeaderOfReadable : List ℕ → ℕ → Result (RecordHeader ParsedName) ParseError → Type 0
+ReadsHeaderOfReadable b p result = (q : ℕ) (x : RecordEntry) → ReadsRecord b p q x → IsOkAnd result (λ header. record_at header x.data_start ≡ x)
+
+-- the numbers at a place, behind an owner that ends there: type, class, TTL and the length of the data
+pub record AreFieldsAt (b : List ℕ) (p type_field class_field ttl_field length_field : ℕ) : Type 0 where
+  pub rtype : type_field ≡ number_at w16 b p
+  pub class : class_field ≡ number_at w16 b (p + 2)
+  pub ttl : ttl_field ≡ number_at w32 b (p + 4)
+  pub rdlen : length_field ≡ number_at w16 b (p + 8)

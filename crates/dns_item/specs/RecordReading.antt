@@ -1,0 +1,87 @@
+-- What reading the data of a record answers. RFC 1035 sections 3.3 and 4.1.3.
+use Rattle.std.specs.Prelude.{◌≡◌, ℕ, ◌<◌, ◌≤◌, List, length, take, Option, None, Some, Result, Ok, Err, IsOkAnd, IsSomeAnd, ⊤}
+use Rattle.dns_wire.specs.Fault.{Fault, fault_of}
+use Rattle.dns_wire.specs.Fault.Fault.{Form}
+use Rattle.dns_wire.specs.Parsers.{seen, MovesTo}
+use Rattle.dns_wire.specs.Parts.{Part, PartsStand}
+use Rattle.dns_wire.specs.declared.error.ParseError.{ParseError}
+use Rattle.dns_wire.specs.declared.error.ParseError.TheVariants.{ShortInput}
+use Rattle.dns_wire.specs.declared.parser.Parser.{Parser}
+use Rattle.dns_data.specs.Layout.{Layout, IsLaidOut, DataStands, DataFaultAt}
+use Rattle.dns_item.specs.Entries.{RecordEntry}
+use Rattle.dns_item.specs.Items.{RecordItem}
+
+-- Why the octets from p to the end aren't data of a layout: the first fault, or octets are left over behind the data.
+pub data WholeDataFaultAt (b : List ℕ) (layout : Layout) (p : ℕ) : Fault → Type 0 where
+  first : {f : Fault} → DataFaultAt b layout p f → WholeDataFaultAt b layout p f
+  left_over : (q : ℕ) (parts : List Part) → DataStands b layout p q parts → q < length b → WholeDataFaultAt b layout p Form
+
+-- the record of what was read of it, and of the parts of its data
+abbrev pub item_of : RecordEntry → List Part → RecordItem
+item_of x parts = record { owner = x.owner; rtype = x.rtype; class = x.class; ttl = x.ttl; parts = parts }
+
+-- a record's data is there
+abbrev pub IsThere : List ℕ → RecordEntry → Type 0
+IsThere b x = x.data_end ≤ length b
+
+-- The parser is then behind a record's data, where that is there, and else stays.
+pub record MovesBehindData (old new : Parser) (x : RecordEntry) : Type 0 where
+  pub there : IsThere (seen old) x → MovesTo old new x.data_end
+  pub missing : (IsThere (seen old) x → ⊥) → new ≡ old
+
+-- data that isn't there is `ShortInput`
+abbrev pub MissingIsShort : {T : Type 0} → List ℕ → RecordEntry → Result T ParseError → Type 0
+MissingIsShort b x result = (IsThere b x → ⊥) → result ≡ Err ShortInput
+
+-- the octets up to the end of a record's data
+abbrev pub up_to_data_end : List ℕ → RecordEntry → List ℕ
+up_to_data_end b x = take x.data_end b
+
+-- Data of the layout goes from the start of a record's data to its end, and these are its parts.
+abbrev pub HasData : List ℕ → RecordEntry → Layout → List Part → Type 0
+HasData b x layout parts = DataStands (up_to_data_end b x) layout x.data_start x.data_end parts
+
+-- the fault of a record whose data isn't of the layout
+abbrev pub HasDataFault : List ℕ → RecordEntry → Layout → Fault → Type 0
+HasDataFault b x layout f = WholeDataFaultAt (up_to_data_end b x) layout x.data_start f
+
+module _ {R : Type 0} (item : R → RecordItem) (b : List ℕ) (x : RecordEntry) where
+  -- What reading a record's data gives: the record with the parts that are there, or the fault.
+  abbrev pub GivesLaidOut : Layout → Result R ParseError → Type 0
+  GivesLaidOut layout (Ok r) = (item r ≡ item_of x (item r).parts) × HasData b x layout (item r).parts
+  GivesLaidOut layout (Err e) = HasDataFault b x layout (fault_of e)
+
+  -- the same where the type may not be taken: then there is no record
+  abbrev pub GivesTaken : Option Layout → Result (Option R) ParseError → Type 0
+  GivesTaken None (Ok None) = ⊤
+  GivesTaken None (Ok (Some r)) = ⊥
+  GivesTaken None (Err e) = ⊥
+  GivesTaken (Some layout) (Ok None) = ⊥
+  GivesTaken (Some layout) (Ok (Some r)) = GivesLaidOut layout (Ok r)
+  GivesTaken (Some layout) (Err e) = GivesLaidOut layout (Err e)
+
+  -- parts that are of the layout and fill the data are given back
+  abbrev pub GivesBackLaidOut : Layout → Result R ParseError → Type 0
+  GivesBackLaidOut layout result =
+      (parts : List Part) → IsThere b x → IsLaidOut layout parts → PartsStand b x.data_end x.data_start parts → IsOkAnd result (λ r. item r ≡ item_of x parts)
+
+  -- the same where the type may not be taken
+  abbrev pub GivesBackTaken : Option Layout → Result (Option R) ParseError → Type 0
+  GivesBackTaken taken result =
+      (layout : Layout) (parts : List Part) → taken ≡ Some layout → IsThere b x → IsLaidOut layout parts → PartsStand b x.data_end x.data_start parts
+      → IsOkAnd result (λ o. IsSomeAnd o (λ r. item r ≡ item_of x parts))
+
+module _ {D : Type 0} (rtype_of : D → ℕ) (parts_of : D → List Part) (b : List ℕ) (p : ℕ) where
+  -- What reading data from p to the end gives: the data that goes so far, or the fault.
+  abbrev pub IsWhole : ℕ → Layout → Result D ParseError → Type 0
+  IsWhole rtype layout (Ok value) = (rtype_of value ≡ rtype) × DataStands b layout p (length b) (parts_of value)
+  IsWhole rtype layout (Err e) = WholeDataFaultAt b layout p (fault_of e)
+
+  -- the same where the type may not be taken
+  abbrev pub IsWholeTaken : ℕ → Option Layout → Result (Option D) ParseError → Type 0
+  IsWholeTaken rtype None (Ok None) = ⊤
+  IsWholeTaken rtype None (Ok (Some value)) = ⊥
+  IsWholeTaken rtype None (Err e) = ⊥
+  IsWholeTaken rtype (Some layout) (Ok None) = ⊥
+  IsWholeTaken rtype (Some layout) (Ok (Some value)) = IsWhole rtype layout (Ok value)
+  IsWholeTaken rtype (Some layout) (Err e) = IsWhole rtype layout (Err e)

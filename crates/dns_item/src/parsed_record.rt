@@ -1,0 +1,117 @@
+//! Records whose data isn't read yet (RFC 1035 section 4.1.3).
+ghost use Rattle.std.specs.Prelude.{◌≡◌, ℕ, IsOk};
+ghost use Rattle.dns_wire.specs.ParsedName.{AnswersFault};
+ghost use Rattle.dns_wire.specs.Parsers.{seen, place};
+ghost use Rattle.dns_item.specs.Entries.{SkipsRecord, RecordFaultAt, RecordSkipFaultAt};
+ghost use Rattle.dns_item.specs.RecordHeader.{owner_of, rtype_of, class_of, ttl_of, rdlen_of};
+ghost use Rattle.dns_item.specs.ParsedRecord.{header_of, data_parser, ParsesRecord, ReadsReadableRecord, SkipsOverRecord};
+
+use crate::record_header::RecordHeader;
+use crate::ttl::Ttl;
+use dns_code::{Class, Rtype};
+use dns_wire::{ParseError, ParsedName, Parser};
+
+/// A record as it stands in a message: its header, and the place of its data, which isn't read yet
+/// (RFC 1035 section 4.1.3). It borrows the message.
+#[derive(Clone, Copy, Debug, Drop)]
+pub struct ParsedRecord<'a> {
+    pub(crate) header: RecordHeader<ParsedName<'a>>,
+    /// Stands at the data, and sees all of the message.
+    pub(crate) data: Parser<'a>,
+}
+
+impl<'a> ParsedRecord<'a> {
+    /// The record of a header and a parser that stands at the data.
+    pub fn new(header: RecordHeader<ParsedName<'a>>, data: Parser<'a>) -> Self
+        ensures header { header_of result ≡ header.entry }
+        ensures parser { data_parser result ≡ «data».entry }
+    {
+        ParsedRecord { header, data }
+    }
+
+    /// The name that the record belongs to.
+    pub fn owner(&self) -> ParsedName<'a>
+        ensures { result ≡ owner_of (header_of self.now) }
+    {
+        *self.header.owner()
+    }
+
+    /// The record type.
+    pub fn rtype(&self) -> Rtype
+        ensures { result ≡ rtype_of (header_of self.now) }
+    {
+        self.header.rtype()
+    }
+
+    /// The class.
+    pub fn class(&self) -> Class
+        ensures { result ≡ class_of (header_of self.now) }
+    {
+        self.header.class()
+    }
+
+    /// How long the record may be kept.
+    pub fn ttl(&self) -> Ttl
+        ensures { result ≡ ttl_of (header_of self.now) }
+    {
+        self.header.ttl()
+    }
+
+    /// How many octets the data has.
+    pub fn rdlen(&self) -> u16
+        ensures { result ≡ rdlen_of (header_of self.now) }
+    {
+        self.header.rdlen()
+    }
+
+    /// Reads the record at the parser's place, but for its data, and moves behind the data.
+    ///
+    /// The fault of its owner is answered, or `ShortInput` where the octets behind the owner or the data aren't all there.
+    /// Then the parser stays.
+    pub fn parse(parser: &mut Parser<'a>) -> Result<Self, ParseError>
+        ensures parses { ParsesRecord parser.old parser.new result }
+        ensures parsed { ReadsReadableRecord (seen parser.old) (place parser.old) result }
+        ensures fault { AnswersFault (RecordFaultAt (seen parser.old) (place parser.old)) result }
+    {
+        ParsedRecord::read(parser)
+    }
+
+    fn read(parser: &mut Parser<'a>) -> Result<Self, ParseError>
+        ensures { ParsesRecord parser.old parser.new result }
+    {
+        let mut ahead = *parser;
+        match RecordHeader::parse(&mut ahead) {
+            Ok(header) => {
+                let data = ahead;
+                ahead.advance(usize::from(header.rdlen()))?;
+                *parser = ahead;
+                Ok(ParsedRecord { header, data })
+            }
+            Err(error) => Err(error),
+        }
+    }
+
+    /// Passes a record without following a pointer in its owner, and without a look at its data.
+    ///
+    /// The fault of passing its owner is answered, or `ShortInput` where the octets behind the owner or the data aren't all
+    /// there. Then the parser stays.
+    pub fn skip(parser: &mut Parser<'_>) -> Result<(), ParseError>
+        ensures skips { SkipsOverRecord parser.old parser.new result }
+        ensures skippable { (q : ℕ) → SkipsRecord (seen parser.old) (place parser.old) q → IsOk result }
+        ensures fault { AnswersFault (RecordSkipFaultAt (seen parser.old) (place parser.old)) result }
+    {
+        ParsedRecord::pass(parser)
+    }
+
+    fn pass(parser: &mut Parser<'_>) -> Result<(), ParseError>
+        ensures { SkipsOverRecord parser.old parser.new result }
+    {
+        let mut ahead = *parser;
+        ParsedName::skip(&mut ahead)?;
+        ahead.advance(8)?;
+        let rdlen = ahead.parse_u16_be()?;
+        ahead.advance(usize::from(rdlen))?;
+        *parser = ahead;
+        Ok(())
+    }
+}

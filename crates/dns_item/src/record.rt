@@ -1,0 +1,245 @@
+//! Records (RFC 1035 section 4.1.3).
+ghost use Rattle.std.specs.Prelude.{◌≡◌, ◌++◌, OnOk};
+ghost use Rattle.std.specs.Int.{to_be_bytes, w16, w32};
+ghost use Rattle.dns_wire.specs.Targets.{Composes};
+ghost use Rattle.dns_item.specs.Items.{RecordItem, IsRecord, put_record};
+ghost use Rattle.dns_item.specs.Record.{owner_of, class_of, ttl_of, data_of, HasFields, record_item, item_of_fields};
+
+use crate::ttl::Ttl;
+use dns_code::{Class, Rtype};
+use dns_data::{ComposeRecordData, RecordData, compose_len_rdata};
+use dns_wire::{AppendError, Composer, ToName};
+
+/// A record: its owner, its class, its TTL and its data, which tells its type (RFC 1035 section 4.1.3).
+#[derive(Clone, Copy, Debug, Drop)]
+pub struct Record<N, D> {
+    owner: N,
+    class: u16,
+    ttl: u32,
+    data: D,
+}
+
+impl<N, D> Record<N, D> {
+    /// A record of this name with this data.
+    pub fn new(owner: N, class: Class, ttl: Ttl, data: D) -> Self
+        ensures { HasFields result owner class ttl «data» }
+    {
+        Record {
+            owner,
+            class: class.to_int(),
+            ttl: ttl.as_secs(),
+            data,
+        }
+    }
+
+    /// The record with its owner and its data converted.
+    pub fn from_record<M, E>(record: Record<M, E>) -> Self
+    where
+        N: From<M>,
+        D: From<E>,
+        ensures owner { N.from_gives (owner_of «record») (owner_of result) }
+        ensures class { class_of result ≡ class_of «record» }
+        ensures ttl { ttl_of result ≡ ttl_of «record» }
+        ensures value { D.from_gives (data_of «record») (data_of result) }
+    {
+        let class = record.class();
+        let ttl = record.ttl();
+        let Record { owner, data, .. } = record;
+        Record::new(N::from(owner), class, ttl, D::from(data))
+    }
+
+    /// The name that the record is about.
+    pub fn owner(&self) -> &N
+        ensures { result.now ≡ owner_of self.now }
+    {
+        &self.owner
+    }
+
+    /// The class.
+    pub fn class(&self) -> Class
+        ensures { result ≡ class_of self.now }
+    {
+        Class::from_int(self.class)
+    }
+
+    /// Changes the class.
+    pub fn set_class(&mut self, class: Class)
+        ensures { HasFields self.new (owner_of self.old) class (ttl_of self.old) (data_of self.old) }
+    {
+        self.class = class.to_int();
+    }
+
+    /// How long the record may be kept.
+    pub fn ttl(&self) -> Ttl
+        ensures { result ≡ ttl_of self.now }
+    {
+        Ttl::from_secs(self.ttl)
+    }
+
+    /// Changes how long the record may be kept.
+    pub fn set_ttl(&mut self, ttl: Ttl)
+        ensures { HasFields self.new (owner_of self.old) (class_of self.old) ttl (data_of self.old) }
+    {
+        self.ttl = ttl.as_secs();
+    }
+
+    /// The data.
+    pub fn data(&self) -> &D
+        ensures { result.now ≡ data_of self.now }
+    {
+        &self.data
+    }
+}
+
+impl<N: Drop, D> Record<N, D> {
+    /// The data, taken out.
+    pub fn into_data(self) -> D
+        ensures { result ≡ data_of self }
+    {
+        let Record { data, .. } = self;
+        data
+    }
+}
+
+impl<N, D> Record<N, D> {
+    /// The owner and the data, taken out.
+    pub fn into_owner_and_data(self) -> (N, D)
+        ensures owner { result.0 ≡ owner_of self }
+        ensures value { result.1 ≡ data_of self }
+    {
+        let Record { owner, data, .. } = self;
+        (owner, data)
+    }
+}
+
+impl<N, D: RecordData> Record<N, D> {
+    /// The type of the data.
+    pub fn rtype(&self) -> Rtype
+        ensures { result ≡ D.rtype_of (data_of self.now) }
+    {
+        self.data.rtype()
+    }
+}
+
+/// The record of an owner, a class, a TTL and data.
+impl<N, D> From<(N, Class, Ttl, D)> for Record<N, D> {
+    ghost from_gives = { λ fields r. HasFields r fields.0 fields.1 fields.2 fields.3 };
+
+    fn from((owner, class, ttl, data): (N, Class, Ttl, D)) -> Self {
+        Record::new(owner, class, ttl, data)
+    }
+}
+
+/// The same with the TTL in seconds.
+impl<N, D> From<(N, Class, u32, D)> for Record<N, D> {
+    ghost from_gives = { λ fields r. HasFields r fields.0 fields.1 fields.2 fields.3 };
+
+    fn from((owner, class, seconds, data): (N, Class, u32, D)) -> Self {
+        Record::new(owner, class, Ttl::from_secs(seconds), data)
+    }
+}
+
+/// A record in the class IN, with the TTL in seconds.
+impl<N, D> From<(N, u32, D)> for Record<N, D> {
+    ghost from_gives = { λ fields r. HasFields r fields.0 1 fields.1 fields.2 };
+
+    fn from((owner, seconds, data): (N, u32, D)) -> Self {
+        Record::new(owner, Class::IN, Ttl::from_secs(seconds), data)
+    }
+}
+
+impl<N: ToName, D: ComposeRecordData> Record<N, D> {
+    /// Appends the record: its owner by the target's rule, type, class, TTL, and its data behind the length of the data.
+    ///
+    /// Where it is refused the content still begins with the old one, and a `truncate` to the old length gives the old
+    /// target back.
+    pub fn compose<T: Composer>(&self, target: &mut T) -> Result<(), AppendError>
+        ensures composes { Composes T.room T.grows (put_record T.rule (record_item N.name D.rtype_of D.parts self.now)) (T.written target.old) (T.written target.new) result }
+        ensures is_record { OnOk result (IsRecord (record_item N.name D.rtype_of D.parts self.now)) }
+    {
+        let owner = self.owner.as_parsed();
+        let fields = field_octets(self.rtype(), self.class(), self.ttl());
+        target.append_compressed_name(&owner)?;
+        target.append_slice(&fields)?;
+        compose_len_rdata(&self.data, target)
+    }
+}
+
+/// The octets of a type, a class and a TTL.
+fn field_octets(rtype: Rtype, class: Class, ttl: Ttl) -> [u8; 8]
+    ensures { result ≡ to_be_bytes w16 rtype ++ to_be_bytes w16 class ++ to_be_bytes w32 ttl }
+{
+    let [a, b] = rtype.to_int().to_be_bytes();
+    let [c, d] = class.to_int().to_be_bytes();
+    let [e, f, g, h] = ttl.as_secs().to_be_bytes();
+    [a, b, c, d, e, f, g, h]
+}
+
+/// What can be pushed into a record section.
+pub trait ComposeRecord {
+    /// The record.
+    ghost item: { Self → RecordItem };
+
+    /// Appends the record: its owner by the target's rule, type, class, TTL, and its data behind the length of the data.
+    ///
+    /// Where it is refused the content still begins with the old one, and a `truncate` to the old length gives the old
+    /// target back.
+    fn compose_record<T: Composer>(&self, target: &mut T) -> Result<(), AppendError>
+        ensures composes { Composes T.room T.grows (put_record T.rule (item self.now)) (T.written target.old) (T.written target.new) result }
+        ensures is_record { OnOk result (IsRecord (item self.now)) };
+}
+
+impl<R: ComposeRecord> ComposeRecord for &R {
+    ghost item = { λ r. R.item r.now };
+
+    fn compose_record<T: Composer>(&self, target: &mut T) -> Result<(), AppendError> {
+        (**self).compose_record(target)
+    }
+}
+
+impl<N: ToName, D: ComposeRecordData> ComposeRecord for Record<N, D> {
+    ghost item = { λ r. record_item N.name D.rtype_of D.parts r };
+
+    fn compose_record<T: Composer>(&self, target: &mut T) -> Result<(), AppendError> {
+        self.compose(target)
+    }
+}
+
+impl<N: ToName, D: ComposeRecordData> ComposeRecord for (N, Class, Ttl, D) {
+    ghost item = { λ fields. item_of_fields N.name D.rtype_of D.parts fields.0 fields.1 fields.2 fields.3 };
+
+    fn compose_record<T: Composer>(&self, target: &mut T) -> Result<(), AppendError> {
+        let (owner, class, ttl, data) = self;
+        Record::new(owner, *class, *ttl, data).compose(target)
+    }
+}
+
+/// With the TTL in seconds.
+impl<N: ToName, D: ComposeRecordData> ComposeRecord for (N, Class, u32, D) {
+    ghost item = { λ fields. item_of_fields N.name D.rtype_of D.parts fields.0 fields.1 fields.2 fields.3 };
+
+    fn compose_record<T: Composer>(&self, target: &mut T) -> Result<(), AppendError> {
+        let (owner, class, seconds, data) = self;
+        Record::new(owner, *class, Ttl::from_secs(*seconds), data).compose(target)
+    }
+}
+
+/// In the class IN.
+impl<N: ToName, D: ComposeRecordData> ComposeRecord for (N, Ttl, D) {
+    ghost item = { λ fields. item_of_fields N.name D.rtype_of D.parts fields.0 1 fields.1 fields.2 };
+
+    fn compose_record<T: Composer>(&self, target: &mut T) -> Result<(), AppendError> {
+        let (owner, ttl, data) = self;
+        Record::new(owner, Class::IN, *ttl, data).compose(target)
+    }
+}
+
+/// In the class IN, with the TTL in seconds.
+impl<N: ToName, D: ComposeRecordData> ComposeRecord for (N, u32, D) {
+    ghost item = { λ fields. item_of_fields N.name D.rtype_of D.parts fields.0 1 fields.1 fields.2 };
+
+    fn compose_record<T: Composer>(&self, target: &mut T) -> Result<(), AppendError> {
+        let (owner, seconds, data) = self;
+        Record::new(owner, Class::IN, Ttl::from_secs(*seconds), data).compose(target)
+    }
+}

@@ -1,0 +1,158 @@
+//! Record headers (RFC 1035 section 4.1.3).
+ghost use Rattle.std.specs.Prelude.{◌≡◌};
+ghost use Rattle.dns_wire.specs.ParsedName.{AnswersFault};
+ghost use Rattle.dns_wire.specs.Parsers.{seen, place, Takes};
+ghost use Rattle.dns_item.specs.Entries.{HeaderFaultAt, RecordFaultAt};
+ghost use Rattle.dns_item.specs.Record.{HasFields};
+ghost use Rattle.dns_item.specs.RecordHeader.{owner_of, rtype_of, class_of, ttl_of, rdlen_of, AreFieldsAt, ParsesHeader, ReadsReadableHeader, ParsesAndSkips, ReadsHeaderOfReadable};
+
+use crate::record::Record;
+use crate::ttl::Ttl;
+use dns_code::{Class, Rtype};
+use dns_wire::{ParseError, ParsedName, Parser};
+
+/// A record but for its data: owner, type, class, TTL and the length of the data in octets (RFC 1035 section 4.1.3).
+#[derive(Clone, Copy, Debug, PartialEq, Eq, PartialOrd, Ord, Hash, Drop)]
+pub struct RecordHeader<N> {
+    owner: N,
+    rtype: u16,
+    class: u16,
+    ttl: u32,
+    rdlen: u16,
+}
+
+impl<N> RecordHeader<N> {
+    /// The header of a record with these fields, the length of its data in octets the last.
+    pub fn new(owner: N, rtype: Rtype, class: Class, ttl: Ttl, rdlen: u16) -> Self
+        ensures owner { owner_of result ≡ owner }
+        ensures rtype { rtype_of result ≡ rtype }
+        ensures class { class_of result ≡ class }
+        ensures ttl { ttl_of result ≡ ttl }
+        ensures rdlen { rdlen_of result ≡ rdlen }
+    {
+        RecordHeader {
+            owner,
+            rtype: rtype.to_int(),
+            class: class.to_int(),
+            ttl: ttl.as_secs(),
+            rdlen,
+        }
+    }
+
+    /// The name that the record belongs to.
+    pub fn owner(&self) -> &N
+        ensures { result.now ≡ owner_of self.now }
+    {
+        &self.owner
+    }
+
+    /// The record type.
+    pub fn rtype(&self) -> Rtype
+        ensures { result ≡ rtype_of self.now }
+    {
+        Rtype::from_int(self.rtype)
+    }
+
+    /// The class.
+    pub fn class(&self) -> Class
+        ensures { result ≡ class_of self.now }
+    {
+        Class::from_int(self.class)
+    }
+
+    /// How long the record may be kept.
+    pub fn ttl(&self) -> Ttl
+        ensures { result ≡ ttl_of self.now }
+    {
+        Ttl::from_secs(self.ttl)
+    }
+
+    /// How many octets the data has.
+    pub fn rdlen(&self) -> u16
+        ensures { result ≡ rdlen_of self.now }
+    {
+        self.rdlen
+    }
+
+    /// The record of this owner, class and TTL with data, which tells the type.
+    pub fn into_record<D>(self, data: D) -> Record<N, D>
+        ensures { HasFields result (owner_of self) (class_of self) (ttl_of self) «data» }
+    {
+        let class = self.class();
+        let ttl = self.ttl();
+        let RecordHeader { owner, .. } = self;
+        Record::new(owner, class, ttl, data)
+    }
+}
+
+impl<'a> RecordHeader<ParsedName<'a>> {
+    /// Reads the header of the record at the parser's place and moves to the record's data, which isn't asked for.
+    ///
+    /// The fault of its owner is answered, or `ShortInput` where the ten octets behind the owner aren't there. Then the
+    /// parser stays.
+    pub fn parse(parser: &mut Parser<'a>) -> Result<Self, ParseError>
+        ensures parses { ParsesHeader parser.old parser.new result }
+        ensures header { ReadsReadableHeader (seen parser.old) (place parser.old) result }
+        ensures fault { AnswersFault (HeaderFaultAt (seen parser.old) (place parser.old)) result }
+    {
+        RecordHeader::read(parser)
+    }
+
+    /// As `parse`.
+    pub fn parse_ref(parser: &mut Parser<'a>) -> Result<Self, ParseError>
+        ensures parses { ParsesHeader parser.old parser.new result }
+        ensures header { ReadsReadableHeader (seen parser.old) (place parser.old) result }
+        ensures fault { AnswersFault (HeaderFaultAt (seen parser.old) (place parser.old)) result }
+    {
+        RecordHeader::parse(parser)
+    }
+
+    fn read(parser: &mut Parser<'a>) -> Result<Self, ParseError>
+        ensures { ParsesHeader parser.old parser.new result }
+    {
+        let mut ahead = *parser;
+        let owner = ParsedName::parse(&mut ahead)?;
+        let (rtype, class, ttl, rdlen) = read_fields(&mut ahead)?;
+        *parser = ahead;
+        Ok(RecordHeader::new(owner, rtype, class, ttl, rdlen))
+    }
+
+    /// Reads the header of the record at the parser's place and passes its data too.
+    ///
+    /// The fault of its owner is answered, or `ShortInput` where the octets behind the owner or the data aren't all there.
+    /// Then the parser stays.
+    pub fn parse_and_skip(parser: &mut Parser<'a>) -> Result<Self, ParseError>
+        ensures parses { ParsesAndSkips parser.old parser.new result }
+        ensures header { ReadsHeaderOfReadable (seen parser.old) (place parser.old) result }
+        ensures fault { AnswersFault (RecordFaultAt (seen parser.old) (place parser.old)) result }
+    {
+        RecordHeader::read_and_pass(parser)
+    }
+
+    fn read_and_pass(parser: &mut Parser<'a>) -> Result<Self, ParseError>
+        ensures { ParsesAndSkips parser.old parser.new result }
+    {
+        let mut ahead = *parser;
+        match RecordHeader::read(&mut ahead) {
+            Ok(header) => {
+                ahead.advance(usize::from(header.rdlen))?;
+                *parser = ahead;
+                Ok(header)
+            }
+            Err(error) => Err(error),
+        }
+    }
+}
+
+/// Reads the ten octets behind an owner.
+fn read_fields(parser: &mut Parser<'_>) -> Result<(Rtype, Class, Ttl, u16), ParseError>
+    ensures { Takes parser.old parser.new 10 result (λ fields. AreFieldsAt (seen parser.old) (place parser.old) fields.0 fields.1 fields.2 fields.3) }
+{
+    let mut ahead = *parser;
+    let rtype = Rtype::from_int(ahead.parse_u16_be()?);
+    let class = Class::from_int(ahead.parse_u16_be()?);
+    let ttl = Ttl::parse(&mut ahead)?;
+    let rdlen = ahead.parse_u16_be()?;
+    *parser = ahead;
+    Ok((rtype, class, ttl, rdlen))
+}

@@ -1,0 +1,175 @@
+//! Records read with their data (RFC 1035 section 4.1.3).
+ghost use Rattle.std.specs.Prelude.{◌≡◌, ℕ, IsErrAnd};
+ghost use Rattle.dns_wire.specs.Fault.{Fault, fault_of};
+ghost use Rattle.dns_wire.specs.ParsedName.{labels};
+ghost use Rattle.dns_wire.specs.Parsers.{seen, place, MovesTo};
+ghost use Rattle.dns_item.specs.Entries.{ReadsRecord, RecordEntry, RecordFaultAt};
+ghost use Rattle.dns_item.specs.ParsedRecord.{octets_of, parsed_entry};
+ghost use Rattle.dns_item.specs.Record.{record_item};
+ghost use Rattle.dns_item.specs.RecordHeader.{rtype_of, record_at};
+ghost use Rattle.dns_item.specs.RecordReading.{IsThere, MovesBehindData, MissingIsShort, GivesLaidOut, GivesTaken, GivesBackLaidOut, GivesBackTaken, IsWhole, IsWholeTaken};
+
+use crate::parsed_record::ParsedRecord;
+use crate::record::Record;
+use crate::record_header::RecordHeader;
+use dns_code::Rtype;
+use dns_data::{ParseAnyRecordData, ParseRecordData};
+use dns_wire::{FormError, ParseError, ParsedName, Parser};
+
+/// Reads data from the parser's place to the parser's end.
+fn read_data<'a, D: ParseRecordData<'a> + Drop>(
+    rtype: Rtype,
+    parser: &mut Parser<'a>,
+) -> Result<Option<D>, ParseError>
+    ensures { IsWholeTaken D.rtype_of D.parts (seen parser.old) (place parser.old) rtype (D.layout rtype) result }
+{
+    let Some(data) = D::parse_rdata(rtype, parser)? else {
+        return Ok(None);
+    };
+    if parser.remaining() > 0 {
+        return Err(ParseError::Form(FormError::TRAILING_DATA));
+    }
+    Ok(Some(data))
+}
+
+/// The same for data that takes every type.
+fn read_any_data<'a, D: ParseAnyRecordData<'a> + Drop>(
+    rtype: Rtype,
+    parser: &mut Parser<'a>,
+) -> Result<D, ParseError>
+    ensures { IsWhole D.rtype_of D.parts (seen parser.old) (place parser.old) rtype (D.any_layout rtype) result }
+{
+    let data = D::parse_any_rdata(rtype, parser)?;
+    if parser.remaining() > 0 {
+        return Err(ParseError::Form(FormError::TRAILING_DATA));
+    }
+    Ok(data)
+}
+
+impl<'a> RecordHeader<ParsedName<'a>> {
+    /// Reads the data behind this header, and gives the record, or `None` where the data type doesn't take the record type.
+    ///
+    /// The parser stands at the data, and is then behind it, whatever is answered. `ShortInput` is answered where the data
+    /// isn't all there, and then the parser stays; else the first fault in the data, and `Form` where octets are left over
+    /// behind it.
+    pub fn parse_into_record<D: ParseRecordData<'a> + Drop>(
+        self,
+        parser: &mut Parser<'a>,
+    ) -> Result<Option<Record<ParsedName<'a>, D>>, ParseError>
+        ensures gives { IsThere (seen parser.old) (record_at self.entry (place parser.old)) → GivesTaken (record_item labels D.rtype_of D.parts) (seen parser.old) (record_at self.entry (place parser.old)) (D.layout (rtype_of self.entry)) result }
+        ensures missing { MissingIsShort (seen parser.old) (record_at self.entry (place parser.old)) result }
+        ensures back { GivesBackTaken (record_item labels D.rtype_of D.parts) (seen parser.old) (record_at self.entry (place parser.old)) (D.layout (rtype_of self.entry)) result }
+        ensures moves { MovesBehindData parser.old parser.new (record_at self.entry (place parser.old)) }
+    {
+        self.read_into_record(parser)
+    }
+
+    fn read_into_record<D: ParseRecordData<'a> + Drop>(
+        self,
+        parser: &mut Parser<'a>,
+    ) -> Result<Option<Record<ParsedName<'a>, D>>, ParseError>
+        ensures gives { IsThere (seen parser.old) (record_at self.entry (place parser.old)) → GivesTaken (record_item labels D.rtype_of D.parts) (seen parser.old) (record_at self.entry (place parser.old)) (D.layout (rtype_of self.entry)) result }
+        ensures missing { MissingIsShort (seen parser.old) (record_at self.entry (place parser.old)) result }
+        ensures moves { MovesBehindData parser.old parser.new (record_at self.entry (place parser.old)) }
+    {
+        let mut ahead = parser.parse_parser(usize::from(self.rdlen()))?;
+        match read_data(self.rtype(), &mut ahead) {
+            Ok(Some(data)) => Ok(Some(self.into_record(data))),
+            Ok(None) => Ok(None),
+            Err(error) => Err(error),
+        }
+    }
+
+    /// As `parse_into_record`, for data that takes every record type.
+    pub fn parse_into_any_record<D: ParseAnyRecordData<'a> + Drop>(
+        self,
+        parser: &mut Parser<'a>,
+    ) -> Result<Record<ParsedName<'a>, D>, ParseError>
+        ensures gives { IsThere (seen parser.old) (record_at self.entry (place parser.old)) → GivesLaidOut (record_item labels D.rtype_of D.parts) (seen parser.old) (record_at self.entry (place parser.old)) (D.any_layout (rtype_of self.entry)) result }
+        ensures missing { MissingIsShort (seen parser.old) (record_at self.entry (place parser.old)) result }
+        ensures back { GivesBackLaidOut (record_item labels D.rtype_of D.parts) (seen parser.old) (record_at self.entry (place parser.old)) (D.any_layout (rtype_of self.entry)) result }
+        ensures moves { MovesBehindData parser.old parser.new (record_at self.entry (place parser.old)) }
+    {
+        self.read_into_any_record(parser)
+    }
+
+    fn read_into_any_record<D: ParseAnyRecordData<'a> + Drop>(
+        self,
+        parser: &mut Parser<'a>,
+    ) -> Result<Record<ParsedName<'a>, D>, ParseError>
+        ensures gives { IsThere (seen parser.old) (record_at self.entry (place parser.old)) → GivesLaidOut (record_item labels D.rtype_of D.parts) (seen parser.old) (record_at self.entry (place parser.old)) (D.any_layout (rtype_of self.entry)) result }
+        ensures missing { MissingIsShort (seen parser.old) (record_at self.entry (place parser.old)) result }
+        ensures moves { MovesBehindData parser.old parser.new (record_at self.entry (place parser.old)) }
+    {
+        let mut ahead = parser.parse_parser(usize::from(self.rdlen()))?;
+        match read_any_data(self.rtype(), &mut ahead) {
+            Ok(data) => Ok(self.into_record(data)),
+            Err(error) => Err(error),
+        }
+    }
+}
+
+impl<'a> ParsedRecord<'a> {
+    /// The record with its data read, or `None` where the data type doesn't take the record type.
+    ///
+    /// `ShortInput` is answered where the data isn't all there; else the first fault in the data, and `Form` where octets are
+    /// left over behind it.
+    pub fn to_record<D: ParseRecordData<'a> + Drop>(
+        &self,
+    ) -> Result<Option<Record<ParsedName<'a>, D>>, ParseError>
+        ensures gives { IsThere (octets_of self.now) (parsed_entry self.now) → GivesTaken (record_item labels D.rtype_of D.parts) (octets_of self.now) (parsed_entry self.now) (D.layout (parsed_entry self.now).rtype) result }
+        ensures missing { MissingIsShort (octets_of self.now) (parsed_entry self.now) result }
+        ensures back { GivesBackTaken (record_item labels D.rtype_of D.parts) (octets_of self.now) (parsed_entry self.now) (D.layout (parsed_entry self.now).rtype) result }
+    {
+        let mut parser = self.data;
+        self.header.parse_into_record(&mut parser)
+    }
+
+    /// As `to_record`.
+    pub fn into_record<D: ParseRecordData<'a> + Drop>(
+        self,
+    ) -> Result<Option<Record<ParsedName<'a>, D>>, ParseError>
+        ensures gives { IsThere (octets_of self.entry) (parsed_entry self.entry) → GivesTaken (record_item labels D.rtype_of D.parts) (octets_of self.entry) (parsed_entry self.entry) (D.layout (parsed_entry self.entry).rtype) result }
+        ensures missing { MissingIsShort (octets_of self.entry) (parsed_entry self.entry) result }
+        ensures back { GivesBackTaken (record_item labels D.rtype_of D.parts) (octets_of self.entry) (parsed_entry self.entry) (D.layout (parsed_entry self.entry).rtype) result }
+    {
+        self.to_record()
+    }
+
+    /// As `to_record`, for data that takes every record type.
+    pub fn to_any_record<D: ParseAnyRecordData<'a> + Drop>(
+        &self,
+    ) -> Result<Record<ParsedName<'a>, D>, ParseError>
+        ensures gives { IsThere (octets_of self.now) (parsed_entry self.now) → GivesLaidOut (record_item labels D.rtype_of D.parts) (octets_of self.now) (parsed_entry self.now) (D.any_layout (parsed_entry self.now).rtype) result }
+        ensures missing { MissingIsShort (octets_of self.now) (parsed_entry self.now) result }
+        ensures back { GivesBackLaidOut (record_item labels D.rtype_of D.parts) (octets_of self.now) (parsed_entry self.now) (D.any_layout (parsed_entry self.now).rtype) result }
+    {
+        let mut parser = self.data;
+        self.header.parse_into_any_record(&mut parser)
+    }
+
+    /// As `to_any_record`.
+    pub fn into_any_record<D: ParseAnyRecordData<'a> + Drop>(
+        self,
+    ) -> Result<Record<ParsedName<'a>, D>, ParseError>
+        ensures gives { IsThere (octets_of self.entry) (parsed_entry self.entry) → GivesLaidOut (record_item labels D.rtype_of D.parts) (octets_of self.entry) (parsed_entry self.entry) (D.any_layout (parsed_entry self.entry).rtype) result }
+        ensures missing { MissingIsShort (octets_of self.entry) (parsed_entry self.entry) result }
+        ensures back { GivesBackLaidOut (record_item labels D.rtype_of D.parts) (octets_of self.entry) (parsed_entry self.entry) (D.any_layout (parsed_entry self.entry).rtype) result }
+    {
+        self.to_any_record()
+    }
+}
+
+impl<'a, D: ParseRecordData<'a> + Drop> Record<ParsedName<'a>, D> {
+    /// Reads the record at the parser's place with its data, `None` where the data type doesn't take the record type.
+    ///
+    /// The parser is then behind the record, whatever is answered, but where the record's own octets can't be read: then the
+    /// fault of its owner is answered, or `ShortInput`, and the parser stays.
+    pub fn parse(parser: &mut Parser<'a>) -> Result<Option<Self>, ParseError>
+        ensures gives { (q : ℕ) (x : RecordEntry) → ReadsRecord (seen parser.old) (place parser.old) q x → GivesTaken (record_item labels D.rtype_of D.parts) (seen parser.old) x (D.layout x.rtype) result × MovesTo parser.old parser.new q }
+        ensures back { (q : ℕ) (x : RecordEntry) → ReadsRecord (seen parser.old) (place parser.old) q x → GivesBackTaken (record_item labels D.rtype_of D.parts) (seen parser.old) x (D.layout x.rtype) result }
+        ensures fault { (f : Fault) → RecordFaultAt (seen parser.old) (place parser.old) f → IsErrAnd result (λ e. fault_of e ≡ f) × (parser.new ≡ parser.old) }
+    {
+        ParsedRecord::parse(parser)?.into_record()
+    }
+}
