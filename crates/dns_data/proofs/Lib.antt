@@ -3,3 +3,4 @@ pub mod WrittenLengths
 pub mod SoaNumbers
 pub mod DataAnswers
 pub mod StandingParts
+pub mod PrintedData

@@ -4,4 +4,5 @@ pub mod A
 pub mod NameData
 pub mod Soa
 pub mod UnknownData
+pub mod Printing
 pub mod Laws

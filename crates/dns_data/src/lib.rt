@@ -1,8 +1,9 @@
-//! The data of DNS records.
+//! The data of DNS records: what data is, A, NS, CNAME, SOA and opaque data, and data behind its length.
 //!
-//! It promises that a datum is one fixed list of parts, which it appends and which is read back where it stands, that
-//! whatever isn't such data is answered by the first fault in it, and that no data takes more than 65,535 octets (RFC 1035
-//! sections 3.3 and 4.1.3).
+//! It promises that a datum is one fixed list of parts of at most 65,535 octets, which is what it appends, under every rule
+//! of compression, and in canonical form with its names lowercased. A value is read exactly where its parts stand, and the
+//! first fault is answered elsewhere (RFC 1035 sections 3.3 and 4.1.3). Data types of others keep the same promises by the
+//! contracts of the traits; `laws` has the theorems for their proofs.
 #![tactic(auto)]
 
 mod a;
@@ -11,6 +12,7 @@ pub mod laws;
 mod length;
 mod name_data;
 mod octets;
+mod print;
 pub mod record_data;
 mod soa;
 mod unknown;

@@ -10,7 +10,7 @@ use std::alloc::AllocError;
 /// The data of a record of any type as mere octets, at most 65,535 (RFC 3597 section 4).
 #[derive(Debug, Drop)]
 pub struct UnknownRecordData<Octs: Octets> {
-    rtype: Rtype,
+    rtype: u16,
     octets: Octs,
     ghost short: { length (Octs.octets octets) ≤ 65535 },
 }
@@ -28,7 +28,10 @@ impl<Octs: Octets> UnknownRecordData<Octs> {
         if octets.octets().len() > 65535 {
             return Err(LongRecordData);
         }
-        Ok(UnknownRecordData { rtype, octets })
+        Ok(UnknownRecordData {
+            rtype: rtype.to_int(),
+            octets,
+        })
     }
 
     /// The holder of the octets.
@@ -49,7 +52,7 @@ impl<Octs: Octets> RecordData for UnknownRecordData<Octs> {
     ghost parts = { λ unknown. Octets (unknown_octets unknown) ∷ [] };
 
     fn rtype(&self) -> Rtype {
-        self.rtype
+        Rtype::from_int(self.rtype)
     }
 }
 

@@ -11,3 +11,4 @@ pub mod OneAnswer
 pub mod RecordReadingLemmas
 pub mod HeaderLemmas
 pub mod RecordLemmas
+pub mod PrintedRecords

@@ -8,7 +8,7 @@ use Rattle.dns_wire.specs.Parsers.{seen, place, number_at, MovesTo}
 use Rattle.dns_wire.specs.declared.error.ParseError.{ParseError}
 use Rattle.dns_wire.specs.declared.error.ParseError.TheVariants.{ShortInput}
 use Rattle.dns_wire.specs.declared.parser.Parser.{Parser}
-use Rattle.dns_item.specs.Entries.{SkipsRecord, RecordFaultAt, RecordSkipFaultAt}
+use Rattle.dns_item.specs.Entries.{SkipsRecord, ReadsRecord, RecordEntry, RecordFaultAt, RecordSkipFaultAt}
 use Rattle.dns_item.specs.Entries.LacksRecord.{fields, rdata}
 use Rattle.dns_item.specs.Entries.RecordSkipFaultAt.{short as unended_record}
 use Rattle.dns_item.specs.ParsedRecord.{ParsesRecord, ReadsReadableRecord, SkipsOverRecord}
@@ -53,3 +53,18 @@ without_data old mid behind last n e moves first second long is l short_input =
     let q = second.place in
     let number : n ≡ number_at w16 (seen old) (place mid + 8) = is ∙ ap (λ (b : List ℕ). number_at w16 b (place behind)) there ∙ ap (number_at w16 (seen old)) p in
     subst (λ e. RecordSkipFaultAt (seen old) (place old) (fault_of e)) (sym short_input) (unended_record moves.0 (rdata (omega arith) (omega arith)))
+
+-- what holds of a record that was read, as its parser sees it, holds of each that can be read there
+pub of_read : (P : List ℕ → RecordEntry → Type 0) (b seen_then : List ℕ) (p end q : ℕ) (then x : RecordEntry)
+    → ReadsRecord b p end then → seen_then ≡ b → ReadsRecord b p q x → P seen_then then → P b x
+of_read P b seen_then p end q then x h is k holds =
+    subst (λ (c : List ℕ). P c x) is (subst (P seen_then) ((record_or_fault b).one p end q then x h k).1 holds)
+
+-- all parsers that stand behind a record which can be read at a place stand at the same
+pub behind_read : (old new : Parser) (q : ℕ) (then x : RecordEntry)
+    → ReadsRecord (seen old) (place old) (place new) then → MovesTo old new (place new) → ReadsRecord (seen old) (place old) q x → MovesTo old new q
+behind_read old new q then x h moves k = subst (MovesTo old new) ((record_or_fault (seen old)).one (place old) (place new) q then x h k).0 moves
+
+-- the data of a record that can be read is there
+pub read_there : (b : List ℕ) (p q : ℕ) (x : RecordEntry) → ReadsRecord b p q x → x.data_end ≤ length b
+read_there b p q x h = let e = h.data_end in let l = h.skips.within in omega (arith, e, l)

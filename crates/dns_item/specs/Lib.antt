@@ -6,6 +6,7 @@ pub mod RecordHeader
 pub mod ParsedRecord
 pub mod Record
 pub mod RecordReading
+pub mod RecordPrinting
 pub mod EntryLaws
 pub mod ItemLaws
 pub mod QuestionErrors

@@ -1,9 +1,12 @@
 -- The fields of a record's header, and what parsing one answers. RFC 1035 section 4.1.3.
-use Rattle.std.specs.Prelude.{◌≡◌, ℕ, ◌+◌, List, Result, Ok, Err, IsOkAnd}
-use Rattle.std.specs.Int.{w16, w32}
+use Rattle.std.specs.Prelude.{◌≡◌, ℕ, ◌+◌, List, ◌++◌, Result, Ok, Err, IsOkAnd}
+use Rattle.std.specs.Int.{to_be_bytes, w16, w32}
 use Rattle.dns_wire.specs.Fault.{fault_of}
+use Rattle.dns_wire.specs.Names.{Labels}
 use Rattle.dns_wire.specs.ParsedName.{labels}
 use Rattle.dns_wire.specs.Parsers.{seen, place, number_at, MovesTo}
+use Rattle.dns_wire.specs.Pieces.{Rule, Piece, put_octets, both}
+use Rattle.dns_wire.specs.PutName.{put_name}
 use Rattle.dns_wire.specs.declared.error.ParseError.{ParseError}
 use Rattle.dns_wire.specs.declared.parsed_name.ParsedName.{ParsedName}
 use Rattle.dns_wire.specs.declared.parser.Parser.{Parser}
@@ -26,9 +29,22 @@ ttl_of header = header.ttl
 abbrev pub rdlen_of : {N : Type 0} → RecordHeader N → ℕ
 rdlen_of header = header.rdlen
 
+-- what a header says, by the labels of its owner
+abbrev pub header_item : {N : Type 0} → (N → Labels) → RecordHeader N → HeaderEntry
+header_item labels_of header =
+    record { owner = labels_of (owner_of header); rtype = rtype_of header; class = class_of header; ttl = ttl_of header; rdlen = rdlen_of header }
+
 -- what a header over a name in an input says
 abbrev pub parsed_header : RecordHeader ParsedName → HeaderEntry
-parsed_header header = record { owner = labels (owner_of header); rtype = rtype_of header; class = class_of header; ttl = ttl_of header; rdlen = rdlen_of header }
+parsed_header = header_item labels
+
+-- type, class, TTL and the length of the data
+abbrev pub header_fields : ℕ → ℕ → ℕ → ℕ → List ℕ
+header_fields rtype class ttl rdlen = to_be_bytes w16 rtype ++ to_be_bytes w16 class ++ to_be_bytes w32 ttl ++ to_be_bytes w16 rdlen
+
+-- a header: its owner, and its fields
+unfoldable pub put_header : Rule → HeaderEntry → Piece
+put_header rule x = both (put_name rule x.owner) (put_octets (header_fields x.rtype x.class x.ttl x.rdlen))
 
 -- the record of a header whose data starts at a place
 abbrev pub record_at : RecordHeader ParsedName → ℕ → RecordEntry

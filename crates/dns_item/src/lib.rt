@@ -12,7 +12,9 @@ mod question_error;
 mod question_print;
 mod question_text;
 pub mod record;
+mod record_error;
 mod record_header;
+mod record_print;
 mod record_reading;
 mod ttl;
 

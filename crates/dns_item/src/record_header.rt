@@ -2,14 +2,15 @@
 ghost use Rattle.std.specs.Prelude.{◌≡◌};
 ghost use Rattle.dns_wire.specs.ParsedName.{AnswersFault};
 ghost use Rattle.dns_wire.specs.Parsers.{seen, place, Takes};
+ghost use Rattle.dns_wire.specs.Targets.{Composes};
 ghost use Rattle.dns_item.specs.Entries.{HeaderFaultAt, RecordFaultAt};
 ghost use Rattle.dns_item.specs.Record.{HasFields};
-ghost use Rattle.dns_item.specs.RecordHeader.{owner_of, rtype_of, class_of, ttl_of, rdlen_of, AreFieldsAt, ParsesHeader, ReadsReadableHeader, ParsesAndSkips, ReadsHeaderOfReadable};
+ghost use Rattle.dns_item.specs.RecordHeader.{owner_of, rtype_of, class_of, ttl_of, rdlen_of, AreFieldsAt, header_fields, header_item, put_header, ParsesHeader, ReadsReadableHeader, ParsesAndSkips, ReadsHeaderOfReadable};
 
 use crate::record::Record;
 use crate::ttl::Ttl;
 use dns_code::{Class, Rtype};
-use dns_wire::{ParseError, ParsedName, Parser};
+use dns_wire::{AppendError, Composer, ParseError, ParsedName, Parser, ToName};
 
 /// A record but for its data: owner, type, class, TTL and the length of the data in octets (RFC 1035 section 4.1.3).
 #[derive(Clone, Copy, Debug, PartialEq, Eq, PartialOrd, Ord, Hash, Drop)]
@@ -82,6 +83,34 @@ impl<N> RecordHeader<N> {
         let ttl = self.ttl();
         let RecordHeader { owner, .. } = self;
         Record::new(owner, class, ttl, data)
+    }
+}
+
+impl<N: ToName> RecordHeader<N> {
+    /// Appends the header: its owner by the target's rule, type, class, TTL and the length of the data, but no data.
+    ///
+    /// Where it is refused the content still begins with the old one, and a `truncate` to the old length gives the old
+    /// target back.
+    pub fn compose<T: Composer>(&self, target: &mut T) -> Result<(), AppendError>
+        ensures { Composes T.room T.grows (put_header T.rule (header_item N.name self.now)) (T.written target.old) (T.written target.new) result }
+    {
+        let owner = self.owner.as_parsed();
+        let octets = self.field_octets();
+        target.append_compressed_name(&owner)?;
+        target.append_slice(&octets)
+    }
+}
+
+impl<N> RecordHeader<N> {
+    /// The octets behind the owner.
+    fn field_octets(&self) -> [u8; 10]
+        ensures { result ≡ header_fields (rtype_of self.now) (class_of self.now) (ttl_of self.now) (rdlen_of self.now) }
+    {
+        let [a, b] = self.rtype.to_be_bytes();
+        let [c, d] = self.class.to_be_bytes();
+        let [e, f, g, h] = self.ttl.to_be_bytes();
+        let [i, j] = self.rdlen.to_be_bytes();
+        [a, b, c, d, e, f, g, h, i, j]
     }
 }
 
