@@ -1,5 +1,5 @@
 -- What a builder stands for: a header, a limit and four lists of items. RFC 1035 section 4.1.
-use Rattle.std.specs.Prelude.{◌≡◌, ℕ, ◌≤◌, List, [], ◌∷◌, ◌++◌, length, Option, Some, None, ◌==◌, if◌then◌else◌}
+use Rattle.std.specs.Prelude.{◌≡◌, ℕ, ◌≤◌, List, [], ◌∷◌, ◌++◌, length, Option, Some, None, ◌==◌, if◌then◌else◌, bit_or, slice_index, slice_set}
 use Rattle.dns_code.specs.Header.{header_octets}
 use Rattle.dns_code.specs.HeaderCounts.{Counts}
 use Rattle.dns_code.specs.declared.header.Header.{Header}
@@ -72,6 +72,38 @@ rewound InAdditional s = up_to InAuthority s
 abbrev pub with_question : QuestionItem → State → State
 with_question x s = record s { questions = s.questions ++ x ∷ [] }
 
+-- with a record at the end of the answers
+abbrev pub with_answer : RecordItem → State → State
+with_answer x s = record s { answers = s.answers ++ x ∷ [] }
+
+-- with a record at the end of the authority records
+abbrev pub with_authority : RecordItem → State → State
+with_authority x s = record s { authorities = s.authorities ++ x ∷ [] }
+
+-- with a record at the end of the additional records
+abbrev pub with_additional : RecordItem → State → State
+with_additional x s = record s { additionals = s.additionals ++ x ∷ [] }
+
+-- with a record at the end of a stage's own list; before the record sections there is none
+abbrev pub with_record : Stage → RecordItem → State → State
+with_record InBuilder x s = s
+with_record InQuestion x s = s
+with_record InAnswer x s = with_answer x s
+with_record InAuthority x s = with_authority x s
+with_record InAdditional x s = with_additional x s
+
+-- the records of a stage's own list
+abbrev pub records_at : Stage → State → List RecordItem
+records_at InBuilder s = []
+records_at InQuestion s = []
+records_at InAnswer s = s.answers
+records_at InAuthority s = s.authorities
+records_at InAdditional s = s.additionals
+
+-- a header with TC set, which is bit 1 of octet 2, and nothing else changed
+abbrev pub with_tc : Header → Header
+with_tc header = record header { octets = slice_set header.octets 2 (bit_or (slice_index header.octets 2) 2) }
+
 -- with another header
 abbrev pub with_header : Header → State → State
 with_header header s = record s { header = header }
@@ -87,3 +119,7 @@ limit_shown limit = if limit == no_limit then None else Some limit
 -- with another limit
 abbrev pub with_limit : ℕ → State → State
 with_limit limit s = record s { limit = limit }
+
+-- rewound, and with TC set
+abbrev pub tc_rewound : Stage → State → State
+tc_rewound stage s = with_header (with_tc s.header) (rewound stage s)

@@ -5,12 +5,14 @@
 //! and then changes nothing.
 #![tactic(auto)]
 
+mod answer_builder;
 pub mod laws;
 mod message_builder;
 mod push_error;
 mod question_builder;
 mod settle;
 
+pub use answer_builder::AnswerBuilder;
 pub use message_builder::MessageBuilder;
 pub use push_error::PushError;
 pub use question_builder::QuestionBuilder;

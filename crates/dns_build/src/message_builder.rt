@@ -1,22 +1,23 @@
 //! The builder of a message before its sections, on which the builders of the sections stand.
-ghost use Rattle.std.specs.Prelude.{◌≡◌, ◌+◌, ◌≤◌, [], ◌∷◌, IfOk, IfErr, OnErr, IsTrue, length};
+ghost use Rattle.std.specs.Prelude.{◌≡◌, ◌+◌, ◌≤◌, [], ◌∷◌, IfOk, IfErr, OnOk, OnErr, IsTrue, length};
 ghost use Rattle.dns_wire.specs.Pieces.{Plain};
 ghost use Rattle.dns_wire.specs.Targets.{Answers, cut_to, overwrite};
 ghost use Rattle.dns_code.specs.Header.{header_octets};
 ghost use Rattle.dns_code.specs.HeaderCounts.{counts};
-ghost use Rattle.dns_item.specs.Items.{IsQuestion, put_question};
+ghost use Rattle.dns_item.specs.Items.{IsQuestion, IsRecord, put_question, put_record};
 ghost use Rattle.dns_build.specs.Built.{PushesOn};
 ghost use Rattle.dns_build.specs.Fold.{fold};
 ghost use Rattle.dns_read.specs.Message.{message_octets};
 ghost use Rattle.dns_build.specs.ReadsBack.{ReadsBack};
 ghost use Rattle.dns_build.specs.Standing.{StandsFor, Moves, fresh};
-ghost use Rattle.dns_build.specs.State.{State, InBuilder, InQuestion, move_to, with_header, with_limit, no_limit, item_counts, limit_shown};
+ghost use Rattle.dns_build.specs.State.{State, InBuilder, InQuestion, InAnswer, move_to, with_header, with_tc, with_limit, no_limit, item_counts, limit_shown};
 
+use crate::answer_builder::AnswerBuilder;
 use crate::push_error::PushError;
 use crate::question_builder::QuestionBuilder;
 use crate::settle::settle;
 use dns_code::{Header, HeaderCounts};
-use dns_item::ComposeQuestion;
+use dns_item::{ComposeQuestion, ComposeRecord};
 use dns_read::Message;
 use dns_wire::{AppendError, CloneTarget, Composer, FreezeBuilder, Octets};
 use std::alloc::{AllocError, Global};
@@ -25,6 +26,9 @@ use std::marker::Model;
 
 /// The place of QDCOUNT in a message, in octets.
 pub(crate) const QDCOUNT_PLACE: usize = 4;
+
+/// The place of ANCOUNT in a message, in octets.
+pub(crate) const ANCOUNT_PLACE: usize = 6;
 
 /// The octets of a header section.
 pub(crate) const HEADER_LEN: usize = 12;
@@ -59,6 +63,16 @@ pub(crate) fn long_message<Octs: Octets>(octets: Octs) -> Message<Octs>
     ensures { message_octets result ≡ Octs.octets octets }
 {
     Message::from_octets(octets).unwrap()
+}
+
+/// A header with TC set, and nothing else changed. The contract is on its octets; that of `set_tc` is on its fields.
+pub(crate) fn with_tc(header: Header) -> Header
+    ensures { result ≡ with_tc header }
+{
+    let mut octets = [0; 4];
+    octets.copy_from_slice(header.as_slice());
+    octets[2] |= 0b10;
+    Header::for_message_slice(&octets)
 }
 
 impl MessageBuilder<Vec<u8>> {
@@ -100,6 +114,21 @@ impl<T: Composer> MessageBuilder<T> {
         let old = self.target.as_slice().len();
         let composed = question.compose_question(&mut self.target);
         settle(&mut self.target, old, self.limit, QDCOUNT_PLACE, composed)
+    }
+
+    /// Pushes a record and counts it at the place of its section's count.
+    pub(crate) fn push_record<R: ComposeRecord>(
+        &mut self,
+        pushed: &R,
+        place: usize,
+    ) -> Result<(), PushError>
+        requires in_header { place + 2 ≤ 12 }
+        ensures pushes { PushesOn T.room T.grows place (put_record T.rule (R.item pushed.now)) self.old self.new result }
+        ensures is_record { OnOk result (IsRecord (R.item pushed.now)) }
+    {
+        let old = self.target.as_slice().len();
+        let composed = pushed.compose_record(&mut self.target);
+        settle(&mut self.target, old, self.limit, place, composed)
     }
 
     /// Cuts the message to its first `start` octets, and writes zero into the count at a place.
@@ -226,6 +255,13 @@ impl<T: Composer> MessageBuilder<T> {
     {
         QuestionBuilder::over(self)
     }
+
+    /// The builder of the answer section.
+    pub fn answer(self) -> AnswerBuilder<T>
+        ensures { Moves InBuilder InAnswer T.rule (move_to InAnswer) self result }
+    {
+        self.question().answer()
+    }
 }
 
 impl<T: FreezeBuilder> MessageBuilder<T> {
@@ -277,5 +313,26 @@ impl<T: Composer> From<QuestionBuilder<T>> for MessageBuilder<T> {
 
     fn from(builder: QuestionBuilder<T>) -> Self {
         builder.builder()
+    }
+}
+
+/// The move back to the builder before the sections.
+impl<T: Composer> From<AnswerBuilder<T>> for MessageBuilder<T> {
+    ghost from_gives = { λ old new. Moves InAnswer InBuilder T.rule (move_to InBuilder) old new };
+
+    fn from(builder: AnswerBuilder<T>) -> Self {
+        builder.builder()
+    }
+}
+
+/// The message, in the octets that the target gives.
+impl<T: FreezeBuilder> From<MessageBuilder<T>> for Message<T::Octets> {
+    ghost use Rattle.std.specs.Prelude.{◌≡◌};
+    ghost use Rattle.dns_read.specs.Message.{message_octets};
+
+    ghost from_gives = { λ builder message. message_octets message ≡ builder.written.octets };
+
+    fn from(builder: MessageBuilder<T>) -> Self {
+        builder.into_message()
     }
 }

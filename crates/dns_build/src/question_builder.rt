@@ -5,8 +5,9 @@ ghost use Rattle.dns_build.specs.Fold.{fold};
 ghost use Rattle.dns_read.specs.Message.{message_octets};
 ghost use Rattle.dns_build.specs.ReadsBack.{ReadsBack};
 ghost use Rattle.dns_build.specs.Standing.{StandsFor, Takes, Moves};
-ghost use Rattle.dns_build.specs.State.{State, InBuilder, InQuestion, move_to, rewound, with_question, with_header, with_limit, no_limit, item_counts, limit_shown};
+ghost use Rattle.dns_build.specs.State.{State, InBuilder, InQuestion, InAnswer, move_to, rewound, with_question, with_header, with_limit, no_limit, item_counts, limit_shown};
 
+use crate::answer_builder::AnswerBuilder;
 use crate::message_builder::{HEADER_LEN, MessageBuilder, QDCOUNT_PLACE, long_message};
 use crate::push_error::PushError;
 use dns_code::{Header, HeaderCounts};
@@ -147,6 +148,14 @@ impl<T: Composer> QuestionBuilder<T> {
     {
         self
     }
+
+    /// The builder of the answer section.
+    pub fn answer(self) -> AnswerBuilder<T>
+        ensures { Moves InQuestion InAnswer T.rule (move_to InAnswer) self result }
+    {
+        let QuestionBuilder { inner } = self;
+        AnswerBuilder::over(inner)
+    }
 }
 
 impl<T: FreezeBuilder> QuestionBuilder<T> {
@@ -197,5 +206,26 @@ impl<T: Composer> From<MessageBuilder<T>> for QuestionBuilder<T> {
 
     fn from(builder: MessageBuilder<T>) -> Self {
         builder.question()
+    }
+}
+
+/// The move back to the question section.
+impl<T: Composer> From<AnswerBuilder<T>> for QuestionBuilder<T> {
+    ghost from_gives = { λ old new. Moves InAnswer InQuestion T.rule (move_to InQuestion) old new };
+
+    fn from(builder: AnswerBuilder<T>) -> Self {
+        builder.question()
+    }
+}
+
+/// The message, in the octets that the target gives.
+impl<T: FreezeBuilder> From<QuestionBuilder<T>> for Message<T::Octets> {
+    ghost use Rattle.std.specs.Prelude.{◌≡◌};
+    ghost use Rattle.dns_read.specs.Message.{message_octets};
+
+    ghost from_gives = { λ builder message. message_octets message ≡ builder.written.octets };
+
+    fn from(builder: QuestionBuilder<T>) -> Self {
+        builder.into_message()
     }
 }

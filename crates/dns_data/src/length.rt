@@ -44,6 +44,8 @@ pub fn compose_canonical_len_rdata<D: ComposeRecordData, T: Composer>(
 }
 
 /// Writes how many octets stand behind the two at a place into these two.
+///
+/// Data has at most 65,535 octets, so the other octets of the length are zero.
 fn write_length<T: Composer>(target: &mut T, place: usize)
     requires within { place + 2 ≤ length (T.written target.old).octets }
     requires clear { IsClear (T.written target.old).memory place 2 }

@@ -1,17 +1,17 @@
 -- What a list of calls makes of a builder, by the replies to them. RFC 1035 section 4.1.
 use Rattle.std.specs.Prelude.{◌≡◌, ℕ, Bool, true, false, Option, Ok, Err, List, [], ◌∷◌, length, ⊤}
 use Rattle.dns_wire.specs.Pieces.{Rule}
-use Rattle.dns_item.specs.Items.{QuestionItem}
+use Rattle.dns_item.specs.Items.{QuestionItem, RecordItem}
 use Rattle.dns_build.specs.Built.{Built, PushAnswers}
 use Rattle.dns_build.specs.Fold.{fold}
 use Rattle.dns_build.specs.ReadsBack.{ReadsBack}
 use Rattle.dns_build.specs.Standing.{StandsFor}
 use Rattle.dns_build.specs.State as state
-use Rattle.dns_build.specs.State.{State, InBuilder, InQuestion, InAnswer, InAuthority, InAdditional, with_question, with_header, with_limit, no_limit, rewound, move_to}
+use Rattle.dns_build.specs.State.{State, InBuilder, InQuestion, InAnswer, InAuthority, InAdditional, with_question, with_record, records_at, with_header, with_limit, no_limit, rewound, tc_rewound, move_to}
 use Rattle.dns_message.specs.declared.script.Stage.{Stage}
-use Rattle.dns_message.specs.declared.script.Stage.TheVariants.{Builder, Question}
+use Rattle.dns_message.specs.declared.script.Stage.TheVariants.{Builder, Question, Answer}
 use Rattle.dns_message.specs.declared.script.Call.{Call}
-use Rattle.dns_message.specs.declared.script.Call.TheVariants.{PushQuestion, Rewind, ToBuilder, ToQuestion, SetHeader, SetLimit, ClearLimit}
+use Rattle.dns_message.specs.declared.script.Call.TheVariants.{PushQuestion, PushRecord, Rewind, TcRewind, ToBuilder, ToQuestion, ToAnswer, SetHeader, SetLimit, ClearLimit}
 use Rattle.dns_message.specs.declared.script.Reply.{Reply}
 use Rattle.dns_message.specs.declared.script.Reply.TheVariants.{Done, Refused, Misplaced}
 
@@ -19,41 +19,57 @@ use Rattle.dns_message.specs.declared.script.Reply.TheVariants.{Done, Refused, M
 abbrev pub StageStandsFor : {T : Type 0} → Rule → State → Stage T → Type 0
 StageStandsFor rule s (Builder b) = StandsFor InBuilder rule s b
 StageStandsFor rule s (Question b) = StandsFor InQuestion rule s b
+StageStandsFor rule s (Answer b) = StandsFor InAnswer rule s b
 
 -- what a contract sees of a stage's builder
 abbrev pub built_of : {T : Type 0} → Stage T → Built
 built_of (Builder b) = b
 built_of (Question b) = b
+built_of (Answer b) = b
 
 -- the octets of a stage
 abbrev pub octets_of : {T : Type 0} → Stage T → List ℕ
 octets_of stage = (built_of stage).written.octets
 
--- Whether a stage lacks a call: a push outside its section, and a rewind where there is no section. No stage lacks any other.
-abbrev pub lacks : {Q : Type 0} → state.Stage → Call Q → Bool
+-- Whether a stage lacks a call: a push outside its sections, a rewind where there is no section, and one that sets TC where there is no record section. No stage lacks any other.
+abbrev pub lacks : {Q R : Type 0} → state.Stage → Call Q R → Bool
 lacks InBuilder (PushQuestion x) = true
 lacks InQuestion (PushQuestion x) = false
 lacks InAnswer (PushQuestion x) = true
 lacks InAuthority (PushQuestion x) = true
 lacks InAdditional (PushQuestion x) = true
+lacks InBuilder (PushRecord x) = true
+lacks InQuestion (PushRecord x) = true
+lacks InAnswer (PushRecord x) = false
+lacks InAuthority (PushRecord x) = false
+lacks InAdditional (PushRecord x) = false
 lacks InBuilder Rewind = true
 lacks InQuestion Rewind = false
 lacks InAnswer Rewind = false
 lacks InAuthority Rewind = false
 lacks InAdditional Rewind = false
+lacks InBuilder TcRewind = true
+lacks InQuestion TcRewind = true
+lacks InAnswer TcRewind = false
+lacks InAuthority TcRewind = false
+lacks InAdditional TcRewind = false
 lacks stage ToBuilder = false
 lacks stage ToQuestion = false
+lacks stage ToAnswer = false
 lacks stage (SetHeader header) = false
 lacks stage (SetLimit limit) = false
 lacks stage ClearLimit = false
 
-module _ {Q : Type 0} (item : Q → QuestionItem) where
+module _ {Q R : Type 0} (question : Q → QuestionItem) (item : R → RecordItem) where
   -- the state after a call, by the reply to it
-  abbrev pub after : State → Call Q → Reply → State
-  after s (PushQuestion x) Done = with_question (item x) s
+  abbrev pub after : State → Call Q R → Reply → State
+  after s (PushQuestion x) Done = with_question (question x) s
+  after s (PushRecord x) Done = with_record s.stage (item x) s
   after s Rewind Done = rewound s.stage s
+  after s TcRewind Done = tc_rewound s.stage s
   after s ToBuilder Done = move_to InBuilder s
   after s ToQuestion Done = move_to InQuestion s
+  after s ToAnswer Done = move_to InAnswer s
   after s (SetHeader header) Done = with_header header s
   after s (SetLimit limit) Done = with_limit limit s
   after s ClearLimit Done = with_limit no_limit s
@@ -61,7 +77,7 @@ module _ {Q : Type 0} (item : Q → QuestionItem) where
   after s call Misplaced = s
 
   -- the state after a list of calls, by the replies to them
-  abbrev pub after_all : State → List (Call Q) → List Reply → State
+  abbrev pub after_all : State → List (Call Q R) → List Reply → State
   after_all s [] replies = s
   after_all s (call ∷ calls) [] = s
   after_all s (call ∷ calls) (reply ∷ replies) = after_all (after s call reply) calls replies
@@ -73,39 +89,42 @@ module _ (room : Option ℕ) (grows : Bool) where
   IsPushReply limit n count (Refused error) = PushAnswers room grows limit n count (Err error)
   IsPushReply limit n count Misplaced = ⊥
 
-  module _ {Q : Type 0} (item : Q → QuestionItem) (rule : Rule) where
+  module _ {Q R : Type 0} (question : Q → QuestionItem) (item : R → RecordItem) (rule : Rule) where
     -- the reply to a call that the stage has
-    abbrev pub IsAnswer : State → Call Q → Reply → Type 0
-    IsAnswer s (PushQuestion x) reply = IsPushReply s.limit (length (fold rule (with_question (item x) s)).octets) (length s.questions) reply
+    abbrev pub IsAnswer : State → Call Q R → Reply → Type 0
+    IsAnswer s (PushQuestion x) reply = IsPushReply s.limit (length (fold rule (with_question (question x) s)).octets) (length s.questions) reply
+    IsAnswer s (PushRecord x) reply = IsPushReply s.limit (length (fold rule (with_record s.stage (item x) s)).octets) (length (records_at s.stage s)) reply
     IsAnswer s Rewind reply = reply ≡ Done
+    IsAnswer s TcRewind reply = reply ≡ Done
     IsAnswer s ToBuilder reply = reply ≡ Done
     IsAnswer s ToQuestion reply = reply ≡ Done
+    IsAnswer s ToAnswer reply = reply ≡ Done
     IsAnswer s (SetHeader header) reply = reply ≡ Done
     IsAnswer s (SetLimit limit) reply = reply ≡ Done
     IsAnswer s ClearLimit reply = reply ≡ Done
 
     -- the reply to a call: `Misplaced` exactly where the stage lacks it
-    abbrev pub IsReplyWhere : Bool → State → Call Q → Reply → Type 0
+    abbrev pub IsReplyWhere : Bool → State → Call Q R → Reply → Type 0
     IsReplyWhere true s call reply = reply ≡ Misplaced
     IsReplyWhere false s call reply = IsAnswer s call reply
 
-    abbrev pub IsReply : State → Call Q → Reply → Type 0
+    abbrev pub IsReply : State → Call Q R → Reply → Type 0
     IsReply s call reply = IsReplyWhere (lacks s.stage call) s call reply
 
     -- one reply to each call, each in the state that the call meets
-    abbrev pub AreReplies : State → List (Call Q) → List Reply → Type 0
+    abbrev pub AreReplies : State → List (Call Q R) → List Reply → Type 0
     AreReplies s [] [] = ⊤
-    AreReplies s (call ∷ calls) (reply ∷ replies) = IsReply s call reply × AreReplies (after item s call reply) calls replies
+    AreReplies s (call ∷ calls) (reply ∷ replies) = IsReply s call reply × AreReplies (after question item s call reply) calls replies
     AreReplies s [] (reply ∷ replies) = ⊥
     AreReplies s (call ∷ calls) [] = ⊥
 
     -- a step of a stage by a call, for each state that it stands for
-    abbrev pub Steps : {T : Type 0} → Stage T → Call Q → Reply → Stage T → Type 0
-    Steps old call reply new = (s : State) → StageStandsFor rule s old → IsReply s call reply × StageStandsFor rule (after item s call reply) new
+    abbrev pub Steps : {T : Type 0} → Stage T → Call Q R → Reply → Stage T → Type 0
+    Steps old call reply new = (s : State) → StageStandsFor rule s old → IsReply s call reply × StageStandsFor rule (after question item s call reply) new
 
     -- The headline: from a state that the stage stands for, through a list of calls, the replies are those of the calls one by one; the new stage stands for the state after them; its octets are one fold's over that state, and read back as that state.
-    pub record Runs {T : Type 0} (s : State) (calls : List (Call Q)) (replies : List Reply) (new : Stage T) : Type 0 where
+    pub record Runs {T : Type 0} (s : State) (calls : List (Call Q R)) (replies : List Reply) (new : Stage T) : Type 0 where
       pub replied : AreReplies s calls replies
-      pub stands : StageStandsFor rule (after_all item s calls replies) new
-      pub octets : octets_of new ≡ (fold rule (after_all item s calls replies)).octets
-      pub reads_back : ReadsBack (after_all item s calls replies) (octets_of new)
+      pub stands : StageStandsFor rule (after_all question item s calls replies) new
+      pub octets : octets_of new ≡ (fold rule (after_all question item s calls replies)).octets
+      pub reads_back : ReadsBack (after_all question item s calls replies) (octets_of new)

@@ -8,7 +8,7 @@
 
 pub mod builder {
     //! Builders of messages.
-    pub use dns_build::{MessageBuilder, PushError, QuestionBuilder};
+    pub use dns_build::{AnswerBuilder, MessageBuilder, PushError, QuestionBuilder};
 }
 
 pub mod code {
@@ -25,7 +25,7 @@ pub mod header {
 
 pub mod message {
     //! Messages read lazily.
-    pub use dns_read::{Message, QuestionSection, ShortMessage};
+    pub use dns_read::{Message, QuestionSection, RecordSection, Section, ShortMessage};
 }
 
 pub mod name {
@@ -35,15 +35,28 @@ pub mod name {
 }
 
 pub mod record {
-    //! Parts of records.
+    //! Records and their parts.
     pub use dns_item::Ttl;
+    pub use dns_item::record::{
+        ComposeRecord, ParsedRecord, Record, RecordHeader, RecordParseError,
+    };
+}
+
+pub mod data {
+    //! The data of records.
+    pub use dns_data::{
+        A, Cname, ComposeRecordData, LongRecordData, Ns, ParseAnyRecordData, ParseRecordData,
+        RecordData, Soa, UnknownRecordData, compose_canonical_len_rdata, compose_len_rdata,
+    };
 }
 
 mod fault;
 mod line;
 mod output;
 mod program;
+mod record_line;
 pub mod script;
+mod script_data;
 mod stage;
 
 pub mod target {

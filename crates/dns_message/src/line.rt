@@ -18,8 +18,12 @@ pub(crate) enum Line {
     ToBuilder,
     /// A move to the question section.
     ToQuestion,
+    /// A move to the answer section.
+    ToAnswer,
     /// That all items of the section are taken out.
     Rewind,
+    /// That all records of the section are taken out, and that TC is set.
+    TcRewind,
     /// A push of the item whose words these are, joined by single spaces.
     Push(String),
     /// A limit, in octets.
@@ -105,7 +109,9 @@ fn lone_word(word: &str) -> Option<Line> {
     match word {
         "builder" => Some(Line::ToBuilder),
         "question" => Some(Line::ToQuestion),
+        "answer" => Some(Line::ToAnswer),
         "rewind" => Some(Line::Rewind),
+        "tcrewind" => Some(Line::TcRewind),
         "nolimit" => Some(Line::NoLimit),
         _ => None,
     }
@@ -135,7 +141,7 @@ fn number_line(word: &str, digits: &str) -> Option<Line> {
 }
 
 /// The number that decimal digits write, `None` above `most` and for any other text.
-fn number(digits: &str, most: usize) -> Option<usize>
+pub(crate) fn number(digits: &str, most: usize) -> Option<usize>
     ensures { SomeIff result (IsNumeral 10 digits.now × (digits_value 10 digits.now ≤ most)) (digits_value 10 digits.now) }
 {
     if digits.starts_with('+') {

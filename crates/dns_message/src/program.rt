@@ -3,11 +3,11 @@ ghost use Rattle.std.specs.Prelude.{◌≤◌};
 
 use crate::fault::Fault;
 use crate::line::Line;
+use crate::record_line::ScriptRecord;
 use crate::script::{Call, Reply, Stage, run};
-use crate::{line, output};
+use crate::{line, output, record_line};
 use arrayvec::ArrayVec;
 use dns_build::MessageBuilder;
-use dns_code::Header;
 use dns_item::Question;
 use dns_item::question::FromStrError;
 use dns_wire::{Composer, Name};
@@ -127,7 +127,7 @@ fn follow<T: Composer, W: Write>(
     let Some(line) = line::read(alloc, line)? else {
         return Err(Fault::BadLine(number));
     };
-    let Some(call) = call_of(alloc, stage.header(), line)? else {
+    let Some(call) = call_of(alloc, &stage, line)? else {
         return Err(Fault::BadLine(number));
     };
     let (stage, reply) = make(alloc, stage, call)?;
@@ -141,27 +141,52 @@ fn follow<T: Composer, W: Write>(
 }
 
 /// A call of a script.
-type ScriptCall = Call<Question<Name<Vec<u8>>>>;
+type ScriptCall = Call<Question<Name<Vec<u8>>>, ScriptRecord>;
 
-/// The call that a line asks for where the header is this one, `None` where there is none.
-fn call_of(alloc: Global, header: Header, line: Line) -> Result<Option<ScriptCall>, AllocError> {
+/// The call that a line asks for at a stage, `None` where there is none.
+fn call_of<T: Composer>(
+    alloc: Global,
+    stage: &Stage<T>,
+    line: Line,
+) -> Result<Option<ScriptCall>, AllocError> {
     match line {
         Line::ToBuilder => Ok(Some(Call::ToBuilder)),
         Line::ToQuestion => Ok(Some(Call::ToQuestion)),
+        Line::ToAnswer => Ok(Some(Call::ToAnswer)),
         Line::Rewind => Ok(Some(Call::Rewind)),
-        Line::Push(words) => push_of(alloc, &words),
+        Line::TcRewind => Ok(Some(Call::TcRewind)),
+        Line::Push(words) => push_of(alloc, stage, &words),
         Line::Limit(limit) => Ok(Some(Call::SetLimit(limit))),
         Line::NoLimit => Ok(Some(Call::ClearLimit)),
-        Line::Change(change) => Ok(Some(Call::SetHeader(change.made_to(header)))),
+        Line::Change(change) => Ok(Some(Call::SetHeader(change.made_to(stage.header())))),
     }
 }
 
-/// The push of the question that the words spell, `None` where they spell none.
-fn push_of(alloc: Global, words: &str) -> Result<Option<ScriptCall>, AllocError> {
+/// The push of the item that the words spell, a question or a record by the stage, `None` where they spell none.
+fn push_of<T: Composer>(
+    alloc: Global,
+    stage: &Stage<T>,
+    words: &str,
+) -> Result<Option<ScriptCall>, AllocError> {
+    match stage {
+        Stage::Builder(_) => Ok(None),
+        Stage::Question(_) => push_of_question(alloc, words),
+        Stage::Answer(_) => push_of_record(alloc, words),
+    }
+}
+
+fn push_of_question(alloc: Global, words: &str) -> Result<Option<ScriptCall>, AllocError> {
     match Question::<Name<Vec<u8>>>::vec_from_str(alloc, words) {
         Ok(question) => Ok(Some(Call::PushQuestion(question))),
         Err(FromStrError::OutOfMemory) => Err(AllocError),
         Err(_) => Ok(None),
+    }
+}
+
+fn push_of_record(alloc: Global, words: &str) -> Result<Option<ScriptCall>, AllocError> {
+    match record_line::record(alloc, words)? {
+        Some(record) => Ok(Some(Call::PushRecord(record))),
+        None => Ok(None),
     }
 }
 

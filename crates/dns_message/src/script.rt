@@ -4,9 +4,9 @@ ghost use Rattle.dns_build.specs.State.{State};
 ghost use Rattle.dns_message.specs.Script.{StageStandsFor, Steps, Runs, octets_of};
 
 use dns_build::laws::folds_read_back;
-use dns_build::{MessageBuilder, PushError, QuestionBuilder};
+use dns_build::{AnswerBuilder, MessageBuilder, PushError, QuestionBuilder};
 use dns_code::Header;
-use dns_item::ComposeQuestion;
+use dns_item::{ComposeQuestion, ComposeRecord};
 use dns_wire::Composer;
 
 /// A builder at one of its stages.
@@ -16,19 +16,27 @@ pub enum Stage<T: Composer> {
     Builder(MessageBuilder<T>),
     /// At the question section.
     Question(QuestionBuilder<T>),
+    /// At the answer section.
+    Answer(AnswerBuilder<T>),
 }
 
 /// A call on a builder.
 #[derive(Clone, Copy, Debug, Drop)]
-pub enum Call<Q> {
+pub enum Call<Q, R> {
     /// Pushes a question.
     PushQuestion(Q),
+    /// Pushes a record into the section.
+    PushRecord(R),
     /// Takes out all items of the section.
     Rewind,
+    /// Takes out all records of the section, and sets TC.
+    TcRewind,
     /// Moves before the sections, and takes out all items.
     ToBuilder,
     /// Moves to the question section, and takes out all records.
     ToQuestion,
+    /// Moves to the answer section, and takes out the records behind it.
+    ToAnswer,
     /// Changes the header.
     SetHeader(Header),
     /// Sets the most octets that the message may have.
@@ -56,6 +64,7 @@ impl<T: Composer> Stage<T> {
         match self {
             Stage::Builder(builder) => builder.as_slice(),
             Stage::Question(builder) => builder.as_slice(),
+            Stage::Answer(builder) => builder.as_slice(),
         }
     }
 }
@@ -70,16 +79,19 @@ fn reply_of(outcome: Result<(), PushError>) -> Reply
 }
 
 /// A call on the builder before the sections, and the reply.
-fn step_builder<T: Composer, Q: ComposeQuestion>(
+fn step_builder<T: Composer, Q: ComposeQuestion, R: ComposeRecord>(
     mut builder: MessageBuilder<T>,
-    call: &Call<Q>,
+    call: &Call<Q, R>,
 ) -> (Stage<T>, Reply)
-    ensures { Steps T.room T.grows Q.question T.rule (Stage.Builder builder) call.now result.1 result.0 }
+    ensures { Steps T.room T.grows Q.question R.item T.rule (Stage.Builder builder) call.now result.1 result.0 }
 {
     match call {
-        Call::PushQuestion(_) | Call::Rewind => (Stage::Builder(builder), Reply::Misplaced),
+        Call::PushQuestion(_) | Call::PushRecord(_) | Call::Rewind | Call::TcRewind => {
+            (Stage::Builder(builder), Reply::Misplaced)
+        }
         Call::ToBuilder => (Stage::Builder(builder.builder()), Reply::Done),
         Call::ToQuestion => (Stage::Question(builder.question()), Reply::Done),
+        Call::ToAnswer => (Stage::Answer(builder.answer()), Reply::Done),
         Call::SetHeader(header) => {
             builder.set_header(*header);
             (Stage::Builder(builder), Reply::Done)
@@ -96,23 +108,25 @@ fn step_builder<T: Composer, Q: ComposeQuestion>(
 }
 
 /// A call on the builder of the question section, and the reply.
-fn step_question<T: Composer, Q: ComposeQuestion>(
+fn step_question<T: Composer, Q: ComposeQuestion, R: ComposeRecord>(
     mut builder: QuestionBuilder<T>,
-    call: &Call<Q>,
+    call: &Call<Q, R>,
 ) -> (Stage<T>, Reply)
-    ensures { Steps T.room T.grows Q.question T.rule (Stage.Question builder) call.now result.1 result.0 }
+    ensures { Steps T.room T.grows Q.question R.item T.rule (Stage.Question builder) call.now result.1 result.0 }
 {
     match call {
         Call::PushQuestion(question) => {
             let reply = reply_of(builder.push(question));
             (Stage::Question(builder), reply)
         }
+        Call::PushRecord(_) | Call::TcRewind => (Stage::Question(builder), Reply::Misplaced),
         Call::Rewind => {
             builder.rewind();
             (Stage::Question(builder), Reply::Done)
         }
         Call::ToBuilder => (Stage::Builder(builder.builder()), Reply::Done),
         Call::ToQuestion => (Stage::Question(builder.question()), Reply::Done),
+        Call::ToAnswer => (Stage::Answer(builder.answer()), Reply::Done),
         Call::SetHeader(header) => {
             builder.set_header(*header);
             (Stage::Question(builder), Reply::Done)
@@ -128,27 +142,67 @@ fn step_question<T: Composer, Q: ComposeQuestion>(
     }
 }
 
+/// A call on the builder of the answer section, and the reply.
+fn step_answer<T: Composer, Q: ComposeQuestion, R: ComposeRecord>(
+    mut builder: AnswerBuilder<T>,
+    call: &Call<Q, R>,
+) -> (Stage<T>, Reply)
+    ensures { Steps T.room T.grows Q.question R.item T.rule (Stage.Answer builder) call.now result.1 result.0 }
+{
+    match call {
+        Call::PushQuestion(_) => (Stage::Answer(builder), Reply::Misplaced),
+        Call::PushRecord(pushed) => {
+            let reply = reply_of(builder.push(pushed));
+            (Stage::Answer(builder), reply)
+        }
+        Call::Rewind => {
+            builder.rewind();
+            (Stage::Answer(builder), Reply::Done)
+        }
+        Call::TcRewind => (Stage::Answer(builder.tc_rewind_into()), Reply::Done),
+        Call::ToBuilder => (Stage::Builder(builder.builder()), Reply::Done),
+        Call::ToQuestion => (Stage::Question(builder.question()), Reply::Done),
+        Call::ToAnswer => (Stage::Answer(builder.answer()), Reply::Done),
+        Call::SetHeader(header) => {
+            builder.set_header(*header);
+            (Stage::Answer(builder), Reply::Done)
+        }
+        Call::SetLimit(limit) => {
+            builder.set_push_limit(*limit);
+            (Stage::Answer(builder), Reply::Done)
+        }
+        Call::ClearLimit => {
+            builder.clear_push_limit();
+            (Stage::Answer(builder), Reply::Done)
+        }
+    }
+}
+
 /// A call on a stage, and the reply.
-fn step<T: Composer, Q: ComposeQuestion>(stage: Stage<T>, call: &Call<Q>) -> (Stage<T>, Reply)
-    ensures { Steps T.room T.grows Q.question T.rule stage call.now result.1 result.0 }
+fn step<T: Composer, Q: ComposeQuestion, R: ComposeRecord>(
+    stage: Stage<T>,
+    call: &Call<Q, R>,
+) -> (Stage<T>, Reply)
+    ensures { Steps T.room T.grows Q.question R.item T.rule stage call.now result.1 result.0 }
 {
     match stage {
         Stage::Builder(builder) => step_builder(builder, call),
         Stage::Question(builder) => step_question(builder, call),
+        Stage::Answer(builder) => step_answer(builder, call),
     }
 }
 
 /// Makes the calls in order, and appends a reply to each.
 ///
 /// Room for the replies is taken first. Where that is refused the stage is given back unchanged, with no reply.
-pub fn run<T: Composer, Q: ComposeQuestion>(
+pub fn run<T: Composer, Q: ComposeQuestion, R: ComposeRecord>(
     stage: Stage<T>,
-    calls: &[Call<Q>],
+    calls: &[Call<Q, R>],
     replies: &mut Vec<Reply>,
 ) -> Result<Stage<T>, Stage<T>>
     ensures same { IfErr result (λ same. same ≡ stage) }
     ensures untold { OnErr result (replies.new.items ≡ replies.old.items) }
-    ensures ran { IfOk result (λ new. (told : List Reply) × (replies.new.items ≡ replies.old.items ++ told) × ((s : State) → StageStandsFor T.rule s stage → Runs T.room T.grows Q.question T.rule s calls.now told new)) }
+    ensures ran { IfOk result (λ new. (told : List Reply) × (replies.new.items ≡ replies.old.items ++ told) × ((s : State) → StageStandsFor T.rule s stage → Runs T.room T.grows Q.question R.item T.rule s calls.now told new)) }
 {
     if replies.reserve(calls.len()).is_err() {
         return Err(stage);

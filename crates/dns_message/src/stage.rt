@@ -15,6 +15,7 @@ impl<T: Composer> Stage<T> {
         match self {
             Stage::Builder(builder) => builder.header(),
             Stage::Question(builder) => builder.header(),
+            Stage::Answer(builder) => builder.header(),
         }
     }
 
@@ -25,6 +26,7 @@ impl<T: Composer> Stage<T> {
         match self {
             Stage::Builder(builder) => builder.finish(),
             Stage::Question(builder) => builder.finish(),
+            Stage::Answer(builder) => builder.finish(),
         }
     }
 }

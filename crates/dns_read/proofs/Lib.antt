@@ -1,5 +1,8 @@
 pub mod ReadingLemmas
 pub mod StartLemmas
 pub mod QuestionsFromLemmas
+pub mod RecordsFromLemmas
 pub mod HeaderLemmas
 pub mod CursorLemmas
+pub mod SkipLemmas
+pub mod SectionLemmas

@@ -1,11 +1,11 @@
--- How many items a reading has, and where its fault is.
-use Rattle.std.proofs.Common.{◌≡◌, ℕ, ◌≤◌, List, [], ◌∷◌, ◌++◌, length, arith}
-use Rattle.std.specs.Prelude.{Result, Err}
+-- How many items a reading has, where its fault is, and which lists are the readings.
+use Rattle.std.proofs.Common.{◌≡◌, ℕ, suc, ◌≤◌, List, [], ◌∷◌, ◌++◌, length, arith}
+use Rattle.std.specs.Prelude.{Result, Ok, Err}
 use Rattle.dns_wire.specs.Fault.{Fault}
 use Rattle.dns_item.specs.Entries.{ReadsQuestion, ReadsRecord, QuestionFaultAt, RecordFaultAt}
 use Rattle.dns_read.specs.Reading.{Reading}
 use Rattle.dns_read.specs.Reading.Reading.{none, entry, stop}
-use Rattle.dns_read.specs.Readings.{ReadingsEnd, ReadingsOfQuestionsEnd, ReadingsOfRecordsEnd}
+use Rattle.dns_read.specs.Readings.{OneReading, AreReadings, ReadingsEnd, ReadingsOfQuestionsEnd, ReadingsOfRecordsEnd}
 
 module _ {X : Type 0} (Reads : ℕ → ℕ → X → Type 0) (FaultOf : ℕ → Fault → Type 0) where
   short_reading : {n p : ℕ} {xs : List (Result X Fault)} → Reading Reads FaultOf n p xs → length xs ≤ n
@@ -37,3 +37,18 @@ readings_of_questions_end b = readings_end (ReadsQuestion b) (QuestionFaultAt b)
 
 pub readings_of_records_end : ReadingsOfRecordsEnd
 readings_of_records_end b = readings_end (ReadsRecord b) (RecordFaultAt b)
+
+-- lists that are readings are the readings
+module _ {X : Type 0} {Reads : ℕ → ℕ → X → Type 0} {FaultOf : ℕ → Fault → Type 0} (one : OneReading Reads FaultOf) (from : ℕ → ℕ → List (Result X Fault)) (reading : (n p : ℕ) → Reading Reads FaultOf n p (from n p)) where
+  only_reading : (n p : ℕ) (xs : List (Result X Fault)) → Reading Reads FaultOf n p xs → from n p ≡ xs
+  only_reading n p xs r = one.one n p _ xs (reading n p) r
+
+  pub are_readings : AreReadings Reads FaultOf from
+  are_readings =
+      record {
+        reading = reading;
+        only = only_reading;
+        none = λ p. only_reading 0 p [] none;
+        entry = λ n p q x reads. only_reading (suc n) p (Ok x ∷ from n q) (entry reads (reading n q));
+        stop = λ n p f fault. only_reading (suc n) p (Err f ∷ []) (stop fault);
+      }

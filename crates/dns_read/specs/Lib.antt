@@ -3,5 +3,8 @@ pub mod Sections
 pub mod Readings
 pub mod Unique
 pub mod QuestionsFrom
+pub mod RecordsFrom
+pub mod Skipping
 pub mod QuestionSection
+pub mod RecordSection
 pub mod Message

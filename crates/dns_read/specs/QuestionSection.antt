@@ -1,5 +1,5 @@
 -- What a cursor over the questions of a message has before it, and how it moves. RFC 1035 sections 4.1 and 4.1.2.
-use Rattle.std.specs.Prelude.{◌≡◌, ℕ, List, [], Option, Some, None, Result, Ok, Err}
+use Rattle.std.specs.Prelude.{◌≡◌, ℕ, List, Option, Some, None, Result, Ok, Err}
 use Rattle.dns_wire.specs.Fault.{Fault, fault_of}
 use Rattle.dns_wire.specs.Parsers.{seen, place}
 use Rattle.dns_wire.specs.declared.error.ParseError.{ParseError}
@@ -9,6 +9,8 @@ use Rattle.dns_item.specs.Items.{QuestionItem}
 use Rattle.dns_item.specs.Question.{parsed_question}
 use Rattle.dns_item.specs.declared.question.Question.{Question}
 use Rattle.dns_read.specs.QuestionsFrom.{questions_from}
+use Rattle.dns_read.specs.Sections.{header_size, question_count}
+use Rattle.dns_read.specs.Skipping.{items_left}
 use Rattle.dns_read.specs.declared.question_section.QuestionSection.{QuestionSection}
 
 -- the octets of the message
@@ -19,14 +21,13 @@ octets_of section = seen section.parser
 abbrev pub position : QuestionSection → ℕ
 position section = place section.parser
 
--- the reading of at most so many questions, and nothing once a fault was given
-abbrev pub questions_behind : List ℕ → ℕ → Result ℕ ParseError → List (Result QuestionItem Fault)
-questions_behind b p (Ok n) = questions_from b n p
-questions_behind b p (Err e) = []
+-- how many questions may still come, or the error that was given
+abbrev pub to_come : QuestionSection → Result ℕ ParseError
+to_come section = section.left
 
 -- what is left to be given
 abbrev pub questions_left : QuestionSection → List (Result QuestionItem Fault)
-questions_left section = questions_behind (octets_of section) (position section) section.left
+questions_left section = items_left (λ n. questions_from (octets_of section) n (position section)) (to_come section)
 
 -- what an answer of the cursor says: a question, or a fault
 abbrev pub question_answer : Result (Question ParsedName) ParseError → Result QuestionItem Fault
@@ -38,3 +39,10 @@ abbrev pub PassesQuestion : QuestionSection → QuestionSection → Option (Resu
 PassesQuestion old new (Some (Ok question)) = ReadsQuestion (octets_of old) (position old) (position new) (parsed_question question)
 PassesQuestion old new (Some (Err e)) = QuestionFaultAt (octets_of old) (position old) (fault_of e) × (position new ≡ position old)
 PassesQuestion old new None = position new ≡ position old
+
+-- a cursor over the question section of these octets, with all of its questions to come
+pub record BeginsQuestions (b : List ℕ) (section : QuestionSection) : Type 0 where
+  pub octets : octets_of section ≡ b
+  pub start : position section ≡ header_size
+  pub count : to_come section ≡ Ok (question_count b)
+  pub questions : questions_left section ≡ questions_from b (question_count b) header_size

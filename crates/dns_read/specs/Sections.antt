@@ -1,13 +1,15 @@
 -- The sections of a message: how many entries each has, where it starts, and what reading it gives. RFC 1035 sections 4.1 and 4.1.1.
 --
 -- `b` are the octets of the message.
-use Rattle.std.specs.Prelude.{ℕ, List, Result}
+use Rattle.std.specs.Prelude.{ℕ, ◌⊎◌, List, Option, Some, None, Result}
 use Rattle.std.specs.Int.{w16}
 use Rattle.dns_wire.specs.Fault.{Fault}
 use Rattle.dns_wire.specs.Parsers.{number_at}
-use Rattle.dns_item.specs.Entries.{SkipsQuestion, SkipsRecord, ReadsQuestion, ReadsRecord, RecordEntry, QuestionFaultAt, RecordFaultAt}
+use Rattle.dns_item.specs.Entries.{SkipsQuestion, SkipsRecord, ReadsQuestion, ReadsRecord, RecordEntry, QuestionFaultAt, QuestionSkipFaultAt, RecordFaultAt, RecordSkipFaultAt}
 use Rattle.dns_item.specs.Items.{QuestionItem}
-use Rattle.dns_read.specs.Reading.{Passed, Reading}
+use Rattle.dns_read.specs.Reading.{Passed, StopsPassing, Reading}
+use Rattle.dns_read.specs.declared.section.Section.{Section}
+use Rattle.dns_read.specs.declared.section.Section.TheVariants.{Answer, Authority, Additional}
 
 -- the octets of the header section, behind which the question section starts
 abbrev pub header_size : ℕ
@@ -35,6 +37,39 @@ AuthoritiesStart b p = (before : ℕ) × AnswersStart b before × Passed (SkipsR
 
 abbrev pub AdditionalsStart : List ℕ → ℕ → Type 0
 AdditionalsStart b p = (before : ℕ) × AuthoritiesStart b before × Passed (SkipsRecord b) (authority_count b) before p
+
+-- Where an entry of a section can't be skipped, no section behind that one has a start. This is the fault of the first such entry.
+abbrev pub AnswersFault : List ℕ → Fault → Type 0
+AnswersFault b f = StopsPassing (SkipsQuestion b) (QuestionSkipFaultAt b) (question_count b) header_size f
+
+abbrev pub AuthoritiesFault : List ℕ → Fault → Type 0
+AuthoritiesFault b f =
+    AnswersFault b f ⊎ ((before : ℕ) × AnswersStart b before × StopsPassing (SkipsRecord b) (RecordSkipFaultAt b) (answer_count b) before f)
+
+abbrev pub AdditionalsFault : List ℕ → Fault → Type 0
+AdditionalsFault b f =
+    AuthoritiesFault b f ⊎ ((before : ℕ) × AuthoritiesStart b before × StopsPassing (SkipsRecord b) (RecordSkipFaultAt b) (authority_count b) before f)
+
+-- of a section of records: its count, where it starts, the fault where it has no start, and the section behind it
+abbrev pub record_count : Section → List ℕ → ℕ
+record_count Answer b = answer_count b
+record_count Authority b = authority_count b
+record_count Additional b = additional_count b
+
+abbrev pub StartsAt : Section → List ℕ → ℕ → Type 0
+StartsAt Answer b p = AnswersStart b p
+StartsAt Authority b p = AuthoritiesStart b p
+StartsAt Additional b p = AdditionalsStart b p
+
+abbrev pub StartFault : Section → List ℕ → Fault → Type 0
+StartFault Answer b f = AnswersFault b f
+StartFault Authority b f = AuthoritiesFault b f
+StartFault Additional b f = AdditionalsFault b f
+
+abbrev pub section_behind : Section → Option Section
+section_behind Answer = Some Authority
+section_behind Authority = Some Additional
+section_behind Additional = None
 
 -- the reading of at most so many questions from a place on
 abbrev pub ReadingQuestions : List ℕ → ℕ → ℕ → List (Result QuestionItem Fault) → Type 0

@@ -1,12 +1,14 @@
 //! Theorems on what reading sections gives. The functions do nothing: each contract is a theorem over all octets.
 ghost use Rattle.dns_read.specs.QuestionsFrom.{QuestionsFromAreRead};
-ghost use Rattle.dns_read.specs.Readings.{OneReadingOfQuestions, OneReadingOfRecords, OneStart, ReadingsOfQuestionsEnd, ReadingsOfRecordsEnd};
+ghost use Rattle.dns_read.specs.RecordsFrom.{RecordsFromAreRead};
+ghost use Rattle.dns_read.specs.Readings.{OneReadingOfQuestions, OneReadingOfRecords, OneStart, StartOrFault, ReadingsOfQuestionsEnd, ReadingsOfRecordsEnd};
 
 /// From each place on, at most so many questions or records have exactly one reading.
 pub fn one_reading()
     ensures questions { OneReadingOfQuestions }
     ensures records { OneReadingOfRecords }
     ensures questions_from { QuestionsFromAreRead }
+    ensures records_from { RecordsFromAreRead }
 {}
 
 /// A reading has at most as many items as are asked for, and at most one fault, which is the last of them.
@@ -18,4 +20,9 @@ pub fn readings_end()
 /// Each section starts at one place at most.
 pub fn one_start()
     ensures { OneStart }
+{}
+
+/// Each section starts at exactly one place or has exactly one fault, never both.
+pub fn start_or_fault()
+    ensures { StartOrFault }
 {}

@@ -1,10 +1,11 @@
-ghost use Rattle.std.specs.Prelude.{◌≡◌, ◌≢◌, ◌↔◌, ◌<◌, ◌≤◌, length, take, drop, slice_range, IsTrue, IfOk, IfErr, IsErr};
+ghost use Rattle.std.specs.Prelude.{◌≡◌, ◌≢◌, ◌↔◌, ◌<◌, ◌≤◌, length, take, drop, slice_range, IsTrue, Ok, IfOk, IfErr, IsErr};
 ghost use Rattle.dns_read.specs.Sections.{header_size};
 
 use crate::error::ShortMessage;
 use crate::question_section::QuestionSection;
+use crate::record_section::RecordSection;
 use dns_code::{Header, HeaderCounts, HeaderSection, Rcode};
-use dns_wire::{Octets, OctetsMut};
+use dns_wire::{Octets, OctetsMut, ParseError};
 use std::alloc::AllocError;
 use std::convert::AsSlice;
 
@@ -34,9 +35,12 @@ impl<Octs: Octets> Message<Octs> {
     ghost use Rattle.dns_code.specs.HeaderCounts.{counts, counts_octets};
     ghost use Rattle.dns_code.specs.HeaderSection.{section_octets};
     ghost use Rattle.dns_read.specs.Message.{holder_of, message_octets};
-    ghost use Rattle.dns_read.specs.QuestionSection.{octets_of, position, questions_left};
+    ghost use Rattle.dns_read.specs.QuestionSection.{octets_of, position, to_come, questions_left, BeginsQuestions};
     ghost use Rattle.dns_read.specs.QuestionsFrom.{questions_from};
-    ghost use Rattle.dns_read.specs.Sections.{question_count, answer_count, authority_count, additional_count};
+    ghost use Rattle.dns_read.specs.RecordSection.{BeginsSection};
+    ghost use Rattle.dns_read.specs.Sections.{question_count, answer_count, authority_count, additional_count, AnswersFault, AuthoritiesFault, AdditionalsFault};
+    ghost use Rattle.dns_read.specs.declared.section.Section.TheVariants.{Answer, Authority, Additional};
+    ghost use Rattle.dns_wire.specs.Fault.{fault_of};
 
     /// The message of these octets. Fewer than twelve are refused.
     pub fn from_octets(octets: Octs) -> Result<Self, ShortMessage>
@@ -146,6 +150,7 @@ impl<Octs: Octets> Message<Octs> {
     pub fn question(&self) -> QuestionSection<'_>
         ensures octets { octets_of result ≡ message_octets self.now }
         ensures position { position result ≡ header_size }
+        ensures count { to_come result ≡ Ok (question_count (message_octets self.now)) }
         ensures questions { let b = message_octets self.now in questions_left result ≡ questions_from b (question_count b) header_size }
     {
         QuestionSection::new(self.as_slice())
@@ -155,9 +160,78 @@ impl<Octs: Octets> Message<Octs> {
     pub fn zone(&self) -> QuestionSection<'_>
         ensures octets { octets_of result ≡ message_octets self.now }
         ensures position { position result ≡ header_size }
+        ensures count { to_come result ≡ Ok (question_count (message_octets self.now)) }
         ensures questions { let b = message_octets self.now in questions_left result ≡ questions_from b (question_count b) header_size }
     {
         self.question()
+    }
+
+    /// The answer section, behind the questions. The fault of the first question that can't be skipped is answered.
+    pub fn answer(&self) -> Result<RecordSection<'_>, ParseError>
+        ensures starts { IfOk result (λ section. BeginsSection Answer (message_octets self.now) section) }
+        ensures fault { IfErr result (λ e. AnswersFault (message_octets self.now) (fault_of e)) }
+    {
+        self.question().answer()
+    }
+
+    /// The prerequisite section of an UPDATE message, which is the answer section (RFC 2136 section 2.4).
+    pub fn prerequisite(&self) -> Result<RecordSection<'_>, ParseError>
+        ensures starts { IfOk result (λ section. BeginsSection Answer (message_octets self.now) section) }
+        ensures fault { IfErr result (λ e. AnswersFault (message_octets self.now) (fault_of e)) }
+    {
+        self.answer()
+    }
+
+    /// The authority section, behind the answer section. The fault of the first entry before it that can't be skipped is
+    /// answered.
+    pub fn authority(&self) -> Result<RecordSection<'_>, ParseError>
+        ensures starts { IfOk result (λ section. BeginsSection Authority (message_octets self.now) section) }
+        ensures fault { IfErr result (λ e. AuthoritiesFault (message_octets self.now) (fault_of e)) }
+    {
+        self.answer()?.following()
+    }
+
+    /// The update section of an UPDATE message, which is the authority section (RFC 2136 section 2.5).
+    pub fn update(&self) -> Result<RecordSection<'_>, ParseError>
+        ensures starts { IfOk result (λ section. BeginsSection Authority (message_octets self.now) section) }
+        ensures fault { IfErr result (λ e. AuthoritiesFault (message_octets self.now) (fault_of e)) }
+    {
+        self.authority()
+    }
+
+    /// The additional section, behind the authority section. The fault of the first entry before it that can't be skipped
+    /// is answered.
+    pub fn additional(&self) -> Result<RecordSection<'_>, ParseError>
+        ensures starts { IfOk result (λ section. BeginsSection Additional (message_octets self.now) section) }
+        ensures fault { IfErr result (λ e. AdditionalsFault (message_octets self.now) (fault_of e)) }
+    {
+        self.authority()?.following()
+    }
+
+    /// The question, answer, authority and additional sections. The fault of the first entry before the additional section
+    /// that can't be skipped is answered.
+    pub fn sections(
+        &self,
+    ) -> Result<
+        (
+            QuestionSection<'_>,
+            RecordSection<'_>,
+            RecordSection<'_>,
+            RecordSection<'_>,
+        ),
+        ParseError,
+    >
+        ensures question { IfOk result (λ sections. BeginsQuestions (message_octets self.now) sections.0) }
+        ensures answer { IfOk result (λ sections. BeginsSection Answer (message_octets self.now) sections.1) }
+        ensures authority { IfOk result (λ sections. BeginsSection Authority (message_octets self.now) sections.2) }
+        ensures additional { IfOk result (λ sections. BeginsSection Additional (message_octets self.now) sections.3) }
+        ensures fault { IfErr result (λ e. AdditionalsFault (message_octets self.now) (fault_of e)) }
+    {
+        let question = self.question();
+        let answer = question.answer()?;
+        let authority = answer.following()?;
+        let additional = authority.following()?;
+        Ok((question, answer, authority, additional))
     }
 }
 

@@ -10,8 +10,8 @@ settle-requires-clause-message g c =
 pub invariant_of-self : goal.invariant_of-self
 invariant_of-self g c =
     message-pushed _ _ _ 4 _ _ _ c.settle.result (omega arith) (questions_grow _ _) c.self.invariant
-    (c.settle.ensures _ _ (questions_grow _ _) c.self.invariant (ap length c.as_slice-old.ensures.octets) c.compose_question-composed.ensures.composes)
+    (c.settle.ensures.pushes _ _ (questions_grow _ _) c.self.invariant (ap length c.as_slice-old.ensures.octets) c.compose_question-composed.ensures.composes)
 
 pub returns-clause-pushes : goal.returns-clause-pushes
 returns-clause-pushes g c =
-    rw (← c.self.view_is) (c.settle.ensures _ _ (questions_grow _ _) c.self.invariant (ap length c.as_slice-old.ensures.octets) c.compose_question-composed.ensures.composes, refl)
+    rw (← c.self.view_is) (c.settle.ensures.pushes _ _ (questions_grow _ _) c.self.invariant (ap length c.as_slice-old.ensures.octets) c.compose_question-composed.ensures.composes, refl)

@@ -1,0 +1,161 @@
+//! Records in the lines of a script.
+ghost use Rattle.std.specs.Prelude.{◌<◌, IfSome};
+
+use crate::line::number;
+use crate::script_data::ScriptData;
+use dns_code::{Class, Rtype};
+use dns_data::{A, Cname, Ns, Soa, UnknownRecordData};
+use dns_item::{Record, Ttl};
+use dns_wire::Name;
+use dns_wire::name::FromStrError;
+use std::alloc::{AllocError, Global};
+use std::str::FromStr;
+
+/// A record of a script.
+pub(crate) type ScriptRecord = Record<Name<Vec<u8>>, ScriptData>;
+
+/// The record whose owner, TTL, class, type and data the words are, `None` where they are no record.
+pub(crate) fn record(alloc: Global, words: &str) -> Result<Option<ScriptRecord>, AllocError> {
+    let words: Vec<&str> = words.split(' ').collect(alloc)?;
+    let [owner, ttl, class, rtype, data @ ..] = words.as_slice() else {
+        return Ok(None);
+    };
+    let (Some(seconds), Ok(class), Ok(rtype)) = (
+        number_of_32_bits(ttl),
+        Class::from_str(class),
+        Rtype::from_str(rtype),
+    ) else {
+        return Ok(None);
+    };
+    let Some(owner) = name(alloc, owner)? else {
+        return Ok(None);
+    };
+    match data_of(alloc, rtype, data)? {
+        Some(data) => Ok(Some(Record::new(owner, class, Ttl::from_secs(seconds), data))),
+        None => Ok(None),
+    }
+}
+
+/// The data of a record of a type: opaque behind `\#`, else as the type asks for.
+fn data_of(alloc: Global, rtype: Rtype, words: &[&str]) -> Result<Option<ScriptData>, AllocError> {
+    match words {
+        ["\\#", len, digits @ ..] => opaque(alloc, rtype, len, digits),
+        [word] if rtype == Rtype::A => Ok(address(word).map(ScriptData::A)),
+        [word] if rtype == Rtype::NS => match name(alloc, word)? {
+            Some(name) => Ok(Some(ScriptData::Ns(Ns::new(name)))),
+            None => Ok(None),
+        },
+        [word] if rtype == Rtype::CNAME => match name(alloc, word)? {
+            Some(name) => Ok(Some(ScriptData::Cname(Cname::new(name)))),
+            None => Ok(None),
+        },
+        [mname, rname, numbers @ ..] if rtype == Rtype::SOA => zone(alloc, mname, rname, numbers),
+        _ => Ok(None),
+    }
+}
+
+/// The name that a word spells.
+fn name(alloc: Global, word: &str) -> Result<Option<Name<Vec<u8>>>, AllocError> {
+    match Name::vec_from_str(alloc, word) {
+        Ok(name) => Ok(Some(name)),
+        Err(FromStrError::OutOfMemory) => Err(AllocError),
+        Err(_) => Ok(None),
+    }
+}
+
+/// The address of four decimal numbers with dots.
+fn address(word: &str) -> Option<A> {
+    let mut numbers = word.split('.');
+    let mut octets = [0; 4];
+    for octet in octets.iter_mut() {
+        *octet = number(numbers.next()?, 255)? as u8;
+    }
+    let [a, b, c, d] = octets;
+    match numbers.next() {
+        Some(_) => None,
+        None => Some(A::from_octets(a, b, c, d)),
+    }
+}
+
+/// The start of a zone of two names and five numbers.
+fn zone(
+    alloc: Global,
+    mname: &str,
+    rname: &str,
+    numbers: &[&str],
+) -> Result<Option<ScriptData>, AllocError> {
+    let Some(numbers) = zone_numbers(numbers) else {
+        return Ok(None);
+    };
+    let [serial, refresh, retry, expire, minimum] = numbers;
+    let Some(mname) = name(alloc, mname)? else {
+        return Ok(None);
+    };
+    let Some(rname) = name(alloc, rname)? else {
+        return Ok(None);
+    };
+    Ok(Some(ScriptData::Soa(Soa::new(mname, rname, serial, refresh, retry, expire, minimum))))
+}
+
+fn zone_numbers(words: &[&str]) -> Option<[u32; 5]> {
+    let [serial, refresh, retry, expire, minimum] = words else {
+        return None;
+    };
+    Some([
+        number_of_32_bits(serial)?,
+        number_of_32_bits(refresh)?,
+        number_of_32_bits(retry)?,
+        number_of_32_bits(expire)?,
+        number_of_32_bits(minimum)?,
+    ])
+}
+
+fn number_of_32_bits(digits: &str) -> Option<u32> {
+    Some(number(digits, 0xffff_ffff)? as u32)
+}
+
+/// Opaque data: the number of octets, and behind it the octets in one word of hexadecimal digits, if there are any.
+fn opaque(
+    alloc: Global,
+    rtype: Rtype,
+    len: &str,
+    digits: &[&str],
+) -> Result<Option<ScriptData>, AllocError> {
+    let digits = match digits {
+        [] => "",
+        [digits] => digits,
+        _ => return Ok(None),
+    };
+    let Some(octets) = hex_octets(alloc, digits)? else {
+        return Ok(None);
+    };
+    if number(len, 0xffff) != Some(octets.len()) {
+        return Ok(None);
+    }
+    match UnknownRecordData::from_octets(rtype, octets) {
+        Ok(data) => Ok(Some(ScriptData::Opaque(data))),
+        Err(_) => Ok(None),
+    }
+}
+
+/// The octets that hexadecimal digits write, two digits for each; `None` for any other text.
+fn hex_octets(alloc: Global, digits: &str) -> Result<Option<Vec<u8>>, AllocError> {
+    let mut octets = Vec::new(alloc);
+    for pair in digits.as_bytes().chunks(2) {
+        let [high, low] = pair else {
+            return Ok(None);
+        };
+        let (Some(high), Some(low)) = (hex_value(*high), hex_value(*low)) else {
+            return Ok(None);
+        };
+        octets.push(high * 16 + low)?;
+    }
+    Ok(Some(octets))
+}
+
+/// The value of a hexadecimal digit.
+fn hex_value(digit: u8) -> Option<u8>
+    ensures { IfSome result (λ value. value < 16) }
+{
+    Some(char::from(digit).to_digit(16)? as u8)
+}

@@ -1,0 +1,28 @@
+use Rattle.std.proofs.Common.{◌∙◌, ◌∷◌, List, ℕ, ap, sym}
+use Rattle.std.specs.Prelude.{Ok}
+use Rattle.dns_wire.specs.Parsers.{place}
+use Rattle.dns_item.specs.ParsedRecord.{parsed_entry}
+use Rattle.dns_read.specs.RecordSection.{octets_of, position, to_come}
+use Rattle.dns_read.specs.RecordsFrom.{records_from}
+use Rattle.dns_read.proofs.CursorLemmas.{nothing_left, gives_entry, gives_fault}
+use Rattle.dns_read.proofs.RecordsFromLemmas.{records_from_are_read}
+use Rattle.dns_read.proofs.record_section.RecordSection.next.Goals as goal
+
+pub returns-in_err-left-clause-steps : goal.returns-in_err-left-clause-steps
+returns-in_err-left-clause-steps c =
+    let old = c.args.self.now in
+    let none = nothing_left (records_from_are_read (octets_of old)) (position old) (to_come old) c.in_ok-ok.field-0 c.in_ok-ok.ensures.value c.in_err-left.ensures in
+    rw c.from_residual-in_err-left.ensures (none, none)
+
+pub returns-in-Ok-clause-steps : goal.returns-in-Ok-clause-steps
+returns-in-Ok-clause-steps c =
+    let old = c.args.self.now in
+    let new = c.parse.new.parser in
+    let reads = c.in-Ok.ensures.parses in
+    gives_entry (records_from_are_read (octets_of old)) (position old) (to_come old) _ c.in_ok-ok.ensures.value _ (place new) _ c.in_ok-left.ensures reads.0
+    ∙ ap (λ (b : List ℕ). Ok (parsed_entry c.in-Ok.record) ∷ records_from b c.in_ok-left.left (place new)) (sym reads.1.seen)
+
+pub returns-in-Err-clause-steps : goal.returns-in-Err-clause-steps
+returns-in-Err-clause-steps c =
+    let old = c.args.self.now in
+    gives_fault (records_from_are_read (octets_of old)) (position old) (to_come old) _ c.in_ok-ok.ensures.value _ _ c.in_ok-left.ensures c.in-Err.ensures.parses.0

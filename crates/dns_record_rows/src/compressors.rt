@@ -1,0 +1,328 @@
+//! Answers over compressors: which owner becomes a pointer.
+use arrayvec::ArrayVec;
+use dns_build::{AnswerBuilder, MessageBuilder, PushError};
+use dns_code::{Flags, Rtype};
+use dns_data::{A, Ns, UnknownRecordData};
+use dns_item::Ttl;
+use dns_target::{HashCompressor, StaticCompressor, TreeCompressor};
+use dns_wire::{Composer, Name};
+use std::alloc::Global;
+use std::process::Abort;
+use std::test::Fail;
+
+/// A message of a question and an answer, both for example.com.
+const POSITIVE_RESPONSE: &[u8; 45] =
+    b"\x00\x00\x81\xA0\x00\x01\x00\x01\x00\x00\x00\x00\x07example\x03com\x00\x00\x01\x00\x01\xC0\x0C\x00\x01\x00\x01\x00\x00\x0E\x10\x00\x04\xCB\x00\x71\x01";
+
+const EXAMPLE_COM: &[u8] = b"\x07example\x03com\x00";
+
+/// A builder of the answer section over a target.
+fn answers_over<T: Composer>(target: T) -> Result<AnswerBuilder<T>, Fail> {
+    Ok(MessageBuilder::from_target(target)?.answer())
+}
+
+/// Pushes an address of a name, and gives the length of the message.
+fn push_address<T: Composer, const N: usize>(
+    builder: &mut AnswerBuilder<T>,
+    owner: [u8; N],
+) -> Result<usize, Fail> {
+    builder.push((Name::from_octets(owner)?, 3600, A::from_octets(203, 0, 113, 1)))?;
+    Ok(builder.as_slice().len())
+}
+
+/// A message of the question and the answer of `POSITIVE_RESPONSE`.
+fn build_response<T: Composer>(target: T) -> Result<AnswerBuilder<T>, Fail> {
+    let name = Name::from_octets(*b"\x07example\x03com\x00")?;
+    let mut builder = MessageBuilder::from_target(target)?.question();
+    let mut header = builder.header();
+    let mut flags = Flags::new();
+    flags.qr = true;
+    flags.rd = true;
+    flags.ra = true;
+    flags.ad = true;
+    header.set_flags(flags);
+    builder.set_header(header);
+    builder.push((&name, Rtype::A))?;
+    let mut builder = builder.answer();
+    builder.push((&name, 3600, A::from_octets(203, 0, 113, 1)))?;
+    Ok(builder)
+}
+
+#[test]
+fn compresses_a_positive_response(rt: HostRuntime) -> Result<(), Fail> {
+    let expected = POSITIVE_RESPONSE.as_slice();
+    let alloc = rt.alloc();
+    assert_eq!(rt; build_response(StaticCompressor::new(Vec::new(alloc)))?.as_slice(), expected);
+    assert_eq!(rt; build_response(TreeCompressor::new(alloc, Vec::new(alloc)))?.as_slice(), expected);
+    assert_eq!(rt; build_response(HashCompressor::new(alloc, Vec::new(alloc)))?.as_slice(), expected);
+    // into an array with room for all
+    let array = StaticCompressor::new(ArrayVec::<u8, 45>::new());
+    assert_eq!(rt; build_response(array)?.as_slice(), expected);
+    Ok(())
+}
+
+/// Pushes a record of opaque data, of so many octets, and gives the length of the message.
+fn push_opaque<T: Composer, const N: usize>(
+    alloc: Global,
+    builder: &mut AnswerBuilder<T>,
+    owner: [u8; N],
+    len: usize,
+) -> Result<usize, Fail> {
+    let mut octets = Vec::new(alloc);
+    octets.resize(len, 0)?;
+    let data = UnknownRecordData::from_octets(Rtype::TXT, octets)?;
+    builder.push((Name::from_octets(owner)?, Ttl::HOUR, data))?;
+    Ok(builder.as_slice().len())
+}
+
+/// The octets of the last record that has an address, whose owner takes so many.
+fn last_owner<T: Composer>(builder: &AnswerBuilder<T>, len: usize) -> &[u8] {
+    let octets = builder.as_slice();
+    let end = octets.len().saturating_sub(14);
+    &octets[end.saturating_sub(len)..end]
+}
+
+/// A rewind forgets the names that were taken out.
+fn assert_rewind_forgets<T: Composer>(rt: &impl Abort, target: T) -> Result<(), Fail> {
+    let mut builder = answers_over(target)?;
+    assert_eq!(rt; push_address(&mut builder, *b"\x07example\x03com\x00")?, 39);
+    builder.rewind();
+    assert_eq!(rt; builder.as_slice().len(), 12);
+    assert_eq!(rt; push_address(&mut builder, *b"\x07example\x03com\x00")?, 39);
+    assert_eq!(rt; last_owner(&builder, 13), b"\x07example\x03com\x00".as_slice());
+    assert_eq!(rt; push_address(&mut builder, *b"\x07example\x03com\x00")?, 55);
+    assert_eq!(rt; last_owner(&builder, 2), b"\xC0\x0C".as_slice());
+    Ok(())
+}
+
+/// A suffix is known only in its own letter case.
+fn assert_letter_case<T: Composer, const N: usize>(
+    rt: &impl Abort,
+    target: T,
+    qname: [u8; N],
+    len: usize,
+    owner: &[u8],
+) -> Result<(), Fail> {
+    let mut builder = MessageBuilder::from_target(target)?.question();
+    builder.push((Name::from_octets(qname)?, Rtype::A))?;
+    let mut builder = builder.answer();
+    assert_eq!(rt; push_address(&mut builder, *b"\x07example\x03com\x00")?, len);
+    assert_eq!(rt; last_owner(&builder, owner.len()), owner);
+    Ok(())
+}
+
+/// A name in data becomes a pointer too.
+fn assert_name_in_data<T: Composer>(rt: &impl Abort, target: T) -> Result<(), Fail> {
+    let owner = Name::from_octets(*b"\x07example\x03com\x00")?;
+    let server = Name::from_octets(*b"\x02ns\x07example\x03com\x00")?;
+    let mut builder = MessageBuilder::from_target(target)?.question();
+    builder.push((&owner, Rtype::NS))?;
+    let mut builder = builder.answer();
+    builder.push((&owner, 60, Ns::new(&server)))?;
+    assert_eq!(rt; builder.as_slice().len(), 46);
+    assert_eq!(rt;
+        &builder.as_slice()[29..],
+        b"\xC0\x0C\x00\x02\x00\x01\x00\x00\x00\x3C\x00\x05\x02ns\xC0\x0C".as_slice()
+    );
+    Ok(())
+}
+
+/// No name is remembered past the bound of 16,384 octets.
+fn assert_names_past_the_bound<T: Composer>(
+    rt: &impl Abort,
+    alloc: Global,
+    target: T,
+) -> Result<(), Fail> {
+    let mut builder = answers_over(target)?;
+    let len = push_opaque(alloc, &mut builder, *b"\x03pad\x07example\x03com\x00", 16_400)?;
+    assert_eq!(rt; len, 16_439);
+    assert_eq!(rt; push_address(&mut builder, *b"\x01a\x01b\x01c\x00")?, 16_460);
+    assert_eq!(rt; push_address(&mut builder, *b"\x01a\x01b\x01c\x00")?, 16_481);
+    assert_eq!(rt; last_owner(&builder, 7), b"\x01a\x01b\x01c\x00".as_slice());
+    Ok(())
+}
+
+/// The last place that is remembered, and the first that isn't.
+fn assert_bound<T: Composer>(
+    rt: &impl Abort,
+    alloc: Global,
+    target: T,
+    padding: usize,
+    len: usize,
+    owner: &[u8],
+) -> Result<(), Fail> {
+    let mut builder = answers_over(target)?;
+    let start = push_opaque(alloc, &mut builder, [0], padding)?;
+    assert_eq!(rt; start, 23 + padding);
+    assert_eq!(rt; push_address(&mut builder, *b"\x01a\x00")?, start + 17);
+    assert_eq!(rt; push_address(&mut builder, *b"\x01a\x00")?, len);
+    assert_eq!(rt; last_owner(&builder, owner.len()), owner);
+    Ok(())
+}
+
+/// A name whose second label stands past the bound.
+fn assert_second_label_past_the_bound<T: Composer>(
+    rt: &impl Abort,
+    alloc: Global,
+    target: T,
+    len: usize,
+    owner: &[u8],
+) -> Result<(), Fail> {
+    let mut builder = answers_over(target)?;
+    assert_eq!(rt; push_opaque(alloc, &mut builder, [0], 16_359)?, 16_382);
+    assert_eq!(rt; push_address(&mut builder, *b"\x01a\x01b\x00")?, 16_401);
+    assert_eq!(rt; push_address(&mut builder, *b"\x01a\x01b\x00")?, len);
+    assert_eq!(rt; last_owner(&builder, owner.len()), owner);
+    Ok(())
+}
+
+/// A known suffix behind labels that stand past the bound.
+fn assert_known_suffix_past_the_bound<T: Composer>(
+    rt: &impl Abort,
+    alloc: Global,
+    target: T,
+    len: usize,
+    owner: &[u8],
+) -> Result<(), Fail> {
+    let mut builder = MessageBuilder::from_target(target)?.question();
+    builder.push((Name::from_octets(*b"\x01c\x00")?, Rtype::A))?;
+    let mut builder = builder.answer();
+    assert_eq!(rt; builder.as_slice().len(), 19);
+    assert_eq!(rt; push_opaque(alloc, &mut builder, [0], 16_354)?, 16_384);
+    assert_eq!(rt; push_address(&mut builder, *b"\x01a\x01b\x01c\x00")?, len);
+    assert_eq!(rt; last_owner(&builder, owner.len()), owner);
+    Ok(())
+}
+
+#[test]
+fn a_rewind_forgets(rt: HostRuntime) -> Result<(), Fail> {
+    let alloc = rt.alloc();
+    assert_rewind_forgets(&rt, StaticCompressor::new(Vec::new(alloc)))?;
+    assert_rewind_forgets(&rt, TreeCompressor::new(alloc, Vec::new(alloc)))?;
+    assert_rewind_forgets(&rt, HashCompressor::new(alloc, Vec::new(alloc)))
+}
+
+#[test]
+fn keeps_the_letter_case(rt: HostRuntime) -> Result<(), Fail> {
+    let alloc = rt.alloc();
+    let full = *b"\x07Example\x03COM\x00";
+    assert_letter_case(&rt, StaticCompressor::new(Vec::new(alloc)), full, 56, EXAMPLE_COM)?;
+    assert_letter_case(&rt, TreeCompressor::new(alloc, Vec::new(alloc)), full, 56, EXAMPLE_COM)?;
+    assert_letter_case(&rt, HashCompressor::new(alloc, Vec::new(alloc)), full, 56, EXAMPLE_COM)?;
+    let one = *b"\x07Example\x03com\x00";
+    let owner = b"\x07example\xC0\x14";
+    assert_letter_case(&rt, StaticCompressor::new(Vec::new(alloc)), one, 53, owner)?;
+    assert_letter_case(&rt, TreeCompressor::new(alloc, Vec::new(alloc)), one, 53, owner)?;
+    assert_letter_case(&rt, HashCompressor::new(alloc, Vec::new(alloc)), one, 53, owner)
+}
+
+#[test]
+fn compresses_a_name_in_data(rt: HostRuntime) -> Result<(), Fail> {
+    let alloc = rt.alloc();
+    assert_name_in_data(&rt, StaticCompressor::new(Vec::new(alloc)))?;
+    assert_name_in_data(&rt, TreeCompressor::new(alloc, Vec::new(alloc)))?;
+    assert_name_in_data(&rt, HashCompressor::new(alloc, Vec::new(alloc)))
+}
+
+#[test]
+fn remembers_nothing_past_the_bound(rt: HostRuntime) -> Result<(), Fail> {
+    let alloc = rt.alloc();
+    assert_names_past_the_bound(&rt, alloc, StaticCompressor::new(Vec::new(alloc)))?;
+    assert_names_past_the_bound(&rt, alloc, TreeCompressor::new(alloc, Vec::new(alloc)))?;
+    assert_names_past_the_bound(&rt, alloc, HashCompressor::new(alloc, Vec::new(alloc)))
+}
+
+#[test]
+fn remembers_the_last_place_below_the_bound(rt: HostRuntime) -> Result<(), Fail> {
+    let alloc = rt.alloc();
+    let place = b"\xFF\xFF";
+    assert_bound(&rt, alloc, StaticCompressor::new(Vec::new(alloc)), 16_360, 16_416, place)?;
+    assert_bound(&rt, alloc, TreeCompressor::new(alloc, Vec::new(alloc)), 16_360, 16_416, place)?;
+    assert_bound(&rt, alloc, HashCompressor::new(alloc, Vec::new(alloc)), 16_360, 16_416, place)?;
+    let full = b"\x01a\x00";
+    assert_bound(&rt, alloc, StaticCompressor::new(Vec::new(alloc)), 16_361, 16_418, full)?;
+    assert_bound(&rt, alloc, TreeCompressor::new(alloc, Vec::new(alloc)), 16_361, 16_418, full)?;
+    assert_bound(&rt, alloc, HashCompressor::new(alloc, Vec::new(alloc)), 16_361, 16_418, full)
+}
+
+#[test]
+fn writes_names_across_the_bound(rt: HostRuntime) -> Result<(), Fail> {
+    let alloc = rt.alloc();
+    let place = b"\xFF\xFE";
+    let full = b"\x01a\x01b\x00";
+    let over_static = StaticCompressor::new(Vec::new(alloc));
+    assert_second_label_past_the_bound(&rt, alloc, over_static, 16_417, place)?;
+    let over_tree = TreeCompressor::new(alloc, Vec::new(alloc));
+    assert_second_label_past_the_bound(&rt, alloc, over_tree, 16_417, place)?;
+    let over_hash = HashCompressor::new(alloc, Vec::new(alloc));
+    assert_second_label_past_the_bound(&rt, alloc, over_hash, 16_420, full)
+}
+
+#[test]
+fn writes_a_known_suffix_across_the_bound(rt: HostRuntime) -> Result<(), Fail> {
+    let alloc = rt.alloc();
+    let full = b"\x01a\x01b\x01c\x00";
+    let over_static = StaticCompressor::new(Vec::new(alloc));
+    assert_known_suffix_past_the_bound(&rt, alloc, over_static, 16_405, full)?;
+    let over_tree = TreeCompressor::new(alloc, Vec::new(alloc));
+    assert_known_suffix_past_the_bound(&rt, alloc, over_tree, 16_405, full)?;
+    let over_hash = HashCompressor::new(alloc, Vec::new(alloc));
+    assert_known_suffix_past_the_bound(&rt, alloc, over_hash, 16_404, b"\x01a\x01b\xC0\x0C")
+}
+
+/// The pushes of `POSITIVE_RESPONSE` into an array of `N` octets: whether each was taken, and the length behind it.
+fn push_into<const N: usize>() -> Result<[(bool, usize); 2], Fail> {
+    let name = Name::from_octets(*b"\x07example\x03com\x00")?;
+    let target = StaticCompressor::new(ArrayVec::<u8, N>::new());
+    let mut builder = MessageBuilder::from_target(target)?.question();
+    let question = builder.push((&name, Rtype::A));
+    let behind_question = (question.is_ok(), builder.as_slice().len());
+    let mut builder = builder.answer();
+    let answer = builder.push((&name, 3600, A::from_octets(203, 0, 113, 1)));
+    Ok([behind_question, (answer.is_ok(), builder.as_slice().len())])
+}
+
+#[test]
+fn refuses_what_has_no_room(rt: HostRuntime) -> Result<(), Fail> {
+    // for the header
+    let small = StaticCompressor::new(ArrayVec::<u8, 11>::new());
+    assert!(rt; MessageBuilder::from_target(small).is_err());
+    // for the question
+    assert_eq!(rt; push_into::<12>()?, [(false, 12), (false, 12)]);
+    assert_eq!(rt; push_into::<28>()?, [(false, 12), (false, 12)]);
+    // for the answer
+    assert_eq!(rt; push_into::<29>()?, [(true, 29), (false, 29)]);
+    assert_eq!(rt; push_into::<44>()?, [(true, 29), (false, 29)]);
+    // for nothing
+    assert_eq!(rt; push_into::<45>()?, [(true, 29), (true, 45)]);
+    Ok(())
+}
+
+/// Into a target of 60 octets: a refused record leaves nothing, and the names before it stay known.
+fn assert_refused_alone<T: Composer>(
+    rt: &impl Abort,
+    alloc: Global,
+    target: T,
+) -> Result<(), Fail> {
+    let mut builder = MessageBuilder::from_target(target)?.question();
+    builder.push((Name::from_octets(*b"\x07example\x03com\x00")?, Rtype::A))?;
+    let mut builder = builder.answer();
+    let owner = *b"\x03www\x07example\x03com\x00";
+    let data = UnknownRecordData::from_octets(Rtype::TXT, [0; 30])?;
+    let refused = builder.push((Name::from_octets(owner)?, Ttl::HOUR, data));
+    assert!(rt; matches!(refused, Err(PushError::ShortBuf)));
+    assert_eq!(rt; builder.as_slice().len(), 29);
+    assert_eq!(rt; push_opaque(alloc, &mut builder, [0], 0)?, 40);
+    assert_eq!(rt; push_opaque(alloc, &mut builder, owner, 0)?, 56);
+    assert_eq!(rt; &builder.as_slice()[40..46], b"\x03www\xC0\x0C".as_slice());
+    Ok(())
+}
+
+#[test]
+fn a_refused_record_forgets_only_itself(rt: HostRuntime) -> Result<(), Fail> {
+    let alloc = rt.alloc();
+    let array = ArrayVec::<u8, 60>::new;
+    assert_refused_alone(&rt, alloc, StaticCompressor::new(array()))?;
+    assert_refused_alone(&rt, alloc, TreeCompressor::new(alloc, array()))?;
+    assert_refused_alone(&rt, alloc, HashCompressor::new(alloc, array()))
+}

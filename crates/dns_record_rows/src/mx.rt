@@ -1,0 +1,92 @@
+//! Mail exchangers: a data type that is none of the library's, proved against its contracts alone.
+ghost use Rattle.std.specs.Prelude.{[], ◌∷◌};
+ghost use Rattle.std.specs.Int.{to_be_bytes, w16};
+ghost use Rattle.dns_wire.specs.Parts.{Octets, CompressibleName};
+ghost use Rattle.dns_data.specs.Layout.{Fixed, DomainName, End};
+ghost use Rattle.dns_data.specs.RecordData.{only};
+
+use dns_build::MessageBuilder;
+use dns_code::{Class, Rtype};
+use dns_data::laws::parts_compose;
+use dns_data::{ComposeRecordData, ParseRecordData, RecordData};
+use dns_item::{Record, Ttl};
+use dns_target::StaticCompressor;
+use dns_wire::{AppendError, Composer, Name, ParseError, ParsedName, Parser, ToName, ToNameExt};
+use std::process::Abort;
+use std::test::Fail;
+
+/// A mail exchanger and its preference, of which the lowest is tried first (RFC 1035 section 3.3.9).
+#[derive(Clone, Copy, Debug, Drop)]
+struct Mx<N> {
+    preference: u16,
+    exchange: N,
+}
+
+impl<N: ToName> RecordData for Mx<N> {
+    ghost rtype_of = { λ _. 15 };
+
+    ghost parts = { λ mx. Octets (to_be_bytes w16 mx.preference) ∷ CompressibleName (N.name mx.exchange) ∷ [] };
+
+    fn rtype(&self) -> Rtype {
+        Rtype::MX
+    }
+}
+
+impl<N: ToName> ComposeRecordData for Mx<N> {
+    fn compose_rdata<T: Composer>(&self, target: &mut T) -> Result<(), AppendError> {
+        parts_compose();
+        let exchange = self.exchange.as_parsed();
+        target.append_slice(&self.preference.to_be_bytes())?;
+        target.append_compressed_name(&exchange)
+    }
+
+    fn compose_canonical_rdata<T: Composer>(&self, target: &mut T) -> Result<(), AppendError> {
+        parts_compose();
+        target.append_slice(&self.preference.to_be_bytes())?;
+        self.exchange.compose_canonical(target)
+    }
+}
+
+impl<'a> ParseRecordData<'a> for Mx<ParsedName<'a>> {
+    ghost layout = { only 15 (Fixed 2 (DomainName End)) };
+
+    fn parse_rdata(rtype: Rtype, parser: &mut Parser<'a>) -> Result<Option<Self>, ParseError> {
+        if rtype != Rtype::MX {
+            return Ok(None);
+        }
+        let mut ahead = *parser;
+        let preference = ahead.parse_u16_be()?;
+        let exchange = ParsedName::parse(&mut ahead)?;
+        *parser = ahead;
+        Ok(Some(Mx {
+            preference,
+            exchange,
+        }))
+    }
+}
+
+#[test]
+fn reads_its_own_data_back(rt: HostRuntime) -> Result<(), Fail> {
+    let name = Name::from_octets(*b"\x04mail\x07example\x00")?;
+    let target = StaticCompressor::new(Vec::new(rt.alloc()));
+    let mut builder = MessageBuilder::from_target(target)?.answer();
+    let mx = Mx {
+        preference: 10,
+        exchange: &name,
+    };
+    builder.push(Record::new(&name, Class::IN, Ttl::HOUR, mx))?;
+    assert_eq!(rt;
+        builder.as_slice(),
+        b"\x00\x00\x00\x00\x00\x00\x00\x01\x00\x00\x00\x00\x04mail\x07example\x00\x00\x0F\x00\x01\x00\x00\x0E\x10\x00\x04\x00\x0A\xC0\x0C".as_slice()
+    );
+    let message = builder.into_message();
+    let Some(Ok(answer)) = message.answer()?.next() else {
+        panic!(rt; "no record")
+    };
+    let Ok(Some(record)) = answer.to_record::<Mx<ParsedName<'_>>>() else {
+        panic!(rt; "no mail exchanger")
+    };
+    assert_eq!(rt; record.data().preference, 10);
+    assert!(rt; record.data().exchange.octets_eq(&name));
+    Ok(())
+}
