@@ -11,7 +11,7 @@ use Rattle.dns_wire.proofs.GrowingPieces.{put_octets_grows, put_name_grows}
 use Rattle.dns_wire.proofs.LabelsLemmas.{length-uncompressed}
 use Rattle.dns_wire.proofs.PieceLaws.{same_written}
 use Rattle.dns_data.specs.RecordData.{IsData}
-use Rattle.dns_data.specs.Laws.{NoPartComposes, OnePartComposes, PartsComposeBehind, RefusedPartComposes}
+use Rattle.dns_data.specs.Laws.{NoPartComposes, OnePartComposes, PartsComposeBehind, RefusedPartComposes, NamesAreShort}
 
 -- no octets change nothing
 lay-nothing : (t : Written) → t ≡ lay (put_octets []) t
@@ -47,9 +47,13 @@ one_part_composes room grows rule part t u (Ok done) h =
     (no_part_composes room grows rule u (subst (λ (w : Written). Fits room (length w.octets)) (sym h.ok) h.answer))
 one_part_composes room grows rule part t u (Err e) h = refused_part_composes room grows rule part [] t u (Err e) (Err e) e refl refl h
 
+-- a name takes at most 255 octets where it isn't compressed
+pub names_are_short : NamesAreShort
+names_are_short name is = let size = length-uncompressed name in let few = is.short in omega arith
+
 -- one name is short enough to be data
 pub name_is_data : (name : Labels) → IsName name → IsData (CompressibleName name ∷ [])
 name_is_data name is = record {
   names = (is, tt);
-  short = let size = length-uncompressed name in let few = is.short in omega arith;
+  short = let few = names_are_short name is in omega arith;
 }

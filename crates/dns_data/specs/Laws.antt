@@ -1,6 +1,7 @@
 -- What holds of all parts that are composed, and of all data in all octets. RFC 1035 sections 3.3 and 4.1.4.
 use Rattle.std.specs.Prelude.{◌≡◌, ◌⊎◌, ℕ, ◌≤◌, List, [], ◌∷◌, length, take, Bool, Option, Result, Ok, Err}
 use Rattle.dns_wire.specs.Fault.{Fault}
+use Rattle.dns_wire.specs.Names.{Labels, IsName, uncompressed}
 use Rattle.dns_wire.specs.Parts.{Part, PartsStand, put_part, put_parts}
 use Rattle.dns_wire.specs.Pieces.{Rule}
 use Rattle.dns_wire.specs.Targets.{Written, Fits, lay, Appends, Composes}
@@ -26,6 +27,10 @@ PartsComposeBehind = (room : Option ℕ) (grows : Bool) (rule : Rule) (part : Pa
 abbrev pub RefusedPartComposes : Type 0
 RefusedPartComposes = (room : Option ℕ) (grows : Bool) (rule : Rule) (part : Part) (parts : List Part) (t u : Written) (r q : Result Unit AppendError) (e : AppendError)
     → r ≡ Err e → q ≡ Err e → Appends room grows (put_part rule part) t u r → Composes room grows (put_parts rule (part ∷ parts)) t u q
+
+-- without pointers, a name takes at most 255 octets
+abbrev pub NamesAreShort : Type 0
+NamesAreShort = (name : Labels) → IsName name → length (uncompressed name) ≤ 255
 
 -- from a place exactly one list of parts stands in a layout, with one end, or exactly one fault is met, and never both
 pub record DatumOrFault (b : List ℕ) (layout : Layout) (p : ℕ) : Type 0 where

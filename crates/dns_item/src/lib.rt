@@ -1,8 +1,9 @@
-//! Questions of DNS messages, and of records the TTL.
+//! Questions and records of DNS messages, and the TTL.
 //!
-//! It promises that a question is read exactly where one stands (RFC 1035 section 4.1.2) and is composed as one piece under
-//! every rule of compression, that what is put is read back, that a text is read as a question by one table, and that every
-//! result of a TTL's arithmetic is the number that its call names.
+//! It promises that a question or record is read exactly where one stands (RFC 1035 sections 4.1.2 and 4.1.3) and is composed
+//! as one piece under every rule of compression, that what is put is read back, that the data of a record is read to its end
+//! as its type is laid out, that a text is read as a question by one table, and that every result of a TTL's arithmetic is
+//! the number that its call names.
 #![tactic(auto)]
 
 pub mod laws;

@@ -10,6 +10,7 @@ use arrayvec::ArrayVec;
 use dns_build::MessageBuilder;
 use dns_item::Question;
 use dns_item::question::FromStrError;
+use dns_target::{HashCompressor, StaticCompressor, TreeCompressor};
 use dns_wire::{Composer, Name};
 use std::alloc::{AllocError, Global};
 use std::io;
@@ -22,6 +23,12 @@ enum Target {
     Plain,
     /// An array of 512 octets.
     Fixed,
+    /// A vector, with names compressed by places.
+    Static,
+    /// A vector, with names compressed by a tree.
+    Tree,
+    /// A vector, with names compressed by a hash map.
+    Hash,
 }
 
 impl Target {
@@ -32,6 +39,9 @@ impl Target {
         match (verb.as_str(), target.as_str()) {
             ("build", "plain") => Some(Target::Plain),
             ("build", "fixed") => Some(Target::Fixed),
+            ("build", "static") => Some(Target::Static),
+            ("build", "tree") => Some(Target::Tree),
+            ("build", "hash") => Some(Target::Hash),
             _ => None,
         }
     }
@@ -81,6 +91,18 @@ fn perform<R: Read, W: Write>(
     match target {
         Target::Plain => print_build(alloc, Vec::new(alloc), &script, writer)?,
         Target::Fixed => print_build(alloc, ArrayVec::<u8, 512>::new(), &script, writer)?,
+        Target::Static => {
+            let target = StaticCompressor::new(Vec::new(alloc));
+            print_build(alloc, target, &script, writer)?;
+        }
+        Target::Tree => {
+            let target = TreeCompressor::new(alloc, Vec::new(alloc));
+            print_build(alloc, target, &script, writer)?;
+        }
+        Target::Hash => {
+            let target = HashCompressor::new(alloc, Vec::new(alloc));
+            print_build(alloc, target, &script, writer)?;
+        }
     }
     writer.flush()?;
     Ok(())

@@ -6,18 +6,18 @@ use dns_data::{A, UnknownRecordData};
 use dns_item::Ttl;
 use dns_read::Message;
 use dns_wire::{Composer, Name, ToNameExt};
-use std::process::Abort;
+use std::alloc::Global;
 use std::test::Fail;
-
-/// Octets for opaque data.
-const ZEROS: [u8; 64] = [0; 64];
 
 /// Pushes a record with the root as owner and so many octets of data.
 fn push_opaque<T: Composer>(
+    alloc: Global,
     builder: &mut AnswerBuilder<T>,
     len: usize,
 ) -> Result<Result<(), PushError>, Fail> {
-    let data = UnknownRecordData::from_octets(Rtype::TXT, &ZEROS[..len])?;
+    let mut octets = Vec::new(alloc);
+    octets.resize(len, 0)?;
+    let data = UnknownRecordData::from_octets(Rtype::TXT, octets)?;
     Ok(builder.push((Name::from_octets([0])?, Ttl::HOUR, data)))
 }
 
@@ -59,15 +59,25 @@ fn builds_a_question_and_an_answer(rt: HostRuntime) -> Result<(), Fail> {
 #[test]
 fn refuses_above_the_limit_and_the_room(rt: HostRuntime) -> Result<(), Fail> {
     let mut builder = MessageBuilder::from_target(ArrayVec::<u8, 100>::new())?.answer();
-    push_opaque(&mut builder, 39)??;
+    push_opaque(rt.alloc(), &mut builder, 39)??;
     assert_eq!(rt; builder.as_slice().len(), 62);
     builder.set_push_limit(25);
-    assert!(rt; matches!(push_opaque(&mut builder, 0)?, Err(PushError::LimitExceeded)));
+    assert!(rt;
+        matches!(
+            push_opaque(rt.alloc(), &mut builder, 0)?,
+            Err(PushError::LimitExceeded)
+        )
+    );
     assert_eq!(rt; builder.as_slice().len(), 62);
     builder.clear_push_limit();
-    push_opaque(&mut builder, 27)??;
+    push_opaque(rt.alloc(), &mut builder, 27)??;
     assert_eq!(rt; builder.as_slice().len(), 100);
-    assert!(rt; matches!(push_opaque(&mut builder, 0)?, Err(PushError::ShortBuf)));
+    assert!(rt;
+        matches!(
+            push_opaque(rt.alloc(), &mut builder, 0)?,
+            Err(PushError::ShortBuf)
+        )
+    );
     assert_eq!(rt; builder.as_slice().len(), 100);
     assert_eq!(rt; builder.counts().ancount(), 2);
     Ok(())
@@ -91,7 +101,10 @@ fn takes_answers_out(rt: HostRuntime) -> Result<(), Fail> {
     let builder = builder.rewind_into();
     assert_eq!(rt; builder.as_slice().len(), 29);
     let builder = builder.builder();
-    assert_eq!(rt; builder.as_slice(), b"\x00\x00\x02\x00\x00\x00\x00\x00\x00\x00\x00\x00".as_slice());
+    assert_eq!(rt;
+        builder.as_slice(),
+        b"\x00\x00\x02\x00\x00\x00\x00\x00\x00\x00\x00\x00".as_slice()
+    );
     Ok(())
 }
 

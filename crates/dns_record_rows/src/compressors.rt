@@ -1,6 +1,6 @@
-//! Answers over compressors: which owner becomes a pointer.
+//! Answers and questions over compressors: which name becomes a pointer.
 use arrayvec::ArrayVec;
-use dns_build::{AnswerBuilder, MessageBuilder, PushError};
+use dns_build::{AnswerBuilder, MessageBuilder, PushError, QuestionBuilder};
 use dns_code::{Flags, Rtype};
 use dns_data::{A, Ns, UnknownRecordData};
 use dns_item::Ttl;
@@ -26,7 +26,11 @@ fn push_address<T: Composer, const N: usize>(
     builder: &mut AnswerBuilder<T>,
     owner: [u8; N],
 ) -> Result<usize, Fail> {
-    builder.push((Name::from_octets(owner)?, 3600, A::from_octets(203, 0, 113, 1)))?;
+    builder.push((
+        Name::from_octets(owner)?,
+        3600,
+        A::from_octets(203, 0, 113, 1),
+    ))?;
     Ok(builder.as_slice().len())
 }
 
@@ -52,9 +56,18 @@ fn build_response<T: Composer>(target: T) -> Result<AnswerBuilder<T>, Fail> {
 fn compresses_a_positive_response(rt: HostRuntime) -> Result<(), Fail> {
     let expected = POSITIVE_RESPONSE.as_slice();
     let alloc = rt.alloc();
-    assert_eq!(rt; build_response(StaticCompressor::new(Vec::new(alloc)))?.as_slice(), expected);
-    assert_eq!(rt; build_response(TreeCompressor::new(alloc, Vec::new(alloc)))?.as_slice(), expected);
-    assert_eq!(rt; build_response(HashCompressor::new(alloc, Vec::new(alloc)))?.as_slice(), expected);
+    assert_eq!(rt;
+        build_response(StaticCompressor::new(Vec::new(alloc)))?.as_slice(),
+        expected
+    );
+    assert_eq!(rt;
+        build_response(TreeCompressor::new(alloc, Vec::new(alloc)))?.as_slice(),
+        expected
+    );
+    assert_eq!(rt;
+        build_response(HashCompressor::new(alloc, Vec::new(alloc)))?.as_slice(),
+        expected
+    );
     // into an array with room for all
     let array = StaticCompressor::new(ArrayVec::<u8, 45>::new());
     assert_eq!(rt; build_response(array)?.as_slice(), expected);
@@ -89,7 +102,10 @@ fn assert_rewind_forgets<T: Composer>(rt: &impl Abort, target: T) -> Result<(), 
     builder.rewind();
     assert_eq!(rt; builder.as_slice().len(), 12);
     assert_eq!(rt; push_address(&mut builder, *b"\x07example\x03com\x00")?, 39);
-    assert_eq!(rt; last_owner(&builder, 13), b"\x07example\x03com\x00".as_slice());
+    assert_eq!(rt;
+        last_owner(&builder, 13),
+        b"\x07example\x03com\x00".as_slice()
+    );
     assert_eq!(rt; push_address(&mut builder, *b"\x07example\x03com\x00")?, 55);
     assert_eq!(rt; last_owner(&builder, 2), b"\xC0\x0C".as_slice());
     Ok(())
@@ -106,7 +122,10 @@ fn assert_letter_case<T: Composer, const N: usize>(
     let mut builder = MessageBuilder::from_target(target)?.question();
     builder.push((Name::from_octets(qname)?, Rtype::A))?;
     let mut builder = builder.answer();
-    assert_eq!(rt; push_address(&mut builder, *b"\x07example\x03com\x00")?, len);
+    assert_eq!(rt;
+        push_address(&mut builder, *b"\x07example\x03com\x00")?,
+        len
+    );
     assert_eq!(rt; last_owner(&builder, owner.len()), owner);
     Ok(())
 }
@@ -121,8 +140,8 @@ fn assert_name_in_data<T: Composer>(rt: &impl Abort, target: T) -> Result<(), Fa
     builder.push((&owner, 60, Ns::new(&server)))?;
     assert_eq!(rt; builder.as_slice().len(), 46);
     assert_eq!(rt;
-        &builder.as_slice()[29..],
-        b"\xC0\x0C\x00\x02\x00\x01\x00\x00\x00\x3C\x00\x05\x02ns\xC0\x0C".as_slice()
+        builder.as_slice().get(29..),
+        Some(b"\xC0\x0C\x00\x02\x00\x01\x00\x00\x00\x3C\x00\x05\x02ns\xC0\x0C".as_slice())
     );
     Ok(())
 }
@@ -134,28 +153,38 @@ fn assert_names_past_the_bound<T: Composer>(
     target: T,
 ) -> Result<(), Fail> {
     let mut builder = answers_over(target)?;
-    let len = push_opaque(alloc, &mut builder, *b"\x03pad\x07example\x03com\x00", 16_400)?;
+    let len = push_opaque(
+        alloc,
+        &mut builder,
+        *b"\x03pad\x07example\x03com\x00",
+        16_400,
+    )?;
     assert_eq!(rt; len, 16_439);
-    assert_eq!(rt; push_address(&mut builder, *b"\x01a\x01b\x01c\x00")?, 16_460);
-    assert_eq!(rt; push_address(&mut builder, *b"\x01a\x01b\x01c\x00")?, 16_481);
+    assert_eq!(rt;
+        push_address(&mut builder, *b"\x01a\x01b\x01c\x00")?,
+        16_460
+    );
+    assert_eq!(rt;
+        push_address(&mut builder, *b"\x01a\x01b\x01c\x00")?,
+        16_481
+    );
     assert_eq!(rt; last_owner(&builder, 7), b"\x01a\x01b\x01c\x00".as_slice());
     Ok(())
 }
 
-/// The last place that is remembered, and the first that isn't.
+/// The last place that is remembered, and the first that isn't, with the length behind each push.
 fn assert_bound<T: Composer>(
     rt: &impl Abort,
     alloc: Global,
     target: T,
     padding: usize,
-    len: usize,
+    lens: [usize; 3],
     owner: &[u8],
 ) -> Result<(), Fail> {
     let mut builder = answers_over(target)?;
-    let start = push_opaque(alloc, &mut builder, [0], padding)?;
-    assert_eq!(rt; start, 23 + padding);
-    assert_eq!(rt; push_address(&mut builder, *b"\x01a\x00")?, start + 17);
-    assert_eq!(rt; push_address(&mut builder, *b"\x01a\x00")?, len);
+    assert_eq!(rt; push_opaque(alloc, &mut builder, [0], padding)?, lens[0]);
+    assert_eq!(rt; push_address(&mut builder, *b"\x01a\x00")?, lens[1]);
+    assert_eq!(rt; push_address(&mut builder, *b"\x01a\x00")?, lens[2]);
     assert_eq!(rt; last_owner(&builder, owner.len()), owner);
     Ok(())
 }
@@ -206,14 +235,44 @@ fn a_rewind_forgets(rt: HostRuntime) -> Result<(), Fail> {
 fn keeps_the_letter_case(rt: HostRuntime) -> Result<(), Fail> {
     let alloc = rt.alloc();
     let full = *b"\x07Example\x03COM\x00";
-    assert_letter_case(&rt, StaticCompressor::new(Vec::new(alloc)), full, 56, EXAMPLE_COM)?;
-    assert_letter_case(&rt, TreeCompressor::new(alloc, Vec::new(alloc)), full, 56, EXAMPLE_COM)?;
-    assert_letter_case(&rt, HashCompressor::new(alloc, Vec::new(alloc)), full, 56, EXAMPLE_COM)?;
+    assert_letter_case(
+        &rt,
+        StaticCompressor::new(Vec::new(alloc)),
+        full,
+        56,
+        EXAMPLE_COM,
+    )?;
+    assert_letter_case(
+        &rt,
+        TreeCompressor::new(alloc, Vec::new(alloc)),
+        full,
+        56,
+        EXAMPLE_COM,
+    )?;
+    assert_letter_case(
+        &rt,
+        HashCompressor::new(alloc, Vec::new(alloc)),
+        full,
+        56,
+        EXAMPLE_COM,
+    )?;
     let one = *b"\x07Example\x03com\x00";
     let owner = b"\x07example\xC0\x14";
     assert_letter_case(&rt, StaticCompressor::new(Vec::new(alloc)), one, 53, owner)?;
-    assert_letter_case(&rt, TreeCompressor::new(alloc, Vec::new(alloc)), one, 53, owner)?;
-    assert_letter_case(&rt, HashCompressor::new(alloc, Vec::new(alloc)), one, 53, owner)
+    assert_letter_case(
+        &rt,
+        TreeCompressor::new(alloc, Vec::new(alloc)),
+        one,
+        53,
+        owner,
+    )?;
+    assert_letter_case(
+        &rt,
+        HashCompressor::new(alloc, Vec::new(alloc)),
+        one,
+        53,
+        owner,
+    )
 }
 
 #[test]
@@ -235,14 +294,63 @@ fn remembers_nothing_past_the_bound(rt: HostRuntime) -> Result<(), Fail> {
 #[test]
 fn remembers_the_last_place_below_the_bound(rt: HostRuntime) -> Result<(), Fail> {
     let alloc = rt.alloc();
+    let lens = [16_383, 16_400, 16_416];
     let place = b"\xFF\xFF";
-    assert_bound(&rt, alloc, StaticCompressor::new(Vec::new(alloc)), 16_360, 16_416, place)?;
-    assert_bound(&rt, alloc, TreeCompressor::new(alloc, Vec::new(alloc)), 16_360, 16_416, place)?;
-    assert_bound(&rt, alloc, HashCompressor::new(alloc, Vec::new(alloc)), 16_360, 16_416, place)?;
+    assert_bound(
+        &rt,
+        alloc,
+        StaticCompressor::new(Vec::new(alloc)),
+        16_360,
+        lens,
+        place,
+    )?;
+    assert_bound(
+        &rt,
+        alloc,
+        TreeCompressor::new(alloc, Vec::new(alloc)),
+        16_360,
+        lens,
+        place,
+    )?;
+    assert_bound(
+        &rt,
+        alloc,
+        HashCompressor::new(alloc, Vec::new(alloc)),
+        16_360,
+        lens,
+        place,
+    )
+}
+
+#[test]
+fn remembers_no_place_at_the_bound(rt: HostRuntime) -> Result<(), Fail> {
+    let alloc = rt.alloc();
+    let lens = [16_384, 16_401, 16_418];
     let full = b"\x01a\x00";
-    assert_bound(&rt, alloc, StaticCompressor::new(Vec::new(alloc)), 16_361, 16_418, full)?;
-    assert_bound(&rt, alloc, TreeCompressor::new(alloc, Vec::new(alloc)), 16_361, 16_418, full)?;
-    assert_bound(&rt, alloc, HashCompressor::new(alloc, Vec::new(alloc)), 16_361, 16_418, full)
+    assert_bound(
+        &rt,
+        alloc,
+        StaticCompressor::new(Vec::new(alloc)),
+        16_361,
+        lens,
+        full,
+    )?;
+    assert_bound(
+        &rt,
+        alloc,
+        TreeCompressor::new(alloc, Vec::new(alloc)),
+        16_361,
+        lens,
+        full,
+    )?;
+    assert_bound(
+        &rt,
+        alloc,
+        HashCompressor::new(alloc, Vec::new(alloc)),
+        16_361,
+        lens,
+        full,
+    )
 }
 
 #[test]
@@ -270,16 +378,17 @@ fn writes_a_known_suffix_across_the_bound(rt: HostRuntime) -> Result<(), Fail> {
     assert_known_suffix_past_the_bound(&rt, alloc, over_hash, 16_404, b"\x01a\x01b\xC0\x0C")
 }
 
-/// The pushes of `POSITIVE_RESPONSE` into an array of `N` octets: whether each was taken, and the length behind it.
-fn push_into<const N: usize>() -> Result<[(bool, usize); 2], Fail> {
+/// The pushes of `POSITIVE_RESPONSE`: whether each was taken, and the length behind it.
+fn push_both<T: Composer>(target: T) -> Result<[(bool, usize); 2], Fail> {
     let name = Name::from_octets(*b"\x07example\x03com\x00")?;
-    let target = StaticCompressor::new(ArrayVec::<u8, N>::new());
     let mut builder = MessageBuilder::from_target(target)?.question();
-    let question = builder.push((&name, Rtype::A));
-    let behind_question = (question.is_ok(), builder.as_slice().len());
+    let question = builder.push((&name, Rtype::A)).is_ok();
+    let question_end = builder.as_slice().len();
     let mut builder = builder.answer();
-    let answer = builder.push((&name, 3600, A::from_octets(203, 0, 113, 1)));
-    Ok([behind_question, (answer.is_ok(), builder.as_slice().len())])
+    let answer = builder
+        .push((&name, 3600, A::from_octets(203, 0, 113, 1)))
+        .is_ok();
+    Ok([(question, question_end), (answer, builder.as_slice().len())])
 }
 
 #[test]
@@ -288,13 +397,31 @@ fn refuses_what_has_no_room(rt: HostRuntime) -> Result<(), Fail> {
     let small = StaticCompressor::new(ArrayVec::<u8, 11>::new());
     assert!(rt; MessageBuilder::from_target(small).is_err());
     // for the question
-    assert_eq!(rt; push_into::<12>()?, [(false, 12), (false, 12)]);
-    assert_eq!(rt; push_into::<28>()?, [(false, 12), (false, 12)]);
+    let none = [(false, 12), (false, 12)];
+    assert_eq!(rt;
+        push_both(StaticCompressor::new(ArrayVec::<u8, 12>::new()))?,
+        none
+    );
+    assert_eq!(rt;
+        push_both(StaticCompressor::new(ArrayVec::<u8, 28>::new()))?,
+        none
+    );
     // for the answer
-    assert_eq!(rt; push_into::<29>()?, [(true, 29), (false, 29)]);
-    assert_eq!(rt; push_into::<44>()?, [(true, 29), (false, 29)]);
+    let one = [(true, 29), (false, 29)];
+    assert_eq!(rt;
+        push_both(StaticCompressor::new(ArrayVec::<u8, 29>::new()))?,
+        one
+    );
+    assert_eq!(rt;
+        push_both(StaticCompressor::new(ArrayVec::<u8, 44>::new()))?,
+        one
+    );
     // for nothing
-    assert_eq!(rt; push_into::<45>()?, [(true, 29), (true, 45)]);
+    let both = [(true, 29), (true, 45)];
+    assert_eq!(rt;
+        push_both(StaticCompressor::new(ArrayVec::<u8, 45>::new()))?,
+        both
+    );
     Ok(())
 }
 
@@ -314,7 +441,10 @@ fn assert_refused_alone<T: Composer>(
     assert_eq!(rt; builder.as_slice().len(), 29);
     assert_eq!(rt; push_opaque(alloc, &mut builder, [0], 0)?, 40);
     assert_eq!(rt; push_opaque(alloc, &mut builder, owner, 0)?, 56);
-    assert_eq!(rt; &builder.as_slice()[40..46], b"\x03www\xC0\x0C".as_slice());
+    assert_eq!(rt;
+        builder.as_slice().get(40..46),
+        Some(b"\x03www\xC0\x0C".as_slice())
+    );
     Ok(())
 }
 
@@ -325,4 +455,32 @@ fn a_refused_record_forgets_only_itself(rt: HostRuntime) -> Result<(), Fail> {
     assert_refused_alone(&rt, alloc, StaticCompressor::new(array()))?;
     assert_refused_alone(&rt, alloc, TreeCompressor::new(alloc, array()))?;
     assert_refused_alone(&rt, alloc, HashCompressor::new(alloc, array()))
+}
+
+/// Pushes the questions for h0.example.com. to h1999.example.com.
+fn push_two_thousand<T: Composer>(
+    alloc: Global,
+    builder: &mut QuestionBuilder<T>,
+) -> Result<(), Fail> {
+    for number in 0..2000_u16 {
+        let text = format!(in alloc; "h{number}.example.com.")?;
+        let name = Name::vec_from_str(alloc, text.as_str())?;
+        builder.push((&name, Rtype::A))?;
+    }
+    Ok(())
+}
+
+#[test]
+fn two_thousand_questions_are_pushed_again(rt: HostRuntime) -> Result<(), Fail> {
+    let alloc = rt.alloc();
+    let target = TreeCompressor::new(alloc, Vec::new(alloc));
+    let mut builder = MessageBuilder::from_target(target)?.question();
+    push_two_thousand(alloc, &mut builder)?;
+    let mut before = Vec::new(alloc);
+    before.extend_from_slice(builder.as_slice())?;
+    builder.rewind();
+    assert_eq!(rt; builder.as_slice().len(), 12);
+    push_two_thousand(alloc, &mut builder)?;
+    assert_eq!(rt; builder.as_slice(), before.as_slice());
+    Ok(())
 }

@@ -21,24 +21,42 @@ fn refuses_long_data(rt: HostRuntime) -> Result<(), Fail> {
 #[test]
 fn takes_its_own_type_alone(rt: HostRuntime) -> Result<(), Fail> {
     let octets = [0; 24];
-    assert!(rt; matches!(A::parse_rdata(Rtype::A, &mut Parser::new(&octets)), Ok(Some(_))));
-    assert!(rt; matches!(A::parse_rdata(Rtype::NS, &mut Parser::new(&octets)), Ok(None)));
-    assert!(rt; matches!(
-        Cname::<ParsedName<'_>>::parse_rdata(Rtype::NS, &mut Parser::new(&octets)),
-        Ok(None)
-    ));
-    assert!(rt; matches!(
-        Soa::<ParsedName<'_>>::parse_rdata(Rtype::SOA, &mut Parser::new(&octets)),
-        Ok(Some(_))
-    ));
-    assert!(rt; matches!(
-        Soa::<ParsedName<'_>>::parse_rdata(Rtype::SOA, &mut Parser::new(&octets[..21])),
-        Err(ParseError::ShortInput)
-    ));
-    assert!(rt; matches!(
-        UnknownRecordData::<&[u8]>::parse_rdata(Rtype::NS, &mut Parser::new(&octets)),
-        Ok(Some(_))
-    ));
+    assert!(rt;
+        matches!(
+            A::parse_rdata(Rtype::A, &mut Parser::new(&octets)),
+            Ok(Some(_))
+        )
+    );
+    assert!(rt;
+        matches!(
+            A::parse_rdata(Rtype::NS, &mut Parser::new(&octets)),
+            Ok(None)
+        )
+    );
+    assert!(rt;
+        matches!(
+            Cname::<ParsedName<'_>>::parse_rdata(Rtype::NS, &mut Parser::new(&octets)),
+            Ok(None)
+        )
+    );
+    assert!(rt;
+        matches!(
+            Soa::<ParsedName<'_>>::parse_rdata(Rtype::SOA, &mut Parser::new(&octets)),
+            Ok(Some(_))
+        )
+    );
+    assert!(rt;
+        matches!(
+            Soa::<ParsedName<'_>>::parse_rdata(Rtype::SOA, &mut Parser::new(&octets[..21])),
+            Err(ParseError::ShortInput)
+        )
+    );
+    assert!(rt;
+        matches!(
+            UnknownRecordData::<&[u8]>::parse_rdata(Rtype::NS, &mut Parser::new(&octets)),
+            Ok(Some(_))
+        )
+    );
     Ok(())
 }
 
@@ -58,7 +76,10 @@ fn composes_headers(rt: HostRuntime) -> Result<(), Fail> {
     let header = RecordHeader::new(&owner, Rtype::TXT, Class::CH, Ttl::MINUTE, 7);
     let mut target = Vec::new(rt.alloc());
     header.compose(&mut target)?;
-    assert_eq!(rt; target.as_slice(), b"\x01a\x00\x00\x10\x00\x03\x00\x00\x00\x3C\x00\x07".as_slice());
+    assert_eq!(rt;
+        target.as_slice(),
+        b"\x01a\x00\x00\x10\x00\x03\x00\x00\x00\x3C\x00\x07".as_slice()
+    );
     Ok(())
 }
 
@@ -73,12 +94,21 @@ fn prints_records(rt: HostRuntime) -> Result<(), Fail> {
     );
     let root = Name::from_octets([0])?;
     let server = Record::new(&root, Class::CH, Ttl::ZERO, Ns::new(&owner));
-    assert_eq!(rt; format!(in alloc; "{server}")?.as_str(), ". 0 CH NS example.com.");
+    assert_eq!(rt;
+        format!(in alloc; "{server}")?.as_str(),
+        ". 0 CH NS example.com."
+    );
     let soa = Soa::new(&owner, &owner, 1, 2, 3, 4, 5);
-    assert_eq!(rt; format!(in alloc; "{soa}")?.as_str(), "example.com. example.com. 1 2 3 4 5");
+    assert_eq!(rt;
+        format!(in alloc; "{soa}")?.as_str(),
+        "example.com. example.com. 1 2 3 4 5"
+    );
     let opaque = UnknownRecordData::from_octets(Rtype::A, [1, 2, 3, 4, 171])?;
     let opaque = Record::new(&root, Class::IN, Ttl::ZERO, opaque);
-    assert_eq!(rt; format!(in alloc; "{opaque}")?.as_str(), ". 0 IN A \\# 5 01020304ab");
+    assert_eq!(rt;
+        format!(in alloc; "{opaque}")?.as_str(),
+        ". 0 IN A \\# 5 01020304ab"
+    );
     let empty = UnknownRecordData::from_octets(Rtype::TXT, [0; 0])?;
     assert_eq!(rt; format!(in alloc; "{empty}")?.as_str(), "\\# 0");
     Ok(())

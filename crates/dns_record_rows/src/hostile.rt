@@ -88,7 +88,8 @@ fn starts_behind_the_longest_name(rt: HostRuntime) -> Result<(), Fail> {
 
 #[test]
 fn reads_no_record_whose_data_is_cut_off(rt: HostRuntime) -> Result<(), Fail> {
-    let octets = *b"\x00\x00\x00\x00\x00\x00\x00\x01\x00\x00\x00\x00\x00\x00\x01\x00\x01\x00\x00\x00\x00\x00\x05\x01\x02\x03\x04";
+    let octets =
+        *b"\x00\x00\x00\x00\x00\x00\x00\x01\x00\x00\x00\x00\x00\x00\x01\x00\x01\x00\x00\x00\x00\x00\x05\x01\x02\x03\x04";
     let message = Message::from_octets(octets)?;
     assert_short(&rt, &mut message.answer()?);
     assert!(rt; matches!(message.authority(), Err(ParseError::ShortInput)));

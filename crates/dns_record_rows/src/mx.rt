@@ -1,5 +1,5 @@
 //! Mail exchangers: a data type that is none of the library's, proved against its contracts alone.
-ghost use Rattle.std.specs.Prelude.{[], ◌∷◌};
+ghost use Rattle.std.specs.Prelude.{◌≡◌, [], ◌∷◌, length};
 ghost use Rattle.std.specs.Int.{to_be_bytes, w16};
 ghost use Rattle.dns_wire.specs.Parts.{Octets, CompressibleName};
 ghost use Rattle.dns_data.specs.Layout.{Fixed, DomainName, End};
@@ -7,7 +7,7 @@ ghost use Rattle.dns_data.specs.RecordData.{only};
 
 use dns_build::MessageBuilder;
 use dns_code::{Class, Rtype};
-use dns_data::laws::parts_compose;
+use dns_data::laws::{names_are_short, parts_compose};
 use dns_data::{ComposeRecordData, ParseRecordData, RecordData};
 use dns_item::{Record, Ttl};
 use dns_target::StaticCompressor;
@@ -35,6 +35,7 @@ impl<N: ToName> RecordData for Mx<N> {
 impl<N: ToName> ComposeRecordData for Mx<N> {
     fn compose_rdata<T: Composer>(&self, target: &mut T) -> Result<(), AppendError> {
         parts_compose();
+        names_are_short();
         let exchange = self.exchange.as_parsed();
         target.append_slice(&self.preference.to_be_bytes())?;
         target.append_compressed_name(&exchange)
@@ -47,6 +48,14 @@ impl<N: ToName> ComposeRecordData for Mx<N> {
     }
 }
 
+/// The number of two octets, the higher first.
+fn number_of(octets: &[u8]) -> u16
+    requires { length octets.now ≡ 2 }
+    ensures { to_be_bytes w16 result ≡ octets.now }
+{
+    u16::from_be_bytes([octets[0], octets[1]])
+}
+
 impl<'a> ParseRecordData<'a> for Mx<ParsedName<'a>> {
     ghost layout = { only 15 (Fixed 2 (DomainName End)) };
 
@@ -55,7 +64,8 @@ impl<'a> ParseRecordData<'a> for Mx<ParsedName<'a>> {
             return Ok(None);
         }
         let mut ahead = *parser;
-        let preference = ahead.parse_u16_be()?;
+        let preference = number_of(ahead.peek(2)?);
+        ahead.advance(2)?;
         let exchange = ParsedName::parse(&mut ahead)?;
         *parser = ahead;
         Ok(Some(Mx {

@@ -8,7 +8,12 @@ use std::test::Fail;
 /// A script, what is printed for it, and the status.
 type Run<'a> = (&'a [u8], &'a str, u8);
 
-fn assert_builds(rt: &impl Abort, alloc: Global, target: &str, runs: &[Run<'_>]) -> Result<(), Fail> {
+fn assert_builds(
+    rt: &impl Abort,
+    alloc: Global,
+    target: &str,
+    runs: &[Run<'_>],
+) -> Result<(), Fail> {
     let mut words = Vec::new(alloc);
     words.push(String::from_str(alloc, "build")?)?;
     words.push(String::from_str(alloc, target)?)?;
@@ -44,6 +49,19 @@ fn builds_answers(rt: HostRuntime) -> Result<(), Fail> {
         ),
     ];
     assert_builds(&rt, rt.alloc(), "plain", &runs)
+}
+
+/// A rewind forgets the names that were taken out, over each compressor.
+#[test]
+fn rewinds_over_compressors(rt: HostRuntime) -> Result<(), Fail> {
+    let runs: [Run<'_>; 1] = [(
+        b"answer\npush example.com. 3600 IN A 203.0.113.1\nrewind\npush example.com. 3600 IN A 203.0.113.1\npush example.com. 3600 IN A 203.0.113.1\n",
+        "ok 12\nok 39\nok 12\nok 39\nok 55\n000000000000000200000000076578616d706c6503636f6d000001000100000e100004cb007101c00c0001000100000e100004cb007101\n",
+        0,
+    )];
+    assert_builds(&rt, rt.alloc(), "static", &runs)?;
+    assert_builds(&rt, rt.alloc(), "tree", &runs)?;
+    assert_builds(&rt, rt.alloc(), "hash", &runs)
 }
 
 /// Data of each type as a line writes it.

@@ -47,7 +47,11 @@ fn reads_an_answer(rt: HostRuntime) -> Result<(), Fail> {
         panic!(rt; "no record")
     };
     assert_eq!(rt; answers.pos(), 45);
-    assert!(rt; answer.owner().octets_eq(&Name::from_octets(*b"\x07example\x03com\x00")?));
+    assert!(rt;
+        answer
+            .owner()
+            .octets_eq(&Name::from_octets(*b"\x07example\x03com\x00")?)
+    );
     assert_eq!(rt; answer.rtype(), Rtype::A);
     assert_eq!(rt; answer.class(), Class::IN);
     assert_eq!(rt; answer.ttl().as_secs(), 3600);
@@ -80,7 +84,11 @@ fn passes_an_unreadable_answer_over(rt: HostRuntime) -> Result<(), Fail> {
 fn ends_behind_an_unreadable_additional_record(rt: HostRuntime) -> Result<(), Fail> {
     let message = Message::from_octets(*UNREADABLE_ADDITIONAL)?;
     let mut additionals = message.additional()?;
-    assert_one_fault(&rt, &mut additionals, ParseError::Form(FormError::BAD_POINTER))?;
+    assert_one_fault(
+        &rt,
+        &mut additionals,
+        ParseError::Form(FormError::BAD_POINTER),
+    )?;
     assert!(rt; matches!(additionals.next_section(), Ok(None)));
     Ok(())
 }
@@ -135,22 +143,26 @@ fn reads_data_to_its_end(rt: HostRuntime) -> Result<(), Fail> {
 #[test]
 fn sees_no_octet_behind_the_data(rt: HostRuntime) -> Result<(), Fail> {
     // a name that goes past the data's end
-    let octets = *b"\x00\x00\x00\x00\x00\x00\x00\x01\x00\x00\x00\x00\x00\x00\x05\x00\x01\x00\x00\x00\x00\x00\x01\xC0\x0C";
+    let octets =
+        *b"\x00\x00\x00\x00\x00\x00\x00\x01\x00\x00\x00\x00\x00\x00\x05\x00\x01\x00\x00\x00\x00\x00\x01\xC0\x0C";
     let message = Message::from_octets(octets)?;
     let Some(Ok(answer)) = message.answer()?.next() else {
         panic!(rt; "no record")
     };
-    assert!(rt; matches!(
-        answer.to_record::<Cname<ParsedName<'_>>>(),
-        Err(ParseError::ShortInput)
-    ));
+    assert!(rt;
+        matches!(
+            answer.to_record::<Cname<ParsedName<'_>>>(),
+            Err(ParseError::ShortInput)
+        )
+    );
     Ok(())
 }
 
 /// The parser is behind the record that is parsed with its data, whatever is answered.
 #[test]
 fn parses_records_with_their_data(rt: HostRuntime) -> Result<(), Fail> {
-    let octets = b"\x00\x00\x01\x00\x01\x00\x00\x00\x3C\x00\x04\x01\x02\x03\x04\x00\x00\x01\x00\x01\x00\x00\x00\x3C\x00\x03\x01\x02\x03\x00";
+    let octets =
+        b"\x00\x00\x01\x00\x01\x00\x00\x00\x3C\x00\x04\x01\x02\x03\x04\x00\x00\x01\x00\x01\x00\x00\x00\x3C\x00\x03\x01\x02\x03\x00";
     let mut parser = Parser::new(octets);
     let Ok(Some(record)) = Record::<ParsedName<'_>, A>::parse(&mut parser) else {
         panic!(rt; "no record")
@@ -158,10 +170,12 @@ fn parses_records_with_their_data(rt: HostRuntime) -> Result<(), Fail> {
     assert_eq!(rt; record.data().octets(), [1, 2, 3, 4]);
     assert_eq!(rt; record.ttl().as_secs(), 60);
     assert_eq!(rt; parser.pos(), 15);
-    assert!(rt; matches!(
-        Record::<ParsedName<'_>, A>::parse(&mut parser),
-        Err(ParseError::ShortInput)
-    ));
+    assert!(rt;
+        matches!(
+            Record::<ParsedName<'_>, A>::parse(&mut parser),
+            Err(ParseError::ShortInput)
+        )
+    );
     assert_eq!(rt; parser.pos(), 29);
     assert!(rt; ParsedRecord::parse(&mut parser).is_err());
     assert_eq!(rt; parser.pos(), 29);

@@ -8,6 +8,8 @@ mod builders;
 #[cfg(test)]
 mod codes;
 #[cfg(test)]
+mod compressor_model;
+#[cfg(test)]
 mod compressors;
 #[cfg(test)]
 mod error;
