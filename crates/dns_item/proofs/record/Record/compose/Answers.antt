@@ -27,8 +27,8 @@ returns-in_err-append_slice-clause-composes g c =
     composes_both _ _ (put_name g.T.Composer.rule x.owner) (both (put_octets (record_fields x)) rest) _ _ _ _ (put_name_grows g.T.Composer.rule x.owner)
     (rw c.as_parsed-owner.ensures.labels at c.in_ok-append_compressed_name.ensures.ok)
     (composes_first _ _ (put_octets (record_fields x)) rest _ _ c.append_slice.result c.from_residual-in_err-append_slice.result
-      c.in_err-append_slice.field-0.0 c.in_err-append_slice.was (p.1 ∙ ap Err p.2)
-      (appends_compose _ _ _ _ _ _ (rw (c.field_octets-fields.ensures, c.rtype.ensures, c.class.ensures, c.ttl.ensures) at c.append_slice.ensures)))
+    c.in_err-append_slice.field-0.0 c.in_err-append_slice.was (p.1 ∙ ap Err p.2)
+    (appends_compose _ _ _ _ _ _ (rw (c.field_octets-fields.ensures, c.rtype.ensures, c.class.ensures, c.ttl.ensures) at c.append_slice.ensures)))
 
 pub returns-clause-composes : goal.returns-clause-composes
 unfolding put_record
@@ -38,5 +38,5 @@ returns-clause-composes g c =
     composes_both _ _ (put_name g.T.Composer.rule x.owner) (both (put_octets (record_fields x)) rest) _ _ _ _ (put_name_grows g.T.Composer.rule x.owner)
     (rw c.as_parsed-owner.ensures.labels at c.in_ok-append_compressed_name.ensures.ok)
     (composes_both _ _ (put_octets (record_fields x)) rest _ _ _ _ (put_octets_grows (record_fields x))
-      (rw (c.field_octets-fields.ensures, c.rtype.ensures, c.class.ensures, c.ttl.ensures) at c.in_ok-append_slice.ensures.ok)
-      c.compose_len_rdata.ensures.composes)
+    (rw (c.field_octets-fields.ensures, c.rtype.ensures, c.class.ensures, c.ttl.ensures) at c.in_ok-append_slice.ensures.ok)
+    c.compose_len_rdata.ensures.composes)

@@ -22,11 +22,10 @@ returns-clause-gives g c q x h =
     let old = c.args.parser.now in
     let r = c.in_ok-parse.field-0 in
     let item = record_item labels g.D.RecordData.rtype_of g.D.RecordData.parts in
-    let parses = c.in_ok-parse.ensures.parses in
-    (
+    let parses = c.in_ok-parse.ensures.parses in (
       of_read (λ (b : List ℕ) (x : RecordEntry). IsThere b x → GivesTaken item b x (g.D.ParseRecordData.layout x.rtype) c.into_record.result)
-      (seen old) (octets_of r) (place old) (place c.parse.new.parser) q (parsed_entry r) x parses.0 parses.2.seen h c.into_record.ensures.gives
-      (read_there (seen old) (place old) q x h),
+          (seen old) (octets_of r) (place old) (place c.parse.new.parser) q (parsed_entry r) x parses.0 parses.2.seen h c.into_record.ensures.gives
+          (read_there (seen old) (place old) q x h),
       behind_read old c.parse.new.parser q (parsed_entry r) x parses.0 parses.1 h,
     )
 
