@@ -19,6 +19,10 @@ module _ {N D : Type 0} where
   abbrev pub data_of : Record N D → D
   data_of r = r.data
 
+  -- a record with other data
+  abbrev pub with_data : Record N D → D → Record N D
+  with_data r value = record r { «data» = value }
+
   -- the record with these fields
   pub record HasFields (r : Record N D) (owner : N) (class ttl : ℕ) (value : D) : Type 0 where
     pub same_owner : owner_of r ≡ owner

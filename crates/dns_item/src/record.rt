@@ -94,6 +94,20 @@ impl<N, D> Record<N, D> {
     }
 }
 
+impl<N, D> Record<N, D> {
+    ghost use Rattle.std.specs.Borrow.{Lends, sem};
+    ghost use Rattle.dns_item.specs.contracts.record.Record.{the_row};
+    ghost use Rattle.dns_item.specs.Record.{with_data};
+
+    /// The data, lent to be changed.
+    pub fn data_mut(&mut self) -> &mut D
+        ensures value { result.now ≡ data_of self.old }
+        ensures* writes_back { sem 𝓛 (Lends (the_row N.row D.row) D.row self.entry result (with_data self.old)) }
+    {
+        &mut self.data
+    }
+}
+
 impl<N: Drop, D> Record<N, D> {
     /// The data, taken out.
     pub fn into_data(self) -> D
