@@ -1,10 +1,11 @@
 //! Data of records: which it takes, how it is refused, and how records are printed.
 use dns_code::{Class, Rtype};
 use dns_data::{
-    A, Cname, ComposeRecordData, Ns, ParseRecordData, RecordData, Soa, UnknownRecordData,
+    A, Cname, ComposeRecordData, LongRecordData, Ns, ParseRecordData, RecordData, Soa,
+    UnknownRecordData,
 };
-use dns_item::{Record, RecordHeader, Ttl};
-use dns_wire::{Name, ParseError, ParsedName, Parser};
+use dns_item::{Record, RecordHeader, RecordParseError, Ttl};
+use dns_wire::{Name, ParseError, ParsedName, Parser, ShortBuf};
 use std::process::Abort;
 use std::test::Fail;
 
@@ -111,5 +112,44 @@ fn prints_records(rt: HostRuntime) -> Result<(), Fail> {
     );
     let empty = UnknownRecordData::from_octets(Rtype::TXT, [0; 0])?;
     assert_eq!(rt; format!(in alloc; "{empty}")?.as_str(), "\\# 0");
+    Ok(())
+}
+
+#[test]
+fn changes_fields(rt: HostRuntime) -> Result<(), Fail> {
+    let owner = Name::from_octets(*b"\x01a\x00")?;
+    let mut record = Record::new(&owner, Class::IN, Ttl::HOUR, A::from_octets(203, 0, 113, 1));
+    record.set_class(Class::CH);
+    record.set_ttl(Ttl::MINUTE);
+    *record.data_mut() = A::from_octets(192, 0, 2, 2);
+    assert_eq!(rt;
+        format!(in rt.alloc(); "{record}")?.as_str(),
+        "a. 60 CH A 192.0.2.2"
+    );
+    Ok(())
+}
+
+#[test]
+fn tells_errors(rt: HostRuntime) -> Result<(), Fail> {
+    let alloc = rt.alloc();
+    assert_eq!(rt;
+        format!(in alloc; "{LongRecordData}")?.as_str(),
+        "record data too long"
+    );
+    let name = RecordParseError::<ParseError, LongRecordData>::Name(ParseError::ShortInput);
+    assert_eq!(rt;
+        format!(in alloc; "{name}")?.as_str(),
+        "unexpected end of input"
+    );
+    let data = RecordParseError::<ParseError, LongRecordData>::Data(LongRecordData);
+    assert_eq!(rt;
+        format!(in alloc; "{data}")?.as_str(),
+        "record data too long"
+    );
+    let short: RecordParseError<ParseError, LongRecordData> = ShortBuf.into();
+    assert_eq!(rt;
+        format!(in alloc; "{short}")?.as_str(),
+        "unexpected end of buffer"
+    );
     Ok(())
 }

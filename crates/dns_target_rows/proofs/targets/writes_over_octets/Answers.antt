@@ -1,5 +1,5 @@
 use Rattle.dns_wire.proofs.PlainTargets.{clear_nothing}
-use Rattle.dns_rows.proofs.targets.writes_over_octets.Goals as goal
+use Rattle.dns_target_rows.proofs.targets.writes_over_octets.Goals as goal
 
 pub assert_written_over-requires-clause-clear : goal.assert_written_over-requires-clause-clear
 assert_written_over-requires-clause-clear g c = clear_nothing 1 2
