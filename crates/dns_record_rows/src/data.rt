@@ -4,7 +4,8 @@ use dns_data::{
     A, Cname, ComposeRecordData, LongRecordData, Ns, ParseRecordData, RecordData, Soa,
     UnknownRecordData,
 };
-use dns_item::{Record, RecordHeader, RecordParseError, Ttl};
+use dns_item::record::RecordParseError;
+use dns_item::{Record, RecordHeader, Ttl};
 use dns_wire::{Name, ParseError, ParsedName, Parser, ShortBuf};
 use std::process::Abort;
 use std::test::Fail;
