@@ -6,8 +6,9 @@ ghost use Rattle.dns_build.specs.Fold.{fold};
 ghost use Rattle.dns_read.specs.Message.{message_octets};
 ghost use Rattle.dns_build.specs.ReadsBack.{ReadsBack};
 ghost use Rattle.dns_build.specs.Standing.{StandsFor, Takes, Moves};
-ghost use Rattle.dns_build.specs.State.{State, InBuilder, InQuestion, InAnswer, move_to, rewound, tc_rewound, with_answer, with_header, with_limit, no_limit, item_counts, limit_shown};
+ghost use Rattle.dns_build.specs.State.{State, InBuilder, InQuestion, InAnswer, InAuthority, move_to, rewound, tc_rewound, with_answer, with_header, with_limit, no_limit, item_counts, limit_shown};
 
+use crate::authority_builder::AuthorityBuilder;
 use crate::message_builder::{ANCOUNT_PLACE, MessageBuilder, long_message, with_tc};
 use crate::push_error::PushError;
 use crate::question_builder::QuestionBuilder;
@@ -46,6 +47,14 @@ impl<T: Composer> AnswerBuilder<T> {
         ensures { result ≡ record inner { starts = length inner.written.octets ∷ inner.starts } }
     {
         let start = inner.as_slice().len();
+        AnswerBuilder::starting_at(inner, start)
+    }
+
+    /// The builder of an answer section that starts behind so many octets.
+    pub(crate) fn starting_at(inner: MessageBuilder<T>, start: usize) -> Self
+        requires { 12 ≤ start }
+        ensures { result ≡ record inner { starts = start ∷ inner.starts } }
+    {
         AnswerBuilder { inner, start }
     }
 
@@ -196,6 +205,14 @@ impl<T: Composer> AnswerBuilder<T> {
     {
         self
     }
+
+    /// The builder of the authority section.
+    pub fn authority(self) -> AuthorityBuilder<T>
+        ensures { Moves InAnswer InAuthority T.rule (move_to InAuthority) self result }
+    {
+        let AnswerBuilder { inner, start } = self;
+        AuthorityBuilder::over(inner, start)
+    }
 }
 
 impl<T: FreezeBuilder> AnswerBuilder<T> {
@@ -255,6 +272,15 @@ impl<T: Composer> From<QuestionBuilder<T>> for AnswerBuilder<T> {
     ghost from_gives = { λ old new. Moves InQuestion InAnswer T.rule (move_to InAnswer) old new };
 
     fn from(builder: QuestionBuilder<T>) -> Self {
+        builder.answer()
+    }
+}
+
+/// The move back to the answer section.
+impl<T: Composer> From<AuthorityBuilder<T>> for AnswerBuilder<T> {
+    ghost from_gives = { λ old new. Moves InAuthority InAnswer T.rule (move_to InAnswer) old new };
+
+    fn from(builder: AuthorityBuilder<T>) -> Self {
         builder.answer()
     }
 }

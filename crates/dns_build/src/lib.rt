@@ -6,6 +6,7 @@
 #![tactic(auto)]
 
 mod answer_builder;
+mod authority_builder;
 pub mod laws;
 mod message_builder;
 mod push_error;
@@ -13,6 +14,7 @@ mod question_builder;
 mod settle;
 
 pub use answer_builder::AnswerBuilder;
+pub use authority_builder::AuthorityBuilder;
 pub use message_builder::MessageBuilder;
 pub use push_error::PushError;
 pub use question_builder::QuestionBuilder;

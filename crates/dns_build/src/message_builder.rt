@@ -10,9 +10,10 @@ ghost use Rattle.dns_build.specs.Fold.{fold};
 ghost use Rattle.dns_read.specs.Message.{message_octets};
 ghost use Rattle.dns_build.specs.ReadsBack.{ReadsBack};
 ghost use Rattle.dns_build.specs.Standing.{StandsFor, Moves, fresh};
-ghost use Rattle.dns_build.specs.State.{State, InBuilder, InQuestion, InAnswer, move_to, with_header, with_tc, with_limit, no_limit, item_counts, limit_shown};
+ghost use Rattle.dns_build.specs.State.{State, InBuilder, InQuestion, InAnswer, InAuthority, move_to, with_header, with_tc, with_limit, no_limit, item_counts, limit_shown};
 
 use crate::answer_builder::AnswerBuilder;
+use crate::authority_builder::AuthorityBuilder;
 use crate::push_error::PushError;
 use crate::question_builder::QuestionBuilder;
 use crate::settle::settle;
@@ -29,6 +30,9 @@ pub(crate) const QDCOUNT_PLACE: usize = 4;
 
 /// The place of ANCOUNT in a message, in octets.
 pub(crate) const ANCOUNT_PLACE: usize = 6;
+
+/// The place of NSCOUNT in a message, in octets.
+pub(crate) const NSCOUNT_PLACE: usize = 8;
 
 /// The octets of a header section.
 pub(crate) const HEADER_LEN: usize = 12;
@@ -262,6 +266,13 @@ impl<T: Composer> MessageBuilder<T> {
     {
         self.question().answer()
     }
+
+    /// The builder of the authority section.
+    pub fn authority(self) -> AuthorityBuilder<T>
+        ensures { Moves InBuilder InAuthority T.rule (move_to InAuthority) self result }
+    {
+        self.answer().authority()
+    }
 }
 
 impl<T: FreezeBuilder> MessageBuilder<T> {
@@ -321,6 +332,15 @@ impl<T: Composer> From<AnswerBuilder<T>> for MessageBuilder<T> {
     ghost from_gives = { λ old new. Moves InAnswer InBuilder T.rule (move_to InBuilder) old new };
 
     fn from(builder: AnswerBuilder<T>) -> Self {
+        builder.builder()
+    }
+}
+
+/// The move back to the builder before the sections.
+impl<T: Composer> From<AuthorityBuilder<T>> for MessageBuilder<T> {
+    ghost from_gives = { λ old new. Moves InAuthority InBuilder T.rule (move_to InBuilder) old new };
+
+    fn from(builder: AuthorityBuilder<T>) -> Self {
         builder.builder()
     }
 }

@@ -5,9 +5,10 @@ ghost use Rattle.dns_build.specs.Fold.{fold};
 ghost use Rattle.dns_read.specs.Message.{message_octets};
 ghost use Rattle.dns_build.specs.ReadsBack.{ReadsBack};
 ghost use Rattle.dns_build.specs.Standing.{StandsFor, Takes, Moves};
-ghost use Rattle.dns_build.specs.State.{State, InBuilder, InQuestion, InAnswer, move_to, rewound, with_question, with_header, with_limit, no_limit, item_counts, limit_shown};
+ghost use Rattle.dns_build.specs.State.{State, InBuilder, InQuestion, InAnswer, InAuthority, move_to, rewound, with_question, with_header, with_limit, no_limit, item_counts, limit_shown};
 
 use crate::answer_builder::AnswerBuilder;
+use crate::authority_builder::AuthorityBuilder;
 use crate::message_builder::{HEADER_LEN, MessageBuilder, QDCOUNT_PLACE, long_message};
 use crate::push_error::PushError;
 use dns_code::{Header, HeaderCounts};
@@ -156,6 +157,13 @@ impl<T: Composer> QuestionBuilder<T> {
         let QuestionBuilder { inner } = self;
         AnswerBuilder::over(inner)
     }
+
+    /// The builder of the authority section.
+    pub fn authority(self) -> AuthorityBuilder<T>
+        ensures { Moves InQuestion InAuthority T.rule (move_to InAuthority) self result }
+    {
+        self.answer().authority()
+    }
 }
 
 impl<T: FreezeBuilder> QuestionBuilder<T> {
@@ -214,6 +222,15 @@ impl<T: Composer> From<AnswerBuilder<T>> for QuestionBuilder<T> {
     ghost from_gives = { λ old new. Moves InAnswer InQuestion T.rule (move_to InQuestion) old new };
 
     fn from(builder: AnswerBuilder<T>) -> Self {
+        builder.question()
+    }
+}
+
+/// The move back to the question section.
+impl<T: Composer> From<AuthorityBuilder<T>> for QuestionBuilder<T> {
+    ghost from_gives = { λ old new. Moves InAuthority InQuestion T.rule (move_to InQuestion) old new };
+
+    fn from(builder: AuthorityBuilder<T>) -> Self {
         builder.question()
     }
 }

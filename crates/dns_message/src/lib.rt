@@ -8,7 +8,9 @@
 
 pub mod builder {
     //! Builders of messages.
-    pub use dns_build::{AnswerBuilder, MessageBuilder, PushError, QuestionBuilder};
+    pub use dns_build::{
+        AnswerBuilder, AuthorityBuilder, MessageBuilder, PushError, QuestionBuilder,
+    };
 }
 
 pub mod code {
