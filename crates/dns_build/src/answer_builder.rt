@@ -6,8 +6,9 @@ ghost use Rattle.dns_build.specs.Fold.{fold};
 ghost use Rattle.dns_read.specs.Message.{message_octets};
 ghost use Rattle.dns_build.specs.ReadsBack.{ReadsBack};
 ghost use Rattle.dns_build.specs.Standing.{StandsFor, Takes, Moves};
-ghost use Rattle.dns_build.specs.State.{State, InBuilder, InQuestion, InAnswer, InAuthority, move_to, rewound, tc_rewound, with_answer, with_header, with_limit, no_limit, item_counts, limit_shown};
+ghost use Rattle.dns_build.specs.State.{State, InBuilder, InQuestion, InAnswer, InAuthority, InAdditional, move_to, rewound, tc_rewound, with_answer, with_header, with_limit, no_limit, item_counts, limit_shown};
 
+use crate::additional_builder::AdditionalBuilder;
 use crate::authority_builder::AuthorityBuilder;
 use crate::message_builder::{ANCOUNT_PLACE, MessageBuilder, long_message, with_tc};
 use crate::push_error::PushError;
@@ -213,6 +214,13 @@ impl<T: Composer> AnswerBuilder<T> {
         let AnswerBuilder { inner, start } = self;
         AuthorityBuilder::over(inner, start)
     }
+
+    /// The builder of the additional section.
+    pub fn additional(self) -> AdditionalBuilder<T>
+        ensures { Moves InAnswer InAdditional T.rule (move_to InAdditional) self result }
+    {
+        self.authority().additional()
+    }
 }
 
 impl<T: FreezeBuilder> AnswerBuilder<T> {
@@ -281,6 +289,15 @@ impl<T: Composer> From<AuthorityBuilder<T>> for AnswerBuilder<T> {
     ghost from_gives = { λ old new. Moves InAuthority InAnswer T.rule (move_to InAnswer) old new };
 
     fn from(builder: AuthorityBuilder<T>) -> Self {
+        builder.answer()
+    }
+}
+
+/// The move back to the answer section.
+impl<T: Composer> From<AdditionalBuilder<T>> for AnswerBuilder<T> {
+    ghost from_gives = { λ old new. Moves InAdditional InAnswer T.rule (move_to InAnswer) old new };
+
+    fn from(builder: AdditionalBuilder<T>) -> Self {
         builder.answer()
     }
 }

@@ -5,8 +5,9 @@ ghost use Rattle.dns_build.specs.Fold.{fold};
 ghost use Rattle.dns_read.specs.Message.{message_octets};
 ghost use Rattle.dns_build.specs.ReadsBack.{ReadsBack};
 ghost use Rattle.dns_build.specs.Standing.{StandsFor, Takes, Moves};
-ghost use Rattle.dns_build.specs.State.{State, InBuilder, InQuestion, InAnswer, InAuthority, move_to, rewound, tc_rewound, with_authority, with_header, with_limit, no_limit, item_counts, limit_shown};
+ghost use Rattle.dns_build.specs.State.{State, InBuilder, InQuestion, InAnswer, InAuthority, InAdditional, move_to, rewound, tc_rewound, with_authority, with_header, with_limit, no_limit, item_counts, limit_shown};
 
+use crate::additional_builder::AdditionalBuilder;
 use crate::answer_builder::AnswerBuilder;
 use crate::message_builder::{MessageBuilder, NSCOUNT_PLACE, long_message, with_tc};
 use crate::push_error::PushError;
@@ -49,6 +50,15 @@ impl<T: Composer> AuthorityBuilder<T> {
         ensures { result ≡ record inner { starts = length inner.written.octets ∷ answer_start ∷ inner.starts } }
     {
         let start = inner.as_slice().len();
+        AuthorityBuilder::starting_at(inner, answer_start, start)
+    }
+
+    /// The builder of an authority section that starts behind so many octets.
+    pub(crate) fn starting_at(inner: MessageBuilder<T>, answer_start: usize, start: usize) -> Self
+        requires answers { 12 ≤ answer_start }
+        requires authorities { 12 ≤ start }
+        ensures { result ≡ record inner { starts = start ∷ answer_start ∷ inner.starts } }
+    {
         AuthorityBuilder {
             inner,
             answer_start,
@@ -199,6 +209,18 @@ impl<T: Composer> AuthorityBuilder<T> {
     {
         self
     }
+
+    /// The builder of the additional section.
+    pub fn additional(self) -> AdditionalBuilder<T>
+        ensures { Moves InAuthority InAdditional T.rule (move_to InAdditional) self result }
+    {
+        let AuthorityBuilder {
+            inner,
+            answer_start,
+            start,
+        } = self;
+        AdditionalBuilder::over(inner, answer_start, start)
+    }
 }
 
 impl<T: FreezeBuilder> AuthorityBuilder<T> {
@@ -268,6 +290,15 @@ impl<T: Composer> From<AnswerBuilder<T>> for AuthorityBuilder<T> {
     ghost from_gives = { λ old new. Moves InAnswer InAuthority T.rule (move_to InAuthority) old new };
 
     fn from(builder: AnswerBuilder<T>) -> Self {
+        builder.authority()
+    }
+}
+
+/// The move back to the authority section.
+impl<T: Composer> From<AdditionalBuilder<T>> for AuthorityBuilder<T> {
+    ghost from_gives = { λ old new. Moves InAdditional InAuthority T.rule (move_to InAuthority) old new };
+
+    fn from(builder: AdditionalBuilder<T>) -> Self {
         builder.authority()
     }
 }

@@ -5,6 +5,7 @@
 //! and then changes nothing.
 #![tactic(auto)]
 
+mod additional_builder;
 mod answer_builder;
 mod authority_builder;
 pub mod laws;
@@ -13,6 +14,7 @@ mod push_error;
 mod question_builder;
 mod settle;
 
+pub use additional_builder::AdditionalBuilder;
 pub use answer_builder::AnswerBuilder;
 pub use authority_builder::AuthorityBuilder;
 pub use message_builder::MessageBuilder;

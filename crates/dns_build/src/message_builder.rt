@@ -10,8 +10,9 @@ ghost use Rattle.dns_build.specs.Fold.{fold};
 ghost use Rattle.dns_read.specs.Message.{message_octets};
 ghost use Rattle.dns_build.specs.ReadsBack.{ReadsBack};
 ghost use Rattle.dns_build.specs.Standing.{StandsFor, Moves, fresh};
-ghost use Rattle.dns_build.specs.State.{State, InBuilder, InQuestion, InAnswer, InAuthority, move_to, with_header, with_tc, with_limit, no_limit, item_counts, limit_shown};
+ghost use Rattle.dns_build.specs.State.{State, InBuilder, InQuestion, InAnswer, InAuthority, InAdditional, move_to, with_header, with_tc, with_limit, no_limit, item_counts, limit_shown};
 
+use crate::additional_builder::AdditionalBuilder;
 use crate::answer_builder::AnswerBuilder;
 use crate::authority_builder::AuthorityBuilder;
 use crate::push_error::PushError;
@@ -33,6 +34,9 @@ pub(crate) const ANCOUNT_PLACE: usize = 6;
 
 /// The place of NSCOUNT in a message, in octets.
 pub(crate) const NSCOUNT_PLACE: usize = 8;
+
+/// The place of ARCOUNT in a message, in octets.
+pub(crate) const ARCOUNT_PLACE: usize = 10;
 
 /// The octets of a header section.
 pub(crate) const HEADER_LEN: usize = 12;
@@ -273,6 +277,13 @@ impl<T: Composer> MessageBuilder<T> {
     {
         self.answer().authority()
     }
+
+    /// The builder of the additional section.
+    pub fn additional(self) -> AdditionalBuilder<T>
+        ensures { Moves InBuilder InAdditional T.rule (move_to InAdditional) self result }
+    {
+        self.authority().additional()
+    }
 }
 
 impl<T: FreezeBuilder> MessageBuilder<T> {
@@ -341,6 +352,15 @@ impl<T: Composer> From<AuthorityBuilder<T>> for MessageBuilder<T> {
     ghost from_gives = { λ old new. Moves InAuthority InBuilder T.rule (move_to InBuilder) old new };
 
     fn from(builder: AuthorityBuilder<T>) -> Self {
+        builder.builder()
+    }
+}
+
+/// The move back to the builder before the sections.
+impl<T: Composer> From<AdditionalBuilder<T>> for MessageBuilder<T> {
+    ghost from_gives = { λ old new. Moves InAdditional InBuilder T.rule (move_to InBuilder) old new };
+
+    fn from(builder: AdditionalBuilder<T>) -> Self {
         builder.builder()
     }
 }

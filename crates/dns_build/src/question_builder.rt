@@ -5,8 +5,9 @@ ghost use Rattle.dns_build.specs.Fold.{fold};
 ghost use Rattle.dns_read.specs.Message.{message_octets};
 ghost use Rattle.dns_build.specs.ReadsBack.{ReadsBack};
 ghost use Rattle.dns_build.specs.Standing.{StandsFor, Takes, Moves};
-ghost use Rattle.dns_build.specs.State.{State, InBuilder, InQuestion, InAnswer, InAuthority, move_to, rewound, with_question, with_header, with_limit, no_limit, item_counts, limit_shown};
+ghost use Rattle.dns_build.specs.State.{State, InBuilder, InQuestion, InAnswer, InAuthority, InAdditional, move_to, rewound, with_question, with_header, with_limit, no_limit, item_counts, limit_shown};
 
+use crate::additional_builder::AdditionalBuilder;
 use crate::answer_builder::AnswerBuilder;
 use crate::authority_builder::AuthorityBuilder;
 use crate::message_builder::{HEADER_LEN, MessageBuilder, QDCOUNT_PLACE, long_message};
@@ -164,6 +165,13 @@ impl<T: Composer> QuestionBuilder<T> {
     {
         self.answer().authority()
     }
+
+    /// The builder of the additional section.
+    pub fn additional(self) -> AdditionalBuilder<T>
+        ensures { Moves InQuestion InAdditional T.rule (move_to InAdditional) self result }
+    {
+        self.authority().additional()
+    }
 }
 
 impl<T: FreezeBuilder> QuestionBuilder<T> {
@@ -231,6 +239,15 @@ impl<T: Composer> From<AuthorityBuilder<T>> for QuestionBuilder<T> {
     ghost from_gives = { λ old new. Moves InAuthority InQuestion T.rule (move_to InQuestion) old new };
 
     fn from(builder: AuthorityBuilder<T>) -> Self {
+        builder.question()
+    }
+}
+
+/// The move back to the question section.
+impl<T: Composer> From<AdditionalBuilder<T>> for QuestionBuilder<T> {
+    ghost from_gives = { λ old new. Moves InAdditional InQuestion T.rule (move_to InQuestion) old new };
+
+    fn from(builder: AdditionalBuilder<T>) -> Self {
         builder.question()
     }
 }

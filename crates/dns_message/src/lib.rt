@@ -9,7 +9,8 @@
 pub mod builder {
     //! Builders of messages.
     pub use dns_build::{
-        AnswerBuilder, AuthorityBuilder, MessageBuilder, PushError, QuestionBuilder,
+        AdditionalBuilder, AnswerBuilder, AuthorityBuilder, MessageBuilder, PushError,
+        QuestionBuilder,
     };
 }
 
