@@ -12,6 +12,7 @@ pub mod laws;
 mod message_builder;
 mod push_error;
 mod question_builder;
+mod record_section_builder;
 mod settle;
 
 pub use additional_builder::AdditionalBuilder;
@@ -20,3 +21,4 @@ pub use authority_builder::AuthorityBuilder;
 pub use message_builder::MessageBuilder;
 pub use push_error::PushError;
 pub use question_builder::QuestionBuilder;
+pub use record_section_builder::RecordSectionBuilder;

@@ -10,7 +10,7 @@ pub mod builder {
     //! Builders of messages.
     pub use dns_build::{
         AdditionalBuilder, AnswerBuilder, AuthorityBuilder, MessageBuilder, PushError,
-        QuestionBuilder,
+        QuestionBuilder, RecordSectionBuilder,
     };
 }
 
