@@ -21,6 +21,7 @@ use crate::settle::settle;
 use dns_code::{Header, HeaderCounts};
 use dns_item::{ComposeQuestion, ComposeRecord};
 use dns_read::Message;
+use dns_target::StreamTarget;
 use dns_wire::{AppendError, CloneTarget, Composer, FreezeBuilder, Octets};
 use std::alloc::{AllocError, Global};
 use std::convert::AsSlice;
@@ -90,6 +91,16 @@ impl MessageBuilder<Vec<u8>> {
         ensures memory { IfErr result (λ error. error ≡ AppendError.OutOfMemory) }
     {
         MessageBuilder::from_target(Vec::new(alloc))
+    }
+}
+
+impl MessageBuilder<StreamTarget<Vec<u8>>> {
+    /// A builder over an empty stream target, for a message behind its length.
+    pub fn new_stream_vec(alloc: Global) -> Result<Self, AppendError>
+        ensures fresh { IfOk result (λ b. StandsFor InBuilder Plain fresh b) }
+        ensures memory { IfErr result (λ error. error ≡ AppendError.OutOfMemory) }
+    {
+        MessageBuilder::from_target(StreamTarget::new_vec(alloc)?)
     }
 }
 

@@ -13,3 +13,4 @@ pub mod HeldStates
 pub mod KeyTables
 pub mod KeyedNames
 pub mod HashStates
+pub mod Streams

@@ -9,3 +9,4 @@ pub mod Table
 pub mod Keys
 pub mod State
 pub mod Rules
+pub mod Stream

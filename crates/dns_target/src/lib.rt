@@ -16,6 +16,7 @@ mod label_starts;
 mod places;
 mod standing;
 mod static_compressor;
+mod stream_target;
 mod suffixes;
 mod texts;
 mod tree;
@@ -23,4 +24,5 @@ mod tree_compressor;
 
 pub use hash_compressor::HashCompressor;
 pub use static_compressor::StaticCompressor;
+pub use stream_target::StreamTarget;
 pub use tree_compressor::TreeCompressor;

@@ -10,4 +10,6 @@ mod compressors;
 #[cfg(test)]
 mod history;
 #[cfg(test)]
+mod stream;
+#[cfg(test)]
 mod targets;
