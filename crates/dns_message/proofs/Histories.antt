@@ -10,7 +10,7 @@ use Rattle.dns_build.specs.Laws.{FoldsReadBack}
 use Rattle.dns_build.specs.ReadsBack.{ReadsBack}
 use Rattle.dns_build.specs.State.{State, IsState}
 use Rattle.dns_message.specs.declared.script.Stage.{Stage}
-use Rattle.dns_message.specs.declared.script.Stage.TheVariants.{Builder, Question, Answer}
+use Rattle.dns_message.specs.declared.script.Stage.TheVariants.{Builder, Question, Answer, Authority, Additional}
 use Rattle.dns_message.specs.declared.script.Call.{Call}
 use Rattle.dns_message.specs.declared.script.Reply.{Reply}
 use Rattle.dns_message.specs.Script.{StageStandsFor, after, after_all, IsReply, AreReplies, Steps, Runs, octets_of}
@@ -61,6 +61,8 @@ module _ {Q R : Type 0} (room : Option ℕ) (grows : Bool) (question : Q → Que
   octets_stand s (Builder b) h = (ap (λ (w : Written). w.octets) h.written, h.state)
   octets_stand s (Question b) h = (ap (λ (w : Written). w.octets) h.written, h.state)
   octets_stand s (Answer b) h = (ap (λ (w : Written). w.octets) h.written, h.state)
+  octets_stand s (Authority b) h = (ap (λ (w : Written). w.octets) h.written, h.state)
+  octets_stand s (Additional b) h = (ap (λ (w : Written). w.octets) h.written, h.state)
 
   -- what the calls lead to, where folds read back
   pub runs : {T : Type 0} → (old new : Stage T) (calls : List (Call Q R)) (replies : List Reply) → FoldsReadBack → Goes old calls replies new

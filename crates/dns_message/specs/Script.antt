@@ -9,9 +9,9 @@ use Rattle.dns_build.specs.Standing.{StandsFor}
 use Rattle.dns_build.specs.State as state
 use Rattle.dns_build.specs.State.{State, InBuilder, InQuestion, InAnswer, InAuthority, InAdditional, with_question, with_record, records_at, with_header, with_limit, no_limit, rewound, tc_rewound, move_to}
 use Rattle.dns_message.specs.declared.script.Stage.{Stage}
-use Rattle.dns_message.specs.declared.script.Stage.TheVariants.{Builder, Question, Answer}
+use Rattle.dns_message.specs.declared.script.Stage.TheVariants.{Builder, Question, Answer, Authority, Additional}
 use Rattle.dns_message.specs.declared.script.Call.{Call}
-use Rattle.dns_message.specs.declared.script.Call.TheVariants.{PushQuestion, PushRecord, Rewind, TcRewind, ToBuilder, ToQuestion, ToAnswer, SetHeader, SetLimit, ClearLimit}
+use Rattle.dns_message.specs.declared.script.Call.TheVariants.{PushQuestion, PushRecord, Rewind, TcRewind, ToBuilder, ToQuestion, ToAnswer, ToAuthority, ToAdditional, SetHeader, SetLimit, ClearLimit}
 use Rattle.dns_message.specs.declared.script.Reply.{Reply}
 use Rattle.dns_message.specs.declared.script.Reply.TheVariants.{Done, Refused, Misplaced}
 
@@ -20,12 +20,16 @@ abbrev pub StageStandsFor : {T : Type 0} → Rule → State → Stage T → Type
 StageStandsFor rule s (Builder b) = StandsFor InBuilder rule s b
 StageStandsFor rule s (Question b) = StandsFor InQuestion rule s b
 StageStandsFor rule s (Answer b) = StandsFor InAnswer rule s b
+StageStandsFor rule s (Authority b) = StandsFor InAuthority rule s b
+StageStandsFor rule s (Additional b) = StandsFor InAdditional rule s b
 
 -- what a contract sees of a stage's builder
 abbrev pub built_of : {T : Type 0} → Stage T → Built
 built_of (Builder b) = b
 built_of (Question b) = b
 built_of (Answer b) = b
+built_of (Authority b) = b
+built_of (Additional b) = b
 
 -- the octets of a stage
 abbrev pub octets_of : {T : Type 0} → Stage T → List ℕ
@@ -56,6 +60,8 @@ lacks InAdditional TcRewind = false
 lacks stage ToBuilder = false
 lacks stage ToQuestion = false
 lacks stage ToAnswer = false
+lacks stage ToAuthority = false
+lacks stage ToAdditional = false
 lacks stage (SetHeader header) = false
 lacks stage (SetLimit limit) = false
 lacks stage ClearLimit = false
@@ -70,6 +76,8 @@ module _ {Q R : Type 0} (question : Q → QuestionItem) (item : R → RecordItem
   after s ToBuilder Done = move_to InBuilder s
   after s ToQuestion Done = move_to InQuestion s
   after s ToAnswer Done = move_to InAnswer s
+  after s ToAuthority Done = move_to InAuthority s
+  after s ToAdditional Done = move_to InAdditional s
   after s (SetHeader header) Done = with_header header s
   after s (SetLimit limit) Done = with_limit limit s
   after s ClearLimit Done = with_limit no_limit s
@@ -99,6 +107,8 @@ module _ (room : Option ℕ) (grows : Bool) where
     IsAnswer s ToBuilder reply = reply ≡ Done
     IsAnswer s ToQuestion reply = reply ≡ Done
     IsAnswer s ToAnswer reply = reply ≡ Done
+    IsAnswer s ToAuthority reply = reply ≡ Done
+    IsAnswer s ToAdditional reply = reply ≡ Done
     IsAnswer s (SetHeader header) reply = reply ≡ Done
     IsAnswer s (SetLimit limit) reply = reply ≡ Done
     IsAnswer s ClearLimit reply = reply ≡ Done

@@ -20,6 +20,10 @@ pub(crate) enum Line {
     ToQuestion,
     /// A move to the answer section.
     ToAnswer,
+    /// A move to the authority section.
+    ToAuthority,
+    /// A move to the additional section.
+    ToAdditional,
     /// That all items of the section are taken out.
     Rewind,
     /// That all records of the section are taken out, and that TC is set.
@@ -110,6 +114,8 @@ fn lone_word(word: &str) -> Option<Line> {
         "builder" => Some(Line::ToBuilder),
         "question" => Some(Line::ToQuestion),
         "answer" => Some(Line::ToAnswer),
+        "authority" => Some(Line::ToAuthority),
+        "additional" => Some(Line::ToAdditional),
         "rewind" => Some(Line::Rewind),
         "tcrewind" => Some(Line::TcRewind),
         "nolimit" => Some(Line::NoLimit),

@@ -175,6 +175,8 @@ fn call_of<T: Composer>(
         Line::ToBuilder => Ok(Some(Call::ToBuilder)),
         Line::ToQuestion => Ok(Some(Call::ToQuestion)),
         Line::ToAnswer => Ok(Some(Call::ToAnswer)),
+        Line::ToAuthority => Ok(Some(Call::ToAuthority)),
+        Line::ToAdditional => Ok(Some(Call::ToAdditional)),
         Line::Rewind => Ok(Some(Call::Rewind)),
         Line::TcRewind => Ok(Some(Call::TcRewind)),
         Line::Push(words) => push_of(alloc, stage, &words),
@@ -193,7 +195,9 @@ fn push_of<T: Composer>(
     match stage {
         Stage::Builder(_) => Ok(None),
         Stage::Question(_) => push_of_question(alloc, words),
-        Stage::Answer(_) => push_of_record(alloc, words),
+        Stage::Answer(_) | Stage::Authority(_) | Stage::Additional(_) => {
+            push_of_record(alloc, words)
+        }
     }
 }
 

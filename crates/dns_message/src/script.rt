@@ -4,7 +4,9 @@ ghost use Rattle.dns_build.specs.State.{State};
 ghost use Rattle.dns_message.specs.Script.{StageStandsFor, Steps, Runs, octets_of};
 
 use dns_build::laws::folds_read_back;
-use dns_build::{AnswerBuilder, MessageBuilder, PushError, QuestionBuilder};
+use dns_build::{
+    AdditionalBuilder, AnswerBuilder, AuthorityBuilder, MessageBuilder, PushError, QuestionBuilder,
+};
 use dns_code::Header;
 use dns_item::{ComposeQuestion, ComposeRecord};
 use dns_wire::Composer;
@@ -18,6 +20,10 @@ pub enum Stage<T: Composer> {
     Question(QuestionBuilder<T>),
     /// At the answer section.
     Answer(AnswerBuilder<T>),
+    /// At the authority section.
+    Authority(AuthorityBuilder<T>),
+    /// At the additional section.
+    Additional(AdditionalBuilder<T>),
 }
 
 /// A call on a builder.
@@ -37,6 +43,10 @@ pub enum Call<Q, R> {
     ToQuestion,
     /// Moves to the answer section, and takes out the records behind it.
     ToAnswer,
+    /// Moves to the authority section, and takes out the records behind it.
+    ToAuthority,
+    /// Moves to the additional section.
+    ToAdditional,
     /// Changes the header.
     SetHeader(Header),
     /// Sets the most octets that the message may have.
@@ -65,6 +75,8 @@ impl<T: Composer> Stage<T> {
             Stage::Builder(builder) => builder.as_slice(),
             Stage::Question(builder) => builder.as_slice(),
             Stage::Answer(builder) => builder.as_slice(),
+            Stage::Authority(builder) => builder.as_slice(),
+            Stage::Additional(builder) => builder.as_slice(),
         }
     }
 }
@@ -92,6 +104,8 @@ fn step_builder<T: Composer, Q: ComposeQuestion, R: ComposeRecord>(
         Call::ToBuilder => (Stage::Builder(builder.builder()), Reply::Done),
         Call::ToQuestion => (Stage::Question(builder.question()), Reply::Done),
         Call::ToAnswer => (Stage::Answer(builder.answer()), Reply::Done),
+        Call::ToAuthority => (Stage::Authority(builder.authority()), Reply::Done),
+        Call::ToAdditional => (Stage::Additional(builder.additional()), Reply::Done),
         Call::SetHeader(header) => {
             builder.set_header(*header);
             (Stage::Builder(builder), Reply::Done)
@@ -127,6 +141,8 @@ fn step_question<T: Composer, Q: ComposeQuestion, R: ComposeRecord>(
         Call::ToBuilder => (Stage::Builder(builder.builder()), Reply::Done),
         Call::ToQuestion => (Stage::Question(builder.question()), Reply::Done),
         Call::ToAnswer => (Stage::Answer(builder.answer()), Reply::Done),
+        Call::ToAuthority => (Stage::Authority(builder.authority()), Reply::Done),
+        Call::ToAdditional => (Stage::Additional(builder.additional()), Reply::Done),
         Call::SetHeader(header) => {
             builder.set_header(*header);
             (Stage::Question(builder), Reply::Done)
@@ -163,6 +179,8 @@ fn step_answer<T: Composer, Q: ComposeQuestion, R: ComposeRecord>(
         Call::ToBuilder => (Stage::Builder(builder.builder()), Reply::Done),
         Call::ToQuestion => (Stage::Question(builder.question()), Reply::Done),
         Call::ToAnswer => (Stage::Answer(builder.answer()), Reply::Done),
+        Call::ToAuthority => (Stage::Authority(builder.authority()), Reply::Done),
+        Call::ToAdditional => (Stage::Additional(builder.additional()), Reply::Done),
         Call::SetHeader(header) => {
             builder.set_header(*header);
             (Stage::Answer(builder), Reply::Done)
@@ -178,6 +196,82 @@ fn step_answer<T: Composer, Q: ComposeQuestion, R: ComposeRecord>(
     }
 }
 
+/// A call on the builder of the authority section, and the reply.
+fn step_authority<T: Composer, Q: ComposeQuestion, R: ComposeRecord>(
+    mut builder: AuthorityBuilder<T>,
+    call: &Call<Q, R>,
+) -> (Stage<T>, Reply)
+    ensures { Steps T.room T.grows Q.question R.item T.rule (Stage.Authority builder) call.now result.1 result.0 }
+{
+    match call {
+        Call::PushQuestion(_) => (Stage::Authority(builder), Reply::Misplaced),
+        Call::PushRecord(pushed) => {
+            let reply = reply_of(builder.push(pushed));
+            (Stage::Authority(builder), reply)
+        }
+        Call::Rewind => {
+            builder.rewind();
+            (Stage::Authority(builder), Reply::Done)
+        }
+        Call::TcRewind => (Stage::Authority(builder.tc_rewind_into()), Reply::Done),
+        Call::ToBuilder => (Stage::Builder(builder.builder()), Reply::Done),
+        Call::ToQuestion => (Stage::Question(builder.question()), Reply::Done),
+        Call::ToAnswer => (Stage::Answer(builder.answer()), Reply::Done),
+        Call::ToAuthority => (Stage::Authority(builder.authority()), Reply::Done),
+        Call::ToAdditional => (Stage::Additional(builder.additional()), Reply::Done),
+        Call::SetHeader(header) => {
+            builder.set_header(*header);
+            (Stage::Authority(builder), Reply::Done)
+        }
+        Call::SetLimit(limit) => {
+            builder.set_push_limit(*limit);
+            (Stage::Authority(builder), Reply::Done)
+        }
+        Call::ClearLimit => {
+            builder.clear_push_limit();
+            (Stage::Authority(builder), Reply::Done)
+        }
+    }
+}
+
+/// A call on the builder of the additional section, and the reply.
+fn step_additional<T: Composer, Q: ComposeQuestion, R: ComposeRecord>(
+    mut builder: AdditionalBuilder<T>,
+    call: &Call<Q, R>,
+) -> (Stage<T>, Reply)
+    ensures { Steps T.room T.grows Q.question R.item T.rule (Stage.Additional builder) call.now result.1 result.0 }
+{
+    match call {
+        Call::PushQuestion(_) => (Stage::Additional(builder), Reply::Misplaced),
+        Call::PushRecord(pushed) => {
+            let reply = reply_of(builder.push(pushed));
+            (Stage::Additional(builder), reply)
+        }
+        Call::Rewind => {
+            builder.rewind();
+            (Stage::Additional(builder), Reply::Done)
+        }
+        Call::TcRewind => (Stage::Additional(builder.tc_rewind_into()), Reply::Done),
+        Call::ToBuilder => (Stage::Builder(builder.builder()), Reply::Done),
+        Call::ToQuestion => (Stage::Question(builder.question()), Reply::Done),
+        Call::ToAnswer => (Stage::Answer(builder.answer()), Reply::Done),
+        Call::ToAuthority => (Stage::Authority(builder.authority()), Reply::Done),
+        Call::ToAdditional => (Stage::Additional(builder.additional()), Reply::Done),
+        Call::SetHeader(header) => {
+            builder.set_header(*header);
+            (Stage::Additional(builder), Reply::Done)
+        }
+        Call::SetLimit(limit) => {
+            builder.set_push_limit(*limit);
+            (Stage::Additional(builder), Reply::Done)
+        }
+        Call::ClearLimit => {
+            builder.clear_push_limit();
+            (Stage::Additional(builder), Reply::Done)
+        }
+    }
+}
+
 /// A call on a stage, and the reply.
 fn step<T: Composer, Q: ComposeQuestion, R: ComposeRecord>(
     stage: Stage<T>,
@@ -189,6 +283,8 @@ fn step<T: Composer, Q: ComposeQuestion, R: ComposeRecord>(
         Stage::Builder(builder) => step_builder(builder, call),
         Stage::Question(builder) => step_question(builder, call),
         Stage::Answer(builder) => step_answer(builder, call),
+        Stage::Authority(builder) => step_authority(builder, call),
+        Stage::Additional(builder) => step_additional(builder, call),
     }
 }
 

@@ -16,6 +16,8 @@ impl<T: Composer> Stage<T> {
             Stage::Builder(builder) => builder.header(),
             Stage::Question(builder) => builder.header(),
             Stage::Answer(builder) => builder.header(),
+            Stage::Authority(builder) => builder.header(),
+            Stage::Additional(builder) => builder.header(),
         }
     }
 
@@ -27,6 +29,8 @@ impl<T: Composer> Stage<T> {
             Stage::Builder(builder) => builder.finish(),
             Stage::Question(builder) => builder.finish(),
             Stage::Answer(builder) => builder.finish(),
+            Stage::Authority(builder) => builder.finish(),
+            Stage::Additional(builder) => builder.finish(),
         }
     }
 }
