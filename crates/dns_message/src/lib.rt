@@ -64,7 +64,7 @@ mod stage;
 
 pub mod target {
     //! What messages are written to.
-    pub use dns_target::{HashCompressor, StaticCompressor, TreeCompressor};
+    pub use dns_target::{HashCompressor, StaticCompressor, StreamTarget, TreeCompressor};
     pub use dns_wire::{CloneTarget, Composer, FreezeBuilder};
 }
 

@@ -10,7 +10,7 @@ use arrayvec::ArrayVec;
 use dns_build::MessageBuilder;
 use dns_item::Question;
 use dns_item::question::FromStrError;
-use dns_target::{HashCompressor, StaticCompressor, TreeCompressor};
+use dns_target::{HashCompressor, StaticCompressor, StreamTarget, TreeCompressor};
 use dns_wire::{Composer, Name};
 use std::alloc::{AllocError, Global};
 use std::io;
@@ -23,6 +23,8 @@ enum Target {
     Plain,
     /// An array of 512 octets.
     Fixed,
+    /// A vector, with the length of the message before it.
+    Stream,
     /// A vector, with names compressed by places.
     Static,
     /// A vector, with names compressed by a tree.
@@ -39,6 +41,7 @@ impl Target {
         match (verb.as_str(), target.as_str()) {
             ("build", "plain") => Some(Target::Plain),
             ("build", "fixed") => Some(Target::Fixed),
+            ("build", "stream") => Some(Target::Stream),
             ("build", "static") => Some(Target::Static),
             ("build", "tree") => Some(Target::Tree),
             ("build", "hash") => Some(Target::Hash),
@@ -91,6 +94,10 @@ fn perform<R: Read, W: Write>(
     match target {
         Target::Plain => print_build(alloc, Vec::new(alloc), &script, writer)?,
         Target::Fixed => print_build(alloc, ArrayVec::<u8, 512>::new(), &script, writer)?,
+        Target::Stream => {
+            let built = build(alloc, StreamTarget::new_vec(alloc)?, &script, writer)?;
+            output::print_octets(writer, built.as_stream_slice())?;
+        }
         Target::Static => {
             let target = StaticCompressor::new(Vec::new(alloc));
             print_build(alloc, target, &script, writer)?;

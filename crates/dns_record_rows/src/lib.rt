@@ -4,6 +4,8 @@
 #![tactic(auto)]
 
 #[cfg(test)]
+mod authorities;
+#[cfg(test)]
 mod building;
 #[cfg(test)]
 mod compressors;
@@ -17,3 +19,5 @@ mod mx;
 mod program;
 #[cfg(test)]
 mod sections;
+#[cfg(test)]
+mod stream;

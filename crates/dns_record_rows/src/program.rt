@@ -64,6 +64,28 @@ fn rewinds_over_compressors(rt: HostRuntime) -> Result<(), Fail> {
     assert_builds(&rt, rt.alloc(), "hash", &runs)
 }
 
+/// Moves among all sections take out what stands behind them.
+#[test]
+fn moves_among_the_sections(rt: HostRuntime) -> Result<(), Fail> {
+    let runs: [Run<'_>; 1] = [(
+        b"question\npush example.com. A\nanswer\npush example.com. 3600 IN A 203.0.113.1\nauthority\npush . 60 IN NS ns.example.com.\nrewind\nadditional\npush . 0 IN TXT \\# 0\nanswer\ntcrewind\nbuilder\n",
+        "ok 12\nok 29\nok 29\nok 56\nok 56\nok 83\nok 56\nok 56\nok 67\nok 56\nok 29\nok 12\n000002000000000000000000\n",
+        0,
+    )];
+    assert_builds(&rt, rt.alloc(), "plain", &runs)
+}
+
+/// The octets are printed with the length before them, which the lengths of the replies leave out.
+#[test]
+fn builds_for_a_stream(rt: HostRuntime) -> Result<(), Fail> {
+    let runs: [Run<'_>; 1] = [(
+        b"question\npush . A\n",
+        "ok 12\nok 17\n00110000000000010000000000000000010001\n",
+        0,
+    )];
+    assert_builds(&rt, rt.alloc(), "stream", &runs)
+}
+
 /// Data of each type as a line writes it.
 #[test]
 fn reads_data_of_each_type(rt: HostRuntime) -> Result<(), Fail> {

@@ -1,0 +1,100 @@
+//! Authority records over compressors: which name becomes a pointer, and what a rewind forgets.
+use dns_build::{AuthorityBuilder, MessageBuilder};
+use dns_code::{Flags, Rcode, Rtype};
+use dns_data::{A, Soa, UnknownRecordData};
+use dns_item::Ttl;
+use dns_target::{HashCompressor, StaticCompressor, TreeCompressor};
+use dns_wire::{Composer, Name};
+use std::alloc::Global;
+use std::process::Abort;
+use std::test::Fail;
+
+/// That a name doesn't exist, with the start of the zone above it.
+const NEGATIVE_RESPONSE: &[u8; 100] =
+    b"\x00\x00\x81\x83\x00\x01\x00\x00\x00\x01\x00\x00\x07example\x00\x00\x02\x00\x01\x00\x00\x06\x00\x01\x00\x01\x51\x76\x00\x40\x01a\x0Croot-servers\x03net\x00\x05nstld\x0Cverisign-grs\x03com\x00\x78\x68\x00\x25\x00\x00\x07\x08\x00\x00\x03\x84\x00\x09\x3A\x80\x00\x01\x51\x80";
+
+/// The message of `NEGATIVE_RESPONSE`.
+fn build_response<T: Composer>(target: T) -> Result<AuthorityBuilder<T>, Fail> {
+    let mut builder = MessageBuilder::from_target(target)?.question();
+    let mut header = builder.header();
+    let mut flags = Flags::new();
+    flags.qr = true;
+    flags.rd = true;
+    flags.ra = true;
+    header.set_flags(flags);
+    header.set_rcode(Rcode::NXDOMAIN);
+    builder.set_header(header);
+    builder.push((Name::from_octets(*b"\x07example\x00")?, Rtype::NS))?;
+    let mut builder = builder.authority();
+    let mname = Name::from_octets(b"\x01a\x0Croot-servers\x03net\x00".as_slice())?;
+    let rname = Name::from_octets(b"\x05nstld\x0Cverisign-grs\x03com\x00".as_slice())?;
+    let soa = Soa::new(&mname, &rname, 2_020_081_701, 1_800, 900, 604_800, 86_400);
+    builder.push((Name::from_octets([0])?, 86_390, &soa))?;
+    Ok(builder)
+}
+
+#[test]
+fn compresses_a_negative_response(rt: HostRuntime) -> Result<(), Fail> {
+    let expected = NEGATIVE_RESPONSE.as_slice();
+    let alloc = rt.alloc();
+    assert_eq!(rt;
+        build_response(StaticCompressor::new(Vec::new(alloc)))?.as_slice(),
+        expected
+    );
+    assert_eq!(rt;
+        build_response(TreeCompressor::new(alloc, Vec::new(alloc)))?.as_slice(),
+        expected
+    );
+    assert_eq!(rt;
+        build_response(HashCompressor::new(alloc, Vec::new(alloc)))?.as_slice(),
+        expected
+    );
+    Ok(())
+}
+
+/// Pushes an address of a name, and gives the length of the message.
+fn push_address<T: Composer, const N: usize>(
+    builder: &mut AuthorityBuilder<T>,
+    owner: [u8; N],
+) -> Result<usize, Fail> {
+    builder.push((
+        Name::from_octets(owner)?,
+        3600,
+        A::from_octets(203, 0, 113, 1),
+    ))?;
+    Ok(builder.as_slice().len())
+}
+
+/// A rewind forgets the name whose second label stands past the bound of 16,384 octets.
+fn assert_rewind_across_the_bound<T: Composer>(
+    rt: &impl Abort,
+    alloc: Global,
+    target: T,
+) -> Result<(), Fail> {
+    let mut octets = Vec::new(alloc);
+    octets.resize(16_359, 0)?;
+    let padding = UnknownRecordData::from_octets(Rtype::TXT, octets)?;
+    let mut answers = MessageBuilder::from_target(target)?.answer();
+    answers.push((Name::from_octets([0])?, Ttl::HOUR, padding))?;
+    assert_eq!(rt; answers.as_slice().len(), 16_382);
+    let mut builder = answers.authority();
+    assert_eq!(rt; push_address(&mut builder, *b"\x01a\x01b\x00")?, 16_401);
+    builder.rewind();
+    assert_eq!(rt; builder.as_slice().len(), 16_382);
+    assert_eq!(rt; push_address(&mut builder, *b"\x01a\x00")?, 16_399);
+    assert_eq!(rt; push_address(&mut builder, *b"\x01a\x00")?, 16_415);
+    assert_eq!(rt;
+        builder.as_slice().get(16_399..16_401),
+        Some(b"\xFF\xFE".as_slice())
+    );
+    assert_eq!(rt; builder.counts().nscount(), 2);
+    Ok(())
+}
+
+#[test]
+fn rewinds_across_the_bound(rt: HostRuntime) -> Result<(), Fail> {
+    let alloc = rt.alloc();
+    assert_rewind_across_the_bound(&rt, alloc, StaticCompressor::new(Vec::new(alloc)))?;
+    assert_rewind_across_the_bound(&rt, alloc, TreeCompressor::new(alloc, Vec::new(alloc)))?;
+    assert_rewind_across_the_bound(&rt, alloc, HashCompressor::new(alloc, Vec::new(alloc)))
+}
