@@ -1,8 +1,9 @@
-//! Targets that compress names (RFC 1035 section 4.1.4), each over a target that doesn't.
+//! Targets over others: one for messages on a stream, and three that compress names (RFC 1035 section 4.1.4).
 //!
 //! A compressor is a `Composer`: what its calls promise is said there, and its rule says how names are written. Each knows
 //! a suffix again only octet for octet, and a cut forgets exactly the names that end behind it.
 //!
+//! - [`StreamTarget`] holds the length of its message before it (RFC 1035 section 4.2.2). It doesn't compress.
 //! - [`StaticCompressor`] remembers 24 suffixes by their places, and takes no memory of its own.
 //! - [`TreeCompressor`] remembers each suffix that a pointer can lead to.
 //! - [`HashCompressor`] does so by a hash that is fast and has no seed, for names that no stranger chooses. A name of which
