@@ -3,11 +3,11 @@ use Rattle.std.proofs.Common.{◌≡◌, [], ◌∷◌, length, arith, refl, sym
 use Rattle.std.specs.Prelude.{Ok, Err}
 use Rattle.std.proofs.lemmas.List.{append-nil}
 use Rattle.dns_wire.specs.Names.{Labels, IsName}
-use Rattle.dns_wire.specs.Parts.{Part, Octets, CompressibleName, put_part, put_parts}
-use Rattle.dns_wire.specs.Pieces.{Rule, IsGrowing, put_octets}
+use Rattle.dns_wire.specs.Parts.{CompressibleName, put_part, put_parts}
+use Rattle.dns_wire.specs.Pieces.{Rule, put_octets}
 use Rattle.dns_wire.specs.Targets.{Written, Fits, lay}
 use Rattle.dns_wire.proofs.Composing.{appends_compose, composes_both, composes_first}
-use Rattle.dns_wire.proofs.GrowingPieces.{put_octets_grows, put_name_grows}
+use Rattle.dns_wire.proofs.GrowingPieces.{put_part_grows}
 use Rattle.dns_wire.proofs.LabelsLemmas.{length-uncompressed}
 use Rattle.dns_wire.proofs.PieceLaws.{same_written}
 use Rattle.dns_data.specs.RecordData.{IsData}
@@ -23,16 +23,11 @@ unfolding put_parts
 no_part_composes room grows rule t fits =
     record { ok = lay-nothing t; err = tt; answer = subst (λ (u : Written). Fits room (length u.octets)) (lay-nothing t) fits }
 
--- a part is a growing piece
-pub part_grows : (rule : Rule) (part : Part) → IsGrowing (put_part rule part)
-part_grows rule (Octets octets) = put_octets_grows octets
-part_grows rule (CompressibleName name) = put_name_grows rule name
-
 -- what is behind a part composes with it
 pub parts_compose_behind : PartsComposeBehind
 unfolding put_parts
 parts_compose_behind room grows rule part parts t u v r is h =
-    composes_both room grows (put_part rule part) (put_parts rule parts) t u v r (part_grows rule part) is h
+    composes_both room grows (put_part rule part) (put_parts rule parts) t u v r (put_part_grows rule part) is h
 
 -- where the first is refused, so are all
 pub refused_part_composes : RefusedPartComposes

@@ -9,21 +9,12 @@ use Rattle.dns_wire.specs.Parts.{Part}
 use Rattle.dns_wire.specs.Parts.Part.{Octets, CompressibleName}
 use Rattle.dns_wire.specs.Standing.{Stands, FaultAt}
 use Rattle.dns_wire.specs.Unique.{same_name}
-use Rattle.dns_wire.specs.Walking.{WalkedBehind}
-use Rattle.dns_wire.specs.Walking.WalkedBehind.{root, pointer, label}
 use Rattle.dns_wire.proofs.AnswerLaws.{one_answer, standing_short}
 use Rattle.dns_wire.proofs.AnswerLaws as names
-use Rattle.dns_wire.proofs.HeadLemmas.{root_within, pointer_within}
-use Rattle.dns_wire.proofs.WalkLaws.{one_end, standing_end}
+use Rattle.dns_wire.proofs.WalkLaws.{one_end, standing_end, walked_in_octets}
 use Rattle.dns_data.specs.Layout.{Layout, DataStands, DataFaultAt}
 use Rattle.dns_data.specs.Layout.Layout.{End, Rest, Fixed, DomainName}
 use Rattle.dns_data.specs.Laws.{OneDatumOrFault}
-
--- a walked extent ends within the octets
-pub walked_within : {b : List ℕ} {p s q : ℕ} → WalkedBehind b p s q → q ≤ length b
-walked_within {b = b} (root {p = p} h) = let l = root_within b p h in omega arith
-walked_within {b = b} (pointer {p = p} {t = t} h) = let l = pointer_within b p t h in omega arith
-walked_within (label h small fits x) = walked_within x
 
 module _ (b : List ℕ) where
   -- a name and a fault never both
@@ -97,7 +88,7 @@ module _ (b : List ℕ) where
   not_both (DomainName layout) p q (CompressibleName x ∷ parts) f l h (inl k) = name_or_fault h.1 k
   not_both (DomainName layout) p q (CompressibleName x ∷ parts) f l h (inr k) =
       let end : k.1 ≡ h.0 = one_end b k.3 h.2 in
-      not_both layout h.0 q parts f (walked_within h.2) h.3 (subst (λ e. DataFaultAt b layout e f) end k.4)
+      not_both layout h.0 q parts f (walked_in_octets h.2) h.3 (subst (λ e. DataFaultAt b layout e f) end k.4)
 
   one_fault : (layout : Layout) (p : ℕ) (f g : Fault) → DataFaultAt b layout p f → DataFaultAt b layout p g → f ≡ g
   one_fault End p f g h k = absurd h

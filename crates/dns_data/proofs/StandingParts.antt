@@ -4,18 +4,11 @@ use Rattle.std.specs.Prelude.{IsTrue}
 use Rattle.std.proofs.lemmas.List.{drop-take, take-take, length-take-le}
 use Rattle.dns_wire.specs.Parts.{Part, PartsStand}
 use Rattle.dns_wire.specs.Parts.Part.{Octets, CompressibleName}
-use Rattle.dns_wire.specs.Walking.{WalkedBehind}
-use Rattle.dns_wire.specs.Walking.WalkedBehind.{root, pointer, label}
+use Rattle.dns_wire.proofs.WalkLaws.{walked_rises}
 use Rattle.dns_data.specs.Layout.Layout.{End, Rest, Fixed, DomainName}
 use Rattle.dns_data.specs.Laws.{StandingPartsRead}
 
--- a walked extent goes on from its place
-walked_rises : {b : List ℕ} {p s q : ℕ} → WalkedBehind b p s q → p ≤ q
-walked_rises (root h) = omega arith
-walked_rises (pointer h) = omega arith
-walked_rises (label h small fits x) = let l = walked_rises x in omega arith
-
--- so do parts
+-- parts go on from their place
 parts_rise : (b : List ℕ) (end p : ℕ) (parts : List Part) → PartsStand b end p parts → p ≤ end
 parts_rise b end p [] h = omega arith
 parts_rise b end p (Octets octets ∷ parts) h = let l = parts_rise b end (p + length octets) parts h.1 in omega arith

@@ -1,5 +1,5 @@
 -- A piece that is put in by several appends.
-use Rattle.std.proofs.Common.{◌≡◌, ℕ, ◌≤◌, ◌<◌, nat_le, Bool, true, false, cond, Option, Some, None, Result, Ok, Err, length, length-append, ap, sym, ◌∙◌, refl, subst, arith}
+use Rattle.std.proofs.Common.{◌≡◌, ℕ, ◌≤◌, ◌<◌, nat_le, Bool, true, false, cond, Option, Some, None, Ok, Err, length, length-append, ap, sym, ◌∙◌, refl, subst, arith}
 use Rattle.std.proofs.lemmas.Grind.{common_steps}
 use Rattle.std.proofs.lemmas.List.{take-append-le}
 use Rattle.std.specs.FinMap.{get}

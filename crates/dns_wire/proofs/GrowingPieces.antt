@@ -95,7 +95,8 @@ with_length_grows a g = record {
       extends_wider m laid.memory (w + 2) (w + 2 + length laid.text) w _ (omega arith) (omega arith) (g.grows m (w + 2));
 }
 
-put_part_grows : (rule : Rule) (part : Part) → IsGrowing (put_part rule part)
+-- so is a part
+pub put_part_grows : (rule : Rule) (part : Part) → IsGrowing (put_part rule part)
 put_part_grows rule (Octets octets) = put_octets_grows octets
 put_part_grows rule (CompressibleName name) = put_name_grows rule name
 

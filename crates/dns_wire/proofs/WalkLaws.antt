@@ -11,6 +11,7 @@ use Rattle.dns_wire.specs.Walking.{WalkedBehind, SkipFaulty}
 use Rattle.dns_wire.specs.Walking.SkipFaulty.{head, long, cut, label}
 use Rattle.dns_wire.specs.declared.head.Head.{Head}
 use Rattle.dns_wire.specs.declared.head.Head.TheVariants.{Root, Label, Pointer}
+use Rattle.dns_wire.proofs.HeadLemmas.{root_within, pointer_within}
 use Rattle.dns_wire.proofs.Walks.{name_size-label_at}
 
 module _ (b : List ℕ) where
@@ -86,6 +87,18 @@ module _ (b : List ℕ) where
 
   pub end_or_skip_fault : (p : ℕ) → EndOrFault p 0
   end_or_skip_fault p = answer 256 p 0 (omega arith)
+
+-- a walked extent goes on from its place
+pub walked_rises : {b : List ℕ} {p s q : ℕ} → WalkedBehind b p s q → p ≤ q
+walked_rises (WalkedBehind.root h) = omega arith
+walked_rises (WalkedBehind.pointer h) = omega arith
+walked_rises (WalkedBehind.label h small fits x) = let l = walked_rises x in omega arith
+
+-- and ends within the octets
+pub walked_in_octets : {b : List ℕ} {p s q : ℕ} → WalkedBehind b p s q → q ≤ length b
+walked_in_octets {b = b} (WalkedBehind.root {p = p} h) = let l = root_within b p h in omega arith
+walked_in_octets {b = b} (WalkedBehind.pointer {p = p} {t = t} h) = let l = pointer_within b p t h in omega arith
+walked_in_octets (WalkedBehind.label h small fits x) = walked_in_octets x
 
 -- a name that stands somewhere has an end there
 pub standing_end : {b : List ℕ} {p : ℕ} {name : Labels} (s : ℕ) → Stands b p name → s + name_size name ≤ max_size → (q : ℕ) × WalkedBehind b p s q
