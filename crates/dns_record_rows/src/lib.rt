@@ -12,6 +12,8 @@ mod compressors;
 #[cfg(test)]
 mod data;
 #[cfg(test)]
+mod histories;
+#[cfg(test)]
 mod hostile;
 #[cfg(test)]
 mod mx;
