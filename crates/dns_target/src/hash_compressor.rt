@@ -1,14 +1,18 @@
 //! A target that looks suffixes up by a hash of their first labels.
 ghost use Rattle.std.specs.Prelude.{◌≡◌, true, IfOk};
 ghost use Rattle.dns_wire.specs.Memory.{nothing};
+ghost use Rattle.dns_wire.specs.Names.{uncompressed};
+ghost use Rattle.dns_wire.specs.ParsedName.{labels};
 ghost use Rattle.dns_wire.specs.Pieces.{Plain, Hash as HashRule};
+ghost use Rattle.dns_wire.specs.PutName.{put_name};
+ghost use Rattle.dns_wire.specs.Targets.{Appends};
 ghost use Rattle.dns_target.specs.Rules.{hash_not_plain};
 
-use crate::label_starts::{LabelStarts, write_out};
+use crate::label_starts::{LabelStarts, note_starts};
 use crate::suffixes::Suffixes;
 use crate::texts::{append_found, reaches};
 use arrayvec::ArrayVec;
-use dns_wire::{AppendError, CloneTarget, Composer, FreezeBuilder, ToName};
+use dns_wire::{AppendError, CloneTarget, Composer, FreezeBuilder, ParsedName, ToName};
 use std::alloc::{AllocError, Global};
 use std::convert::AsSlice;
 use std::marker::Model;
@@ -73,6 +77,27 @@ impl<Target: Composer> HashCompressor<Target> {
     {
         self.target.as_slice()
     }
+
+    /// Appends a name, which is given with its octets without pointers.
+    fn append_name(&mut self, name: ParsedName<'_>, octets: &[u8]) -> Result<(), AppendError>
+        requires { octets.now ≡ uncompressed (labels name) }
+        ensures { Appends Target.room true (put_name HashRule (labels name.entry)) self.old self.new result }
+    {
+        let mut starts = ArrayVec::new();
+        note_starts(&name, octets, &mut starts);
+        let labels = LabelStarts::new(name, octets, starts.as_slice());
+        let place = self.target.as_slice().len();
+        let found = self.suffixes.look_up(&labels);
+        if self.suffixes.reserve(found.from).is_err() {
+            return Err(AppendError::OutOfMemory);
+        }
+        append_found(&mut self.target, &labels, found)?;
+        if reaches(&labels, place, found.from) {
+            let end = self.target.as_slice().len();
+            self.suffixes.remember(&labels, found, place, end);
+        }
+        Ok(())
+    }
 }
 
 impl<Target: CloneTarget> HashCompressor<Target> {
@@ -108,21 +133,10 @@ impl<Target: Composer> Composer for HashCompressor<Target> {
 
     fn append_compressed_name<N: ToName>(&mut self, name: &N) -> Result<(), AppendError> {
         let parsed = name.as_parsed();
-        let mut octets = ArrayVec::new();
-        let mut starts = ArrayVec::new();
-        write_out(&parsed, &mut octets, &mut starts);
-        let labels = LabelStarts::new(parsed, octets.as_slice(), starts.as_slice());
-        let place = self.target.as_slice().len();
-        let found = self.suffixes.look_up(&labels);
-        if self.suffixes.reserve(found.from).is_err() {
-            return Err(AppendError::OutOfMemory);
+        match parsed.as_flat_slice() {
+            Some(octets) => self.append_name(parsed, octets),
+            None => self.append_name(parsed, parsed.uncompressed().as_slice()),
         }
-        append_found(&mut self.target, &labels, found)?;
-        if reaches(&labels, place, found.from) {
-            let end = self.target.as_slice().len();
-            self.suffixes.remember(&labels, found, place, end);
-        }
-        Ok(())
     }
 
     fn can_compress(&self) -> bool {

@@ -8,7 +8,7 @@ ghost use Rattle.dns_target.specs.Lookup.{IsStarted};
 
 use crate::standing::name_at;
 use arrayvec::ArrayVec;
-use dns_wire::{Label, ParsedName};
+use dns_wire::ParsedName;
 use std::marker::Model;
 
 /// A name with its octets without pointers, and where each label begins in them.
@@ -31,46 +31,21 @@ impl<'a> Model for LabelStarts<'a> {
     ghost invariant = { λ l. IsStarted (labels l.name) l.octets.now l.starts.now };
 }
 
-/// Appends a label behind its length octet.
-fn append_label(octets: &mut ArrayVec<u8, 255>, label: Label<'_>)
-    requires { array_vec_len octets.old + length (framed (label_octets label)) ≤ 255 }
-    ensures { octets.new.items ≡ octets.old.items ++ framed (label_octets label.entry) }
-{
-    octets.push(label.len() as u8);
-    octets.try_extend_from_slice(label.as_slice()).unwrap();
-}
-
-/// Writes the octets of a name without pointers.
-fn write_octets(name: &ParsedName<'_>, octets: &mut ArrayVec<u8, 255>)
-    requires { octets.old.items ≡ [] }
-    ensures { octets.new.items ≡ uncompressed (labels name.now) }
-{
-    for label in name.iter_labels() {
-        append_label(octets, label);
-    }
-}
-
-/// Writes the octets of a name without pointers, and where each label begins in them.
-pub(crate) fn write_out(
-    name: &ParsedName<'_>,
-    octets: &mut ArrayVec<u8, 255>,
-    starts: &mut ArrayVec<u8, 128>,
-)
-    requires octets { octets.old.items ≡ [] }
+/// Notes where each label of a name begins in its octets without pointers.
+pub(crate) fn note_starts(name: &ParsedName<'_>, octets: &[u8], starts: &mut ArrayVec<u8, 128>)
+    requires octets { octets.now ≡ uncompressed (labels name.now) }
     requires starts { starts.old.items ≡ [] }
-    ensures { IsStarted (labels name.now) octets.new.items starts.new.items }
+    ensures { IsStarted (labels name.now) octets.now starts.new.items }
 {
-    write_octets(name, octets);
-    let text = octets.as_slice();
     let mut at = 0;
-    while text[at] != 0 {
+    while octets[at] != 0 {
         starts.push(at as u8);
-        at += 1 + usize::from(text[at]);
+        at += 1 + usize::from(octets[at]);
     }
 }
 
 impl<'a> LabelStarts<'a> {
-    /// A name that was written out.
+    /// A name with the starts of its labels.
     pub(crate) fn new(name: ParsedName<'a>, octets: &'a [u8], starts: &'a [u8]) -> Self
         requires { IsStarted (labels name) octets.now starts.now }
         ensures { result ≡ labels name.entry }

@@ -1,15 +1,19 @@
 //! A target that remembers 24 suffixes and takes no memory of its own.
 ghost use Rattle.std.specs.Prelude.{◌≡◌, ◌+◌, ◌≤◌, length, IfOk, OnErr, IsTrue};
 ghost use Rattle.dns_wire.specs.Memory.{nothing};
+ghost use Rattle.dns_wire.specs.Names.{uncompressed};
+ghost use Rattle.dns_wire.specs.ParsedName.{labels};
 ghost use Rattle.dns_wire.specs.Pieces.{Plain, Static as StaticRule};
+ghost use Rattle.dns_wire.specs.PutName.{put_name};
+ghost use Rattle.dns_wire.specs.Targets.{Appends};
 ghost use Rattle.dns_target.specs.Found.{Keeps};
 ghost use Rattle.dns_target.specs.Rules.{static_not_plain};
 
-use crate::label_starts::{LabelStarts, write_out};
+use crate::label_starts::{LabelStarts, note_starts};
 use crate::places::{PLACES, Places};
 use crate::texts::{PLACES_END, append_kept};
 use arrayvec::ArrayVec;
-use dns_wire::{AppendError, CloneTarget, Composer, FreezeBuilder, ToName};
+use dns_wire::{AppendError, CloneTarget, Composer, FreezeBuilder, ParsedName, ToName};
 use std::alloc::AllocError;
 use std::convert::AsSlice;
 use std::marker::Model;
@@ -70,6 +74,24 @@ impl<Target: Composer> StaticCompressor<Target> {
     {
         self.target.as_slice()
     }
+
+    /// Appends a name, which is given with its octets without pointers.
+    fn append_name(&mut self, name: ParsedName<'_>, octets: &[u8]) -> Result<(), AppendError>
+        requires { octets.now ≡ uncompressed (labels name) }
+        ensures { Appends Target.room Target.grows (put_name StaticRule (labels name.entry)) self.old self.new result }
+    {
+        let mut starts = ArrayVec::new();
+        note_starts(&name, octets, &mut starts);
+        let labels = LabelStarts::new(name, octets, starts.as_slice());
+        let content = self.target.as_slice();
+        let place = content.len();
+        let found = self.places.look_up(content, &labels);
+        let count = kept(&labels, place, self.places.len(), found.from);
+        append_kept(&mut self.target, &labels, found, count)?;
+        let end = self.target.as_slice().len();
+        self.places.remember(&labels, count, place, end);
+        Ok(())
+    }
 }
 
 impl<Target: CloneTarget> StaticCompressor<Target> {
@@ -121,18 +143,10 @@ impl<Target: Composer> Composer for StaticCompressor<Target> {
 
     fn append_compressed_name<N: ToName>(&mut self, name: &N) -> Result<(), AppendError> {
         let parsed = name.as_parsed();
-        let mut octets = ArrayVec::new();
-        let mut starts = ArrayVec::new();
-        write_out(&parsed, &mut octets, &mut starts);
-        let labels = LabelStarts::new(parsed, octets.as_slice(), starts.as_slice());
-        let content = self.target.as_slice();
-        let place = content.len();
-        let found = self.places.look_up(content, &labels);
-        let count = kept(&labels, place, self.places.len(), found.from);
-        append_kept(&mut self.target, &labels, found, count)?;
-        let end = self.target.as_slice().len();
-        self.places.remember(&labels, count, place, end);
-        Ok(())
+        match parsed.as_flat_slice() {
+            Some(octets) => self.append_name(parsed, octets),
+            None => self.append_name(parsed, parsed.uncompressed().as_slice()),
+        }
     }
 
     fn can_compress(&self) -> bool {

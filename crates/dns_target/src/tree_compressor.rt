@@ -1,15 +1,19 @@
 //! A target that remembers each suffix that a pointer can lead to.
 ghost use Rattle.std.specs.Prelude.{◌≡◌, true, IfOk};
 ghost use Rattle.dns_wire.specs.Memory.{nothing};
+ghost use Rattle.dns_wire.specs.Names.{uncompressed};
+ghost use Rattle.dns_wire.specs.ParsedName.{labels};
 ghost use Rattle.dns_wire.specs.Pieces.{Plain, Tree as TreeRule};
+ghost use Rattle.dns_wire.specs.PutName.{put_name};
+ghost use Rattle.dns_wire.specs.Targets.{Appends};
 ghost use Rattle.dns_target.specs.Rules.{tree_not_plain};
 
 use crate::known::{append_spelled, grow, look_up};
-use crate::label_starts::{LabelStarts, write_out};
+use crate::label_starts::{LabelStarts, note_starts};
 use crate::texts::PLACES_END;
 use crate::tree::Tree;
 use arrayvec::ArrayVec;
-use dns_wire::{AppendError, CloneTarget, Composer, FreezeBuilder, ToName};
+use dns_wire::{AppendError, CloneTarget, Composer, FreezeBuilder, ParsedName, ToName};
 use std::alloc::{AllocError, Global};
 use std::convert::AsSlice;
 use std::marker::Model;
@@ -72,6 +76,27 @@ impl<Target: Composer> TreeCompressor<Target> {
     {
         self.target.as_slice()
     }
+
+    /// Appends a name, which is given with its octets without pointers.
+    fn append_name(&mut self, name: ParsedName<'_>, octets: &[u8]) -> Result<(), AppendError>
+        requires { octets.now ≡ uncompressed (labels name) }
+        ensures { Appends Target.room true (put_name TreeRule (labels name.entry)) self.old self.new result }
+    {
+        let mut starts = ArrayVec::new();
+        note_starts(&name, octets, &mut starts);
+        let labels = LabelStarts::new(name, octets, starts.as_slice());
+        let place = self.target.as_slice().len();
+        let found = look_up(&self.tree, &labels);
+        if self.tree.reserve(found.from).is_err() {
+            return Err(AppendError::OutOfMemory);
+        }
+        append_spelled(&mut self.target, &labels, place, found.pointer)?;
+        if place < PLACES_END {
+            let end = self.target.as_slice().len();
+            grow(&mut self.tree, &labels, place, end, found);
+        }
+        Ok(())
+    }
 }
 
 impl<Target: CloneTarget> TreeCompressor<Target> {
@@ -107,21 +132,10 @@ impl<Target: Composer> Composer for TreeCompressor<Target> {
 
     fn append_compressed_name<N: ToName>(&mut self, name: &N) -> Result<(), AppendError> {
         let parsed = name.as_parsed();
-        let mut octets = ArrayVec::new();
-        let mut starts = ArrayVec::new();
-        write_out(&parsed, &mut octets, &mut starts);
-        let labels = LabelStarts::new(parsed, octets.as_slice(), starts.as_slice());
-        let place = self.target.as_slice().len();
-        let found = look_up(&self.tree, &labels);
-        if self.tree.reserve(found.from).is_err() {
-            return Err(AppendError::OutOfMemory);
+        match parsed.as_flat_slice() {
+            Some(octets) => self.append_name(parsed, octets),
+            None => self.append_name(parsed, parsed.uncompressed().as_slice()),
         }
-        append_spelled(&mut self.target, &labels, place, found.pointer)?;
-        if place < PLACES_END {
-            let end = self.target.as_slice().len();
-            grow(&mut self.tree, &labels, place, end, found);
-        }
-        Ok(())
     }
 
     fn can_compress(&self) -> bool {

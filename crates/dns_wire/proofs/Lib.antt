@@ -31,3 +31,4 @@ pub mod PrintedNames
 pub mod NameTextFaults
 pub mod NameOrTextFault
 pub mod OneTextName
+pub mod FlatNames

@@ -41,6 +41,10 @@ drop_label b p n h =
     ap (λ m. take m (drop (p + 1) b) ++ drop (p + 1 + n) b) k ∙ ap (λ c. take n (drop (p + 1) b) ++ c) (sym (drop-drop n (p + 1) b)) ∙ take-append-drop n (drop (p + 1) b) in
     drop_at b p n (label_there b p n h) ∙ ap (λ (c : List ℕ). n ∷ c) (sym whole)
 
+-- where the root begins, its zero octet and what is behind it
+pub drop_root : (b : List ℕ) (p : ℕ) → head_at b p ≡ Ok Root → drop p b ≡ 0 ∷ drop (p + 1) b
+drop_root b p h = drop_at b p 0 (root_there b p h)
+
 -- The octets from a place on are a label and the name behind it.
 record Labelled (b : List ℕ) (p : ℕ) (label : List ℕ) (name : Labels) : Type 0 where
   begins : head_at b p ≡ Ok (Label (length label))

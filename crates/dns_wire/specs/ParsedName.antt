@@ -1,7 +1,7 @@
 -- What parsing and skipping a name answer. RFC 1035 section 4.1.4.
-use Rattle.std.specs.Prelude.{◌≡◌, ℕ, List, Result, Ok, Err, IsOkAnd, IsErrAnd}
+use Rattle.std.specs.Prelude.{◌≡◌, ℕ, List, ◌++◌, drop, Result, Ok, Err, IsOkAnd, IsErrAnd}
 use Rattle.dns_wire.specs.Fault.{Fault, fault_of}
-use Rattle.dns_wire.specs.Names.{Labels}
+use Rattle.dns_wire.specs.Names.{Labels, uncompressed}
 use Rattle.dns_wire.specs.Standing.{Stands, FaultAt}
 use Rattle.dns_wire.specs.Walking.{Walked, SkipFaultAt}
 use Rattle.dns_wire.specs.Parsers.{seen, place, MovesTo}
@@ -12,6 +12,10 @@ use Rattle.dns_wire.specs.declared.parsed_name.ParsedName.{ParsedName}
 -- the labels of a name
 abbrev pub labels : ParsedName → Labels
 labels name = name.name_at.0.0
+
+-- from its place on stand its octets without pointers
+abbrev pub IsFlat : ParsedName → Type 0
+IsFlat name = (behind : List ℕ) × (drop name.pos name.octets.now ≡ uncompressed (labels name) ++ behind)
 
 -- new sees what old sees, and stands behind the walked extent of the name at old's place
 abbrev pub MovesBehindName : Parser → Parser → Type 0

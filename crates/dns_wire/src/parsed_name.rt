@@ -1,4 +1,4 @@
-ghost use Rattle.std.specs.Prelude.{◌≡◌, ◌+◌, ◌≤◌, ◌↔◌, IsTrue, IsOk, ℕ, List, [], length};
+ghost use Rattle.std.specs.Prelude.{◌≡◌, ◌+◌, ◌≤◌, ◌↔◌, IsTrue, IsOk, IsSome, IfSome, ℕ, List, [], length};
 ghost use Rattle.dns_wire.specs.Unique.{NameOfSize, NameOfSize-prop};
 
 use crate::error::{FormError, ParseError};
@@ -19,7 +19,7 @@ pub struct ParsedName<'a> {
 impl<'a> ParsedName<'a> {
     ghost use Rattle.dns_wire.specs.Names.{Labels, name_size, uncompressed, with_root};
     ghost use Rattle.dns_wire.specs.Parsers.{seen, place};
-    ghost use Rattle.dns_wire.specs.ParsedName.{labels, ParsesName, SkipsName, ReadsStanding, AnswersFault};
+    ghost use Rattle.dns_wire.specs.ParsedName.{labels, ParsesName, SkipsName, ReadsStanding, AnswersFault, IsFlat};
     ghost use Rattle.dns_wire.specs.Standing.{Stands, FaultAt};
     ghost use Rattle.dns_wire.specs.Walking.{Walked, SkipFaultAt};
     ghost use Rattle.dns_wire.specs.Uncompressed.{WholeName};
@@ -127,6 +127,24 @@ impl<'a> ParsedName<'a> {
         ensures { IsTrue result ↔ (labels self.now ≡ []) }
     {
         self.size == 0
+    }
+
+    /// The octets of the name, if it has no pointer in it.
+    pub fn as_flat_slice(&self) -> Option<&'a [u8]>
+        ensures flat { IsSome result ↔ IsFlat self.now }
+        ensures octets { IfSome result (λ octets. octets.now ≡ uncompressed (labels self.now)) }
+    {
+        let mut pos = self.pos;
+        'walk: loop {
+            match Head::at(self.octets, pos).unwrap() {
+                Head::Root => {
+                    let end = self.pos + self.compose_len();
+                    return Some(&self.octets[self.pos..end]);
+                }
+                Head::Label(len) => pos += usize::from(len) + 1,
+                Head::Pointer(_) => return None,
+            }
+        }
     }
 
     /// How many octets the name takes without pointers, the root's zero octet among them: 1 to 255.
