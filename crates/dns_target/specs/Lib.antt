@@ -4,7 +4,6 @@ pub mod Lookup
 pub mod Found
 pub mod Held
 pub mod HeldPlaces
-pub mod LabelHash
 pub mod Table
 pub mod Keys
 pub mod State

@@ -12,7 +12,6 @@
 
 mod hash_compressor;
 mod known;
-mod label_hasher;
 mod label_starts;
 mod places;
 mod standing;

@@ -5,13 +5,12 @@ ghost use Rattle.dns_wire.specs.Memory.{Memory};
 ghost use Rattle.dns_target.specs.Found.{IsFound};
 ghost use Rattle.dns_target.specs.Table.{IsIndexed, AreFresh, find, with_keys, cut_suffixes};
 
-use crate::label_hasher::LabelHasher;
 use crate::label_starts::LabelStarts;
 use crate::texts::{Found, PLACES_END};
 use arrayvec::ArrayVec;
 use std::alloc::{AllocError, Global};
 use std::collections::HashMap;
-use std::hash::{BuildHasherDefault, Hash, Hasher};
+use std::hash::{Hash, Hasher};
 use std::marker::Model;
 
 /// A label before a suffix that was written at a place, or before the root.
@@ -80,7 +79,7 @@ struct EndedKey {
 /// The places of suffixes, and their keys, the newest last.
 #[derive(Debug, Drop)]
 pub(crate) struct Suffixes {
-    places: HashMap<Key, u16, BuildHasherDefault<LabelHasher>>,
+    places: HashMap<Key, u16>,
     keys: Vec<EndedKey>,
 }
 
@@ -103,9 +102,12 @@ fn key_of(label: &[u8], rest: Option<u16>) -> Key
     ensures label { result.label.items ≡ label.now }
     ensures rest { result.rest ≡ rest }
 {
-    let mut kept = ArrayVec::new();
-    kept.try_extend_from_slice(label).unwrap();
-    Key { label: kept, rest }
+    let mut key = Key {
+        label: ArrayVec::new(),
+        rest,
+    };
+    key.label.try_extend_from_slice(label).unwrap();
+    key
 }
 
 impl Suffixes {
@@ -113,7 +115,7 @@ impl Suffixes {
         ensures { result.suffixes ≡ [] }
     {
         Suffixes {
-            places: HashMap::with_hasher(alloc, BuildHasherDefault::new()),
+            places: HashMap::new(alloc),
             keys: Vec::new(alloc),
         }
     }
