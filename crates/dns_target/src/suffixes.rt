@@ -96,17 +96,35 @@ impl Model for Suffixes {
     ghost invariant = { λ t. IsTabled t.places t.keys.items };
 }
 
+impl Key {
+    /// A key for another to be put in its place.
+    fn new() -> Self {
+        Key {
+            label: ArrayVec::new(),
+            rest: None,
+        }
+    }
+
+    /// Makes it the key of a label before a rest.
+    fn set(&mut self, label: &[u8], rest: Option<u16>)
+        requires { length label.now ≤ 63 }
+        ensures label { self.new.label.items ≡ label.now }
+        ensures rest { self.new.rest ≡ rest }
+    {
+        self.label = ArrayVec::new();
+        self.label.try_extend_from_slice(label).unwrap();
+        self.rest = rest;
+    }
+}
+
 /// The key of a label before a rest.
 fn key_of(label: &[u8], rest: Option<u16>) -> Key
     requires { length label.now ≤ 63 }
     ensures label { result.label.items ≡ label.now }
     ensures rest { result.rest ≡ rest }
 {
-    let mut key = Key {
-        label: ArrayVec::new(),
-        rest,
-    };
-    key.label.try_extend_from_slice(label).unwrap();
+    let mut key = Key::new();
+    key.set(label, rest);
     key
 }
 
@@ -139,22 +157,23 @@ impl Suffixes {
         self.keys.reserve(additional)
     }
 
-    /// The place of the suffix with this label and rest.
-    pub(crate) fn find(&self, label: &[u8], rest: Option<u16>) -> Option<u16>
-        requires { length label.now ≤ 63 }
-        ensures { result ≡ find self.now.suffixes label.now rest }
+    /// The place of the suffix with this key.
+    fn find(&self, key: &Key) -> Option<u16>
+        ensures { result ≡ find self.now.suffixes key.now.label.items key.now.rest }
     {
-        self.places.get(&key_of(label, rest)).copied()
+        self.places.get(key).copied()
     }
 
     /// The longest suffix of a name that is in the table.
     pub(crate) fn look_up(&self, labels: &LabelStarts<'_>) -> Found
         ensures { (m : Memory) → IsIndexed m self.now.suffixes → IsFound m labels.now result.from result.place }
     {
+        let mut key = Key::new();
         let mut place = None;
         let mut from = labels.len();
         while from > 0 {
-            let Some(longer) = self.find(labels.label(from - 1), place) else {
+            key.set(labels.label(from - 1), place);
+            let Some(longer) = self.find(&key) else {
                 return Found { from, place };
             };
             place = Some(longer);
