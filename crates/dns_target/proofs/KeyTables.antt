@@ -16,17 +16,12 @@ use Rattle.dns_target.specs.declared.suffixes.Key.{Key}
 use Rattle.dns_target.specs.declared.suffixes.EndedKey.{EndedKey}
 use Rattle.dns_target.specs.Table.{Suffix, is_key, find, AreFresh, cut_suffixes}
 use Rattle.dns_target.specs.Keys.{key_eq, Places, suffix_of, suffixes_of, IsTabled}
+use Rattle.dns_target.proofs.Siblings.{rest_same}
 use Rattle.dns_target.proofs.Trees.{bytes_same}
 
 -- the test on keys tells apart all that differ
 key_equiv : IsEquivalence key_eq
 key_equiv = search (comparing, rules)
-
-rest_same : (a b : Option ℕ) → option_eq nat_eq a b ≡ true → a ≡ b
-rest_same None None e = refl
-rest_same None (Some b) e = absurd (cc)
-rest_same (Some a) None e = absurd (cc)
-rest_same (Some a) (Some b) e = let same : a ≡ b = grind (arith, nat_tests) in ap (λ (n : ℕ). Some n) same
 
 key_same : (a b : Key) → key_eq a b ≡ true → a ≡ b
 key_same a b e =

@@ -1,6 +1,6 @@
 //! Suffixes of names as a tree, whose nodes stand in one vector.
 ghost use Rattle.std.specs.Prelude.{◌≡◌, ◌+◌, ◌<◌, ◌≤◌, ◌∷◌, [], length, None, OnOk, IfOk};
-ghost use Rattle.dns_target.specs.Tree.{IsIn, newest, find, entry_at, cut_entries};
+ghost use Rattle.dns_target.specs.Tree.{IsIn, newest, find, entry_at, below, cut_entries};
 
 use arrayvec::ArrayVec;
 use std::alloc::{AllocError, Global};
@@ -92,9 +92,22 @@ impl Tree {
             if node.label.as_slice() == label {
                 return Some(i);
             }
-            at = node.older;
+            at = self.older(i, rest);
         }
         None
+    }
+
+    /// The next older node with the same rest. It is often the one before, which is tried first: so a walk needn't wait for
+    /// each link.
+    fn older(&self, at: usize, rest: Option<usize>) -> Option<usize>
+        requires at { at < length self.now.entries }
+        requires older { (entry_at self.now.entries at).older ≡ newest (below at self.now.entries) rest }
+        ensures { result ≡ (entry_at self.now.entries at).older }
+    {
+        if at > 0 && self.nodes[at - 1].rest == rest {
+            return Some(at - 1);
+        }
+        self.nodes[at].older
     }
 
     /// Where the suffix of a node was written, if a pointer can lead there.
