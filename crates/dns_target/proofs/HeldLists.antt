@@ -1,19 +1,22 @@
 -- Places as they lie in memory, looked through from the newest and added to.
-use Rattle.std.proofs.Common.{◌≡◌, ◌≢◌, ℕ, zero, suc, ◌+◌, ◌-◌, ◌<◌, ◌≤◌, Bool, true, false, Option, Some, None, List, [], ◌∷◌, ◌++◌, map, reverse, length, length-drop, take, drop, get_or, ap, sym, ◌∙◌, refl, subst, arith}
+use Rattle.std.proofs.Common.{◌≡◌, ◌≢◌, ℕ, zero, suc, ◌+◌, ◌-◌, ◌<◌, ◌≤◌, Bool, true, false, Option, Some, None, List, [], ◌∷◌, ◌++◌, map, reverse, length, length-drop, take, drop, get_or, append_assoc, ap, sym, ◌∙◌, refl, subst, arith}
 use Rattle.std.specs.Prelude.{IsTrue, ◌↔◌, is_some}
 use Rattle.std.proofs.Common.{below_more}
 use Rattle.std.proofs.Common.{nat_eq}
 use Rattle.std.specs.List.{starts_with}
 use Rattle.std.specs.Cmp.{unsigned_Decides}
 use Rattle.std.proofs.lemmas.Slice.Eq.{starts_is}
-use Rattle.std.proofs.lemmas.List.{reverse-append, map_push, drop_all, take-append-drop, take_all, take_more, get_or-drop}
-use Rattle.dns_wire.proofs.OctetsAt.{at_second}
+use Rattle.std.proofs.lemmas.List.{reverse-append, map_push, drop_all, drop_at, length-take-le, take-append-drop, take_all, take_more, get_or-drop}
 use Rattle.std.specs.FinMap.{get, get-empty}
-use Rattle.dns_wire.specs.Names.{Labels, name_size}
+use Rattle.dns_wire.specs.Names.{Labels, IsName, framed, uncompressed, name_size}
+use Rattle.dns_wire.specs.Standing.{Stands}
+use Rattle.dns_wire.specs.Unique.{same_name}
+use Rattle.dns_wire.proofs.Spelling.{stands_spelled}
+use Rattle.dns_wire.proofs.Stability.{stands_append}
 use Rattle.dns_wire.specs.Memory.{suffix_cmp, Memory, Spot}
 use Rattle.dns_wire.specs.Choice.{first_suffixes, place_of}
 use Rattle.dns_target.specs.declared.places.Held.{Held}
-use Rattle.dns_target.specs.Held.{FirstStands, StandsLabelled, name_in, memory_in, place_in, AreStanding, with_suffixes}
+use Rattle.dns_target.specs.Held.{FirstStands, StandsLabelled, IsSpelled, name_in, memory_in, place_in, AreStanding, with_suffixes}
 use Rattle.dns_target.specs.HeldPlaces.{spot_of, spots_of}
 use Rattle.dns_target.specs.Found.{IsFound}
 use Rattle.dns_target.specs.Lookup.{IsNew}
@@ -144,30 +147,43 @@ one_added xs before after c name w end i k place e l h was is made =
     ∙ ap (λ (p : ℕ). record { place = p; end = end } ∷ with_suffixes xs (drop (k + 1) (first_suffixes c name w)) end) is
     ∙ ap (λ (ss : List (Labels × ℕ)). with_suffixes xs ss end) (sym (drop-first_suffixes c name w k (omega arith) h))
 
--- the first label of a suffix is the label that it begins with
-pub first_of_suffix : (name suffix : Labels) (i : ℕ) (label : List ℕ) → label ≡ get_or name i [] → suffix ≡ drop i name → label ≡ get_or suffix 0 []
-first_of_suffix name suffix i label e f =
-    let z : i + 0 ≡ i = omega arith in
-    e ∙ sym (ap (λ (n : Labels). get_or n 0 []) f ∙ get_or-drop i name 0 [] ∙ ap (λ j. get_or name j []) z)
+-- the first label of a name from one on
+pub first_of_suffix : (name : Labels) (i : ℕ) (label : List ℕ) → label ≡ framed (get_or name i []) → label ≡ framed (get_or (drop i name) 0 [])
+first_of_suffix name i label e = let z : i + 0 ≡ i = omega arith in e ∙ ap framed (sym (get_or-drop i name 0 [] ∙ ap (λ j. get_or name j []) z))
 
--- the octets of the first label stand behind its length octet
-pub label_ahead : (b : List ℕ) (p : ℕ) (name : Labels) (label : List ℕ) → FirstStands b p name → label ≡ get_or name 0 [] → (rest : List ℕ) × (drop (p + 1) b ≡ label ++ rest)
-label_ahead b p [] label h is = absurd h
-label_ahead b p (first ∷ others) label h is =
-    let at = at_second (length first ∷ []) {ys = first} h in
-    let k = p + 1 + length first - (p + 1) in
-    (drop k (drop (p + 1) b), sym (take-append-drop k (drop (p + 1) b)) ∙ ap (λ (xs : List ℕ). xs ++ drop k (drop (p + 1) b)) (at.same ∙ sym is))
+-- a name that begins with a label at a place has it there, behind its length octet
+framed_ahead : (b : List ℕ) (p : ℕ) (name : Labels) (label : List ℕ) → FirstStands b p name → label ≡ framed (get_or name 0 []) → (rest : List ℕ) × (drop p b ≡ label ++ rest)
+framed_ahead b p [] label h is = absurd h
+framed_ahead b p (first ∷ others) label h is =
+    let k = p + length (framed first) - p in
+    (drop k (drop p b), sym (take-append-drop k (drop p b)) ∙ ap (λ (xs : List ℕ). xs ++ drop k (drop p b)) (h.same ∙ sym is))
 
--- so a label that does not stand there is not its first
-pub not_there : (b : List ℕ) (p : ℕ) (name : Labels) (label there : List ℕ) (r : Bool) → label ≡ get_or name 0 [] → there ≡ drop (p + 1) b → r ≡ starts_with nat_eq there label → r ≡ false
+-- so where its first label does not stand there, it doesn't
+pub not_there : (b : List ℕ) (p : ℕ) (name : Labels) (label octets there : List ℕ) (r : Bool) → IsSpelled label octets name → there ≡ drop p b → r ≡ starts_with nat_eq there label → r ≡ false
     → (n : Labels) → StandsLabelled b p n → IsTrue false ↔ (n ≡ name)
-not_there b p name label there r is at test differs n h = (
+not_there b p name label octets there r is at test differs n h = (
   λ f. absurd (cc),
   λ e.
-      let ahead = label_ahead b p name label (subst (λ (s : Labels). FirstStands b p s) e h.label) is in
+      let ahead = framed_ahead b p name label (subst (λ (s : Labels). FirstStands b p s) e h.label) is.label in
       let found : r ≡ true = (starts_is unsigned_Decides there label r test).1 ahead.0 (at ∙ ahead.1) in
       let none : false ≡ true = sym differs ∙ found in none,
 )
+
+-- a name stands where the octets from a place on begin with its own
+stands_begun : (b : List ℕ) (p : ℕ) (name : Labels) (behind : List ℕ) → p ≤ length b → IsName name → drop p b ≡ uncompressed name ++ behind → Stands b p name
+stands_begun b p name behind l n e =
+    let front : length (take p b) ≡ p = length-take-le p b l in
+    let own : drop p (take p b ++ uncompressed name) ≡ uncompressed name = drop_at (take p b) (uncompressed name) p front in
+    let all : (take p b ++ uncompressed name) ++ behind ≡ b = append_assoc (take p b) (uncompressed name) behind ∙ ap (λ (c : List ℕ). take p b ++ c) (sym e) ∙ take-append-drop p b in
+    subst (λ (c : List ℕ). Stands c p name) all (stands_append behind (stands_spelled (take p b ++ uncompressed name) p name n (sym own)))
+
+-- where its octets stand, it does
+pub all_there : (b : List ℕ) (p : ℕ) (name : Labels) (label octets there : List ℕ) (r : Bool) → p < length b → IsSpelled label octets name → there ≡ drop p b → r ≡ starts_with nat_eq there octets → r ≡ true
+    → (n : Labels) → StandsLabelled b p n → IsTrue true ↔ (n ≡ name)
+all_there b p name label octets there r l is at test same n h =
+    let ahead = (starts_is unsigned_Decides there octets r test).0 same in
+    let stands : Stands b p name = stands_begun b p name (drop (length octets) there) (omega arith) is.is_name (sym at ∙ ahead ∙ ap (λ (xs : List ℕ). xs ++ drop (length octets) there) is.octets) in
+    (λ found. same_name b h.stands stands, λ e. refl)
 
 -- all octets from a place on
 pub all_from : (b : List ℕ) (k : ℕ) → take (length b - k) (drop k b) ≡ drop k b

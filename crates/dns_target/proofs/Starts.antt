@@ -1,13 +1,12 @@
 -- Where the labels of a name begin.
-use Rattle.std.proofs.Common.{◌≡◌, ◌≢◌, ℕ, zero, suc, ◌+◌, ◌*◌, ◌<◌, ◌≤◌, List, [], ◌∷◌, ◌++◌, length, length-append, take, drop, get_or, append_assoc, ap, sym, ◌∙◌, refl, subst, arith}
+use Rattle.std.proofs.Common.{◌≡◌, ◌≢◌, ℕ, zero, suc, ◌+◌, ◌-◌, ◌*◌, ◌<◌, ◌≤◌, List, [], ◌∷◌, ◌++◌, length, length-append, take, drop, get_or, append_assoc, ap, sym, ◌∙◌, refl, subst, arith}
 use Rattle.std.specs.List.{All}
 use Rattle.std.proofs.lemmas.Grind.{common_steps}
 use Rattle.std.proofs.lemmas.List.{append-nil, drop-drop, drop_more, drop_at, take_at, get_or-drop}
 use Rattle.std.proofs.lemmas.List.Elements.{All-head, All-tail, All-get_or}
-use Rattle.dns_wire.specs.Names.{Labels, IsLabel, IsName, uncompressed, name_size}
+use Rattle.dns_wire.specs.Names.{Labels, IsLabel, IsName, framed, uncompressed, name_size}
 use Rattle.dns_wire.proofs.LabelsLemmas.{length-uncompressed}
-use Rattle.dns_wire.specs.Standing.{Stands}
-use Rattle.dns_wire.proofs.Spelling.{name_tail, stands_spelled}
+use Rattle.dns_wire.proofs.Spelling.{name_tail}
 use Rattle.dns_target.specs.Lookup.{starts_of}
 
 -- each label has a start
@@ -166,13 +165,21 @@ before_fits n octets i start h e l is =
     let long : length octets ≡ name_size n + 1 = ap length e ∙ length-uncompressed n in
     (omega (arith, h.short), omega arith)
 
--- the name from a label on stands where that label begins
-pub suffix_stands : (n : Labels) (i : ℕ) (octets : List ℕ) (start : ℕ) → IsName n → octets ≡ uncompressed n → i < length n → start ≡ name_size (take i n)
-    → Stands octets start (drop i n)
-suffix_stands n i octets start h e l is =
-    stands_spelled octets start (drop i n) (suffix_name n i h) (sym (ap (drop start) e ∙ ap (λ (k : ℕ). drop k (uncompressed n)) is ∙ drop-uncompressed n i (omega arith)))
-  where
-    suffix_name : (n : Labels) (i : ℕ) → IsName n → IsName (drop i n)
-    suffix_name n zero h = h
-    suffix_name [] (suc i) h = h
-    suffix_name (label ∷ rest) (suc i) h = suffix_name rest i (name_tail label rest h).1
+-- with it a label
+pub framed-slice : (n : Labels) (i : ℕ) (octets : List ℕ) (start b : ℕ) → i < length n → octets ≡ uncompressed n → start ≡ name_size (take i n)
+    → b ≡ get_or octets start 0 → take (start + 1 + b - start) (drop start octets) ≡ framed (get_or n i [])
+framed-slice n i octets start b l e is this =
+    let size : start + 1 + b - start ≡ suc (length (get_or n i [])) = let k = this ∙ label-octet n i octets start l e is in omega arith in
+    let there = ap (drop start) e ∙ ap (λ (k : ℕ). drop k (uncompressed n)) is ∙ label_there n i l in
+    rw size (ap (take (suc (length (get_or n i [])))) there ∙ take_at (framed (get_or n i [])) (uncompressed (drop (i + 1) n)) (suc (length (get_or n i []))) refl)
+
+-- the octets from a start on are those of the name from that label on
+pub tail-slice : (n : Labels) (i : ℕ) (octets : List ℕ) (start : ℕ) → i < length n → octets ≡ uncompressed n → start ≡ name_size (take i n)
+    → drop start octets ≡ uncompressed (drop i n)
+tail-slice n i octets start l e is = ap (drop start) e ∙ ap (λ (k : ℕ). drop k (uncompressed n)) is ∙ drop-uncompressed n i (omega arith)
+
+-- which is a name too
+pub tail_name : (n : Labels) (i : ℕ) → IsName n → IsName (drop i n)
+tail_name n zero h = h
+tail_name [] (suc i) h = h
+tail_name (label ∷ rest) (suc i) h = tail_name rest i (name_tail label rest h).1

@@ -1,8 +1,8 @@
 -- Suffixes that are held by their places alone, the newest first: each is the name that stands there. RFC 1035 section 4.1.4.
-use Rattle.std.specs.Prelude.{◌≡◌, ℕ, ◌≤◌, nat_le, ◌⊎◌, Option, None, Some, List, [], ◌∷◌, if◌then◌else◌}
+use Rattle.std.specs.Prelude.{◌≡◌, ℕ, ◌≤◌, nat_le, ◌⊎◌, Option, None, Some, List, [], ◌∷◌, get_or, if◌then◌else◌}
 use Rattle.std.specs.FinMap.{get, from_entries}
 use Rattle.std.proofs.Common.{inl, inr}
-use Rattle.dns_wire.specs.Names.{Labels, framed}
+use Rattle.dns_wire.specs.Names.{Labels, IsName, framed, uncompressed}
 use Rattle.dns_wire.specs.Memory.{suffix_cmp, Memory, Spot}
 use Rattle.dns_wire.specs.Pieces.{Rule, Plain}
 use Rattle.dns_wire.specs.Standing.{Stands}
@@ -67,6 +67,12 @@ FirstStands b p (label ∷ others) = At b p (framed label)
 pub record StandsLabelled (b : List ℕ) (p : ℕ) (name : Labels) : Type 0 where
   pub label : FirstStands b p name
   pub stands : Stands b p name
+
+-- a name by its first label behind its length octet, and by its octets without pointers
+pub record IsSpelled (first all : List ℕ) (name : Labels) : Type 0 where
+  pub is_name : IsName name
+  pub label : first ≡ framed (get_or name 0 [])
+  pub octets : all ≡ uncompressed name
 
 -- such a name stands at each place
 abbrev pub AreStanding : List ℕ → List Spot → Type 0

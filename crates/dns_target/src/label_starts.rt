@@ -6,7 +6,6 @@ ghost use Rattle.dns_wire.specs.Names.{IsName, framed, uncompressed, name_size, 
 ghost use Rattle.dns_wire.specs.ParsedName.{labels};
 ghost use Rattle.dns_target.specs.Lookup.{IsStarted};
 
-use crate::standing::name_at;
 use arrayvec::ArrayVec;
 use dns_wire::ParsedName;
 use std::marker::Model;
@@ -93,11 +92,23 @@ impl<'a> LabelStarts<'a> {
         self.octets
     }
 
-    /// The name from a label on.
-    pub(crate) fn suffix(&self, index: usize) -> ParsedName<'_>
+    /// The octets of a label behind its length octet.
+    pub(crate) fn framed(&self, index: usize) -> &[u8]
         requires { index < length self.now }
-        ensures { labels result ≡ drop index self.now }
+        ensures { result.now ≡ framed (get_or self.now index []) }
     {
-        name_at(self.octets(), self.start(index)).unwrap()
+        let start = self.start(index);
+        let octets = self.octets;
+        let end = start + 1 + usize::from(octets[start]);
+        &octets[start..end]
+    }
+
+    /// The octets without pointers of the name from a label on.
+    pub(crate) fn tail(&self, index: usize) -> &[u8]
+        requires { index < length self.now }
+        ensures octets { result.now ≡ uncompressed (drop index self.now) }
+        ensures name { IsName (drop index self.now) }
+    {
+        &self.octets()[self.start(index)..]
     }
 }

@@ -1,8 +1,7 @@
 //! Suffixes of names that are held by their places alone.
-ghost use Rattle.std.specs.Prelude.{◌≡◌, ◌+◌, ◌<◌, ◌≤◌, ◌∷◌, [], length, get_or, ℕ, IsOk, IfOk};
+ghost use Rattle.std.specs.Prelude.{◌≡◌, ◌+◌, ◌<◌, ◌≤◌, ◌∷◌, [], length, drop, ℕ, IsOk, IfOk};
 ghost use Rattle.std.specs.FinMap.{get};
 ghost use Rattle.dns_wire.specs.Choice.{first_suffixes, place_of};
-ghost use Rattle.dns_wire.specs.ParsedName.{labels as labels_of};
 ghost use Rattle.dns_target.specs.Found.{IsFound};
 ghost use Rattle.dns_target.specs.Held.{AreStanding, memory_in, place_in, cut_spots, with_suffixes};
 
@@ -10,7 +9,6 @@ use crate::label_starts::LabelStarts;
 use crate::standing::stands;
 use crate::texts::{Found, PLACES_END};
 use arrayvec::ArrayVec;
-use dns_wire::ParsedName;
 use std::alloc::AllocError;
 use std::marker::Model;
 
@@ -71,12 +69,14 @@ impl Places {
         self.held.len()
     }
 
-    /// Where a name stands that is held. `label` is the first of its labels.
-    fn find(&self, content: &[u8], label: &[u8], name: &ParsedName<'_>) -> Option<u16>
+    /// Where a name stands that is held: the one from a label on.
+    fn find(&self, content: &[u8], labels: &LabelStarts<'_>, from: usize) -> Option<u16>
         requires standing { AreStanding content.now self.now }
-        requires label { label.now ≡ get_or (labels_of name.now) 0 [] }
-        ensures { result ≡ place_in (get (memory_in content.now self.now) (labels_of name.now)) }
+        requires from { from < length labels.now }
+        ensures { result ≡ place_in (get (memory_in content.now self.now) (drop from labels.now)) }
     {
+        let label = labels.framed(from);
+        let name = labels.tail(from);
         let mut index = self.held.len();
         while index > 0 {
             index -= 1;
@@ -94,7 +94,7 @@ impl Places {
         ensures { IsFound (memory_in content.now self.now) labels.now result.from result.place }
     {
         for from in 0..labels.len() {
-            let place = self.find(content, labels.label(from), &labels.suffix(from));
+            let place = self.find(content, labels, from);
             if place.is_some() {
                 return Found { from, place };
             }
