@@ -1,5 +1,5 @@
 //! The octets that are written of a name.
-ghost use Rattle.std.specs.Prelude.{◌≡◌, ◌++◌, ◌<◌, ◌≤◌, length, take};
+ghost use Rattle.std.specs.Prelude.{◌≡◌, ◌++◌, ◌<◌, ◌≤◌, [], length, take};
 ghost use Rattle.dns_wire.specs.Names.{uncompressed, name_size};
 ghost use Rattle.dns_wire.specs.Pieces.{put_octets};
 ghost use Rattle.dns_wire.specs.PutName.{pointer};
@@ -30,19 +30,26 @@ pub(crate) fn reaches(labels: &LabelStarts<'_>, place: usize, from: usize) -> bo
     from == 0 || place < PLACES_END - labels.start(from - 1)
 }
 
-/// The octets of the labels before `from`, and a pointer to a place.
-fn with_pointer(labels: &LabelStarts<'_>, from: usize, at: u16) -> ArrayVec<u8, 255>
+/// The octets of a pointer to a place.
+fn pointer_to(at: u16) -> [u8; 2]
+    requires { at < PLACES_END }
+    ensures { result ≡ pointer at }
+{
+    [192 + (at / 256) as u8, (at % 256) as u8]
+}
+
+/// Writes the octets of the labels before `from`, and a pointer to a place.
+fn write_with_pointer(labels: &LabelStarts<'_>, from: usize, at: u16, text: &mut ArrayVec<u8, 255>)
     requires from { from < length labels.now }
     requires at { at < PLACES_END }
-    ensures { result.items ≡ take (name_size (take from labels.now)) (uncompressed labels.now) ++ pointer at }
+    requires text { text.old.items ≡ [] }
+    ensures { text.new.items ≡ take (name_size (take from labels.now)) (uncompressed labels.now) ++ pointer at }
 {
     let octets = labels.octets();
     let before = labels.start(from);
-    let mut text = ArrayVec::new();
     text.try_extend_from_slice(&octets[..before]).unwrap();
     text.push(192 + (at / 256) as u8);
     text.push((at % 256) as u8);
-    text
 }
 
 /// Appends the labels before `from`, and a pointer to a place.
@@ -56,7 +63,12 @@ pub(crate) fn append_with_pointer<T: Composer>(
     requires at { at < PLACES_END }
     ensures { Appends T.room T.grows (put_octets (take (name_size (take from labels.now)) (uncompressed labels.now) ++ pointer at)) (T.written target.old) (T.written target.new) result }
 {
-    target.append_slice(with_pointer(labels, from, at).as_slice())
+    if from == 0 {
+        return target.append_slice(&pointer_to(at));
+    }
+    let mut text = ArrayVec::new();
+    write_with_pointer(labels, from, at, &mut text);
+    target.append_slice(text.as_slice())
 }
 
 /// Appends the labels that are not remembered, and a pointer to the others, if there are any.
