@@ -1,9 +1,10 @@
 //! Suffixes of names, each looked up by its first label and the place of the others.
-ghost use Rattle.std.specs.Prelude.{◌≡◌, ◌+◌, ◌<◌, ◌≤◌, ◌∷◌, [], length, ℕ, None, OnOk, IfOk};
+ghost use Rattle.std.specs.Prelude.{◌≡◌, ◌+◌, ◌<◌, ◌≤◌, ◌∷◌, [], length, ℕ, None, OnOk, IfOk, IsTrue};
 ghost use Rattle.dns_wire.specs.Choice.{place_of};
 ghost use Rattle.dns_wire.specs.Memory.{Memory};
 ghost use Rattle.dns_target.specs.Found.{IsFound};
-ghost use Rattle.dns_target.specs.Table.{IsIndexed, AreFresh, find, with_keys, cut_suffixes};
+ghost use Rattle.dns_target.specs.Held.{AreOrdered};
+ghost use Rattle.dns_target.specs.Table.{IsIndexed, AreFresh, find, with_keys, cut_suffixes, spots_in};
 
 use crate::label_starts::LabelStarts;
 use crate::texts::{Found, PLACES_END};
@@ -222,8 +223,39 @@ impl Suffixes {
         });
     }
 
+    /// Whether all names end past `len`: so they do where the oldest does.
+    fn ends_past(&self, len: usize) -> bool
+        requires { AreOrdered (spots_in self.now.suffixes) }
+        ensures { IsTrue result → cut_suffixes len self.now.suffixes ≡ [] }
+    {
+        match self.keys.first() {
+            Some(first) => first.end > len,
+            None => false,
+        }
+    }
+
+    /// Takes out all suffixes.
+    fn clear(&mut self)
+        ensures { self.new.suffixes ≡ [] }
+    {
+        self.places.clear();
+        self.keys.clear();
+    }
+
     /// Takes out the suffixes of names that end past `len`.
     pub(crate) fn cut(&mut self, len: usize)
+        requires { AreOrdered (spots_in self.old.suffixes) }
+        ensures { self.new.suffixes ≡ cut_suffixes len self.old.suffixes }
+    {
+        if self.ends_past(len) {
+            self.clear();
+            return;
+        }
+        self.cut_from_end(len);
+    }
+
+    /// Takes out the suffixes of names that end past `len`, one after another.
+    fn cut_from_end(&mut self, len: usize)
         ensures { self.new.suffixes ≡ cut_suffixes len self.old.suffixes }
     {
         while let Some(last) = self.keys.last() {
