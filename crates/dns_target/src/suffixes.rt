@@ -118,17 +118,6 @@ impl Key {
     }
 }
 
-/// The key of a label before a rest.
-fn key_of(label: &[u8], rest: Option<u16>) -> Key
-    requires { length label.now ≤ 63 }
-    ensures label { result.label.items ≡ label.now }
-    ensures rest { result.rest ≡ rest }
-{
-    let mut key = Key::new();
-    key.set(label, rest);
-    key
-}
-
 impl Suffixes {
     pub(crate) fn new(alloc: Global) -> Self
         ensures { result.suffixes ≡ [] }
@@ -215,12 +204,14 @@ impl Suffixes {
         ensures suffixes { self.new.suffixes ≡ record { label = label.now; rest = rest; place = place; end = end } ∷ self.old.suffixes }
         ensures room { self.old.room ≤ self.new.room + 1 }
     {
+        // Each is set in its place, as a key takes longer to move right behind that.
+        let mut key = Key::new();
+        key.set(label, rest);
+        let mut kept = Key::new();
+        kept.set(label, rest);
         // There is room for it, and the key is new.
-        let _ = self.places.insert(key_of(label, rest), place);
-        self.keys.push_reserved(EndedKey {
-            key: key_of(label, rest),
-            end,
-        });
+        let _ = self.places.insert(key, place);
+        self.keys.push_reserved(EndedKey { key: kept, end });
     }
 
     /// Whether all names end past `len`: so they do where the oldest does.
