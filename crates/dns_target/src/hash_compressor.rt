@@ -20,7 +20,7 @@ use std::marker::Model;
 /// A target that compresses names, over one that doesn't (RFC 1035 section 4.1.4).
 ///
 /// It remembers all suffixes that it writes out of a name, or none of them where one begins at 16,384 or further on, and
-/// knows them again octet for octet. Its hash is fast and has no seed: for names that strangers choose,
+/// knows them again octet for octet. Its hash is fast and has a fixed seed: for names that strangers choose,
 /// [`TreeCompressor`](crate::TreeCompressor) is the one to use.
 #[derive(Debug, Drop)]
 pub struct HashCompressor<Target: Composer> {

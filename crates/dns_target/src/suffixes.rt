@@ -204,7 +204,7 @@ impl Suffixes {
         ensures suffixes { self.new.suffixes ≡ record { label = label.now; rest = rest; place = place; end = end } ∷ self.old.suffixes }
         ensures room { self.old.room ≤ self.new.room + 1 }
     {
-        // Each is set in its place, as a key takes longer to move right behind that.
+        // Each key is set where it is kept: to move one that was just written takes longer.
         let mut key = Key::new();
         key.set(label, rest);
         let mut kept = Key::new();
