@@ -1,7 +1,5 @@
 //! The labels of a name, and where they begin in its octets without pointers.
-ghost use Rattle.std.specs.Prelude.{◌≡◌, ◌≤◌, ◌<◌, ◌+◌, ◌++◌, [], length, take, drop, get_or};
-ghost use Rattle.arrayvec.specs.ArrayVec.{array_vec_len};
-ghost use Rattle.dns_wire.specs.Label.{label_octets};
+ghost use Rattle.std.specs.Prelude.{◌≡◌, ◌≤◌, ◌<◌, [], length, take, drop, get_or};
 ghost use Rattle.dns_wire.specs.Names.{IsName, framed, uncompressed, name_size, max_size};
 ghost use Rattle.dns_wire.specs.ParsedName.{labels};
 ghost use Rattle.dns_target.specs.Lookup.{IsStarted};

@@ -6,8 +6,8 @@
 //! - [`StreamTarget`] holds the length of its message before it (RFC 1035 section 4.2.2). It doesn't compress.
 //! - [`StaticCompressor`] remembers 24 suffixes by their places, and takes no memory of its own.
 //! - [`TreeCompressor`] remembers each suffix that a pointer can lead to.
-//! - [`HashCompressor`] does so by a hash that is fast and has a fixed seed, for names that no stranger chooses. A name of which
-//!   a suffix begins too far for a pointer isn't remembered at all.
+//! - [`HashCompressor`] does so by a hash that is fast and has a fixed seed, for names that no stranger chooses. A name
+//!   of which a suffix begins too far for a pointer isn't remembered at all.
 #![tactic(auto)]
 
 mod hash_compressor;

@@ -59,11 +59,17 @@ fn is_full_at_65535_octets(rt: HostRuntime) -> Result<(), Fail> {
     target.append_slice(octets.as_slice())?;
     assert!(rt; matches!(target.append_slice(b"ab"), Err(AppendError::ShortBuf)));
     assert_eq!(rt; target.as_dgram_slice().len(), 65_534);
-    assert_eq!(rt; target.as_stream_slice().get(..2), Some(b"\xFF\xFE".as_slice()));
+    assert_eq!(rt;
+        target.as_stream_slice().get(..2),
+        Some(b"\xFF\xFE".as_slice())
+    );
     target.append_slice(b"a")?;
     assert!(rt; matches!(target.append_slice(b"b"), Err(AppendError::ShortBuf)));
     assert_eq!(rt; target.as_dgram_slice().len(), 65_535);
-    assert_eq!(rt; target.as_stream_slice().get(..2), Some(b"\xFF\xFF".as_slice()));
+    assert_eq!(rt;
+        target.as_stream_slice().get(..2),
+        Some(b"\xFF\xFF".as_slice())
+    );
     Ok(())
 }
 
