@@ -1,4 +1,4 @@
-//! Ten histories of the program over each compressor that end in the same items: the octets are the same.
+//! Ten scripts of the program, over each compressor, that end with the same items standing: their octets are the same.
 use dns_message::tool;
 use std::alloc::Global;
 use std::process::Abort;
@@ -9,7 +9,7 @@ use std::test::Fail;
 const ITEMS: &str =
     "question\npush example.com. A\nanswer\npush www.example.com. 60 IN A 192.0.2.1\nauthority\npush example.com. 60 IN NS ns.example.com.\nadditional\npush ns.example.com. 60 IN A 192.0.2.2\n";
 
-/// What builds the same on top of `ITEMS`, or before it.
+/// Lines before `ITEMS` and behind them that leave the same items standing.
 const ADDITIONS: [(&str, &str); 10] = [
     ("", ""),
     // taken out by a rewind, in each section
@@ -55,7 +55,7 @@ const ADDITIONS: [(&str, &str); 10] = [
     ),
 ];
 
-/// The octets of the message, with each name by the longest suffix before it.
+/// The octets of the message: where a suffix of a name stands before it, the longest is a pointer.
 const OCTETS: &str =
     "000000000001000100010001076578616d706c6503636f6d000001000103777777c00c000100010000003c0004c0000201c00c000200010000003c0005026e73c00cc03d000100010000003c0004c0000202\n";
 
