@@ -6,3 +6,5 @@ pub mod Moves
 pub mod RecordMoves
 pub mod Shown
 pub mod TcLemmas
+pub mod FilledFolds
+pub mod ShortestFolds

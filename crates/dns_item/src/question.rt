@@ -148,10 +148,10 @@ impl<N: ToName> Question<N> {
         ensures composes { Composes T.room T.grows (put_question T.rule (question_item N.name self.now)) (T.written target.old) (T.written target.new) result }
         ensures item { IsQuestion (question_item N.name self.now) }
     {
-        let name = self.qname.as_parsed();
         let [a, b] = self.qtype().to_int().to_be_bytes();
         let [c, d] = self.qclass().to_int().to_be_bytes();
-        target.append_compressed_name(&name)?;
+        let _ = self.qname.as_parsed();
+        target.append_compressed_name(&self.qname)?;
         target.append_slice(&[a, b, c, d])
     }
 }

@@ -1,10 +1,10 @@
 -- What a list of calls makes of a builder, by the replies to them. RFC 1035 section 4.1.
-use Rattle.std.specs.Prelude.{◌≡◌, ℕ, Bool, true, false, Option, Ok, Err, List, [], ◌∷◌, length, ⊤}
+use Rattle.std.specs.Prelude.{◌≡◌, ℕ, Bool, true, false, Option, Ok, Err, List, [], ◌∷◌, ◌++◌, length, ⊤}
 use Rattle.dns_wire.specs.Pieces.{Rule}
 use Rattle.dns_item.specs.Items.{QuestionItem, RecordItem}
 use Rattle.dns_build.specs.Built.{Built, PushAnswers}
 use Rattle.dns_build.specs.Fold.{fold}
-use Rattle.dns_build.specs.ReadsBack.{ReadsBack}
+use Rattle.dns_build.specs.MessageOf.{IsMessageOf}
 use Rattle.dns_build.specs.Standing.{StandsFor}
 use Rattle.dns_build.specs.State as state
 use Rattle.dns_build.specs.State.{State, InBuilder, InQuestion, InAnswer, InAuthority, InAdditional, with_question, with_record, records_at, with_header, with_limit, no_limit, rewound, tc_rewound, move_to}
@@ -132,9 +132,15 @@ module _ (room : Option ℕ) (grows : Bool) where
     abbrev pub Steps : {T : Type 0} → Stage T → Call Q R → Reply → Stage T → Type 0
     Steps old call reply new = (s : State) → StageStandsFor rule s old → IsReply s call reply × StageStandsFor rule (after question item s call reply) new
 
-    -- The headline: from a state that the stage stands for, through a list of calls, the replies are those of the calls one by one; the new stage stands for the state after them; its octets are one fold's over that state, and read back as that state.
+    -- The headline: from a state, through a list of calls, the replies are those of the calls one by one; the new stage stands for the state after them, and its octets are those of a message with that state's header and items.
     pub record Runs {T : Type 0} (s : State) (calls : List (Call Q R)) (replies : List Reply) (new : Stage T) : Type 0 where
       pub replied : AreReplies s calls replies
       pub stands : StageStandsFor rule (after_all question item s calls replies) new
-      pub octets : octets_of new ≡ (fold rule (after_all question item s calls replies)).octets
-      pub reads_back : ReadsBack (after_all question item s calls replies) (octets_of new)
+      pub message : IsMessageOf rule (after_all question item s calls replies) (octets_of new)
+
+    -- The calls are made in order on a stage, and behind the replies before stands one to each. From each state that the stage stands for, it runs so.
+    pub record RunsAll {T : Type 0} (old : Stage T) (calls : List (Call Q R)) (before replies : List Reply) (new : Stage T) : Type 0 where
+      pub told : List Reply
+      pub appended : replies ≡ before ++ told
+      pub one_each : length told ≡ length calls
+      pub runs : (s : State) → StageStandsFor rule s old → Runs s calls told new

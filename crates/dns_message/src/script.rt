@@ -1,9 +1,8 @@
 //! Lists of calls on the builders of a message.
-ghost use Rattle.std.specs.Prelude.{◌≡◌, ◌++◌, IfOk, IfErr, OnErr, List, MatchResult};
-ghost use Rattle.dns_build.specs.State.{State};
-ghost use Rattle.dns_message.specs.Script.{StageStandsFor, Steps, Runs, octets_of};
+ghost use Rattle.std.specs.Prelude.{◌≡◌, IfOk, IfErr, OnErr, MatchResult};
+ghost use Rattle.dns_message.specs.Script.{Steps, RunsAll, octets_of};
 
-use dns_build::laws::folds_read_back;
+use dns_build::laws::folds_are_messages;
 use dns_build::{
     AdditionalBuilder, AnswerBuilder, AuthorityBuilder, MessageBuilder, PushError, QuestionBuilder,
 };
@@ -298,7 +297,10 @@ pub fn run<T: Composer, Q: ComposeQuestion, R: ComposeRecord>(
 ) -> Result<Stage<T>, Stage<T>>
     ensures same { IfErr result (λ same. same ≡ stage) }
     ensures untold { OnErr result (replies.new.items ≡ replies.old.items) }
-    ensures ran { IfOk result (λ new. (told : List Reply) × (replies.new.items ≡ replies.old.items ++ told) × ((s : State) → StageStandsFor T.rule s stage → Runs T.room T.grows Q.question R.item T.rule s calls.now told new)) }
+    ensures ran {
+        IfOk result (λ new.
+            RunsAll T.room T.grows Q.question R.item T.rule stage calls.now replies.old.items replies.new.items new)
+    }
 {
     if replies.reserve(calls.len()).is_err() {
         return Err(stage);
@@ -309,6 +311,6 @@ pub fn run<T: Composer, Q: ComposeQuestion, R: ComposeRecord>(
         stage = next;
         replies.push_reserved(reply);
     }
-    folds_read_back();
+    folds_are_messages();
     Ok(stage)
 }

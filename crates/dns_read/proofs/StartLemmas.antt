@@ -7,7 +7,7 @@ use Rattle.dns_read.specs.Reading.{Passed, StopsPassing}
 use Rattle.dns_read.specs.Reading.Passed.{none, more}
 use Rattle.dns_read.specs.Reading.StopsPassing.{here, behind}
 use Rattle.dns_read.specs.Sections.{header_size, question_count, answer_count, authority_count, AnswersStart, AuthoritiesStart, AdditionalsStart, AnswersFault, AuthoritiesFault, AdditionalsFault}
-use Rattle.dns_read.specs.Readings.{OneStart, StartsOrFaults, StartOrFault}
+use Rattle.dns_read.specs.Readings.{QuestionsPassOrStop, RecordsPassOrStop, OneStart, StartsOrFaults, StartOrFault}
 
 module _ {Skips : ℕ → ℕ → Type 0} {FaultOf : ℕ → Fault → Type 0} (each : EndsOrFaults Skips FaultOf) where
   -- what passing is, and what stopping is, by how many entries there are
@@ -63,8 +63,16 @@ module _ {Skips : ℕ → ℕ → Type 0} {FaultOf : ℕ → Fault → Type 0} (
       ]
 
   -- so many entries are passed, or one of them has a fault
-  pub passes_or_stops : (n : ℕ) → EndsOrFaults (Passed Skips n) (StopsPassing Skips FaultOf n)
+  passes_or_stops : (n : ℕ) → EndsOrFaults (Passed Skips n) (StopsPassing Skips FaultOf n)
   passes_or_stops n = record { some = passed_or_stopped n; one = one_passed n; not_both = passed_not_stopped n; one_fault = one_stop n }
+
+-- so for questions
+pub questions_pass_or_stop : QuestionsPassOrStop
+questions_pass_or_stop b n = passes_or_stops (question_end_or_fault b) n
+
+-- and for records
+pub records_pass_or_stop : RecordsPassOrStop
+records_pass_or_stop b n = passes_or_stops (record_end_or_fault b) n
 
 -- the section behind one that starts, or has no start
 module _ {Start : ℕ → Type 0} {NoStart : Fault → Type 0} {Skips : ℕ → ℕ → Type 0} {FaultOf : ℕ → Fault → Type 0} (before : StartsOrFaults Start NoStart) (each : EndsOrFaults Skips FaultOf) where
@@ -103,14 +111,14 @@ module _ {Start : ℕ → Type 0} {NoStart : Fault → Type 0} {Skips : ℕ → 
 
 answers : (b : List ℕ) → StartsOrFaults (AnswersStart b) (AnswersFault b)
 answers b =
-    let all = passes_or_stops (question_end_or_fault b) (question_count b) in
+    let all = questions_pass_or_stop b (question_count b) in
     record { some = all.some header_size; one = all.one header_size; not_both = all.not_both header_size; one_fault = all.one_fault header_size }
 
 authorities : (b : List ℕ) → StartsOrFaults (AuthoritiesStart b) (AuthoritiesFault b)
-authorities b = section_behind (answers b) (passes_or_stops (record_end_or_fault b) (answer_count b))
+authorities b = section_behind (answers b) (records_pass_or_stop b (answer_count b))
 
 additionals : (b : List ℕ) → StartsOrFaults (AdditionalsStart b) (AdditionalsFault b)
-additionals b = section_behind (authorities b) (passes_or_stops (record_end_or_fault b) (authority_count b))
+additionals b = section_behind (authorities b) (records_pass_or_stop b (authority_count b))
 
 pub start_or_fault : StartOrFault
 start_or_fault = record { answers = answers; authorities = authorities; additionals = additionals }

@@ -1,8 +1,9 @@
 -- Each section of all octets has one reading, and one start or one fault. RFC 1035 section 4.1.
 use Rattle.std.specs.Prelude.{◌≡◌, ℕ, suc, ◌≤◌, ◌⊎◌, List, [], ◌∷◌, ◌++◌, length, Result, Ok, Err}
 use Rattle.dns_wire.specs.Fault.{Fault}
-use Rattle.dns_item.specs.Entries.{ReadsQuestion, ReadsRecord, QuestionFaultAt, RecordFaultAt}
-use Rattle.dns_read.specs.Reading.{Reading}
+use Rattle.dns_item.specs.Entries.{SkipsQuestion, SkipsRecord, ReadsQuestion, ReadsRecord, QuestionFaultAt, QuestionSkipFaultAt, RecordFaultAt, RecordSkipFaultAt}
+use Rattle.dns_item.specs.EntryLaws.{EndsOrFaults}
+use Rattle.dns_read.specs.Reading.{Passed, StopsPassing, Reading}
 use Rattle.dns_read.specs.Sections.{AnswersStart, AuthoritiesStart, AdditionalsStart, AnswersFault, AuthoritiesFault, AdditionalsFault}
 
 -- from each place on there is a reading of at most so many entries, and no other
@@ -38,6 +39,14 @@ ReadingsOfQuestionsEnd = (b : List ℕ) → ReadingsEnd (ReadsQuestion b) (Quest
 -- and for records
 abbrev pub ReadingsOfRecordsEnd : Type 0
 ReadingsOfRecordsEnd = (b : List ℕ) → ReadingsEnd (ReadsRecord b) (RecordFaultAt b)
+
+-- From each place on, so many questions are passed to exactly one end, or one of them stops passing with exactly one fault, and never both.
+abbrev pub QuestionsPassOrStop : Type 0
+QuestionsPassOrStop = (b : List ℕ) (n : ℕ) → EndsOrFaults (Passed (SkipsQuestion b) n) (StopsPassing (SkipsQuestion b) (QuestionSkipFaultAt b) n)
+
+-- so for records
+abbrev pub RecordsPassOrStop : Type 0
+RecordsPassOrStop = (b : List ℕ) (n : ℕ) → EndsOrFaults (Passed (SkipsRecord b) n) (StopsPassing (SkipsRecord b) (RecordSkipFaultAt b) n)
 
 -- each section starts at one place at most
 pub record OneStart : Type 0 where

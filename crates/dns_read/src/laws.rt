@@ -2,6 +2,7 @@
 ghost use Rattle.dns_read.specs.QuestionsFrom.{QuestionsFromAreRead};
 ghost use Rattle.dns_read.specs.RecordsFrom.{RecordsFromAreRead};
 ghost use Rattle.dns_read.specs.Readings.{OneReadingOfQuestions, OneReadingOfRecords, OneStart, StartOrFault, ReadingsOfQuestionsEnd, ReadingsOfRecordsEnd};
+ghost use Rattle.dns_read.specs.Readings.{QuestionsPassOrStop, RecordsPassOrStop};
 
 /// From each place on, at most so many questions or records have exactly one reading.
 pub fn one_reading()
@@ -15,6 +16,13 @@ pub fn one_reading()
 pub fn readings_end()
     ensures questions { ReadingsOfQuestionsEnd }
     ensures records { ReadingsOfRecordsEnd }
+{}
+
+/// From each place on, so many questions can be passed to exactly one end, or exactly one fault stops that, never both; so
+/// for records. So what skipping the rest of a section answers is determined.
+pub fn passed_or_stopped()
+    ensures questions { QuestionsPassOrStop }
+    ensures records { RecordsPassOrStop }
 {}
 
 /// Each section starts at one place at most.

@@ -30,6 +30,7 @@ impl<'a> RecordSection<'a> {
     ghost use Rattle.dns_read.specs.Skipping.{CountsDown};
 
     /// The section that begins at the parser's place, with all of its records to come.
+    #[inline(always)]
     pub(crate) fn at(section: Section, parser: Parser<'a>) -> Self
         requires long { header_size ≤ length (input parser) }
         requires whole { seen parser ≡ input parser }
@@ -59,6 +60,7 @@ impl<'a> RecordSection<'a> {
     /// The next record, or the error of the first that can't be read. After that there are no more.
     ///
     /// The cursor is then behind the record. At one that can't be read, and at the end, it stays.
+    #[inline(always)]
     pub fn next(&mut self) -> Option<Result<ParsedRecord<'a>, ParseError>>
         ensures steps { YieldsFirstBy record_answer records_left self.old result self.new }
         ensures passes { PassesRecord self.old self.new result }
@@ -83,6 +85,7 @@ impl<'a> RecordSection<'a> {
     ///
     /// The records that are left are skipped, so they need not be readable. The fault of the first that can't be skipped
     /// is answered; and where the cursor gave an error, the same error again, save on the additional section.
+    #[inline(always)]
     pub fn next_section(self) -> Result<Option<RecordSection<'a>>, ParseError>
         ensures { MovesOn self.entry result }
     {
@@ -95,6 +98,7 @@ impl<'a> RecordSection<'a> {
     }
 
     /// The next section of one that isn't the last.
+    #[inline(always)]
     pub(crate) fn following(self) -> Result<RecordSection<'a>, ParseError>
         requires { section_of self ≢ Additional }
         ensures { MovesToNext self.entry result }
@@ -124,6 +128,7 @@ impl<'a> Iterator for RecordSection<'a> {
 
     ghost remaining = { item_count records_left };
 
+    #[inline(always)]
     fn next(&mut self) -> Option<Self::Item> {
         RecordSection::next(self)
     }

@@ -143,7 +143,7 @@ impl<Target: Composer> Composer for StaticCompressor<Target> {
 
     fn append_compressed_name<N: ToName>(&mut self, name: &N) -> Result<(), AppendError> {
         let parsed = name.as_parsed();
-        match parsed.as_flat_slice() {
+        match name.as_flat_slice() {
             Some(octets) => self.append_name(parsed, octets),
             None => self.append_name(parsed, parsed.uncompressed().as_slice()),
         }

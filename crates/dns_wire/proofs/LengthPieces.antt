@@ -28,11 +28,11 @@ pub stable_length : (P : Written → ℕ → ℕ → Type 0) → IsStable P → 
 stable_length P f = record { stays = λ piece t p q grows h. (at_append _ h.0, f.stays piece t (p + 2) q grows h.1, h.2) }
 
 -- how many octets a piece takes behind its length
-length_of : Piece → Written → ℕ
+pub length_of : Piece → Written → ℕ
 length_of a t = length (a t.memory (length t.octets + 2)).text
 
 -- a piece behind its length is two pieces
-lay-with_length : (a : Piece) (t : Written) → lay (both (put_octets (to_be_bytes w16 (length_of a t))) a) t ≡ lay (with_length a) t
+pub lay-with_length : (a : Piece) (t : Written) → lay (both (put_octets (to_be_bytes w16 (length_of a t))) a) t ≡ lay (with_length a) t
 unfolding length_of
 lay-with_length a t = refl
 

@@ -32,3 +32,6 @@ pub mod NameTextFaults
 pub mod NameOrTextFault
 pub mod OneTextName
 pub mod FlatNames
+pub mod FilledPlaces
+pub mod SharedSuffixes
+pub mod ShortestPieces

@@ -19,7 +19,7 @@ use Rattle.dns_wire.proofs.Spelling.{name_tail}
 use Rattle.dns_wire.proofs.SpelledNames.{moved, kept_moved, kept_more, kept_spelled, spelled_long}
 
 -- it holds of each
-abbrev Each : (Labels × ℕ → Type 0) → List (Labels × ℕ) → Type 0
+abbrev pub Each : (Labels × ℕ → Type 0) → List (Labels × ℕ) → Type 0
 Each P [] = Unit {0}
 Each P (s ∷ ss) = P s × Each P ss
 
@@ -133,7 +133,7 @@ found_one m r s q P k x true is p rec e =
 found_one m r s q P k x false is p rec e = rec e
 
 -- what is found was there, or is one of the new suffixes
-found : (m : Memory) (ss : List (Labels × ℕ)) (q : ℕ) (P : Labels × ℕ → Type 0) (k : Labels) (x : Spot) → Each P ss
+pub found : (m : Memory) (ss : List (Labels × ℕ)) (q : ℕ) (P : Labels × ℕ → Type 0) (k : Labels) (x : Spot) → Each P ss
     → get (remember m ss q) k ≡ Some x → (get m k ≡ Some x) ⊎ (P (k, x.place) × (x.end ≡ q))
 found m [] q P k x all e = inl e
 found m (s ∷ ss) q P k x all e =

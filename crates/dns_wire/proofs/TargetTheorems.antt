@@ -24,7 +24,7 @@ begins m b q p [] h = absurd h
 begins m b q p (first ∷ rest) h = (length first, label_begins h.0 h.1)
 
 -- the pointers of a spelled name lead to earlier labels
-pointed : {m : Memory} {b : List ℕ} {q p : ℕ} {name : Labels} → Remembers b m → Spelled m b q p name → WellPointed b q p
+pub pointed : {m : Memory} {b : List ℕ} {q p : ℕ} {name : Labels} → Remembers b m → Spelled m b q p name → WellPointed b q p
 pointed r (root h e) = WellPointed.root (root_at h) e
 pointed r (label l h x) = WellPointed.label (label_begins l h) (pointed r x)
 pointed {m = m} {b = b} r (pointer {name = name} {x = x} e before h is) =

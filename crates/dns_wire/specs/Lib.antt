@@ -31,3 +31,6 @@ pub mod TargetLaws
 pub mod NameTexts
 pub mod NameReading
 pub mod NameTextLaws
+pub mod Spelling
+pub mod PartsWritten
+pub mod SpellingLaws

@@ -99,7 +99,10 @@ impl Composer for Vec<u8> {
 
     #[tactic(auto, unfolding(crate::specs::PutName::put_name))]
     fn append_compressed_name<N: ToName>(&mut self, name: &N) -> Result<(), AppendError> {
-        self.append_slice(name.as_parsed().uncompressed().as_slice())
+        match name.as_flat_slice() {
+            Some(octets) => self.append_slice(octets),
+            None => self.append_slice(name.as_parsed().uncompressed().as_slice()),
+        }
     }
 
     fn can_compress(&self) -> bool {
@@ -152,7 +155,10 @@ impl<const N: usize> Composer for ArrayVec<u8, N> {
 
     #[tactic(auto, unfolding(crate::specs::PutName::put_name))]
     fn append_compressed_name<M: ToName>(&mut self, name: &M) -> Result<(), AppendError> {
-        self.append_slice(name.as_parsed().uncompressed().as_slice())
+        match name.as_flat_slice() {
+            Some(octets) => self.append_slice(octets),
+            None => self.append_slice(name.as_parsed().uncompressed().as_slice()),
+        }
     }
 
     fn can_compress(&self) -> bool {

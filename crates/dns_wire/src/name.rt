@@ -92,8 +92,14 @@ impl<Octs: Octets> ToName for Name<Octs> {
 
     ghost name = { λ n. name_labels n };
 
+    ghost lends_octets = { λ _. Unit {0} };
+
     fn as_parsed(&self) -> ParsedName<'_> {
         ParsedName::of_whole(self.octets.octets())
+    }
+
+    fn as_flat_slice(&self) -> Option<&[u8]> {
+        Some(self.octets.octets())
     }
 }
 

@@ -1,5 +1,6 @@
 //! Theorems on targets and what is put there. The functions do nothing: each contract is a theorem over all contents, names and parts.
 ghost use Rattle.dns_wire.specs.Choice.{NamesByChoice};
+ghost use Rattle.dns_wire.specs.SpellingLaws.{PartsAreShortest, PartsPointToLabels, ShortPartsAreNear};
 ghost use Rattle.dns_wire.specs.TargetLaws.{StandsWhereAgreed, StandsWithMore, StandsInAll, StandsOfIn, StandsWhenOverwritten};
 ghost use Rattle.dns_wire.specs.TargetLaws.{RemembersWhatStands, StandsBehind, NothingIsTarget, NameKeeps, OctetsKeep, CutKeeps, OverwriteKeeps};
 ghost use Rattle.dns_wire.specs.TargetLaws.{CutUndoes, NamesGrow, OctetsGrow, PartsGrow, BothGrow, PiecesStayBehind, NamesStayBehind};
@@ -53,4 +54,16 @@ pub fn pieces_compose()
     ensures one { AppendsCompose }
     ensures both { ComposesBoth }
     ensures first { ComposesFirst }
+{}
+
+/// Each pointer of parts that are put leads to an earlier label below 16,384, under every rule (RFC 1035 section 4.1.4).
+pub fn parts_point_to_labels()
+    ensures { PartsPointToLabels }
+{}
+
+/// While every label begins below 16,384, no spelling of the names of parts is shorter than what the tree and the hash
+/// rule write where nothing is remembered, and the static rule while it remembers fewer than 24 suffixes.
+pub fn parts_are_shortest()
+    ensures shortest { PartsAreShortest }
+    ensures near { ShortPartsAreNear }
 {}

@@ -6,17 +6,25 @@ use std::cmp::Ordering;
 
 /// What stands for a name.
 pub trait ToName {
-    ghost use Rattle.std.specs.Prelude.{◌≡◌};
-    ghost use Rattle.dns_wire.specs.Names.{Labels, IsName};
+    ghost use Rattle.std.specs.Prelude.{◌≡◌, ◌↔◌, IsSome, IfSome};
+    ghost use Rattle.dns_wire.specs.Names.{Labels, IsName, uncompressed};
     ghost use Rattle.dns_wire.specs.ParsedName.{labels};
 
     /// The labels of the name.
     ghost name: { Self → Labels };
 
+    /// Whether the octets of the name without pointers can be lent.
+    ghost lends_octets: { Self → Type 0 };
+
     /// The name as one in an input, which borrows this one.
     fn as_parsed(&self) -> ParsedName<'_>
         ensures labels { labels result ≡ name self.now }
         ensures is_name { IsName (name self.now) };
+
+    /// The octets of the name, if they stand without pointers in what stands for it.
+    fn as_flat_slice(&self) -> Option<&[u8]>
+        ensures flat { IsSome result ↔ lends_octets self.now }
+        ensures octets { IfSome result (λ octets. octets.now ≡ uncompressed (name self.now)) };
 }
 
 /// Comparisons of whatever stands for a name, which take no memory, and its canonical form.
@@ -68,19 +76,31 @@ pub trait ToNameExt: ToName {
 impl<T: ToName> ToNameExt for T {}
 
 impl ToName for ParsedName<'_> {
-    ghost use Rattle.dns_wire.specs.ParsedName.{labels};
+    ghost use Rattle.dns_wire.specs.ParsedName.{labels, IsFlat};
 
     ghost name = { labels };
 
+    ghost lends_octets = { λ n. IsFlat n };
+
     fn as_parsed(&self) -> ParsedName<'_> {
         *self
+    }
+
+    fn as_flat_slice(&self) -> Option<&[u8]> {
+        ParsedName::as_flat_slice(self)
     }
 }
 
 impl<N: ToName> ToName for &N {
     ghost name = { λ n. N.name n.now };
 
+    ghost lends_octets = { λ n. N.lends_octets n.now };
+
     fn as_parsed(&self) -> ParsedName<'_> {
         (*self).as_parsed()
+    }
+
+    fn as_flat_slice(&self) -> Option<&[u8]> {
+        (*self).as_flat_slice()
     }
 }

@@ -15,18 +15,18 @@ returns-in_err-append_compressed_name-clause-composes g c =
     let x = question_item g.N.ToName.name c.args.self.now in
     composes_first _ _ _ (put_octets (question_fields x)) _ _ c.append_compressed_name.result c.from_residual.result c.in_err-append_compressed_name.field-0.0
     c.in_err-append_compressed_name.was (p.1 ∙ ap Err p.2)
-    (appends_compose _ _ _ _ _ _ (rw c.as_parsed-name.ensures.labels at c.append_compressed_name.ensures))
+    (appends_compose _ _ _ _ _ _ c.append_compressed_name.ensures)
 
 pub returns-in_err-append_compressed_name-clause-item : goal.returns-in_err-append_compressed_name-clause-item
-returns-in_err-append_compressed_name-clause-item g c = record { name = c.as_parsed-name.ensures.is_name; rtype = omega arith; class = omega arith }
+returns-in_err-append_compressed_name-clause-item g c = record { name = c.as_parsed.ensures.is_name; rtype = omega arith; class = omega arith }
 
 pub returns-clause-composes : goal.returns-clause-composes
 unfolding put_question
 returns-clause-composes g c =
     let x = question_item g.N.ToName.name c.args.self.now in
     composes_both _ _ (put_name g.T.Composer.rule x.name) (put_octets (question_fields x)) _ _ _ _ (put_name_grows g.T.Composer.rule x.name)
-    (rw c.as_parsed-name.ensures.labels at c.in_ok-append_compressed_name.ensures.ok)
+    c.in_ok-append_compressed_name.ensures.ok
     (appends_compose _ _ _ _ _ _ (rw (c.to_be_bytes.ensures, c.to_be_bytes-2.ensures, c.to_int.ensures, c.to_int-2.ensures, c.qtype.ensures, c.qclass.ensures) at c.append_slice.ensures))
 
 pub returns-clause-item : goal.returns-clause-item
-returns-clause-item g c = record { name = c.as_parsed-name.ensures.is_name; rtype = omega arith; class = omega arith }
+returns-clause-item g c = record { name = c.as_parsed.ensures.is_name; rtype = omega arith; class = omega arith }

@@ -16,7 +16,7 @@ returns-in_err-append_compressed_name-clause-composes g c =
     let x = record_item g.N.ToName.name g.D.RecordData.rtype_of g.D.RecordData.parts c.args.self.now in
     composes_first _ _ _ (both (put_octets (record_fields x)) (with_length (put_parts g.T.Composer.rule x.parts))) _ _ c.append_compressed_name.result c.from_residual.result
     c.in_err-append_compressed_name.field-0.0 c.in_err-append_compressed_name.was (p.1 ∙ ap Err p.2)
-    (appends_compose _ _ _ _ _ _ (rw c.as_parsed-owner.ensures.labels at c.append_compressed_name.ensures))
+    (appends_compose _ _ _ _ _ _ c.append_compressed_name.ensures)
 
 pub returns-in_err-append_slice-clause-composes : goal.returns-in_err-append_slice-clause-composes
 unfolding put_record
@@ -25,7 +25,7 @@ returns-in_err-append_slice-clause-composes g c =
     let x = record_item g.N.ToName.name g.D.RecordData.rtype_of g.D.RecordData.parts c.args.self.now in
     let rest = with_length (put_parts g.T.Composer.rule x.parts) in
     composes_both _ _ (put_name g.T.Composer.rule x.owner) (both (put_octets (record_fields x)) rest) _ _ _ _ (put_name_grows g.T.Composer.rule x.owner)
-    (rw c.as_parsed-owner.ensures.labels at c.in_ok-append_compressed_name.ensures.ok)
+    c.in_ok-append_compressed_name.ensures.ok
     (composes_first _ _ (put_octets (record_fields x)) rest _ _ c.append_slice.result c.from_residual-in_err-append_slice.result
     c.in_err-append_slice.field-0.0 c.in_err-append_slice.was (p.1 ∙ ap Err p.2)
     (appends_compose _ _ _ _ _ _ (rw (c.field_octets-fields.ensures, c.rtype.ensures, c.class.ensures, c.ttl.ensures) at c.append_slice.ensures)))
@@ -36,7 +36,7 @@ returns-clause-composes g c =
     let x = record_item g.N.ToName.name g.D.RecordData.rtype_of g.D.RecordData.parts c.args.self.now in
     let rest = with_length (put_parts g.T.Composer.rule x.parts) in
     composes_both _ _ (put_name g.T.Composer.rule x.owner) (both (put_octets (record_fields x)) rest) _ _ _ _ (put_name_grows g.T.Composer.rule x.owner)
-    (rw c.as_parsed-owner.ensures.labels at c.in_ok-append_compressed_name.ensures.ok)
+    c.in_ok-append_compressed_name.ensures.ok
     (composes_both _ _ (put_octets (record_fields x)) rest _ _ _ _ (put_octets_grows (record_fields x))
     (rw (c.field_octets-fields.ensures, c.rtype.ensures, c.class.ensures, c.ttl.ensures) at c.in_ok-append_slice.ensures.ok)
     c.compose_len_rdata.ensures.composes)

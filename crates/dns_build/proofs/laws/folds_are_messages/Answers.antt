@@ -1,0 +1,5 @@
+use Rattle.dns_build.proofs.ShortestFolds as folds
+use Rattle.dns_build.proofs.laws.folds_are_messages.Goals as goal
+
+pub returns : goal.returns
+returns c = folds.folds_are_messages

@@ -1,0 +1,332 @@
+-- How short a name is that is put, where all suffixes of earlier names are remembered.
+use Rattle.std.proofs.Common.{◌≡◌, ℕ, suc, ◌+◌, ◌<◌, ◌≤◌, ◌⊎◌, inl, inr, Bool, true, false, cond, List, [], ◌∷◌, ◌++◌, length, length-append, append_assoc, arith, ap, sym, ◌∙◌, refl, subst}
+use Rattle.std.specs.Prelude.{Option, Some, None, nat_lt, ◌&&◌, is_some}
+use Rattle.std.specs.List.{list_all}
+use Rattle.std.proofs.lemmas.Grind.{common_steps}
+use Rattle.std.specs.FinMap.{get, insert, len, get-insert, len-insert, contains_key}
+use Rattle.std.specs.Cmp.{eq_by_cmp_equiv}
+use Rattle.std.specs.Ordering.{eq_by_cmp}
+use Rattle.dns_wire.specs.Names.{Labels, IsLabel, IsName, uncompressed, name_size}
+use Rattle.dns_wire.specs.Memory.{Memory, Spot, remember, suffix_cmp, suffix_total}
+use Rattle.dns_wire.specs.Pieces.{Rule, Plain, Static, Tree, Hash}
+use Rattle.dns_wire.specs.PutName.{spell, spell_label, kept, is_kept}
+use Rattle.dns_wire.specs.Spelled.{At}
+use Rattle.dns_wire.specs.Spelling.{IsSuffix, IsShared}
+use Rattle.dns_wire.specs.SpellingLaws.{SharesAll}
+use Rattle.dns_wire.specs.PartsWritten.{LabelsNear}
+use Rattle.dns_wire.proofs.FilledPlaces.{near_label}
+use Rattle.dns_wire.proofs.OctetsAt.{label_begins, label_part, behind_label}
+use Rattle.dns_wire.proofs.PutNames.{Each, found}
+use Rattle.dns_wire.proofs.Spelling.{name_tail}
+
+-- what is remembered is what is shared
+pub record Knows (m : Memory) (names : List Labels) : Type 0 where
+  pub has : (s : Labels) → IsShared names s → (x : Spot) × (get m s ≡ Some x)
+  pub only : (s : Labels) (x : Spot) → get m s ≡ Some x → IsShared names s
+
+-- a suffix of a suffix is one
+pub suffix_suffix : {s t name : Labels} → IsSuffix s t → IsSuffix t name → IsSuffix s name
+suffix_suffix {s = s} {t = t} {name = name} a b = record { first = b.first ++ a.first; whole = b.whole ∙ ap (λ (u : Labels). b.first ++ u) a.whole ∙ sym (append_assoc b.first a.first s); some = a.some }
+
+-- so it is of one of the names
+pub shared_suffix : (names : List Labels) (s t : Labels) → IsSuffix s t → IsShared names t → IsShared names s
+shared_suffix [] s t a h = absurd h
+shared_suffix (name ∷ names) s t a (inl h) = inl (suffix_suffix a h)
+shared_suffix (name ∷ names) s t a (inr h) = inr (shared_suffix names s t a h)
+
+-- a suffix has a label
+pub shared_some : (names : List Labels) (s : Labels) → IsShared names s → 1 ≤ length s
+shared_some [] s h = absurd h
+shared_some (name ∷ names) s (inl h) = h.some
+shared_some (name ∷ names) s (inr h) = shared_some names s h
+
+-- a label is kept, and so are the others, or the whole is known
+abbrev KeptLabel : Option Spot → Bool → Type 0 → Type 0
+KeptLabel (Some x) keep others = Unit {0}
+KeptLabel None keep others = (keep ≡ true) × others
+
+-- no label before a known suffix is too far to be remembered
+abbrev pub AllKept : Rule → Memory → ℕ → ℕ → Labels → Type 0
+AllKept rule m p held [] = Unit {0}
+AllKept rule m p held (first ∷ rest) = KeptLabel (get m (first ∷ rest)) (is_kept rule p held) (AllKept rule m (p + 1 + length first) (held + 1) rest)
+
+-- a name of so many octets is the shortest
+abbrev pub Best : List Labels → Labels → ℕ → Type 0
+Best names name n =
+    ((n ≡ name_size name + 1) × ((first rest : Labels) → name ≡ first ++ rest → IsShared names rest → ⊥))
+    ⊎ ((first : Labels) × (rest : Labels) × (name ≡ first ++ rest) × IsShared names rest × (n ≡ name_size first + 2) × ((f r : Labels) → name ≡ f ++ r → IsShared names r → name_size first ≤ name_size f))
+
+-- the root is as short as can be
+best_root : (names : List Labels) → Best names [] 1
+best_root names = inl (refl, λ first rest e s. let some = shared_some names rest s in let l : 0 ≡ length first + length rest = ap length e ∙ length-append first rest in omega arith)
+
+-- where the whole name isn't shared, a shared rest is one of the others
+behind_first : (P : Labels → Labels → Type 0) (names : List Labels) (label : List ℕ) (others : Labels) → (IsShared names (label ∷ others) → ⊥)
+    → ((f r : Labels) → others ≡ f ++ r → IsShared names r → P (label ∷ f) r)
+    → (f r : Labels) → label ∷ others ≡ f ++ r → IsShared names r → P f r
+behind_first P names label others without h [] r e s = absurd (without (subst (λ (n : Labels). IsShared names n) (sym e) s))
+behind_first P names label others without h (l ∷ f) r e s =
+    let one : label ≡ l = cc in
+    let two : others ≡ f ++ r = cc in
+    subst (λ (k : List ℕ). P (k ∷ f) r) one (h f r two s)
+
+-- a label and the others
+best_label : (names : List Labels) (label : List ℕ) (others : Labels) (n : ℕ) → (IsShared names (label ∷ others) → ⊥) → Best names others n → Best names (label ∷ others) (1 + length label + n)
+best_label names label others n without (inl a) =
+    inl (omega (arith, a.0), behind_first (λ f r. ⊥) names label others without (λ f r e s. a.1 f r e s))
+best_label names label others n without (inr a) =
+    inr (
+      label ∷ a.0,
+      a.1,
+      ap (λ (k : Labels). label ∷ k) a.2,
+      a.3,
+      omega (arith, a.4),
+      behind_first (λ f r. name_size (label ∷ a.0) ≤ name_size f) names label others without (λ f r e s. let l = a.5 f r e s in omega arith),
+    )
+
+-- by what is known of the whole
+best_one : (m : Memory) (names : List Labels) (o : Option Spot) (keep : Bool) (label : List ℕ) (others : Labels) (p : ℕ) (after : List ℕ × List (Labels × ℕ)) (Others : Type 0)
+    → Knows m names → get m (label ∷ others) ≡ o → KeptLabel o keep Others → (Others → Best names others (length after.0))
+    → Best names (label ∷ others) (length (spell_label o keep label others p after).0)
+best_one m names (Some x) keep label others p after Others knows e k rec =
+    inr ([], label ∷ others, refl, knows.only (label ∷ others) x e, refl, λ f r e s. omega arith)
+best_one m names None true label others p after Others knows e k rec =
+    let without : IsShared names (label ∷ others) → ⊥ = λ s. let h = knows.has (label ∷ others) s in let c : None ≡ Some h.0 = sym e ∙ h.1 in cc in
+    let is : 1 + length label + length after.0 ≡ suc (length (label ++ after.0)) = let l = length-append label after.0 in omega arith in
+    subst (λ n. Best names (label ∷ others) n) is (best_label names label others (length after.0) without (rec k.1))
+best_one m names None false label others p after Others knows e k rec = absurd (let c = k.0 in cc)
+
+-- the text of a name is as short as can be
+pub best : (rule : Rule) (m : Memory) (names : List Labels) (p held : ℕ) (name : Labels) → Knows m names → AllKept rule m p held name → Best names name (length (spell rule m p held name).0)
+best rule m names p held [] knows k = best_root names
+best rule m names p held (label ∷ others) knows k =
+    best_one m names (get m (label ∷ others)) (is_kept rule p held) label others p (spell rule m (p + 1 + length label) (held + 1) others) (AllKept rule m (p + 1 + length label) (held + 1) others)
+    knows refl k (λ k'. best rule m names (p + 1 + length label) (held + 1) others knows k')
+
+-- a name is a suffix of its own
+suffix_whole : (label : List ℕ) (others : Labels) → IsSuffix (label ∷ others) (label ∷ others)
+suffix_whole label others = record { first = []; whole = refl; some = omega arith }
+
+-- a suffix of the others is one of the name
+suffix_others : (s : Labels) (label : List ℕ) (others : Labels) → IsSuffix s others → IsSuffix s (label ∷ others)
+suffix_others s label others h = record { first = label ∷ h.first; whole = ap (λ (n : Labels). label ∷ n) h.whole; some = h.some }
+
+-- so is each
+each_others : (label : List ℕ) (others : Labels) (ss : List (Labels × ℕ)) → Each (λ s. IsSuffix s.0 others) ss → Each (λ s. IsSuffix s.0 (label ∷ others)) ss
+each_others label others [] h = tt
+each_others label others (s ∷ ss) h = (suffix_others s.0 label others h.0, each_others label others ss h.1)
+
+-- by what is known of the whole
+suffixes_one : (o : Option Spot) (keep : Bool) (label : List ℕ) (others : Labels) (p : ℕ) (after : List ℕ × List (Labels × ℕ)) → Each (λ s. IsSuffix s.0 others) after.1 → Each (λ s. IsSuffix s.0 (label ∷ others)) (spell_label o keep label others p after).1
+suffixes_one (Some x) keep label others p after h = tt
+suffixes_one None true label others p after h = (suffix_whole label others, each_others label others after.1 h)
+suffixes_one None false label others p after h = tt
+
+-- only suffixes of the name are remembered of it
+spell_suffixes : (rule : Rule) (m : Memory) (p held : ℕ) (name : Labels) → Each (λ s. IsSuffix s.0 name) (spell rule m p held name).1
+spell_suffixes rule m p held [] = tt
+spell_suffixes rule m p held (label ∷ others) = suffixes_one (get m (label ∷ others)) (is_kept rule p held) label others p (spell rule m (p + 1 + length label) (held + 1) others) (spell_suffixes rule m (p + 1 + length label) (held + 1) others)
+
+-- a suffix is one of these
+abbrev Listed : Labels → List (Labels × ℕ) → Type 0
+Listed t [] = ⊥
+Listed t (s ∷ ss) = (t ≡ s.0) ⊎ Listed t ss
+
+-- a suffix is the whole name, or one of the others
+suffix_cases : (s : Labels) (label : List ℕ) (others first : Labels) → label ∷ others ≡ first ++ s → 1 ≤ length s → (s ≡ label ∷ others) ⊎ IsSuffix s others
+suffix_cases s label others [] e some = inl (sym e)
+suffix_cases s label others (l ∷ first) e some = inr (record { first = first; whole = cc; some = some })
+
+-- by what is known of the whole
+listed_one : (m : Memory) (names : List Labels) (o : Option Spot) (keep : Bool) (label : List ℕ) (others : Labels) (p : ℕ) (after : List ℕ × List (Labels × ℕ)) (Others : Type 0) (s : Labels)
+    → Knows m names → get m (label ∷ others) ≡ o → KeptLabel o keep Others → (Others → IsSuffix s others → IsShared names s ⊎ Listed s after.1)
+    → IsSuffix s (label ∷ others) → IsShared names s ⊎ Listed s (spell_label o keep label others p after).1
+listed_one m names (Some x) keep label others p after Others s knows e k rec h = inl (shared_suffix names s (label ∷ others) h (knows.only (label ∷ others) x e))
+listed_one m names None true label others p after Others s knows e k rec h =
+    elim (suffix_cases s label others h.first h.whole h.some) [
+      | inl w ↦ inr (inl w)
+      | inr w ↦ elim (rec k.1 w) [ inl a ↦ inl a | inr a ↦ inr (inr a) ]
+    ]
+listed_one m names None false label others p after Others s knows e k rec h = absurd (let c = k.0 in cc)
+
+-- the root has no suffix
+no_suffix : (s : Labels) → IsSuffix s [] → ⊥
+no_suffix s h = let some = h.some in let l : 0 ≡ length h.first + length s = ap length h.whole ∙ length-append h.first s in omega arith
+
+-- each suffix of the name was shared, or is listed
+pub listed : (rule : Rule) (m : Memory) (names : List Labels) (p held : ℕ) (name s : Labels) → Knows m names → AllKept rule m p held name → IsSuffix s name → IsShared names s ⊎ Listed s (spell rule m p held name).1
+listed rule m names p held [] s knows k h = absurd (no_suffix s h)
+listed rule m names p held (label ∷ others) s knows k h =
+    listed_one m names (get m (label ∷ others)) (is_kept rule p held) label others p (spell rule m (p + 1 + length label) (held + 1) others) (AllKept rule m (p + 1 + length label) (held + 1) others) s
+    knows refl k (λ k' h'. listed rule m names (p + 1 + length label) (held + 1) others s knows k' h') h
+
+-- what is inserted is found
+inserted_same : (m : Memory) (t k : Labels) (v : Spot) → t ≡ k → get (insert m k v) t ≡ Some v
+inserted_same m t k v e =
+    get-insert suffix_total m k v t ∙ ap (λ (b : Bool). cond b (Some v) (get m t)) (ap (λ (n : Labels). eq_by_cmp suffix_cmp n k) e ∙ (eq_by_cmp_equiv suffix_total).refl k)
+
+-- so is what was there
+inserted_other : (b : Bool) (v : Spot) (o : Option Spot) (x : Spot) → o ≡ Some x → (y : Spot) × (cond b (Some v) o ≡ Some y)
+inserted_other true v o x e = (v, refl)
+inserted_other false v o x e = (x, e)
+
+-- each that is listed is remembered
+listed_found : (m : Memory) (t : Labels) (q : ℕ) (ss : List (Labels × ℕ)) → Listed t ss → (x : Spot) × (get (remember m ss q) t ≡ Some x)
+listed_found m t q [] h = absurd h
+listed_found m t q (s ∷ ss) (inl e) = (record { place = s.1; end = q }, inserted_same (remember m ss q) t s.0 (record { place = s.1; end = q }) e)
+listed_found m t q (s ∷ ss) (inr h) =
+    let f = listed_found m t q ss h in
+    let v : Spot = record { place = s.1; end = q } in
+    let o = inserted_other (eq_by_cmp suffix_cmp t s.0) v (get (remember m ss q) t) f.0 f.1 in
+    (o.0, get-insert suffix_total (remember m ss q) s.0 v t ∙ o.1)
+
+-- the memory knows the name too
+pub knows_more : (rule : Rule) (m n : Memory) (names : List Labels) (p held q : ℕ) (name : Labels) → Knows m names → AllKept rule m p held name
+    → n ≡ remember m (spell rule m p held name).1 q → ((s : Labels) (x : Spot) → get m s ≡ Some x → get n s ≡ Some x) → Knows n (name ∷ names)
+knows_more rule m n names p held q name knows k is g =
+    let ss = (spell rule m p held name).1 in
+    let old : (s : Labels) → IsShared names s → (x : Spot) × (get n s ≡ Some x) = λ s h. let f = knows.has s h in (f.0, g s f.0 f.1) in
+    record {
+      has = λ s h.
+          elim h [
+            | inl a ↦ elim (listed rule m names p held name s knows k a) [
+              | inl b ↦ old s b
+              | inr b ↦ let f = listed_found m s q ss b in (f.0, ap (λ (r : Memory). get r s) is ∙ f.1)
+            ]
+            | inr a ↦ old s a
+          ];
+      only = λ s x e.
+          elim (found m ss q (λ t. IsSuffix t.0 name) s x (spell_suffixes rule m p held name) (ap (λ (r : Memory). get r s) (sym is) ∙ e)) [
+            | inl a ↦ inr (knows.only s x a)
+            | inr a ↦ inl a.0
+          ];
+    }
+
+-- fewer are few
+pub few_less : (rule : Rule) (k n : ℕ) → k ≤ n → SharesAll rule n → SharesAll rule k
+few_less Plain k n l h = h
+few_less Static k n l h = omega arith
+few_less Tree k n l h = tt
+few_less Hash k n l h = tt
+
+-- a rule by which each suffix that is near is remembered, while it shares all
+pub record KeepsNear (rule : Rule) : Type 0 where
+  pub keeps : (p held : ℕ) → p < 16384 → SharesAll rule held → is_kept rule p held ≡ true
+  pub chosen : (ss : List (Labels × ℕ)) → list_all (λ s. nat_lt s.1 16384) ss ≡ true → kept rule ss ≡ ss
+
+-- the tree rule is one
+pub tree_keeps_near : KeepsNear Tree
+tree_keeps_near = record { keeps = λ p held h few. grind (arith, common_steps); chosen = λ ss h. refl }
+
+-- a place that is near, and few that are held
+static_keeps : (p held : ℕ) → p < 16384 → held < 24 → nat_lt p 16384 && nat_lt held 24 ≡ true
+static_keeps p held l h =
+    let a : nat_lt p 16384 ≡ true = grind (arith, common_steps) in
+    let b : nat_lt held 24 ≡ true = grind (arith, common_steps) in
+    rw (a, b) refl
+
+-- so is the static rule
+pub static_keeps_near : KeepsNear Static
+static_keeps_near = record { keeps = λ p held h few. static_keeps p held h few; chosen = λ ss h. refl }
+
+-- so is the hash rule
+pub hash_keeps_near : KeepsNear Hash
+hash_keeps_near = record { keeps = λ p held h few. refl; chosen = λ ss h. ap (λ (b : Bool). cond b ss []) h }
+
+module _ (rule : Rule) (r : KeepsNear rule) (m : Memory) (b : List ℕ) (q : ℕ) where
+  -- the first label of a name, by what is known of the whole
+  kept_one : (p held : ℕ) (o : Option Spot) (keep : Bool) (label : List ℕ) (others : Labels) (after : List ℕ × List (Labels × ℕ)) (Others : Type 0)
+      → is_kept rule p held ≡ keep → IsLabel label → LabelsNear b q p → At b p (spell_label o keep label others p after).0
+      → SharesAll rule (held + length (spell_label o keep label others p after).1)
+      → (LabelsNear b q (p + 1 + length label) → At b (p + 1 + length label) after.0 → SharesAll rule (held + 1 + length after.1) → Others) → KeptLabel o keep Others
+  kept_one p held (Some x) keep label others after Others e is near h few rec = tt
+  kept_one p held None true label others after Others e is near h few rec =
+      let a = near_label near (label_begins is (label_part label after.0 h)) in
+      (refl, rec a.1 (behind_label label after.0 h) (few_less rule (held + 1 + length after.1) (held + suc (length after.1)) (omega arith) few))
+  kept_one p held None false label others after Others e is near h few rec =
+      let a = near_label near (label_begins is (label_part label (uncompressed others) h)) in
+      absurd (let t : true ≡ false = sym (r.keeps p held a.0 (few_less rule held (held + 0) (omega arith) few)) ∙ e in cc)
+
+  -- where every label of a name that is written is near, every one before a known suffix is kept
+  pub near_kept : (p held : ℕ) (name : Labels) → IsName name → LabelsNear b q p → At b p (spell rule m p held name).0
+      → SharesAll rule (held + length (spell rule m p held name).1) → AllKept rule m p held name
+  near_kept p held [] is near h few = tt
+  near_kept p held (label ∷ others) is near h few =
+      let tail = name_tail label others is in
+      let p' = p + 1 + length label in
+      kept_one p held (get m (label ∷ others)) (is_kept rule p held) label others (spell rule m p' (held + 1) others) (AllKept rule m p' (held + 1) others)
+      refl tail.0 near h few (λ near' h' few'. near_kept p' (held + 1) others tail.1 near' h' few')
+
+module _ (rule : Rule) (m : Memory) (b : List ℕ) (q : ℕ) where
+  -- the suffixes of a name that are written out, by what is known of the whole
+  near_one : (p : ℕ) (o : Option Spot) (keep : Bool) (label : List ℕ) (others : Labels) (after : List ℕ × List (Labels × ℕ))
+      → IsLabel label → LabelsNear b q p → At b p (spell_label o keep label others p after).0
+      → (LabelsNear b q (p + 1 + length label) → At b (p + 1 + length label) after.0 → list_all (λ s. nat_lt s.1 16384) after.1 ≡ true)
+      → list_all (λ s. nat_lt s.1 16384) (spell_label o keep label others p after).1 ≡ true
+  near_one p (Some x) keep label others after is near h rec = refl
+  near_one p None true label others after is near h rec =
+      let a = near_label near (label_begins is (label_part label after.0 h)) in
+      let small : nat_lt p 16384 ≡ true = let k = a.0 in grind (arith, common_steps) in
+      let behind = rec a.1 (behind_label label after.0 h) in
+      rw (small, behind) refl
+  near_one p None false label others after is near h rec = refl
+
+  -- where every label that is written is near, so is every suffix that is written out
+  pub near_suffixes : (p held : ℕ) (name : Labels) → IsName name → LabelsNear b q p → At b p (spell rule m p held name).0
+      → list_all (λ s. nat_lt s.1 16384) (spell rule m p held name).1 ≡ true
+  near_suffixes p held [] is near h = refl
+  near_suffixes p held (label ∷ others) is near h =
+      let tail = name_tail label others is in
+      let p' = p + 1 + length label in
+      near_one p (get m (label ∷ others)) (is_kept rule p held) label others (spell rule m p' (held + 1) others) tail.0 near h
+      (λ near' h'. near_suffixes p' (held + 1) others tail.1 near' h')
+
+-- an insert never lessens
+len_more : (m : Memory) (k : Labels) (v : Spot) (b : Bool) → len (insert m k v) ≡ cond b (len m) (len m + 1) → len m ≤ len (insert m k v)
+len_more m k v true e = omega (arith, e)
+len_more m k v false e = omega (arith, e)
+
+-- nor does remembering
+pub len_remember : (m : Memory) (ss : List (Labels × ℕ)) (q : ℕ) → len m ≤ len (remember m ss q)
+len_remember m [] q = omega arith
+len_remember m (s ∷ ss) q =
+    let r = remember m ss q in
+    let v : Spot = record { place = s.1; end = q } in
+    let a = len_remember m ss q in
+    let b : len r ≤ len (insert r s.0 v) = len_more r s.0 v (contains_key r s.0) (len-insert suffix_total r s.0 v) in
+    omega arith
+
+-- what is nowhere is none
+none_of : (o : Option Spot) → ((x : Spot) → o ≡ Some x → ⊥) → o ≡ None
+none_of None h = refl
+none_of (Some x) h = absurd (h x refl)
+
+-- a name is no suffix of its others
+longer : (label : List ℕ) (others : Labels) → IsSuffix (label ∷ others) others → ⊥
+longer label others h = let e : length others ≡ length h.first + suc (length others) = ap length h.whole ∙ length-append h.first (label ∷ others) in omega arith
+
+-- one that is new counts
+len_new : (r : Memory) (k : Labels) (v : Spot) → get r k ≡ None → len (insert r k v) ≡ len r + 1
+len_new r k v e = len-insert suffix_total r k v ∙ ap (λ (o : Option Spot). cond (is_some o) (len r) (len r + 1)) e
+
+-- by what is known of the whole
+len_one : (rule : Rule) (m : Memory) (q p : ℕ) (o : Option Spot) (keep : Bool) (label : List ℕ) (others : Labels) (after : List ℕ × List (Labels × ℕ)) → get m (label ∷ others) ≡ o
+    → Each (λ s. IsSuffix s.0 others) after.1 → len (remember m after.1 q) ≡ len m + length after.1
+    → let ss = (spell_label o keep label others p after).1 in len (remember m ss q) ≡ len m + length ss
+len_one rule m q p (Some x) keep label others after e each rec = omega arith
+len_one rule m q p None true label others after e each rec =
+    let r = remember m after.1 q in
+    let new : get r (label ∷ others) ≡ None = none_of (get r (label ∷ others)) (λ x f.
+    elim (found m after.1 q (λ t. IsSuffix t.0 others) (label ∷ others) x each f) [
+      | inl a ↦ let k : None ≡ Some x = sym e ∙ a in cc
+      | inr a ↦ longer label others a.0
+    ]) in
+    len_new r (label ∷ others) (record { place = p; end = q }) new ∙ omega (arith, rec)
+len_one rule m q p None false label others after e each rec = omega arith
+
+-- each suffix that is written out counts
+pub len_spell : (rule : Rule) (m : Memory) (q p held : ℕ) (name : Labels) → let ss = (spell rule m p held name).1 in len (remember m ss q) ≡ len m + length ss
+len_spell rule m q p held [] = omega arith
+len_spell rule m q p held (label ∷ others) =
+    let after = spell rule m (p + 1 + length label) (held + 1) others in
+    len_one rule m q p (get m (label ∷ others)) (is_kept rule p held) label others after refl (spell_suffixes rule m (p + 1 + length label) (held + 1) others) (len_spell rule m q (p + 1 + length label) (held + 1) others)

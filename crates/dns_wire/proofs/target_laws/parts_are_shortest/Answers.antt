@@ -1,0 +1,6 @@
+use Rattle.dns_wire.proofs.FilledPlaces as places
+use Rattle.dns_wire.proofs.ShortestPieces as pieces
+use Rattle.dns_wire.proofs.target_laws.parts_are_shortest.Goals as goal
+
+pub returns : goal.returns
+returns c = record { shortest = pieces.parts_are_shortest; near = places.short_parts_are_near }

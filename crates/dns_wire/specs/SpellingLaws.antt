@@ -1,0 +1,37 @@
+-- How parts are written: where their pointers lead, and how short they are where nothing is remembered yet. RFC 1035 section 4.1.4.
+use Rattle.std.specs.Prelude.{◌≡◌, ℕ, ◌+◌, ◌<◌, ◌≤◌, List, length}
+use Rattle.std.specs.FinMap.{len}
+use Rattle.dns_wire.specs.Memory.{nothing}
+use Rattle.dns_wire.specs.Parts.{Part, AreParts, put_parts}
+use Rattle.dns_wire.specs.PartsWritten.{PartsNear, PartsPointed}
+use Rattle.dns_wire.specs.Pieces.{Rule, Plain, Static, Tree, Hash}
+use Rattle.dns_wire.specs.Spelling.{IsShortest}
+use Rattle.dns_wire.specs.Targets.{Written, IsTarget, lay}
+
+-- Whether a rule shares every suffix that was written where a pointer can lead: the tree and the hash rule do, and the static rule while it remembers fewer than 24 suffixes.
+abbrev pub SharesAll : Rule → ℕ → Type 0
+SharesAll Plain remembered = ⊥
+SharesAll Static remembered = remembered < 24
+SharesAll Tree remembered = Unit {0}
+SharesAll Hash remembered = Unit {0}
+
+-- each pointer of parts that are put leads to an earlier place below 16,384 where a label begins
+abbrev pub PartsPointToLabels : Type 0
+PartsPointToLabels = (rule : Rule) (t : Written) (parts : List Part) → AreParts parts → IsTarget t
+    → let u = lay (put_parts rule parts) t in PartsPointed u.octets (length u.octets) (length t.octets) parts
+
+-- in at most 16,384 octets every label of parts that are put begins below 16,384
+abbrev pub ShortPartsAreNear : Type 0
+ShortPartsAreNear = (rule : Rule) (t : Written) (parts : List Part) → AreParts parts → IsTarget t
+    → let u = lay (put_parts rule parts) t in length u.octets ≤ 16384 → PartsNear u.octets (length u.octets) (length t.octets) parts
+
+-- they take the octets of a spelling of the parts, and no spelling is shorter
+abbrev pub AddsShortest : List Part → Written → Written → Type 0
+AddsShortest parts before after = (n : ℕ) × (length after.octets ≡ length before.octets + n) × IsShortest parts n
+
+-- While every label that is written begins below 16,384, parts are put in as few octets as a spelling can have.
+abbrev pub PartsAreShortest : Type 0
+PartsAreShortest = (rule : Rule) (b : List ℕ) (parts : List Part) → AreParts parts
+    → let t : Written = record { octets = b; memory = nothing } in
+    let u = lay (put_parts rule parts) t in
+    SharesAll rule (len u.memory) → PartsNear u.octets (length u.octets) (length b) parts → AddsShortest parts t u
