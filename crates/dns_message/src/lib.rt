@@ -2,8 +2,9 @@
 //!
 //! A user depends on this crate alone: its modules have what the crates below it hold. It promises, of every list of calls
 //! on a builder (`script::run`), that the octets are those of one fold over the current header and the standing items,
-//! that reading gives these back in order, and that a push is refused only for room, memory, limit or count. It also has
-//! the work of the program `dnsmsg` (`tool`), which is safe and ends on every input; what it prints is tested.
+//! that reading gives these back in order, that each pointer leads to an earlier label, that a compressor writes names as
+//! short as they can be spelled, and that a push is refused only for room, memory, limit or count. It also has the work of
+//! the program `dnsmsg` (`tool`), which is safe and ends on every input; what it prints is tested.
 #![tactic(auto)]
 
 pub mod builder {

@@ -297,10 +297,9 @@ pub fn run<T: Composer, Q: ComposeQuestion, R: ComposeRecord>(
 ) -> Result<Stage<T>, Stage<T>>
     ensures same { IfErr result (λ same. same ≡ stage) }
     ensures untold { OnErr result (replies.new.items ≡ replies.old.items) }
-    ensures ran {
-        IfOk result (λ new.
-            RunsAll T.room T.grows Q.question R.item T.rule stage calls.now replies.old.items replies.new.items new)
-    }
+    ensures ran { IfOk result (λ new.
+        RunsAll T.room T.grows Q.question R.item T.rule
+        stage calls.now replies.old.items replies.new.items new) }
 {
     if replies.reserve(calls.len()).is_err() {
         return Err(stage);

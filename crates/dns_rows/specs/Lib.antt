@@ -1,1 +1,2 @@
 pub mod Tour
+pub mod Callers

@@ -6,6 +6,8 @@
 #[cfg(test)]
 mod builders;
 #[cfg(test)]
+mod callers;
+#[cfg(test)]
 mod messages;
 #[cfg(test)]
 mod program;

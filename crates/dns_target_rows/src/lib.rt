@@ -10,6 +10,8 @@ mod compressors;
 #[cfg(test)]
 mod history;
 #[cfg(test)]
+mod spellings;
+#[cfg(test)]
 mod stream;
 #[cfg(test)]
 mod targets;

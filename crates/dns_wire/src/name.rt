@@ -88,17 +88,21 @@ fn check(octets: &[u8]) -> Result<(), ParseError>
 }
 
 impl<Octs: Octets> ToName for Name<Octs> {
+    ghost use Rattle.std.specs.Prelude.{IsSome, IfSome};
+    ghost use Rattle.dns_wire.specs.Names.{uncompressed};
     ghost use Rattle.dns_wire.specs.NameLabels.{name_labels};
 
     ghost name = { λ n. name_labels n };
-
-    ghost lends_octets = { λ _. Unit {0} };
 
     fn as_parsed(&self) -> ParsedName<'_> {
         ParsedName::of_whole(self.octets.octets())
     }
 
-    fn as_flat_slice(&self) -> Option<&[u8]> {
+    /// All octets of the name: they have no pointer.
+    fn as_flat_slice(&self) -> Option<&[u8]>
+        ensures lent { IsSome result }
+        ensures octets { IfSome result (λ octets. octets.now ≡ uncompressed (name_labels self.now)) }
+    {
         Some(self.octets.octets())
     }
 }

@@ -6,25 +6,26 @@ use std::cmp::Ordering;
 
 /// What stands for a name.
 pub trait ToName {
-    ghost use Rattle.std.specs.Prelude.{◌≡◌, ◌↔◌, IsSome, IfSome};
+    ghost use Rattle.std.specs.Prelude.{◌≡◌, IfSome};
     ghost use Rattle.dns_wire.specs.Names.{Labels, IsName, uncompressed};
     ghost use Rattle.dns_wire.specs.ParsedName.{labels};
 
     /// The labels of the name.
     ghost name: { Self → Labels };
 
-    /// Whether the octets of the name without pointers can be lent.
-    ghost lends_octets: { Self → Type 0 };
-
     /// The name as one in an input, which borrows this one.
     fn as_parsed(&self) -> ParsedName<'_>
         ensures labels { labels result ≡ name self.now }
         ensures is_name { IsName (name self.now) };
 
-    /// The octets of the name, if they stand without pointers in what stands for it.
+    /// The octets of the name, where they are known to stand without pointers.
+    ///
+    /// `None` says nothing of the name: what is lent needn't be written out first, and that is all it is for.
     fn as_flat_slice(&self) -> Option<&[u8]>
-        ensures flat { IsSome result ↔ lends_octets self.now }
-        ensures octets { IfSome result (λ octets. octets.now ≡ uncompressed (name self.now)) };
+        ensures { IfSome result (λ octets. octets.now ≡ uncompressed (name self.now)) }
+    {
+        self.as_parsed().as_flat_slice()
+    }
 }
 
 /// Comparisons of whatever stands for a name, which take no memory, and its canonical form.
@@ -76,25 +77,17 @@ pub trait ToNameExt: ToName {
 impl<T: ToName> ToNameExt for T {}
 
 impl ToName for ParsedName<'_> {
-    ghost use Rattle.dns_wire.specs.ParsedName.{labels, IsFlat};
+    ghost use Rattle.dns_wire.specs.ParsedName.{labels};
 
     ghost name = { labels };
 
-    ghost lends_octets = { λ n. IsFlat n };
-
     fn as_parsed(&self) -> ParsedName<'_> {
         *self
-    }
-
-    fn as_flat_slice(&self) -> Option<&[u8]> {
-        ParsedName::as_flat_slice(self)
     }
 }
 
 impl<N: ToName> ToName for &N {
     ghost name = { λ n. N.name n.now };
-
-    ghost lends_octets = { λ n. N.lends_octets n.now };
 
     fn as_parsed(&self) -> ParsedName<'_> {
         (*self).as_parsed()
