@@ -14,17 +14,17 @@ use Rattle.dns_build.specs.State.{State, IsState}
 use Rattle.dns_build.proofs.FoldReading.{HasAll, fold_target, sections_fold}
 
 module _ {IsWritten : ℕ → ℕ → Type 0} (t : Written) (each : OfEachName t IsWritten) (end : ℕ) where
-  -- the parts of a question, and parts behind them
+  -- a question that stands between two places fills them, and parts behind it go on
   question_fills : (x : QuestionItem) (rest : List Part) (p q : ℕ) → HasQuestion x t p q → PartsFill IsWritten end q rest → PartsFill IsWritten end p (question_parts x ++ rest)
   question_fills x rest p q h more = (h.0, each p h.0 x.name h.1, subst (λ k. PartsFill IsWritten end k rest) h.2.1 more)
 
-  -- those of a record
+  -- so does a record
   record_fills : (x : RecordItem) (rest : List Part) (p q : ℕ) → HasRecord x t p q → PartsFill IsWritten end q rest → PartsFill IsWritten end p (record_parts x ++ rest)
   record_fills x rest p q h more =
       let data_fills = parts_fill t each x.parts rest (h.2.0 + 2) q end h.2.2.1 more in
       (h.0, each p h.0 x.owner h.1, subst (λ k. PartsFill IsWritten end (k + 2) (x.parts ++ rest)) h.2.1.1 data_fills)
 
-  -- those of items in order
+  -- so do items in order
   all_fill : {X : Type 0} (P : X → Written → ℕ → ℕ → Type 0) (parts : X → List Part)
       → ((x : X) (rest : List Part) (p q : ℕ) → P x t p q → PartsFill IsWritten end q rest → PartsFill IsWritten end p (parts x ++ rest))
       → (xs : List X) (rest : List Part) (p q : ℕ) → HasAll P xs t p q → PartsFill IsWritten end q rest → PartsFill IsWritten end p (all_parts parts xs ++ rest)

@@ -25,7 +25,7 @@ abbrev pub parts_of : State → List Part
 parts_of s =
     all_parts question_parts s.questions ++ (all_parts record_parts s.answers ++ (all_parts record_parts s.authorities ++ all_parts record_parts s.additionals))
 
--- In the octets of a message with these items, each pointer leads to an earlier place below 16,384 where a label begins.
+-- In the octets of a message with these items, each pointer of a name leads to an earlier place below 16,384 where a label begins. Octets in data are no names.
 abbrev pub PointsToLabels : State → List ℕ → Type 0
 PointsToLabels s b = PartsPointed b (length b) header_size (parts_of s)
 

@@ -174,6 +174,7 @@ impl<N: ToName, D: ComposeRecordData> Record<N, D> {
         ensures composes { Composes T.room T.grows (put_record T.rule (record_item N.name D.rtype_of D.parts self.now)) (T.written target.old) (T.written target.new) result }
         ensures is_record { OnOk result (IsRecord (record_item N.name D.rtype_of D.parts self.now)) }
     {
+        // By the contract of this call, what stands for a name is one.
         let _ = self.owner.as_parsed();
         let fields = field_octets(self.rtype(), self.class(), self.ttl());
         target.append_compressed_name(&self.owner)?;

@@ -2,16 +2,17 @@
 //!
 //! A user depends on this crate alone: its modules have what the crates below it hold. It promises, of every list of calls
 //! on a builder (`script::run`), that the octets are those of one fold over the current header and the standing items,
-//! that reading gives these back in order, that each pointer leads to an earlier label, that a compressor writes names as
-//! short as they can be spelled, and that a push is refused only for room, memory, limit or count. It also has the work of
-//! the program `dnsmsg` (`tool`), which is safe and ends on every input; what it prints is tested.
+//! that reading gives these back in order, that each compression pointer leads to an earlier label, that a push is refused
+//! only for room, memory, limit or count, and that a compressor's message is as short as its names can be spelled, where
+//! `Runs` of `specs/Script.antt` says so. It also has the work of the program `dnsmsg` (`tool`), which is safe and ends on
+//! every input; what it prints is tested.
 #![tactic(auto)]
 
 pub mod builder {
-    //! Builders of messages.
+    //! Builders of messages, and theorems on what they build.
     pub use dns_build::{
         AdditionalBuilder, AnswerBuilder, AuthorityBuilder, MessageBuilder, PushError,
-        QuestionBuilder, RecordSectionBuilder,
+        QuestionBuilder, RecordSectionBuilder, laws,
     };
 }
 
@@ -28,8 +29,8 @@ pub mod header {
 }
 
 pub mod message {
-    //! Messages read lazily.
-    pub use dns_read::{Message, QuestionSection, RecordSection, Section, ShortMessage};
+    //! Messages read lazily, and theorems on what reading them gives.
+    pub use dns_read::{Message, QuestionSection, RecordSection, Section, ShortMessage, laws};
 }
 
 pub mod name {
@@ -47,10 +48,10 @@ pub mod record {
 }
 
 pub mod data {
-    //! The data of records.
+    //! The data of records, and the theorems that a data type of a user's own rests on.
     pub use dns_data::{
         A, Cname, ComposeRecordData, LongRecordData, Ns, ParseAnyRecordData, ParseRecordData,
-        RecordData, Soa, UnknownRecordData, compose_canonical_len_rdata, compose_len_rdata,
+        RecordData, Soa, UnknownRecordData, compose_canonical_len_rdata, compose_len_rdata, laws,
     };
 }
 

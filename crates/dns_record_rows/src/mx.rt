@@ -5,13 +5,14 @@ ghost use Rattle.dns_wire.specs.Parts.{Octets, CompressibleName};
 ghost use Rattle.dns_data.specs.Layout.{Fixed, DomainName, End};
 ghost use Rattle.dns_data.specs.RecordData.{only};
 
-use dns_build::MessageBuilder;
-use dns_code::{Class, Rtype};
-use dns_data::laws::{names_are_short, parts_compose};
-use dns_data::{ComposeRecordData, ParseRecordData, RecordData};
-use dns_item::{Record, Ttl};
-use dns_target::StaticCompressor;
-use dns_wire::{AppendError, Composer, Name, ParseError, ParsedName, Parser, ToName, ToNameExt};
+use dns_message::builder::MessageBuilder;
+use dns_message::code::{Class, Rtype};
+use dns_message::data::laws::{names_are_short, parts_compose};
+use dns_message::data::{ComposeRecordData, ParseRecordData, RecordData};
+use dns_message::name::{Name, ParsedName, ToName, ToNameExt};
+use dns_message::record::{Record, Ttl};
+use dns_message::target::{Composer, StaticCompressor};
+use dns_message::wire::{AppendError, ParseError, Parser};
 use std::process::Abort;
 use std::test::Fail;
 

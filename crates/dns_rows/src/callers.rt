@@ -1,5 +1,6 @@
 //! A proved caller of each crate: the examples of the pages that say how the crates are called.
-ghost use Rattle.std.specs.Prelude.{◌≡◌, ◌≤◌, ◌↔◌, length, max, min, true, IfSome, IsSome, IsTrue, OnTrue};
+ghost use Rattle.std.specs.Prelude.{◌≡◌, ◌≤◌, ◌↔◌, length, max, min, true, IfSome, IsSome, IsTrue};
+ghost use Rattle.std.specs.Bool.{OnTrue};
 ghost use Rattle.dns_code.specs.Header.{fields};
 ghost use Rattle.dns_item.specs.Ttl.{cap_seconds};
 ghost use Rattle.dns_message.specs.Script.{octets_of};

@@ -9,7 +9,22 @@ use std::test::Fail;
 
 /// A label of one octet. A letter in two cases is two labels.
 #[derive(Clone, Copy, Debug, PartialEq)]
-struct Label(u8);
+enum Label {
+    LowerA,
+    LowerB,
+    UpperA,
+}
+
+impl Label {
+    /// The letter.
+    fn octet(self) -> u8 {
+        match self {
+            Label::LowerA => b'a',
+            Label::LowerB => b'b',
+            Label::UpperA => b'A',
+        }
+    }
+}
 
 /// How many octets a label has, with its length octet.
 const LABEL_LEN: usize = 2;
@@ -125,7 +140,7 @@ fn spelling_lens(alloc: Global, names: &[&[Label]]) -> Result<Vec<usize>, AllocE
 fn name_octets(alloc: Global, labels: &[Label]) -> Result<Vec<u8>, AllocError> {
     let mut octets = Vec::new(alloc);
     for label in labels {
-        octets.extend_from_slice(&[1, label.0])?;
+        octets.extend_from_slice(&[1, label.octet()])?;
     }
     octets.push(0)?;
     Ok(octets)
@@ -167,14 +182,14 @@ fn assert_shortest(rt: &impl Abort, names: &[&[Label]], spelled: &[usize], writt
     }
 }
 
-const LABELS: [Label; 3] = [Label(b'a'), Label(b'b'), Label(b'A')];
+const LABELS: [Label; 3] = [Label::LowerA, Label::LowerB, Label::UpperA];
 
-/// How many spellings the lists of no name to three names have, counted by hand.
+/// How many spellings the lists of no name, of one, of two and of three have, counted by hand.
 ///
-/// One for each list of no name or one name.
-/// One for each of the 169 lists of two names, 48 more where these end with the same label, and 9 more where both labels are the same.
-/// For three names, a sum over the first two: their spellings, times the choices for the 13 third names.
-/// These are 13, and 4 for each label that ends one of the two names, and 1 for each name of two labels among them.
+/// A list of no name or of one has one spelling.
+/// Each of the 169 lists of two has one; those 48 whose names end with the same label have one more, and those 9 with the same two labels twice yet another.
+/// Behind two names, the 13 third names have 13 choices in all, 4 more for each label that ends one of the two, and 1 more for each name of two labels among them.
+/// Such a sum, times the spellings of the two, adds up to 4519 over all pairs of first names.
 const SPELLINGS: usize = 1 + 13 + 226 + 4519;
 
 #[test]
@@ -195,16 +210,17 @@ fn none_is_shorter_than_what_is_written(rt: HostRuntime) -> Result<(), Fail> {
     Ok(())
 }
 
-const A: &[Label] = &[Label(b'a')];
+const A: &[Label] = &[Label::LowerA];
 
-const B: &[Label] = &[Label(b'b')];
+const B: &[Label] = &[Label::LowerB];
 
-const CAPITAL_A: &[Label] = &[Label(b'A')];
+const UPPER_A: &[Label] = &[Label::UpperA];
 
-const A_B: &[Label] = &[Label(b'a'), Label(b'b')];
+const A_B: &[Label] = &[Label::LowerA, Label::LowerB];
 
-const B_B: &[Label] = &[Label(b'b'), Label(b'b')];
+const B_B: &[Label] = &[Label::LowerB, Label::LowerB];
 
+/// The spellings of the names have so many octets each, as they are listed.
 fn assert_lens(
     rt: &impl Abort,
     alloc: Global,
@@ -222,7 +238,7 @@ fn spellings_by_hand(rt: HostRuntime) -> Result<(), Fail> {
     assert_lens(&rt, alloc, &[&[], &[]], &[2])?;
     assert_lens(&rt, alloc, &[A_B], &[5])?;
     assert_lens(&rt, alloc, &[A_B, A_B], &[7, 9, 10])?;
-    assert_lens(&rt, alloc, &[A, CAPITAL_A], &[6])?;
+    assert_lens(&rt, alloc, &[A, UPPER_A], &[6])?;
     assert_lens(&rt, alloc, &[A_B, A], &[8])?;
     assert_lens(&rt, alloc, &[B_B], &[5])?;
     assert_lens(&rt, alloc, &[B, A_B, B_B], &[11, 12, 12, 13])

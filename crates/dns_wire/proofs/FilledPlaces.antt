@@ -55,26 +55,26 @@ pub short_parts_are_near : ShortPartsAreNear
 short_parts_are_near rule t parts is good l =
     let keeps = (puts_parts rule parts is).keeps t good in put_parts_fill rule t parts is good (λ p q name h. spelled_near l keeps h)
 
--- behind a label that is near, the labels are near
+-- a label that is near begins below 16,384, and the labels behind it are near
 pub near_label : {b : List ℕ} {q p n : ℕ} → LabelsNear b q p → head_at b p ≡ Ok (Label n) → (p < 16384) × LabelsNear b q (p + 1 + n)
 near_label (LabelsNear.root h end) e = cc
 near_label (LabelsNear.pointer h end) e = cc
 near_label {b = b} {q = q} {p = p} (LabelsNear.label {n = k} h near x) e =
     let P : ℕ → Type 0 = λ n. (p < 16384) × LabelsNear b q (p + 1 + n) in subst P (cc) (near, x)
 
--- where they end with a zero octet
+-- at a zero octet, what is near ends behind it
 near_root : {b : List ℕ} {q p : ℕ} → LabelsNear b q p → head_at b p ≡ Ok Root → q ≡ p + 1
 near_root (LabelsNear.root h end) e = end
 near_root (LabelsNear.label h near x) e = cc
 near_root (LabelsNear.pointer h end) e = cc
 
--- where they end with a pointer
+-- at a pointer, what is near ends behind its two octets
 near_pointer : {b : List ℕ} {q p t : ℕ} → LabelsNear b q p → head_at b p ≡ Ok (Pointer t) → q ≡ p + 2
 near_pointer (LabelsNear.root h end) e = cc
 near_pointer (LabelsNear.label h near x) e = cc
 near_pointer (LabelsNear.pointer h end) e = end
 
--- they end where the walked extent does
+-- labels that are near end where the walked extent does
 pub near_end : {b : List ℕ} {q r p s : ℕ} → WalkedBehind b p s r → LabelsNear b q p → q ≡ r
 near_end (WalkedBehind.root h) near = near_root near h
 near_end (WalkedBehind.pointer h) near = near_pointer near h

@@ -84,7 +84,7 @@ best_label names label others n without (inr a) =
       behind_first (λ f r. name_size (label ∷ a.0) ≤ name_size f) names label others without (λ f r e s. let l = a.5 f r e s in omega arith),
     )
 
--- by what is known of the whole
+-- a label and the others, by what is known of the whole name: as short as can be, where the others are
 best_one : (m : Memory) (names : List Labels) (o : Option Spot) (keep : Bool) (label : List ℕ) (others : Labels) (p : ℕ) (after : List ℕ × List (Labels × ℕ)) (Others : Type 0)
     → Knows m names → get m (label ∷ others) ≡ o → KeptLabel o keep Others → (Others → Best names others (length after.0))
     → Best names (label ∷ others) (length (spell_label o keep label others p after).0)
@@ -116,7 +116,7 @@ each_others : (label : List ℕ) (others : Labels) (ss : List (Labels × ℕ)) �
 each_others label others [] h = tt
 each_others label others (s ∷ ss) h = (suffix_others s.0 label others h.0, each_others label others ss h.1)
 
--- by what is known of the whole
+-- a label and the others, by what is known of the whole name: only its suffixes, where only those of the others are
 suffixes_one : (o : Option Spot) (keep : Bool) (label : List ℕ) (others : Labels) (p : ℕ) (after : List ℕ × List (Labels × ℕ)) → Each (λ s. IsSuffix s.0 others) after.1 → Each (λ s. IsSuffix s.0 (label ∷ others)) (spell_label o keep label others p after).1
 suffixes_one (Some x) keep label others p after h = tt
 suffixes_one None true label others p after h = (suffix_whole label others, each_others label others after.1 h)
@@ -137,7 +137,7 @@ suffix_cases : (s : Labels) (label : List ℕ) (others first : Labels) → label
 suffix_cases s label others [] e some = inl (sym e)
 suffix_cases s label others (l ∷ first) e some = inr (record { first = first; whole = cc; some = some })
 
--- by what is known of the whole
+-- a label and the others, by what is known of the whole name: each of its suffixes, where each of those of the others is
 listed_one : (m : Memory) (names : List Labels) (o : Option Spot) (keep : Bool) (label : List ℕ) (others : Labels) (p : ℕ) (after : List ℕ × List (Labels × ℕ)) (Others : Type 0) (s : Labels)
     → Knows m names → get m (label ∷ others) ≡ o → KeptLabel o keep Others → (Others → IsSuffix s others → IsShared names s ⊎ Listed s after.1)
     → IsSuffix s (label ∷ others) → IsShared names s ⊎ Listed s (spell_label o keep label others p after).1
@@ -202,7 +202,7 @@ knows_more rule m n names p held q name knows k is g =
           ];
     }
 
--- fewer are few
+-- a rule that has room for more suffixes than so many has room behind fewer
 pub few_less : (rule : Rule) (k n : ℕ) → k ≤ n → SharesAll rule n → SharesAll rule k
 few_less Plain k n l h = h
 few_less Static k n l h = omega arith
@@ -234,7 +234,7 @@ pub hash_keeps_near : KeepsNear Hash
 hash_keeps_near = record { keeps = λ p held h few. refl; chosen = λ ss h. ap (λ (b : Bool). cond b ss []) h }
 
 module _ (rule : Rule) (r : KeepsNear rule) (m : Memory) (b : List ℕ) (q : ℕ) where
-  -- the first label of a name, by what is known of the whole
+  -- a label and the others, by what is known of the whole name: every label before a known suffix is kept, where it is of the others
   kept_one : (p held : ℕ) (o : Option Spot) (keep : Bool) (label : List ℕ) (others : Labels) (after : List ℕ × List (Labels × ℕ)) (Others : Type 0)
       → is_kept rule p held ≡ keep → IsLabel label → LabelsNear b q p → At b p (spell_label o keep label others p after).0
       → SharesAll rule (held + length (spell_label o keep label others p after).1)
@@ -258,7 +258,7 @@ module _ (rule : Rule) (r : KeepsNear rule) (m : Memory) (b : List ℕ) (q : ℕ
       refl tail.0 near h few (λ near' h' few'. near_kept p' (held + 1) others tail.1 near' h' few')
 
 module _ (rule : Rule) (m : Memory) (b : List ℕ) (q : ℕ) where
-  -- the suffixes of a name that are written out, by what is known of the whole
+  -- a label and the others, by what is known of the whole name: every suffix that is written out is near, where it is of the others
   near_one : (p : ℕ) (o : Option Spot) (keep : Bool) (label : List ℕ) (others : Labels) (after : List ℕ × List (Labels × ℕ))
       → IsLabel label → LabelsNear b q p → At b p (spell_label o keep label others p after).0
       → (LabelsNear b q (p + 1 + length label) → At b (p + 1 + length label) after.0 → list_all (λ s. nat_lt s.1 16384) after.1 ≡ true)
@@ -296,7 +296,7 @@ len_remember m (s ∷ ss) q =
     let b : len r ≤ len (insert r s.0 v) = len_more r s.0 v (contains_key r s.0) (len-insert suffix_total r s.0 v) in
     omega arith
 
--- what is nowhere is none
+-- what isn't any spot is none
 none_of : (o : Option Spot) → ((x : Spot) → o ≡ Some x → ⊥) → o ≡ None
 none_of None h = refl
 none_of (Some x) h = absurd (h x refl)
@@ -305,11 +305,11 @@ none_of (Some x) h = absurd (h x refl)
 longer : (label : List ℕ) (others : Labels) → IsSuffix (label ∷ others) others → ⊥
 longer label others h = let e : length others ≡ length h.first + suc (length others) = ap length h.whole ∙ length-append h.first (label ∷ others) in omega arith
 
--- one that is new counts
+-- a suffix that wasn't remembered makes one more
 len_new : (r : Memory) (k : Labels) (v : Spot) → get r k ≡ None → len (insert r k v) ≡ len r + 1
 len_new r k v e = len-insert suffix_total r k v ∙ ap (λ (o : Option Spot). cond (is_some o) (len r) (len r + 1)) e
 
--- by what is known of the whole
+-- a label and the others, by what is known of the whole name: each suffix counts, where each of those of the others does
 len_one : (rule : Rule) (m : Memory) (q p : ℕ) (o : Option Spot) (keep : Bool) (label : List ℕ) (others : Labels) (after : List ℕ × List (Labels × ℕ)) → get m (label ∷ others) ≡ o
     → Each (λ s. IsSuffix s.0 others) after.1 → len (remember m after.1 q) ≡ len m + length after.1
     → let ss = (spell_label o keep label others p after).1 in len (remember m ss q) ≡ len m + length ss

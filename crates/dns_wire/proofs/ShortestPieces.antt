@@ -24,6 +24,7 @@ use Rattle.dns_wire.proofs.PieceLaws.{lay-both, puts_put_name, puts_octets}
 use Rattle.dns_wire.proofs.PlainTargets.{nothing_is_kept}
 use Rattle.dns_wire.proofs.SharedSuffixes.{Knows, Best, KeepsNear, tree_keeps_near, static_keeps_near, hash_keeps_near, best, knows_more, near_kept, near_suffixes, few_less, shared_some, len_spell, len_remember}
 use Rattle.dns_wire.proofs.SpelledNames.{spelled_walked, spelled_more, kept_more}
+use Rattle.dns_wire.proofs.Steps.{name_size-append}
 
 -- the names behind these parts
 abbrev pub added : List Part → List Labels → List Labels
@@ -61,7 +62,7 @@ Shortens rule piece parts = (t : Written) → AddsShort rule parts t (lay piece 
 octets_parts : {names : List Labels} {xs : List ℕ} {parts : List Part} {n : ℕ} → Spelling names (Octets xs ∷ parts) n → (k : ℕ) × Spelling names parts k × (n ≡ length xs + k)
 octets_parts (octets {n = k} s) = (k, s, refl)
 
--- no part
+-- nothing spells no part
 pub shortens_none : (rule : Rule) → Shortens rule (put_octets []) []
 shortens_none rule t = record {
   longer = omega arith;
@@ -77,7 +78,7 @@ shortens_none rule t = record {
       };
 }
 
--- octets, or others as long as they
+-- octets spell a part of octets that is as long
 pub shortens_octets : (rule : Rule) (xs ys : List ℕ) → length ys ≡ length xs → Shortens rule (put_octets xs) (Octets ys ∷ [])
 shortens_octets rule xs ys same t = record {
   longer = omega arith;
@@ -93,33 +94,28 @@ shortens_octets rule xs ys same t = record {
       };
 }
 
--- the octets of labels behind labels
-name_size-append : (a b : Labels) → name_size (a ++ b) ≡ name_size a + name_size b
-name_size-append [] b = omega arith
-name_size-append (l ∷ a) b = omega (arith, name_size-append a b)
-
 -- labels have octets
 size_some : (a : Labels) → 1 ≤ length a → 1 ≤ name_size a
 size_some [] h = absurd (omega arith)
 size_some (l ∷ a) h = omega arith
 
--- how a name at the front is spelled
+-- the two ways in which a name at the front may be spelled, and how many octets that takes with the parts behind it
 abbrev AtName : List Labels → Labels → List Part → ℕ → Type 0
 AtName names name parts n =
     ((k : ℕ) × Spelling (name ∷ names) parts k × (n ≡ name_size name + 1 + k))
     ⊎ ((first : Labels) × (rest : Labels) × (name ≡ first ++ rest) × IsShared names rest × ((k : ℕ) × Spelling (name ∷ names) parts k × (n ≡ name_size first + 2 + k)))
 
--- a name has one of two spellings
+-- a name at the front is spelled in one of these ways
 name_parts : {names : List Labels} {name : Labels} {parts : List Part} {n : ℕ} → Spelling names (CompressibleName name ∷ parts) n → AtName names name parts n
 name_parts (whole {n = k} s) = inl (k, s, refl)
 name_parts (shared {n = k} first rest e h s) = inr (first, rest, e, h, (k, s, refl))
 
--- what is written of a name is one of them
+-- a name that is as short as can be is spelled in one of these ways
 attains_name : (names : List Labels) (name : Labels) (rest : List Part) (l n : ℕ) → Best names name l → Spelling (name ∷ names) rest n → Spelling names (CompressibleName name ∷ rest) (l + n)
 attains_name names name rest l n (inl a) s = subst (λ k. Spelling names (CompressibleName name ∷ rest) (k + n)) (sym a.0) (whole s)
 attains_name names name rest l n (inr a) s = subst (λ k. Spelling names (CompressibleName name ∷ rest) (k + n)) (sym a.4) (shared a.0 a.1 a.2 a.3 s)
 
--- and none is shorter
+-- and in no way is it shorter
 least_name : (names : List Labels) (name : Labels) (rest : List Part) (l n : ℕ) → Best names name l → AtName names name rest n → (k : ℕ) × Spelling (name ∷ names) rest k × (l + k ≤ n)
 least_name names name rest l n (inl a) (inl b) = (b.0, b.1, omega (arith, a.0, b.2))
 least_name names name rest l n (inl a) (inr b) = absurd (a.1 b.0 b.1 b.2 b.3)
@@ -161,7 +157,7 @@ spells Static n few = spells_static
 spells Tree n few = spells_tree
 spells Hash n few = spells_hash
 
--- a name by its text
+-- what a rule writes of a name is as short as can be, by the text and the suffixes that `spell` gives
 name_short : (rule : Rule) (name : Labels) (t : Written) (laid : Laid) (c : List ℕ) (names : List Labels) (rest : List Part) (end : ℕ) → KeepsNear rule → IsName name → Knows t.memory names
     → let spelled = spell rule t.memory (length t.octets) (len t.memory) name in laid ≡ record { text = spelled.0; memory = remember t.memory (kept rule spelled.1) (length t.octets + length spelled.0) }
     → ((s : Labels) (x : Spot) → get t.memory s ≡ Some x → get laid.memory s ≡ Some x)

@@ -12,7 +12,8 @@ use Rattle.dns_wire.proofs.LabelsLemmas.{name_size-with_root}
 length-with_root : (name : Labels) → length (with_root name) ≡ length name + 1
 length-with_root name = length-append name ([] ∷ [])
 
-name_size-append : (xs ys : Labels) → name_size (xs ++ ys) ≡ name_size xs + name_size ys
+-- the octets of labels behind labels
+pub name_size-append : (xs ys : Labels) → name_size (xs ++ ys) ≡ name_size xs + name_size ys
 name_size-append [] ys = omega arith
 name_size-append (x ∷ xs) ys = omega (arith, name_size-append xs ys)
 

@@ -8,7 +8,7 @@ use Rattle.dns_wire.specs.Pieces.{Rule, Plain, Static, Tree, Hash}
 use Rattle.dns_wire.specs.Spelling.{IsShortest}
 use Rattle.dns_wire.specs.Targets.{Written, IsTarget, lay}
 
--- Whether a rule shares every suffix that was written where a pointer can lead: the tree and the hash rule do, and the static rule while it remembers fewer than 24 suffixes.
+-- Whether a rule that remembers so many suffixes has room for every other: the tree and the hash rule always, and the static rule while it remembers fewer than 24. So while each label begins below 16,384, every suffix that was written is shared.
 abbrev pub SharesAll : Rule → ℕ → Type 0
 SharesAll Plain remembered = ⊥
 SharesAll Static remembered = remembered < 24
@@ -20,12 +20,12 @@ abbrev pub PartsPointToLabels : Type 0
 PartsPointToLabels = (rule : Rule) (t : Written) (parts : List Part) → AreParts parts → IsTarget t
     → let u = lay (put_parts rule parts) t in PartsPointed u.octets (length u.octets) (length t.octets) parts
 
--- in at most 16,384 octets every label of parts that are put begins below 16,384
+-- where the whole content has at most 16,384 octets, every label of parts that are put begins below 16,384
 abbrev pub ShortPartsAreNear : Type 0
 ShortPartsAreNear = (rule : Rule) (t : Written) (parts : List Part) → AreParts parts → IsTarget t
     → let u = lay (put_parts rule parts) t in length u.octets ≤ 16384 → PartsNear u.octets (length u.octets) (length t.octets) parts
 
--- they take the octets of a spelling of the parts, and no spelling is shorter
+-- from a target to a longer one these parts are added, in as many octets as a spelling of them has, and no spelling is shorter
 abbrev pub AddsShortest : List Part → Written → Written → Type 0
 AddsShortest parts before after = (n : ℕ) × (length after.octets ≡ length before.octets + n) × IsShortest parts n
 

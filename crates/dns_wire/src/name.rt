@@ -101,7 +101,8 @@ impl<Octs: Octets> ToName for Name<Octs> {
     /// All octets of the name: they have no pointer.
     fn as_flat_slice(&self) -> Option<&[u8]>
         ensures lent { IsSome result }
-        ensures octets { IfSome result (λ octets. octets.now ≡ uncompressed (name_labels self.now)) }
+        ensures octets { IfSome result (λ octets.
+            octets.now ≡ uncompressed (name_labels self.now)) }
     {
         Some(self.octets.octets())
     }

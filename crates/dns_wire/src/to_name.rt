@@ -20,7 +20,7 @@ pub trait ToName {
 
     /// The octets of the name, where they are known to stand without pointers.
     ///
-    /// `None` says nothing of the name: what is lent needn't be written out first, and that is all it is for.
+    /// `None` says nothing of the name. A caller then writes the octets out itself; what is lent saves it that.
     fn as_flat_slice(&self) -> Option<&[u8]>
         ensures { IfSome result (λ octets. octets.now ≡ uncompressed (name self.now)) }
     {
