@@ -8,3 +8,5 @@ pub mod Shown
 pub mod TcLemmas
 pub mod FilledFolds
 pub mod ShortestFolds
+pub mod Steps
+pub mod Taken
