@@ -1,8 +1,0 @@
-use Rattle.std.proofs.Common.{◌∷◌, ap, refl}
-use Rattle.dns_build.specs.Built.{Built}
-use Rattle.dns_build.proofs.RecordFolds.{Authorities}
-use Rattle.dns_build.proofs.RecordMoves.{rewinds}
-use Rattle.dns_build.proofs.authority_builder.AuthorityBuilder.rewind.Goals as goal
-
-pub returns : goal.returns
-returns g c = rw (← c.self.view_is) (rewinds Authorities _ _ _ _ _ refl (ap (λ (b : Built). record b { starts = c.self.inside.start ∷ c.self.inside.answer_start ∷ b.starts }) c.empty_section.ensures))

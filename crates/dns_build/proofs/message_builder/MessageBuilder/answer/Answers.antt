@@ -1,7 +1,0 @@
-use Rattle.std.proofs.Common.{refl}
-use Rattle.dns_build.specs.State.{InBuilder, InQuestion, InAnswer}
-use Rattle.dns_build.proofs.Moves.{through}
-use Rattle.dns_build.proofs.message_builder.MessageBuilder.answer.Goals as goal
-
-pub returns : goal.returns
-returns g c = through InBuilder InQuestion InAnswer _ _ _ _ (λ s. refl) c.question.ensures c.answer.ensures
