@@ -148,15 +148,20 @@ impl<Target: Composer, Index: SuffixIndex> Compressor<Target, Index> {
         let labels = LabelStarts::new(name, octets, starts.as_slice());
         let content = self.target.as_slice();
         let place = content.len();
-        let found = self.index.look_up(content, &labels);
-        let Ok(plan) = self.index.plan(content, &labels, found) else {
-            return Err(AppendError::OutOfMemory);
-        };
+        let (found, hint) = self.index.look_up(content, &labels);
+        let plan = self.index.plan(content, &labels, found);
         append_planned(&mut self.target, &labels, found, plan.whole)?;
         let written = self.target.as_slice();
-        self.index
-            .remember(written, &labels, place, found, plan.count);
-        Ok(())
+        match self
+            .index
+            .remember(written, &labels, place, found, hint, plan.count)
+        {
+            Ok(()) => Ok(()),
+            Err(_) => {
+                self.target.truncate(place);
+                Err(AppendError::OutOfMemory)
+            }
+        }
     }
 }
 
