@@ -3,9 +3,10 @@ ghost use Rattle.std.specs.Prelude.{◌≡◌, ◌||◌, true, IfOk, OnErr, IsTr
 ghost use Rattle.dns_wire.specs.Memory.{nothing};
 ghost use Rattle.dns_wire.specs.Names.{uncompressed};
 ghost use Rattle.dns_wire.specs.ParsedName.{labels};
-ghost use Rattle.dns_wire.specs.Pieces.{Plain};
+ghost use Rattle.dns_wire.specs.Pieces.{Plain, put_octets};
 ghost use Rattle.dns_wire.specs.PutName.{put_name};
 ghost use Rattle.dns_wire.specs.Targets.{Appends};
+ghost use Rattle.dns_target.specs.Causes.{IsShortFirst};
 ghost use Rattle.dns_target.specs.Rules.{compressing_not_plain};
 
 use crate::hashes::Hashes;
@@ -141,7 +142,14 @@ impl<Target: Composer, Index: SuffixIndex> Compressor<Target, Index> {
     /// Appends a name, which is given with its octets without pointers.
     fn append_name(&mut self, name: ParsedName<'_>, octets: &[u8]) -> Result<(), AppendError>
         requires { octets.now ≡ uncompressed (labels name) }
-        ensures { Appends Target.room (Index.takes_memory || Target.grows) (put_name Index.rule (labels name.entry)) self.old self.new result }
+        ensures appends {
+            Appends Target.room (Index.takes_memory || Target.grows)
+                (put_name Index.rule (labels name.entry)) self.old self.new result
+        }
+        ensures short {
+            IsShortFirst Target.room Target.grows
+                (put_name Index.rule (labels name.entry)) self.old result
+        }
     {
         let mut starts = ArrayVec::new();
         note_starts(&name, octets, &mut starts);
@@ -193,11 +201,22 @@ impl<Target: Composer, Index: SuffixIndex> Composer for Compressor<Target, Index
         self.target.as_slice()
     }
 
-    fn append_slice(&mut self, octets: &[u8]) -> Result<(), AppendError> {
+    fn append_slice(&mut self, octets: &[u8]) -> Result<(), AppendError>
+        ensures { Appends Target.room Target.grows (put_octets octets.now) self.old self.new result }
+    {
         self.target.append_slice(octets)
     }
 
-    fn append_compressed_name<N: ToName>(&mut self, name: &N) -> Result<(), AppendError> {
+    fn append_compressed_name<N: ToName>(&mut self, name: &N) -> Result<(), AppendError>
+        ensures appends {
+            Appends Target.room (Index.takes_memory || Target.grows)
+                (put_name Index.rule (N.name name.now)) self.old self.new result
+        }
+        ensures short {
+            IsShortFirst Target.room Target.grows
+                (put_name Index.rule (N.name name.now)) self.old result
+        }
+    {
         let parsed = name.as_parsed();
         match name.as_flat_slice() {
             Some(octets) => self.append_name(parsed, octets),
