@@ -56,7 +56,8 @@ impl<Target: Composer, Index: SuffixIndex> Model for Compressor<Target, Index> {
 
     ghost view = { λ s. with_spots (Target.written s.target) (Index.spots s.index) };
 
-    ghost invariant = { λ s. IsHeld Target.rule (Target.written s.target) (Index.spots s.index) × Index.is_of (Target.written s.target).octets s.index };
+    ghost invariant = { λ s. IsHeld Target.rule (Target.written s.target) (Index.spots s.index)
+        × Index.is_of (Target.written s.target).octets s.index };
 }
 
 impl<Target: Composer> Compressor<Target, Places> {
@@ -142,14 +143,10 @@ impl<Target: Composer, Index: SuffixIndex> Compressor<Target, Index> {
     /// Appends a name, which is given with its octets without pointers.
     fn append_name(&mut self, name: ParsedName<'_>, octets: &[u8]) -> Result<(), AppendError>
         requires { octets.now ≡ uncompressed (labels name) }
-        ensures appends {
-            Appends Target.room (Index.takes_memory || Target.grows)
-                (put_name Index.rule (labels name.entry)) self.old self.new result
-        }
-        ensures short {
-            IsShortFirst Target.room Target.grows
-                (put_name Index.rule (labels name.entry)) self.old result
-        }
+        ensures appends { Appends Target.room (Index.takes_memory || Target.grows)
+            (put_name Index.rule (labels name.entry)) self.old self.new result }
+        ensures short { IsShortFirst Target.room Target.grows
+            (put_name Index.rule (labels name.entry)) self.old result }
     {
         let mut starts = ArrayVec::new();
         note_starts(&name, octets, &mut starts);
@@ -208,14 +205,10 @@ impl<Target: Composer, Index: SuffixIndex> Composer for Compressor<Target, Index
     }
 
     fn append_compressed_name<N: ToName>(&mut self, name: &N) -> Result<(), AppendError>
-        ensures appends {
-            Appends Target.room (Index.takes_memory || Target.grows)
-                (put_name Index.rule (N.name name.now)) self.old self.new result
-        }
-        ensures short {
-            IsShortFirst Target.room Target.grows
-                (put_name Index.rule (N.name name.now)) self.old result
-        }
+        ensures appends { Appends Target.room (Index.takes_memory || Target.grows)
+            (put_name Index.rule (N.name name.now)) self.old self.new result }
+        ensures short { IsShortFirst Target.room Target.grows
+            (put_name Index.rule (N.name name.now)) self.old result }
     {
         let parsed = name.as_parsed();
         match name.as_flat_slice() {
