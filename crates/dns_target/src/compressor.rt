@@ -42,7 +42,7 @@ pub type TreeCompressor<Target> = Compressor<Target, Tree>;
 pub type HashCompressor<Target> = Compressor<Target, Suffixes>;
 
 /// A compressor that remembers each suffix that it writes out below 16,384, by its place and its hash, and knows it again
-/// octet for octet. Its hash is fast and has a fixed seed.
+/// octet for octet. Its hash is fast and has a fixed seed: names with one hash are compared one after another.
 pub type IndexCompressor<Target> = Compressor<Target, Hashes>;
 
 impl<Target: Composer, Index: SuffixIndex> Model for Compressor<Target, Index> {
@@ -121,7 +121,8 @@ impl<Target: Composer> Compressor<Target, Hashes> {
 impl<Target: Composer, Index: SuffixIndex> Compressor<Target, Index> {
     /// The target, which holds the content.
     pub fn as_target(&self) -> &Target
-        ensures { Target.written result.now ≡ record { octets = self.now.octets; memory = nothing } }
+        ensures { Target.written result.now
+            ≡ record { octets = self.now.octets; memory = nothing } }
     {
         &self.target
     }
@@ -199,7 +200,8 @@ impl<Target: Composer, Index: SuffixIndex> Composer for Compressor<Target, Index
     }
 
     fn append_slice(&mut self, octets: &[u8]) -> Result<(), AppendError>
-        ensures { Appends Target.room Target.grows (put_octets octets.now) self.old self.new result }
+        ensures { Appends Target.room Target.grows (put_octets octets.now)
+            self.old self.new result }
     {
         self.target.append_slice(octets)
     }
