@@ -20,14 +20,15 @@
 typedef size_t compressor(const uint8_t *names, size_t names_len, size_t rounds, uint8_t *out,
                           size_t out_len);
 
-compressor dns_bench_static, dns_bench_tree, dns_bench_hash;
-compressor dns_bench_fresh_static, dns_bench_fresh_tree, dns_bench_fresh_hash;
+compressor dns_bench_static, dns_bench_tree, dns_bench_hash, dns_bench_index;
+compressor dns_bench_fresh_static, dns_bench_fresh_tree;
+compressor dns_bench_fresh_hash, dns_bench_fresh_index;
 
 #ifdef COUNT_ALLOCATIONS
 extern uint64_t allocations;
 #endif
 
-enum { RUNS = 15, ROWS = 6, WORKLOADS = 2, MOST = 1 << 14, STATIC_PLACES = 24 };
+enum { RUNS = 15, ROWS = 8, WORKLOADS = 2, MOST = 1 << 14, STATIC_PLACES = 24 };
 
 struct row {
     const char *name;
@@ -39,9 +40,11 @@ static const struct row rows[ROWS] = {
     {"static", dns_bench_static, 1},
     {"tree", dns_bench_tree, 0},
     {"hash", dns_bench_hash, 0},
+    {"index", dns_bench_index, 0},
     {"static, fresh", dns_bench_fresh_static, 1},
     {"tree, fresh", dns_bench_fresh_tree, 0},
     {"hash, fresh", dns_bench_fresh_hash, 0},
+    {"index, fresh", dns_bench_fresh_index, 0},
 };
 
 struct workload {

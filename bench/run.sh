@@ -1,6 +1,6 @@
 #!/usr/bin/env bash
 # Builds crates/dns_bench, which proves it and the crates below it, and prints the times and the allocations of names
-# that are written by the three compressors. With COUNT=1 it also prints instructions, by valgrind.
+# that are written by the four compressors. With COUNT=1 it also prints instructions, by valgrind.
 set -eu
 here=$(cd "$(dirname "$0")" && pwd)
 crate=$here/../crates/dns_bench
@@ -32,7 +32,7 @@ instructions() {
 }
 echo
 printf '%-14s %-9s %12s\n' compressor workload instructions
-for row in static tree hash 'static, fresh' 'tree, fresh' 'hash, fresh'; do
+for row in static tree hash index 'static, fresh' 'tree, fresh' 'hash, fresh' 'index, fresh'; do
   for workload in zone response; do
     few=$(instructions "$row" "$workload" 10)
     more=$(instructions "$row" "$workload" 60)

@@ -1,4 +1,4 @@
-//! Names written by the three compressors, message after message, for C code that times it. Each export writes the same
+//! Names written by the four compressors, message after message, for C code that times it. Each export writes the same
 //! names as one message, so many times, and hands the last message out.
 //!
 //! The names stand one behind the other in `names`. The last message goes to the beginning of `out`, and its length is
@@ -9,7 +9,7 @@ mod names;
 
 ghost use Rattle.std.specs.Prelude.{◌≡◌, ◌≤◌, length};
 
-use dns_target::{HashCompressor, StaticCompressor, TreeCompressor};
+use dns_target::{HashCompressor, IndexCompressor, StaticCompressor, TreeCompressor};
 use dns_wire::Composer;
 use names::{hand_out, read_names, write_message, write_names};
 use std::alloc::Global;
@@ -162,6 +162,41 @@ pub extern "C" fn dns_bench_fresh_hash(
     write_fresh(
         alloc,
         || HashCompressor::new(alloc, Vec::new(alloc)),
+        names,
+        rounds,
+        out,
+    )
+}
+
+/// Writes with one index compressor, which is emptied before each message.
+#[unsafe(no_mangle)]
+pub extern "C" fn dns_bench_index(
+    alloc: Global,
+    names: &[u8],
+    rounds: usize,
+    out: &mut [u8],
+) -> usize
+    ensures length { length out.new ≡ length out.old }
+    ensures within { result ≤ length out.new }
+{
+    let mut target = IndexCompressor::new(alloc, Vec::new(alloc));
+    write_reused(alloc, &mut target, names, rounds, out)
+}
+
+/// Writes each message with a new index compressor over a new target.
+#[unsafe(no_mangle)]
+pub extern "C" fn dns_bench_fresh_index(
+    alloc: Global,
+    names: &[u8],
+    rounds: usize,
+    out: &mut [u8],
+) -> usize
+    ensures length { length out.new ≡ length out.old }
+    ensures within { result ≤ length out.new }
+{
+    write_fresh(
+        alloc,
+        || IndexCompressor::new(alloc, Vec::new(alloc)),
         names,
         rounds,
         out,

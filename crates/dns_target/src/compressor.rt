@@ -1,0 +1,256 @@
+//! A target that compresses names, by an index of the suffixes that it remembers.
+ghost use Rattle.std.specs.Prelude.{◌≡◌, ◌||◌, true, IfOk, OnErr, IsTrue};
+ghost use Rattle.dns_wire.specs.Memory.{nothing};
+ghost use Rattle.dns_wire.specs.Names.{uncompressed};
+ghost use Rattle.dns_wire.specs.ParsedName.{labels};
+ghost use Rattle.dns_wire.specs.Pieces.{Plain, put_octets};
+ghost use Rattle.dns_wire.specs.PutName.{put_name};
+ghost use Rattle.dns_wire.specs.Targets.{Appends};
+ghost use Rattle.dns_target.specs.Causes.{IsShortFirst};
+ghost use Rattle.dns_target.specs.Rules.{compressing_not_plain};
+
+use crate::hashes::Hashes;
+use crate::index::SuffixIndex;
+use crate::label_starts::{LabelStarts, note_starts};
+use crate::places::Places;
+use crate::suffixes::Suffixes;
+use crate::texts::append_planned;
+use crate::tree::Tree;
+use arrayvec::ArrayVec;
+use dns_wire::{AppendError, CloneTarget, Composer, FreezeBuilder, ParsedName, ToName};
+use std::alloc::{AllocError, Global};
+use std::convert::AsSlice;
+use std::marker::Model;
+
+/// A target that compresses names, over one that doesn't (RFC 1035 section 4.1.4).
+#[derive(Debug, Drop)]
+pub struct Compressor<Target: Composer, Index: SuffixIndex> {
+    target: Target,
+    index: Index,
+}
+
+/// A compressor that remembers the first 24 suffixes that it writes out below 16,384, and knows them again octet for octet.
+/// It takes no memory but what its target takes.
+pub type StaticCompressor<Target> = Compressor<Target, Places>;
+
+/// A compressor that remembers each suffix that it writes out below 16,384, and knows it again octet for octet.
+pub type TreeCompressor<Target> = Compressor<Target, Tree>;
+
+/// A compressor that remembers all suffixes that it writes out of a name, or none of them where one begins at 16,384 or
+/// further on, and knows them again octet for octet. Its hash is fast and has a fixed seed: for names that strangers choose,
+/// [`TreeCompressor`] is the one to use.
+pub type HashCompressor<Target> = Compressor<Target, Suffixes>;
+
+/// A compressor that remembers each suffix that it writes out below 16,384, by its place and its hash, and knows it again
+/// octet for octet. Its hash is fast and has a fixed seed: names with one hash are compared one after another.
+pub type IndexCompressor<Target> = Compressor<Target, Hashes>;
+
+impl<Target: Composer, Index: SuffixIndex> Model for Compressor<Target, Index> {
+    ghost use Rattle.dns_wire.specs.Targets.{Written};
+    ghost use Rattle.dns_wire.specs.WrittenCode.{written_code};
+    ghost use Rattle.dns_target.specs.Held.{with_spots, IsHeld};
+
+    ghost Value = { Written };
+
+    ghost coded = { written_code };
+
+    ghost view = { λ s. with_spots (Target.written s.target) (Index.spots s.index) };
+
+    ghost invariant = { λ s. IsHeld Target.rule (Target.written s.target) (Index.spots s.index)
+        × Index.is_of (Target.written s.target).octets s.index };
+}
+
+impl<Target: Composer> Compressor<Target, Places> {
+    /// A compressor over a target that doesn't compress. The content stays, and nothing is remembered.
+    pub fn new(target: Target) -> Self
+        requires { Target.rule ≡ Plain }
+        ensures { result ≡ record { octets = (Target.written target).octets; memory = nothing } }
+    {
+        Compressor {
+            target,
+            index: Places::new(),
+        }
+    }
+}
+
+impl<Target: Composer> Compressor<Target, Tree> {
+    /// A compressor over a target that doesn't compress. The content stays, and nothing is remembered.
+    ///
+    /// What is remembered takes memory from `alloc`.
+    pub fn new(alloc: Global, target: Target) -> Self
+        requires { Target.rule ≡ Plain }
+        ensures { result ≡ record { octets = (Target.written target).octets; memory = nothing } }
+    {
+        Compressor {
+            target,
+            index: Tree::new(alloc),
+        }
+    }
+}
+
+impl<Target: Composer> Compressor<Target, Suffixes> {
+    /// A compressor over a target that doesn't compress. The content stays, and nothing is remembered.
+    ///
+    /// What is remembered takes memory from `alloc`.
+    pub fn new(alloc: Global, target: Target) -> Self
+        requires { Target.rule ≡ Plain }
+        ensures { result ≡ record { octets = (Target.written target).octets; memory = nothing } }
+    {
+        Compressor {
+            target,
+            index: Suffixes::new(alloc),
+        }
+    }
+}
+
+impl<Target: Composer> Compressor<Target, Hashes> {
+    /// A compressor over a target that doesn't compress. The content stays, and nothing is remembered.
+    ///
+    /// What is remembered takes memory from `alloc`.
+    pub fn new(alloc: Global, target: Target) -> Self
+        requires { Target.rule ≡ Plain }
+        ensures { result ≡ record { octets = (Target.written target).octets; memory = nothing } }
+    {
+        Compressor {
+            target,
+            index: Hashes::new(alloc),
+        }
+    }
+}
+
+impl<Target: Composer, Index: SuffixIndex> Compressor<Target, Index> {
+    /// The target, which holds the content.
+    pub fn as_target(&self) -> &Target
+        ensures { Target.written result.now
+            ≡ record { octets = self.now.octets; memory = nothing } }
+    {
+        &self.target
+    }
+
+    /// The target, which holds the content. What was remembered is given up.
+    pub fn into_target(self) -> Target
+        ensures { Target.written result ≡ record { octets = self.octets; memory = nothing } }
+    {
+        self.target
+    }
+
+    /// The content.
+    pub fn as_slice(&self) -> &[u8]
+        ensures { result.now ≡ self.now.octets }
+    {
+        self.target.as_slice()
+    }
+
+    /// Appends a name, which is given with its octets without pointers.
+    fn append_name(&mut self, name: ParsedName<'_>, octets: &[u8]) -> Result<(), AppendError>
+        requires { octets.now ≡ uncompressed (labels name) }
+        ensures appends { Appends Target.room (Index.takes_memory || Target.grows)
+            (put_name Index.rule (labels name.entry)) self.old self.new result }
+        ensures short { IsShortFirst Target.room Target.grows
+            (put_name Index.rule (labels name.entry)) self.old result }
+    {
+        let mut starts = ArrayVec::new();
+        note_starts(&name, octets, &mut starts);
+        let labels = LabelStarts::new(name, octets, starts.as_slice());
+        let content = self.target.as_slice();
+        let place = content.len();
+        let (found, hint) = self.index.look_up(content, &labels);
+        let plan = self.index.plan(content, &labels, found);
+        append_planned(&mut self.target, &labels, found, plan.whole)?;
+        let written = self.target.as_slice();
+        match self
+            .index
+            .remember(written, &labels, place, found, hint, plan.count)
+        {
+            Ok(()) => Ok(()),
+            Err(_) => {
+                self.target.truncate(place);
+                Err(AppendError::OutOfMemory)
+            }
+        }
+    }
+}
+
+impl<Target: CloneTarget, Index: SuffixIndex> Compressor<Target, Index> {
+    /// A compressor with the same content that remembers the same.
+    pub fn clone(&self) -> Result<Self, AllocError>
+        ensures equal { IfOk result (λ clone. clone ≡ self.now) }
+        ensures memory { OnErr result (IsTrue (Index.takes_memory || Target.grows)) }
+    {
+        Ok(Compressor {
+            target: self.target.clone_target()?,
+            index: self.index.copy()?,
+        })
+    }
+}
+
+impl<Target: Composer, Index: SuffixIndex> Composer for Compressor<Target, Index> {
+    ghost rule = { Index.rule };
+
+    ghost room = { Target.room };
+
+    ghost grows = { Index.takes_memory || Target.grows };
+
+    ghost written = { λ w. w };
+
+    ghost plain_forgets = { λ e _. compressing_not_plain Index.rule Index.compressing e };
+
+    fn as_slice(&self) -> &[u8] {
+        self.target.as_slice()
+    }
+
+    fn append_slice(&mut self, octets: &[u8]) -> Result<(), AppendError>
+        ensures { Appends Target.room Target.grows (put_octets octets.now)
+            self.old self.new result }
+    {
+        self.target.append_slice(octets)
+    }
+
+    fn append_compressed_name<N: ToName>(&mut self, name: &N) -> Result<(), AppendError>
+        ensures appends { Appends Target.room (Index.takes_memory || Target.grows)
+            (put_name Index.rule (N.name name.now)) self.old self.new result }
+        ensures short { IsShortFirst Target.room Target.grows
+            (put_name Index.rule (N.name name.now)) self.old result }
+    {
+        let parsed = name.as_parsed();
+        match name.as_flat_slice() {
+            Some(octets) => self.append_name(parsed, octets),
+            None => self.append_name(parsed, parsed.uncompressed().as_slice()),
+        }
+    }
+
+    fn can_compress(&self) -> bool {
+        true
+    }
+
+    fn truncate(&mut self, len: usize) {
+        self.target.truncate(len);
+        self.index.forget(len);
+    }
+
+    fn write_at(&mut self, place: usize, octets: &[u8]) {
+        self.target.write_at(place, octets);
+    }
+}
+
+impl<Target: Composer, Index: SuffixIndex> AsSlice<u8> for Compressor<Target, Index> {
+    ghost items = { λ w. w.octets };
+
+    fn as_slice(&self) -> &[u8] {
+        self.target.as_slice()
+    }
+}
+
+impl<Target: FreezeBuilder, Index: SuffixIndex> FreezeBuilder for Compressor<Target, Index> {
+    type Octets = Target::Octets;
+
+    fn freeze(self) -> Target::Octets {
+        self.target.freeze()
+    }
+}
+
+impl<Target: CloneTarget, Index: SuffixIndex> CloneTarget for Compressor<Target, Index> {
+    fn clone_target(&self) -> Result<Self, AllocError> {
+        self.clone()
+    }
+}
