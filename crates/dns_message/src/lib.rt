@@ -22,9 +22,9 @@ pub mod code {
 }
 
 pub mod header {
-    //! The header section of a message.
+    //! The header section of a message, and theorems on its fields and on numbers as texts.
     pub use dns_code::{
-        CountOverflow, Flags, FlagsFromStrError, Header, HeaderCounts, HeaderSection,
+        CountOverflow, Flags, FlagsFromStrError, Header, HeaderCounts, HeaderSection, laws,
     };
 }
 
@@ -40,8 +40,8 @@ pub mod name {
 }
 
 pub mod record {
-    //! Records and their parts.
-    pub use dns_item::Ttl;
+    //! Records and their parts, and theorems on questions and records where they stand and are put.
+    pub use dns_item::{Ttl, laws};
     pub use dns_item::record::{
         ComposeRecord, ParsedRecord, Record, RecordHeader, RecordParseError,
     };
@@ -66,15 +66,17 @@ mod stage;
 
 pub mod target {
     //! What messages are written to.
-    pub use dns_target::{HashCompressor, StaticCompressor, StreamTarget, TreeCompressor};
+    pub use dns_target::{
+        HashCompressor, IndexCompressor, StaticCompressor, StreamTarget, TreeCompressor,
+    };
     pub use dns_wire::{CloneTarget, Composer, FreezeBuilder};
 }
 
 pub mod wire {
-    //! The parser, holders of octets, and the errors of both.
+    //! The parser, holders of octets, the errors of both, and theorems on names and targets.
     pub use dns_wire::{
         AppendError, FlattenInto, FormError, Octets, OctetsFrom, OctetsMut, ParseError, Parser,
-        ShortBuf,
+        ShortBuf, laws, target_laws,
     };
 }
 

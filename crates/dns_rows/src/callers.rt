@@ -1,24 +1,25 @@
-//! A proved caller of each crate: the examples of the pages that say how the crates are called.
-ghost use Rattle.std.specs.Prelude.{◌≡◌, ◌≤◌, ◌↔◌, length, max, min, true, IfSome, IsSome, IsTrue};
-ghost use Rattle.std.specs.Bool.{OnTrue};
+//! Proved callers: examples of the pages that say how the crates are called.
+ghost use Rattle.std.specs.Prelude.{◌≡◌, ◌≤◌, ◌↔◌, List, length, max, min, true, IfSome, IsSome};
 ghost use Rattle.dns_code.specs.Header.{fields};
 ghost use Rattle.dns_item.specs.Ttl.{cap_seconds};
-ghost use Rattle.dns_message.specs.Script.{octets_of};
+ghost use Rattle.dns_build.specs.Standing.{fresh};
+ghost use Rattle.dns_message.specs.Script.{after_all, octets_of};
+ghost use Rattle.dns_message.specs.declared.script.Reply.{Reply};
 ghost use Rattle.dns_read.specs.Message.{message_octets};
 ghost use Rattle.dns_read.specs.Sections.{AnswersStart};
-ghost use Rattle.dns_rows.specs.Callers.{IsAlone, IsShortMessage};
+ghost use Rattle.dns_rows.specs.Callers.{IsShortMessage};
 
 use dns_message::builder::MessageBuilder;
 use dns_message::code::{Class, Rtype};
 use dns_message::data::UnknownRecordData;
 use dns_message::header::Header;
 use dns_message::message::Message;
-use dns_message::name::{Name, ParsedName};
-use dns_message::question::{ComposeQuestion, Question};
+use dns_message::name::Name;
+use dns_message::question::ComposeQuestion;
 use dns_message::record::{ComposeRecord, Ttl};
 use dns_message::script::{Call, Stage, run};
 use dns_message::target::HashCompressor;
-use dns_message::wire::{Octets, Parser};
+use dns_message::wire::Octets;
 use std::alloc::Global;
 use std::test::Fail;
 
@@ -61,25 +62,7 @@ fn takes_opaque_data(rt: HostRuntime) -> Result<(), Fail> {
     Ok(())
 }
 
-/// Whether octets are one question and nothing more.
-fn is_question(octets: &[u8]) -> bool
-    ensures { OnTrue result (IsAlone octets.now) }
-{
-    let mut parser = Parser::new(octets);
-    match Question::parse(&mut parser) {
-        Ok(_) => parser.remaining() == 0,
-        Err(_) => false,
-    }
-}
-
-#[test]
-fn finds_a_question(rt: HostRuntime) {
-    assert!(rt; is_question(b"\x01a\x00\x00\x01\x00\x01"));
-    assert!(rt; !is_question(b"\x01a\x00\x00\x01\x00\x01\x00"));
-    assert!(rt; !is_question(b"\x01a\x00\x00\x01"));
-}
-
-/// For how many seconds a record is kept: for a week at most, and for a while at least.
+/// For how many seconds a record is kept: a week at most, but never less than the least.
 fn kept_for(ttl: Ttl, least: Ttl) -> Ttl
     ensures { result ≡ max least (min ttl cap_seconds) }
 {
@@ -116,11 +99,15 @@ fn compressed<Q: ComposeQuestion, R: ComposeRecord>(
     alloc: Global,
     calls: &[Call<Q, R>],
 ) -> Option<Stage<HashCompressor<Vec<u8>>>>
-    ensures { IfSome result (λ stage. IsShortMessage (octets_of stage)) }
+    ensures { IfSome result (λ stage. (replies : List Reply)
+        × IsShortMessage (after_all Q.question R.item fresh calls.now replies) (octets_of stage)) }
 {
     let target = HashCompressor::new(alloc, Vec::new(alloc));
-    match MessageBuilder::from_target(target) {
-        Ok(builder) => run(Stage::Builder(builder), calls, &mut Vec::new(alloc)).ok(),
+    let Ok(builder) = MessageBuilder::from_target(target) else {
+        return None;
+    };
+    match run(Stage::Builder(builder), calls, &mut Vec::new(alloc)) {
+        Ok(stage) => Some(stage),
         Err(_) => None,
     }
 }
