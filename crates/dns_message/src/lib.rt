@@ -41,10 +41,10 @@ pub mod name {
 
 pub mod record {
     //! Records and their parts, and theorems on questions and records where they stand and are put.
-    pub use dns_item::{Ttl, laws};
     pub use dns_item::record::{
         ComposeRecord, ParsedRecord, Record, RecordHeader, RecordParseError,
     };
+    pub use dns_item::{Ttl, laws};
 }
 
 pub mod data {
