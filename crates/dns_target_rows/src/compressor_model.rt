@@ -1,5 +1,5 @@
 //! The compressors beside a model: a plain list of remembered suffixes, looked up one after another, octet for octet.
-use dns_target::{HashCompressor, StaticCompressor, TreeCompressor};
+use dns_target::{HashCompressor, IndexCompressor, StaticCompressor, TreeCompressor};
 use dns_wire::{Composer, Name};
 use std::alloc::Global;
 use std::process::Abort;
@@ -180,14 +180,16 @@ fn assert_steps<T: Composer>(
     Ok(())
 }
 
-/// Takes the steps on each of the three compressors.
+/// Takes the steps on each of the four compressors.
 fn assert_each(rt: &impl Abort, alloc: Global, steps: &[Step]) -> Result<(), Fail> {
     let mut places = StaticCompressor::new(Vec::new(alloc));
     assert_steps(rt, alloc, &mut places, Rule::Static, steps)?;
     let mut tree = TreeCompressor::new(alloc, Vec::new(alloc));
     assert_steps(rt, alloc, &mut tree, Rule::Tree, steps)?;
     let mut hash = HashCompressor::new(alloc, Vec::new(alloc));
-    assert_steps(rt, alloc, &mut hash, Rule::Hash, steps)
+    assert_steps(rt, alloc, &mut hash, Rule::Hash, steps)?;
+    let mut index = IndexCompressor::new(alloc, Vec::new(alloc));
+    assert_steps(rt, alloc, &mut index, Rule::Tree, steps)
 }
 
 /// The length of the content behind the steps.

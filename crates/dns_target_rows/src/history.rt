@@ -2,7 +2,7 @@
 ghost use Rattle.std.specs.Prelude.{◌≡◌};
 
 use arrayvec::ArrayVec;
-use dns_target::{HashCompressor, StaticCompressor, TreeCompressor};
+use dns_target::{HashCompressor, IndexCompressor, StaticCompressor, TreeCompressor};
 use dns_wire::{Composer, Name, ToName};
 use std::process::Abort;
 use std::test::Fail;
@@ -43,5 +43,9 @@ fn what_is_cut_away_is_forgotten(rt: HostRuntime) -> Result<(), Fail> {
     assert_forgets_history(
         &rt,
         &mut HashCompressor::new(rt.alloc(), Vec::new(rt.alloc())),
+    )?;
+    assert_forgets_history(
+        &rt,
+        &mut IndexCompressor::new(rt.alloc(), Vec::new(rt.alloc())),
     )
 }

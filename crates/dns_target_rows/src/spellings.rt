@@ -1,7 +1,7 @@
 //! The compressors beside every spelling of small lists of names (RFC 1035 section 4.1.4).
 //!
 //! A spelling is one free choice for each name, with no place and no memory.
-use dns_target::{HashCompressor, StaticCompressor, TreeCompressor};
+use dns_target::{HashCompressor, IndexCompressor, StaticCompressor, TreeCompressor};
 use dns_wire::{Composer, Name};
 use std::alloc::{AllocError, Global};
 use std::process::Abort;
@@ -159,15 +159,17 @@ fn written_len<T: Composer>(
     Ok(target.as_slice().len())
 }
 
-/// How many octets each of the three compressors writes for the names.
-fn written_lens(alloc: Global, names: &[&[Label]]) -> Result<[usize; 3], Fail> {
+/// How many octets each of the four compressors writes for the names.
+fn written_lens(alloc: Global, names: &[&[Label]]) -> Result<[usize; 4], Fail> {
     let mut places = StaticCompressor::new(Vec::new(alloc));
     let mut tree = TreeCompressor::new(alloc, Vec::new(alloc));
     let mut hash = HashCompressor::new(alloc, Vec::new(alloc));
+    let mut index = IndexCompressor::new(alloc, Vec::new(alloc));
     Ok([
         written_len(alloc, &mut places, names)?,
         written_len(alloc, &mut tree, names)?,
         written_len(alloc, &mut hash, names)?,
+        written_len(alloc, &mut index, names)?,
     ])
 }
 
@@ -186,10 +188,10 @@ const LABELS: [Label; 3] = [Label::LowerA, Label::LowerB, Label::UpperA];
 
 /// How many spellings the lists of no name, of one, of two and of three have, counted by hand.
 ///
-/// A list of no name or of one has one spelling.
-/// Each of the 169 lists of two has one; those 48 whose names end with the same label have one more, and those 9 with the same two labels twice yet another.
-/// Behind two names, the 13 third names have 13 choices in all, 4 more for each label that ends one of the two, and 1 more for each name of two labels among them.
-/// Such a sum, times the spellings of the two, adds up to 4519 over all pairs of first names.
+/// A list of no name or of one has one spelling. Each of the 169 lists of two has one; those 48 whose names end with the same
+/// label have one more, and those 9 with the same two labels twice yet another. Behind two names, the 13 third names have 13
+/// choices in all, 4 more for each label that ends one of the two, and 1 more for each name of two labels among them. Such a
+/// sum, times the spellings of the two, adds up to 4519 over all pairs of first names.
 const SPELLINGS: usize = 1 + 13 + 226 + 4519;
 
 #[test]
