@@ -94,7 +94,8 @@ fn step_builder<T: Composer, Q: ComposeQuestion, R: ComposeRecord>(
     mut builder: MessageBuilder<T>,
     call: &Call<Q, R>,
 ) -> (Stage<T>, Reply)
-    ensures { Steps T.room T.grows Q.question R.item T.rule (Stage.Builder builder) call.now result.1 result.0 }
+    ensures { Steps T.room T.grows Q.question R.item T.rule
+        (Stage.Builder builder) call.now result.1 result.0 }
 {
     match call {
         Call::PushQuestion(_) | Call::PushRecord(_) | Call::Rewind | Call::TcRewind => {
@@ -125,7 +126,8 @@ fn step_question<T: Composer, Q: ComposeQuestion, R: ComposeRecord>(
     mut builder: QuestionBuilder<T>,
     call: &Call<Q, R>,
 ) -> (Stage<T>, Reply)
-    ensures { Steps T.room T.grows Q.question R.item T.rule (Stage.Question builder) call.now result.1 result.0 }
+    ensures { Steps T.room T.grows Q.question R.item T.rule
+        (Stage.Question builder) call.now result.1 result.0 }
 {
     match call {
         Call::PushQuestion(question) => {
@@ -162,7 +164,8 @@ fn step_answer<T: Composer, Q: ComposeQuestion, R: ComposeRecord>(
     mut builder: AnswerBuilder<T>,
     call: &Call<Q, R>,
 ) -> (Stage<T>, Reply)
-    ensures { Steps T.room T.grows Q.question R.item T.rule (Stage.Answer builder) call.now result.1 result.0 }
+    ensures { Steps T.room T.grows Q.question R.item T.rule
+        (Stage.Answer builder) call.now result.1 result.0 }
 {
     match call {
         Call::PushQuestion(_) => (Stage::Answer(builder), Reply::Misplaced),
@@ -200,7 +203,8 @@ fn step_authority<T: Composer, Q: ComposeQuestion, R: ComposeRecord>(
     mut builder: AuthorityBuilder<T>,
     call: &Call<Q, R>,
 ) -> (Stage<T>, Reply)
-    ensures { Steps T.room T.grows Q.question R.item T.rule (Stage.Authority builder) call.now result.1 result.0 }
+    ensures { Steps T.room T.grows Q.question R.item T.rule
+        (Stage.Authority builder) call.now result.1 result.0 }
 {
     match call {
         Call::PushQuestion(_) => (Stage::Authority(builder), Reply::Misplaced),
@@ -238,7 +242,8 @@ fn step_additional<T: Composer, Q: ComposeQuestion, R: ComposeRecord>(
     mut builder: AdditionalBuilder<T>,
     call: &Call<Q, R>,
 ) -> (Stage<T>, Reply)
-    ensures { Steps T.room T.grows Q.question R.item T.rule (Stage.Additional builder) call.now result.1 result.0 }
+    ensures { Steps T.room T.grows Q.question R.item T.rule
+        (Stage.Additional builder) call.now result.1 result.0 }
 {
     match call {
         Call::PushQuestion(_) => (Stage::Additional(builder), Reply::Misplaced),
@@ -276,7 +281,8 @@ fn step<T: Composer, Q: ComposeQuestion, R: ComposeRecord>(
     stage: Stage<T>,
     call: &Call<Q, R>,
 ) -> (Stage<T>, Reply)
-    ensures { Steps T.room T.grows Q.question R.item T.rule stage call.now result.1 result.0 }
+    ensures { Steps T.room T.grows Q.question R.item T.rule
+        stage call.now result.1 result.0 }
 {
     match stage {
         Stage::Builder(builder) => step_builder(builder, call),
