@@ -1,9 +1,9 @@
 -- Names as one message. RFC 1035 section 4.1.4.
-use Rattle.dns_wire.specs.ParsedName.{labels}
+use Rattle.dns_name.specs.ParsedName.{labels}
 use Rattle.dns_wire.specs.Pieces.{Rule}
 use Rattle.dns_wire.specs.PutName.{put_name}
 use Rattle.dns_wire.specs.Targets.{Written, lay}
-use Rattle.dns_wire.specs.declared.parsed_name.ParsedName.{ParsedName}
+use Rattle.dns_name.specs.declared.parsed_name.ParsedName.{ParsedName}
 
 -- with a name behind what is there
 abbrev pub with_name : Rule → Written → ParsedName → Written

@@ -9,7 +9,8 @@ use Rattle.dns_wire.specs.SpellingLaws.{SharesAll}
 use Rattle.dns_wire.proofs.PieceLaws.{lay-both}
 use Rattle.dns_wire.proofs.ShortestPieces.{Spells, spells, Shortens, shortens_none, shortens_octets, shortens_name, shortens_same, shortens_both, shortens_parts, shortens_with_length, knows_nothing, laid_shortest}
 use Rattle.dns_code.specs.Header.{header_octets}
-use Rattle.dns_item.specs.Items.{QuestionItem, RecordItem, IsQuestion, IsRecord, question_fields, record_fields, put_question, put_record}
+use Rattle.dns_question.specs.Questions.{QuestionItem, IsQuestion, question_fields, put_question}
+use Rattle.dns_item.specs.Items.{RecordItem, IsRecord, record_fields, put_record}
 use Rattle.dns_build.specs.Fold.{all_of, pieces_of, head_of, fold, counts_of}
 use Rattle.dns_build.specs.Laws.{FoldsAreMessages}
 use Rattle.dns_build.specs.Spellings.{question_parts, record_parts, all_parts, parts_of, HasLabelsNear, IsShortestOf}

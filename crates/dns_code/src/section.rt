@@ -11,7 +11,7 @@ pub struct HeaderSection {
 }
 
 impl HeaderSection {
-    ghost use Rattle.dns_wire.specs.Parsers.{seen, place, Takes};
+    ghost use Rattle.dns_name.specs.Parsers.{seen, place, Takes};
     ghost use Rattle.dns_wire.specs.Pieces.{put_octets};
     ghost use Rattle.dns_wire.specs.Targets.{Appends};
     ghost use Rattle.dns_code.specs.Header.{header_octets};

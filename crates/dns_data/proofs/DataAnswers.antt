@@ -2,16 +2,16 @@
 use Rattle.std.proofs.Common.{◌≡◌, ℕ, ◌+◌, ◌-◌, ◌≤◌, ◌⊎◌, inl, inr, List, [], ◌∷◌, length, drop, slice_range, length-take, length-drop, ap, sym, ◌∙◌, refl, subst, arith}
 use Rattle.std.proofs.lemmas.Bool.{cases_Bool}
 use Rattle.std.proofs.lemmas.Bool.Decides.{leb_tells}
-use Rattle.dns_wire.specs.Fault.{Fault}
-use Rattle.dns_wire.specs.Fault.Fault.{ShortInput}
-use Rattle.dns_wire.specs.Names.{Labels}
+use Rattle.dns_name.specs.Fault.{Fault}
+use Rattle.dns_name.specs.Fault.Fault.{ShortInput}
+use Rattle.dns_name.specs.Names.{Labels}
 use Rattle.dns_wire.specs.Parts.{Part}
 use Rattle.dns_wire.specs.Parts.Part.{Octets, CompressibleName}
-use Rattle.dns_wire.specs.Standing.{Stands, FaultAt}
-use Rattle.dns_wire.specs.Unique.{same_name}
-use Rattle.dns_wire.proofs.AnswerLaws.{one_answer, standing_short}
-use Rattle.dns_wire.proofs.AnswerLaws as names
-use Rattle.dns_wire.proofs.WalkLaws.{one_end, standing_end, walked_in_octets}
+use Rattle.dns_name.specs.Standing.{Stands, FaultAt}
+use Rattle.dns_name.specs.Unique.{same_name}
+use Rattle.dns_name.proofs.AnswerLaws.{one_answer, standing_short}
+use Rattle.dns_name.proofs.AnswerLaws as names
+use Rattle.dns_name.proofs.WalkLaws.{one_end, standing_end, walked_in_octets}
 use Rattle.dns_data.specs.Layout.{Layout, DataStands, DataFaultAt}
 use Rattle.dns_data.specs.Layout.Layout.{End, Rest, Fixed, DomainName}
 use Rattle.dns_data.specs.Laws.{OneDatumOrFault}

@@ -4,7 +4,7 @@ use Rattle.std.specs.Prelude.{IsTrue}
 use Rattle.std.proofs.lemmas.List.{drop-take, take-take, length-take-le}
 use Rattle.dns_wire.specs.Parts.{Part, PartsStand}
 use Rattle.dns_wire.specs.Parts.Part.{Octets, CompressibleName}
-use Rattle.dns_wire.proofs.WalkLaws.{walked_rises}
+use Rattle.dns_name.proofs.WalkLaws.{walked_rises}
 use Rattle.dns_data.specs.Layout.Layout.{End, Rest, Fixed, DomainName}
 use Rattle.dns_data.specs.Laws.{StandingPartsRead}
 

@@ -4,7 +4,7 @@ use Rattle.std.specs.FinMap.{get}
 use Rattle.dns_wire.specs.Memory.{Spot, IsClear, IsOldOrNew, Extends}
 use Rattle.dns_wire.specs.Pieces.{Piece, IsGrowing, put_octets, both, with_length}
 use Rattle.dns_wire.specs.Targets.{Written, IsTarget, Answers, lay, Composes}
-use Rattle.dns_wire.specs.declared.error.AppendError.{AppendError}
+use Rattle.dns_octets.specs.declared.error.AppendError.{AppendError}
 use Rattle.dns_wire.proofs.Composing.{composes_both}
 use Rattle.dns_wire.proofs.GrowingPieces.{put_octets_grows}
 use Rattle.dns_wire.proofs.PutNames.{ends_within_content}

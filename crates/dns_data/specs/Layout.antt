@@ -2,13 +2,13 @@
 --
 -- `b` are the octets that are seen: those of the message up to the end of the data.
 use Rattle.std.specs.Prelude.{◌≡◌, ◌⊎◌, ℕ, ◌+◌, ◌<◌, ◌≤◌, Bool, IsTrue, List, [], ◌∷◌, length, drop, slice_range}
-use Rattle.dns_wire.specs.Fault.{Fault}
-use Rattle.dns_wire.specs.Fault.Fault.{ShortInput}
-use Rattle.dns_wire.specs.Names.{Labels}
+use Rattle.dns_name.specs.Fault.{Fault}
+use Rattle.dns_name.specs.Fault.Fault.{ShortInput}
+use Rattle.dns_name.specs.Names.{Labels}
 use Rattle.dns_wire.specs.Parts.{Part}
 use Rattle.dns_wire.specs.Parts.Part.{Octets, CompressibleName}
-use Rattle.dns_wire.specs.Standing.{Stands, FaultAt}
-use Rattle.dns_wire.specs.Walking.{Walked}
+use Rattle.dns_name.specs.Standing.{Stands, FaultAt}
+use Rattle.dns_name.specs.Walking.{Walked}
 
 -- the fields of data, one behind the other
 pub data Layout : Type 0 where

@@ -1,6 +1,6 @@
 -- The fields of opaque data. RFC 3597 section 4.
 use Rattle.std.specs.Prelude.{ℕ, nat_le, List, length}
-use Rattle.dns_wire.specs.declared.octets.Octets.{Ghosts}
+use Rattle.dns_octets.specs.declared.octets.Octets.{Ghosts}
 use Rattle.dns_data.specs.Layout.{Layout}
 use Rattle.dns_data.specs.Layout.Layout.{Rest}
 use Rattle.dns_data.specs.declared.unknown.UnknownRecordData.{UnknownRecordData}

@@ -1,6 +1,6 @@
 //! Data that is one name (RFC 1035 sections 3.3.1 and 3.3.11).
 ghost use Rattle.std.specs.Prelude.{◌≡◌, [], ◌∷◌};
-ghost use Rattle.dns_wire.specs.Names.{lowered, uncompressed};
+ghost use Rattle.dns_name.specs.Names.{lowered, uncompressed};
 ghost use Rattle.dns_wire.specs.Parts.{CompressibleName, Octets, put_parts};
 ghost use Rattle.dns_wire.specs.Targets.{Composes};
 ghost use Rattle.dns_data.specs.Layout.{DomainName, End};

@@ -1,6 +1,6 @@
 //! Octets of data.
 ghost use Rattle.std.specs.Prelude.{◌≡◌, ◌+◌, slice_range};
-ghost use Rattle.dns_wire.specs.Parsers.{seen, place, Takes};
+ghost use Rattle.dns_name.specs.Parsers.{seen, place, Takes};
 
 use dns_wire::{ParseError, Parser};
 

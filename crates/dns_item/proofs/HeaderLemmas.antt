@@ -1,15 +1,15 @@
 -- What parsing the header of a record answers, in both directions, and where a header and its data are a record.
 use Rattle.std.proofs.Common.{◌≡◌, ℕ, ◌+◌, ◌<◌, ◌≤◌, List, length, arith, ap, sym, ◌∙◌, refl, subst}
 use Rattle.std.specs.Prelude.{Result, Ok, Err}
-use Rattle.dns_wire.specs.Fault.{Fault, fault_of}
-use Rattle.dns_wire.specs.Names.{Labels}
-use Rattle.dns_wire.specs.ParsedName.{AnswersFault, MovesBehindName}
-use Rattle.dns_wire.specs.Parsers.{seen, place, MovesTo}
-use Rattle.dns_wire.specs.Standing.{Stands}
-use Rattle.dns_wire.specs.declared.error.ParseError.{ParseError}
-use Rattle.dns_wire.specs.declared.error.ParseError.TheVariants.{ShortInput}
-use Rattle.dns_wire.specs.declared.parsed_name.ParsedName.{ParsedName}
-use Rattle.dns_wire.specs.declared.parser.Parser.{Parser}
+use Rattle.dns_name.specs.Fault.{Fault, fault_of}
+use Rattle.dns_name.specs.Names.{Labels}
+use Rattle.dns_name.specs.ParsedName.{AnswersFault, MovesBehindName}
+use Rattle.dns_name.specs.Parsers.{seen, place, MovesTo}
+use Rattle.dns_name.specs.Standing.{Stands}
+use Rattle.dns_octets.specs.declared.error.ParseError.{ParseError}
+use Rattle.dns_octets.specs.declared.error.ParseError.TheVariants.{ShortInput}
+use Rattle.dns_name.specs.declared.parsed_name.ParsedName.{ParsedName}
+use Rattle.dns_name.specs.declared.parser.Parser.{Parser}
 use Rattle.dns_item.specs.Entries.{HeaderFaultAt, RecordEntry, ReadsRecord, RecordFaultAt}
 use Rattle.dns_item.specs.Entries.HeaderFaultAt.{owner as header_owner_fault, short as short_header}
 use Rattle.dns_item.specs.Entries.LacksRecord.{fields, rdata}

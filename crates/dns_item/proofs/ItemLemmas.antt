@@ -1,9 +1,9 @@
--- Questions and records that are put stand where they were put, and are read there.
+-- Records that are put stand where they were put, and are read there.
 use Rattle.std.proofs.Common.{◌≡◌, ℕ, ◌+◌, ◌-◌, ◌≤◌, ◌++◌, length, arith, sym, refl, subst}
 use Rattle.std.specs.Int.{to_be_bytes, w16, w32}
 use Rattle.dns_wire.specs.Memory.{Memory}
-use Rattle.dns_wire.specs.Names.{name_size, max_size}
-use Rattle.dns_wire.specs.Parsers.{number_at}
+use Rattle.dns_name.specs.Names.{name_size, max_size}
+use Rattle.dns_name.specs.Parsers.{number_at}
 use Rattle.dns_wire.specs.Parts.{PartsStand, put_parts}
 use Rattle.dns_wire.specs.Pieces.{Rule, put_octets, both, with_length}
 use Rattle.dns_wire.specs.PutName.{put_name}
@@ -14,57 +14,21 @@ use Rattle.dns_wire.proofs.NameSizes.{parts_are_short}
 use Rattle.dns_wire.proofs.OctetsAt.{at_first, at_second, at_place}
 use Rattle.dns_wire.proofs.PieceLaws.{Puts, IsStable, Behind, stable_behind, puts_both, HasOctets, stable_octets, puts_octets, HasName, stable_name, puts_put_name, HasParts, stable_parts, puts_parts, parts_rise, parts_within, parts_stand}
 use Rattle.dns_wire.proofs.SpelledNames.{spelled_stands, spelled_walked}
-use Rattle.dns_item.specs.Entries.{ReadsQuestion, RecordEntry, ReadsRecordItem}
-use Rattle.dns_item.specs.ItemLaws.{QuestionsGrow, RecordsGrow, QuestionsReadBack, RecordsReadBack}
-use Rattle.dns_item.specs.Items.{QuestionItem, RecordItem, IsQuestion, IsRecord, question_fields, record_fields, put_question, put_record}
+use Rattle.dns_item.specs.Entries.{RecordEntry, ReadsRecordItem}
+use Rattle.dns_item.specs.ItemLaws.{RecordsGrow, RecordsReadBack}
+use Rattle.dns_item.specs.Items.{RecordItem, IsRecord, record_fields, put_record}
 
--- a question is a growing piece
-pub questions_grow : QuestionsGrow
-unfolding put_question
-questions_grow rule x = both_grows _ _ (put_name_grows rule x.name) (put_octets_grows (question_fields x))
-
--- so is a record
+-- a record is a growing piece
 pub records_grow : RecordsGrow
 unfolding put_record
 records_grow rule x =
     both_grows _ _ (put_name_grows rule x.owner) (both_grows _ _ (put_octets_grows (record_fields x)) (with_length_grows _ (put_parts_grows rule x.parts)))
 
--- the octets of a question go from a place to another
-abbrev pub HasQuestion : QuestionItem → Written → ℕ → ℕ → Type 0
-HasQuestion x = Behind (HasName x.name) (HasOctets (question_fields x))
-
--- they stay
-pub stable_question : (x : QuestionItem) → IsStable (HasQuestion x)
-stable_question x = stable_behind (HasName x.name) (HasOctets (question_fields x)) (stable_name x.name) (stable_octets (question_fields x))
-
--- a question stands where it was put
-pub puts_question : (rule : Rule) (x : QuestionItem) → IsQuestion x → Puts (put_question rule x) (HasQuestion x)
-unfolding put_question
-puts_question rule x is =
-    puts_both (put_name rule x.name) (put_octets (question_fields x)) (HasName x.name) (HasOctets (question_fields x)) (stable_name x.name)
-    (puts_put_name rule x.name is.name) (puts_octets (question_fields x))
-
--- and is read there
-pub reads_question : (x : QuestionItem) (t : Written) (p q : ℕ) → IsQuestion x → IsTarget t → HasQuestion x t p q → ReadsQuestion t.octets p q x
-reads_question x t p q is good h =
-    let r = h.0 in
-    let first = at_first {xs = to_be_bytes w16 x.rtype} (to_be_bytes w16 x.class) h.2.0 in
-    let second = at_second (to_be_bytes w16 x.rtype) {ys = to_be_bytes w16 x.class} h.2.0 in
-    let end = h.2.1 in
-    let within = h.2.0.within in
-    let short : 0 + name_size x.name ≤ max_size = let s = is.name.short in omega arith in
-    record {
-      skips = record { name_end = r; walked = spelled_walked 0 good short h.1; end = end; within = omega arith };
-      name = spelled_stands good is.name.short h.1;
-      rtype = sym (number_16 t.octets r x.rtype is.rtype first);
-      class = sym (number_16 t.octets (r + 2) x.class is.class second);
-    }
-
 -- the octets of a record go from a place to another
 abbrev pub HasRecord : RecordItem → Written → ℕ → ℕ → Type 0
 HasRecord x = Behind (HasName x.owner) (Behind (HasOctets (record_fields x)) (HasLength (HasParts x.parts)))
 
--- they stay
+-- octets that a record has stay its octets
 pub stable_record : (x : RecordItem) → IsStable (HasRecord x)
 stable_record x =
     stable_behind (HasName x.owner) (Behind (HasOctets (record_fields x)) (HasLength (HasParts x.parts))) (stable_name x.owner)
@@ -119,14 +83,7 @@ reads_record x t p q is good h =
       };
     }
 
--- questions read back
-pub questions_read_back : QuestionsReadBack
-questions_read_back rule t x is h =
-    let p = puts_question rule x is in
-    let u = lay (put_question rule x) t in
-    (reads_question x u (length t.octets) (length u.octets) is (p.keeps t h) (p.puts t h), p.keeps t h)
-
--- so do records
+-- records read back
 pub records_read_back : RecordsReadBack
 records_read_back rule t x is h =
     let p = puts_record rule x is in

@@ -1,13 +1,5 @@
-pub mod Names
 pub mod EntryLemmas
-pub mod QuestionLemmas
 pub mod ItemLemmas
-pub mod FieldWords
-pub mod WordLemmas
-pub mod QuestionTextLemmas
-pub mod SpelledNumbers
-pub mod OneWords
-pub mod OneAnswer
 pub mod RecordReadingLemmas
 pub mod HeaderLemmas
 pub mod RecordLemmas

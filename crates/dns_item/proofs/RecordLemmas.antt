@@ -2,12 +2,12 @@
 use Rattle.std.proofs.Common.{◌≡◌, ℕ, ◌+◌, ◌<◌, ◌≤◌, List, length, arith, ap, sym, ◌∙◌, refl, subst}
 use Rattle.std.specs.Int.{w16}
 use Rattle.std.specs.Prelude.{Result, Ok, Err, IsOk}
-use Rattle.dns_wire.specs.Fault.{fault_of}
-use Rattle.dns_wire.specs.ParsedName.{AnswersFault, MovesBehindName}
-use Rattle.dns_wire.specs.Parsers.{seen, place, number_at, MovesTo}
-use Rattle.dns_wire.specs.declared.error.ParseError.{ParseError}
-use Rattle.dns_wire.specs.declared.error.ParseError.TheVariants.{ShortInput}
-use Rattle.dns_wire.specs.declared.parser.Parser.{Parser}
+use Rattle.dns_name.specs.Fault.{fault_of}
+use Rattle.dns_name.specs.ParsedName.{AnswersFault, MovesBehindName}
+use Rattle.dns_name.specs.Parsers.{seen, place, number_at, MovesTo}
+use Rattle.dns_octets.specs.declared.error.ParseError.{ParseError}
+use Rattle.dns_octets.specs.declared.error.ParseError.TheVariants.{ShortInput}
+use Rattle.dns_name.specs.declared.parser.Parser.{Parser}
 use Rattle.dns_item.specs.Entries.{SkipsRecord, ReadsRecord, RecordEntry, RecordFaultAt, RecordSkipFaultAt}
 use Rattle.dns_item.specs.Entries.LacksRecord.{fields, rdata}
 use Rattle.dns_item.specs.Entries.RecordSkipFaultAt.{short as unended_record}

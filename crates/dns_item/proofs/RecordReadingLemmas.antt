@@ -2,12 +2,12 @@
 use Rattle.std.proofs.Common.{◌≡◌, ◌∙◌, ap, sym, subst, ℕ, ◌<◌, ◌≤◌, List, length, arith}
 use Rattle.std.proofs.lemmas.Grind.{common_steps}
 use Rattle.std.specs.Prelude.{Option, None, Some, Result, Ok, Err, IsOkAnd, IsSomeAnd}
-use Rattle.dns_wire.specs.Fault.{Fault, fault_of}
-use Rattle.dns_wire.specs.Fault.Fault.{Form}
-use Rattle.dns_wire.specs.Parsers.{seen, place}
+use Rattle.dns_name.specs.Fault.{Fault, fault_of}
+use Rattle.dns_name.specs.Fault.Fault.{Form}
+use Rattle.dns_name.specs.Parsers.{seen, place}
 use Rattle.dns_wire.specs.Parts.{Part, PartsStand}
-use Rattle.dns_wire.specs.declared.error.ParseError.{ParseError}
-use Rattle.dns_wire.specs.declared.parser.Parser.{Parser}
+use Rattle.dns_octets.specs.declared.error.ParseError.{ParseError}
+use Rattle.dns_name.specs.declared.parser.Parser.{Parser}
 use Rattle.dns_data.specs.Layout.{Layout, IsLaidOut, DataStands}
 use Rattle.dns_data.specs.RecordData.{ParsesLaidOut, ParsesTaken}
 use Rattle.dns_data.proofs.DataAnswers.{one_datum_or_fault}

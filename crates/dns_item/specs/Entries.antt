@@ -1,23 +1,16 @@
--- Questions and records where they stand in a message. RFC 1035 sections 4.1.2 (question) and 4.1.3 (record).
+-- Records where they stand in a message. RFC 1035 section 4.1.3.
 --
 -- `b` are the octets that are seen.
 use Rattle.std.specs.Prelude.{◌≡◌, ℕ, ◌+◌, ◌<◌, ◌≤◌, List, length}
 use Rattle.std.specs.Int.{w16, w32}
-use Rattle.dns_wire.specs.Fault.{Fault}
-use Rattle.dns_wire.specs.Fault.Fault.{ShortInput}
-use Rattle.dns_wire.specs.Names.{Labels}
-use Rattle.dns_wire.specs.Parsers.{number_at}
+use Rattle.dns_name.specs.Fault.{Fault}
+use Rattle.dns_name.specs.Fault.Fault.{ShortInput}
+use Rattle.dns_name.specs.Names.{Labels}
+use Rattle.dns_name.specs.Parsers.{number_at}
 use Rattle.dns_wire.specs.Parts.{PartsStand}
-use Rattle.dns_wire.specs.Standing.{Stands, FaultAt}
-use Rattle.dns_wire.specs.Walking.{Walked, SkipFaultAt}
-use Rattle.dns_item.specs.Items.{QuestionItem, RecordItem}
-
--- a question's octets go from p to q: those of its name, and four behind them
-pub record SkipsQuestion (b : List ℕ) (p q : ℕ) : Type 0 where
-  pub name_end : ℕ
-  pub walked : Walked b p name_end
-  pub end : q ≡ name_end + 4
-  pub within : q ≤ length b
+use Rattle.dns_name.specs.Standing.{Stands, FaultAt}
+use Rattle.dns_name.specs.Walking.{Walked, SkipFaultAt}
+use Rattle.dns_item.specs.Items.{RecordItem}
 
 -- a record's octets go from p to q: those of its owner, ten behind them, and as many as the number in the last two of the ten says
 pub record SkipsRecord (b : List ℕ) (p q : ℕ) : Type 0 where
@@ -25,13 +18,6 @@ pub record SkipsRecord (b : List ℕ) (p q : ℕ) : Type 0 where
   pub walked : Walked b p name_end
   pub end : q ≡ name_end + 10 + number_at w16 b (name_end + 8)
   pub within : q ≤ length b
-
--- a question can be read from p to q, and this is it
-pub record ReadsQuestion (b : List ℕ) (p q : ℕ) (x : QuestionItem) : Type 0 where
-  pub skips : SkipsQuestion b p q
-  pub name : Stands b p x.name
-  pub rtype : x.rtype ≡ number_at w16 b skips.name_end
-  pub class : x.class ≡ number_at w16 b (skips.name_end + 2)
 
 -- what is read of a record's header: its fields, the length of the data the last
 pub record HeaderEntry : Type 0 where
@@ -71,16 +57,6 @@ pub record ReadsRecord (b : List ℕ) (p q : ℕ) (x : RecordEntry) : Type 0 whe
   pub ttl : x.ttl ≡ number_at w32 b (skips.name_end + 4)
   pub data_start : x.data_start ≡ skips.name_end + 10
   pub data_end : x.data_end ≡ q
-
--- Why no question can be read at p: its name has a fault, or the octets behind a name that stands aren't all there.
-pub data QuestionFaultAt (b : List ℕ) (p : ℕ) : Fault → Type 0 where
-  name : {f : Fault} → FaultAt b p f → QuestionFaultAt b p f
-  short : {name : Labels} {r : ℕ} → Stands b p name → Walked b p r → length b < r + 4 → QuestionFaultAt b p ShortInput
-
--- why no question can be skipped at p
-pub data QuestionSkipFaultAt (b : List ℕ) (p : ℕ) : Fault → Type 0 where
-  name : {f : Fault} → SkipFaultAt b p f → QuestionSkipFaultAt b p f
-  short : {r : ℕ} → Walked b p r → length b < r + 4 → QuestionSkipFaultAt b p ShortInput
 
 -- Why no record header can be read at p: its owner has a fault, or the octets behind an owner that stands aren't all there.
 pub data HeaderFaultAt (b : List ℕ) (p : ℕ) : Fault → Type 0 where

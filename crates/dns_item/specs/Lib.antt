@@ -1,7 +1,6 @@
 pub mod Ttl
 pub mod Items
 pub mod Entries
-pub mod Question
 pub mod RecordHeader
 pub mod ParsedRecord
 pub mod Record
@@ -9,9 +8,3 @@ pub mod RecordReading
 pub mod RecordPrinting
 pub mod EntryLaws
 pub mod ItemLaws
-pub mod QuestionErrors
-pub mod Words
-pub mod QuestionTexts
-pub mod QuestionReading
-pub mod QuestionPrinting
-pub mod QuestionTextLaws

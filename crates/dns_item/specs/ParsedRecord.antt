@@ -1,10 +1,10 @@
 -- The parts of a record that was read, and what parsing and skipping one answer. RFC 1035 section 4.1.3.
 use Rattle.std.specs.Prelude.{◌≡◌, ℕ, List, Result, Ok, Err, IsOkAnd}
-use Rattle.dns_wire.specs.Fault.{fault_of}
-use Rattle.dns_wire.specs.Parsers.{seen, place, MovesTo}
-use Rattle.dns_wire.specs.declared.error.ParseError.{ParseError}
-use Rattle.dns_wire.specs.declared.parsed_name.ParsedName.{ParsedName}
-use Rattle.dns_wire.specs.declared.parser.Parser.{Parser}
+use Rattle.dns_name.specs.Fault.{fault_of}
+use Rattle.dns_name.specs.Parsers.{seen, place, MovesTo}
+use Rattle.dns_octets.specs.declared.error.ParseError.{ParseError}
+use Rattle.dns_name.specs.declared.parsed_name.ParsedName.{ParsedName}
+use Rattle.dns_name.specs.declared.parser.Parser.{Parser}
 use Rattle.dns_item.specs.Entries.{SkipsRecord, RecordEntry, ReadsRecord, RecordFaultAt, RecordSkipFaultAt}
 use Rattle.dns_item.specs.RecordHeader.{record_at}
 use Rattle.dns_item.specs.declared.parsed_record.ParsedRecord.{ParsedRecord}

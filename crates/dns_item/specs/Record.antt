@@ -1,6 +1,6 @@
 -- The fields of a record. RFC 1035 section 4.1.3.
 use Rattle.std.specs.Prelude.{◌≡◌, ℕ, List}
-use Rattle.dns_wire.specs.Names.{Labels}
+use Rattle.dns_name.specs.Names.{Labels}
 use Rattle.dns_wire.specs.Parts.{Part}
 use Rattle.dns_item.specs.Items.{RecordItem}
 use Rattle.dns_item.specs.declared.record.Record.{Record}

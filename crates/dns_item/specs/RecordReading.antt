@@ -1,12 +1,12 @@
 -- What reading the data of a record answers. RFC 1035 sections 3.3 and 4.1.3.
 use Rattle.std.specs.Prelude.{◌≡◌, ℕ, ◌<◌, ◌≤◌, List, length, take, Option, None, Some, Result, Ok, Err, IsOkAnd, IsSomeAnd, ⊤}
-use Rattle.dns_wire.specs.Fault.{Fault, fault_of}
-use Rattle.dns_wire.specs.Fault.Fault.{Form}
-use Rattle.dns_wire.specs.Parsers.{seen, MovesTo}
+use Rattle.dns_name.specs.Fault.{Fault, fault_of}
+use Rattle.dns_name.specs.Fault.Fault.{Form}
+use Rattle.dns_name.specs.Parsers.{seen, MovesTo}
 use Rattle.dns_wire.specs.Parts.{Part, PartsStand}
-use Rattle.dns_wire.specs.declared.error.ParseError.{ParseError}
-use Rattle.dns_wire.specs.declared.error.ParseError.TheVariants.{ShortInput}
-use Rattle.dns_wire.specs.declared.parser.Parser.{Parser}
+use Rattle.dns_octets.specs.declared.error.ParseError.{ParseError}
+use Rattle.dns_octets.specs.declared.error.ParseError.TheVariants.{ShortInput}
+use Rattle.dns_name.specs.declared.parser.Parser.{Parser}
 use Rattle.dns_data.specs.Layout.{Layout, IsLaidOut, DataStands, DataFaultAt}
 use Rattle.dns_item.specs.Entries.{RecordEntry}
 use Rattle.dns_item.specs.Items.{RecordItem}

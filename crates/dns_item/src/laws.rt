@@ -1,7 +1,9 @@
 //! Theorems on questions and records where they stand and where they are put, and on questions as texts. The functions do nothing: each contract is a theorem over all octets, places, items and texts.
-ghost use Rattle.dns_item.specs.EntryLaws.{QuestionOrFault, HeaderOrFault, RecordOrFault, QuestionEndOrFault, RecordEndOrFault, QuestionSkipAgrees, RecordSkipAgrees};
-ghost use Rattle.dns_item.specs.ItemLaws.{QuestionsGrow, RecordsGrow, QuestionsReadBack, RecordsReadBack};
-ghost use Rattle.dns_item.specs.QuestionTextLaws.{EachTextAnswered, OneTextAnswer, EachWordsAnswered, OneWordsAnswer};
+ghost use Rattle.dns_question.specs.QuestionLaws.{QuestionOrFault, QuestionEndOrFault, QuestionSkipAgrees};
+ghost use Rattle.dns_item.specs.EntryLaws.{HeaderOrFault, RecordOrFault, RecordEndOrFault, RecordSkipAgrees};
+ghost use Rattle.dns_question.specs.QuestionLaws.{QuestionsGrow, QuestionsReadBack};
+ghost use Rattle.dns_item.specs.ItemLaws.{RecordsGrow, RecordsReadBack};
+ghost use Rattle.dns_question.specs.QuestionTextLaws.{EachTextAnswered, OneTextAnswer, EachWordsAnswered, OneWordsAnswer};
 
 /// At each place exactly one question can be read or exactly one fault is met, never both; so for records and their headers.
 pub fn one_entry_or_fault()

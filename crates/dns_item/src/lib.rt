@@ -1,4 +1,4 @@
-//! Questions and records of DNS messages, and the TTL.
+//! Records of DNS messages and the TTL, with the questions of `dns_question`.
 //!
 //! It promises that a question or record is read exactly where one stands (RFC 1035 sections 4.1.2 and 4.1.3) and is composed
 //! as one piece under every rule of compression, that what is put is read back, that the data of a record is read to its end
@@ -8,10 +8,6 @@
 
 pub mod laws;
 mod parsed_record;
-pub mod question;
-mod question_error;
-mod question_print;
-mod question_text;
 pub mod record;
 mod record_error;
 mod record_header;
@@ -20,7 +16,7 @@ mod record_reading;
 mod ttl;
 
 pub use parsed_record::ParsedRecord;
-pub use question::{ComposeQuestion, Question};
+pub use dns_question::{ComposeQuestion, Question, question};
 pub use record::{ComposeRecord, Record};
 pub use record_header::RecordHeader;
 pub use ttl::Ttl;

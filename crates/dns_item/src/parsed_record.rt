@@ -1,7 +1,7 @@
 //! Records whose data isn't read yet (RFC 1035 section 4.1.3).
 ghost use Rattle.std.specs.Prelude.{◌≡◌, ℕ, IsOk};
-ghost use Rattle.dns_wire.specs.ParsedName.{AnswersFault};
-ghost use Rattle.dns_wire.specs.Parsers.{seen, place};
+ghost use Rattle.dns_name.specs.ParsedName.{AnswersFault};
+ghost use Rattle.dns_name.specs.Parsers.{seen, place};
 ghost use Rattle.dns_item.specs.Entries.{SkipsRecord, RecordFaultAt, RecordSkipFaultAt};
 ghost use Rattle.dns_item.specs.RecordHeader.{owner_of, rtype_of, class_of, ttl_of, rdlen_of};
 ghost use Rattle.dns_item.specs.ParsedRecord.{header_of, data_parser, ParsesRecord, ReadsReadableRecord, SkipsOverRecord};

@@ -1,7 +1,7 @@
 //! Record headers (RFC 1035 section 4.1.3).
 ghost use Rattle.std.specs.Prelude.{◌≡◌};
-ghost use Rattle.dns_wire.specs.ParsedName.{AnswersFault};
-ghost use Rattle.dns_wire.specs.Parsers.{seen, place, Takes};
+ghost use Rattle.dns_name.specs.ParsedName.{AnswersFault};
+ghost use Rattle.dns_name.specs.Parsers.{seen, place, Takes};
 ghost use Rattle.dns_wire.specs.Targets.{Composes};
 ghost use Rattle.dns_item.specs.Entries.{HeaderFaultAt, RecordFaultAt};
 ghost use Rattle.dns_item.specs.Record.{HasFields};

@@ -1,8 +1,8 @@
 //! Records read with their data (RFC 1035 section 4.1.3).
 ghost use Rattle.std.specs.Prelude.{◌≡◌, ℕ, IsErrAnd};
-ghost use Rattle.dns_wire.specs.Fault.{Fault, fault_of};
-ghost use Rattle.dns_wire.specs.ParsedName.{labels};
-ghost use Rattle.dns_wire.specs.Parsers.{seen, place, MovesTo};
+ghost use Rattle.dns_name.specs.Fault.{Fault, fault_of};
+ghost use Rattle.dns_name.specs.ParsedName.{labels};
+ghost use Rattle.dns_name.specs.Parsers.{seen, place, MovesTo};
 ghost use Rattle.dns_item.specs.Entries.{ReadsRecord, RecordEntry, RecordFaultAt};
 ghost use Rattle.dns_item.specs.ParsedRecord.{octets_of, parsed_entry};
 ghost use Rattle.dns_item.specs.Record.{record_item};

@@ -4,7 +4,8 @@ use Rattle.std.proofs.lemmas.Grind.{common_steps}
 use Rattle.std.proofs.lemmas.List.{take_more}
 use Rattle.dns_wire.specs.Pieces.{Rule}
 use Rattle.dns_wire.specs.Targets.{Written}
-use Rattle.dns_item.specs.Items.{QuestionItem, RecordItem}
+use Rattle.dns_question.specs.Questions.{QuestionItem}
+use Rattle.dns_item.specs.Items.{RecordItem}
 use Rattle.dns_build.specs.Laws.{FoldsAreMessages}
 use Rattle.dns_build.specs.MessageOf.{IsMessageOf}
 use Rattle.dns_build.specs.State.{State}

@@ -1,7 +1,8 @@
 -- What a list of calls makes of a builder, by the replies to them. RFC 1035 section 4.1.
 use Rattle.std.specs.Prelude.{◌≡◌, ℕ, Bool, true, false, Option, Ok, Err, List, [], ◌∷◌, ◌++◌, length, ⊤}
 use Rattle.dns_wire.specs.Pieces.{Rule}
-use Rattle.dns_item.specs.Items.{QuestionItem, RecordItem}
+use Rattle.dns_question.specs.Questions.{QuestionItem}
+use Rattle.dns_item.specs.Items.{RecordItem}
 use Rattle.dns_build.specs.Built.{Built, PushAnswers}
 use Rattle.dns_build.specs.Fold.{fold}
 use Rattle.dns_build.specs.MessageOf.{IsMessageOf}

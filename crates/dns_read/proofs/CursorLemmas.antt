@@ -2,8 +2,8 @@
 use Rattle.std.proofs.Common.{◌≡◌, ◌∙◌, ℕ, suc, ◌-◌, ◌≤◌, List, [], ◌∷◌, ap, arith}
 use Rattle.std.specs.Prelude.{Some, Result, Ok, Err}
 use Rattle.std.specs.Result.{result_ok}
-use Rattle.dns_wire.specs.Fault.{Fault}
-use Rattle.dns_wire.specs.declared.error.ParseError.{ParseError}
+use Rattle.dns_name.specs.Fault.{Fault}
+use Rattle.dns_octets.specs.declared.error.ParseError.{ParseError}
 use Rattle.dns_read.specs.Readings.{AreReadings}
 use Rattle.dns_read.specs.Skipping.{items_left}
 

@@ -1,7 +1,7 @@
 -- A header written over the first octets of a message.
 use Rattle.std.proofs.Common.{◌≡◌, ◌∙◌, ◌+◌, ℕ, List, ◌++◌, length, take, drop, ap, arith}
 use Rattle.std.proofs.lemmas.Grind.{common_steps}
-use Rattle.dns_wire.specs.Octets.{overwritten}
+use Rattle.dns_octets.specs.Octets.{overwritten}
 
 -- the first list of two
 front : (n : ℕ) (b c : List ℕ) → length b ≡ n → take n (b ++ c) ≡ b

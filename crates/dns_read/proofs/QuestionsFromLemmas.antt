@@ -1,8 +1,8 @@
 -- The lists of `questions_from` are the readings of questions.
 use Rattle.std.proofs.Common.{◌≡◌, ℕ, List}
 use Rattle.std.specs.Prelude.{Result}
-use Rattle.dns_wire.specs.Fault.{Fault}
-use Rattle.dns_item.specs.Items.{QuestionItem}
+use Rattle.dns_name.specs.Fault.{Fault}
+use Rattle.dns_question.specs.Questions.{QuestionItem}
 use Rattle.dns_read.specs.Sections.{ReadingQuestions}
 use Rattle.dns_read.specs.QuestionsFrom.{questions_from, QuestionsFromAreRead}
 use Rattle.dns_read.specs.Unique.{one_reading_of_questions}

@@ -1,8 +1,9 @@
 -- How many items a reading has, where its fault is, and which lists are the readings.
 use Rattle.std.proofs.Common.{◌≡◌, ℕ, suc, ◌≤◌, List, [], ◌∷◌, ◌++◌, length, arith}
 use Rattle.std.specs.Prelude.{Result, Ok, Err}
-use Rattle.dns_wire.specs.Fault.{Fault}
-use Rattle.dns_item.specs.Entries.{ReadsQuestion, ReadsRecord, QuestionFaultAt, RecordFaultAt}
+use Rattle.dns_name.specs.Fault.{Fault}
+use Rattle.dns_question.specs.QuestionEntries.{ReadsQuestion, QuestionFaultAt}
+use Rattle.dns_item.specs.Entries.{ReadsRecord, RecordFaultAt}
 use Rattle.dns_read.specs.Reading.{Reading}
 use Rattle.dns_read.specs.Reading.Reading.{none, entry, stop}
 use Rattle.dns_read.specs.Readings.{OneReading, AreReadings, ReadingsEnd, ReadingsOfQuestionsEnd, ReadingsOfRecordsEnd}

@@ -1,8 +1,9 @@
 -- Cursors that move on from the start of a section stand at the start of the next.
 use Rattle.std.proofs.Common.{◌≡◌, ℕ, List, subst}
 use Rattle.std.specs.Prelude.{Some, Result, Ok}
-use Rattle.dns_wire.specs.declared.error.ParseError.{ParseError}
-use Rattle.dns_item.specs.Entries.{SkipsQuestion, SkipsRecord}
+use Rattle.dns_octets.specs.declared.error.ParseError.{ParseError}
+use Rattle.dns_question.specs.QuestionEntries.{SkipsQuestion}
+use Rattle.dns_item.specs.Entries.{SkipsRecord}
 use Rattle.dns_read.specs.Reading.{Passed}
 use Rattle.dns_read.specs.QuestionSection as questions
 use Rattle.dns_read.specs.QuestionSection.{BeginsQuestions}

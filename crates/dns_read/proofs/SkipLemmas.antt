@@ -1,9 +1,9 @@
 -- Entries skipped one behind the other by a parser.
 use Rattle.std.proofs.Common.{◌∙◌, ℕ, zero, suc, ◌+◌, ◌<◌, List, arith, add-one, refl, subst}
-use Rattle.dns_wire.specs.Fault.{Fault, fault_of}
-use Rattle.dns_wire.specs.Parsers.{seen, place, MovesTo}
-use Rattle.dns_wire.specs.declared.error.ParseError.{ParseError}
-use Rattle.dns_wire.specs.declared.parser.Parser.{Parser}
+use Rattle.dns_name.specs.Fault.{Fault, fault_of}
+use Rattle.dns_name.specs.Parsers.{seen, place, MovesTo}
+use Rattle.dns_octets.specs.declared.error.ParseError.{ParseError}
+use Rattle.dns_name.specs.declared.parser.Parser.{Parser}
 use Rattle.dns_read.specs.Reading.{Passed, StopsPassing}
 use Rattle.dns_read.specs.Reading.Passed.{none, more}
 use Rattle.dns_read.specs.Reading.StopsPassing.{here, behind}

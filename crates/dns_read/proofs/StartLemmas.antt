@@ -1,8 +1,9 @@
 -- Each section starts at one place or has one fault.
 use Rattle.std.proofs.Common.{◌≡◌, ℕ, zero, suc, ◌⊎◌, inl, inr, List, sym, ◌∙◌, refl, subst}
-use Rattle.dns_wire.specs.Fault.{Fault}
-use Rattle.dns_item.specs.EntryLaws.{EndsOrFaults}
-use Rattle.dns_item.proofs.EntryLemmas.{question_end_or_fault, record_end_or_fault}
+use Rattle.dns_name.specs.Fault.{Fault}
+use Rattle.dns_name.specs.EachPlace.{EndsOrFaults}
+use Rattle.dns_question.proofs.QuestionEntryLemmas.{question_end_or_fault}
+use Rattle.dns_item.proofs.EntryLemmas.{record_end_or_fault}
 use Rattle.dns_read.specs.Reading.{Passed, StopsPassing}
 use Rattle.dns_read.specs.Reading.Passed.{none, more}
 use Rattle.dns_read.specs.Reading.StopsPassing.{here, behind}

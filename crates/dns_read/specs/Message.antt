@@ -1,6 +1,6 @@
 -- What a message holds. RFC 1035 section 4.1.
 use Rattle.std.specs.Prelude.{ℕ, List}
-use Rattle.dns_wire.specs.declared.octets.Octets.{Ghosts}
+use Rattle.dns_octets.specs.declared.octets.Octets.{Ghosts}
 use Rattle.dns_read.specs.declared.message.Message.{Message}
 
 -- the holder of a message's octets

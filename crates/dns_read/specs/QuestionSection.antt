@@ -1,13 +1,13 @@
 -- What a cursor over the questions of a message has before it, and how it moves. RFC 1035 sections 4.1 and 4.1.2.
 use Rattle.std.specs.Prelude.{◌≡◌, ℕ, List, Option, Some, None, Result, Ok, Err}
-use Rattle.dns_wire.specs.Fault.{Fault, fault_of}
-use Rattle.dns_wire.specs.Parsers.{seen, place}
-use Rattle.dns_wire.specs.declared.error.ParseError.{ParseError}
-use Rattle.dns_wire.specs.declared.parsed_name.ParsedName.{ParsedName}
-use Rattle.dns_item.specs.Entries.{ReadsQuestion, QuestionFaultAt}
-use Rattle.dns_item.specs.Items.{QuestionItem}
-use Rattle.dns_item.specs.Question.{parsed_question}
-use Rattle.dns_item.specs.declared.question.Question.{Question}
+use Rattle.dns_name.specs.Fault.{Fault, fault_of}
+use Rattle.dns_name.specs.Parsers.{seen, place}
+use Rattle.dns_octets.specs.declared.error.ParseError.{ParseError}
+use Rattle.dns_name.specs.declared.parsed_name.ParsedName.{ParsedName}
+use Rattle.dns_question.specs.QuestionEntries.{ReadsQuestion, QuestionFaultAt}
+use Rattle.dns_question.specs.Questions.{QuestionItem}
+use Rattle.dns_question.specs.Question.{parsed_question}
+use Rattle.dns_question.specs.declared.question.Question.{Question}
 use Rattle.dns_read.specs.QuestionsFrom.{questions_from}
 use Rattle.dns_read.specs.Sections.{header_size, question_count}
 use Rattle.dns_read.specs.Skipping.{items_left}

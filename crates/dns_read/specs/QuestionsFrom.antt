@@ -1,8 +1,8 @@
 -- The one reading of questions, and that it is one. RFC 1035 section 4.1.
 use Rattle.std.specs.Prelude.{ℕ, List, Result}
-use Rattle.dns_wire.specs.Fault.{Fault}
-use Rattle.dns_item.specs.Entries.{ReadsQuestion, QuestionFaultAt}
-use Rattle.dns_item.specs.Items.{QuestionItem}
+use Rattle.dns_name.specs.Fault.{Fault}
+use Rattle.dns_question.specs.QuestionEntries.{ReadsQuestion, QuestionFaultAt}
+use Rattle.dns_question.specs.Questions.{QuestionItem}
 use Rattle.dns_read.specs.Readings.{AreReadings}
 use Rattle.dns_read.specs.Unique.{one_reading_of_questions}
 

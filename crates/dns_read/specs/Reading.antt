@@ -1,6 +1,6 @@
 -- What reading entries one behind the other gives. RFC 1035 section 4.1. There is no cursor here and no kept error.
 use Rattle.std.specs.Prelude.{ℕ, suc, List, [], ◌∷◌, Result, Ok, Err}
-use Rattle.dns_wire.specs.Fault.{Fault}
+use Rattle.dns_name.specs.Fault.{Fault}
 
 -- so many entries go from p to q, one behind the other
 pub data Passed (Skips : ℕ → ℕ → Type 0) : ℕ → ℕ → ℕ → Type 0 where

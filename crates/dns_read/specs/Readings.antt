@@ -1,8 +1,9 @@
 -- Each section of all octets has one reading, and one start or one fault. RFC 1035 section 4.1.
 use Rattle.std.specs.Prelude.{◌≡◌, ℕ, suc, ◌≤◌, ◌⊎◌, List, [], ◌∷◌, ◌++◌, length, Result, Ok, Err}
-use Rattle.dns_wire.specs.Fault.{Fault}
-use Rattle.dns_item.specs.Entries.{SkipsQuestion, SkipsRecord, ReadsQuestion, ReadsRecord, QuestionFaultAt, QuestionSkipFaultAt, RecordFaultAt, RecordSkipFaultAt}
-use Rattle.dns_item.specs.EntryLaws.{EndsOrFaults}
+use Rattle.dns_name.specs.Fault.{Fault}
+use Rattle.dns_question.specs.QuestionEntries.{SkipsQuestion, ReadsQuestion, QuestionFaultAt, QuestionSkipFaultAt}
+use Rattle.dns_item.specs.Entries.{SkipsRecord, ReadsRecord, RecordFaultAt, RecordSkipFaultAt}
+use Rattle.dns_name.specs.EachPlace.{EndsOrFaults}
 use Rattle.dns_read.specs.Reading.{Passed, StopsPassing, Reading}
 use Rattle.dns_read.specs.Sections.{AnswersStart, AuthoritiesStart, AdditionalsStart, AnswersFault, AuthoritiesFault, AdditionalsFault}
 

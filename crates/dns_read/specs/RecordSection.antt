@@ -1,9 +1,10 @@
 -- What a cursor over the records of a section has before it, and how it moves, also to the next section. RFC 1035 sections 4.1 and 4.1.3.
 use Rattle.std.specs.Prelude.{◌≡◌, ◌≢◌, ℕ, List, Option, Some, None, Result, Ok, Err}
-use Rattle.dns_wire.specs.Fault.{Fault, fault_of}
-use Rattle.dns_wire.specs.Parsers.{seen, place}
-use Rattle.dns_wire.specs.declared.error.ParseError.{ParseError}
-use Rattle.dns_item.specs.Entries.{SkipsQuestion, SkipsRecord, ReadsRecord, RecordEntry, QuestionSkipFaultAt, RecordFaultAt, RecordSkipFaultAt}
+use Rattle.dns_name.specs.Fault.{Fault, fault_of}
+use Rattle.dns_name.specs.Parsers.{seen, place}
+use Rattle.dns_octets.specs.declared.error.ParseError.{ParseError}
+use Rattle.dns_question.specs.QuestionEntries.{SkipsQuestion, QuestionSkipFaultAt}
+use Rattle.dns_item.specs.Entries.{SkipsRecord, ReadsRecord, RecordEntry, RecordFaultAt, RecordSkipFaultAt}
 use Rattle.dns_item.specs.ParsedRecord.{parsed_entry}
 use Rattle.dns_item.specs.declared.parsed_record.ParsedRecord.{ParsedRecord}
 use Rattle.dns_read.specs.QuestionSection as questions

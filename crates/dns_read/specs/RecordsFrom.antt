@@ -1,6 +1,6 @@
 -- The one reading of records, and that it is one. RFC 1035 section 4.1.
 use Rattle.std.specs.Prelude.{ℕ, List, Result}
-use Rattle.dns_wire.specs.Fault.{Fault}
+use Rattle.dns_name.specs.Fault.{Fault}
 use Rattle.dns_item.specs.Entries.{RecordEntry, ReadsRecord, RecordFaultAt}
 use Rattle.dns_read.specs.Readings.{AreReadings}
 use Rattle.dns_read.specs.Unique.{one_reading_of_records}

@@ -3,10 +3,11 @@
 -- `b` are the octets of the message.
 use Rattle.std.specs.Prelude.{ℕ, ◌⊎◌, List, Option, Some, None, Result}
 use Rattle.std.specs.Int.{w16}
-use Rattle.dns_wire.specs.Fault.{Fault}
-use Rattle.dns_wire.specs.Parsers.{number_at}
-use Rattle.dns_item.specs.Entries.{SkipsQuestion, SkipsRecord, ReadsQuestion, ReadsRecord, RecordEntry, QuestionFaultAt, QuestionSkipFaultAt, RecordFaultAt, RecordSkipFaultAt}
-use Rattle.dns_item.specs.Items.{QuestionItem}
+use Rattle.dns_name.specs.Fault.{Fault}
+use Rattle.dns_name.specs.Parsers.{number_at}
+use Rattle.dns_question.specs.QuestionEntries.{SkipsQuestion, ReadsQuestion, QuestionFaultAt, QuestionSkipFaultAt}
+use Rattle.dns_item.specs.Entries.{SkipsRecord, ReadsRecord, RecordEntry, RecordFaultAt, RecordSkipFaultAt}
+use Rattle.dns_question.specs.Questions.{QuestionItem}
 use Rattle.dns_read.specs.Reading.{Passed, StopsPassing, Reading}
 use Rattle.dns_read.specs.declared.section.Section.{Section}
 use Rattle.dns_read.specs.declared.section.Section.TheVariants.{Answer, Authority, Additional}

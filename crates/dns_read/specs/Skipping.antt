@@ -1,9 +1,9 @@
 -- What skipping entries one behind the other answers. RFC 1035 section 4.1.
 use Rattle.std.specs.Prelude.{◌≡◌, ℕ, suc, List, [], Option, Some, None, Result, Ok, Err}
-use Rattle.dns_wire.specs.Fault.{Fault, fault_of}
-use Rattle.dns_wire.specs.Parsers.{place, MovesTo}
-use Rattle.dns_wire.specs.declared.error.ParseError.{ParseError}
-use Rattle.dns_wire.specs.declared.parser.Parser.{Parser}
+use Rattle.dns_name.specs.Fault.{Fault, fault_of}
+use Rattle.dns_name.specs.Parsers.{place, MovesTo}
+use Rattle.dns_octets.specs.declared.error.ParseError.{ParseError}
+use Rattle.dns_name.specs.declared.parser.Parser.{Parser}
 use Rattle.dns_read.specs.Reading.{Passed, StopsPassing}
 
 -- The parser moves behind so many entries, or the fault of the first that can't be skipped is answered.

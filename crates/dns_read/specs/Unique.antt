@@ -1,10 +1,12 @@
 -- That each section has one reading. RFC 1035 section 4.1. It stands here since the list that is the reading is taken from it.
 use Rattle.std.proofs.Common.{◌≡◌, ℕ, zero, suc, ◌⊎◌, inl, inr, List, [], ◌∷◌, ap, sym, ◌∙◌, refl, subst}
 use Rattle.std.specs.Prelude.{Result, Ok, Err}
-use Rattle.dns_wire.specs.Fault.{Fault}
-use Rattle.dns_item.specs.Entries.{ReadsQuestion, ReadsRecord, QuestionFaultAt, RecordFaultAt}
-use Rattle.dns_item.specs.EntryLaws.{ReadsOrFaults}
-use Rattle.dns_item.proofs.EntryLemmas.{question_or_fault, record_or_fault}
+use Rattle.dns_name.specs.Fault.{Fault}
+use Rattle.dns_question.specs.QuestionEntries.{ReadsQuestion, QuestionFaultAt}
+use Rattle.dns_item.specs.Entries.{ReadsRecord, RecordFaultAt}
+use Rattle.dns_name.specs.EachPlace.{ReadsOrFaults}
+use Rattle.dns_question.proofs.QuestionEntryLemmas.{question_or_fault}
+use Rattle.dns_item.proofs.EntryLemmas.{record_or_fault}
 use Rattle.dns_read.specs.Reading.{Reading}
 use Rattle.dns_read.specs.Reading.Reading.{none, entry, stop}
 use Rattle.dns_read.specs.Readings.{OneReading, OneReadingOfQuestions, OneReadingOfRecords}

@@ -1,6 +1,6 @@
 //! Conversions of messages between holders of octets.
 ghost use Rattle.std.specs.Prelude.{◌≡◌, ◌<◌, length, ⊤};
-ghost use Rattle.dns_wire.specs.Converts.{Converts};
+ghost use Rattle.dns_octets.specs.Converts.{Converts};
 ghost use Rattle.dns_read.specs.Message.{message_octets};
 
 use crate::message::Message;

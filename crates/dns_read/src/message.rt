@@ -40,7 +40,7 @@ impl<Octs: Octets> Message<Octs> {
     ghost use Rattle.dns_read.specs.RecordSection.{BeginsSection};
     ghost use Rattle.dns_read.specs.Sections.{question_count, answer_count, authority_count, additional_count, AnswersFault, AuthoritiesFault, AdditionalsFault};
     ghost use Rattle.dns_read.specs.declared.section.Section.TheVariants.{Answer, Authority, Additional};
-    ghost use Rattle.dns_wire.specs.Fault.{fault_of};
+    ghost use Rattle.dns_name.specs.Fault.{fault_of};
 
     /// The message of these octets. Fewer than twelve are refused.
     pub fn from_octets(octets: Octs) -> Result<Self, ShortMessage>

@@ -1,6 +1,6 @@
 ghost use Rattle.std.specs.Prelude.{◌≡◌, ◌≤◌, length, Ok};
-ghost use Rattle.dns_wire.specs.Parsers.{input, seen};
-ghost use Rattle.dns_item.specs.Entries.{SkipsQuestion, QuestionSkipFaultAt};
+ghost use Rattle.dns_name.specs.Parsers.{input, seen};
+ghost use Rattle.dns_question.specs.QuestionEntries.{SkipsQuestion, QuestionSkipFaultAt};
 ghost use Rattle.dns_read.specs.Sections.{header_size, question_count};
 ghost use Rattle.dns_read.specs.Skipping.{SkipsAll};
 

@@ -1,6 +1,6 @@
 -- What an example of README.md says.
 use Rattle.std.specs.Prelude.{◌≡◌, ℕ, List, map, Ok}
-use Rattle.dns_item.specs.Items.{QuestionItem}
+use Rattle.dns_question.specs.Questions.{QuestionItem}
 use Rattle.dns_read.specs.QuestionsFrom.{questions_from}
 use Rattle.dns_read.specs.Sections.{header_size, question_count}
 

@@ -1,7 +1,7 @@
 //! The examples of README.md.
 ghost use Rattle.std.specs.Prelude.{◌≡◌, ◌↔◌, IsTrue, IfOk, ◌∷◌, []};
-ghost use Rattle.dns_wire.specs.Names.{Labels, lowered};
-ghost use Rattle.dns_wire.specs.Standing.{Stands};
+ghost use Rattle.dns_name.specs.Names.{Labels, lowered};
+ghost use Rattle.dns_name.specs.Standing.{Stands};
 ghost use Rattle.dns_read.specs.Message.{message_octets};
 ghost use Rattle.dns_rows.specs.Tour.{HasQuestions};
 

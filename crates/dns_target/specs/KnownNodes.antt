@@ -1,6 +1,6 @@
 -- What a look-up in a tree leaves behind: the node from which a name's new labels are added. RFC 1035 section 4.1.4.
 use Rattle.std.specs.Prelude.{List}
-use Rattle.dns_wire.specs.Names.{Labels}
+use Rattle.dns_name.specs.Names.{Labels}
 use Rattle.dns_target.specs.declared.known.Known.{Known}
 use Rattle.dns_target.specs.Lookup.{IsPath, IsEnd, IsNew}
 use Rattle.dns_target.specs.Tree.{Entry, memory_of}

@@ -1,8 +1,8 @@
 //! A target that compresses names, by an index of the suffixes that it remembers.
 ghost use Rattle.std.specs.Prelude.{◌≡◌, ◌||◌, true, IfOk, OnErr, IsTrue};
 ghost use Rattle.dns_wire.specs.Memory.{nothing};
-ghost use Rattle.dns_wire.specs.Names.{uncompressed};
-ghost use Rattle.dns_wire.specs.ParsedName.{labels};
+ghost use Rattle.dns_name.specs.Names.{uncompressed};
+ghost use Rattle.dns_name.specs.ParsedName.{labels};
 ghost use Rattle.dns_wire.specs.Pieces.{Plain, put_octets};
 ghost use Rattle.dns_wire.specs.PutName.{put_name};
 ghost use Rattle.dns_wire.specs.Targets.{Appends};

@@ -2,7 +2,7 @@
 use Rattle.std.proofs.Common.{◌≡◌, ℕ, ◌≤◌, Bool, Option, Result, Ok, Err, [], length, length-append, append-nil, ap, sym, ◌∙◌, refl, subst, arith}
 use Rattle.dns_wire.specs.Pieces.{Piece, IsGrowing, put_octets}
 use Rattle.dns_wire.specs.Targets.{Written, IsTarget, Appends, cut_to}
-use Rattle.dns_wire.specs.declared.error.AppendError.{AppendError}
+use Rattle.dns_octets.specs.declared.error.AppendError.{AppendError}
 use Rattle.dns_wire.proofs.Composing.{cut_to-lay}
 use Rattle.dns_wire.proofs.GrowingPieces.{put_octets_grows}
 use Rattle.dns_wire.proofs.PieceLaws.{cut_undoes, same_written}

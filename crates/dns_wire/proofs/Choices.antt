@@ -5,7 +5,7 @@ use Rattle.std.specs.List.{list_all, flat_map}
 use Rattle.std.proofs.lemmas.Bool.{and_parts}
 use Rattle.std.proofs.lemmas.Grind.{common_steps}
 use Rattle.std.specs.FinMap.{get, len}
-use Rattle.dns_wire.specs.Names.{Labels, framed}
+use Rattle.dns_name.specs.Names.{Labels, framed}
 use Rattle.dns_wire.specs.Memory.{Memory, Spot, remember}
 use Rattle.dns_wire.specs.Pieces.{Rule, Plain, Static, Tree, Hash}
 use Rattle.dns_wire.specs.PutName.{spell, spell_label, is_kept, put_name, pointer}

@@ -7,8 +7,8 @@ use Rattle.dns_wire.specs.Memory.{Memory, Spot, cut, ends_within}
 use Rattle.dns_wire.specs.Pieces.{IsGrowing, Piece, both}
 use Rattle.dns_wire.specs.Targets.{Written, lay, cut_to, Fits, Passes, Answers, Composes}
 use Rattle.dns_wire.specs.TargetLaws.{AppendsCompose, ComposesBoth, ComposesFirst}
-use Rattle.dns_wire.specs.declared.error.AppendError.{AppendError}
-use Rattle.dns_wire.specs.declared.error.AppendError.TheVariants.{ShortBuf, OutOfMemory}
+use Rattle.dns_octets.specs.declared.error.AppendError.{AppendError}
+use Rattle.dns_octets.specs.declared.error.AppendError.TheVariants.{ShortBuf, OutOfMemory}
 use Rattle.dns_wire.proofs.Memories.{get-cut, same_memory, cut-extends}
 use Rattle.dns_wire.proofs.PieceLaws.{same_written, lay-both}
 

@@ -1,9 +1,9 @@
 -- Where the labels and the pointers of parts that are put stand.
 use Rattle.std.proofs.Common.{◌≡◌, ℕ, ◌+◌, ◌<◌, ◌≤◌, List, [], ◌∷◌, ◌++◌, append-nil, length, arith, sym, refl, subst}
 use Rattle.std.specs.Prelude.{Ok}
-use Rattle.dns_wire.specs.Heads.{head_at}
+use Rattle.dns_name.specs.Heads.{head_at}
 use Rattle.dns_wire.specs.Memory.{Memory}
-use Rattle.dns_wire.specs.Names.{Labels}
+use Rattle.dns_name.specs.Names.{Labels}
 use Rattle.dns_wire.specs.Parts.{Part, Octets, CompressibleName, put_parts, AreParts}
 use Rattle.dns_wire.specs.PartsWritten.{PartsFill, LabelsNear}
 use Rattle.dns_wire.specs.Pieces.{Rule}
@@ -11,8 +11,8 @@ use Rattle.dns_wire.specs.Spelled.{Spelled, Remembers}
 use Rattle.dns_wire.specs.Spelled.Spelled.{root, label, pointer}
 use Rattle.dns_wire.specs.SpellingLaws.{PartsPointToLabels, ShortPartsAreNear}
 use Rattle.dns_wire.specs.Targets.{Written, IsTarget, lay}
-use Rattle.dns_wire.specs.Walking.{WalkedBehind}
-use Rattle.dns_wire.specs.declared.head.Head.TheVariants.{Root, Label, Pointer}
+use Rattle.dns_name.specs.Walking.{WalkedBehind}
+use Rattle.dns_name.specs.declared.head.Head.TheVariants.{Root, Label, Pointer}
 use Rattle.dns_wire.proofs.OctetsAt.{root_at, label_begins, pointer_at}
 use Rattle.dns_wire.proofs.PieceLaws.{HasName, HasParts, puts_parts}
 use Rattle.dns_wire.proofs.SpelledNames.{spelled_long}

@@ -1,7 +1,7 @@
 -- Names, octets and parts remember only suffixes that they write.
 use Rattle.std.proofs.Common.{◌≡◌, ℕ, ◌+◌, ◌≤◌, ◌<◌, Bool, true, false, cond, Option, Some, None, List, [], ◌∷◌, ◌++◌, length, length-append, refl, arith}
 use Rattle.std.specs.FinMap.{get}
-use Rattle.dns_wire.specs.Names.{Labels}
+use Rattle.dns_name.specs.Names.{Labels}
 use Rattle.dns_wire.specs.Memory.{Spot, Memory, remember, Extends}
 use Rattle.dns_wire.specs.Pieces.{IsGrowing, Rule, Plain, Static, Tree, Hash, Piece, put_octets, both, with_length}
 use Rattle.dns_wire.specs.PutName.{spell_label, spell, kept, put_name}

@@ -3,7 +3,7 @@ use Rattle.std.proofs.Common.{◌≡◌, ℕ, ◌+◌, ◌-◌, ◌<◌, ◌≤�
 use Rattle.std.specs.Int.{to_be_bytes, from_be_bytes, w16, w32}
 use Rattle.std.proofs.lemmas.Nat.{from_be_bytes-to_be_bytes_2, from_be_bytes-to_be_bytes_4}
 use Rattle.dns_wire.specs.Memory.{Memory}
-use Rattle.dns_wire.specs.Parsers.{number_at}
+use Rattle.dns_name.specs.Parsers.{number_at}
 use Rattle.dns_wire.specs.Pieces.{Piece, put_octets, both, with_length}
 use Rattle.dns_wire.specs.Spelled.{At}
 use Rattle.dns_wire.specs.Targets.{Written, IsTarget, lay}

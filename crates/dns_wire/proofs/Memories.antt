@@ -6,7 +6,7 @@ use Rattle.std.proofs.lemmas.Option.{cond_some}
 use Rattle.std.specs.FinMap.{get, insert, same_map, get-retain_keys, get-insert}
 use Rattle.std.specs.Cmp.{Equal-is}
 use Rattle.std.specs.Ordering.{eq_by_cmp}
-use Rattle.dns_wire.specs.Names.{Labels}
+use Rattle.dns_name.specs.Names.{Labels}
 use Rattle.dns_wire.specs.Memory.{suffix_cmp, suffix_total, suffix_exact, Spot, Memory, ends_within, cut, IsWithin, IsBehind, IsOldOrNew, Extends}
 
 -- what a cut has at a suffix

@@ -1,12 +1,12 @@
 -- How many octets are written of a name.
 use Rattle.std.proofs.Common.{ℕ, ◌+◌, ◌≤◌, Bool, true, false, Option, Some, None, List, [], ◌∷◌, length, length-append, arith}
-use Rattle.dns_wire.specs.Names.{Labels, uncompressed}
+use Rattle.dns_name.specs.Names.{Labels, uncompressed}
 use Rattle.dns_wire.specs.Memory.{Memory, Spot}
 use Rattle.dns_wire.specs.Pieces.{Rule, Plain, Static, Tree, Hash}
 use Rattle.dns_wire.specs.PutName.{spell, spell_label, put_name}
 use Rattle.dns_wire.specs.Parts.{Part, Octets, CompressibleName, put_part, put_parts, part_size, parts_size}
 use Rattle.dns_wire.specs.TargetLaws.{NamesAreShort}
-use Rattle.dns_wire.proofs.LabelsLemmas.{length-uncompressed}
+use Rattle.dns_name.proofs.LabelsLemmas.{length-uncompressed}
 
 -- a pointer has two octets, and so have a label's length octet and the root's
 label_short : (o : Option Spot) (keep : Bool) (label : List ℕ) (rest : Labels) (place : ℕ) (after : List ℕ × List (Labels × ℕ))

@@ -3,15 +3,15 @@ use Rattle.std.proofs.Common.{◌≡◌, ℕ, ◌+◌, ◌-◌, ◌/◌, ◌%◌
 use Rattle.std.specs.Prelude.{Some, Ok, slice_get}
 use Rattle.std.proofs.lemmas.List.{drop-append-le, take-append-drop}
 use Rattle.std.proofs.Math.Seq.{take-append_seam, drop-append_seam, take-append-add}
-use Rattle.dns_wire.specs.Names.{IsLabel, framed}
-use Rattle.dns_wire.specs.Heads.{head_at}
-use Rattle.dns_wire.specs.Standing.{label_at}
+use Rattle.dns_name.specs.Names.{IsLabel, framed}
+use Rattle.dns_name.specs.Heads.{head_at}
+use Rattle.dns_name.specs.Standing.{label_at}
 use Rattle.dns_wire.specs.PutName.{pointer as pointer_octets}
-use Rattle.dns_wire.specs.Octets.{overwritten}
+use Rattle.dns_octets.specs.Octets.{overwritten}
 use Rattle.dns_wire.specs.Spelled.{At}
-use Rattle.dns_wire.specs.declared.head.Head.TheVariants.{Root, Label, Pointer}
-use Rattle.dns_wire.proofs.HeadLemmas as heads
-use Rattle.dns_wire.proofs.Spelling.{get_drop}
+use Rattle.dns_name.specs.declared.head.Head.TheVariants.{Root, Label, Pointer}
+use Rattle.dns_name.proofs.HeadLemmas as heads
+use Rattle.dns_name.proofs.Spelling.{get_drop}
 
 -- the octets, and what is before and behind them
 record Split (b : List ℕ) (p : ℕ) (xs : List ℕ) : Type 0 where

@@ -1,7 +1,7 @@
 -- Pieces behind one another, each with what it puts.
 use Rattle.std.proofs.Common.{◌≡◌, ℕ, ◌+◌, ◌≤◌, List, [], ◌∷◌, ◌++◌, length, length-append, append_assoc, arith, sym, ◌∙◌, refl, subst}
 use Rattle.std.proofs.Math.Seq.{take-append_seam}
-use Rattle.dns_wire.specs.Names.{Labels, IsName}
+use Rattle.dns_name.specs.Names.{Labels, IsName}
 use Rattle.dns_wire.specs.Pieces.{Rule, Piece, IsGrowing, put_octets, both}
 use Rattle.dns_wire.specs.PutName.{put_name}
 use Rattle.dns_wire.specs.Parts.{Part, Octets, CompressibleName, PartsStand, AreParts, put_parts}

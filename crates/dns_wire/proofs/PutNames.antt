@@ -6,7 +6,7 @@ use Rattle.std.proofs.lemmas.Bool.{and_parts}
 use Rattle.std.proofs.lemmas.Grind.{common_steps}
 use Rattle.std.specs.FinMap.{get, len, get-insert}
 use Rattle.std.specs.Ordering.{eq_by_cmp}
-use Rattle.dns_wire.specs.Names.{Labels, IsName, name_size, max_size, uncompressed}
+use Rattle.dns_name.specs.Names.{Labels, IsName, name_size, max_size, uncompressed}
 use Rattle.dns_wire.specs.Memory.{Memory, Spot, remember, IsWithin, suffix_cmp, suffix_total}
 use Rattle.dns_wire.specs.Pieces.{Rule, Plain, Static, Tree, Hash}
 use Rattle.dns_wire.specs.PutName.{spell, spell_label, kept, is_kept, put_name}
@@ -15,7 +15,7 @@ use Rattle.dns_wire.specs.Spelled.Spelled.{root, label, pointer}
 use Rattle.dns_wire.proofs.Memories.{gets, tied}
 use Rattle.dns_wire.proofs.GrowingPieces.{put_name_grows}
 use Rattle.dns_wire.proofs.OctetsAt.{at_end, label_part, behind_label}
-use Rattle.dns_wire.proofs.Spelling.{name_tail}
+use Rattle.dns_name.proofs.Spelling.{name_tail}
 use Rattle.dns_wire.proofs.SpelledNames.{moved, kept_moved, kept_more, kept_spelled, spelled_long}
 
 -- it holds of each

@@ -4,9 +4,8 @@ use Rattle.std.specs.Prelude.{Option, Some, None, nat_lt, ◌&&◌, is_some}
 use Rattle.std.specs.List.{list_all}
 use Rattle.std.proofs.lemmas.Grind.{common_steps}
 use Rattle.std.specs.FinMap.{get, insert, len, get-insert, len-insert, contains_key}
-use Rattle.std.specs.Cmp.{eq_by_cmp_equiv}
 use Rattle.std.specs.Ordering.{eq_by_cmp}
-use Rattle.dns_wire.specs.Names.{Labels, IsLabel, IsName, uncompressed, name_size}
+use Rattle.dns_name.specs.Names.{Labels, IsLabel, IsName, uncompressed, name_size}
 use Rattle.dns_wire.specs.Memory.{Memory, Spot, remember, suffix_cmp, suffix_total}
 use Rattle.dns_wire.specs.Pieces.{Rule, Plain, Static, Tree, Hash}
 use Rattle.dns_wire.specs.PutName.{spell, spell_label, kept, is_kept}
@@ -16,8 +15,9 @@ use Rattle.dns_wire.specs.SpellingLaws.{SharesAll}
 use Rattle.dns_wire.specs.PartsWritten.{LabelsNear}
 use Rattle.dns_wire.proofs.FilledPlaces.{near_label}
 use Rattle.dns_wire.proofs.OctetsAt.{label_begins, label_part, behind_label}
+use Rattle.dns_wire.proofs.Remembered.{get-insert_same}
 use Rattle.dns_wire.proofs.PutNames.{Each, found}
-use Rattle.dns_wire.proofs.Spelling.{name_tail}
+use Rattle.dns_name.proofs.Spelling.{name_tail}
 
 -- what is remembered is what is shared
 pub record Knows (m : Memory) (names : List Labels) : Type 0 where
@@ -162,8 +162,7 @@ listed rule m names p held (label ∷ others) s knows k h =
 
 -- what is inserted is found
 inserted_same : (m : Memory) (t k : Labels) (v : Spot) → t ≡ k → get (insert m k v) t ≡ Some v
-inserted_same m t k v e =
-    get-insert suffix_total m k v t ∙ ap (λ (b : Bool). cond b (Some v) (get m t)) (ap (λ (n : Labels). eq_by_cmp suffix_cmp n k) e ∙ (eq_by_cmp_equiv suffix_total).refl k)
+inserted_same m t k v e = ap (λ (n : Labels). get (insert m k v) n) e ∙ get-insert_same m k v
 
 -- so is what was there
 inserted_other : (b : Bool) (v : Spot) (o : Option Spot) (x : Spot) → o ≡ Some x → (y : Spot) × (cond b (Some v) o ≡ Some y)

@@ -3,7 +3,7 @@ use Rattle.std.proofs.Common.{◌≡◌, ℕ, ◌+◌, ◌-◌, ◌≤◌, ◌�
 use Rattle.std.specs.Prelude.{Some, None}
 use Rattle.std.specs.Int.{to_be_bytes, w16}
 use Rattle.std.specs.FinMap.{get, len, get-empty}
-use Rattle.dns_wire.specs.Names.{Labels, IsName, name_size, max_size}
+use Rattle.dns_name.specs.Names.{Labels, IsName, name_size, max_size}
 use Rattle.dns_wire.specs.Memory.{Memory, Spot, nothing, suffix_cmp, remember}
 use Rattle.dns_wire.specs.Pieces.{Rule, Plain, Static, Tree, Hash, Piece, Laid, put_octets, both, with_length}
 use Rattle.dns_wire.specs.PutName.{spell, kept, put_name}
@@ -13,7 +13,7 @@ use Rattle.dns_wire.specs.Spelled.{At, Remembers}
 use Rattle.dns_wire.specs.Spelling.{IsShared, Spelling, IsShortest}
 use Rattle.dns_wire.specs.Spelling.Spelling.{none, octets, whole, shared}
 use Rattle.dns_wire.specs.SpellingLaws.{SharesAll, AddsShortest, PartsAreShortest}
-use Rattle.dns_wire.specs.Walking.{Walked}
+use Rattle.dns_name.specs.Walking.{Walked}
 use Rattle.dns_wire.specs.Targets.{Written, IsTarget, lay}
 use Rattle.dns_wire.proofs.FilledPlaces.{near_end}
 use Rattle.dns_wire.proofs.GrowingPieces.{put_name_grows}
@@ -24,7 +24,7 @@ use Rattle.dns_wire.proofs.PieceLaws.{lay-both, puts_put_name, puts_octets}
 use Rattle.dns_wire.proofs.PlainTargets.{nothing_is_kept}
 use Rattle.dns_wire.proofs.SharedSuffixes.{Knows, Best, KeepsNear, tree_keeps_near, static_keeps_near, hash_keeps_near, best, knows_more, near_kept, near_suffixes, few_less, shared_some, len_spell, len_remember}
 use Rattle.dns_wire.proofs.SpelledNames.{spelled_walked, spelled_more, kept_more}
-use Rattle.dns_wire.proofs.Steps.{name_size-append}
+use Rattle.dns_name.proofs.Steps.{name_size-append}
 
 -- the names behind these parts
 abbrev pub added : List Part → List Labels → List Labels

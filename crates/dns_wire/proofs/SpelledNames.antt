@@ -2,11 +2,11 @@
 use Rattle.std.proofs.Common.{◌≡◌, ℕ, zero, suc, ◌+◌, ◌<◌, ◌≤◌, inl, inr, List, [], ◌∷◌, ◌++◌, take, length, arith, sym, subst}
 use Rattle.std.specs.Prelude.{Some}
 use Rattle.std.specs.FinMap.{get}
-use Rattle.dns_wire.specs.Names.{Labels, name_size, max_size, framed}
+use Rattle.dns_name.specs.Names.{Labels, name_size, max_size, framed}
 use Rattle.dns_wire.specs.Memory.{Memory, Spot, cut, IsClear}
-use Rattle.dns_wire.specs.Standing.{Stands}
-use Rattle.dns_wire.specs.Walking.{WalkedBehind, Walked}
-use Rattle.dns_wire.specs.Octets.{overwritten}
+use Rattle.dns_name.specs.Standing.{Stands}
+use Rattle.dns_name.specs.Walking.{WalkedBehind, Walked}
+use Rattle.dns_octets.specs.Octets.{overwritten}
 use Rattle.dns_wire.specs.PutName.{pointer as pointer_octets}
 use Rattle.dns_wire.specs.Spelled.{At, Spelled, Labelled, Kept, Remembers}
 use Rattle.dns_wire.specs.Spelled.Spelled.{root, label, pointer}

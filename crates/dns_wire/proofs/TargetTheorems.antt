@@ -1,8 +1,8 @@
 -- What is remembered stands, and what is put reads back.
 use Rattle.std.proofs.Common.{◌≡◌, ℕ, List, [], ◌∷◌, length, arith}
 use Rattle.std.specs.Prelude.{Ok}
-use Rattle.dns_wire.specs.Names.{Labels}
-use Rattle.dns_wire.specs.Heads.{head_at}
+use Rattle.dns_name.specs.Names.{Labels}
+use Rattle.dns_name.specs.Heads.{head_at}
 use Rattle.dns_wire.specs.Memory.{Memory}
 use Rattle.dns_wire.specs.Parts.{put_parts}
 use Rattle.dns_wire.specs.Pointed.{WellPointed}
@@ -10,7 +10,7 @@ use Rattle.dns_wire.specs.Spelled.{Spelled, Labelled, Remembers}
 use Rattle.dns_wire.specs.Spelled.Spelled.{root, label, pointer}
 use Rattle.dns_wire.specs.Targets.{lay}
 use Rattle.dns_wire.specs.TargetLaws.{RemembersWhatStands, NothingIsTarget, PiecesStayBehind, NamesStayBehind, NamesReadBack, PartsReadBack}
-use Rattle.dns_wire.specs.declared.head.Head.TheVariants.{Label}
+use Rattle.dns_name.specs.declared.head.Head.TheVariants.{Label}
 use Rattle.dns_wire.proofs.Memories.{behind_more}
 use Rattle.dns_wire.proofs.GrowingPieces.{put_name_grows}
 use Rattle.dns_wire.proofs.PlainTargets.{nothing_is_kept}

@@ -5,7 +5,7 @@ use Rattle.std.specs.declared.cmp.Ordering.{Ordering}
 use Rattle.std.specs.Cmp.Lexicographic.{slice_cmp, lists_total}
 use Rattle.std.specs.FinMap.{FinMap, get, insert, empty, retain_keys, slice_cmp-IsAntisymmetric, nat_cmp-IsAntisymmetric, IsAntisymmetric}
 use Rattle.std.specs.Cmp.{IsTotalOrder, nat_cmp_total}
-use Rattle.dns_wire.specs.Names.{Labels}
+use Rattle.dns_name.specs.Names.{Labels}
 
 -- Suffixes are looked up octet for octet: this order tells apart all that differ.
 abbrev pub suffix_cmp : Labels → Labels → Ordering

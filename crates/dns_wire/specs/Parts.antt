@@ -1,10 +1,10 @@
 -- What record data is made of, how it is written, and where it stands. RFC 1035 sections 3.3 and 4.1.4.
 use Rattle.std.specs.Prelude.{◌≡◌, ℕ, ◌+◌, List, [], ◌∷◌, length, take, slice_range}
-use Rattle.dns_wire.specs.Names.{Labels, IsName, uncompressed}
+use Rattle.dns_name.specs.Names.{Labels, IsName, uncompressed}
 use Rattle.dns_wire.specs.Pieces.{Rule, Piece, put_octets, both}
 use Rattle.dns_wire.specs.PutName.{put_name}
-use Rattle.dns_wire.specs.Standing.{Stands}
-use Rattle.dns_wire.specs.Walking.{Walked}
+use Rattle.dns_name.specs.Standing.{Stands}
+use Rattle.dns_name.specs.Walking.{Walked}
 
 -- octets, or a name that may be compressed
 pub data Part : Type 0 where

@@ -1,9 +1,9 @@
 -- Where parts stand in octets, and where the labels and the pointers of the names among them do. RFC 1035 section 4.1.4.
 use Rattle.std.specs.Prelude.{◌≡◌, ℕ, ◌+◌, ◌<◌, List, [], ◌∷◌, length, Ok}
-use Rattle.dns_wire.specs.Heads.{head_at}
+use Rattle.dns_name.specs.Heads.{head_at}
 use Rattle.dns_wire.specs.Parts.{Part, Octets, CompressibleName}
 use Rattle.dns_wire.specs.Pointed.{WellPointed}
-use Rattle.dns_wire.specs.declared.head.Head.TheVariants.{Root, Label, Pointer}
+use Rattle.dns_name.specs.declared.head.Head.TheVariants.{Root, Label, Pointer}
 
 -- The parts fill the places from p to the end, one behind the other, and each name among them is written from its first place to the next part's as `IsWritten` says.
 abbrev pub PartsFill : (ℕ → ℕ → Type 0) → ℕ → ℕ → List Part → Type 0

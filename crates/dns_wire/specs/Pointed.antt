@@ -1,7 +1,7 @@
 -- Pointers that lead back to labels. RFC 1035 section 4.1.4.
 use Rattle.std.specs.Prelude.{◌≡◌, ℕ, ◌+◌, ◌<◌, List, Ok}
-use Rattle.dns_wire.specs.Heads.{head_at}
-use Rattle.dns_wire.specs.declared.head.Head.TheVariants.{Root, Label, Pointer}
+use Rattle.dns_name.specs.Heads.{head_at}
+use Rattle.dns_name.specs.declared.head.Head.TheVariants.{Root, Label, Pointer}
 
 -- From a place to q there are labels, and then a zero octet, or a pointer to an earlier place below 16,384 where a label begins.
 pub data WellPointed (b : List ℕ) (q : ℕ) : ℕ → Type 0 where

@@ -2,7 +2,7 @@
 use Rattle.std.specs.Prelude.{ℕ, ◌+◌, ◌/◌, ◌%◌, nat_lt, Bool, true, false, ◌&&◌, Option, None, Some, List, [], ◌∷◌, ◌++◌, length, if◌then◌else◌}
 use Rattle.std.specs.List.{list_all}
 use Rattle.std.specs.FinMap.{get, len}
-use Rattle.dns_wire.specs.Names.{Labels, framed, uncompressed}
+use Rattle.dns_name.specs.Names.{Labels, framed, uncompressed}
 use Rattle.dns_wire.specs.Memory.{Memory, Spot, remember}
 use Rattle.dns_wire.specs.Pieces.{Rule, Plain, Static, Tree, Hash, Piece}
 

@@ -1,7 +1,7 @@
 -- Names where they were written, with what a target remembers. RFC 1035 section 4.1.4.
 use Rattle.std.specs.Prelude.{◌≡◌, ℕ, ◌+◌, ◌≤◌, ◌<◌, Some, List, [], ◌∷◌, length, slice_range}
 use Rattle.std.specs.FinMap.{get}
-use Rattle.dns_wire.specs.Names.{Labels, IsLabel, name_size, max_size, framed}
+use Rattle.dns_name.specs.Names.{Labels, IsLabel, name_size, max_size, framed}
 use Rattle.dns_wire.specs.Memory.{Memory, Spot}
 use Rattle.dns_wire.specs.PutName.{pointer as pointer_octets}
 

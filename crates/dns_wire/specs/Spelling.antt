@@ -1,6 +1,6 @@
 -- How the names among parts can be spelled by suffixes of earlier names, and how many octets that takes: a sum over free choices, with no place and no memory. RFC 1035 section 4.1.4.
 use Rattle.std.specs.Prelude.{◌≡◌, ℕ, ◌+◌, ◌≤◌, ◌⊎◌, List, [], ◌∷◌, ◌++◌, length}
-use Rattle.dns_wire.specs.Names.{Labels, name_size}
+use Rattle.dns_name.specs.Names.{Labels, name_size}
 use Rattle.dns_wire.specs.Parts.{Part, Octets, CompressibleName}
 
 -- a suffix is a non-empty end of a name, perhaps all of it

@@ -1,9 +1,9 @@
 -- Names that stand between two places, and octets that agree there. RFC 1035 section 4.1.4.
 use Rattle.std.specs.Prelude.{◌≡◌, ℕ, ◌+◌, ◌<◌, ◌≤◌, List, [], ◌∷◌, length, Ok, slice_get}
-use Rattle.dns_wire.specs.Names.{Labels, name_size, max_size}
-use Rattle.dns_wire.specs.Heads.{head_at}
-use Rattle.dns_wire.specs.Standing.{label_at}
-use Rattle.dns_wire.specs.declared.head.Head.TheVariants.{Root, Label, Pointer}
+use Rattle.dns_name.specs.Names.{Labels, name_size, max_size}
+use Rattle.dns_name.specs.Heads.{head_at}
+use Rattle.dns_name.specs.Standing.{label_at}
+use Rattle.dns_name.specs.declared.head.Head.TheVariants.{Root, Label, Pointer}
 
 -- A name stands at a place, and all octets that it takes, also where its pointers lead, are at lo or behind it and before hi.
 pub data StandsIn (b : List ℕ) (lo hi : ℕ) : ℕ → Labels → Type 0 where

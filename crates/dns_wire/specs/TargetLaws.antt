@@ -1,10 +1,10 @@
 -- What holds of every target, and of all names and parts that are put there. RFC 1035 section 4.1.4.
 use Rattle.std.specs.Prelude.{◌≡◌, ℕ, ◌<◌, ◌≤◌, Some, Ok, List, ◌++◌, length, take, ◌⊎◌, ◌+◌, Bool, Option, Result, Err}
 use Rattle.std.specs.FinMap.{get}
-use Rattle.dns_wire.specs.Names.{Labels, IsName, uncompressed}
-use Rattle.dns_wire.specs.Heads.{head_at}
-use Rattle.dns_wire.specs.Standing.{Stands}
-use Rattle.dns_wire.specs.Walking.{Walked}
+use Rattle.dns_name.specs.Names.{Labels, IsName, uncompressed}
+use Rattle.dns_name.specs.Heads.{head_at}
+use Rattle.dns_name.specs.Standing.{Stands}
+use Rattle.dns_name.specs.Walking.{Walked}
 use Rattle.dns_wire.specs.StandsIn.{StandsIn, Agree}
 use Rattle.dns_wire.specs.Pointed.{WellPointed}
 use Rattle.dns_wire.specs.Memory.{Memory, Spot, nothing, IsBehind, IsClear}
@@ -13,8 +13,8 @@ use Rattle.dns_wire.specs.PutName.{put_name}
 use Rattle.dns_wire.specs.Parts.{Part, PartsStand, AreParts, put_parts}
 use Rattle.dns_wire.specs.Spelled.{Remembers}
 use Rattle.dns_wire.specs.Targets.{Written, IsTarget, lay, cut_to, overwrite, Appends, Composes}
-use Rattle.dns_wire.specs.declared.error.AppendError.{AppendError}
-use Rattle.dns_wire.specs.declared.head.Head.TheVariants.{Label}
+use Rattle.dns_octets.specs.declared.error.AppendError.{AppendError}
+use Rattle.dns_name.specs.declared.head.Head.TheVariants.{Label}
 
 -- a name stands in all octets that agree with these from lo to hi, where all octets are that it takes
 abbrev pub StandsWhereAgreed : Type 0

@@ -1,11 +1,11 @@
 -- What a target holds, and what its calls do to it.
 use Rattle.std.specs.Prelude.{◌≡◌, OnOk, OnErr, ℕ, ◌≤◌, ◌<◌, Bool, IsTrue, Option, None, Some, Result, Ok, Err, List, ◌++◌, length, take}
 use Rattle.dns_wire.specs.Memory.{Memory, cut}
-use Rattle.dns_wire.specs.Octets.{overwritten}
+use Rattle.dns_octets.specs.Octets.{overwritten}
 use Rattle.dns_wire.specs.Pieces.{Piece}
 use Rattle.dns_wire.specs.Spelled.{Remembers}
-use Rattle.dns_wire.specs.declared.error.AppendError.{AppendError}
-use Rattle.dns_wire.specs.declared.error.AppendError.TheVariants.{ShortBuf, OutOfMemory}
+use Rattle.dns_octets.specs.declared.error.AppendError.{AppendError}
+use Rattle.dns_octets.specs.declared.error.AppendError.TheVariants.{ShortBuf, OutOfMemory}
 
 -- octets, and what is remembered of them
 pub record Written : Type 0 where

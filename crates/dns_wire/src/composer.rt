@@ -4,10 +4,9 @@ ghost use Rattle.dns_wire.specs.Pieces.{Rule, Plain, compresses, put_octets};
 ghost use Rattle.dns_wire.specs.PutName.{put_name};
 ghost use Rattle.dns_wire.specs.Targets.{Written, IsTarget, Fits, Appends, cut_to, overwrite};
 
-use crate::error::AppendError;
-use crate::octets::{Octets, overwrite_slice};
-use crate::to_name::ToName;
 use arrayvec::ArrayVec;
+use dns_name::ToName;
+use dns_octets::{AppendError, Octets, OctetsMut};
 use std::alloc::AllocError;
 
 /// What a message is written to: a content of octets, and what is remembered of the names in it.
@@ -115,7 +114,7 @@ impl Composer for Vec<u8> {
     }
 
     fn write_at(&mut self, place: usize, octets: &[u8]) {
-        overwrite_slice(self.as_mut_slice(), place, octets);
+        OctetsMut::write_at(self, place, octets);
     }
 }
 
@@ -171,7 +170,7 @@ impl<const N: usize> Composer for ArrayVec<u8, N> {
     }
 
     fn write_at(&mut self, place: usize, octets: &[u8]) {
-        overwrite_slice(self.as_mut_slice(), place, octets);
+        OctetsMut::write_at(self, place, octets);
     }
 }
 

@@ -1,40 +1,16 @@
-use crate::compare::{order_composed, order_from_root, same_labels, same_octets};
 use crate::composer::Composer;
-use crate::error::AppendError;
-use crate::parsed_name::ParsedName;
+use dns_name::ToName;
+use dns_name::compare::{order_composed, order_from_root, same_labels, same_octets};
+use dns_octets::AppendError;
 use std::cmp::Ordering;
-
-/// What stands for a name.
-pub trait ToName {
-    ghost use Rattle.std.specs.Prelude.{◌≡◌, IfSome};
-    ghost use Rattle.dns_wire.specs.Names.{Labels, IsName, uncompressed};
-    ghost use Rattle.dns_wire.specs.ParsedName.{labels};
-
-    /// The labels of the name.
-    ghost name: { Self → Labels };
-
-    /// The name as one in an input, which borrows this one.
-    fn as_parsed(&self) -> ParsedName<'_>
-        ensures labels { labels result ≡ name self.now }
-        ensures is_name { IsName (name self.now) };
-
-    /// The octets of the name, where they are known to stand without pointers.
-    ///
-    /// `None` says nothing of the name. A caller then writes the octets out itself; what is lent saves it that.
-    fn as_flat_slice(&self) -> Option<&[u8]>
-        ensures { IfSome result (λ octets. octets.now ≡ uncompressed (name self.now)) }
-    {
-        self.as_parsed().as_flat_slice()
-    }
-}
 
 /// Comparisons of whatever stands for a name, which take no memory, and its canonical form.
 pub trait ToNameExt: ToName {
     ghost use Rattle.std.specs.Prelude.{◌≡◌, ◌↔◌, IsTrue};
-    ghost use Rattle.dns_wire.specs.Names.{lowered, uncompressed};
+    ghost use Rattle.dns_name.specs.Names.{lowered, uncompressed};
     ghost use Rattle.dns_wire.specs.Pieces.{put_octets};
     ghost use Rattle.dns_wire.specs.Targets.{Appends};
-    ghost use Rattle.dns_wire.specs.NameOrders.{name_order, composed_order};
+    ghost use Rattle.dns_name.specs.NameOrders.{name_order, composed_order};
 
     /// Whether two names are equal up to ASCII case (RFC 1035 section 2.3.3).
     fn name_eq<N: ToName>(&self, other: &N) -> bool
@@ -68,32 +44,11 @@ pub trait ToNameExt: ToName {
     /// Appends the octets of the name without pointers, lowercased (RFC 4034 section 6.2). A refused append changes
     /// nothing.
     fn compose_canonical<T: Composer>(&self, target: &mut T) -> Result<(), AppendError>
-        ensures { Appends T.room T.grows (put_octets (uncompressed (lowered (Self.name self.now)))) (T.written target.old) (T.written target.new) result }
+        ensures { Appends T.room T.grows (put_octets (uncompressed (lowered (Self.name self.now))))
+            (T.written target.old) (T.written target.new) result }
     {
         target.append_slice(self.as_parsed().lowercased().as_slice())
     }
 }
 
 impl<T: ToName> ToNameExt for T {}
-
-impl ToName for ParsedName<'_> {
-    ghost use Rattle.dns_wire.specs.ParsedName.{labels};
-
-    ghost name = { labels };
-
-    fn as_parsed(&self) -> ParsedName<'_> {
-        *self
-    }
-}
-
-impl<N: ToName> ToName for &N {
-    ghost name = { λ n. N.name n.now };
-
-    fn as_parsed(&self) -> ParsedName<'_> {
-        (*self).as_parsed()
-    }
-
-    fn as_flat_slice(&self) -> Option<&[u8]> {
-        (*self).as_flat_slice()
-    }
-}

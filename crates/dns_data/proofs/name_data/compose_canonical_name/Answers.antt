@@ -1,4 +1,4 @@
-use Rattle.dns_wire.specs.Names.{lowered, uncompressed}
+use Rattle.dns_name.specs.Names.{lowered, uncompressed}
 use Rattle.dns_wire.specs.Parts.{Octets}
 use Rattle.dns_data.proofs.ComposedParts.{one_part_composes}
 use Rattle.dns_data.proofs.name_data.compose_canonical_name.Goals as goal

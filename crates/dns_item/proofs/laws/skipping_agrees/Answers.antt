@@ -1,5 +1,6 @@
+use Rattle.dns_question.proofs.QuestionEntryLemmas as questions
 use Rattle.dns_item.proofs.EntryLemmas as entries
 use Rattle.dns_item.proofs.laws.skipping_agrees.Goals as goal
 
 pub returns : goal.returns
-returns c = record { questions = entries.question_skip_agrees; records = entries.record_skip_agrees }
+returns c = record { questions = questions.question_skip_agrees; records = entries.record_skip_agrees }

@@ -1,6 +1,6 @@
 use Rattle.std.proofs.Common.{arith, refl}
 use Rattle.std.proofs.lemmas.Result.{err_from_is_err_and}
-use Rattle.dns_item.specs.Entries.{SkipsQuestion, QuestionSkipFaultAt}
+use Rattle.dns_question.specs.QuestionEntries.{SkipsQuestion, QuestionSkipFaultAt}
 use Rattle.dns_read.specs.Reading.Passed.{none}
 use Rattle.dns_read.proofs.SkipLemmas.{skips_more, skips_stop}
 use Rattle.dns_read.proofs.question_section.skip_questions.Goals as goal

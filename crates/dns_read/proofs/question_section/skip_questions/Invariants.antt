@@ -1,5 +1,5 @@
-use Rattle.dns_wire.specs.Parsers.{seen, place, MovesTo}
-use Rattle.dns_item.specs.Entries.{SkipsQuestion}
+use Rattle.dns_name.specs.Parsers.{seen, place, MovesTo}
+use Rattle.dns_question.specs.QuestionEntries.{SkipsQuestion}
 use Rattle.dns_read.specs.Reading.{Passed}
 use Rattle.dns_read.proofs.question_section.skip_questions.Given as goal
 

@@ -1,4 +1,4 @@
-use Rattle.dns_wire.specs.Parsers.{seen, place, MovesTo}
+use Rattle.dns_name.specs.Parsers.{seen, place, MovesTo}
 use Rattle.dns_item.specs.Entries.{SkipsRecord}
 use Rattle.dns_read.specs.Reading.{Passed}
 use Rattle.dns_read.proofs.record_section.skip_records.Given as goal

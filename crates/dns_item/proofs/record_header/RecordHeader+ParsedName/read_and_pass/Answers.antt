@@ -1,6 +1,6 @@
 use Rattle.std.proofs.Common.{refl}
 use Rattle.std.proofs.lemmas.Result.{err_from_is_err_and}
-use Rattle.dns_wire.specs.Parsers.{place}
+use Rattle.dns_name.specs.Parsers.{place}
 use Rattle.dns_item.proofs.HeaderLemmas.{with_data, without_data, without_header}
 use Rattle.dns_item.proofs.record_header.RecordHeader+ParsedName.read_and_pass.Goals as goal
 

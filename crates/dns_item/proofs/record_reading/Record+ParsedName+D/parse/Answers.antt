@@ -1,6 +1,6 @@
 use Rattle.std.proofs.Common.{List, ℕ}
-use Rattle.dns_wire.specs.ParsedName.{labels}
-use Rattle.dns_wire.specs.Parsers.{seen, place}
+use Rattle.dns_name.specs.ParsedName.{labels}
+use Rattle.dns_name.specs.Parsers.{seen, place}
 use Rattle.dns_item.specs.Entries.{RecordEntry}
 use Rattle.dns_item.specs.ParsedRecord.{octets_of, parsed_entry}
 use Rattle.dns_item.specs.Record.{record_item}

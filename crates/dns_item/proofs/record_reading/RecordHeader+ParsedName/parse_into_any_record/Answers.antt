@@ -1,6 +1,6 @@
 use Rattle.std.proofs.Common.{arith}
-use Rattle.dns_wire.specs.ParsedName.{labels}
-use Rattle.dns_wire.specs.Parsers.{seen, place}
+use Rattle.dns_name.specs.ParsedName.{labels}
+use Rattle.dns_name.specs.Parsers.{seen, place}
 use Rattle.dns_item.specs.Record.{record_item}
 use Rattle.dns_item.specs.RecordHeader.{rtype_of, record_at}
 use Rattle.dns_item.proofs.RecordReadingLemmas.{gives_back}

@@ -1,7 +1,7 @@
 use Rattle.std.proofs.Common.{◌∙◌, ◌∷◌, List, ℕ, ap, sym}
 use Rattle.std.specs.Prelude.{Ok}
-use Rattle.dns_wire.specs.Parsers.{place}
-use Rattle.dns_item.specs.Question.{parsed_question}
+use Rattle.dns_name.specs.Parsers.{place}
+use Rattle.dns_question.specs.Question.{parsed_question}
 use Rattle.dns_read.specs.QuestionSection.{octets_of, position, to_come}
 use Rattle.dns_read.specs.QuestionsFrom.{questions_from}
 use Rattle.dns_read.proofs.CursorLemmas.{nothing_left, gives_entry, gives_fault}

@@ -1,6 +1,6 @@
 use Rattle.std.proofs.Common.{◌∙◌, ◌∷◌, List, ℕ, ap, sym}
 use Rattle.std.specs.Prelude.{Ok}
-use Rattle.dns_wire.specs.Parsers.{place}
+use Rattle.dns_name.specs.Parsers.{place}
 use Rattle.dns_item.specs.ParsedRecord.{parsed_entry}
 use Rattle.dns_read.specs.RecordSection.{octets_of, position, to_come}
 use Rattle.dns_read.specs.RecordsFrom.{records_from}

@@ -1,7 +1,7 @@
 use Rattle.std.proofs.Common.{Err, [], ◌∷◌, ap, ◌∙◌}
 use Rattle.std.proofs.lemmas.Result.{err_from_is_err_and}
 use Rattle.std.specs.Int.{to_be_bytes, w16}
-use Rattle.dns_wire.specs.Names.{lowered, uncompressed}
+use Rattle.dns_name.specs.Names.{lowered, uncompressed}
 use Rattle.dns_wire.specs.Parts.{Octets}
 use Rattle.dns_record_rows.proofs.mx.MxComposeRecordData.compose_canonical_rdata.Goals as goal
 

@@ -1,0 +1,32 @@
+-- How a name is printed label by label.
+use Rattle.std.proofs.Common.{◌≡◌, ◌∙◌, ℕ, List, [], ◌∷◌, ◌++◌, ap, refl, append_assoc, append-nil, arith}
+use Rattle.std.specs.Prelude.{All}
+use Rattle.std.proofs.lemmas.List.Elements.{All-head, All-tail}
+use Rattle.dns_name.specs.Names.{Labels, IsLabel, with_root}
+use Rattle.dns_name.specs.NameTexts.{dot, label_text, name_text}
+
+-- what is still to be printed behind a separator: the root label is passed over
+abbrev pub text_left : List ℕ → Labels → List ℕ
+text_left separator [] = []
+text_left separator ([] ∷ name) = text_left separator name
+text_left separator ((o ∷ label) ∷ name) = separator ++ (label_text (o ∷ label) ++ text_left (dot ∷ []) name)
+
+joined_left : (separator label : List ℕ) (name : Labels) → All IsLabel (label ∷ name) → text_left separator (with_root (label ∷ name)) ≡ separator ++ name_text (label ∷ name)
+joined_left separator [] name h = let some = (All-head IsLabel [] name h).some in absurd (omega (arith, some))
+joined_left separator (o ∷ label) [] h = ap (λ (t : List ℕ). separator ++ t) (append-nil (label_text (o ∷ label)))
+joined_left separator (o ∷ label) (next ∷ name) h =
+    ap (λ (t : List ℕ). separator ++ (label_text (o ∷ label) ++ t)) (joined_left (dot ∷ []) next name (All-tail IsLabel (o ∷ label) (next ∷ name) h))
+
+-- at first all of the name is left
+pub all_text_left : (name : Labels) → All IsLabel name → text_left [] (with_root name) ≡ name_text name
+all_text_left [] h = refl
+all_text_left (label ∷ name) h = joined_left [] label name h
+
+-- a label is printed behind the separator, and a dot is the separator behind it
+pub one_label_printed : (printed separator label : List ℕ) (behind : Labels) (whole : List ℕ) → (label ≡ [] → ⊥)
+    → printed ++ text_left separator (label ∷ behind) ≡ whole → (printed ++ (separator ++ label_text label)) ++ text_left (dot ∷ []) behind ≡ whole
+one_label_printed printed separator [] behind whole some e = absurd (some refl)
+one_label_printed printed separator (o ∷ label) behind whole some e =
+    append_assoc printed (separator ++ label_text (o ∷ label)) (text_left (dot ∷ []) behind)
+    ∙ ap (λ (t : List ℕ). printed ++ t) (append_assoc separator (label_text (o ∷ label)) (text_left (dot ∷ []) behind))
+    ∙ e

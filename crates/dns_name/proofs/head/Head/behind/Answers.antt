@@ -1,0 +1,23 @@
+use Rattle.std.proofs.Common.{◌≡◌, ◌<◌, arith, length}
+use Rattle.std.specs.Prelude.{Ok}
+use Rattle.std.proofs.lemmas.Result.{err_from_is_err_and}
+use Rattle.dns_name.specs.Heads.{head_at}
+use Rattle.dns_name.specs.Walking.{SkipFaulty}
+use Rattle.dns_name.specs.declared.head.Head.TheVariants.{Label}
+use Rattle.dns_name.proofs.head.Head.behind.Goals as goal
+
+pub returns-in_err-head : goal.returns-in_err-head
+returns-in_err-head c =
+    let p = err_from_is_err_and c.from_residual.result c.from_residual.ensures.1 in
+    rw (p.1, p.2) (SkipFaulty.head c.in_err-head.ensures.head)
+
+pub returns-then-size-taken-gt-MAX_SIZE : goal.returns-then-size-taken-gt-MAX_SIZE
+returns-then-size-taken-gt-MAX_SIZE c =
+    let h : head_at c.args.octets.now c.args.place ≡ Ok (Label c.in-Label.len) = cc c.in_ok-head.ensures.head in
+    SkipFaulty.long h (omega arith)
+
+pub returns-then-taken-octets : goal.returns-then-taken-octets
+returns-then-taken-octets c =
+    let h : head_at c.args.octets.now c.args.place ≡ Ok (Label c.in-Label.len) = cc c.in_ok-head.ensures.head in
+    let w : c.args.place < length c.args.octets.now = c.in_ok-head.ensures.within in
+    SkipFaulty.cut h (omega arith) (omega arith)

@@ -1,0 +1,10 @@
+use Rattle.std.proofs.Common.{◌≡◌, take}
+use Rattle.std.specs.Prelude.{map, fold}
+use Rattle.std.specs.Char.{to_ascii_lowercase}
+use Rattle.std.specs.Hash as fed
+use Rattle.std.specs.List.{flat_map}
+use Rattle.dns_name.proofs.label.LabelHash.hash.Given as goal
+
+abbrev pub invariant-loop-octet : goal.invariant-loop-octet
+invariant-loop-octet g l =
+    l.state ≡ fold g.H.Hasher.write l.initial.state (flat_map fed.u8 (map to_ascii_lowercase (take l.octet-index l.octet-items)))

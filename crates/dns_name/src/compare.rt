@@ -1,0 +1,147 @@
+//! Comparisons of names where they stand, label by label. They take no memory.
+ghost use Rattle.std.specs.Prelude.{◌≡◌, ◌↔◌, IsTrue, fold};
+ghost use Rattle.dns_name.specs.Names.{lowered};
+ghost use Rattle.dns_name.specs.NameOrders.{name_order, composed_order, name_hash_input};
+ghost use Rattle.dns_name.specs.ParsedName.{labels};
+
+use crate::parsed_name::ParsedName;
+use std::cmp::Ordering;
+use std::hash::{Hash, Hasher};
+
+/// Whether the labels are the same but for the case of ASCII letters.
+pub fn same_labels(name: &ParsedName<'_>, other: &ParsedName<'_>) -> bool
+    ensures { IsTrue result ↔ (lowered (labels name.now) ≡ lowered (labels other.now)) }
+{
+    let mut others = other.iter_labels();
+    for label in name.iter_labels() {
+        let Some(other_label) = others.next() else {
+            return false;
+        };
+        if !label.is_same(&other_label) {
+            return false;
+        }
+    }
+    others.next().is_none()
+}
+
+/// Whether the labels are the same, octet for octet.
+pub fn same_octets(name: &ParsedName<'_>, other: &ParsedName<'_>) -> bool
+    ensures { IsTrue result ↔ (labels name.now ≡ labels other.now) }
+{
+    let mut rest = other.iter_labels();
+    for label in name.iter_labels() {
+        let Some(other_label) = rest.next() else {
+            return false;
+        };
+        if label.as_slice() != other_label.as_slice() {
+            return false;
+        }
+    }
+    rest.next().is_none()
+}
+
+/// Compares the labels from the root leftwards, the case of ASCII letters ignored.
+pub fn order_from_root(name: &ParsedName<'_>, other: &ParsedName<'_>) -> Ordering
+    ensures { result ≡ name_order (labels name.now) (labels other.now) }
+{
+    let from_root = name.iter_labels().rev();
+    from_root.cmp(other.iter_labels().rev())
+}
+
+/// Compares the octets of the names without pointers, ASCII letters lowercased.
+#[tactic(auto, using(crate::proofs::Orders::row_steps))]
+pub fn order_composed(name: &ParsedName<'_>, other: &ParsedName<'_>) -> Ordering
+    ensures { result ≡ composed_order (labels name.now) (labels other.now) }
+{
+    let mut others = other.iter_labels();
+    for label in name.iter_labels() {
+        let Some(other_label) = others.next() else {
+            return Ordering::Greater;
+        };
+        let order = label.lowercase_composed_cmp(&other_label);
+        if order.is_ne() {
+            return order;
+        }
+    }
+    match others.next() {
+        None => Ordering::Equal,
+        Some(_) => Ordering::Less,
+    }
+}
+
+/// Feeds a hasher the octets of the name without pointers, ASCII letters lowercased.
+pub(crate) fn hash_labels<H: Hasher>(name: &ParsedName<'_>, state: &mut H)
+    ensures { state.new ≡ fold H.write state.old (name_hash_input (labels name.now)) }
+{
+    for label in name.iter_labels() {
+        label.hash(state);
+    }
+}
+
+impl PartialEq for ParsedName<'_> {
+    ghost use Rattle.std.specs.Cmp.{on_equiv, partial_equiv_from_equiv};
+    ghost use Rattle.std.specs.Ordering.{on};
+    ghost use Rattle.dns_name.specs.NameOrders.{names_equal};
+    ghost use Rattle.dns_name.specs.NameTies.{names_equal-equiv};
+
+    ghost eq = { on labels names_equal };
+
+    ghost laws = { partial_equiv_from_equiv (on_equiv labels names_equal-equiv) };
+
+    fn eq(&self, other: &Self) -> bool {
+        same_labels(self, other)
+    }
+}
+
+impl Eq for ParsedName<'_> {
+    ghost use Rattle.std.specs.Cmp.{on_equiv};
+    ghost use Rattle.dns_name.specs.NameTies.{names_equal-equiv};
+
+    ghost laws = { on_equiv labels names_equal-equiv };
+}
+
+impl PartialOrd for ParsedName<'_> {
+    ghost use Rattle.std.specs.Cmp.{on_po};
+    ghost use Rattle.std.specs.Ordering.{on, as_partial_cmp};
+    ghost use Rattle.dns_name.specs.NameTies.{name_order-partial};
+
+    ghost partial_cmp = { on labels (as_partial_cmp name_order) };
+
+    ghost laws = { on_po labels name_order-partial };
+
+    fn partial_cmp(&self, other: &Self) -> Option<Ordering> {
+        Some(self.cmp(other))
+    }
+}
+
+/// By the labels from the root leftwards, the case of ASCII letters ignored (RFC 4034 section 6.1).
+impl Ord for ParsedName<'_> {
+    ghost use Rattle.std.proofs.Common.{refl};
+    ghost use Rattle.std.specs.Cmp.{on_total};
+    ghost use Rattle.std.specs.Ordering.{on};
+    ghost use Rattle.dns_name.specs.NameTies.{name_order-total, name_order-ties};
+
+    ghost cmp = { on labels name_order };
+
+    ghost total = { on_total labels name_order-total };
+
+    ghost matches_partial_cmp = { λ x y. refl };
+
+    ghost matches_eq = { λ x y. name_order-ties (labels x) (labels y) };
+
+    fn cmp(&self, other: &Self) -> Ordering {
+        order_from_root(self, other)
+    }
+}
+
+impl Hash for ParsedName<'_> {
+    ghost use Rattle.dns_name.specs.NameTies.{name_hash_input-alike};
+
+    ghost hash_input = { λ name. name_hash_input (labels name) };
+
+    ghost respects_eq = { λ x y same. name_hash_input-alike (labels x) (labels y) same };
+
+    fn hash<H: Hasher>(&self, state: &mut H) {
+        hash_labels(self, state);
+    }
+}

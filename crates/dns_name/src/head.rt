@@ -1,0 +1,58 @@
+ghost use Rattle.std.specs.Prelude.{◌≡◌, ℕ, ◌+◌, ◌<◌, ◌≤◌, length, OnOk};
+
+use dns_octets::{FormError, ParseError};
+
+/// The most octets that the labels of a name take: 255 less the root's zero octet.
+const MAX_SIZE: usize = 254;
+
+/// What begins at a place in a name (RFC 1035 section 4.1.4).
+#[derive(Clone, Copy, Debug, PartialEq, Eq)]
+pub enum Head {
+    /// A zero octet: the root label, the last.
+    Root,
+    /// A label of so many octets, from 1 to 63.
+    Label(u8),
+    /// A pointer to a place.
+    Pointer(u16),
+}
+
+impl Head {
+    ghost use Rattle.dns_name.specs.Heads.{head_at};
+    ghost use Rattle.dns_name.specs.HeadAnswers.{Reads, BeginsOrFails};
+
+    /// What begins at the place.
+    #[tactic(auto, unfolding(crate::specs::Heads::head_at))]
+    pub(crate) fn at(octets: &[u8], place: usize) -> Result<Head, ParseError>
+        ensures head { Reads result (head_at octets.now place) }
+        ensures within { OnOk result (place < length octets.now) }
+    {
+        let first = *octets.get(place).ok_or(ParseError::ShortInput)?;
+        match first {
+            0 => Ok(Head::Root),
+            1..64 => Ok(Head::Label(first)),
+            64..192 => Err(ParseError::Form(FormError::BAD_LABEL)),
+            192.. => {
+                let second = *octets.get(place + 1).ok_or(ParseError::ShortInput)?;
+                Ok(Head::Pointer(u16::from(first - 192) * 256 + u16::from(second)))
+            }
+        }
+    }
+
+    /// What begins at the place, behind labels of the size: a label only where the name stays short enough and the label is all there.
+    pub(crate) fn behind(octets: &[u8], place: usize, size: usize) -> Result<Head, ParseError>
+        requires { size ≤ MAX_SIZE }
+        ensures { BeginsOrFails octets.now place size result }
+    {
+        let head = Head::at(octets, place)?;
+        if let Head::Label(len) = head {
+            let taken = usize::from(len) + 1;
+            if size + taken > MAX_SIZE {
+                return Err(ParseError::Form(FormError::LONG_NAME));
+            }
+            if taken > octets.len() - place {
+                return Err(ParseError::ShortInput);
+            }
+        }
+        Ok(head)
+    }
+}

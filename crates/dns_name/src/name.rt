@@ -1,0 +1,202 @@
+ghost use Rattle.std.specs.Prelude.{◌≡◌, ◌+◌, ◌≤◌, ℕ, [], length, OnOk, IfOk, IfErr, IsOk};
+ghost use Rattle.dns_name.specs.Uncompressed.{WholeName, WholeName-prop};
+
+use crate::compare::hash_labels;
+use crate::head::Head;
+pub use crate::name_error::{FromStrError, PresentationError};
+use crate::parsed_name::ParsedName;
+use crate::to_name::ToName;
+use dns_octets::{FormError, Octets, ParseError};
+use std::alloc::AllocError;
+use std::cmp::Ordering;
+use std::hash::{Hash, Hasher};
+
+/// One name without pointers, in octets of its own (RFC 1035 section 3.1).
+#[derive(Debug, Drop)]
+pub struct Name<Octs: Octets> {
+    octets: Octs,
+    ghost whole: { WholeName (Octs.octets octets) } by { WholeName-prop (Octs.octets octets) },
+}
+
+impl Name<&'static [u8]> {
+    ghost use Rattle.dns_name.specs.NameLabels.{name_labels};
+
+    /// The root.
+    pub fn root_slice() -> Self
+        ensures { name_labels result ≡ [] }
+    {
+        Name { octets: &[0] }
+    }
+}
+
+impl<Octs: Octets> Name<Octs> {
+    ghost use Rattle.dns_name.specs.Fault.{fault_of};
+    ghost use Rattle.dns_name.specs.Names.{uncompressed};
+    ghost use Rattle.dns_name.specs.NameLabels.{name_labels};
+    ghost use Rattle.dns_name.specs.Uncompressed.{IsUncompressed, NotUncompressed};
+
+    /// The name that all of the octets spell.
+    ///
+    /// A pointer, octets that are left over and a name of more than 255 octets are `Form`, missing octets `ShortInput`.
+    pub fn from_octets(octets: Octs) -> Result<Self, ParseError>
+        ensures name { IfOk result (λ name. uncompressed (name_labels name) ≡ Octs.octets octets) }
+        ensures accepts { IsUncompressed (Octs.octets octets) → IsOk result }
+        ensures fault { IfErr result (λ e. NotUncompressed (Octs.octets octets) (fault_of e)) }
+    {
+        check(octets.octets())?;
+        Ok(Name::of_whole(octets))
+    }
+
+    /// The name that all of the octets are known to spell.
+    pub(crate) fn of_whole(octets: Octs) -> Self
+        requires { WholeName (Octs.octets octets) }
+        ensures { uncompressed (name_labels result) ≡ Octs.octets octets }
+    {
+        Name { octets }
+    }
+
+    /// The octets of the name.
+    pub fn as_slice(&self) -> &[u8]
+        ensures { result.now ≡ uncompressed (name_labels self.now) }
+    {
+        self.octets.octets()
+    }
+}
+
+ghost use Rattle.dns_name.specs.Fault.{fault_of};
+ghost use Rattle.dns_name.specs.Uncompressed.{IsUncompressed, NotUncompressed};
+
+/// Whether the octets are one name without pointers.
+fn check(octets: &[u8]) -> Result<(), ParseError>
+    ensures name { OnOk result (WholeName octets.now) }
+    ensures accepts { IsUncompressed octets.now → IsOk result }
+    ensures fault { IfErr result (λ e. NotUncompressed octets.now (fault_of e)) }
+{
+    let mut size = 0;
+    'walk: loop {
+        match Head::behind(octets, size, size)? {
+            Head::Root => break,
+            Head::Label(len) => size += usize::from(len) + 1,
+            Head::Pointer(_) => return Err(ParseError::Form(FormError::BAD_POINTER)),
+        }
+    }
+    if octets.len() - size > 1 {
+        return Err(ParseError::Form(FormError::LONG_NAME));
+    }
+    Ok(())
+}
+
+impl<Octs: Octets> ToName for Name<Octs> {
+    ghost use Rattle.std.specs.Prelude.{IsSome, IfSome};
+    ghost use Rattle.dns_name.specs.Names.{uncompressed};
+    ghost use Rattle.dns_name.specs.NameLabels.{name_labels};
+
+    ghost name = { λ n. name_labels n };
+
+    fn as_parsed(&self) -> ParsedName<'_> {
+        ParsedName::of_whole(self.octets.octets())
+    }
+
+    /// All octets of the name: they have no pointer.
+    fn as_flat_slice(&self) -> Option<&[u8]>
+        ensures lent { IsSome result }
+        ensures octets { IfSome result (λ octets.
+            octets.now ≡ uncompressed (name_labels self.now)) }
+    {
+        Some(self.octets.octets())
+    }
+}
+
+/// A clone of the holder. One that doesn't hold the same octets is answered by `AllocError`.
+impl<Octs: Octets + Clone> Clone for Name<Octs> {
+    ghost use Rattle.std.specs.Prelude.{◌≡◌};
+    ghost use Rattle.dns_name.specs.NameLabels.{name_labels};
+
+    ghost is_clone = { λ name clone. name_labels clone ≡ name_labels name };
+
+    fn clone(&self) -> Result<Self, AllocError> {
+        let octets = self.octets.clone()?;
+        if octets.octets() != self.as_slice() {
+            return Err(AllocError);
+        }
+        Ok(Name::of_whole(octets))
+    }
+}
+
+impl<Octs: Octets + Copy> Copy for Name<Octs> {}
+
+impl<Octs: Octets> PartialEq for Name<Octs> {
+    ghost use Rattle.std.specs.Cmp.{on_equiv, partial_equiv_from_equiv};
+    ghost use Rattle.std.specs.Ordering.{on};
+    ghost use Rattle.dns_name.specs.NameLabels.{name_labels};
+    ghost use Rattle.dns_name.specs.NameOrders.{names_equal};
+    ghost use Rattle.dns_name.specs.NameTies.{names_equal-equiv};
+
+    ghost eq = { on (λ n. name_labels n) names_equal };
+
+    ghost laws = { partial_equiv_from_equiv (on_equiv (λ n. name_labels n) names_equal-equiv) };
+
+    fn eq(&self, other: &Self) -> bool {
+        self.as_parsed() == other.as_parsed()
+    }
+}
+
+impl<Octs: Octets> Eq for Name<Octs> {
+    ghost use Rattle.std.specs.Cmp.{on_equiv};
+    ghost use Rattle.dns_name.specs.NameLabels.{name_labels};
+    ghost use Rattle.dns_name.specs.NameTies.{names_equal-equiv};
+
+    ghost laws = { on_equiv (λ n. name_labels n) names_equal-equiv };
+}
+
+impl<Octs: Octets> PartialOrd for Name<Octs> {
+    ghost use Rattle.std.specs.Cmp.{on_po};
+    ghost use Rattle.std.specs.Ordering.{on, as_partial_cmp};
+    ghost use Rattle.dns_name.specs.NameLabels.{name_labels};
+    ghost use Rattle.dns_name.specs.NameOrders.{name_order};
+    ghost use Rattle.dns_name.specs.NameTies.{name_order-partial};
+
+    ghost partial_cmp = { on (λ n. name_labels n) (as_partial_cmp name_order) };
+
+    ghost laws = { on_po (λ n. name_labels n) name_order-partial };
+
+    fn partial_cmp(&self, other: &Self) -> Option<Ordering> {
+        Some(self.cmp(other))
+    }
+}
+
+/// By the labels from the root leftwards, the case of ASCII letters ignored (RFC 4034 section 6.1).
+impl<Octs: Octets> Ord for Name<Octs> {
+    ghost use Rattle.std.proofs.Common.{refl};
+    ghost use Rattle.std.specs.Cmp.{on_total};
+    ghost use Rattle.std.specs.Ordering.{on};
+    ghost use Rattle.dns_name.specs.NameLabels.{name_labels};
+    ghost use Rattle.dns_name.specs.NameOrders.{name_order};
+    ghost use Rattle.dns_name.specs.NameTies.{name_order-total, name_order-ties};
+
+    ghost cmp = { on (λ n. name_labels n) name_order };
+
+    ghost total = { on_total (λ n. name_labels n) name_order-total };
+
+    ghost matches_partial_cmp = { λ x y. refl };
+
+    ghost matches_eq = { λ x y. name_order-ties (name_labels x) (name_labels y) };
+
+    fn cmp(&self, other: &Self) -> Ordering {
+        self.as_parsed().cmp(&other.as_parsed())
+    }
+}
+
+impl<Octs: Octets> Hash for Name<Octs> {
+    ghost use Rattle.dns_name.specs.NameLabels.{name_labels};
+    ghost use Rattle.dns_name.specs.NameOrders.{name_hash_input};
+    ghost use Rattle.dns_name.specs.NameTies.{name_hash_input-alike};
+
+    ghost hash_input = { λ n. name_hash_input (name_labels n) };
+
+    ghost respects_eq = { λ x y same. name_hash_input-alike (name_labels x) (name_labels y) same };
+
+    fn hash<H: Hasher>(&self, state: &mut H) {
+        hash_labels(&self.as_parsed(), state);
+    }
+}

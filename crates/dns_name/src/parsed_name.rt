@@ -1,0 +1,156 @@
+ghost use Rattle.std.specs.Prelude.{◌≡◌, ◌+◌, ◌≤◌, ◌↔◌, IsTrue, IsOk, IsSome, IfSome, ℕ, List, [], length};
+ghost use Rattle.dns_name.specs.Unique.{NameOfSize, NameOfSize-prop};
+
+use crate::head::Head;
+use crate::label_iter::LabelIter;
+use crate::parser::Parser;
+use dns_octets::{FormError, ParseError};
+
+/// A name in an input, perhaps with pointers (RFC 1035 section 4.1.4). It borrows the input.
+#[derive(Clone, Copy, Debug)]
+pub struct ParsedName<'a> {
+    octets: &'a [u8],
+    pos: usize,
+    /// How many octets the labels take, each with its length octet.
+    size: usize,
+    ghost name_at: { NameOfSize octets.now pos size } by { NameOfSize-prop octets.now pos size },
+}
+
+impl<'a> ParsedName<'a> {
+    ghost use Rattle.dns_name.specs.Names.{Labels, name_size, uncompressed, with_root};
+    ghost use Rattle.dns_name.specs.Parsers.{seen, place};
+    ghost use Rattle.dns_name.specs.ParsedName.{labels, ParsesName, SkipsName, ReadsStanding, AnswersFault, IsFlat};
+    ghost use Rattle.dns_name.specs.Standing.{Stands, FaultAt};
+    ghost use Rattle.dns_name.specs.Walking.{Walked, SkipFaultAt};
+    ghost use Rattle.dns_name.specs.Uncompressed.{WholeName};
+    ghost use Rattle.dns_name.specs.LabelIter.{labels_left};
+
+    /// Reads the name that stands at the parser's place, and moves behind the octets that it takes there.
+    ///
+    /// The end of the parser is that of the name too, also behind a pointer. A name has at most 255 octets, and a
+    /// pointer leads strictly back. An octet that is missing is `ShortInput`, any other fault `Form`; the leftmost is
+    /// answered.
+    pub fn parse(parser: &mut Parser<'a>) -> Result<ParsedName<'a>, ParseError>
+        ensures reads { ParsesName parser.old parser.new result }
+        ensures name { ReadsStanding (seen parser.old) (place parser.old) result }
+        ensures fault { AnswersFault (FaultAt (seen parser.old) (place parser.old)) result }
+    {
+        ParsedName::read(parser)
+    }
+
+    fn read(parser: &mut Parser<'a>) -> Result<ParsedName<'a>, ParseError>
+        ensures { ParsesName parser.old parser.new result }
+    {
+        let octets = &parser.octets[..parser.end];
+        let start = parser.pos;
+        let mut pos = start;
+        let mut size = 0;
+        let mut end = None;
+        'walk: loop {
+            match Head::behind(octets, pos, size)? {
+                Head::Root => break,
+                Head::Label(len) => {
+                    let taken = usize::from(len) + 1;
+                    size += taken;
+                    pos += taken;
+                }
+                Head::Pointer(target) => {
+                    let target = usize::from(target);
+                    if target >= pos {
+                        return Err(ParseError::Form(FormError::BAD_POINTER));
+                    }
+                    end = end.or(Some(pos + 2));
+                    pos = target;
+                }
+            }
+        }
+        parser.pos = end.unwrap_or(pos + 1);
+        Ok(ParsedName {
+            octets,
+            pos: start,
+            size,
+        })
+    }
+
+    /// Passes a name without following a pointer. What is missing is `ShortInput`, any other fault `Form`.
+    pub fn skip(parser: &mut Parser<'_>) -> Result<(), ParseError>
+        ensures skips { SkipsName parser.old parser.new result }
+        ensures walked { (q : ℕ) → Walked (seen parser.old) (place parser.old) q → IsOk result }
+        ensures fault { AnswersFault (SkipFaultAt (seen parser.old) (place parser.old)) result }
+    {
+        ParsedName::pass(parser)
+    }
+
+    fn pass(parser: &mut Parser<'_>) -> Result<(), ParseError>
+        ensures { SkipsName parser.old parser.new result }
+    {
+        let octets = &parser.octets[..parser.end];
+        let start = parser.pos;
+        let mut pos = start;
+        let mut size = 0;
+        let end = 'walk: loop {
+            match Head::behind(octets, pos, size)? {
+                Head::Root => break pos + 1,
+                Head::Label(len) => {
+                    let taken = usize::from(len) + 1;
+                    size += taken;
+                    pos += taken;
+                }
+                Head::Pointer(_target) => break pos + 2,
+            }
+        };
+        parser.pos = end;
+        Ok(())
+    }
+
+    /// The name that all of the octets spell without pointers.
+    pub(crate) fn of_whole(octets: &'a [u8]) -> ParsedName<'a>
+        requires { WholeName octets.now }
+        ensures { (name : Labels) → Stands octets.now 0 name → labels result ≡ name }
+    {
+        ParsedName {
+            octets,
+            pos: 0,
+            size: octets.len() - 1,
+        }
+    }
+
+    /// The labels from both ends, the root label last.
+    pub fn iter_labels(&self) -> LabelIter<'a>
+        ensures { labels_left result ≡ with_root (labels self.now) }
+    {
+        LabelIter::new(self.octets, self.pos, self.size)
+    }
+
+    /// Whether this is the root, the name without labels but the root label.
+    pub fn is_root(&self) -> bool
+        ensures { IsTrue result ↔ (labels self.now ≡ []) }
+    {
+        self.size == 0
+    }
+
+    /// The octets of the name, if it has no pointer in it.
+    pub fn as_flat_slice(&self) -> Option<&'a [u8]>
+        ensures flat { IsSome result ↔ IsFlat self.now }
+        ensures octets { IfSome result (λ octets. octets.now ≡ uncompressed (labels self.now)) }
+    {
+        let mut pos = self.pos;
+        'walk: loop {
+            match Head::at(self.octets, pos).unwrap() {
+                Head::Root => {
+                    let end = self.pos + self.compose_len();
+                    return Some(&self.octets[self.pos..end]);
+                }
+                Head::Label(len) => pos += usize::from(len) + 1,
+                Head::Pointer(_) => return None,
+            }
+        }
+    }
+
+    /// How many octets the name takes without pointers, the root's zero octet among them: 1 to 255.
+    pub fn compose_len(&self) -> usize
+        ensures { result ≡ length (uncompressed (labels self.now)) }
+    {
+        self.size + 1
+    }
+}

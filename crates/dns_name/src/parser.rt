@@ -1,0 +1,126 @@
+ghost use Rattle.std.specs.Prelude.{◌≡◌, ◌+◌, ◌<◌, ◌≤◌, length, ⊤, OnOk, IfErr, slice_range, take};
+ghost use Rattle.std.specs.Int.{w16, w32};
+
+use dns_octets::ParseError;
+
+/// A place in an input, from which values are read, and an end that reading doesn't pass.
+///
+/// Places count octets from the start of the input. A call that errs leaves the parser where it was.
+#[derive(Clone, Copy, Debug)]
+pub struct Parser<'a> {
+    pub(crate) octets: &'a [u8],
+    pub(crate) pos: usize,
+    pub(crate) end: usize,
+    ghost before_end: { pos ≤ end },
+    ghost within: { end ≤ length octets.now },
+}
+
+impl<'a> Parser<'a> {
+    ghost use Rattle.dns_name.specs.Parsers.{input, seen, place, number_at, MovesTo, Takes, Peeks};
+
+    /// A parser at place 0 of the octets, with their end as its own.
+    pub fn new(octets: &'a [u8]) -> Self
+        ensures input { input result ≡ octets.now }
+        ensures seen { seen result ≡ octets.now }
+        ensures place { place result ≡ 0 }
+    {
+        Parser {
+            octets,
+            pos: 0,
+            end: octets.len(),
+        }
+    }
+
+    /// The place in the input.
+    pub fn pos(&self) -> usize
+        ensures { result ≡ place self.now }
+    {
+        self.pos
+    }
+
+    /// How many octets are left up to the end.
+    pub fn remaining(&self) -> usize
+        ensures { place self.now + result ≡ length (seen self.now) }
+    {
+        self.end - self.pos
+    }
+
+    /// The whole input, also what lies behind the end.
+    pub fn as_slice(&self) -> &'a [u8]
+        ensures { result.now ≡ input self.now }
+    {
+        self.octets
+    }
+
+    /// Passes `n` octets. Where they aren't there it is `ShortInput`.
+    pub fn advance(&mut self, n: usize) -> Result<(), ParseError>
+        ensures { Takes self.old self.new n result (λ _. ⊤) }
+    {
+        if n > self.remaining() {
+            return Err(ParseError::ShortInput);
+        }
+        self.pos += n;
+        Ok(())
+    }
+
+    /// Goes to a place, at most the end. A place past it is `ShortInput`.
+    pub fn seek(&mut self, pos: usize) -> Result<(), ParseError>
+        ensures ok { OnOk result ((pos ≤ length (seen self.old)) × MovesTo self.old self.new pos) }
+        ensures err { IfErr result (λ e. (length (seen self.old) < pos) × (e ≡ ParseError.ShortInput) × (self.new ≡ self.old)) }
+    {
+        if pos > self.end {
+            return Err(ParseError::ShortInput);
+        }
+        self.pos = pos;
+        Ok(())
+    }
+
+    /// The next `n` octets; the parser stays. Where they aren't there it is `ShortInput`.
+    pub fn peek(&self, n: usize) -> Result<&'a [u8], ParseError>
+        ensures { Peeks self.now n result (λ octets. octets.now ≡ slice_range (seen self.now) (place self.now) (place self.now + n)) }
+    {
+        if n > self.remaining() {
+            return Err(ParseError::ShortInput);
+        }
+        Ok(&self.seen()[self.pos..self.pos + n])
+    }
+
+    /// Reads a number of two octets, the higher one first, and passes it.
+    pub fn parse_u16_be(&mut self) -> Result<u16, ParseError>
+        ensures { Takes self.old self.new 2 result (λ value. value ≡ number_at w16 (seen self.old) (place self.old)) }
+    {
+        let octets = self.peek(2)?;
+        let value = u16::from_be_bytes([octets[0], octets[1]]);
+        self.pos += 2;
+        Ok(value)
+    }
+
+    /// Reads a number of four octets, the highest one first, and passes it.
+    pub fn parse_u32_be(&mut self) -> Result<u32, ParseError>
+        ensures { Takes self.old self.new 4 result (λ value. value ≡ number_at w32 (seen self.old) (place self.old)) }
+    {
+        let octets = self.peek(4)?;
+        let value = u32::from_be_bytes([octets[0], octets[1], octets[2], octets[3]]);
+        self.pos += 4;
+        Ok(value)
+    }
+
+    /// A parser from here over the same input, which ends `n` octets further on. This parser passes them.
+    ///
+    /// The inner parser sees all octets before its end, so pointers in it reach what stands before it.
+    pub fn parse_parser(&mut self, n: usize) -> Result<Parser<'a>, ParseError>
+        ensures { Takes self.old self.new n result (λ inner. (input inner ≡ input self.old) × (seen inner ≡ take (place self.old + n) (seen self.old)) × (place inner ≡ place self.old)) }
+    {
+        let mut inner = *self;
+        self.advance(n)?;
+        inner.end = self.pos;
+        Ok(inner)
+    }
+
+    /// The octets up to the end.
+    pub(crate) fn seen(&self) -> &'a [u8]
+        ensures { result.now ≡ seen self.now }
+    {
+        &self.octets[..self.end]
+    }
+}

@@ -1,0 +1,47 @@
+use crate::parsed_name::ParsedName;
+
+/// What stands for a name.
+pub trait ToName {
+    ghost use Rattle.std.specs.Prelude.{◌≡◌, IfSome};
+    ghost use Rattle.dns_name.specs.Names.{Labels, IsName, uncompressed};
+    ghost use Rattle.dns_name.specs.ParsedName.{labels};
+
+    /// The labels of the name.
+    ghost name: { Self → Labels };
+
+    /// The name as one in an input, which borrows this one.
+    fn as_parsed(&self) -> ParsedName<'_>
+        ensures labels { labels result ≡ name self.now }
+        ensures is_name { IsName (name self.now) };
+
+    /// The octets of the name, where they are known to stand without pointers.
+    ///
+    /// `None` says nothing of the name. A caller then writes the octets out itself; what is lent saves it that.
+    fn as_flat_slice(&self) -> Option<&[u8]>
+        ensures { IfSome result (λ octets. octets.now ≡ uncompressed (name self.now)) }
+    {
+        self.as_parsed().as_flat_slice()
+    }
+}
+
+impl ToName for ParsedName<'_> {
+    ghost use Rattle.dns_name.specs.ParsedName.{labels};
+
+    ghost name = { labels };
+
+    fn as_parsed(&self) -> ParsedName<'_> {
+        *self
+    }
+}
+
+impl<N: ToName> ToName for &N {
+    ghost name = { λ n. N.name n.now };
+
+    fn as_parsed(&self) -> ParsedName<'_> {
+        (*self).as_parsed()
+    }
+
+    fn as_flat_slice(&self) -> Option<&[u8]> {
+        (*self).as_flat_slice()
+    }
+}

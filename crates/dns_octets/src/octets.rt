@@ -1,0 +1,155 @@
+ghost use Rattle.std.specs.Prelude.{◌≡◌, ℕ, ◌+◌, ◌<◌, ◌≤◌, List, length, ⊤};
+ghost use Rattle.dns_octets.specs.Octets.{overwritten};
+ghost use Rattle.dns_octets.specs.Converts.{Converts};
+
+use crate::error::AppendError;
+use arrayvec::ArrayVec;
+use std::alloc::Global;
+
+/// What holds octets.
+pub trait Octets: Drop {
+    ghost octets: { Self → List ℕ };
+
+    /// The octets.
+    fn octets(&self) -> &[u8]
+        ensures { result.now ≡ octets self.now };
+}
+
+/// What holds octets that can be written over.
+pub trait OctetsMut: Octets {
+    /// Writes octets over those from a place on. Places count from 0.
+    fn write_at(&mut self, place: usize, octets: &[u8])
+        requires { place + length octets.now ≤ length (Self.octets self.old) }
+        ensures { Self.octets self.new ≡ overwritten (Self.octets self.old) place octets.now };
+}
+
+/// A conversion that keeps what the source holds.
+pub trait OctetsFrom<Source>: Sized {
+    /// That a value holds what the source holds.
+    ghost keeps: { Source → Self → Type 0 };
+
+    /// That what the source holds does not fit.
+    ghost too_long: { Source → Type 0 };
+
+    /// That a conversion takes memory.
+    ghost takes_memory: { Type 0 };
+
+    /// Converts the source. It is `ShortBuf` exactly where that doesn't fit, and `OutOfMemory` only where memory is
+    /// taken, from `alloc`.
+    fn try_octets_from(alloc: Global, source: Source) -> Result<Self, AppendError>
+        ensures { Converts result (keeps source) (too_long source) takes_memory };
+}
+
+impl Octets for &[u8] {
+    ghost octets = { λ s. s.now };
+
+    fn octets(&self) -> &[u8] {
+        self
+    }
+}
+
+impl Octets for Vec<u8> {
+    ghost octets = { λ v. v.items };
+
+    fn octets(&self) -> &[u8] {
+        self.as_slice()
+    }
+}
+
+impl<const N: usize> Octets for ArrayVec<u8, N> {
+    ghost octets = { λ v. v.items };
+
+    fn octets(&self) -> &[u8] {
+        self.as_slice()
+    }
+}
+
+impl<const N: usize> Octets for [u8; N] {
+    ghost octets = { λ a. a };
+
+    fn octets(&self) -> &[u8] {
+        self
+    }
+}
+
+impl<T: Octets> Octets for &T {
+    ghost octets = { λ x. T.octets x.now };
+
+    fn octets(&self) -> &[u8] {
+        (*self).octets()
+    }
+}
+
+/// Writes octets over those of the target from a place on.
+pub(crate) fn overwrite_slice(target: &mut [u8], place: usize, octets: &[u8])
+    requires { place + length octets.now ≤ length target.old }
+    ensures { target.new ≡ overwritten target.old place octets.now }
+{
+    target[place..place + octets.len()].copy_from_slice(octets);
+}
+
+impl OctetsMut for Vec<u8> {
+    fn write_at(&mut self, place: usize, octets: &[u8]) {
+        overwrite_slice(self.as_mut_slice(), place, octets);
+    }
+}
+
+impl<const N: usize> OctetsMut for ArrayVec<u8, N> {
+    fn write_at(&mut self, place: usize, octets: &[u8]) {
+        overwrite_slice(self.as_mut_slice(), place, octets);
+    }
+}
+
+impl<const N: usize> OctetsMut for [u8; N] {
+    fn write_at(&mut self, place: usize, octets: &[u8]) {
+        overwrite_slice(self, place, octets);
+    }
+}
+
+impl<S: Octets> OctetsFrom<S> for Vec<u8> {
+    ghost keeps = { λ source value. value.items ≡ S.octets source };
+
+    ghost too_long = { λ _. ⊥ };
+
+    ghost takes_memory = { ⊤ };
+
+    fn try_octets_from(alloc: Global, source: S) -> Result<Self, AppendError> {
+        Ok(Vec::from_slice(alloc, source.octets())?)
+    }
+}
+
+impl<S: Octets, const N: usize> OctetsFrom<S> for ArrayVec<u8, N> {
+    ghost keeps = { λ source value. value.items ≡ S.octets source };
+
+    ghost too_long = { λ source. N < length (S.octets source) };
+
+    ghost takes_memory = { ⊥ };
+
+    fn try_octets_from(_alloc: Global, source: S) -> Result<Self, AppendError> {
+        ArrayVec::try_from(source.octets()).map_err(|_| AppendError::ShortBuf)
+    }
+}
+
+impl<'a, S: Octets> OctetsFrom<&'a S> for &'a [u8] {
+    ghost keeps = { λ source value. value.now ≡ S.octets source.now };
+
+    ghost too_long = { λ _. ⊥ };
+
+    ghost takes_memory = { ⊥ };
+
+    fn try_octets_from(_alloc: Global, source: &'a S) -> Result<Self, AppendError> {
+        Ok(source.octets())
+    }
+}
+
+impl<'a> OctetsFrom<&'a [u8]> for &'a [u8] {
+    ghost keeps = { λ source value. value.now ≡ source.now };
+
+    ghost too_long = { λ _. ⊥ };
+
+    ghost takes_memory = { ⊥ };
+
+    fn try_octets_from(_alloc: Global, source: &'a [u8]) -> Result<Self, AppendError> {
+        Ok(source)
+    }
+}

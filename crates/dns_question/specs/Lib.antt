@@ -1,0 +1,10 @@
+pub mod Questions
+pub mod QuestionEntries
+pub mod QuestionLaws
+pub mod Question
+pub mod QuestionErrors
+pub mod Words
+pub mod QuestionTexts
+pub mod QuestionReading
+pub mod QuestionPrinting
+pub mod QuestionTextLaws

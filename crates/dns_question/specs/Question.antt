@@ -1,0 +1,50 @@
+-- The fields of a question, and what parsing and skipping one answer. RFC 1035 section 4.1.2.
+use Rattle.std.specs.Prelude.{◌≡◌, ℕ, List, Result, Ok, Err, IsOkAnd}
+use Rattle.dns_name.specs.Fault.{fault_of}
+use Rattle.dns_name.specs.Names.{Labels}
+use Rattle.dns_name.specs.ParsedName.{labels}
+use Rattle.dns_name.specs.Parsers.{seen, place, MovesTo}
+use Rattle.dns_octets.specs.declared.error.ParseError.{ParseError}
+use Rattle.dns_name.specs.declared.parsed_name.ParsedName.{ParsedName}
+use Rattle.dns_name.specs.declared.parser.Parser.{Parser}
+use Rattle.dns_question.specs.QuestionEntries.{SkipsQuestion, ReadsQuestion, QuestionFaultAt, QuestionSkipFaultAt}
+use Rattle.dns_question.specs.Questions.{QuestionItem}
+use Rattle.dns_question.specs.declared.question.Question.{Question}
+
+-- the fields
+abbrev pub qname_of : {N : Type 0} → Question N → N
+qname_of q = q.qname
+
+abbrev pub qtype_of : {N : Type 0} → Question N → ℕ
+qtype_of q = q.qtype
+
+abbrev pub qclass_of : {N : Type 0} → Question N → ℕ
+qclass_of q = q.qclass
+
+-- the question with these fields
+pub record HasFields {N : Type 0} (q : Question N) (qname : N) (qtype qclass : ℕ) : Type 0 where
+  pub name : qname_of q ≡ qname
+  pub rtype : qtype_of q ≡ qtype
+  pub class : qclass_of q ≡ qclass
+
+-- what a question asks, by the labels of its name
+abbrev pub question_item : {N : Type 0} → (N → Labels) → Question N → QuestionItem
+question_item labels_of q = record { name = labels_of (qname_of q); rtype = qtype_of q; class = qclass_of q }
+
+-- what a question over a name in an input asks
+abbrev pub parsed_question : Question ParsedName → QuestionItem
+parsed_question = question_item labels
+
+-- What parsing gives is the question that can be read at the parser's place, behind which the parser then stands; or the fault there, and the parser stays.
+abbrev pub ParsesQuestion : Parser → Parser → Result (Question ParsedName) ParseError → Type 0
+ParsesQuestion old new (Ok q) = ReadsQuestion (seen old) (place old) (place new) (parsed_question q) × MovesTo old new (place new)
+ParsesQuestion old new (Err e) = QuestionFaultAt (seen old) (place old) (fault_of e) × (new ≡ old)
+
+-- a question that can be read at the place is what is given
+abbrev pub ReadsReadable : List ℕ → ℕ → Result (Question ParsedName) ParseError → Type 0
+ReadsReadable b p result = (q : ℕ) (x : QuestionItem) → ReadsQuestion b p q x → IsOkAnd result (λ question. parsed_question question ≡ x)
+
+-- Skipping moves behind the question, or answers the fault of one that can't be skipped, and the parser stays.
+abbrev pub SkipsOverQuestion : Parser → Parser → Result Unit ParseError → Type 0
+SkipsOverQuestion old new (Ok _) = SkipsQuestion (seen old) (place old) (place new) × MovesTo old new (place new)
+SkipsOverQuestion old new (Err e) = QuestionSkipFaultAt (seen old) (place old) (fault_of e) × (new ≡ old)

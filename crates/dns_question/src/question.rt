@@ -1,0 +1,204 @@
+//! Questions (RFC 1035 section 4.1.2).
+ghost use Rattle.std.specs.Prelude.{◌≡◌, ℕ, IsOk};
+ghost use Rattle.dns_name.specs.ParsedName.{AnswersFault};
+ghost use Rattle.dns_name.specs.Parsers.{seen, place};
+ghost use Rattle.dns_wire.specs.Targets.{Composes};
+ghost use Rattle.dns_question.specs.QuestionEntries.{SkipsQuestion, QuestionFaultAt, QuestionSkipFaultAt};
+ghost use Rattle.dns_question.specs.Questions.{QuestionItem, IsQuestion, put_question};
+ghost use Rattle.dns_question.specs.Question.{qname_of, qtype_of, qclass_of, HasFields, question_item, ParsesQuestion, ReadsReadable, SkipsOverQuestion};
+
+pub use crate::question_error::{FromStrError, PresentationError, PresentationErrorEnum};
+use dns_code::{Class, Rtype};
+use dns_wire::{AppendError, Composer, ParseError, ParsedName, Parser, ToName};
+
+/// What is asked: a name, a record type and a class (RFC 1035 section 4.1.2).
+#[derive(Clone, Copy, Debug, PartialEq, Eq, PartialOrd, Ord, Hash, Drop)]
+pub struct Question<N> {
+    qname: N,
+    qtype: u16,
+    qclass: u16,
+}
+
+impl<N> Question<N> {
+    /// A question for the records of a name with this type and class.
+    pub fn new(qname: N, qtype: Rtype, qclass: Class) -> Self
+        ensures qname { qname_of result ≡ qname }
+        ensures qtype { qtype_of result ≡ qtype }
+        ensures qclass { qclass_of result ≡ qclass }
+    {
+        Question {
+            qname,
+            qtype: qtype.to_int(),
+            qclass: qclass.to_int(),
+        }
+    }
+
+    /// A question in the class IN.
+    pub fn new_in(qname: N, qtype: Rtype) -> Self
+        ensures qname { qname_of result ≡ qname }
+        ensures qtype { qtype_of result ≡ qtype }
+        ensures qclass { qclass_of result ≡ 1 }
+    {
+        Question::new(qname, qtype, Class::IN)
+    }
+
+    /// The name.
+    pub fn qname(&self) -> &N
+        ensures { result.now ≡ qname_of self.now }
+    {
+        &self.qname
+    }
+
+    /// The name, taken out.
+    pub fn into_qname(self) -> N
+        ensures { result ≡ qname_of self }
+    {
+        let Question { qname, .. } = self;
+        qname
+    }
+
+    /// The record type.
+    pub fn qtype(&self) -> Rtype
+        ensures { result ≡ qtype_of self.now }
+    {
+        Rtype::from_int(self.qtype)
+    }
+
+    /// The class.
+    pub fn qclass(&self) -> Class
+        ensures { result ≡ qclass_of self.now }
+    {
+        Class::from_int(self.qclass)
+    }
+}
+
+/// The question of a name, a type and a class.
+impl<N> From<(N, Rtype, Class)> for Question<N> {
+    ghost from_gives = { λ fields question. HasFields question fields.0 fields.1 fields.2 };
+
+    fn from((qname, qtype, qclass): (N, Rtype, Class)) -> Self {
+        Question::new(qname, qtype, qclass)
+    }
+}
+
+/// A question in the class IN.
+impl<N> From<(N, Rtype)> for Question<N> {
+    ghost from_gives = { λ fields question. HasFields question fields.0 fields.1 1 };
+
+    fn from((qname, qtype): (N, Rtype)) -> Self {
+        Question::new_in(qname, qtype)
+    }
+}
+
+impl<'a> Question<ParsedName<'a>> {
+    /// Reads the question at the parser's place and moves behind it.
+    ///
+    /// The fault of its name is answered, or `ShortInput` where the four octets behind the name aren't there. Then the
+    /// parser stays.
+    pub fn parse(parser: &mut Parser<'a>) -> Result<Self, ParseError>
+        ensures parses { ParsesQuestion parser.old parser.new result }
+        ensures question { ReadsReadable (seen parser.old) (place parser.old) result }
+        ensures fault { AnswersFault (QuestionFaultAt (seen parser.old) (place parser.old)) result }
+    {
+        Question::read(parser)
+    }
+
+    fn read(parser: &mut Parser<'a>) -> Result<Self, ParseError>
+        ensures { ParsesQuestion parser.old parser.new result }
+    {
+        let mut ahead = *parser;
+        let qname = ParsedName::parse(&mut ahead)?;
+        let qtype = Rtype::from_int(ahead.parse_u16_be()?);
+        let qclass = Class::from_int(ahead.parse_u16_be()?);
+        *parser = ahead;
+        Ok(Question::new(qname, qtype, qclass))
+    }
+}
+
+impl Question<()> {
+    /// Passes a question without following a pointer in its name.
+    ///
+    /// The fault of passing its name is answered, or `ShortInput` where the four octets behind the name aren't there.
+    /// Then the parser stays.
+    pub fn skip(parser: &mut Parser<'_>) -> Result<(), ParseError>
+        ensures skips { SkipsOverQuestion parser.old parser.new result }
+        ensures skippable { (q : ℕ) → SkipsQuestion (seen parser.old) (place parser.old) q → IsOk result }
+        ensures fault { AnswersFault (QuestionSkipFaultAt (seen parser.old) (place parser.old)) result }
+    {
+        Question::pass(parser)
+    }
+
+    fn pass(parser: &mut Parser<'_>) -> Result<(), ParseError>
+        ensures { SkipsOverQuestion parser.old parser.new result }
+    {
+        let mut ahead = *parser;
+        ParsedName::skip(&mut ahead)?;
+        ahead.advance(4)?;
+        *parser = ahead;
+        Ok(())
+    }
+}
+
+impl<N: ToName> Question<N> {
+    /// Appends the question: its name by the target's rule, type and class.
+    ///
+    /// Where it is refused the content still begins with the old one, and a `truncate` to the old length gives the old
+    /// target back.
+    pub fn compose<T: Composer>(&self, target: &mut T) -> Result<(), AppendError>
+        ensures composes { Composes T.room T.grows (put_question T.rule (question_item N.name self.now)) (T.written target.old) (T.written target.new) result }
+        ensures item { IsQuestion (question_item N.name self.now) }
+    {
+        let [a, b] = self.qtype().to_int().to_be_bytes();
+        let [c, d] = self.qclass().to_int().to_be_bytes();
+        // By the contract of this call, what stands for a name is one.
+        let _ = self.qname.as_parsed();
+        target.append_compressed_name(&self.qname)?;
+        target.append_slice(&[a, b, c, d])
+    }
+}
+
+/// What can be pushed into a question section.
+pub trait ComposeQuestion {
+    /// The question.
+    ghost question: { Self → QuestionItem };
+
+    /// Appends the question, as `Question::compose` does.
+    fn compose_question<T: Composer>(&self, target: &mut T) -> Result<(), AppendError>
+        ensures composes { Composes T.room T.grows (put_question T.rule (question self.now)) (T.written target.old) (T.written target.new) result }
+        ensures item { IsQuestion (question self.now) };
+}
+
+impl<N: ToName> ComposeQuestion for Question<N> {
+    ghost question = { λ q. question_item N.name q };
+
+    fn compose_question<T: Composer>(&self, target: &mut T) -> Result<(), AppendError> {
+        self.compose(target)
+    }
+}
+
+impl<Q: ComposeQuestion> ComposeQuestion for &Q {
+    ghost question = { λ q. Q.question q.now };
+
+    fn compose_question<T: Composer>(&self, target: &mut T) -> Result<(), AppendError> {
+        (**self).compose_question(target)
+    }
+}
+
+impl<N: ToName> ComposeQuestion for (N, Rtype, Class) {
+    ghost question = { λ fields. record { name = N.name fields.0; rtype = fields.1; class = fields.2 } };
+
+    fn compose_question<T: Composer>(&self, target: &mut T) -> Result<(), AppendError> {
+        let (qname, qtype, qclass) = self;
+        Question::new(qname, *qtype, *qclass).compose(target)
+    }
+}
+
+/// In the class IN.
+impl<N: ToName> ComposeQuestion for (N, Rtype) {
+    ghost question = { λ fields. record { name = N.name fields.0; rtype = fields.1; class = 1 } };
+
+    fn compose_question<T: Composer>(&self, target: &mut T) -> Result<(), AppendError> {
+        let (qname, qtype) = self;
+        Question::new_in(qname, *qtype).compose(target)
+    }
+}

@@ -1,0 +1,110 @@
+//! Questions read from texts (RFC 1035 section 5.1).
+ghost use Rattle.std.specs.Prelude.{◌≡◌, ℕ, List, ⊤};
+ghost use Rattle.std.specs.Str.Iter.{split_whitespace_rest};
+ghost use Rattle.dns_code.specs.Classes.{SpellsClass};
+ghost use Rattle.dns_question.specs.QuestionReading.{ReadsFields, ReadsQuestionText, ReadsTextBehindName};
+ghost use Rattle.dns_question.specs.QuestionTexts.{SpellsNoClass};
+
+use crate::question::Question;
+use crate::question_error::{FromStrError, PresentationErrorEnum};
+use arrayvec::ArrayVec;
+use dns_code::{Class, Rtype};
+use dns_wire::{Name, OctetsFrom};
+use std::alloc::Global;
+use std::str::{FromStr, SplitWhitespace};
+
+/// Reads the type behind a class.
+fn read_type(class: Class, word: Option<&str>) -> Result<(Rtype, Class), PresentationErrorEnum>
+    ensures { (first : List ℕ) → SpellsClass first class → ReadsFields first word.entry result }
+{
+    let Some(word) = word else {
+        return Err(PresentationErrorEnum::MissingQtype);
+    };
+    match Rtype::from_str(word) {
+        Ok(rtype) => Ok((rtype, class)),
+        Err(_) => Err(PresentationErrorEnum::BadQtype),
+    }
+}
+
+/// Reads a type and the class behind it, which is IN where there is no word for it.
+fn read_type_first(
+    first: &str,
+    second: Option<&str>,
+) -> Result<(Rtype, Class), PresentationErrorEnum>
+    requires { SpellsNoClass first.now }
+    ensures { ReadsFields first.now second.entry result }
+{
+    let Ok(rtype) = Rtype::from_str(first) else {
+        return Err(PresentationErrorEnum::BadQtype);
+    };
+    let Some(second) = second else {
+        return Ok((rtype, Class::IN));
+    };
+    match Class::from_str(second) {
+        Ok(class) => Ok((rtype, class)),
+        Err(_) => Err(PresentationErrorEnum::BadClass),
+    }
+}
+
+/// Reads a class and a type, or a type and perhaps a class.
+fn read_fields(first: &str, second: Option<&str>) -> Result<(Rtype, Class), PresentationErrorEnum>
+    ensures { ReadsFields first.now second.entry result }
+{
+    match Class::from_str(first) {
+        Ok(class) => read_type(class, second),
+        Err(_) => read_type_first(first, second),
+    }
+}
+
+/// Reads what stands behind the name.
+fn read_behind_name(mut words: SplitWhitespace<'_>) -> Result<(Rtype, Class), PresentationErrorEnum>
+    ensures { ReadsTextBehindName (split_whitespace_rest words.entry) result }
+{
+    let Some(first) = words.next() else {
+        return Err(PresentationErrorEnum::MissingClassAndQtype);
+    };
+    let Some(second) = words.next() else {
+        return read_fields(first, None);
+    };
+    let fields = read_fields(first, Some(second))?;
+    match words.next() {
+        None => Ok(fields),
+        Some(_) => Err(PresentationErrorEnum::TrailingData),
+    }
+}
+
+/// Reads a question: a name, and behind it a type and perhaps a class, in any order. Words stand between Unicode white
+/// space, and the class is IN where there is none.
+///
+/// What is wrong is a `Presentation`; the leftmost fault is answered. It takes no memory.
+impl FromStr for Question<Name<ArrayVec<u8, 255>>> {
+    type Err = FromStrError;
+
+    ghost from_str_gives = { ReadsQuestionText ⊥ };
+
+    fn from_str(text: &str) -> Result<Self, FromStrError> {
+        let mut words = text.split_whitespace();
+        let Some(word) = words.next() else {
+            return Err(FromStrError::of_kind(PresentationErrorEnum::MissingQname));
+        };
+        let qname = Name::<ArrayVec<u8, 255>>::from_str(word)?;
+        match read_behind_name(words) {
+            Ok((qtype, qclass)) => Ok(Question::new(qname, qtype, qclass)),
+            Err(kind) => Err(FromStrError::of_kind(kind)),
+        }
+    }
+}
+
+impl Question<Name<Vec<u8>>> {
+    /// Reads a question into memory from `alloc`. It is `OutOfMemory` for want of that, and `Presentation` for each other
+    /// fault.
+    pub fn vec_from_str(alloc: Global, text: &str) -> Result<Self, FromStrError>
+        ensures { ReadsQuestionText ⊤ text.now result }
+    {
+        let question = Question::<Name<ArrayVec<u8, 255>>>::from_str(text)?;
+        match Name::try_octets_from(alloc, question.qname()) {
+            Ok(qname) => Ok(Question::new(qname, question.qtype(), question.qclass())),
+            Err(_) => Err(FromStrError::OutOfMemory),
+        }
+    }
+}

@@ -1,0 +1,65 @@
+-- A message behind its length: what the calls of its target do to the message alone.
+use Rattle.std.proofs.Common.{◌≡◌, ℕ, suc, ◌+◌, ◌≤◌, Bool, Option, Some, None, Result, Err, List, [], ◌∷◌, ◌++◌, length, length-append, take, drop, ap, sym, ◌∙◌, refl, arith}
+use Rattle.std.proofs.lemmas.Grind.{common_steps}
+use Rattle.dns_wire.specs.Pieces.{put_octets}
+use Rattle.dns_wire.specs.Targets.{Written, Fits, Passes, Answers, Appends, cut_to, overwrite}
+use Rattle.dns_octets.specs.declared.error.AppendError.{AppendError}
+use Rattle.dns_octets.specs.declared.error.AppendError.TheVariants.{ShortBuf, OutOfMemory}
+use Rattle.dns_wire.proofs.PieceLaws.{same_written}
+use Rattle.dns_wire.proofs.PlainTargets.{cut_nothing}
+use Rattle.dns_stream.specs.Stream.{stream_room, message_written as plain}
+
+take_two : (xs : List ℕ) (n : ℕ) → drop 2 (take (n + 2) xs) ≡ take n (drop 2 xs)
+take_two xs n = grind (arith, common_steps)
+
+-- a target that is cut behind n octets of the message and has another prefix
+pub shortened : (t u v : Written) (xs bytes : List ℕ) (n : ℕ) → length bytes ≡ 2 → u ≡ cut_to (n + 2) t → v ≡ overwrite 0 bytes u → drop 2 t.octets ≡ xs → plain (drop 2 v.octets) ≡ cut_to n (plain xs)
+shortened t u v xs (a ∷ b ∷ []) n two e f is =
+    same_written _ _ (ap (λ (w : Written). drop 2 w.octets) f ∙ ap (λ (w : Written). drop 2 w.octets) e ∙ take_two t.octets n ∙ ap (take n) is) (sym (cut_nothing n))
+shortened t u v xs [] n two e f is = absurd (omega arith)
+shortened t u v xs (a ∷ []) n two e f is = absurd (omega arith)
+shortened t u v xs (a ∷ b ∷ c ∷ bytes) n two e f is = absurd (omega arith)
+
+-- a message is its own beginning where it has no more octets
+pub kept_whole : (xs : List ℕ) (n : ℕ) → length xs ≤ n → plain xs ≡ cut_to n (plain xs)
+kept_whole xs n l = same_written _ _ (grind (arith, common_steps)) (sym (cut_nothing n))
+
+passes : (room : Option ℕ) (t : Written) (xs : List ℕ) → 2 ≤ length t.octets → Fits room (length t.octets) → Passes room (length (t.octets ++ xs)) → Passes (stream_room room) (length (drop 2 t.octets ++ xs))
+passes None t xs l f h = absurd h
+passes (Some room) t xs l f h =
+    let a = length-append t.octets xs in
+    let b = length-append (drop 2 t.octets) xs in
+    let c : length (drop 2 t.octets) + 2 ≡ length t.octets = grind (arith, common_steps) in
+    omega arith
+
+answers : (room : Option ℕ) (grows : Bool) (t : Written) (xs : List ℕ) (e : AppendError) → 2 ≤ length t.octets → Fits room (length t.octets)
+    → Answers {X = Unit {0}} room grows (length (t.octets ++ xs)) (Err e) → Answers {X = Unit {0}} (stream_room room) grows (length (drop 2 t.octets ++ xs)) (Err e)
+answers room grows t xs ShortBuf l f h = passes room t xs l f h
+answers room grows t xs OutOfMemory l f h = h
+
+refuses : (room : Option ℕ) (grows : Bool) (xs : List ℕ) (t u : Written) (e : AppendError) → 2 ≤ length t.octets → Fits room (length t.octets)
+    → Appends room grows (put_octets xs) t u {X = Unit {0}} (Err e) → Appends (stream_room room) grows (put_octets xs) (plain (drop 2 t.octets)) (plain (drop 2 u.octets)) {X = Unit {0}} (Err e)
+refuses room grows xs t u e l f h = record { ok = tt; err = ap (λ (w : Written). plain (drop 2 w.octets)) h.err; answer = answers room grows t xs e l f h.answer }
+
+-- an append that the target refuses is refused for the message
+pub refused : (room : Option ℕ) (grows : Bool) (xs : List ℕ) (t u : Written) (v : List ℕ) (r : Result (Unit {0}) AppendError) (e : AppendError) → 2 ≤ length t.octets → Fits room (length t.octets) → drop 2 t.octets ≡ v → r ≡ Err e
+    → Appends room grows (put_octets xs) t u {X = Unit {0}} (Err e) → Appends (stream_room room) grows (put_octets xs) (plain v) (plain (drop 2 u.octets)) r
+refused room grows xs t u v r e l f is out h = rw (out, ← is) (refuses room grows xs t u e l f h)
+
+written_two_on : (ys bytes : List ℕ) (place : ℕ) → 2 ≤ length ys → drop 2 (take (place + 2) ys ++ bytes ++ drop (place + 2 + length bytes) ys) ≡ take place (drop 2 ys) ++ bytes ++ drop (place + length bytes) (drop 2 ys)
+written_two_on [] bytes place l = absurd (omega arith)
+written_two_on (a ∷ []) bytes place l = absurd (omega arith)
+written_two_on (a ∷ b ∷ ys) bytes place l =
+    let e : place + 2 ≡ suc (suc place) = omega arith in
+    let f : place + 2 + length bytes ≡ suc (suc (place + length bytes)) = omega arith in
+    rw (f, e) refl
+
+-- what is written two octets further on in the target is written at the place in the message
+pub over : (t u : Written) (xs bytes : List ℕ) (place : ℕ) → 2 ≤ length t.octets → u ≡ overwrite (place + 2) bytes t → drop 2 t.octets ≡ xs → plain (drop 2 u.octets) ≡ overwrite place bytes (plain xs)
+over t u xs bytes place l e is =
+    same_written _ _ (ap (λ (w : Written). drop 2 w.octets) e ∙ written_two_on t.octets bytes place l ∙ ap (λ (ys : List ℕ). take place ys ++ bytes ++ drop (place + length bytes) ys) is) refl
+
+-- what fits the target leaves a message that fits its room
+pub fits : (room : Option ℕ) (t : Written) (xs : List ℕ) → 2 ≤ length t.octets → length t.octets ≤ 65537 → Fits room (length t.octets) → drop 2 t.octets ≡ xs → Fits (stream_room room) (length xs)
+fits None t xs l k f is = rw (← is) (let c : length (drop 2 t.octets) + 2 ≡ length t.octets = grind (arith, common_steps) in omega arith)
+fits (Some room) t xs l k f is = rw (← is) (let c : length (drop 2 t.octets) + 2 ≡ length t.octets = grind (arith, common_steps) in omega arith)

@@ -1,0 +1,187 @@
+//! A target for messages that go over a stream.
+ghost use Rattle.std.specs.Prelude.{◌≡◌, ◌+◌, ◌<◌, [], length, refl, IfOk, IfErr, OnErr, IsTrue};
+ghost use Rattle.dns_wire.specs.Memory.{nothing};
+ghost use Rattle.dns_name.specs.Names.{uncompressed};
+ghost use Rattle.dns_wire.specs.Pieces.{Plain, put_octets};
+ghost use Rattle.dns_wire.specs.PutName.{put_name};
+ghost use Rattle.dns_wire.specs.Targets.{Answers, Appends};
+ghost use Rattle.dns_stream.specs.Stream.{message_written, most_octets, stream_room, with_prefix};
+
+use dns_wire::{AppendError, CloneTarget, Composer, ToName};
+use std::alloc::{AllocError, Global};
+use std::convert::AsSlice;
+use std::marker::Model;
+
+/// The octets of the length before a message.
+const PREFIX_LEN: usize = 2;
+
+/// The most octets that the length can tell.
+const MOST_OCTETS: usize = 65_535;
+
+/// A target that holds the length of its message, in two octets, before the message (RFC 1035 section 4.2.2).
+///
+/// The prefix is no part of the content: places count from the start of the message. A message has at most 65,535 octets,
+/// and what would pass them is refused before anything grows.
+#[derive(Debug, Drop)]
+pub struct StreamTarget<T: Composer> {
+    target: T,
+}
+
+impl<T: Composer> Model for StreamTarget<T> {
+    ghost use Rattle.std.specs.Prelude.{List, ℕ, drop};
+    ghost use Rattle.dns_stream.specs.Stream.{IsStream};
+
+    ghost Value = { List ℕ };
+
+    ghost view = { λ s. drop 2 (T.written s.target).octets };
+
+    ghost invariant = { λ s. IsStream T.rule (T.written s.target) };
+}
+
+impl StreamTarget<Vec<u8>> {
+    /// A target over an empty vector.
+    pub fn new_vec(alloc: Global) -> Result<Self, AppendError>
+        ensures empty { IfOk result (λ stream. stream ≡ []) }
+        ensures memory { IfErr result (λ error. error ≡ AppendError.OutOfMemory) }
+    {
+        StreamTarget::new(Vec::new(alloc))
+    }
+}
+
+impl<T: Composer> StreamTarget<T> {
+    /// A target of an empty message over a target that doesn't compress, which is emptied.
+    ///
+    /// It is `ShortBuf` exactly where that has no room for the two octets of the length.
+    pub fn new(target: T) -> Result<Self, AppendError>
+        requires { T.rule ≡ Plain }
+        ensures empty { IfOk result (λ stream. stream ≡ []) }
+        ensures answer { Answers T.room T.grows 2 result }
+    {
+        let mut target = target;
+        target.truncate(0);
+        target.append_slice(&[0; PREFIX_LEN])?;
+        Ok(StreamTarget { target })
+    }
+
+    /// The target, which holds the length of the message and the message.
+    pub fn as_target(&self) -> &T
+        ensures { T.written result.now ≡ message_written (with_prefix self.now) }
+    {
+        &self.target
+    }
+
+    /// The target, which holds the length of the message and the message.
+    pub fn into_target(self) -> T
+        ensures { T.written result ≡ message_written (with_prefix self) }
+    {
+        self.target
+    }
+
+    /// The length of the message, in two octets, and the message.
+    pub fn as_stream_slice(&self) -> &[u8]
+        ensures { result.now ≡ with_prefix self.now }
+    {
+        self.target.as_slice()
+    }
+
+    /// The message.
+    pub fn as_dgram_slice(&self) -> &[u8]
+        ensures { result.now ≡ self.now }
+    {
+        Composer::as_slice(self)
+    }
+
+    /// The message.
+    pub fn as_slice(&self) -> &[u8]
+        ensures { result.now ≡ self.now }
+    {
+        self.as_dgram_slice()
+    }
+}
+
+impl<T: CloneTarget> StreamTarget<T> {
+    /// A target with the same message.
+    pub fn clone(&self) -> Result<Self, AllocError>
+        ensures equal { IfOk result (λ clone. clone ≡ self.now) }
+        ensures memory { OnErr result (IsTrue T.grows) }
+    {
+        Ok(StreamTarget {
+            target: self.target.clone_target()?,
+        })
+    }
+}
+
+impl<T: Composer> Composer for StreamTarget<T> {
+    ghost rule = { Plain };
+
+    ghost room = { stream_room T.room };
+
+    ghost grows = { T.grows };
+
+    ghost written = { message_written };
+
+    ghost plain_forgets = { λ _ _. refl };
+
+    fn as_slice(&self) -> &[u8] {
+        &self.target.as_slice()[PREFIX_LEN..]
+    }
+
+    fn append_slice(&mut self, octets: &[u8]) -> Result<(), AppendError>
+        ensures appends { Appends (stream_room T.room) T.grows (put_octets octets.now)
+            (message_written self.old) (message_written self.new) result }
+        ensures long { most_octets < length self.old + length octets.now
+            → result ≡ Err AppendError.ShortBuf }
+    {
+        let len = self.target.as_slice().len() - PREFIX_LEN;
+        if octets.len() > MOST_OCTETS - len {
+            return Err(AppendError::ShortBuf);
+        }
+        self.target.append_slice(octets)?;
+        let len = (len + octets.len()) as u16;
+        self.target.write_at(0, &len.to_be_bytes());
+        Ok(())
+    }
+
+    #[tactic(auto, unfolding(dns_wire::specs::PutName::put_name))]
+    fn append_compressed_name<N: ToName>(&mut self, name: &N) -> Result<(), AppendError>
+        ensures appends { Appends (stream_room T.room) T.grows (put_name Plain (N.name name.now))
+            (message_written self.old) (message_written self.new) result }
+        ensures long { most_octets < length self.old + length (uncompressed (N.name name.now))
+            → result ≡ Err AppendError.ShortBuf }
+    {
+        match name.as_flat_slice() {
+            Some(octets) => self.append_slice(octets),
+            None => self.append_slice(name.as_parsed().uncompressed().as_slice()),
+        }
+    }
+
+    fn can_compress(&self) -> bool {
+        false
+    }
+
+    fn truncate(&mut self, len: usize) {
+        if len < self.target.as_slice().len() - PREFIX_LEN {
+            self.target.truncate(len + PREFIX_LEN);
+            self.target.write_at(0, &(len as u16).to_be_bytes());
+        }
+    }
+
+    fn write_at(&mut self, place: usize, octets: &[u8]) {
+        self.target.write_at(place + PREFIX_LEN, octets);
+    }
+}
+
+/// The message.
+impl<T: Composer> AsSlice<u8> for StreamTarget<T> {
+    ghost items = { λ s. s };
+
+    fn as_slice(&self) -> &[u8] {
+        self.as_dgram_slice()
+    }
+}
+
+impl<T: CloneTarget> CloneTarget for StreamTarget<T> {
+    fn clone_target(&self) -> Result<Self, AllocError> {
+        self.clone()
+    }
+}

@@ -1,8 +1,0 @@
--- What is known of what a parser sees.
-use Rattle.std.proofs.Common.{◌≡◌, length, length-take, arith}
-use Rattle.dns_wire.specs.Parsers.{seen}
-use Rattle.dns_wire.specs.declared.parser.Parser.{Parser}
-
--- a parser sees as many octets as its end says
-pub length-seen : (p : Parser) → length (seen p) ≡ p.end
-length-seen p = let w = p.within in simp length-take (omega (arith, w))

@@ -1,9 +1,0 @@
-use Rattle.std.proofs.Common.{◌-◌}
-use Rattle.dns_wire.proofs.Spelling.{Spells}
-use Rattle.dns_wire.proofs.name.check.Given as goal
-
-abbrev pub invariant-walk : goal.invariant-walk
-invariant-walk l = Spells l.octets l.size
-
-abbrev pub decreases-walk : goal.decreases-walk
-decreases-walk l = 255 - l.size
