@@ -4,12 +4,12 @@ use Rattle.dns_wire.specs.Parts.{Part}
 use Rattle.dns_wire.specs.PartsWritten.{PartsFill}
 use Rattle.dns_wire.specs.Pieces.{Rule}
 use Rattle.dns_wire.specs.Targets.{Written}
-use Rattle.dns_wire.proofs.FilledPlaces.{OfEachName, parts_fill, spelled_near}
-use Rattle.dns_wire.proofs.TargetTheorems.{pointed}
+use Rattle.dns_wire.proofs.theory.FilledPlaces.{OfEachName, parts_fill, spelled_near}
+use Rattle.dns_wire.proofs.theory.TargetTheorems.{pointed}
 use Rattle.dns_question.specs.Questions.{QuestionItem}
 use Rattle.dns_item.specs.Items.{RecordItem}
-use Rattle.dns_question.proofs.QuestionItemLemmas.{HasQuestion}
-use Rattle.dns_item.proofs.ItemLemmas.{HasRecord}
+use Rattle.dns_question.proofs.theory.QuestionItemLemmas.{HasQuestion}
+use Rattle.dns_item.proofs.theory.ItemLemmas.{HasRecord}
 use Rattle.dns_build.specs.Fold.{fold}
 use Rattle.dns_build.specs.Spellings.{question_parts, record_parts, all_parts, parts_of, PointsToLabels, HasLabelsNear}
 use Rattle.dns_build.specs.State.{State, IsState}

@@ -6,8 +6,8 @@ use Rattle.dns_wire.specs.PartsWritten.{PartsNear}
 use Rattle.dns_wire.specs.Pieces.{Rule, Piece, put_octets, both, with_length}
 use Rattle.dns_wire.specs.PutName.{put_name}
 use Rattle.dns_wire.specs.SpellingLaws.{SharesAll}
-use Rattle.dns_wire.proofs.PieceLaws.{lay-both}
-use Rattle.dns_wire.proofs.ShortestPieces.{Spells, spells, Shortens, shortens_none, shortens_octets, shortens_name, shortens_same, shortens_both, shortens_parts, shortens_with_length, knows_nothing, laid_shortest}
+use Rattle.dns_wire.proofs.theory.PieceLaws.{lay-both}
+use Rattle.dns_wire.proofs.theory.ShortestPieces.{Spells, spells, Shortens, shortens_none, shortens_octets, shortens_name, shortens_same, shortens_both, shortens_parts, shortens_with_length, knows_nothing, laid_shortest}
 use Rattle.dns_code.specs.Header.{header_octets}
 use Rattle.dns_question.specs.Questions.{QuestionItem, IsQuestion, question_fields, put_question}
 use Rattle.dns_item.specs.Items.{RecordItem, IsRecord, record_fields, put_record}

@@ -1,6 +1,7 @@
 -- The octets of a message with a state's header and items: what they are, and what they give. RFC 1035 section 4.1.
 use Rattle.std.specs.Prelude.{◌≡◌, ℕ, ◌≤◌, List, length}
 use Rattle.std.specs.FinMap.{len}
+use Rattle.dns_name.specs.Heads.{pointer_end}
 use Rattle.dns_wire.specs.Pieces.{Rule}
 use Rattle.dns_wire.specs.SpellingLaws.{SharesAll}
 use Rattle.dns_build.specs.Fold.{fold}
@@ -14,4 +15,4 @@ pub record IsMessageOf (rule : Rule) (s : State) (b : List ℕ) : Type 0 where
   pub reads_back : ReadsBack s b
   pub pointers : PointsToLabels s b
   pub shortest : SharesAll rule (len (fold rule s).memory) → HasLabelsNear s b → IsShortestOf s b
-  pub near : length b ≤ 16384 → HasLabelsNear s b
+  pub near : length b ≤ pointer_end → HasLabelsNear s b

@@ -1,8 +1,6 @@
-pub mod MnemonicLemmas
+pub mod theory
 pub mod TableLemmas
-pub mod NumberedLemmas
 pub mod TextLemmas
-pub mod HeaderLemmas
 pub mod SectionLemmas
 pub mod FlagsLemmas
 pub mod TokensLemmas

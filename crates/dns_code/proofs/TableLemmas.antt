@@ -9,7 +9,7 @@ use Rattle.std.proofs.lemmas.Slice.Eq.{bytes_eq-Decides}
 use Rattle.dns_code.specs.Mnemonics.{mnemonic}
 use Rattle.dns_code.specs.NumberTexts.{IsMnemonic}
 use Rattle.dns_code.specs.Tables.{table, is_distinct}
-use Rattle.dns_code.proofs.MnemonicLemmas.{find_mapped, find_here, is_text, one_number, find_later}
+use Rattle.dns_code.proofs.theory.MnemonicLemmas.{find_mapped, find_here, is_text, one_number, find_later}
 
 -- an entry of a table, as the code holds it
 abbrev Entry : Type 0

@@ -63,7 +63,7 @@ impl Header {
     }
 
     /// Changes QR.
-    #[tactic(auto, using(crate::proofs::HeaderLemmas::qr_changed))]
+    #[tactic(auto, using(crate::proofs::theory::HeaderLemmas::qr_changed))]
     pub fn set_qr(&mut self, set: bool)
         ensures { fields self.new ≡ record (fields self.old) { qr = set } }
     {
@@ -78,7 +78,7 @@ impl Header {
     }
 
     /// Changes the kind of query, to the low four bits of the number.
-    #[tactic(auto, using(crate::proofs::HeaderLemmas::opcode_changed))]
+    #[tactic(auto, using(crate::proofs::theory::HeaderLemmas::opcode_changed))]
     pub fn set_opcode(&mut self, opcode: Opcode)
         ensures { fields self.new ≡ record (fields self.old) { opcode = opcode % 16 } }
     {
@@ -129,7 +129,7 @@ impl Header {
     }
 
     /// Changes AA.
-    #[tactic(auto, using(crate::proofs::HeaderLemmas::aa_changed))]
+    #[tactic(auto, using(crate::proofs::theory::HeaderLemmas::aa_changed))]
     pub fn set_aa(&mut self, set: bool)
         ensures { fields self.new ≡ record (fields self.old) { aa = set } }
     {
@@ -144,7 +144,7 @@ impl Header {
     }
 
     /// Changes TC.
-    #[tactic(auto, using(crate::proofs::HeaderLemmas::tc_changed))]
+    #[tactic(auto, using(crate::proofs::theory::HeaderLemmas::tc_changed))]
     pub fn set_tc(&mut self, set: bool)
         ensures { fields self.new ≡ record (fields self.old) { tc = set } }
     {
@@ -159,7 +159,7 @@ impl Header {
     }
 
     /// Changes RD.
-    #[tactic(auto, using(crate::proofs::HeaderLemmas::rd_changed))]
+    #[tactic(auto, using(crate::proofs::theory::HeaderLemmas::rd_changed))]
     pub fn set_rd(&mut self, set: bool)
         ensures { fields self.new ≡ record (fields self.old) { rd = set } }
     {
@@ -174,7 +174,7 @@ impl Header {
     }
 
     /// Changes RA.
-    #[tactic(auto, using(crate::proofs::HeaderLemmas::ra_changed))]
+    #[tactic(auto, using(crate::proofs::theory::HeaderLemmas::ra_changed))]
     pub fn set_ra(&mut self, set: bool)
         ensures { fields self.new ≡ record (fields self.old) { ra = set } }
     {
@@ -189,7 +189,7 @@ impl Header {
     }
 
     /// Changes Z.
-    #[tactic(auto, using(crate::proofs::HeaderLemmas::z_changed))]
+    #[tactic(auto, using(crate::proofs::theory::HeaderLemmas::z_changed))]
     pub fn set_z(&mut self, set: bool)
         ensures { fields self.new ≡ record (fields self.old) { z = set } }
     {
@@ -204,7 +204,7 @@ impl Header {
     }
 
     /// Changes AD.
-    #[tactic(auto, using(crate::proofs::HeaderLemmas::ad_changed))]
+    #[tactic(auto, using(crate::proofs::theory::HeaderLemmas::ad_changed))]
     pub fn set_ad(&mut self, set: bool)
         ensures { fields self.new ≡ record (fields self.old) { ad = set } }
     {
@@ -219,7 +219,7 @@ impl Header {
     }
 
     /// Changes CD.
-    #[tactic(auto, using(crate::proofs::HeaderLemmas::cd_changed))]
+    #[tactic(auto, using(crate::proofs::theory::HeaderLemmas::cd_changed))]
     pub fn set_cd(&mut self, set: bool)
         ensures { fields self.new ≡ record (fields self.old) { cd = set } }
     {
@@ -234,7 +234,7 @@ impl Header {
     }
 
     /// Changes the rcode.
-    #[tactic(auto, using(crate::proofs::HeaderLemmas::rcode_changed))]
+    #[tactic(auto, using(crate::proofs::theory::HeaderLemmas::rcode_changed))]
     pub fn set_rcode(&mut self, rcode: Rcode)
         ensures { fields self.new ≡ record (fields self.old) { rcode = rcode } }
     {

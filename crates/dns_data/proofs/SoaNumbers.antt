@@ -3,7 +3,7 @@ use Rattle.std.proofs.Common.{◌≡◌, ℕ, ◌+◌, ◌-◌, List, ◌++◌, 
 use Rattle.std.proofs.lemmas.List.{take-append-drop, drop-drop}
 use Rattle.std.specs.Int.{to_be_bytes, w32}
 use Rattle.dns_name.specs.Names.{Labels, IsName}
-use Rattle.dns_name.proofs.LabelsLemmas.{length-uncompressed}
+use Rattle.dns_name.proofs.theory.LabelsLemmas.{length-uncompressed}
 use Rattle.dns_data.specs.RecordData.{IsData}
 use Rattle.dns_data.specs.Soa.{mname_of, rname_of, number_octets, soa_parts}
 use Rattle.dns_data.specs.declared.soa.Soa.{Soa}

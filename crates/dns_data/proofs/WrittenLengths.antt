@@ -5,9 +5,9 @@ use Rattle.dns_wire.specs.Memory.{Spot, IsClear, IsOldOrNew, Extends}
 use Rattle.dns_wire.specs.Pieces.{Piece, IsGrowing, put_octets, both, with_length}
 use Rattle.dns_wire.specs.Targets.{Written, IsTarget, Answers, lay, Composes}
 use Rattle.dns_octets.specs.declared.error.AppendError.{AppendError}
-use Rattle.dns_wire.proofs.Composing.{composes_both}
-use Rattle.dns_wire.proofs.GrowingPieces.{put_octets_grows}
-use Rattle.dns_wire.proofs.PutNames.{ends_within_content}
+use Rattle.dns_wire.proofs.theory.Composing.{composes_both}
+use Rattle.dns_wire.proofs.theory.GrowingPieces.{put_octets_grows}
+use Rattle.dns_wire.proofs.theory.PutNames.{ends_within_content}
 
 -- the two octets before the length is known
 abbrev blank : List ℕ

@@ -18,7 +18,8 @@ pub fn compose_len_rdata<D: ComposeRecordData, T: Composer>(
     data: &D,
     target: &mut T,
 ) -> Result<(), AppendError>
-    ensures composes { Composes T.room T.grows (with_length (put_parts T.rule (D.parts «data».now))) (T.written target.old) (T.written target.new) result }
+    ensures composes { Composes T.room T.grows (with_length (put_parts T.rule (D.parts «data».now)))
+        (T.written target.old) (T.written target.new) result }
     ensures is_data { OnOk result (IsData (D.parts «data».now)) }
 {
     let place = target.as_slice().len();
@@ -34,7 +35,9 @@ pub fn compose_canonical_len_rdata<D: ComposeRecordData, T: Composer>(
     data: &D,
     target: &mut T,
 ) -> Result<(), AppendError>
-    ensures { Composes T.room T.grows (with_length (put_parts T.rule (canonical (D.parts «data».now)))) (T.written target.old) (T.written target.new) result }
+    ensures { Composes T.room T.grows (with_length
+        (put_parts T.rule (canonical (D.parts «data».now)))) (T.written target.old)
+        (T.written target.new) result }
 {
     let place = target.as_slice().len();
     target.append_slice(&[0, 0])?;
@@ -49,7 +52,9 @@ pub fn compose_canonical_len_rdata<D: ComposeRecordData, T: Composer>(
 fn write_length<T: Composer>(target: &mut T, place: usize)
     requires within { place + 2 ≤ length (T.written target.old).octets }
     requires clear { IsClear (T.written target.old).memory place 2 }
-    ensures { T.written target.new ≡ overwrite place (to_be_bytes w16 (length (T.written target.old).octets - (place + 2))) (T.written target.old) }
+    ensures { T.written target.new ≡ overwrite place
+        (to_be_bytes w16 (length (T.written target.old).octets - (place + 2)))
+        (T.written target.old) }
 {
     let len = target.as_slice().len() - (place + 2);
     let [.., high, low] = len.to_be_bytes();

@@ -13,7 +13,9 @@ use dns_wire::{AppendError, Composer, ParseError, ParsedName, Parser, ToName, To
 
 /// Appends data that is one name.
 fn compose_name<N: ToName, T: Composer>(name: &N, target: &mut T) -> Result<(), AppendError>
-    ensures composes { Composes T.room T.grows (put_parts T.rule (CompressibleName (N.name name.now) ∷ [])) (T.written target.old) (T.written target.new) result }
+    ensures composes { Composes T.room T.grows
+        (put_parts T.rule (CompressibleName (N.name name.now) ∷ [])) (T.written target.old)
+        (T.written target.new) result }
     ensures is_data { IsData (CompressibleName (N.name name.now) ∷ []) }
 {
     target.append_compressed_name(&name.as_parsed())
@@ -24,7 +26,9 @@ fn compose_canonical_name<N: ToName, T: Composer>(
     name: &N,
     target: &mut T,
 ) -> Result<(), AppendError>
-    ensures { Composes T.room T.grows (put_parts T.rule (Octets (uncompressed (lowered (N.name name.now))) ∷ [])) (T.written target.old) (T.written target.new) result }
+    ensures { Composes T.room T.grows (put_parts T.rule
+        (Octets (uncompressed (lowered (N.name name.now))) ∷ [])) (T.written target.old)
+        (T.written target.new) result }
 {
     name.compose_canonical(target)
 }

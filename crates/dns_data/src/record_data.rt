@@ -28,13 +28,15 @@ pub trait ComposeRecordData: RecordData {
     /// Where it is refused the content still begins with the old one, and a `truncate` to the old length gives the old
     /// target back.
     fn compose_rdata<T: Composer>(&self, target: &mut T) -> Result<(), AppendError>
-        ensures composes { Composes T.room T.grows (put_parts T.rule (Self.parts self.now)) (T.written target.old) (T.written target.new) result }
+        ensures composes { Composes T.room T.grows (put_parts T.rule (Self.parts self.now))
+            (T.written target.old) (T.written target.new) result }
         ensures is_data { IsData (Self.parts self.now) };
 
     /// Appends the parts in canonical form: names lowercased, and without pointers (RFC 4034 section 6.2). It is refused as
     /// `compose_rdata` is.
     fn compose_canonical_rdata<T: Composer>(&self, target: &mut T) -> Result<(), AppendError>
-        ensures { Composes T.room T.grows (put_parts T.rule (canonical (Self.parts self.now))) (T.written target.old) (T.written target.new) result };
+        ensures { Composes T.room T.grows (put_parts T.rule (canonical (Self.parts self.now)))
+            (T.written target.old) (T.written target.new) result };
 }
 
 /// Data that can be read from a message.
@@ -46,7 +48,8 @@ pub trait ParseRecordData<'a>: RecordData + Sized {
     ///
     /// Octets may be left over. Data that doesn't stand there is answered by its first fault, and the parser stays.
     fn parse_rdata(rtype: Rtype, parser: &mut Parser<'a>) -> Result<Option<Self>, ParseError>
-        ensures { ParsesTaken Self.rtype_of Self.parts (layout rtype) rtype parser.old parser.new result };
+        ensures { ParsesTaken Self.rtype_of Self.parts (layout rtype) rtype parser.old parser.new
+            result };
 }
 
 /// Data that can be read from a message for every record type.
@@ -56,7 +59,8 @@ pub trait ParseAnyRecordData<'a>: RecordData + Sized {
 
     /// Reads the data of a record of a type, as `ParseRecordData::parse_rdata` does.
     fn parse_any_rdata(rtype: Rtype, parser: &mut Parser<'a>) -> Result<Self, ParseError>
-        ensures { ParsesLaidOut Self.rtype_of Self.parts (any_layout rtype) rtype parser.old parser.new result };
+        ensures { ParsesLaidOut Self.rtype_of Self.parts (any_layout rtype) rtype parser.old
+            parser.new result };
 }
 
 impl<D: RecordData> RecordData for &D {

@@ -16,7 +16,7 @@ use Rattle.dns_item.specs.Entries.LacksRecord.{fields, rdata}
 use Rattle.dns_item.specs.Entries.RecordFaultAt.{owner as owner_fault, short as short_record}
 use Rattle.dns_item.specs.RecordHeader.{rdlen_of, record_at, ParsesHeader, ReadsReadableHeader, ParsesAndSkips, ReadsHeaderOfReadable}
 use Rattle.dns_item.specs.declared.record_header.RecordHeader.{RecordHeader}
-use Rattle.dns_item.proofs.EntryLemmas.{header_or_fault, record_or_fault}
+use Rattle.dns_item.proofs.theory.EntryLemmas.{header_or_fault, record_or_fault}
 
 -- the octets behind an owner that stands are too few
 pub short : (old mid : Parser) (owner : Labels) (e : ParseError) → Stands (seen old) (place old) owner → MovesBehindName old mid → length (seen mid) < place mid + 10 → e ≡ ShortInput

@@ -1,5 +1,4 @@
-pub mod EntryLemmas
-pub mod ItemLemmas
+pub mod theory
 pub mod RecordReadingLemmas
 pub mod HeaderLemmas
 pub mod RecordLemmas

@@ -13,7 +13,7 @@ use Rattle.dns_item.specs.Entries.LacksRecord.{fields, rdata}
 use Rattle.dns_item.specs.Entries.RecordSkipFaultAt.{short as unended_record}
 use Rattle.dns_item.specs.ParsedRecord.{ParsesRecord, ReadsReadableRecord, SkipsOverRecord}
 use Rattle.dns_item.specs.declared.parsed_record.ParsedRecord.{ParsedRecord}
-use Rattle.dns_item.proofs.EntryLemmas.{record_or_fault, record_end_or_fault}
+use Rattle.dns_item.proofs.theory.EntryLemmas.{record_or_fault, record_end_or_fault}
 
 -- what can be read is what is given
 pub reads_readable : (old new : Parser) (r : Result ParsedRecord ParseError) → ParsesRecord old new r → ReadsReadableRecord (seen old) (place old) r

@@ -10,8 +10,8 @@ use Rattle.dns_octets.specs.declared.error.ParseError.{ParseError}
 use Rattle.dns_name.specs.declared.parser.Parser.{Parser}
 use Rattle.dns_data.specs.Layout.{Layout, IsLaidOut, DataStands}
 use Rattle.dns_data.specs.RecordData.{ParsesLaidOut, ParsesTaken}
-use Rattle.dns_data.proofs.DataAnswers.{one_datum_or_fault}
-use Rattle.dns_data.proofs.StandingParts.{standing_parts_read}
+use Rattle.dns_data.proofs.theory.DataAnswers.{one_datum_or_fault}
+use Rattle.dns_data.proofs.theory.StandingParts.{standing_parts_read}
 use Rattle.dns_item.specs.Entries.{RecordEntry}
 use Rattle.dns_item.specs.Items.{RecordItem}
 use Rattle.dns_item.specs.RecordReading.{WholeDataFaultAt, item_of, IsThere, up_to_data_end, HasData, HasDataFault, GivesLaidOut, GivesTaken, GivesBackLaidOut, GivesBackTaken, IsWhole, IsWholeTaken}

@@ -97,8 +97,10 @@ impl<'a> ParsedRecord<'a> {
     /// there. Then the parser stays.
     pub fn skip(parser: &mut Parser<'_>) -> Result<(), ParseError>
         ensures skips { SkipsOverRecord parser.old parser.new result }
-        ensures skippable { (q : ℕ) → SkipsRecord (seen parser.old) (place parser.old) q → IsOk result }
-        ensures fault { AnswersFault (RecordSkipFaultAt (seen parser.old) (place parser.old)) result }
+        ensures skippable { (q : ℕ) → SkipsRecord (seen parser.old) (place parser.old) q
+            → IsOk result }
+        ensures fault { AnswersFault (RecordSkipFaultAt (seen parser.old) (place parser.old))
+            result }
     {
         ParsedRecord::pass(parser)
     }

@@ -67,7 +67,8 @@ impl<N, D> Record<N, D> {
 
     /// Changes the class.
     pub fn set_class(&mut self, class: Class)
-        ensures { HasFields self.new (owner_of self.old) class (ttl_of self.old) (data_of self.old) }
+        ensures { HasFields self.new (owner_of self.old) class (ttl_of self.old)
+            (data_of self.old) }
     {
         self.class = class.to_int();
     }
@@ -81,7 +82,8 @@ impl<N, D> Record<N, D> {
 
     /// Changes how long the record may be kept.
     pub fn set_ttl(&mut self, ttl: Ttl)
-        ensures { HasFields self.new (owner_of self.old) (class_of self.old) ttl (data_of self.old) }
+        ensures { HasFields self.new (owner_of self.old) (class_of self.old) ttl
+            (data_of self.old) }
     {
         self.ttl = ttl.as_secs();
     }
@@ -102,7 +104,8 @@ impl<N, D> Record<N, D> {
     /// The data, lent to be changed.
     pub fn data_mut(&mut self) -> &mut D
         ensures value { result.now ≡ data_of self.old }
-        ensures* writes_back { sem 𝓛 (Lends (the_row N.row D.row) D.row self.entry result (with_data self.old)) }
+        ensures* writes_back { sem 𝓛 (Lends (the_row N.row D.row) D.row self.entry result
+            (with_data self.old)) }
     {
         &mut self.data
     }
@@ -171,8 +174,11 @@ impl<N: ToName, D: ComposeRecordData> Record<N, D> {
     /// Where it is refused the content still begins with the old one, and a `truncate` to the old length gives the old
     /// target back.
     pub fn compose<T: Composer>(&self, target: &mut T) -> Result<(), AppendError>
-        ensures composes { Composes T.room T.grows (put_record T.rule (record_item N.name D.rtype_of D.parts self.now)) (T.written target.old) (T.written target.new) result }
-        ensures is_record { OnOk result (IsRecord (record_item N.name D.rtype_of D.parts self.now)) }
+        ensures composes { Composes T.room T.grows
+            (put_record T.rule (record_item N.name D.rtype_of D.parts self.now))
+            (T.written target.old) (T.written target.new) result }
+        ensures is_record { OnOk result (IsRecord
+            (record_item N.name D.rtype_of D.parts self.now)) }
     {
         // By the contract of this call, what stands for a name is one.
         let _ = self.owner.as_parsed();
@@ -203,7 +209,8 @@ pub trait ComposeRecord {
     /// Where it is refused the content still begins with the old one, and a `truncate` to the old length gives the old
     /// target back.
     fn compose_record<T: Composer>(&self, target: &mut T) -> Result<(), AppendError>
-        ensures composes { Composes T.room T.grows (put_record T.rule (item self.now)) (T.written target.old) (T.written target.new) result }
+        ensures composes { Composes T.room T.grows (put_record T.rule (item self.now))
+            (T.written target.old) (T.written target.new) result }
         ensures is_record { OnOk result (IsRecord (item self.now)) };
 }
 

@@ -92,7 +92,8 @@ impl<N: ToName> RecordHeader<N> {
     /// Where it is refused the content still begins with the old one, and a `truncate` to the old length gives the old
     /// target back.
     pub fn compose<T: Composer>(&self, target: &mut T) -> Result<(), AppendError>
-        ensures { Composes T.room T.grows (put_header T.rule (header_item N.name self.now)) (T.written target.old) (T.written target.new) result }
+        ensures { Composes T.room T.grows (put_header T.rule (header_item N.name self.now))
+            (T.written target.old) (T.written target.new) result }
     {
         let owner = self.owner.as_parsed();
         let octets = self.field_octets();
@@ -104,7 +105,8 @@ impl<N: ToName> RecordHeader<N> {
 impl<N> RecordHeader<N> {
     /// The octets behind the owner.
     fn field_octets(&self) -> [u8; 10]
-        ensures { result ≡ header_fields (rtype_of self.now) (class_of self.now) (ttl_of self.now) (rdlen_of self.now) }
+        ensures { result ≡ header_fields (rtype_of self.now) (class_of self.now) (ttl_of self.now)
+            (rdlen_of self.now) }
     {
         let [a, b] = self.rtype.to_be_bytes();
         let [c, d] = self.class.to_be_bytes();
@@ -175,7 +177,9 @@ impl<'a> RecordHeader<ParsedName<'a>> {
 
 /// Reads the ten octets behind an owner.
 fn read_fields(parser: &mut Parser<'_>) -> Result<(Rtype, Class, Ttl, u16), ParseError>
-    ensures { Takes parser.old parser.new 10 result (λ fields. AreFieldsAt (seen parser.old) (place parser.old) fields.0 fields.1 fields.2 fields.3) }
+    ensures { Takes parser.old parser.new 10 result
+        (λ fields. AreFieldsAt (seen parser.old) (place parser.old) fields.0 fields.1 fields.2
+        fields.3) }
 {
     let mut ahead = *parser;
     let rtype = Rtype::from_int(ahead.parse_u16_be()?);

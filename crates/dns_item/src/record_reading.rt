@@ -21,7 +21,8 @@ fn read_data<'a, D: ParseRecordData<'a> + Drop>(
     rtype: Rtype,
     parser: &mut Parser<'a>,
 ) -> Result<Option<D>, ParseError>
-    ensures { IsWholeTaken D.rtype_of D.parts (seen parser.old) (place parser.old) rtype (D.layout rtype) result }
+    ensures { IsWholeTaken D.rtype_of D.parts (seen parser.old) (place parser.old) rtype
+        (D.layout rtype) result }
 {
     let Some(data) = D::parse_rdata(rtype, parser)? else {
         return Ok(None);
@@ -37,7 +38,8 @@ fn read_any_data<'a, D: ParseAnyRecordData<'a> + Drop>(
     rtype: Rtype,
     parser: &mut Parser<'a>,
 ) -> Result<D, ParseError>
-    ensures { IsWhole D.rtype_of D.parts (seen parser.old) (place parser.old) rtype (D.any_layout rtype) result }
+    ensures { IsWhole D.rtype_of D.parts (seen parser.old) (place parser.old) rtype
+        (D.any_layout rtype) result }
 {
     let data = D::parse_any_rdata(rtype, parser)?;
     if parser.remaining() > 0 {
@@ -56,10 +58,15 @@ impl<'a> RecordHeader<ParsedName<'a>> {
         self,
         parser: &mut Parser<'a>,
     ) -> Result<Option<Record<ParsedName<'a>, D>>, ParseError>
-        ensures gives { IsThere (seen parser.old) (record_at self.entry (place parser.old)) → GivesTaken (record_item labels D.rtype_of D.parts) (seen parser.old) (record_at self.entry (place parser.old)) (D.layout (rtype_of self.entry)) result }
-        ensures missing { MissingIsShort (seen parser.old) (record_at self.entry (place parser.old)) result }
-        ensures back { GivesBackTaken (record_item labels D.rtype_of D.parts) (seen parser.old) (record_at self.entry (place parser.old)) (D.layout (rtype_of self.entry)) result }
-        ensures moves { MovesBehindData parser.old parser.new (record_at self.entry (place parser.old)) }
+        ensures gives { IsThere (seen parser.old) (record_at self.entry (place parser.old))
+            → GivesTaken (record_item labels D.rtype_of D.parts) (seen parser.old)
+            (record_at self.entry (place parser.old)) (D.layout (rtype_of self.entry)) result }
+        ensures missing { MissingIsShort (seen parser.old) (record_at self.entry (place parser.old))
+            result }
+        ensures back { GivesBackTaken (record_item labels D.rtype_of D.parts) (seen parser.old)
+            (record_at self.entry (place parser.old)) (D.layout (rtype_of self.entry)) result }
+        ensures moves { MovesBehindData parser.old parser.new
+            (record_at self.entry (place parser.old)) }
     {
         self.read_into_record(parser)
     }
@@ -68,9 +75,13 @@ impl<'a> RecordHeader<ParsedName<'a>> {
         self,
         parser: &mut Parser<'a>,
     ) -> Result<Option<Record<ParsedName<'a>, D>>, ParseError>
-        ensures gives { IsThere (seen parser.old) (record_at self.entry (place parser.old)) → GivesTaken (record_item labels D.rtype_of D.parts) (seen parser.old) (record_at self.entry (place parser.old)) (D.layout (rtype_of self.entry)) result }
-        ensures missing { MissingIsShort (seen parser.old) (record_at self.entry (place parser.old)) result }
-        ensures moves { MovesBehindData parser.old parser.new (record_at self.entry (place parser.old)) }
+        ensures gives { IsThere (seen parser.old) (record_at self.entry (place parser.old))
+            → GivesTaken (record_item labels D.rtype_of D.parts) (seen parser.old)
+            (record_at self.entry (place parser.old)) (D.layout (rtype_of self.entry)) result }
+        ensures missing { MissingIsShort (seen parser.old) (record_at self.entry (place parser.old))
+            result }
+        ensures moves { MovesBehindData parser.old parser.new
+            (record_at self.entry (place parser.old)) }
     {
         let mut ahead = parser.parse_parser(usize::from(self.rdlen()))?;
         match read_data(self.rtype(), &mut ahead) {
@@ -85,10 +96,15 @@ impl<'a> RecordHeader<ParsedName<'a>> {
         self,
         parser: &mut Parser<'a>,
     ) -> Result<Record<ParsedName<'a>, D>, ParseError>
-        ensures gives { IsThere (seen parser.old) (record_at self.entry (place parser.old)) → GivesLaidOut (record_item labels D.rtype_of D.parts) (seen parser.old) (record_at self.entry (place parser.old)) (D.any_layout (rtype_of self.entry)) result }
-        ensures missing { MissingIsShort (seen parser.old) (record_at self.entry (place parser.old)) result }
-        ensures back { GivesBackLaidOut (record_item labels D.rtype_of D.parts) (seen parser.old) (record_at self.entry (place parser.old)) (D.any_layout (rtype_of self.entry)) result }
-        ensures moves { MovesBehindData parser.old parser.new (record_at self.entry (place parser.old)) }
+        ensures gives { IsThere (seen parser.old) (record_at self.entry (place parser.old))
+            → GivesLaidOut (record_item labels D.rtype_of D.parts) (seen parser.old)
+            (record_at self.entry (place parser.old)) (D.any_layout (rtype_of self.entry)) result }
+        ensures missing { MissingIsShort (seen parser.old) (record_at self.entry (place parser.old))
+            result }
+        ensures back { GivesBackLaidOut (record_item labels D.rtype_of D.parts) (seen parser.old)
+            (record_at self.entry (place parser.old)) (D.any_layout (rtype_of self.entry)) result }
+        ensures moves { MovesBehindData parser.old parser.new
+            (record_at self.entry (place parser.old)) }
     {
         self.read_into_any_record(parser)
     }
@@ -97,9 +113,13 @@ impl<'a> RecordHeader<ParsedName<'a>> {
         self,
         parser: &mut Parser<'a>,
     ) -> Result<Record<ParsedName<'a>, D>, ParseError>
-        ensures gives { IsThere (seen parser.old) (record_at self.entry (place parser.old)) → GivesLaidOut (record_item labels D.rtype_of D.parts) (seen parser.old) (record_at self.entry (place parser.old)) (D.any_layout (rtype_of self.entry)) result }
-        ensures missing { MissingIsShort (seen parser.old) (record_at self.entry (place parser.old)) result }
-        ensures moves { MovesBehindData parser.old parser.new (record_at self.entry (place parser.old)) }
+        ensures gives { IsThere (seen parser.old) (record_at self.entry (place parser.old))
+            → GivesLaidOut (record_item labels D.rtype_of D.parts) (seen parser.old)
+            (record_at self.entry (place parser.old)) (D.any_layout (rtype_of self.entry)) result }
+        ensures missing { MissingIsShort (seen parser.old) (record_at self.entry (place parser.old))
+            result }
+        ensures moves { MovesBehindData parser.old parser.new
+            (record_at self.entry (place parser.old)) }
     {
         let mut ahead = parser.parse_parser(usize::from(self.rdlen()))?;
         match read_any_data(self.rtype(), &mut ahead) {
@@ -117,9 +137,12 @@ impl<'a> ParsedRecord<'a> {
     pub fn to_record<D: ParseRecordData<'a> + Drop>(
         &self,
     ) -> Result<Option<Record<ParsedName<'a>, D>>, ParseError>
-        ensures gives { IsThere (octets_of self.now) (parsed_entry self.now) → GivesTaken (record_item labels D.rtype_of D.parts) (octets_of self.now) (parsed_entry self.now) (D.layout (parsed_entry self.now).rtype) result }
+        ensures gives { IsThere (octets_of self.now) (parsed_entry self.now)
+            → GivesTaken (record_item labels D.rtype_of D.parts) (octets_of self.now)
+            (parsed_entry self.now) (D.layout (parsed_entry self.now).rtype) result }
         ensures missing { MissingIsShort (octets_of self.now) (parsed_entry self.now) result }
-        ensures back { GivesBackTaken (record_item labels D.rtype_of D.parts) (octets_of self.now) (parsed_entry self.now) (D.layout (parsed_entry self.now).rtype) result }
+        ensures back { GivesBackTaken (record_item labels D.rtype_of D.parts) (octets_of self.now)
+            (parsed_entry self.now) (D.layout (parsed_entry self.now).rtype) result }
     {
         let mut parser = self.data;
         self.header.parse_into_record(&mut parser)
@@ -129,9 +152,12 @@ impl<'a> ParsedRecord<'a> {
     pub fn into_record<D: ParseRecordData<'a> + Drop>(
         self,
     ) -> Result<Option<Record<ParsedName<'a>, D>>, ParseError>
-        ensures gives { IsThere (octets_of self.entry) (parsed_entry self.entry) → GivesTaken (record_item labels D.rtype_of D.parts) (octets_of self.entry) (parsed_entry self.entry) (D.layout (parsed_entry self.entry).rtype) result }
+        ensures gives { IsThere (octets_of self.entry) (parsed_entry self.entry)
+            → GivesTaken (record_item labels D.rtype_of D.parts) (octets_of self.entry)
+            (parsed_entry self.entry) (D.layout (parsed_entry self.entry).rtype) result }
         ensures missing { MissingIsShort (octets_of self.entry) (parsed_entry self.entry) result }
-        ensures back { GivesBackTaken (record_item labels D.rtype_of D.parts) (octets_of self.entry) (parsed_entry self.entry) (D.layout (parsed_entry self.entry).rtype) result }
+        ensures back { GivesBackTaken (record_item labels D.rtype_of D.parts) (octets_of self.entry)
+            (parsed_entry self.entry) (D.layout (parsed_entry self.entry).rtype) result }
     {
         self.to_record()
     }
@@ -140,9 +166,12 @@ impl<'a> ParsedRecord<'a> {
     pub fn to_any_record<D: ParseAnyRecordData<'a> + Drop>(
         &self,
     ) -> Result<Record<ParsedName<'a>, D>, ParseError>
-        ensures gives { IsThere (octets_of self.now) (parsed_entry self.now) → GivesLaidOut (record_item labels D.rtype_of D.parts) (octets_of self.now) (parsed_entry self.now) (D.any_layout (parsed_entry self.now).rtype) result }
+        ensures gives { IsThere (octets_of self.now) (parsed_entry self.now)
+            → GivesLaidOut (record_item labels D.rtype_of D.parts) (octets_of self.now)
+            (parsed_entry self.now) (D.any_layout (parsed_entry self.now).rtype) result }
         ensures missing { MissingIsShort (octets_of self.now) (parsed_entry self.now) result }
-        ensures back { GivesBackLaidOut (record_item labels D.rtype_of D.parts) (octets_of self.now) (parsed_entry self.now) (D.any_layout (parsed_entry self.now).rtype) result }
+        ensures back { GivesBackLaidOut (record_item labels D.rtype_of D.parts) (octets_of self.now)
+            (parsed_entry self.now) (D.any_layout (parsed_entry self.now).rtype) result }
     {
         let mut parser = self.data;
         self.header.parse_into_any_record(&mut parser)
@@ -152,9 +181,13 @@ impl<'a> ParsedRecord<'a> {
     pub fn into_any_record<D: ParseAnyRecordData<'a> + Drop>(
         self,
     ) -> Result<Record<ParsedName<'a>, D>, ParseError>
-        ensures gives { IsThere (octets_of self.entry) (parsed_entry self.entry) → GivesLaidOut (record_item labels D.rtype_of D.parts) (octets_of self.entry) (parsed_entry self.entry) (D.any_layout (parsed_entry self.entry).rtype) result }
+        ensures gives { IsThere (octets_of self.entry) (parsed_entry self.entry)
+            → GivesLaidOut (record_item labels D.rtype_of D.parts) (octets_of self.entry)
+            (parsed_entry self.entry) (D.any_layout (parsed_entry self.entry).rtype) result }
         ensures missing { MissingIsShort (octets_of self.entry) (parsed_entry self.entry) result }
-        ensures back { GivesBackLaidOut (record_item labels D.rtype_of D.parts) (octets_of self.entry) (parsed_entry self.entry) (D.any_layout (parsed_entry self.entry).rtype) result }
+        ensures back { GivesBackLaidOut (record_item labels D.rtype_of D.parts)
+            (octets_of self.entry) (parsed_entry self.entry)
+            (D.any_layout (parsed_entry self.entry).rtype) result }
     {
         self.to_any_record()
     }
@@ -166,9 +199,16 @@ impl<'a, D: ParseRecordData<'a> + Drop> Record<ParsedName<'a>, D> {
     /// The parser is then behind the record, whatever is answered, but where the record's own octets can't be read: then the
     /// fault of its owner is answered, or `ShortInput`, and the parser stays.
     pub fn parse(parser: &mut Parser<'a>) -> Result<Option<Self>, ParseError>
-        ensures gives { (q : ℕ) (x : RecordEntry) → ReadsRecord (seen parser.old) (place parser.old) q x → GivesTaken (record_item labels D.rtype_of D.parts) (seen parser.old) x (D.layout x.rtype) result × MovesTo parser.old parser.new q }
-        ensures back { (q : ℕ) (x : RecordEntry) → ReadsRecord (seen parser.old) (place parser.old) q x → GivesBackTaken (record_item labels D.rtype_of D.parts) (seen parser.old) x (D.layout x.rtype) result }
-        ensures fault { (f : Fault) → RecordFaultAt (seen parser.old) (place parser.old) f → IsErrAnd result (λ e. fault_of e ≡ f) × (parser.new ≡ parser.old) }
+        ensures gives { (q : ℕ) (x : RecordEntry)
+            → ReadsRecord (seen parser.old) (place parser.old) q x
+            → GivesTaken (record_item labels D.rtype_of D.parts) (seen parser.old) x
+            (D.layout x.rtype) result × MovesTo parser.old parser.new q }
+        ensures back { (q : ℕ) (x : RecordEntry)
+            → ReadsRecord (seen parser.old) (place parser.old) q x
+            → GivesBackTaken (record_item labels D.rtype_of D.parts) (seen parser.old) x
+            (D.layout x.rtype) result }
+        ensures fault { (f : Fault) → RecordFaultAt (seen parser.old) (place parser.old) f
+            → IsErrAnd result (λ e. fault_of e ≡ f) × (parser.new ≡ parser.old) }
     {
         ParsedRecord::parse(parser)?.into_record()
     }

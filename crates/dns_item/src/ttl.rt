@@ -220,7 +220,8 @@ impl Ttl {
     /// Appends the number of seconds as four octets, the highest one first (RFC 1035 section 4.1.3). A refused append
     /// changes nothing.
     pub fn compose<T: Composer>(&self, target: &mut T) -> Result<(), AppendError>
-        ensures { Appends T.room T.grows (put_octets (to_be_bytes w32 self.now)) (T.written target.old) (T.written target.new) result }
+        ensures { Appends T.room T.grows (put_octets (to_be_bytes w32 self.now))
+            (T.written target.old) (T.written target.new) result }
     {
         target.append_slice(&self.0.to_be_bytes())
     }

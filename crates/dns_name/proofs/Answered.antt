@@ -10,8 +10,8 @@ use Rattle.dns_name.specs.ParsedName.{labels, ParsesName, SkipsName, ReadsStandi
 use Rattle.dns_octets.specs.declared.error.ParseError.{ParseError}
 use Rattle.dns_name.specs.declared.parser.Parser.{Parser}
 use Rattle.dns_name.specs.declared.parsed_name.ParsedName.{ParsedName}
-use Rattle.dns_name.proofs.AnswerLaws.{not_both, one_fault, standing_short}
-use Rattle.dns_name.proofs.WalkLaws.{end_or_fault, skip_fault, one_end}
+use Rattle.dns_name.proofs.theory.AnswerLaws.{not_both, one_fault, standing_short}
+use Rattle.dns_name.proofs.theory.WalkLaws.{end_or_fault, skip_fault, one_end}
 
 pub reads_standing : (old new : Parser) (r : Result ParsedName ParseError) → ParsesName old new r → ReadsStanding (seen old) (place old) r
 reads_standing old new (Ok name) h other x = same_name (seen old) h.0 x

@@ -7,11 +7,11 @@ use Rattle.dns_name.specs.Names.{Labels, IsLabel, uncompressed}
 use Rattle.dns_name.specs.Heads.{head_at}
 use Rattle.dns_name.specs.Standing.{Stands, label_at}
 use Rattle.dns_name.specs.declared.head.Head.TheVariants.{Root, Label, Pointer}
-use Rattle.dns_name.proofs.AnswerLaws.{standing_name}
-use Rattle.dns_name.proofs.HeadLemmas.{root_begins, label_begins}
-use Rattle.dns_name.proofs.LabelsLemmas.{length-uncompressed}
+use Rattle.dns_name.proofs.theory.AnswerLaws.{standing_name}
+use Rattle.dns_name.proofs.theory.HeadLemmas.{root_begins, label_begins}
+use Rattle.dns_name.proofs.theory.LabelsLemmas.{length-uncompressed}
 use Rattle.dns_name.proofs.Places.{at_root, at_label}
-use Rattle.dns_name.proofs.Spelling.{drop_label, drop_root, get_drop}
+use Rattle.dns_name.proofs.theory.Spelling.{drop_label, drop_root, get_drop}
 use Rattle.dns_name.proofs.Walks.{length_label}
 
 -- How far a name is known to stand without a pointer: labels lead from start to at, where the rest of it stands.

@@ -9,7 +9,7 @@ use Rattle.dns_name.specs.declared.head.Head.TheVariants.{Root, Label, Pointer}
 use Rattle.dns_name.specs.Unique.{NameAt}
 use Rattle.dns_name.specs.Label.{IsFirst, label_octets}
 use Rattle.dns_name.specs.declared.label.Label.{Label as LabelOf}
-use Rattle.dns_name.proofs.HeadLemmas.{label_head}
+use Rattle.dns_name.proofs.theory.HeadLemmas.{label_head}
 
 module _ (b : List ℕ) where
   -- the parts of a name that begins with a label

@@ -10,7 +10,7 @@ use Rattle.dns_name.specs.Standing.{Stands, Faulty, FaultAt, label_at}
 use Rattle.dns_name.specs.Walking.{WalkedBehind, Walked, SkipFaulty, SkipFaultAt}
 use Rattle.dns_name.specs.Unique.{NameOfSize}
 use Rattle.dns_name.specs.declared.head.Head.TheVariants.{Root, Label, Pointer}
-use Rattle.dns_name.proofs.HeadLemmas.{root_within, pointer_within}
+use Rattle.dns_name.proofs.theory.HeadLemmas.{root_within, pointer_within}
 
 pub length_label : (b : List ℕ) (p n : ℕ) → p + 1 + n ≤ length b → length (label_at b p n) ≡ n
 length_label b p n h = simp (length-take, length-drop) (omega arith)

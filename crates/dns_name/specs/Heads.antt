@@ -5,6 +5,10 @@ use Rattle.dns_name.specs.Fault.Fault.{ShortInput, Form}
 use Rattle.dns_name.specs.declared.head.Head.{Head}
 use Rattle.dns_name.specs.declared.head.Head.TheVariants.{Root, Label, Pointer}
 
+-- pointers lead to places before this one: 14 bits tell a place
+abbrev pub pointer_end : ℕ
+pointer_end = 16384
+
 -- an octet with high bits 11 and the octet behind it are a pointer; the other 14 bits are the place that it leads to
 abbrev pub pointer_of : ℕ → Option ℕ → Result Head Fault
 pointer_of first None = Err ShortInput

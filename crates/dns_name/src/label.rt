@@ -50,7 +50,8 @@ impl<'a> Label<'a> {
 
     /// Whether the octets are the same, with ASCII letters lowercased.
     pub(crate) fn is_same(&self, other: &Label<'_>) -> bool
-        ensures { IsTrue result ↔ (lowered_label (label_octets self.now) ≡ lowered_label (label_octets other.now)) }
+        ensures { IsTrue result ↔ (lowered_label (label_octets self.now)
+            ≡ lowered_label (label_octets other.now)) }
     {
         self.octets.eq_ignore_ascii_case(other.octets)
     }
@@ -65,7 +66,8 @@ impl<'a> Label<'a> {
     /// The first label of the name at a place, and the place behind it.
     pub(crate) fn first_at(octets: &'a [u8], pos: usize) -> (Label<'a>, usize)
         requires { NameAt octets.now pos }
-        ensures { (name : Labels) → Stands octets.now pos name → IsFirst octets.now name result.0 result.1 }
+        ensures { (name : Labels) → Stands octets.now pos name
+            → IsFirst octets.now name result.0 result.1 }
     {
         let mut at = pos;
         'walk: loop {

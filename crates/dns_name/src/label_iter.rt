@@ -23,7 +23,8 @@ impl<'a> LabelIter<'a> {
     /// The labels of the name at the place, which take so many octets.
     pub(crate) fn new(octets: &'a [u8], pos: usize, size: usize) -> Self
         requires { NameOfSize octets.now pos size }
-        ensures { (name : Labels) → Stands octets.now pos name → labels_left result ≡ with_root name }
+        ensures { (name : Labels) → Stands octets.now pos name → labels_left result
+            ≡ with_root name }
     {
         LabelIter {
             octets,

@@ -19,7 +19,8 @@ fn vec_name<S: Octets>(alloc: Global, source: &Name<S>) -> Result<Name<Vec<u8>>,
 fn array_name<S: Octets, const N: usize>(
     source: &Name<S>,
 ) -> Result<Name<ArrayVec<u8, N>>, AppendError>
-    ensures { Converts result (λ name. name_labels name ≡ name_labels source.now) (N < length (uncompressed (name_labels source.now))) ⊥ }
+    ensures { Converts result (λ name. name_labels name ≡ name_labels source.now)
+        (N < length (uncompressed (name_labels source.now))) ⊥ }
 {
     let Ok(octets) = ArrayVec::try_from(source.as_slice()) else {
         return Err(AppendError::ShortBuf);

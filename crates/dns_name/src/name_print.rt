@@ -39,7 +39,8 @@ fn write_octet<W: fmt::Write>(f: &mut fmt::Formatter<W>, octet: u8) -> fmt::Resu
 
 /// Prints a label.
 fn write_label<W: fmt::Write>(f: &mut fmt::Formatter<W>, label: Label<'_>) -> fmt::Result
-    ensures { WritesOnOk W.write_str_gives f.old result (label_text (label_octets label.entry)) f.new }
+    ensures { WritesOnOk W.write_str_gives f.old result (label_text (label_octets label.entry))
+        f.new }
 {
     for octet in label.as_slice() {
         write_octet(f, *octet)?;

@@ -103,7 +103,8 @@ fn next_octet(
 fn read_label(text: &[u8], size: usize) -> Result<(ArrayVec<u8, 63>, &[u8]), PresentationError>
     requires some { 0 < length text.now }
     requires room { size ≤ max_size }
-    ensures { MatchResult result (λ read. LabelFirst text.now size read.0.items read.1.now) (λ f. NameTextFaulty text.now 0 size f) }
+    ensures { MatchResult result (λ read. LabelFirst text.now size read.0.items read.1.now)
+        (λ f. NameTextFaulty text.now 0 size f) }
 {
     let mut label = ArrayVec::new();
     let mut left = text;
@@ -117,7 +118,8 @@ fn read_label(text: &[u8], size: usize) -> Result<(ArrayVec<u8, 63>, &[u8]), Pre
 /// Reads labels with dots between them, into the octets of the name.
 fn read_labels(text: &[u8]) -> Result<ArrayVec<u8, 255>, PresentationError>
     requires { 0 < length text.now }
-    ensures { MatchResult result (λ octets. AreOctets (SpellsLabels text.now) octets.items) (λ f. NameTextFaulty text.now 0 0 f) }
+    ensures { MatchResult result (λ octets. AreOctets (SpellsLabels text.now) octets.items)
+        (λ f. NameTextFaulty text.now 0 0 f) }
 {
     let mut octets = ArrayVec::new();
     let mut left = text;
@@ -135,7 +137,8 @@ fn read_labels(text: &[u8]) -> Result<ArrayVec<u8, 255>, PresentationError>
 
 /// Reads the octets of the name that the text spells. A dot alone is the root.
 fn read_name(text: &[u8]) -> Result<ArrayVec<u8, 255>, PresentationError>
-    ensures { MatchResult result (λ octets. AreOctets (SpellsName text.now) octets.items) (NameTextFault text.now) }
+    ensures { MatchResult result (λ octets. AreOctets (SpellsName text.now) octets.items)
+        (NameTextFault text.now) }
 {
     if text.is_empty() {
         return Err(PresentationError::EmptyLabel);

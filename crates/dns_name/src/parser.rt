@@ -66,7 +66,8 @@ impl<'a> Parser<'a> {
     /// Goes to a place, at most the end. A place past it is `ShortInput`.
     pub fn seek(&mut self, pos: usize) -> Result<(), ParseError>
         ensures ok { OnOk result ((pos ≤ length (seen self.old)) × MovesTo self.old self.new pos) }
-        ensures err { IfErr result (λ e. (length (seen self.old) < pos) × (e ≡ ParseError.ShortInput) × (self.new ≡ self.old)) }
+        ensures err { IfErr result (λ e. (length (seen self.old) < pos)
+            × (e ≡ ParseError.ShortInput) × (self.new ≡ self.old)) }
     {
         if pos > self.end {
             return Err(ParseError::ShortInput);
@@ -77,7 +78,8 @@ impl<'a> Parser<'a> {
 
     /// The next `n` octets; the parser stays. Where they aren't there it is `ShortInput`.
     pub fn peek(&self, n: usize) -> Result<&'a [u8], ParseError>
-        ensures { Peeks self.now n result (λ octets. octets.now ≡ slice_range (seen self.now) (place self.now) (place self.now + n)) }
+        ensures { Peeks self.now n result (λ octets. octets.now
+            ≡ slice_range (seen self.now) (place self.now) (place self.now + n)) }
     {
         if n > self.remaining() {
             return Err(ParseError::ShortInput);
@@ -87,7 +89,8 @@ impl<'a> Parser<'a> {
 
     /// Reads a number of two octets, the higher one first, and passes it.
     pub fn parse_u16_be(&mut self) -> Result<u16, ParseError>
-        ensures { Takes self.old self.new 2 result (λ value. value ≡ number_at w16 (seen self.old) (place self.old)) }
+        ensures { Takes self.old self.new 2 result
+            (λ value. value ≡ number_at w16 (seen self.old) (place self.old)) }
     {
         let octets = self.peek(2)?;
         let value = u16::from_be_bytes([octets[0], octets[1]]);
@@ -97,7 +100,8 @@ impl<'a> Parser<'a> {
 
     /// Reads a number of four octets, the highest one first, and passes it.
     pub fn parse_u32_be(&mut self) -> Result<u32, ParseError>
-        ensures { Takes self.old self.new 4 result (λ value. value ≡ number_at w32 (seen self.old) (place self.old)) }
+        ensures { Takes self.old self.new 4 result
+            (λ value. value ≡ number_at w32 (seen self.old) (place self.old)) }
     {
         let octets = self.peek(4)?;
         let value = u32::from_be_bytes([octets[0], octets[1], octets[2], octets[3]]);
@@ -109,7 +113,10 @@ impl<'a> Parser<'a> {
     ///
     /// The inner parser sees all octets before its end, so pointers in it reach what stands before it.
     pub fn parse_parser(&mut self, n: usize) -> Result<Parser<'a>, ParseError>
-        ensures { Takes self.old self.new n result (λ inner. (input inner ≡ input self.old) × (seen inner ≡ take (place self.old + n) (seen self.old)) × (place inner ≡ place self.old)) }
+        ensures { Takes self.old self.new n result
+            (λ inner. (input inner ≡ input self.old)
+            × (seen inner ≡ take (place self.old + n) (seen self.old))
+            × (place inner ≡ place self.old)) }
     {
         let mut inner = *self;
         self.advance(n)?;

@@ -1,10 +1,7 @@
-pub mod Names
-pub mod QuestionEntryLemmas
-pub mod QuestionItemLemmas
+pub mod theory
 pub mod QuestionLemmas
 pub mod FieldWords
 pub mod WordLemmas
 pub mod QuestionTextLemmas
 pub mod SpelledNumbers
 pub mod OneWords
-pub mod OneAnswer

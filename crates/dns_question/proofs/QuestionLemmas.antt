@@ -17,7 +17,7 @@ use Rattle.dns_question.specs.QuestionEntries.QuestionFaultAt.{short as short_qu
 use Rattle.dns_question.specs.QuestionEntries.QuestionSkipFaultAt.{short as unended_question}
 use Rattle.dns_question.specs.Question.{ParsesQuestion, ReadsReadable, SkipsOverQuestion}
 use Rattle.dns_question.specs.declared.question.Question.{Question}
-use Rattle.dns_question.proofs.QuestionEntryLemmas.{question_or_fault, question_end_or_fault}
+use Rattle.dns_question.proofs.theory.QuestionEntryLemmas.{question_or_fault, question_end_or_fault}
 
 -- the octets behind a passed name that ends at the place are too few
 pub unended : (old mid : Parser) (e : ParseError) → MovesBehindName old mid → length (seen mid) < place mid + 4 → e ≡ ShortInput → QuestionSkipFaultAt (seen old) (place old) (fault_of e)

@@ -14,8 +14,8 @@ use Rattle.dns_code.specs.Mnemonics.{Mnemonics, type_mnemonics, class_mnemonics}
 use Rattle.dns_code.specs.NumberTexts.{IsMnemonic, IsNumbered, Spells}
 use Rattle.dns_code.specs.Tables.{is_distinct, is_apart}
 use Rattle.dns_code.specs.Types.{SpellsType}
-use Rattle.dns_code.proofs.MnemonicLemmas.{is_text, one_number}
-use Rattle.dns_code.proofs.NumberedLemmas.{numbered_is, spells_mnemonic, spells_numbered}
+use Rattle.dns_code.proofs.theory.MnemonicLemmas.{is_text, one_number}
+use Rattle.dns_code.proofs.theory.NumberedLemmas.{numbered_is, spells_mnemonic, spells_numbered}
 
 -- a fact holds of one number, or of none
 abbrev pub OneOrNone : (ℕ → Type 0) → Type 0

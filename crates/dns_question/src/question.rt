@@ -122,8 +122,10 @@ impl Question<()> {
     /// Then the parser stays.
     pub fn skip(parser: &mut Parser<'_>) -> Result<(), ParseError>
         ensures skips { SkipsOverQuestion parser.old parser.new result }
-        ensures skippable { (q : ℕ) → SkipsQuestion (seen parser.old) (place parser.old) q → IsOk result }
-        ensures fault { AnswersFault (QuestionSkipFaultAt (seen parser.old) (place parser.old)) result }
+        ensures skippable { (q : ℕ) → SkipsQuestion (seen parser.old) (place parser.old) q
+            → IsOk result }
+        ensures fault { AnswersFault (QuestionSkipFaultAt (seen parser.old) (place parser.old))
+            result }
     {
         Question::pass(parser)
     }
@@ -145,7 +147,9 @@ impl<N: ToName> Question<N> {
     /// Where it is refused the content still begins with the old one, and a `truncate` to the old length gives the old
     /// target back.
     pub fn compose<T: Composer>(&self, target: &mut T) -> Result<(), AppendError>
-        ensures composes { Composes T.room T.grows (put_question T.rule (question_item N.name self.now)) (T.written target.old) (T.written target.new) result }
+        ensures composes { Composes T.room T.grows
+            (put_question T.rule (question_item N.name self.now)) (T.written target.old)
+            (T.written target.new) result }
         ensures item { IsQuestion (question_item N.name self.now) }
     {
         let [a, b] = self.qtype().to_int().to_be_bytes();
@@ -164,7 +168,8 @@ pub trait ComposeQuestion {
 
     /// Appends the question, as `Question::compose` does.
     fn compose_question<T: Composer>(&self, target: &mut T) -> Result<(), AppendError>
-        ensures composes { Composes T.room T.grows (put_question T.rule (question self.now)) (T.written target.old) (T.written target.new) result }
+        ensures composes { Composes T.room T.grows (put_question T.rule (question self.now))
+            (T.written target.old) (T.written target.new) result }
         ensures item { IsQuestion (question self.now) };
 }
 

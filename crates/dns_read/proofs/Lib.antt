@@ -1,6 +1,6 @@
+pub mod theory
 pub mod ReadingLemmas
 pub mod StartLemmas
-pub mod QuestionsFromLemmas
 pub mod RecordsFromLemmas
 pub mod HeaderLemmas
 pub mod CursorLemmas

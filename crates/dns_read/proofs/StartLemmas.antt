@@ -2,8 +2,8 @@
 use Rattle.std.proofs.Common.{◌≡◌, ℕ, zero, suc, ◌⊎◌, inl, inr, List, sym, ◌∙◌, refl, subst}
 use Rattle.dns_name.specs.Fault.{Fault}
 use Rattle.dns_name.specs.EachPlace.{EndsOrFaults}
-use Rattle.dns_question.proofs.QuestionEntryLemmas.{question_end_or_fault}
-use Rattle.dns_item.proofs.EntryLemmas.{record_end_or_fault}
+use Rattle.dns_question.proofs.theory.QuestionEntryLemmas.{question_end_or_fault}
+use Rattle.dns_item.proofs.theory.EntryLemmas.{record_end_or_fault}
 use Rattle.dns_read.specs.Reading.{Passed, StopsPassing}
 use Rattle.dns_read.specs.Reading.Passed.{none, more}
 use Rattle.dns_read.specs.Reading.StopsPassing.{here, behind}

@@ -5,8 +5,8 @@ use Rattle.dns_name.specs.Fault.{Fault}
 use Rattle.dns_question.specs.QuestionEntries.{ReadsQuestion, QuestionFaultAt}
 use Rattle.dns_item.specs.Entries.{ReadsRecord, RecordFaultAt}
 use Rattle.dns_name.specs.EachPlace.{ReadsOrFaults}
-use Rattle.dns_question.proofs.QuestionEntryLemmas.{question_or_fault}
-use Rattle.dns_item.proofs.EntryLemmas.{record_or_fault}
+use Rattle.dns_question.proofs.theory.QuestionEntryLemmas.{question_or_fault}
+use Rattle.dns_item.proofs.theory.EntryLemmas.{record_or_fault}
 use Rattle.dns_read.specs.Reading.{Reading}
 use Rattle.dns_read.specs.Reading.Reading.{none, entry, stop}
 use Rattle.dns_read.specs.Readings.{OneReading, OneReadingOfQuestions, OneReadingOfRecords}

@@ -21,7 +21,8 @@ fn vec_message<S: Octets>(
 fn array_message<S: Octets, const N: usize>(
     source: &Message<S>,
 ) -> Result<Message<ArrayVec<u8, N>>, AppendError>
-    ensures { Converts result (λ message. message_octets message ≡ message_octets source.now) (N < length (message_octets source.now)) ⊥ }
+    ensures { Converts result (λ message. message_octets message ≡ message_octets source.now)
+        (N < length (message_octets source.now)) ⊥ }
 {
     let Ok(octets) = ArrayVec::try_from(source.as_slice()) else {
         return Err(AppendError::ShortBuf);

@@ -116,7 +116,8 @@ impl<Octs: Octets> Message<Octs> {
 
     /// The counts of the sections.
     pub fn header_counts(&self) -> HeaderCounts
-        ensures octets { counts_octets result ≡ slice_range (message_octets self.now) 4 header_size }
+        ensures octets { counts_octets result
+            ≡ slice_range (message_octets self.now) 4 header_size }
         ensures qdcount { (counts result).qdcount ≡ question_count (message_octets self.now) }
         ensures ancount { (counts result).ancount ≡ answer_count (message_octets self.now) }
         ensures nscount { (counts result).nscount ≡ authority_count (message_octets self.now) }
@@ -151,7 +152,8 @@ impl<Octs: Octets> Message<Octs> {
         ensures octets { octets_of result ≡ message_octets self.now }
         ensures position { position result ≡ header_size }
         ensures count { to_come result ≡ Ok (question_count (message_octets self.now)) }
-        ensures questions { let b = message_octets self.now in questions_left result ≡ questions_from b (question_count b) header_size }
+        ensures questions { let b = message_octets self.now in questions_left result
+            ≡ questions_from b (question_count b) header_size }
     {
         QuestionSection::new(self.as_slice())
     }
@@ -161,14 +163,16 @@ impl<Octs: Octets> Message<Octs> {
         ensures octets { octets_of result ≡ message_octets self.now }
         ensures position { position result ≡ header_size }
         ensures count { to_come result ≡ Ok (question_count (message_octets self.now)) }
-        ensures questions { let b = message_octets self.now in questions_left result ≡ questions_from b (question_count b) header_size }
+        ensures questions { let b = message_octets self.now in questions_left result
+            ≡ questions_from b (question_count b) header_size }
     {
         self.question()
     }
 
     /// The answer section, behind the questions. The fault of the first question that can't be skipped is answered.
     pub fn answer(&self) -> Result<RecordSection<'_>, ParseError>
-        ensures starts { IfOk result (λ section. BeginsSection Answer (message_octets self.now) section) }
+        ensures starts { IfOk result (λ section. BeginsSection Answer (message_octets self.now)
+            section) }
         ensures fault { IfErr result (λ e. AnswersFault (message_octets self.now) (fault_of e)) }
     {
         self.question().answer()
@@ -176,7 +180,8 @@ impl<Octs: Octets> Message<Octs> {
 
     /// The prerequisite section of an UPDATE message, which is the answer section (RFC 2136 section 2.4).
     pub fn prerequisite(&self) -> Result<RecordSection<'_>, ParseError>
-        ensures starts { IfOk result (λ section. BeginsSection Answer (message_octets self.now) section) }
+        ensures starts { IfOk result (λ section. BeginsSection Answer (message_octets self.now)
+            section) }
         ensures fault { IfErr result (λ e. AnswersFault (message_octets self.now) (fault_of e)) }
     {
         self.answer()
@@ -185,16 +190,20 @@ impl<Octs: Octets> Message<Octs> {
     /// The authority section, behind the answer section. The fault of the first entry before it that can't be skipped is
     /// answered.
     pub fn authority(&self) -> Result<RecordSection<'_>, ParseError>
-        ensures starts { IfOk result (λ section. BeginsSection Authority (message_octets self.now) section) }
-        ensures fault { IfErr result (λ e. AuthoritiesFault (message_octets self.now) (fault_of e)) }
+        ensures starts { IfOk result (λ section. BeginsSection Authority (message_octets self.now)
+            section) }
+        ensures fault { IfErr result (λ e. AuthoritiesFault (message_octets self.now)
+            (fault_of e)) }
     {
         self.answer()?.following()
     }
 
     /// The update section of an UPDATE message, which is the authority section (RFC 2136 section 2.5).
     pub fn update(&self) -> Result<RecordSection<'_>, ParseError>
-        ensures starts { IfOk result (λ section. BeginsSection Authority (message_octets self.now) section) }
-        ensures fault { IfErr result (λ e. AuthoritiesFault (message_octets self.now) (fault_of e)) }
+        ensures starts { IfOk result (λ section. BeginsSection Authority (message_octets self.now)
+            section) }
+        ensures fault { IfErr result (λ e. AuthoritiesFault (message_octets self.now)
+            (fault_of e)) }
     {
         self.authority()
     }
@@ -202,8 +211,10 @@ impl<Octs: Octets> Message<Octs> {
     /// The additional section, behind the authority section. The fault of the first entry before it that can't be skipped
     /// is answered.
     pub fn additional(&self) -> Result<RecordSection<'_>, ParseError>
-        ensures starts { IfOk result (λ section. BeginsSection Additional (message_octets self.now) section) }
-        ensures fault { IfErr result (λ e. AdditionalsFault (message_octets self.now) (fault_of e)) }
+        ensures starts { IfOk result (λ section. BeginsSection Additional (message_octets self.now)
+            section) }
+        ensures fault { IfErr result (λ e. AdditionalsFault (message_octets self.now)
+            (fault_of e)) }
     {
         self.authority()?.following()
     }
@@ -221,11 +232,16 @@ impl<Octs: Octets> Message<Octs> {
         ),
         ParseError,
     >
-        ensures question { IfOk result (λ sections. BeginsQuestions (message_octets self.now) sections.0) }
-        ensures answer { IfOk result (λ sections. BeginsSection Answer (message_octets self.now) sections.1) }
-        ensures authority { IfOk result (λ sections. BeginsSection Authority (message_octets self.now) sections.2) }
-        ensures additional { IfOk result (λ sections. BeginsSection Additional (message_octets self.now) sections.3) }
-        ensures fault { IfErr result (λ e. AdditionalsFault (message_octets self.now) (fault_of e)) }
+        ensures question { IfOk result (λ sections. BeginsQuestions (message_octets self.now)
+            sections.0) }
+        ensures answer { IfOk result (λ sections. BeginsSection Answer (message_octets self.now)
+            sections.1) }
+        ensures authority { IfOk result (λ sections. BeginsSection Authority
+            (message_octets self.now) sections.2) }
+        ensures additional { IfOk result (λ sections. BeginsSection Additional
+            (message_octets self.now) sections.3) }
+        ensures fault { IfErr result (λ e. AdditionalsFault (message_octets self.now)
+            (fault_of e)) }
     {
         let question = self.question();
         let answer = question.answer()?;

@@ -36,7 +36,8 @@ impl<'a> QuestionSection<'a> {
         ensures octets { octets_of result ≡ octets.now }
         ensures position { position result ≡ header_size }
         ensures count { to_come result ≡ Ok (question_count octets.now) }
-        ensures questions { questions_left result ≡ questions_from octets.now (question_count octets.now) header_size }
+        ensures questions { questions_left result
+            ≡ questions_from octets.now (question_count octets.now) header_size }
     {
         let mut parser = Parser::new(octets);
         parser.advance(12).unwrap();
@@ -97,7 +98,8 @@ impl<'a> QuestionSection<'a> {
 
 /// Passes so many questions.
 fn skip_questions(parser: &mut Parser<'_>, count: u16) -> Result<(), ParseError>
-    ensures { SkipsAll (SkipsQuestion (seen parser.old)) (QuestionSkipFaultAt (seen parser.old)) count parser.old parser.new result }
+    ensures { SkipsAll (SkipsQuestion (seen parser.old)) (QuestionSkipFaultAt (seen parser.old))
+        count parser.old parser.new result }
 {
     for _question in 0..count {
         Question::skip(parser)?;

@@ -109,7 +109,8 @@ impl<'a> RecordSection<'a> {
 
 /// Passes so many records.
 fn skip_records(parser: &mut Parser<'_>, count: u16) -> Result<(), ParseError>
-    ensures { SkipsAll (SkipsRecord (seen parser.old)) (RecordSkipFaultAt (seen parser.old)) count parser.old parser.new result }
+    ensures { SkipsAll (SkipsRecord (seen parser.old)) (RecordSkipFaultAt (seen parser.old)) count
+        parser.old parser.new result }
 {
     for _record in 0..count {
         ParsedRecord::skip(parser)?;

@@ -13,11 +13,11 @@ use Rattle.dns_wire.specs.Spelled.{At}
 use Rattle.dns_wire.specs.Spelling.{IsSuffix, IsShared}
 use Rattle.dns_wire.specs.SpellingLaws.{SharesAll}
 use Rattle.dns_wire.specs.PartsWritten.{LabelsNear}
-use Rattle.dns_wire.proofs.FilledPlaces.{near_label}
-use Rattle.dns_wire.proofs.OctetsAt.{label_begins, label_part, behind_label}
-use Rattle.dns_wire.proofs.Remembered.{get-insert_same}
-use Rattle.dns_wire.proofs.PutNames.{Each, found}
-use Rattle.dns_name.proofs.Spelling.{name_tail}
+use Rattle.dns_wire.proofs.theory.FilledPlaces.{near_label}
+use Rattle.dns_wire.proofs.theory.OctetsAt.{label_begins, label_part, behind_label}
+use Rattle.dns_wire.proofs.theory.Remembered.{get-insert_same}
+use Rattle.dns_wire.proofs.theory.PutNames.{Each, found}
+use Rattle.dns_name.proofs.theory.Spelling.{name_tail}
 
 -- what is remembered is what is shared
 pub record Knows (m : Memory) (names : List Labels) : Type 0 where

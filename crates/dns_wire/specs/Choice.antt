@@ -3,6 +3,7 @@ use Rattle.std.specs.Prelude.{◌≡◌, ℕ, zero, suc, ◌+◌, ◌<◌, ◌�
 use Rattle.std.specs.List.{flat_map}
 use Rattle.std.specs.FinMap.{get, len}
 use Rattle.dns_name.specs.Names.{Labels, framed, name_size, uncompressed}
+use Rattle.dns_name.specs.Heads.{pointer_end}
 use Rattle.dns_wire.specs.Memory.{Memory, Spot, remember}
 use Rattle.dns_wire.specs.Pieces.{Rule, Plain, Static, Tree, Hash, Laid}
 use Rattle.dns_wire.specs.PutName.{pointer, put_name}
@@ -30,11 +31,11 @@ EndsWith m others end = ((others ≡ []) × (end ≡ 0 ∷ [])) ⊎ ((x : Spot) 
 -- a label that is too far to be remembered, where so many suffixes are held
 abbrev pub IsFar : Rule → ℕ → ℕ → Type 0
 IsFar Plain held place = Unit {0}
-IsFar Static held place = (16384 ≤ place) ⊎ (24 ≤ held)
-IsFar Tree held place = 16384 ≤ place
+IsFar Static held place = (pointer_end ≤ place) ⊎ (24 ≤ held)
+IsFar Tree held place = pointer_end ≤ place
 IsFar Hash held place = ⊥
 
--- the text of a name at w, and the suffixes that are written out and not too far
+-- the octets of a name at w, and the suffixes that are written out and not too far
 pub data Chooses (rule : Rule) (m : Memory) (w held : ℕ) (name : Labels) : List ℕ → List (Labels × ℕ) → Type 0 where
   -- no label before the known suffix is too far
   shared : (j : ℕ) (end : List ℕ) → IsFirstKnown m name j → EndsWith m (drop j name) end
@@ -53,15 +54,15 @@ IsAmong t (s ∷ ss) = (t ≡ s) ⊎ IsAmong t ss
 -- the name is written as chosen, and the suffixes are remembered
 pub record PutsByChoice (rule : Rule) (m : Memory) (w : ℕ) (name : Labels) (laid : Laid) : Type 0 where
   pub suffixes : List (Labels × ℕ)
-  pub chooses : Chooses rule m w (len m) name laid.text suffixes
-  pub memory : laid.memory ≡ remember m suffixes (w + length laid.text)
+  pub chooses : Chooses rule m w (len m) name laid.octets suffixes
+  pub memory : laid.memory ≡ remember m suffixes (w + length laid.octets)
 
 -- the same, but nothing is remembered where one of the suffixes stands too far for a pointer
 pub record PutsByHash (m : Memory) (w : ℕ) (name : Labels) (laid : Laid) : Type 0 where
   pub suffixes : List (Labels × ℕ)
-  pub chooses : Chooses Hash m w (len m) name laid.text suffixes
-  pub memory : (((s : Labels × ℕ) → IsAmong s suffixes → s.1 < 16384) × (laid.memory ≡ remember m suffixes (w + length laid.text)))
-      ⊎ (((s : Labels × ℕ) × IsAmong s suffixes × (16384 ≤ s.1)) × (laid.memory ≡ m))
+  pub chooses : Chooses Hash m w (len m) name laid.octets suffixes
+  pub memory : (((s : Labels × ℕ) → IsAmong s suffixes → s.1 < pointer_end) × (laid.memory ≡ remember m suffixes (w + length laid.octets)))
+      ⊎ (((s : Labels × ℕ) × IsAmong s suffixes × (pointer_end ≤ s.1)) × (laid.memory ≡ m))
 
 -- each compressor writes a name by the first suffix that it knows and the first label that is too far
 pub record NamesByChoice : Type 0 where

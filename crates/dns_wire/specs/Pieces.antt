@@ -1,4 +1,4 @@
--- What is written: text that goes to the end of a content, and what is remembered of it.
+-- What is written: octets that go to the end of a content, and what is remembered of it.
 use Rattle.std.specs.Prelude.{ℕ, ◌+◌, Bool, true, false, List, ◌++◌, length}
 use Rattle.std.specs.Int.{to_be_bytes, w16}
 use Rattle.dns_wire.specs.Memory.{Extends, Memory}
@@ -17,9 +17,9 @@ compresses Static = true
 compresses Tree = true
 compresses Hash = true
 
--- text, and what is remembered once it is written
+-- octets, and what is remembered once they are written
 pub record Laid : Type 0 where
-  pub text : List ℕ
+  pub octets : List ℕ
   pub memory : Memory
 
 -- what is written may depend on what is remembered and on the place
@@ -28,21 +28,21 @@ Piece = Memory → ℕ → Laid
 
 -- these octets as they are; nothing of them is remembered
 abbrev pub put_octets : List ℕ → Piece
-put_octets octets m w = record { text = octets; memory = m }
+put_octets octets m w = record { octets = octets; memory = m }
 
 -- one piece and another behind it
 abbrev pub both : Piece → Piece → Piece
 both a b m w =
     let first = a m w in
-    let second = b first.memory (w + length first.text) in
-    record { text = first.text ++ second.text; memory = second.memory }
+    let second = b first.memory (w + length first.octets) in
+    record { octets = first.octets ++ second.octets; memory = second.memory }
 
 -- the length of what a piece writes, in two octets, and then the piece
 abbrev pub with_length : Piece → Piece
 with_length piece m w =
     let laid = piece m (w + 2) in
-    record { text = to_be_bytes w16 (length laid.text) ++ laid.text; memory = laid.memory }
+    record { octets = to_be_bytes w16 (length laid.octets) ++ laid.octets; memory = laid.memory }
 
 -- a piece remembers only suffixes that it writes
 pub record IsGrowing (piece : Piece) : Type 0 where
-  pub grows : (m : Memory) (w : ℕ) → Extends m (piece m w).memory w (w + length (piece m w).text)
+  pub grows : (m : Memory) (w : ℕ) → Extends m (piece m w).memory w (w + length (piece m w).octets)

@@ -2,6 +2,7 @@
 use Rattle.std.specs.Prelude.{◌≡◌, ℕ, ◌+◌, ◌≤◌, ◌<◌, Some, List, [], ◌∷◌, length, slice_range}
 use Rattle.std.specs.FinMap.{get}
 use Rattle.dns_name.specs.Names.{Labels, IsLabel, name_size, max_size, framed}
+use Rattle.dns_name.specs.Heads.{pointer_end}
 use Rattle.dns_wire.specs.Memory.{Memory, Spot}
 use Rattle.dns_wire.specs.PutName.{pointer as pointer_octets}
 
@@ -23,7 +24,7 @@ Labelled m b q p (first ∷ rest) = IsLabel first × At b p (framed first) × Sp
 
 -- A remembered suffix: a pointer can lead to it, a label begins there, and the octets up to the name's end spell it.
 pub record Kept (b : List ℕ) (m : Memory) (s : Labels) (x : Spot) : Type 0 where
-  pub near : x.place < 16384
+  pub near : x.place < pointer_end
   pub short : name_size s ≤ max_size
   pub spelled : Labelled m b x.end x.place s
 

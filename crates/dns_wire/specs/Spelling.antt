@@ -14,7 +14,7 @@ abbrev pub IsShared : List Labels → Labels → Type 0
 IsShared [] suffix = ⊥
 IsShared (name ∷ names) suffix = IsSuffix suffix name ⊎ IsShared names suffix
 
--- Behind earlier names, the last of them first, the parts have a spelling of so many octets. Octets are as they are. A name is one free choice: all its labels, and one octet behind them; or some first labels, perhaps none, and two octets in place of the rest, which is a suffix of an earlier name.
+-- Behind the names `earlier`, the newest first, the parts have a spelling of so many octets. Octets are as they are. A name is one free choice: all its labels, and one octet behind them; or some first labels, perhaps none, and two octets for the rest, which is a suffix of an earlier name.
 pub data Spelling : List Labels → List Part → ℕ → Type 0 where
   none : {earlier : List Labels} → Spelling earlier [] 0
   octets : {earlier : List Labels} {xs : List ℕ} {parts : List Part} {n : ℕ} → Spelling earlier parts n

@@ -2,7 +2,7 @@
 use Rattle.std.specs.Prelude.{◌≡◌, ℕ, ◌<◌, ◌≤◌, Some, Ok, List, ◌++◌, length, take, ◌⊎◌, ◌+◌, Bool, Option, Result, Err}
 use Rattle.std.specs.FinMap.{get}
 use Rattle.dns_name.specs.Names.{Labels, IsName, uncompressed}
-use Rattle.dns_name.specs.Heads.{head_at}
+use Rattle.dns_name.specs.Heads.{head_at, pointer_end}
 use Rattle.dns_name.specs.Standing.{Stands}
 use Rattle.dns_name.specs.Walking.{Walked}
 use Rattle.dns_wire.specs.StandsIn.{StandsIn, Agree}
@@ -40,7 +40,7 @@ StandsWhenOverwritten = (t : Written) (place : ℕ) (octets : List ℕ) (lo hi p
 
 -- What follows of each suffix that is remembered: a pointer can lead to it, a label begins there, and it stands there, also where only the octets up to its name's end are seen.
 pub record Recalled (b : List ℕ) (s : Labels) (x : Spot) : Type 0 where
-  pub near : x.place < 16384
+  pub near : x.place < pointer_end
   pub ordered : x.place < x.end
   pub within : x.end ≤ length b
   pub labelled : (n : ℕ) × (head_at b x.place ≡ Ok (Label n))
@@ -121,7 +121,7 @@ PartsReadBack = (rule : Rule) (t : Written) (parts : List Part) → AreParts par
 
 -- what is written of a name takes at most its octets without pointers
 abbrev pub NamesAreShort : Type 0
-NamesAreShort = (rule : Rule) (name : Labels) (m : Memory) (w : ℕ) → length (put_name rule name m w).text ≤ length (uncompressed name)
+NamesAreShort = (rule : Rule) (name : Labels) (m : Memory) (w : ℕ) → length (put_name rule name m w).octets ≤ length (uncompressed name)
 
 -- one append of a piece composes it
 abbrev pub AppendsCompose : Type 0

@@ -18,7 +18,7 @@ IsTarget t = Remembers t.octets t.memory
 
 -- with a piece behind what is there
 abbrev pub lay : Piece → Written → Written
-lay piece t = let laid = piece t.memory (length t.octets) in record { octets = t.octets ++ laid.text; memory = laid.memory }
+lay piece t = let laid = piece t.memory (length t.octets) in record { octets = t.octets ++ laid.octets; memory = laid.memory }
 
 -- the beginning alone
 abbrev pub cut_to : ℕ → Written → Written

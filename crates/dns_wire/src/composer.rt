@@ -34,11 +34,13 @@ pub trait Composer: Drop {
 
     /// Appends octets as they are. Nothing of them is remembered.
     fn append_slice(&mut self, octets: &[u8]) -> Result<(), AppendError>
-        ensures { Appends room grows (put_octets octets.now) (written self.old) (written self.new) result };
+        ensures { Appends room grows (put_octets octets.now) (written self.old) (written self.new)
+            result };
 
     /// Appends a name, compressed by the target's rule (RFC 1035 section 4.1.4).
     fn append_compressed_name<N: ToName>(&mut self, name: &N) -> Result<(), AppendError>
-        ensures { Appends room grows (put_name rule (N.name name.now)) (written self.old) (written self.new) result };
+        ensures { Appends room grows (put_name rule (N.name name.now)) (written self.old)
+            (written self.new) result };
 
     /// Whether names are compressed.
     fn can_compress(&self) -> bool
@@ -108,7 +110,7 @@ impl Composer for Vec<u8> {
         false
     }
 
-    #[tactic(auto, using(crate::proofs::PlainTargets::cut_nothing))]
+    #[tactic(auto, using(crate::proofs::theory::PlainTargets::cut_nothing))]
     fn truncate(&mut self, len: usize) {
         self.truncate(len);
     }
@@ -164,7 +166,7 @@ impl<const N: usize> Composer for ArrayVec<u8, N> {
         false
     }
 
-    #[tactic(auto, using(crate::proofs::PlainTargets::cut_nothing))]
+    #[tactic(auto, using(crate::proofs::theory::PlainTargets::cut_nothing))]
     fn truncate(&mut self, len: usize) {
         self.truncate(len)
     }

@@ -1,4 +1,4 @@
-use Rattle.dns_code.proofs.NumberedLemmas.{numbered_is}
+use Rattle.dns_code.proofs.theory.NumberedLemmas.{numbered_is}
 use Rattle.dns_code.proofs.mnemonic.numbered.Goals as goal
 
 pub returns : goal.returns

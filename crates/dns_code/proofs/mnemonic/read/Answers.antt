@@ -1,4 +1,4 @@
-use Rattle.dns_code.proofs.NumberedLemmas.{spells_mnemonic, spells_numbered}
+use Rattle.dns_code.proofs.theory.NumberedLemmas.{spells_mnemonic, spells_numbered}
 use Rattle.dns_code.proofs.mnemonic.read.Goals as goal
 
 pub returns-in-Some : goal.returns-in-Some

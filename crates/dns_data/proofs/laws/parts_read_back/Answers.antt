@@ -1,4 +1,4 @@
-use Rattle.dns_data.proofs.StandingParts as parts
+use Rattle.dns_data.proofs.theory.StandingParts as parts
 use Rattle.dns_data.proofs.laws.parts_read_back.Goals as goal
 
 pub returns : goal.returns

@@ -1,5 +1,5 @@
-use Rattle.dns_question.proofs.QuestionItemLemmas as question_items
-use Rattle.dns_item.proofs.ItemLemmas as items
+use Rattle.dns_question.proofs.theory.QuestionItemLemmas as question_items
+use Rattle.dns_item.proofs.theory.ItemLemmas as items
 use Rattle.dns_item.proofs.laws.items_read_back.Goals as goal
 
 pub returns : goal.returns

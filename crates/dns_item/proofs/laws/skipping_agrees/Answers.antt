@@ -1,5 +1,5 @@
-use Rattle.dns_question.proofs.QuestionEntryLemmas as questions
-use Rattle.dns_item.proofs.EntryLemmas as entries
+use Rattle.dns_question.proofs.theory.QuestionEntryLemmas as questions
+use Rattle.dns_item.proofs.theory.EntryLemmas as entries
 use Rattle.dns_item.proofs.laws.skipping_agrees.Goals as goal
 
 pub returns : goal.returns

@@ -1,4 +1,4 @@
-use Rattle.dns_name.proofs.WalkLaws as walks
+use Rattle.dns_name.proofs.theory.WalkLaws as walks
 use Rattle.dns_name.proofs.laws.one_end_or_fault.Goals as goal
 
 pub returns : goal.returns

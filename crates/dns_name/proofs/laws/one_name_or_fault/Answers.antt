@@ -1,6 +1,6 @@
 use Rattle.std.proofs.Common.{inl, inr, arith}
 use Rattle.dns_name.specs.Unique.{same_name}
-use Rattle.dns_name.proofs.AnswerLaws as answers
+use Rattle.dns_name.proofs.theory.AnswerLaws as answers
 use Rattle.dns_name.proofs.laws.one_name_or_fault.Goals as goal
 
 pub returns : goal.returns

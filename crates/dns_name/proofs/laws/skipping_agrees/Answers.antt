@@ -1,6 +1,6 @@
 use Rattle.std.proofs.Common.{arith}
-use Rattle.dns_name.proofs.AnswerLaws as answers
-use Rattle.dns_name.proofs.WalkLaws as walks
+use Rattle.dns_name.proofs.theory.AnswerLaws as answers
+use Rattle.dns_name.proofs.theory.WalkLaws as walks
 use Rattle.dns_name.proofs.Answered.{ends_alike, fails_alike}
 use Rattle.dns_name.proofs.laws.skipping_agrees.Goals as goal
 

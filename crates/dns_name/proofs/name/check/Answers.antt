@@ -6,7 +6,7 @@ use Rattle.dns_name.specs.HeadAnswers.{Begins}
 use Rattle.dns_name.specs.Walking.{WalkedBehind}
 use Rattle.dns_name.specs.Uncompressed.{NotUncompressed}
 use Rattle.dns_name.specs.declared.head.Head.TheVariants.{Root, Label, Pointer}
-use Rattle.dns_name.proofs.Spelling.{spells_none, spells_label, spells_root, spells_more, spells_pointer, spells_fault}
+use Rattle.dns_name.proofs.theory.Spelling.{spells_none, spells_label, spells_root, spells_more, spells_pointer, spells_fault}
 use Rattle.dns_name.proofs.name.check.Goals as goal
 
 pub walk-init : goal.walk-init

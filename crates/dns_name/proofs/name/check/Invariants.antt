@@ -1,5 +1,5 @@
 use Rattle.std.proofs.Common.{◌-◌}
-use Rattle.dns_name.proofs.Spelling.{Spells}
+use Rattle.dns_name.proofs.theory.Spelling.{Spells}
 use Rattle.dns_name.proofs.name.check.Given as goal
 
 abbrev pub invariant-walk : goal.invariant-walk

@@ -1,6 +1,6 @@
 use Rattle.std.proofs.Common.{◌∙◌, sym, subst, arith, ap, length}
 use Rattle.dns_name.specs.Uncompressed.{WholeName}
-use Rattle.dns_name.proofs.NameLemmas.{name_whole, same_names}
+use Rattle.dns_name.proofs.theory.NameLemmas.{name_whole, same_names}
 use Rattle.dns_name.proofs.name_octets.array_name.Goals as goal
 
 pub of_whole-requires : goal.of_whole-requires

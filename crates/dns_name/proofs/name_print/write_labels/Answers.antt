@@ -5,7 +5,7 @@ use Rattle.dns_name.specs.LabelIter.{labels_left}
 use Rattle.dns_name.specs.Names.{with_root}
 use Rattle.dns_name.specs.NameTexts.{label_text}
 use Rattle.dns_name.specs.ParsedName.{labels}
-use Rattle.dns_name.proofs.NameLemmas.{parsed_is}
+use Rattle.dns_name.proofs.theory.NameLemmas.{parsed_is}
 use Rattle.dns_name.proofs.NameTextLemmas.{text_left, all_text_left, one_label_printed}
 use Rattle.dns_name.proofs.name_print.write_labels.Goals as goal
 

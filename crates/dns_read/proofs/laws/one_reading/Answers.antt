@@ -1,4 +1,4 @@
-use Rattle.dns_read.proofs.QuestionsFromLemmas.{questions_from_are_read}
+use Rattle.dns_read.proofs.theory.QuestionsFromLemmas.{questions_from_are_read}
 use Rattle.dns_read.proofs.RecordsFromLemmas.{records_from_are_read}
 use Rattle.dns_read.specs.Unique.{one_reading_of_questions, one_reading_of_records}
 use Rattle.dns_read.proofs.laws.one_reading.Goals as goal

@@ -1,8 +1,8 @@
-use Rattle.dns_wire.proofs.GrowingPieces.{put_name_grows, put_octets_grows, put_parts_grows, both_grows}
-use Rattle.dns_wire.proofs.PieceLaws.{puts_put_name, puts_octets, cut_undoes}
-use Rattle.dns_wire.proofs.SpelledNames.{remembers_cut, remembers_over}
-use Rattle.dns_wire.proofs.Stability.{stands_behind}
-use Rattle.dns_wire.proofs.TargetTheorems.{remembers_what_stands, nothing_is_target, pieces_stay_behind, names_stay_behind}
+use Rattle.dns_wire.proofs.theory.GrowingPieces.{put_name_grows, put_octets_grows, put_parts_grows, both_grows}
+use Rattle.dns_wire.proofs.theory.PieceLaws.{puts_put_name, puts_octets, cut_undoes}
+use Rattle.dns_wire.proofs.theory.SpelledNames.{remembers_cut, remembers_over}
+use Rattle.dns_wire.proofs.theory.Stability.{stands_behind}
+use Rattle.dns_wire.proofs.theory.TargetTheorems.{remembers_what_stands, nothing_is_target, pieces_stay_behind, names_stay_behind}
 use Rattle.dns_wire.proofs.target_laws.memory_is_sound.Goals as goal
 
 pub returns : goal.returns

@@ -1,4 +1,4 @@
-use Rattle.dns_wire.proofs.TargetTheorems as theorems
+use Rattle.dns_wire.proofs.theory.TargetTheorems as theorems
 use Rattle.dns_wire.proofs.target_laws.names_and_parts_read_back.Goals as goal
 
 pub returns : goal.returns

@@ -1,5 +1,5 @@
-use Rattle.dns_wire.proofs.FilledPlaces as places
-use Rattle.dns_wire.proofs.ShortestPieces as pieces
+use Rattle.dns_wire.proofs.theory.FilledPlaces as places
+use Rattle.dns_wire.proofs.theory.ShortestPieces as pieces
 use Rattle.dns_wire.proofs.target_laws.parts_are_shortest.Goals as goal
 
 pub returns : goal.returns

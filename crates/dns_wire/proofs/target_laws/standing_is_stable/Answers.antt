@@ -1,4 +1,4 @@
-use Rattle.dns_wire.proofs.Stability.{agreed, stands_append, stands_in, in_stands, stands_when_overwritten}
+use Rattle.dns_wire.proofs.theory.Stability.{agreed, stands_append, stands_in, in_stands, stands_when_overwritten}
 use Rattle.dns_wire.proofs.target_laws.standing_is_stable.Goals as goal
 
 pub returns : goal.returns

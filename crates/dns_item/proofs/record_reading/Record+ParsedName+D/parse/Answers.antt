@@ -5,7 +5,7 @@ use Rattle.dns_item.specs.Entries.{RecordEntry}
 use Rattle.dns_item.specs.ParsedRecord.{octets_of, parsed_entry}
 use Rattle.dns_item.specs.Record.{record_item}
 use Rattle.dns_item.specs.RecordReading.{IsThere, GivesTaken, GivesBackTaken}
-use Rattle.dns_item.proofs.EntryLemmas.{record_or_fault}
+use Rattle.dns_item.proofs.theory.EntryLemmas.{record_or_fault}
 use Rattle.dns_item.proofs.RecordLemmas.{of_read, behind_read, read_there}
 use Rattle.dns_item.proofs.record_reading.Record+ParsedName+D.parse.Goals as goal
 

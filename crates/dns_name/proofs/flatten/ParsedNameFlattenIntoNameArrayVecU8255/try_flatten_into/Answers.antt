@@ -1,6 +1,6 @@
 use Rattle.std.proofs.Common.{◌∙◌, sym, subst}
 use Rattle.dns_name.specs.Uncompressed.{WholeName}
-use Rattle.dns_name.proofs.NameLemmas.{parsed_whole, same_parsed}
+use Rattle.dns_name.proofs.theory.NameLemmas.{parsed_whole, same_parsed}
 use Rattle.dns_name.proofs.flatten.ParsedNameFlattenIntoNameArrayVecU8255.try_flatten_into.Goals as goal
 
 pub of_whole-requires : goal.of_whole-requires

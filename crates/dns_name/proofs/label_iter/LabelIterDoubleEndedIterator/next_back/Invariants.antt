@@ -1,5 +1,5 @@
 use Rattle.std.proofs.Common.{◌-◌}
-use Rattle.dns_name.proofs.Steps.{Passed}
+use Rattle.dns_name.proofs.theory.Steps.{Passed}
 use Rattle.dns_name.proofs.label_iter.LabelIterDoubleEndedIterator.next_back.Given as goal
 
 abbrev pub invariant-walk : goal.invariant-walk

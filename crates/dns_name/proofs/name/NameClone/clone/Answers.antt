@@ -2,7 +2,7 @@ use Rattle.std.proofs.Common.{◌≡◌, ◌∙◌, subst, rules}
 use Rattle.dns_name.specs.NameLabels.{name_labels}
 use Rattle.dns_name.specs.Uncompressed.{WholeName}
 use Rattle.dns_name.specs.Names.{uncompressed}
-use Rattle.dns_name.proofs.NameLemmas.{name_whole, same_names}
+use Rattle.dns_name.proofs.theory.NameLemmas.{name_whole, same_names}
 use Rattle.dns_name.proofs.name.NameClone.clone.Goals as goal
 
 pub of_whole-requires : goal.of_whole-requires

@@ -1,6 +1,6 @@
 use Rattle.std.proofs.Common.{subst, sym}
 use Rattle.dns_name.specs.Uncompressed.{WholeName}
-use Rattle.dns_name.proofs.AnswerLaws.{standing_name}
+use Rattle.dns_name.proofs.theory.AnswerLaws.{standing_name}
 use Rattle.dns_name.proofs.name.NameToName.as_parsed.Goals as goal
 
 pub of_whole-requires : goal.of_whole-requires

@@ -1,6 +1,6 @@
 use Rattle.std.proofs.Common.{◌∙◌, sym, subst}
 use Rattle.dns_name.specs.Uncompressed.{WholeName}
-use Rattle.dns_name.proofs.NameLemmas.{name_whole, same_names}
+use Rattle.dns_name.proofs.theory.NameLemmas.{name_whole, same_names}
 use Rattle.dns_name.proofs.name_octets.NameRefSliceU8OctetsFromRefName.try_octets_from.Goals as goal
 
 pub of_whole-requires : goal.of_whole-requires

@@ -1,6 +1,6 @@
 use Rattle.std.proofs.Common.{subst}
 use Rattle.dns_name.specs.NameTexts.{SpellsName}
-use Rattle.dns_name.proofs.NameLemmas.{octets_whole, labels_of_octets}
+use Rattle.dns_name.proofs.theory.NameLemmas.{octets_whole, labels_of_octets}
 use Rattle.dns_name.proofs.name_text.NameArrayVecU8255FromStr.from_str.Goals as goal
 
 pub of_whole-requires : goal.of_whole-requires

@@ -2,7 +2,7 @@ use Rattle.std.proofs.Common.{◌+◌, ◌≤◌, arith, length, refl}
 use Rattle.dns_name.specs.Names.{uncompressed}
 use Rattle.dns_name.specs.ParsedName.{labels}
 use Rattle.dns_name.proofs.FlatNames.{flat_none, flat_label, flat_root, flat_pointer, flat_within, flat_octets}
-use Rattle.dns_name.proofs.LabelsLemmas.{labels_stand}
+use Rattle.dns_name.proofs.theory.LabelsLemmas.{labels_stand}
 use Rattle.dns_name.proofs.parsed_name.ParsedName.as_flat_slice.Goals as goal
 
 pub walk-init : goal.walk-init

@@ -1,7 +1,7 @@
 use Rattle.std.proofs.Common.{◌∙◌, ap, sym, arith, ◌+◌}
 use Rattle.dns_name.specs.ParsedName.{labels}
-use Rattle.dns_name.proofs.AnswerLaws.{standing_short}
-use Rattle.dns_name.proofs.LabelsLemmas.{length-uncompressed}
+use Rattle.dns_name.proofs.theory.AnswerLaws.{standing_short}
+use Rattle.dns_name.proofs.theory.LabelsLemmas.{length-uncompressed}
 use Rattle.dns_name.proofs.parsed_name.ParsedName.compose_len.Goals as goal
 
 pub overflow_add-result : goal.overflow_add-result

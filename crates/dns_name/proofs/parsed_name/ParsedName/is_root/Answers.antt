@@ -1,6 +1,6 @@
 use Rattle.std.proofs.Common.{ap, sym, ◌∙◌, eq-eqb, eqb-true}
 use Rattle.dns_name.specs.Names.{name_size}
-use Rattle.dns_name.proofs.LabelsLemmas.{empty_name}
+use Rattle.dns_name.proofs.theory.LabelsLemmas.{empty_name}
 use Rattle.dns_name.proofs.parsed_name.ParsedName.is_root.Goals as goal
 
 pub returns : goal.returns

@@ -3,7 +3,7 @@ use Rattle.std.specs.Prelude.{map}
 use Rattle.std.specs.Char.{to_ascii_lowercase}
 use Rattle.std.proofs.lemmas.List.{length-map}
 use Rattle.std.proofs.Math.Seq.{take-append_seam}
-use Rattle.dns_name.proofs.NameLemmas.{lower_uncompressed}
+use Rattle.dns_name.proofs.theory.NameLemmas.{lower_uncompressed}
 use Rattle.dns_name.proofs.parsed_name.ParsedName.lowercased.Goals as goal
 
 -- a list of the same length takes the place of all elements

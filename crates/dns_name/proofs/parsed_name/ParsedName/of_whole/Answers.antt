@@ -1,7 +1,7 @@
 use Rattle.std.proofs.Common.{◌≡◌, ◌+◌, arith, ap, sym, ◌∙◌, length, rules}
 use Rattle.dns_name.specs.Names.{name_size}
 use Rattle.dns_name.specs.Unique.{same_name}
-use Rattle.dns_name.proofs.LabelsLemmas.{length-uncompressed}
+use Rattle.dns_name.proofs.theory.LabelsLemmas.{length-uncompressed}
 use Rattle.dns_name.proofs.parsed_name.ParsedName.of_whole.Goals as goal
 
 pub overflow_sub-result : goal.overflow_sub-result

@@ -7,8 +7,8 @@ use Rattle.dns_name.specs.Parsers.{seen}
 use Rattle.dns_name.specs.Standing.{Faulty}
 use Rattle.dns_name.specs.declared.head.Head.TheVariants.{Root, Label, Pointer}
 use Rattle.dns_name.proofs.Walks.{leads_label, leads_pointer, leads_root, leads_end}
-use Rattle.dns_name.proofs.WalkLaws.{skip_fault}
-use Rattle.dns_name.proofs.LabelsLemmas.{name_stands}
+use Rattle.dns_name.proofs.theory.WalkLaws.{skip_fault}
+use Rattle.dns_name.proofs.theory.LabelsLemmas.{name_stands}
 use Rattle.dns_name.proofs.ParserLemmas.{length-seen}
 use Rattle.dns_name.proofs.parsed_name.ParsedName.read.Goals as goal
 

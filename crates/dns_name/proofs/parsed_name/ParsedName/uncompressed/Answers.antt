@@ -1,4 +1,4 @@
-use Rattle.dns_name.proofs.NameLemmas.{label_room}
+use Rattle.dns_name.proofs.theory.NameLemmas.{label_room}
 use Rattle.dns_name.proofs.parsed_name.ParsedName.uncompressed.Goals as goal
 
 pub append_label-requires : goal.append_label-requires

@@ -1,4 +1,4 @@
-use Rattle.dns_name.proofs.AnswerLaws.{standing_name}
+use Rattle.dns_name.proofs.theory.AnswerLaws.{standing_name}
 use Rattle.dns_name.proofs.to_name.ParsedNameToName.as_parsed.Goals as goal
 
 pub returns-clause-is_name : goal.returns-clause-is_name

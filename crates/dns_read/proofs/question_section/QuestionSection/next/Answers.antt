@@ -5,7 +5,7 @@ use Rattle.dns_question.specs.Question.{parsed_question}
 use Rattle.dns_read.specs.QuestionSection.{octets_of, position, to_come}
 use Rattle.dns_read.specs.QuestionsFrom.{questions_from}
 use Rattle.dns_read.proofs.CursorLemmas.{nothing_left, gives_entry, gives_fault}
-use Rattle.dns_read.proofs.QuestionsFromLemmas.{questions_from_are_read}
+use Rattle.dns_read.proofs.theory.QuestionsFromLemmas.{questions_from_are_read}
 use Rattle.dns_read.proofs.question_section.QuestionSection.next.Goals as goal
 
 pub returns-in_err-left-clause-steps : goal.returns-in_err-left-clause-steps

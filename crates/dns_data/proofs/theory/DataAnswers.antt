@@ -1,0 +1,113 @@
+-- From each place one datum stands or one fault is met.
+use Rattle.std.proofs.Common.{◌≡◌, ℕ, ◌+◌, ◌-◌, ◌≤◌, ◌⊎◌, inl, inr, List, [], ◌∷◌, length, drop, slice_range, length-take, length-drop, ap, sym, ◌∙◌, refl, subst, arith}
+use Rattle.std.proofs.lemmas.Bool.{cases_Bool}
+use Rattle.std.proofs.lemmas.Bool.Decides.{leb_tells}
+use Rattle.dns_name.specs.Fault.{Fault}
+use Rattle.dns_name.specs.Fault.Fault.{ShortInput}
+use Rattle.dns_name.specs.Names.{Labels}
+use Rattle.dns_wire.specs.Parts.{Part}
+use Rattle.dns_wire.specs.Parts.Part.{Octets, CompressibleName}
+use Rattle.dns_name.specs.Standing.{Stands, FaultAt}
+use Rattle.dns_name.specs.Unique.{same_name}
+use Rattle.dns_name.proofs.theory.AnswerLaws.{one_answer, standing_short}
+use Rattle.dns_name.proofs.theory.AnswerLaws as names
+use Rattle.dns_name.proofs.theory.WalkLaws.{one_end, standing_end, walked_in_octets}
+use Rattle.dns_data.specs.Layout.{Layout, DataStands, DataFaultAt}
+use Rattle.dns_data.specs.Layout.Layout.{End, Rest, Fixed, DomainName}
+use Rattle.dns_data.specs.Laws.{OneDatumOrFault}
+
+module _ (b : List ℕ) where
+  -- a name and a fault never both
+  name_or_fault : {p : ℕ} {name : Labels} {f : Fault} → Stands b p name → FaultAt b p f → ⊥
+  name_or_fault {name = name} x f = names.not_both b f name x (let short = standing_short x in omega arith)
+
+  length-range : (p n : ℕ) → p + n ≤ length b → length (slice_range b p (p + n)) ≡ n
+  length-range p n l = simp (length-take, length-drop) (omega arith)
+
+  -- octets that are there are within
+  range_within : (p n : ℕ) (octets : List ℕ) → p ≤ length b → length octets ≡ n → slice_range b p (p + n) ≡ octets → p + n ≤ length b
+  range_within p n octets l size is =
+      let long : length (slice_range b p (p + n)) ≡ n = ap length is ∙ size in
+      let k = length-take (p + n - p) (drop p b) in
+      let m = length-drop p b in
+      omega arith
+
+  datum_or_fault : (layout : Layout) (p : ℕ) → ((q : ℕ) × (parts : List Part) × DataStands b layout p q parts) ⊎ ((f : Fault) × DataFaultAt b layout p f)
+  datum_or_fault End p = inl (p, [], (refl, refl))
+  datum_or_fault (Rest accepts) p = elim (cases_Bool (accepts (drop p b))) [
+    | inl good ↦ inl (length b, Octets (drop p b) ∷ [], (refl, refl, good))
+    | inr bad ↦ inr (ShortInput, (refl, λ good. cc (good, bad)))
+  ]
+  datum_or_fault (Fixed n layout) p = elim (leb_tells (p + n) (length b)) [
+    | inl l ↦ elim (datum_or_fault layout (p + n)) [
+      | inl d ↦ inl (d.0, Octets (slice_range b p (p + n)) ∷ d.1, (length-range p n l.1, refl, d.2))
+      | inr f ↦ inr (f.0, inr (l.1, f.1))
+    ]
+    | inr l ↦ inr (ShortInput, inl (refl, l.1))
+  ]
+  datum_or_fault (DomainName layout) p = elim (one_answer b p) [
+    | inl x ↦
+        let w = standing_end 0 x.1 x.2 in
+        elim (datum_or_fault layout w.0) [
+          | inl d ↦ inl (d.0, CompressibleName x.0 ∷ d.1, (w.0, x.1, w.1, d.2))
+          | inr f ↦ inr (f.0, inr (x.0, w.0, x.1, w.1, f.1))
+        ]
+    | inr f ↦ inr (f.0, inl f.1)
+  ]
+
+  one_datum : (layout : Layout) (p q r : ℕ) (xs ys : List Part) → DataStands b layout p q xs → DataStands b layout p r ys → (q ≡ r) × (xs ≡ ys)
+  one_datum End p q r xs ys h k = (h.0 ∙ sym k.0, h.1 ∙ sym k.1)
+  one_datum (Rest accepts) p q r xs ys h k = (h.0 ∙ sym k.0, h.1 ∙ sym k.1)
+  one_datum (Fixed n layout) p q r [] ys h k = absurd h
+  one_datum (Fixed n layout) p q r (CompressibleName x ∷ xs) ys h k = absurd h
+  one_datum (Fixed n layout) p q r (Octets x ∷ xs) [] h k = absurd k
+  one_datum (Fixed n layout) p q r (Octets x ∷ xs) (CompressibleName y ∷ ys) h k = absurd k
+  one_datum (Fixed n layout) p q r (Octets x ∷ xs) (Octets y ∷ ys) h k =
+      let behind = one_datum layout (p + n) q r xs ys h.2 k.2 in
+      let same : x ≡ y = sym h.1 ∙ k.1 in
+      (behind.0, cc (same, behind.1))
+  one_datum (DomainName layout) p q r [] ys h k = absurd h
+  one_datum (DomainName layout) p q r (Octets x ∷ xs) ys h k = absurd h
+  one_datum (DomainName layout) p q r (CompressibleName x ∷ xs) [] h k = absurd k
+  one_datum (DomainName layout) p q r (CompressibleName x ∷ xs) (Octets y ∷ ys) h k = absurd k
+  one_datum (DomainName layout) p q r (CompressibleName x ∷ xs) (CompressibleName y ∷ ys) h k =
+      let end : k.0 ≡ h.0 = one_end b k.2 h.2 in
+      let behind = one_datum layout h.0 q r xs ys h.3 (subst (λ e. DataStands b layout e r ys) end k.3) in
+      let same : x ≡ y = same_name b h.1 k.1 in
+      (behind.0, cc (same, behind.1))
+
+  not_both : (layout : Layout) (p q : ℕ) (parts : List Part) (f : Fault) → p ≤ length b → DataStands b layout p q parts → DataFaultAt b layout p f → ⊥
+  not_both End p q parts f l h k = k
+  not_both (Rest accepts) p q parts f l h k = k.1 h.2
+  not_both (Fixed n layout) p q [] f l h k = h
+  not_both (Fixed n layout) p q (CompressibleName x ∷ parts) f l h k = h
+  not_both (Fixed n layout) p q (Octets x ∷ parts) f l h (inl k) = let w = range_within p n x l h.0 h.1 in let short = k.1 in omega arith
+  not_both (Fixed n layout) p q (Octets x ∷ parts) f l h (inr k) = not_both layout (p + n) q parts f k.0 h.2 k.1
+  not_both (DomainName layout) p q [] f l h k = h
+  not_both (DomainName layout) p q (Octets x ∷ parts) f l h k = h
+  not_both (DomainName layout) p q (CompressibleName x ∷ parts) f l h (inl k) = name_or_fault h.1 k
+  not_both (DomainName layout) p q (CompressibleName x ∷ parts) f l h (inr k) =
+      let end : k.1 ≡ h.0 = one_end b k.3 h.2 in
+      not_both layout h.0 q parts f (walked_in_octets h.2) h.3 (subst (λ e. DataFaultAt b layout e f) end k.4)
+
+  one_fault : (layout : Layout) (p : ℕ) (f g : Fault) → DataFaultAt b layout p f → DataFaultAt b layout p g → f ≡ g
+  one_fault End p f g h k = absurd h
+  one_fault (Rest accepts) p f g h k = h.0 ∙ sym k.0
+  one_fault (Fixed n layout) p f g (inl h) (inl k) = h.0 ∙ sym k.0
+  one_fault (Fixed n layout) p f g (inl h) (inr k) = let short = h.1 in let long = k.0 in absurd (omega arith)
+  one_fault (Fixed n layout) p f g (inr h) (inl k) = let short = k.1 in let long = h.0 in absurd (omega arith)
+  one_fault (Fixed n layout) p f g (inr h) (inr k) = one_fault layout (p + n) f g h.1 k.1
+  one_fault (DomainName layout) p f g (inl h) (inl k) = names.one_fault b h k
+  one_fault (DomainName layout) p f g (inl h) (inr k) = absurd (name_or_fault k.2 h)
+  one_fault (DomainName layout) p f g (inr h) (inl k) = absurd (name_or_fault h.2 k)
+  one_fault (DomainName layout) p f g (inr h) (inr k) =
+      let end : k.1 ≡ h.1 = one_end b k.3 h.3 in
+      one_fault layout h.1 f g h.4 (subst (λ e. DataFaultAt b layout e g) end k.4)
+
+pub one_datum_or_fault : OneDatumOrFault
+one_datum_or_fault b layout p l = record {
+  some = datum_or_fault b layout p;
+  one = one_datum b layout p;
+  not_both = λ q parts f. not_both b layout p q parts f l;
+  one_fault = one_fault b layout p;
+}

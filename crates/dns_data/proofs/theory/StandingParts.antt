@@ -1,0 +1,44 @@
+-- Parts that fill a span are read in each layout that they have.
+use Rattle.std.proofs.Common.{◌≡◌, ℕ, ◌+◌, ◌-◌, ◌≤◌, List, [], ◌∷◌, length, take, drop, slice_range, ap, sym, ◌∙◌, refl, subst, arith}
+use Rattle.std.specs.Prelude.{IsTrue}
+use Rattle.std.proofs.lemmas.List.{drop-take, take-take, length-take-le}
+use Rattle.dns_wire.specs.Parts.{Part, PartsStand}
+use Rattle.dns_wire.specs.Parts.Part.{Octets, CompressibleName}
+use Rattle.dns_name.proofs.theory.WalkLaws.{walked_rises}
+use Rattle.dns_data.specs.Layout.Layout.{End, Rest, Fixed, DomainName}
+use Rattle.dns_data.specs.Laws.{StandingPartsRead}
+
+-- parts go on from their place
+parts_rise : (b : List ℕ) (end p : ℕ) (parts : List Part) → PartsStand b end p parts → p ≤ end
+parts_rise b end p [] h = omega arith
+parts_rise b end p (Octets octets ∷ parts) h = let l = parts_rise b end (p + length octets) parts h.1 in omega arith
+parts_rise b end p (CompressibleName name ∷ parts) h = let l = parts_rise b end h.0 parts h.3 in let w = walked_rises h.2 in omega arith
+
+-- octets before an end stand where only the octets up to it are seen
+range_before : (b : List ℕ) (end p n : ℕ) → p + n ≤ end → slice_range (take end b) p (p + n) ≡ slice_range b p (p + n)
+range_before b end p n l =
+    let more : end ≡ p + (end - p) = omega arith in
+    let few : p + n - p ≤ end - p = omega arith in
+    ap (λ e. take (p + n - p) (drop p (take e b))) more ∙ ap (take (p + n - p)) (drop-take p (end - p) b) ∙ take-take (p + n - p) (end - p) (drop p b) few
+
+pub standing_parts_read : StandingPartsRead
+standing_parts_read b end p End parts l h is = by parts h is
+  where
+    by : (parts : List Part) → PartsStand b end p parts → parts ≡ [] → (end ≡ p) × (parts ≡ [])
+    by [] h is = (sym h, refl)
+    by (part ∷ parts) h is = cc
+standing_parts_read b end p (Rest accepts) parts l h (octets, is, good) =
+    let stands : PartsStand b end p (Octets octets ∷ []) = subst (λ (xs : List Part). PartsStand b end p xs) is h in
+    let rest : drop p (take end b) ≡ octets =
+    ap (λ e. drop p (take e b)) (sym stands.1) ∙ drop-take p (length octets) b
+    ∙ ap (λ n. take n (drop p b)) (let n : length octets ≡ p + length octets - p = omega arith in n) ∙ stands.0 in
+    (sym (length-take-le end b l), is ∙ ap (λ (xs : List ℕ). Octets xs ∷ []) (sym rest), subst (λ (xs : List ℕ). IsTrue (accepts xs)) (sym rest) good)
+standing_parts_read b end p (Fixed n layout) [] l h is = absurd is
+standing_parts_read b end p (Fixed n layout) (CompressibleName name ∷ parts) l h is = absurd is
+standing_parts_read b end p (Fixed n layout) (Octets octets ∷ parts) l h is =
+    let behind : PartsStand b end (p + n) parts = subst (λ k. PartsStand b end (p + k) parts) is.0 h.1 in
+    let here : slice_range b p (p + n) ≡ octets = subst (λ k. slice_range b p (p + k) ≡ octets) is.0 h.0 in
+    (is.0, range_before b end p n (parts_rise b end (p + n) parts behind) ∙ here, standing_parts_read b end (p + n) layout parts l behind is.1)
+standing_parts_read b end p (DomainName layout) [] l h is = absurd is
+standing_parts_read b end p (DomainName layout) (Octets octets ∷ parts) l h is = absurd is
+standing_parts_read b end p (DomainName layout) (CompressibleName name ∷ parts) l h is = (h.0, h.1, h.2, standing_parts_read b end h.0 layout parts l h.3 is)

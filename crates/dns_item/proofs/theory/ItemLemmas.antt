@@ -1,0 +1,91 @@
+-- Records that are put stand where they were put, and are read there.
+use Rattle.std.proofs.Common.{◌≡◌, ℕ, ◌+◌, ◌-◌, ◌≤◌, ◌++◌, length, arith, sym, refl, subst}
+use Rattle.std.specs.Int.{to_be_bytes, w16, w32}
+use Rattle.dns_wire.specs.Memory.{Memory}
+use Rattle.dns_name.specs.Names.{name_size, max_size}
+use Rattle.dns_name.specs.Parsers.{number_at}
+use Rattle.dns_wire.specs.Parts.{PartsStand, put_parts}
+use Rattle.dns_wire.specs.Pieces.{Rule, put_octets, both, with_length}
+use Rattle.dns_wire.specs.PutName.{put_name}
+use Rattle.dns_wire.specs.Targets.{Written, IsTarget, lay}
+use Rattle.dns_wire.proofs.theory.GrowingPieces.{put_name_grows, put_octets_grows, put_parts_grows, both_grows, with_length_grows}
+use Rattle.dns_wire.proofs.theory.LengthPieces.{number_16, number_32, HasLength, stable_length, puts_with_length}
+use Rattle.dns_wire.proofs.theory.NameSizes.{parts_are_short}
+use Rattle.dns_wire.proofs.theory.OctetsAt.{at_first, at_second, at_place}
+use Rattle.dns_wire.proofs.theory.PieceLaws.{Puts, IsStable, Behind, stable_behind, puts_both, HasOctets, stable_octets, puts_octets, HasName, stable_name, puts_put_name, HasParts, stable_parts, puts_parts, parts_rise, parts_within, parts_stand}
+use Rattle.dns_wire.proofs.theory.SpelledNames.{spelled_stands, spelled_walked}
+use Rattle.dns_item.specs.Entries.{RecordEntry, ReadsRecordItem}
+use Rattle.dns_item.specs.ItemLaws.{RecordsGrow, RecordsReadBack}
+use Rattle.dns_item.specs.Items.{RecordItem, IsRecord, record_fields, put_record}
+
+-- a record is a growing piece
+pub records_grow : RecordsGrow
+unfolding put_record
+records_grow rule x =
+    both_grows _ _ (put_name_grows rule x.owner) (both_grows _ _ (put_octets_grows (record_fields x)) (with_length_grows _ (put_parts_grows rule x.parts)))
+
+-- the octets of a record go from a place to another
+abbrev pub HasRecord : RecordItem → Written → ℕ → ℕ → Type 0
+HasRecord x = Behind (HasName x.owner) (Behind (HasOctets (record_fields x)) (HasLength (HasParts x.parts)))
+
+-- octets that a record has stay its octets
+pub stable_record : (x : RecordItem) → IsStable (HasRecord x)
+stable_record x =
+    stable_behind (HasName x.owner) (Behind (HasOctets (record_fields x)) (HasLength (HasParts x.parts))) (stable_name x.owner)
+    (stable_behind (HasOctets (record_fields x)) (HasLength (HasParts x.parts)) (stable_octets (record_fields x)) (stable_length (HasParts x.parts) (stable_parts x.parts)))
+
+-- a record stands where it was put
+pub puts_record : (rule : Rule) (x : RecordItem) → IsRecord x → Puts (put_record rule x) (HasRecord x)
+unfolding put_record
+puts_record rule x is =
+    let inner = put_parts rule x.parts in
+    let small : (m : Memory) (w : ℕ) → length (inner m w).octets ≤ 65535 = λ m w. let a = parts_are_short rule x.parts m w in let b = is.short in omega arith in
+    let last = puts_with_length inner (HasParts x.parts) small (puts_parts rule x.parts is.parts) in
+    let behind = puts_both (put_octets (record_fields x)) (with_length inner) (HasOctets (record_fields x)) (HasLength (HasParts x.parts)) (stable_octets (record_fields x)) (puts_octets (record_fields x)) last in
+    puts_both (put_name rule x.owner) (both (put_octets (record_fields x)) (with_length inner)) (HasName x.owner) (Behind (HasOctets (record_fields x)) (HasLength (HasParts x.parts)))
+    (stable_name x.owner) (puts_put_name rule x.owner is.owner) behind
+
+-- what is read of a record whose data goes from one place to another
+entry_of : RecordItem → ℕ → ℕ → RecordEntry
+entry_of x from to = record { owner = x.owner; rtype = x.rtype; class = x.class; ttl = x.ttl; data_start = from; data_end = to }
+
+-- it is read there
+pub reads_record : (x : RecordItem) (t : Written) (p q : ℕ) → IsRecord x → IsTarget t → HasRecord x t p q → ReadsRecordItem t.octets p q x
+unfolding entry_of
+reads_record x t p q is good h =
+    let r = h.0 in
+    let here = h.2.1.0 in
+    let rest = at_second (to_be_bytes w16 x.rtype) {ys = to_be_bytes w16 x.class ++ to_be_bytes w32 x.ttl} here in
+    let s : ℕ = h.2.0 in
+    let is_s : s ≡ r + 8 = h.2.1.1 in
+    let long : s + 2 ≤ q = parts_rise x.parts t (s + 2) q h.2.2.1 in
+    let few : q ≤ s + 2 + 65535 = h.2.2.2 in
+    let within : q ≤ length t.octets = parts_within x.parts t (s + 2) q h.2.2.0.within h.2.2.1 in
+    let len : number_at w16 t.octets (r + 8) ≡ q - (s + 2) = number_16 t.octets (r + 8) (q - (s + 2)) (omega arith) (at_place is_s h.2.2.0) in
+    let short : 0 + name_size x.owner ≤ max_size = let k = is.owner.short in omega arith in
+    record {
+      entry = entry_of x (r + 10) q;
+      reads = record {
+        skips = record { name_end = r; walked = spelled_walked 0 good short h.1; end = omega arith; within = within };
+        owner = spelled_stands good is.owner.short h.1;
+        rtype = sym (number_16 t.octets r x.rtype is.rtype (at_first {xs = to_be_bytes w16 x.rtype} (to_be_bytes w16 x.class ++ to_be_bytes w32 x.ttl) here));
+        class = sym (number_16 t.octets (r + 2) x.class is.class (at_first {xs = to_be_bytes w16 x.class} (to_be_bytes w32 x.ttl) rest));
+        ttl = sym (number_32 t.octets (r + 4) x.ttl is.ttl (at_place (omega arith) (at_second (to_be_bytes w16 x.class) {ys = to_be_bytes w32 x.ttl} rest)));
+        data_start = refl;
+        data_end = refl;
+      };
+      tells = record {
+        owner = refl;
+        rtype = refl;
+        class = refl;
+        ttl = refl;
+        parts = let e : s + 2 ≡ r + 10 = omega arith in subst (λ k. PartsStand t.octets q k x.parts) e (parts_stand x.parts t (s + 2) q is.parts good h.2.2.1);
+      };
+    }
+
+-- records read back
+pub records_read_back : RecordsReadBack
+records_read_back rule t x is h =
+    let p = puts_record rule x is in
+    let u = lay (put_record rule x) t in
+    (reads_record x u (length t.octets) (length u.octets) is (p.keeps t h) (p.puts t h), p.keeps t h)

@@ -1,0 +1,11 @@
+-- Lemmas that crates above cite: a change here is one for them too.
+pub mod HeadLemmas
+pub mod AnswerLaws
+pub mod WalkLaws
+pub mod LabelsLemmas
+pub mod Spelling
+pub mod Steps
+pub mod NameLemmas
+pub mod NameTextFaults
+pub mod NameOrTextFault
+pub mod OneTextName

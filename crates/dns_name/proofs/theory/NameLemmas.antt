@@ -1,0 +1,82 @@
+-- What is known of names by their labels alone.
+use Rattle.std.proofs.Common.{◌≡◌, ℕ, ◌+◌, ◌≤◌, List, [], ◌∷◌, ◌++◌, length, length-append, arith, ap, sym, ◌∙◌, refl, subst}
+use Rattle.std.specs.Prelude.{All, map}
+use Rattle.std.specs.Char.{to_ascii_lowercase}
+use Rattle.std.proofs.lemmas.Bool.Decides.{nat_tests}
+use Rattle.std.proofs.lemmas.Grind.{common_steps}
+use Rattle.std.proofs.lemmas.List.{map-append, length-map}
+use Rattle.std.proofs.lemmas.List.Elements.{All-head, All-tail}
+use Rattle.dns_name.specs.Names.{Labels, IsLabel, IsName, framed, lowered_label, lowered, uncompressed}
+use Rattle.dns_name.specs.Standing.{Stands}
+use Rattle.dns_name.specs.Uncompressed.{WholeName}
+use Rattle.dns_name.specs.NameLabels.{name_labels}
+use Rattle.dns_name.specs.ParsedName.{labels}
+use Rattle.dns_octets.specs.declared.octets.Octets.{Ghosts}
+use Rattle.dns_name.specs.declared.name.Name.{Name}
+use Rattle.dns_name.specs.declared.parsed_name.ParsedName.{ParsedName}
+use Rattle.dns_name.proofs.theory.AnswerLaws.{standing_name}
+use Rattle.dns_name.proofs.theory.LabelsLemmas.{length-uncompressed}
+use Rattle.dns_name.proofs.NameOrderLemmas.{uncompressed-injective}
+use Rattle.dns_name.proofs.theory.Spelling.{stands_spelled}
+
+-- a name stands at the start of its octets
+stands_in_own : (name : Labels) → IsName name → Stands (uncompressed name) 0 name
+stands_in_own name n = stands_spelled (uncompressed name) 0 name n refl
+
+-- its labels are those of a name
+pub name_is : {X : Type 0} {holder : Ghosts X} (name : Name X holder) → IsName (name_labels name)
+name_is name = standing_name name.whole.0.1
+
+-- so are those of a parsed name
+pub parsed_is : (name : ParsedName) → IsName (labels name)
+parsed_is name = standing_name name.name_at.0.1
+
+-- the octets of labels of a name are one name
+pub octets_whole : (name : Labels) (b : List ℕ) → IsName name → uncompressed name ≡ b → WholeName b
+octets_whole name b n e = subst WholeName e ((name, stands_in_own name n), refl)
+
+-- a name with the octets of labels has these labels
+pub labels_of_octets : {X : Type 0} {holder : Ghosts X} (name : Name X holder) (own : Labels) (b : List ℕ) → uncompressed (name_labels name) ≡ b → uncompressed own ≡ b → own ≡ name_labels name
+labels_of_octets name own b e same = uncompressed-injective _ _ (same ∙ sym e)
+
+-- its octets are one name
+pub name_whole : {X : Type 0} {holder : Ghosts X} (name : Name X holder) → WholeName (uncompressed (name_labels name))
+name_whole name = ((name_labels name, stands_in_own _ (name_is name)), refl)
+
+-- those of a parsed name, without pointers, are one name too
+pub parsed_whole : (name : ParsedName) → WholeName (uncompressed (labels name))
+parsed_whole name = ((labels name, stands_in_own _ (parsed_is name)), refl)
+
+-- without pointers it takes 255 octets at most, so there is room for each label
+pub label_room : (name : ParsedName) (before label behind : List ℕ) → before ++ (framed label ++ behind) ≡ uncompressed (labels name)
+    → length before + length (framed label) ≤ 255
+label_room name before label behind e =
+    let all = ap length e ∙ length-uncompressed (labels name) in
+    let short = (parsed_is name).short in
+    omega (arith, all, short, length-append before (framed label ++ behind), length-append (framed label) behind)
+
+-- names with the same octets have the same labels
+pub same_names : {X Y : Type 0} {holder : Ghosts X} {other_holder : Ghosts Y} (name : Name X holder) (other : Name Y other_holder)
+    → uncompressed (name_labels name) ≡ uncompressed (name_labels other) → name_labels name ≡ name_labels other
+same_names name other e = uncompressed-injective _ _ e
+
+-- the same where one of them is a parsed name
+pub same_parsed : {X : Type 0} {holder : Ghosts X} (name : Name X holder) (other : ParsedName)
+    → uncompressed (name_labels name) ≡ uncompressed (labels other) → name_labels name ≡ labels other
+same_parsed name other e = uncompressed-injective _ _ e
+
+lower_short : (n : ℕ) → n ≤ 63 → to_ascii_lowercase n ≡ n
+lower_short n h = grind (arith, nat_tests, common_steps)
+
+lower_labels : (name : Labels) → All IsLabel name → map to_ascii_lowercase (uncompressed name) ≡ uncompressed (lowered name)
+lower_labels [] h = refl
+lower_labels (label ∷ name) h =
+    let short = (All-head IsLabel label name h).short in
+    let behind = lower_labels name (All-tail IsLabel label name h) in
+    map-append to_ascii_lowercase (framed label) (uncompressed name)
+    ∙ ap (λ (c : List ℕ). map to_ascii_lowercase (framed label) ++ c) behind
+    ∙ ap (λ k. k ∷ (lowered_label label ++ uncompressed (lowered name))) (lower_short (length label) short ∙ sym (length-map label to_ascii_lowercase))
+
+-- no length octet is a letter, so all octets may be lowercased
+pub lower_uncompressed : (name : ParsedName) → map to_ascii_lowercase (uncompressed (labels name)) ≡ uncompressed (lowered (labels name))
+lower_uncompressed name = lower_labels (labels name) (parsed_is name).labels

@@ -1,0 +1,180 @@
+-- Names without pointers where they stand in octets.
+use Rattle.std.proofs.Common.{◌≡◌, ℕ, zero, suc, ◌+◌, ◌-◌, ◌<◌, ◌≤◌, List, [], ◌∷◌, ◌++◌, length, length-append, length-drop, take, drop, get_or, arith, ap, sym, ◌∙◌, subst, refl}
+use Rattle.std.specs.Prelude.{Some, Ok, slice_get}
+use Rattle.std.proofs.lemmas.List.{take-append-drop, drop-drop}
+use Rattle.std.proofs.lemmas.List.Elements.{All-head, All-tail}
+use Rattle.std.proofs.lemmas.Option.{get_or_from_slice_get, slice_get_within}
+use Rattle.std.proofs.Math.Seq.{drop-cons, drop-append_seam, take-append_seam}
+use Rattle.dns_name.specs.Fault.{Fault}
+use Rattle.dns_name.specs.Names.{Labels, IsLabel, IsName, name_size, max_size, uncompressed}
+use Rattle.dns_name.specs.Heads.{head_at}
+use Rattle.dns_name.specs.HeadAnswers.{Begins}
+use Rattle.dns_name.specs.Standing.{Stands, label_at}
+use Rattle.dns_name.specs.Walking.{SkipFaulty}
+use Rattle.dns_name.specs.Uncompressed.{IsUncompressed, WholeName, WholeName-prop}
+use Rattle.dns_name.specs.declared.head.Head.TheVariants.{Root, Label, Pointer}
+use Rattle.dns_name.proofs.theory.HeadLemmas.{label_there, root_there, root_begins, label_begins}
+use Rattle.dns_name.proofs.theory.AnswerLaws.{not_both}
+use Rattle.dns_name.proofs.theory.WalkLaws.{skip_fault}
+use Rattle.dns_name.proofs.Walks.{Passes, passes_none, passes_label, name_size-label_at, length_label}
+
+-- the octets from a place on begin with the one that is there
+drop_at : (b : List ℕ) (p x : ℕ) → slice_get b p ≡ Some x → drop p b ≡ x ∷ drop (p + 1) b
+drop_at b p x there =
+    let within : p < length b = slice_get_within b p x there in
+    let e : get_or b p 0 ≡ x = get_or_from_slice_get b p x 0 there in
+    let s : suc p ≡ p + 1 = omega arith in
+    drop-cons b p 0 within ∙ ap (λ y. y ∷ drop (suc p) b) e ∙ ap (λ k. x ∷ drop k b) s
+
+-- what a list from a place on begins with is there
+pub get_drop : (b : List ℕ) (p x : ℕ) (xs : List ℕ) → drop p b ≡ x ∷ xs → slice_get b p ≡ Some x
+get_drop [] zero x xs e = cc
+get_drop [] (suc p) x xs e = cc
+get_drop (y ∷ ys) zero x xs e = cc
+get_drop (y ∷ ys) (suc p) x xs e = get_drop ys p x xs e
+
+-- where a label begins, its length octet, its octets, and what is behind them
+pub drop_label : (b : List ℕ) (p n : ℕ) → head_at b p ≡ Ok (Label n) → drop p b ≡ n ∷ (label_at b p n ++ drop (p + 1 + n) b)
+drop_label b p n h =
+    let k : p + 1 + n - (p + 1) ≡ n = omega arith in
+    let whole : label_at b p n ++ drop (p + 1 + n) b ≡ drop (p + 1) b =
+    ap (λ m. take m (drop (p + 1) b) ++ drop (p + 1 + n) b) k ∙ ap (λ c. take n (drop (p + 1) b) ++ c) (sym (drop-drop n (p + 1) b)) ∙ take-append-drop n (drop (p + 1) b) in
+    drop_at b p n (label_there b p n h) ∙ ap (λ (c : List ℕ). n ∷ c) (sym whole)
+
+-- where the root begins, its zero octet and what is behind it
+pub drop_root : (b : List ℕ) (p : ℕ) → head_at b p ≡ Ok Root → drop p b ≡ 0 ∷ drop (p + 1) b
+drop_root b p h = drop_at b p 0 (root_there b p h)
+
+-- The octets from a place on are a label and the name behind it.
+record Labelled (b : List ℕ) (p : ℕ) (label : List ℕ) (name : Labels) : Type 0 where
+  begins : head_at b p ≡ Ok (Label (length label))
+  octets : label_at b p (length label) ≡ label
+  fits : p + 1 + length label ≤ length b
+  behind : uncompressed name ≡ drop (p + 1 + length label) b
+
+labelled : (b : List ℕ) (p : ℕ) (label : List ℕ) (name : Labels) → IsLabel label → uncompressed (label ∷ name) ≡ drop p b → Labelled b p label name
+labelled b p label name l e =
+    let n = length label in
+    let there : slice_get b p ≡ Some n = get_drop b p n (label ++ uncompressed name) (sym e) in
+    let within : p < length b = slice_get_within b p n there in
+    let next : drop (p + 1) b ≡ label ++ uncompressed name = sym (drop-drop 1 p b) ∙ ap (drop 1) (sym e) in
+    let k : p + 1 + n - (p + 1) ≡ n = omega arith in
+    let size : length (drop (p + 1) b) ≡ n + length (uncompressed name) = ap length next ∙ length-append label (uncompressed name) in
+    let left : length (drop (p + 1) b) ≡ length b - (p + 1) = length-drop (p + 1) b in
+    record {
+      begins = label_begins b p n l.some l.short there;
+      octets = ap (λ m. take m (drop (p + 1) b)) k ∙ ap (take n) next ∙ take-append_seam label (uncompressed name);
+      fits = omega arith;
+      behind = sym (sym (drop-drop n (p + 1) b) ∙ ap (drop n) next ∙ drop-append_seam label (uncompressed name));
+    }
+
+-- the octets from a place on are the root's
+rooted : (b : List ℕ) (p : ℕ) → uncompressed [] ≡ drop p b → (head_at b p ≡ Ok Root) × (length b ≡ p + 1)
+rooted b p e =
+    let there : slice_get b p ≡ Some 0 = get_drop b p 0 [] (sym e) in
+    let within : p < length b = slice_get_within b p 0 there in
+    let one : 1 ≡ length b - p = ap length e ∙ length-drop p b in
+    (root_begins b p there, omega arith)
+
+-- the first label of a name is a label, and the others are a name
+pub name_tail : (label : List ℕ) (name : Labels) → IsName (label ∷ name) → IsLabel label × IsName name
+name_tail label name h =
+    (All-head IsLabel label name h.labels, record { labels = All-tail IsLabel label name h.labels; short = omega (arith, h.short) })
+
+-- A name stands where the octets from a place on are its own.
+pub stands_spelled : (b : List ℕ) (p : ℕ) (name : Labels) → IsName name → uncompressed name ≡ drop p b → Stands b p name
+stands_spelled b p [] n e = Stands.root (rooted b p e).0
+stands_spelled b p (label ∷ name) n e =
+    let t = name_tail label name n in
+    let l = labelled b p label name t.0 e in
+    let P : List ℕ → Type 0 = λ octets. Stands b p (octets ∷ name) in
+    subst P l.octets (Stands.label l.begins l.fits (stands_spelled b (p + 1 + length label) name t.1 l.behind) (omega (arith, n.short)))
+
+-- the octets from a place on are a name's, which is short enough behind labels that take all octets before it
+pub record Rest (b : List ℕ) (at : ℕ) : Type 0 where
+  pub name : Labels
+  pub is_name : IsName name
+  pub octets : uncompressed name ≡ drop at b
+  pub short : at + name_size name ≤ max_size
+
+-- how far the octets are known to be those of one name: labels fill the places below `at`
+pub record Spells (b : List ℕ) (at : ℕ) : Type 0 where
+  pub passes : Passes b 0 at at
+  pub whole : (name : Labels) → Stands b at name → at + name_size name ≤ max_size → uncompressed name ≡ drop at b → WholeName b
+  pub rest : IsUncompressed b → Rest b at
+
+pub spells_none : (b : List ℕ) → Spells b 0
+spells_none b = record {
+  passes = passes_none b 0;
+  whole = λ name s small e. ((name, s), e);
+  rest = λ u. record { name = u.0; is_name = u.1; octets = u.2; short = omega (arith, u.1.short) };
+}
+
+rest_label : (b : List ℕ) (at n at' : ℕ) → Rest b at → head_at b at ≡ Ok (Label n) → at' ≡ at + 1 + n → Rest b at'
+rest_label b at n at' r h e = go r.name r.is_name r.octets r.short
+  where
+    go : (name : Labels) → IsName name → uncompressed name ≡ drop at b → at + name_size name ≤ max_size → Rest b at'
+    go [] is o s = let root = (rooted b at o).0 in cc
+    go (label ∷ name) is o s =
+        let t = name_tail label name is in
+        let l = labelled b at label name t.0 o in
+        let same : length label ≡ n = cc (l.begins, h) in
+        let Q : ℕ → Type 0 = λ k. uncompressed name ≡ drop k b in
+        let place : at + 1 + length label ≡ at' = omega arith in
+        record { name = name; is_name = t.1; octets = subst Q place l.behind; short = omega arith }
+
+-- behind a label
+pub spells_label : (b : List ℕ) (at n at' : ℕ) → Spells b at → Begins b at at (Label n) → at' ≡ at + 1 + n → Spells b at'
+spells_label b at n at' s h e =
+    let fits : at + 1 + n ≤ length b = h.fits n refl in
+    let same : length (label_at b at n) ≡ n = length_label b at n fits in
+    record {
+      passes = passes_label b 0 at at n at' at' s.passes h (omega arith) e;
+      whole = λ name m small octets.
+          let behind : Stands b (at + 1 + n) name = subst (λ k. Stands b k name) e m in
+          let size : name_size (label_at b at n ∷ name) ≡ n + 1 + name_size name = name_size-label_at b at n name fits in
+          s.whole (label_at b at n ∷ name) (Stands.label h.there fits behind (omega arith)) (omega arith)
+          (ap (λ k. k ∷ (label_at b at n ++ uncompressed name)) same ∙ ap (λ (c : List ℕ). n ∷ (label_at b at n ++ c)) (octets ∙ ap (λ k. drop k b) e) ∙ sym (drop_label b at n h.there));
+      rest = λ u. rest_label b at n at' (s.rest u) h.there e;
+    }
+
+-- where the octets end with the root, they are one name
+pub spells_root : (b : List ℕ) (at : ℕ) → Spells b at → head_at b at ≡ Ok Root → length b ≡ at + 1 → WholeName b
+spells_root b at s h e =
+    let none : length (drop (at + 1) b) ≡ 0 = length-drop (at + 1) b ∙ omega arith in
+    let small = s.passes.within in
+    s.whole [] (Stands.root h) (omega arith) (sym (drop_at b at 0 (root_there b at h) ∙ ap (λ (c : List ℕ). 0 ∷ c) (empty (drop (at + 1) b) none)))
+  where
+    empty : (xs : List ℕ) → length xs ≡ 0 → xs ≡ []
+    empty [] h = refl
+    empty (x ∷ xs) h = absurd (omega arith)
+
+-- where more is left behind the root, they are no name
+pub spells_more : (b : List ℕ) (at : ℕ) → Spells b at → head_at b at ≡ Ok Root → at + 1 < length b → IsUncompressed b → ⊥
+spells_more b at s h more u = go (s.rest u).name (s.rest u).is_name (s.rest u).octets
+  where
+    go : (name : Labels) → IsName name → uncompressed name ≡ drop at b → ⊥
+    go [] is o = let r = rooted b at o in omega (arith, r.1)
+    go (label ∷ name) is o = let l = labelled b at label name (name_tail label name is).0 o in cc (l.begins, h)
+
+-- nor where there is a pointer
+pub spells_pointer : (b : List ℕ) (at t : ℕ) → Spells b at → head_at b at ≡ Ok (Pointer t) → IsUncompressed b → ⊥
+spells_pointer b at t s h u = go (s.rest u).name (s.rest u).is_name (s.rest u).octets
+  where
+    go : (name : Labels) → IsName name → uncompressed name ≡ drop at b → ⊥
+    go [] is o = let r = rooted b at o in cc (r.0, h)
+    go (label ∷ name) is o = let l = labelled b at label name (name_tail label name is).0 o in cc (l.begins, h)
+
+-- nor where there is a fault
+pub spells_fault : (b : List ℕ) (at : ℕ) (f : Fault) → Spells b at → SkipFaulty b at at f → IsUncompressed b → ⊥
+spells_fault b at f s h u =
+    let r = s.rest u in
+    not_both b (skip_fault b h) r.name (stands_spelled b at r.name r.is_name r.octets) r.short
+
+-- a zero octet is the root
+pub root_whole : WholeName (0 ∷ [])
+root_whole = let e : head_at (0 ∷ []) 0 ≡ Ok Root = root_begins (0 ∷ []) 0 refl in (([], Stands.root e), refl)
+
+pub whole_is_root : (name : WholeName (0 ∷ [])) → name.0.0 ≡ []
+unfolding root_whole
+whole_is_root name = ap (λ (w : WholeName (0 ∷ [])). w.0.0) (WholeName-prop (0 ∷ []) name root_whole)

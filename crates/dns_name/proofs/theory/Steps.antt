@@ -1,0 +1,170 @@
+-- One step of an iterator over labels, from the front and from the back.
+use Rattle.std.proofs.Common.{◌≡◌, ℕ, zero, suc, ◌+◌, ◌-◌, ◌<◌, ◌≤◌, ◌≢◌, List, [], ◌∷◌, ◌++◌, length, length-append, take, drop, arith, ap, sym, ◌∙◌, refl, subst}
+use Rattle.dns_name.specs.Names.{Labels, name_size, with_root}
+use Rattle.dns_name.specs.Standing.{Stands}
+use Rattle.dns_name.specs.Unique.{same_name, NameOfSize}
+use Rattle.dns_name.specs.LabelsAt.{Counts, LabelsAt, LabelsAt-prop, one_count}
+use Rattle.dns_name.specs.Label.{IsFirst, label_octets}
+use Rattle.dns_name.specs.declared.label.Label.{Label}
+use Rattle.dns_name.proofs.theory.AnswerLaws.{standing_short}
+use Rattle.dns_name.proofs.theory.LabelsLemmas.{name_size-with_root}
+
+length-with_root : (name : Labels) → length (with_root name) ≡ length name + 1
+length-with_root name = length-append name ([] ∷ [])
+
+-- the octets of labels behind labels
+pub name_size-append : (xs ys : Labels) → name_size (xs ++ ys) ≡ name_size xs + name_size ys
+name_size-append [] ys = omega arith
+name_size-append (x ∷ xs) ys = omega (arith, name_size-append xs ys)
+
+take_all : (xs : Labels) → take (length xs) xs ≡ xs
+take_all [] = refl
+take_all (x ∷ xs) = ap (λ (ys : Labels). x ∷ ys) (take_all xs)
+
+module _ (b : List ℕ) where
+  -- all labels of a name that stands
+  pub all_labels : (p size : ℕ) → NameOfSize b p size → LabelsAt b p (size + 1)
+  all_labels p size n =
+      (n.0, (length (with_root n.0.0), (omega arith, ap name_size (take_all (with_root n.0.0)) ∙ name_size-with_root n.0.0 ∙ ap (λ k. k + 1) n.1)))
+
+  pub all_left : (p size : ℕ) (m : LabelsAt b p (size + 1)) (n : NameOfSize b p size) (name : Labels) → Stands b p name → take m.1.0 (with_root m.0.0) ≡ with_root name
+  unfolding all_labels
+  all_left p size m n name s =
+      let w : LabelsAt b p (size + 1) = all_labels p size n in
+      ap (λ (m : LabelsAt b p (size + 1)). take m.1.0 (with_root m.0.0)) (LabelsAt-prop b p (size + 1) m w)
+      ∙ take_all (with_root n.0.0) ∙ ap with_root (same_name b n.0.1 s)
+
+  -- no more than a name of 255 octets is left
+  pub left_small : (p left : ℕ) → LabelsAt b p left → left ≤ 255
+  left_small p left n =
+      let e = n.1.1.1 in
+      let f : name_size (take n.1.0 (with_root n.0.0)) ≤ name_size (with_root n.0.0) = name_size-take n.1.0 (with_root n.0.0) in
+      omega (arith, name_size-with_root n.0.0, standing_short n.0.1)
+    where
+      name_size-take : (k : ℕ) (xs : Labels) → name_size (take k xs) ≤ name_size xs
+      name_size-take zero xs = omega arith
+      name_size-take (suc k) [] = omega arith
+      name_size-take (suc k) (x ∷ xs) = omega (arith, name_size-take k xs)
+
+  -- what is left behind the first label
+  record After (behind left : ℕ) (labels : Labels) (l : Label) : Type 0 where
+    fits : length (label_octets l) + 1 ≤ left
+    rest : LabelsAt b behind (left - (length (label_octets l) + 1))
+    gives : labels ≡ label_octets l ∷ take rest.1.0 (with_root rest.0.0)
+
+  after : (behind left count : ℕ) (name : Labels) (l : Label) → left ≢ 0 → IsFirst b name l behind → Counts (with_root name) left count → After behind left (take count (with_root name)) l
+  after behind left zero name l some f c = absurd (some (sym c.1))
+  after behind left (suc k) [] l some f c =
+      let none : k ≡ 0 = omega (arith, c.0) in
+      let P : ℕ → Type 0 = λ k. Counts (with_root []) left (suc k) → After behind left (take (suc k) (with_root [])) l in
+      let none_left : length (label_octets l) ≡ 0 = ap length f.0 in
+      subst P (sym none) (λ c. record {
+        fits = omega (arith, c.1);
+        rest = (([], f.1), (0, (omega arith, omega (arith, c.1))));
+        gives = ap (λ x. x ∷ []) (sym f.0);
+      }) c
+  after behind left (suc k) (first ∷ others) l some f c =
+      let same : length (label_octets l) ≡ length first = ap length f.0 in
+      record {
+        fits = omega (arith, c.1);
+        rest = ((others, f.1), (k, (omega (arith, c.0), omega (arith, c.1))));
+        gives = ap (λ x. x ∷ take k (with_root others)) (sym f.0);
+      }
+
+  module _ (p left behind taken : ℕ) (l : Label) (t : taken ≡ length (label_octets l) + 1) (n : LabelsAt b p left) (some : left ≢ 0)
+      (f : (name : Labels) → Stands b p name → IsFirst b name l behind) where
+    next : After behind left (take n.1.0 (with_root n.0.0)) l
+    next = after behind left n.1.0 n.0.0 l some (f n.0.0 n.0.1) n.1.1
+
+    pub step_fits : taken ≤ left
+    step_fits = let w = next.fits in omega (arith, w)
+
+    pub step_has : LabelsAt b behind (left - taken)
+    step_has = subst (λ k. LabelsAt b behind (left - k)) (sym t) next.rest
+
+    pub step_gives : (m : LabelsAt b behind (left - taken)) → take n.1.0 (with_root n.0.0) ≡ label_octets l ∷ take m.1.0 (with_root m.0.0)
+    step_gives = subst (λ k. (m : LabelsAt b behind (left - k)) → take n.1.0 (with_root n.0.0) ≡ label_octets l ∷ take m.1.0 (with_root m.0.0)) (sym t)
+        (λ m. next.gives ∙ ap (λ (m : LabelsAt b behind (left - (length (label_octets l) + 1))). label_octets l ∷ take m.1.0 (with_root m.0.0)) (LabelsAt-prop b behind _ next.rest m))
+
+    -- one label fewer is left
+    pub step_fewer : (m : LabelsAt b behind (left - taken)) → length (take m.1.0 (with_root m.0.0)) < length (take n.1.0 (with_root n.0.0))
+    step_fewer m = let e = ap length (step_gives m) in omega (arith, e)
+
+  -- From the back: so many labels of the name, fewer than are left, are passed, and the others stand at the place.
+  pub record Passed (name : Labels) (count pos passed : ℕ) : Type 0 where
+    pub number : ℕ
+    pub before : number < count
+    pub stands : Stands b pos (drop number name)
+    pub size : name_size (take number (with_root name)) ≡ passed
+
+  pub passed_none : (p left : ℕ) (n : LabelsAt b p left) → left ≢ 0 → Passed n.0.0 n.1.0 p 0
+  passed_none p left n some = record { number = 0; before = first n.1.0 n.1.1; stands = n.0.1; size = refl }
+    where
+      first : (count : ℕ) → Counts (with_root n.0.0) left count → 0 < count
+      first zero c = absurd (some (sym c.1))
+      first (suc k) c = omega arith
+
+  behind_number : (behind k : ℕ) (l : Label) (name : Labels) → k < length name → IsFirst b (drop k name) l behind → Stands b behind (drop (suc k) name)
+  behind_number behind k l [] h f = absurd (omega arith)
+  behind_number behind zero l (x ∷ name) h f = f.1
+  behind_number behind (suc k) l (x ∷ name) h f = behind_number behind k l name (omega arith) f
+
+  take_last : (behind k : ℕ) (l : Label) (name : Labels) → k ≤ length name → IsFirst b (drop k name) l behind
+      → take (suc k) (with_root name) ≡ take k (with_root name) ++ label_octets l ∷ []
+  take_last behind zero l [] h f = ap (λ x. x ∷ []) (sym f.0)
+  take_last behind (suc k) l [] h f = absurd (omega arith)
+  take_last behind zero l (x ∷ name) h f = ap (λ x. x ∷ []) (sym f.0)
+  take_last behind (suc k) l (x ∷ name) h f = ap (λ xs. x ∷ xs) (take_last behind k l name (omega arith) f)
+
+  module _ (p left pos passed behind taken : ℕ) (l : Label) (n : LabelsAt b p left) (s : Passed n.0.0 n.1.0 pos passed)
+      (f : (name : Labels) → Stands b pos name → IsFirst b name l behind) (t : taken ≡ length (label_octets l) + 1) where
+    abbrev name : Labels
+    name = n.0.0
+
+    within : s.number ≤ length name
+    within = let e = length-with_root name in let c = n.1.1.0 in omega (arith, s.before)
+
+    last : take (suc s.number) (with_root name) ≡ take s.number (with_root name) ++ label_octets l ∷ []
+    last = take_last behind s.number l name within (f (drop s.number name) s.stands)
+
+    sizes : Counts (with_root name) (passed + taken) (suc s.number)
+    sizes =
+        let e = length-with_root name in let w = within in
+        (omega arith, ap name_size last ∙ name_size-append (take s.number (with_root name)) (label_octets l ∷ []) ∙ (let z = s.size in omega arith))
+
+    more : passed + taken ≢ left → suc s.number < n.1.0
+    more other =
+        let differ : suc s.number ≢ n.1.0 = λ e. other (sym sizes.1 ∙ ap (λ k. name_size (take k (with_root name))) e ∙ n.1.1.1) in
+        omega (arith, s.before)
+
+    pub step_on : passed + taken ≢ left → Passed name n.1.0 behind (passed + taken)
+    step_on other =
+        let m = more other in
+        let e = length-with_root name in let c = n.1.1.0 in
+        record { number = suc s.number; before = m; stands = behind_number behind s.number l name (omega arith) (f (drop s.number name) s.stands); size = sizes.1 }
+
+    pub back_has : passed + taken ≡ left → LabelsAt b p passed
+    back_has all = let e = length-with_root name in let w = within in (n.0, (s.number, (omega arith, s.size)))
+
+    pub back_gives : passed + taken ≡ left → (m : LabelsAt b p passed) → take n.1.0 (with_root name) ≡ take m.1.0 (with_root m.0.0) ++ label_octets l ∷ []
+    unfolding back_has
+    back_gives all m =
+        let counts : Counts (with_root name) left (suc s.number) = subst (λ k. Counts (with_root name) k (suc s.number)) all sizes in
+        let e : n.1.0 ≡ suc s.number = one_count (with_root name) left n.1.0 (suc s.number) n.1.1 counts in
+        ap (λ k. take k (with_root name)) e ∙ last
+        ∙ ap (λ (m : LabelsAt b p passed). take m.1.0 (with_root m.0.0) ++ label_octets l ∷ []) (LabelsAt-prop b p passed (back_has all) m)
+
+    -- one label fewer is left
+    pub back_fewer : passed + taken ≡ left → (m : LabelsAt b p passed) → length (take m.1.0 (with_root m.0.0)) < length (take n.1.0 (with_root name))
+    back_fewer all m =
+        let e = ap length (back_gives all m) ∙ length-append (take m.1.0 (with_root m.0.0)) (label_octets l ∷ []) in omega (arith, e)
+
+  -- fewer octets are passed than are left
+  pub passed_below : (p left pos passed : ℕ) (n : LabelsAt b p left) → Passed n.0.0 n.1.0 pos passed → passed < left
+  passed_below p left pos passed n s = subst (λ k. k < left) s.size (subst (λ k. name_size (take s.number (with_root n.0.0)) < k) n.1.1.1 (fewer (with_root n.0.0) s.number n.1.0 s.before n.1.1.0))
+    where
+      fewer : (labels : Labels) (j k : ℕ) → j < k → k ≤ length labels → name_size (take j labels) < name_size (take k labels)
+      fewer [] j k h w = absurd (omega arith)
+      fewer (label ∷ labels) j zero h w = absurd (omega arith)
+      fewer (label ∷ labels) zero (suc k) h w = omega arith
+      fewer (label ∷ labels) (suc j) (suc k) h w = omega (arith, fewer labels j k (omega arith) (omega arith))

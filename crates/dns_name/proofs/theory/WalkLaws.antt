@@ -1,0 +1,110 @@
+-- The walked extent at each place has one end, or one skip fault is met there.
+use Rattle.std.proofs.Common.{◌≡◌, ℕ, zero, suc, ◌+◌, ◌-◌, ◌<◌, ◌≤◌, ◌⊎◌, inl, inr, List, length, arith, sym, refl, subst}
+use Rattle.std.specs.Prelude.{Result, Ok, Err}
+use Rattle.std.proofs.lemmas.Bool.Decides.{leb_tells}
+use Rattle.dns_name.specs.Fault.{Fault}
+use Rattle.dns_name.specs.Fault.Fault.{ShortInput, Form}
+use Rattle.dns_name.specs.Names.{Labels, name_size, max_size}
+use Rattle.dns_name.specs.Heads.{head_at}
+use Rattle.dns_name.specs.Standing.{Stands, Faulty}
+use Rattle.dns_name.specs.Walking.{WalkedBehind, SkipFaulty}
+use Rattle.dns_name.specs.Walking.SkipFaulty.{head, long, cut, label}
+use Rattle.dns_name.specs.declared.head.Head.{Head}
+use Rattle.dns_name.specs.declared.head.Head.TheVariants.{Root, Label, Pointer}
+use Rattle.dns_name.proofs.theory.HeadLemmas.{root_within, pointer_within}
+use Rattle.dns_name.proofs.Walks.{name_size-label_at}
+
+module _ (b : List ℕ) where
+  end_root : {p s q : ℕ} → WalkedBehind b p s q → head_at b p ≡ Ok Root → q ≡ p + 1
+  end_root (WalkedBehind.root h) e = refl
+  end_root (WalkedBehind.pointer h) e = cc
+  end_root (WalkedBehind.label h small fits x) e = cc
+
+  end_pointer : {p s q t : ℕ} → WalkedBehind b p s q → head_at b p ≡ Ok (Pointer t) → q ≡ p + 2
+  end_pointer (WalkedBehind.root h) e = cc
+  end_pointer (WalkedBehind.pointer h) e = refl
+  end_pointer (WalkedBehind.label h small fits x) e = cc
+
+  -- the walk goes on behind a label that is short enough and all there
+  abbrev Behind : ℕ → ℕ → ℕ → ℕ → Type 0
+  Behind p s n q = (s + n + 1 ≤ max_size) × (p + 1 + n ≤ length b) × WalkedBehind b (p + 1 + n) (s + n + 1) q
+
+  end_label : {p s q n : ℕ} → WalkedBehind b p s q → head_at b p ≡ Ok (Label n) → Behind p s n q
+  end_label (WalkedBehind.root h) e = cc
+  end_label (WalkedBehind.pointer h) e = cc
+  end_label {p = p} {s = s} {q = q} (WalkedBehind.label {n = k} h small fits x) e =
+      let P : ℕ → Type 0 = λ n. Behind p s n q in subst P (cc) (small, fits, x)
+
+  no_end : {p s q : ℕ} {f : Fault} → WalkedBehind b p s q → head_at b p ≡ Err f → ⊥
+  no_end (WalkedBehind.root h) e = cc
+  no_end (WalkedBehind.pointer h) e = cc
+  no_end (WalkedBehind.label h small fits x) e = cc
+
+  -- there is one end at most
+  pub one_end : {p s q r : ℕ} → WalkedBehind b p s q → WalkedBehind b p s r → q ≡ r
+  one_end (WalkedBehind.root h) y = sym (end_root y h)
+  one_end (WalkedBehind.pointer h) y = sym (end_pointer y h)
+  one_end (WalkedBehind.label h small fits x) y = one_end x (end_label y h).2
+
+  -- Where skipping meets a fault, parsing meets it.
+  pub skip_fault : {p s : ℕ} {f : Fault} → SkipFaulty b p s f → Faulty b p s f
+  skip_fault (head h) = Faulty.head h
+  skip_fault (long h big) = Faulty.long h big
+  skip_fault (cut h small short) = Faulty.cut h small short
+  skip_fault (label h small fits x) = Faulty.label h small fits (skip_fault x)
+
+  -- an end and a fault are never both
+  pub end_or_fault : {p s q : ℕ} {f : Fault} → WalkedBehind b p s q → SkipFaulty b p s f → ⊥
+  end_or_fault w (head h) = no_end w h
+  end_or_fault w (long h big) = let x = end_label w h in absurd (omega (arith, x.0))
+  end_or_fault w (cut h small short) = let x = end_label w h in absurd (omega (arith, x.1))
+  end_or_fault w (label h small fits x) = end_or_fault (end_label w h).2 x
+
+  -- an end or a fault, behind labels of a size
+  abbrev EndOrFault : ℕ → ℕ → Type 0
+  EndOrFault p s = ((q : ℕ) × WalkedBehind b p s q) ⊎ ((f : Fault) × SkipFaulty b p s f)
+
+  behind : (p s n : ℕ) → head_at b p ≡ Ok (Label n) → s + n + 1 ≤ max_size → p + 1 + n ≤ length b → EndOrFault (p + 1 + n) (s + n + 1) → EndOrFault p s
+  behind p s n e small fits (inl a) = inl (a.0, WalkedBehind.label e small fits a.1)
+  behind p s n e small fits (inr a) = inr (a.0, label e small fits a.1)
+
+  go : (p s : ℕ) → ((p' s' : ℕ) → s < s' → s' ≤ max_size → EndOrFault p' s') → (r : Result Head Fault) → head_at b p ≡ r → EndOrFault p s
+  go p s rec (Err f) e = inr (f, head e)
+  go p s rec (Ok Root) e = inl (p + 1, WalkedBehind.root e)
+  go p s rec (Ok (Label n)) e =
+      elim (leb_tells (s + n + 1) max_size) [
+        | inl w ↦ elim (leb_tells (p + 1 + n) (length b)) [
+          | inl v ↦ behind p s n e w.1 v.1 (rec (p + 1 + n) (s + n + 1) (omega arith) w.1)
+          | inr v ↦ inr (ShortInput, cut e w.1 (omega (arith, v.1)))
+        ]
+        | inr w ↦ inr (Form, long e (omega (arith, w.1)))
+      ]
+  go p s rec (Ok (Pointer t)) e = inl (p + 2, WalkedBehind.pointer e)
+
+  answer : (k p s : ℕ) → 255 - s < k → EndOrFault p s
+  answer zero p s h = absurd (omega arith)
+  answer (suc k) p s h = go p s (λ p' s' more small. answer k p' s' (omega arith)) (head_at b p) refl
+
+  pub end_or_skip_fault : (p : ℕ) → EndOrFault p 0
+  end_or_skip_fault p = answer 256 p 0 (omega arith)
+
+-- a walked extent goes on from its place
+pub walked_rises : {b : List ℕ} {p s q : ℕ} → WalkedBehind b p s q → p ≤ q
+walked_rises (WalkedBehind.root h) = omega arith
+walked_rises (WalkedBehind.pointer h) = omega arith
+walked_rises (WalkedBehind.label h small fits x) = let l = walked_rises x in omega arith
+
+-- and ends within the octets
+pub walked_in_octets : {b : List ℕ} {p s q : ℕ} → WalkedBehind b p s q → q ≤ length b
+walked_in_octets {b = b} (WalkedBehind.root {p = p} h) = let l = root_within b p h in omega arith
+walked_in_octets {b = b} (WalkedBehind.pointer {p = p} {t = t} h) = let l = pointer_within b p t h in omega arith
+walked_in_octets (WalkedBehind.label h small fits x) = walked_in_octets x
+
+-- a name that stands somewhere has an end there
+pub standing_end : {b : List ℕ} {p : ℕ} {name : Labels} (s : ℕ) → Stands b p name → s + name_size name ≤ max_size → (q : ℕ) × WalkedBehind b p s q
+standing_end s (Stands.root {p = p} h) small = (p + 1, WalkedBehind.root h)
+standing_end {b = b} s (Stands.label {p = p} {n = n} {name = name} h w x z) small =
+    let e = name_size-label_at b p n name w in
+    let r = standing_end (s + n + 1) x (omega (arith, e)) in
+    (r.0, WalkedBehind.label h (omega (arith, e)) w r.1)
+standing_end s (Stands.pointer {p = p} h back x) small = (p + 2, WalkedBehind.pointer h)

@@ -1,0 +1,5 @@
+-- Lemmas that crates above cite: a change here is one for them too.
+pub mod Names
+pub mod QuestionEntryLemmas
+pub mod QuestionItemLemmas
+pub mod OneAnswer

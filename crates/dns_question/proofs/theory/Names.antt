@@ -1,0 +1,33 @@
+-- What is used here of names in octets, each as a law of the crate below.
+use Rattle.std.proofs.Common.{arith, inl, inr}
+use Rattle.dns_name.specs.Laws.{NameOrFault, NameOrFaultNotBoth, OneName, OneFault, EndOrSkipFault, EndOrSkipFaultNotBoth, OneEnd, StandingNamesEnd, SkipFaultsAreFaults}
+use Rattle.dns_name.specs.Unique.{same_name as same}
+use Rattle.dns_name.proofs.theory.AnswerLaws as answers
+use Rattle.dns_name.proofs.theory.WalkLaws as walks
+
+pub name_or_fault : NameOrFault
+name_or_fault b p = elim (answers.one_answer b p) [ inl a ↦ inl (a.0, a.1) | inr a ↦ inr a ]
+
+pub not_both : NameOrFaultNotBoth
+not_both b p name f x y = answers.not_both b y name x (omega (arith, answers.standing_short x))
+
+pub one_name : OneName
+one_name b p m n x y = same b x y
+
+pub one_fault : OneFault
+one_fault b p f g x y = answers.one_fault b x y
+
+pub end_or_skip_fault : EndOrSkipFault
+end_or_skip_fault b p = walks.end_or_skip_fault b p
+
+pub end_not_both : EndOrSkipFaultNotBoth
+end_not_both b p q f x y = walks.end_or_fault b x y
+
+pub one_end : OneEnd
+one_end b p q r x y = walks.one_end b x y
+
+pub names_end : StandingNamesEnd
+names_end b p name x = walks.standing_end 0 x (omega (arith, answers.standing_short x))
+
+pub skip_faults : SkipFaultsAreFaults
+skip_faults b p f x = walks.skip_fault b x

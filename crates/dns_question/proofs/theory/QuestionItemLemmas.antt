@@ -1,0 +1,58 @@
+-- Questions that are put stand where they were put, and are read there.
+use Rattle.std.proofs.Common.{ℕ, ◌+◌, ◌≤◌, length, arith, sym}
+use Rattle.std.specs.Int.{to_be_bytes, w16}
+use Rattle.dns_name.specs.Names.{name_size, max_size}
+use Rattle.dns_wire.specs.Pieces.{Rule, put_octets}
+use Rattle.dns_wire.specs.PutName.{put_name}
+use Rattle.dns_wire.specs.Targets.{Written, IsTarget, lay}
+use Rattle.dns_wire.proofs.theory.GrowingPieces.{put_name_grows, put_octets_grows, both_grows}
+use Rattle.dns_wire.proofs.theory.LengthPieces.{number_16}
+use Rattle.dns_wire.proofs.theory.OctetsAt.{at_first, at_second}
+use Rattle.dns_wire.proofs.theory.PieceLaws.{Puts, IsStable, Behind, stable_behind, puts_both, HasOctets, stable_octets, puts_octets, HasName, stable_name, puts_put_name}
+use Rattle.dns_wire.proofs.theory.SpelledNames.{spelled_stands, spelled_walked}
+use Rattle.dns_question.specs.QuestionEntries.{ReadsQuestion}
+use Rattle.dns_question.specs.QuestionLaws.{QuestionsGrow, QuestionsReadBack}
+use Rattle.dns_question.specs.Questions.{QuestionItem, IsQuestion, question_fields, put_question}
+
+-- a question is a growing piece
+pub questions_grow : QuestionsGrow
+unfolding put_question
+questions_grow rule x = both_grows _ _ (put_name_grows rule x.name) (put_octets_grows (question_fields x))
+
+-- the octets of a question go from a place to another
+abbrev pub HasQuestion : QuestionItem → Written → ℕ → ℕ → Type 0
+HasQuestion x = Behind (HasName x.name) (HasOctets (question_fields x))
+
+-- they stay
+pub stable_question : (x : QuestionItem) → IsStable (HasQuestion x)
+stable_question x = stable_behind (HasName x.name) (HasOctets (question_fields x)) (stable_name x.name) (stable_octets (question_fields x))
+
+-- a question stands where it was put
+pub puts_question : (rule : Rule) (x : QuestionItem) → IsQuestion x → Puts (put_question rule x) (HasQuestion x)
+unfolding put_question
+puts_question rule x is =
+    puts_both (put_name rule x.name) (put_octets (question_fields x)) (HasName x.name) (HasOctets (question_fields x)) (stable_name x.name)
+    (puts_put_name rule x.name is.name) (puts_octets (question_fields x))
+
+-- and is read there
+pub reads_question : (x : QuestionItem) (t : Written) (p q : ℕ) → IsQuestion x → IsTarget t → HasQuestion x t p q → ReadsQuestion t.octets p q x
+reads_question x t p q is good h =
+    let r = h.0 in
+    let first = at_first {xs = to_be_bytes w16 x.rtype} (to_be_bytes w16 x.class) h.2.0 in
+    let second = at_second (to_be_bytes w16 x.rtype) {ys = to_be_bytes w16 x.class} h.2.0 in
+    let end = h.2.1 in
+    let within = h.2.0.within in
+    let short : 0 + name_size x.name ≤ max_size = let s = is.name.short in omega arith in
+    record {
+      skips = record { name_end = r; walked = spelled_walked 0 good short h.1; end = end; within = omega arith };
+      name = spelled_stands good is.name.short h.1;
+      rtype = sym (number_16 t.octets r x.rtype is.rtype first);
+      class = sym (number_16 t.octets (r + 2) x.class is.class second);
+    }
+
+-- questions read back
+pub questions_read_back : QuestionsReadBack
+questions_read_back rule t x is h =
+    let p = puts_question rule x is in
+    let u = lay (put_question rule x) t in
+    (reads_question x u (length t.octets) (length u.octets) is (p.keeps t h) (p.puts t h), p.keeps t h)

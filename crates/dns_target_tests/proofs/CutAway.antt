@@ -1,0 +1,28 @@
+-- Appends behind a place are undone by a cut there.
+use Rattle.std.proofs.Common.{◌≡◌, ℕ, ◌≤◌, Bool, Option, Result, Ok, Err, [], length, length-append, append-nil, ap, sym, ◌∙◌, refl, subst, arith}
+use Rattle.dns_wire.specs.Pieces.{Piece, IsGrowing, put_octets}
+use Rattle.dns_wire.specs.Targets.{Written, IsTarget, Appends, cut_to}
+use Rattle.dns_octets.specs.declared.error.AppendError.{AppendError}
+use Rattle.dns_wire.proofs.theory.Composing.{cut_to-lay}
+use Rattle.dns_wire.proofs.theory.GrowingPieces.{put_octets_grows}
+use Rattle.dns_wire.proofs.theory.PieceLaws.{cut_undoes, same_written}
+
+-- a cut at its length leaves a target as it is
+pub whole : (t : Written) → IsTarget t → cut_to (length t.octets) t ≡ t
+whole t is = ap (cut_to (length t.octets)) (sym (same_written _ _ (append-nil t.octets) refl)) ∙ cut_undoes (put_octets []) t (put_octets_grows []) is
+
+-- a target goes on from what it was in its first octets
+pub record GoesOn (len : ℕ) (t u : Written) : Type 0 where
+  pub long : len ≤ length u.octets
+  pub cut : cut_to len u ≡ t
+
+-- an append, whatever its answer, goes on
+pub goes_on : (len : ℕ) (t u v : Written) (room : Option ℕ) (grows : Bool) (piece : Piece) (r : Result (Unit {0}) AppendError)
+    → IsGrowing piece → GoesOn len t u → Appends room grows piece u v r → GoesOn len t v
+goes_on len t u v room grows piece (Ok x) growing on appends =
+    let l = on.long in
+    subst (GoesOn len t) (sym appends.ok) (record {
+      long = let n = length-append u.octets (piece u.memory (length u.octets)).octets in omega arith;
+      cut = cut_to-lay piece u len growing l ∙ on.cut;
+    })
+goes_on len t u v room grows piece (Err e) growing on appends = subst (GoesOn len t) (sym appends.err) on

@@ -1,0 +1,140 @@
+//! Targets: octets and names appended, cut and written over, and what a refused append leaves.
+ghost use Rattle.std.specs.Prelude.{◌≤◌, length};
+ghost use Rattle.dns_wire.specs.Memory.{IsClear};
+
+use arrayvec::ArrayVec;
+use dns_wire::{
+    AppendError, CloneTarget, Composer, FreezeBuilder, Name, Octets, ToName, ToNameExt,
+};
+use std::process::Abort;
+use std::test::Fail;
+
+/// Appends octets and a name to an empty target, and cuts it back.
+fn assert_writes<T: Composer>(rt: &impl Abort, target: &mut T) -> Result<(), Fail> {
+    target.append_slice(b"\x00\x01")?;
+    target.append_compressed_name(&Name::from_octets(*b"\x02Ab\x00")?)?;
+    assert_eq!(rt; target.as_slice(), b"\x00\x01\x02Ab\x00".as_slice());
+    assert!(rt; !target.can_compress());
+    Name::from_octets(*b"\x01C\x02Ab\x00")?.compose_canonical(target)?;
+    assert_eq!(rt;
+        target.as_slice(),
+        b"\x00\x01\x02Ab\x00\x01c\x02ab\x00".as_slice()
+    );
+    target.truncate(12);
+    assert_eq!(rt; target.as_slice().len(), 12);
+    target.truncate(3);
+    assert_eq!(rt; target.as_slice(), b"\x00\x01\x02".as_slice());
+    Ok(())
+}
+
+fn clone_of<T: CloneTarget>(rt: &impl Abort, target: &T) -> Result<T, Fail> {
+    let clone = target.clone_target()?;
+    assert_eq!(rt; clone.as_slice(), target.as_slice());
+    Ok(clone)
+}
+
+pub(crate) fn assert_freezes<T: FreezeBuilder>(rt: &impl Abort, target: T, octets: &[u8]) {
+    let frozen = target.freeze();
+    assert_eq!(rt; frozen.octets(), octets);
+}
+
+#[test]
+fn writes_to_a_vec(rt: HostRuntime) -> Result<(), Fail> {
+    let mut target = Vec::new(rt.alloc());
+    assert_writes(&rt, &mut target)?;
+    assert_freezes(&rt, clone_of(&rt, &target)?, b"\x00\x01\x02");
+    Ok(())
+}
+
+#[test]
+fn writes_to_an_array_vec(rt: HostRuntime) -> Result<(), Fail> {
+    let mut target = ArrayVec::<u8, 12>::new();
+    assert_writes(&rt, &mut target)?;
+    assert_freezes(&rt, clone_of(&rt, &target)?, b"\x00\x01\x02");
+    Ok(())
+}
+
+fn assert_written_over<T: Composer>(rt: &impl Abort, target: &mut T)
+    requires within { 4 ≤ length (T.written target.old).octets }
+    requires clear { IsClear (T.written target.old).memory 1 2 }
+{
+    target.write_at(1, b"XY");
+    assert_eq!(rt; target.as_slice(), b"aXYd".as_slice());
+}
+
+#[test]
+fn writes_over_octets(rt: HostRuntime) -> Result<(), Fail> {
+    assert_written_over(&rt, &mut Vec::from_slice(rt.alloc(), b"abcd")?);
+    assert_written_over(&rt, &mut ArrayVec::<u8, 4>::from(*b"abcd"));
+    Ok(())
+}
+
+#[test]
+fn refuses_what_passes_the_room(rt: HostRuntime) -> Result<(), Fail> {
+    let name = Name::from_octets(*b"\x02Ab\x00")?;
+    let short = Err(AppendError::ShortBuf);
+    let mut target = ArrayVec::<u8, 5>::new();
+    target.append_slice(b"\x00\x01")?;
+    assert_eq!(rt; target.append_compressed_name(&name), short);
+    assert_eq!(rt; name.compose_canonical(&mut target), short);
+    assert_eq!(rt; target.append_slice(b"\x02\x03\x04\x05"), short);
+    assert_eq!(rt; target.as_slice(), b"\x00\x01".as_slice());
+    target.append_slice(b"\x02\x03\x04")?;
+    assert_eq!(rt; target.append_slice(b"\x05"), short);
+    assert_eq!(rt; target.as_slice(), b"\x00\x01\x02\x03\x04".as_slice());
+    target.append_slice(b"")?;
+    target.truncate(1);
+    target.append_compressed_name(&name)?;
+    assert_eq!(rt; target.as_slice(), b"\x00\x02Ab\x00".as_slice());
+    Ok(())
+}
+
+/// A target whose every growth is refused.
+#[derive(Drop)]
+pub(crate) struct Refusing;
+
+impl Composer for Refusing {
+    ghost use Rattle.std.specs.Prelude.{None, true, [], refl};
+    ghost use Rattle.dns_wire.specs.Memory.{nothing};
+    ghost use Rattle.dns_wire.specs.Pieces.{Plain};
+
+    ghost rule = { Plain };
+
+    ghost room = { None };
+
+    ghost grows = { true };
+
+    ghost written = { λ _. record { octets = []; memory = nothing } };
+
+    ghost plain_forgets = { λ _ _. refl };
+
+    fn as_slice(&self) -> &[u8] {
+        &[]
+    }
+
+    fn append_slice(&mut self, _octets: &[u8]) -> Result<(), AppendError> {
+        Err(AppendError::OutOfMemory)
+    }
+
+    fn append_compressed_name<N: ToName>(&mut self, _name: &N) -> Result<(), AppendError> {
+        Err(AppendError::OutOfMemory)
+    }
+
+    fn can_compress(&self) -> bool {
+        false
+    }
+
+    #[tactic(auto, using(dns_wire::proofs::theory::PlainTargets::cut_nothing))]
+    fn truncate(&mut self, _len: usize) {}
+
+    fn write_at(&mut self, _place: usize, _octets: &[u8]) {}
+}
+
+#[test]
+fn tells_want_of_memory(rt: HostRuntime) -> Result<(), Fail> {
+    let name = Name::from_octets(*b"\x02Ab\x00")?;
+    let refused = Err(AppendError::OutOfMemory);
+    assert_eq!(rt; name.compose_canonical(&mut Refusing), refused);
+    assert_eq!(rt; Refusing.append_compressed_name(&name), refused);
+    Ok(())
+}

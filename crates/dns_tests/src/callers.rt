@@ -1,0 +1,133 @@
+//! Proved callers: examples of the pages that say how the crates are called.
+ghost use Rattle.std.specs.Prelude.{◌≡◌, ◌≤◌, ◌↔◌, List, length, max, min, true, IfSome, IsSome};
+ghost use Rattle.dns_code.specs.Header.{fields};
+ghost use Rattle.dns_item.specs.Ttl.{cap_seconds};
+ghost use Rattle.dns_build.specs.Standing.{fresh};
+ghost use Rattle.dns_message.specs.Script.{after_all, octets_of};
+ghost use Rattle.dns_message.specs.declared.script.Reply.{Reply};
+ghost use Rattle.dns_read.specs.Message.{message_octets};
+ghost use Rattle.dns_read.specs.Sections.{AnswersStart};
+ghost use Rattle.dns_tests.specs.Callers.{IsShortMessage};
+
+use dns_message::builder::MessageBuilder;
+use dns_message::code::{Class, Rtype};
+use dns_message::data::UnknownRecordData;
+use dns_message::header::Header;
+use dns_message::message::Message;
+use dns_message::name::Name;
+use dns_message::question::ComposeQuestion;
+use dns_message::record::{ComposeRecord, Ttl};
+use dns_message::script::{Call, Stage, run};
+use dns_message::target::HashCompressor;
+use dns_message::wire::Octets;
+use std::alloc::Global;
+use std::test::Fail;
+
+/// The header of a reply to a query: its ID and its RD, and QR.
+fn reply_header(query: Header) -> Header
+    ensures id { (fields result).id ≡ (fields query).id }
+    ensures rd { (fields result).rd ≡ (fields query).rd }
+    ensures qr { (fields result).qr ≡ true }
+{
+    let mut header = Header::new();
+    header.set_id(query.id());
+    header.set_rd(query.rd());
+    header.set_qr(true);
+    header
+}
+
+#[test]
+fn replies_with_the_id(rt: HostRuntime) {
+    let mut query = Header::new();
+    query.set_id(0x1234);
+    query.set_rd(true);
+    let reply = reply_header(query);
+    assert_eq!(rt; reply.id(), 0x1234);
+    assert!(rt; reply.rd());
+    assert!(rt; reply.qr());
+}
+
+/// Octets as the data of a record, if a record can have so many.
+fn opaque(rtype: Rtype, octets: &[u8]) -> Option<UnknownRecordData<&[u8]>>
+    ensures { IsSome result ↔ (length octets.now ≤ 65535) }
+{
+    UnknownRecordData::from_octets(rtype, octets).ok()
+}
+
+#[test]
+fn takes_opaque_data(rt: HostRuntime) -> Result<(), Fail> {
+    assert!(rt; opaque(Rtype::TXT, b"\x01a").is_some());
+    let long = vec![in rt.alloc(); 0; 65536]?;
+    assert!(rt; opaque(Rtype::TXT, &long).is_none());
+    Ok(())
+}
+
+/// For how many seconds a record is kept: a week at most, but never less than the least.
+fn kept_for(ttl: Ttl, least: Ttl) -> Ttl
+    ensures { result ≡ max least (min ttl cap_seconds) }
+{
+    least.max(ttl.cap())
+}
+
+#[test]
+fn keeps_for_a_week(rt: HostRuntime) {
+    let minute = Ttl::from_secs(60);
+    assert_eq!(rt; kept_for(Ttl::from_secs(5), minute), minute);
+    assert_eq!(rt; kept_for(Ttl::MAX, minute), Ttl::CAP);
+}
+
+/// Where the answers of a message begin, if each question can be skipped.
+fn answers_start<Octs: Octets>(message: &Message<Octs>) -> Option<usize>
+    ensures { IfSome result (λ start. AnswersStart (message_octets message.now) start) }
+{
+    match message.answer() {
+        Ok(section) => Some(section.pos()),
+        Err(_) => None,
+    }
+}
+
+#[test]
+fn finds_the_answers(rt: HostRuntime) -> Result<(), Fail> {
+    let octets = b"\x00\x00\x00\x00\x00\x01\x00\x00\x00\x00\x00\x00\x01a\x00\x00\x01\x00\x01";
+    let message = Message::from_octets(octets.as_slice())?;
+    assert_eq!(rt; answers_start(&message), Some(19));
+    Ok(())
+}
+
+/// Makes the calls on a fresh builder over a hash compressor, and gives the stage behind them.
+fn compressed<Q: ComposeQuestion, R: ComposeRecord>(
+    alloc: Global,
+    calls: &[Call<Q, R>],
+) -> Option<Stage<HashCompressor<Vec<u8>>>>
+    ensures { IfSome result (λ stage. (replies : List Reply)
+        × IsShortMessage (after_all Q.question R.item fresh calls.now replies) (octets_of stage)) }
+{
+    let target = HashCompressor::new(alloc, Vec::new(alloc));
+    let Ok(builder) = MessageBuilder::from_target(target) else {
+        return None;
+    };
+    match run(Stage::Builder(builder), calls, &mut Vec::new(alloc)) {
+        Ok(stage) => Some(stage),
+        Err(_) => None,
+    }
+}
+
+#[test]
+fn spells_a_name_once(rt: HostRuntime) -> Result<(), Fail> {
+    let name = Name::from_octets(*b"\x07example\x03com\x00")?;
+    let record = (
+        name,
+        Class::IN,
+        Ttl::from_secs(0),
+        opaque(Rtype::TXT, b"").ok_or("long")?,
+    );
+    let calls = [
+        Call::ToQuestion,
+        Call::PushQuestion((name, Rtype::TXT)),
+        Call::ToAnswer,
+        Call::PushRecord(record),
+    ];
+    let stage = compressed(rt.alloc(), &calls).ok_or("memory")?;
+    assert_eq!(rt; stage.as_slice().len(), 12 + 13 + 4 + 2 + 10);
+    Ok(())
+}

@@ -1,0 +1,307 @@
+-- No spelling of the names among parts is shorter than the parts as they are put.
+use Rattle.std.proofs.Common.{◌≡◌, ℕ, ◌+◌, ◌-◌, ◌≤◌, ◌⊎◌, inl, inr, List, [], ◌∷◌, ◌++◌, length, length-append, append_assoc, append-nil, arith, ap, sym, ◌∙◌, refl, subst}
+use Rattle.std.specs.Prelude.{Some, None}
+use Rattle.std.specs.Int.{to_be_bytes, w16}
+use Rattle.std.specs.FinMap.{get, len, get-empty}
+use Rattle.dns_name.specs.Names.{Labels, IsName, name_size, max_size}
+use Rattle.dns_wire.specs.Memory.{Memory, Spot, nothing, suffix_cmp, remember}
+use Rattle.dns_wire.specs.Pieces.{Rule, Plain, Static, Tree, Hash, Piece, Laid, put_octets, both, with_length}
+use Rattle.dns_wire.specs.PutName.{spell, kept, put_name}
+use Rattle.dns_wire.specs.Parts.{Part, Octets, CompressibleName, AreParts, put_parts}
+use Rattle.dns_wire.specs.PartsWritten.{PartsNear}
+use Rattle.dns_wire.specs.Spelled.{At, Remembers}
+use Rattle.dns_wire.specs.Spelling.{IsShared, Spelling, IsShortest}
+use Rattle.dns_wire.specs.Spelling.Spelling.{none, octets, whole, shared}
+use Rattle.dns_wire.specs.SpellingLaws.{SharesAll, AddsShortest, PartsAreShortest}
+use Rattle.dns_name.specs.Walking.{Walked}
+use Rattle.dns_wire.specs.Targets.{Written, IsTarget, lay}
+use Rattle.dns_wire.proofs.theory.FilledPlaces.{near_end}
+use Rattle.dns_wire.proofs.theory.GrowingPieces.{put_name_grows}
+use Rattle.dns_wire.proofs.theory.LengthPieces.{length_of, lay-with_length}
+use Rattle.dns_wire.proofs.theory.Memories.{gets}
+use Rattle.dns_wire.proofs.theory.OctetsAt.{at_append, at_end}
+use Rattle.dns_wire.proofs.theory.PieceLaws.{lay-both, puts_put_name, puts_octets}
+use Rattle.dns_wire.proofs.theory.PlainTargets.{nothing_is_kept}
+use Rattle.dns_wire.proofs.SharedSuffixes.{Knows, Best, KeepsNear, tree_keeps_near, static_keeps_near, hash_keeps_near, best, knows_more, near_kept, near_suffixes, few_less, shared_some, len_spell, len_remember}
+use Rattle.dns_wire.proofs.theory.SpelledNames.{spelled_walked, spelled_more, kept_more}
+use Rattle.dns_name.proofs.theory.Steps.{name_size-append}
+
+-- the names behind these parts
+abbrev pub added : List Part → List Labels → List Labels
+added [] names = names
+added (Octets xs ∷ parts) names = added parts names
+added (CompressibleName name ∷ parts) names = added parts (name ∷ names)
+
+-- names behind two lists of parts
+added-append : (ps qs : List Part) (names : List Labels) → added qs (added ps names) ≡ added (ps ++ qs) names
+added-append [] qs names = refl
+added-append (Octets xs ∷ ps) qs names = added-append ps qs names
+added-append (CompressibleName name ∷ ps) qs names = added-append ps qs (name ∷ names)
+
+-- Behind earlier names, the parts are spelled from p to q as short as can be, whatever parts follow them up to the end; and the memory knows their names too.
+pub record Short (names : List Labels) (parts rest : List Part) (b : List ℕ) (p q end : ℕ) (m : Memory) : Type 0 where
+  pub knows : Knows m (added parts names)
+  pub near : PartsNear b end q rest
+  pub rises : p ≤ q
+  pub attains : (n : ℕ) → Spelling (added parts names) rest n → Spelling names (parts ++ rest) (q - p + n)
+  pub least : (n : ℕ) → Spelling names (parts ++ rest) n → (k : ℕ) × Spelling (added parts names) rest k × (q + k ≤ p + n)
+
+-- From a target to a longer one parts are added. Where what was remembered are the suffixes of earlier names, and every label is near, also in the octets c behind them, they are as short as can be.
+pub record AddsShort (rule : Rule) (parts : List Part) (t u : Written) : Type 0 where
+  pub longer : len t.memory ≤ len u.memory
+  pub keeps : IsTarget t → IsTarget u
+  pub short : (c : List ℕ) (names : List Labels) (rest : List Part) (end : ℕ) → IsTarget t → Knows t.memory names
+      → PartsNear (u.octets ++ c) end (length t.octets) (parts ++ rest) → SharesAll rule (len u.memory)
+      → Short names parts rest (u.octets ++ c) (length t.octets) (length u.octets) end u.memory
+
+-- so does a piece, on each target
+abbrev pub Shortens : Rule → Piece → List Part → Type 0
+Shortens rule piece parts = (t : Written) → AddsShort rule parts t (lay piece t)
+
+-- octets have one spelling
+octets_parts : {names : List Labels} {xs : List ℕ} {parts : List Part} {n : ℕ} → Spelling names (Octets xs ∷ parts) n → (k : ℕ) × Spelling names parts k × (n ≡ length xs + k)
+octets_parts (octets {n = k} s) = (k, s, refl)
+
+-- nothing spells no part
+pub shortens_none : (rule : Rule) → Shortens rule (put_octets []) []
+shortens_none rule t = record {
+  longer = omega arith;
+  keeps = (puts_octets []).keeps t;
+  short = λ c names rest end h knows near few.
+      let e : length (t.octets ++ []) ≡ length t.octets = ap length (append-nil t.octets) in
+      record {
+        knows = knows;
+        near = subst (λ q. PartsNear ((t.octets ++ []) ++ c) end q rest) (sym e) near;
+        rises = omega arith;
+        attains = λ n s. subst (λ k. Spelling names rest k) (omega arith) s;
+        least = λ n s. (n, s, omega arith);
+      };
+}
+
+-- octets spell a part of octets that is as long
+pub shortens_octets : (rule : Rule) (xs ys : List ℕ) → length ys ≡ length xs → Shortens rule (put_octets xs) (Octets ys ∷ [])
+shortens_octets rule xs ys same t = record {
+  longer = omega arith;
+  keeps = (puts_octets xs).keeps t;
+  short = λ c names rest end h knows near few.
+      let e : length (t.octets ++ xs) ≡ length t.octets + length ys = length-append t.octets xs ∙ ap (λ n. length t.octets + n) (sym same) in
+      record {
+        knows = knows;
+        near = subst (λ q. PartsNear ((t.octets ++ xs) ++ c) end q rest) (sym e) near;
+        rises = omega arith;
+        attains = λ n s. let o : Spelling names (Octets ys ∷ rest) (length ys + n) = octets s in subst (λ k. Spelling names (Octets ys ∷ rest) k) (omega arith) o;
+        least = λ n s. let o = octets_parts s in (o.0, o.1, omega (arith, o.2));
+      };
+}
+
+-- labels have octets
+size_some : (a : Labels) → 1 ≤ length a → 1 ≤ name_size a
+size_some [] h = absurd (omega arith)
+size_some (l ∷ a) h = omega arith
+
+-- the two ways in which a name at the front may be spelled, and how many octets that takes with the parts behind it
+abbrev AtName : List Labels → Labels → List Part → ℕ → Type 0
+AtName names name parts n =
+    ((k : ℕ) × Spelling (name ∷ names) parts k × (n ≡ name_size name + 1 + k))
+    ⊎ ((first : Labels) × (rest : Labels) × (name ≡ first ++ rest) × IsShared names rest × ((k : ℕ) × Spelling (name ∷ names) parts k × (n ≡ name_size first + 2 + k)))
+
+-- a name at the front is spelled in one of these ways
+name_parts : {names : List Labels} {name : Labels} {parts : List Part} {n : ℕ} → Spelling names (CompressibleName name ∷ parts) n → AtName names name parts n
+name_parts (whole {n = k} s) = inl (k, s, refl)
+name_parts (shared {n = k} first rest e h s) = inr (first, rest, e, h, (k, s, refl))
+
+-- a name that is as short as can be is spelled in one of these ways
+attains_name : (names : List Labels) (name : Labels) (rest : List Part) (l n : ℕ) → Best names name l → Spelling (name ∷ names) rest n → Spelling names (CompressibleName name ∷ rest) (l + n)
+attains_name names name rest l n (inl a) s = subst (λ k. Spelling names (CompressibleName name ∷ rest) (k + n)) (sym a.0) (whole s)
+attains_name names name rest l n (inr a) s = subst (λ k. Spelling names (CompressibleName name ∷ rest) (k + n)) (sym a.4) (shared a.0 a.1 a.2 a.3 s)
+
+-- and in no way is it shorter
+least_name : (names : List Labels) (name : Labels) (rest : List Part) (l n : ℕ) → Best names name l → AtName names name rest n → (k : ℕ) × Spelling (name ∷ names) rest k × (l + k ≤ n)
+least_name names name rest l n (inl a) (inl b) = (b.0, b.1, omega (arith, a.0, b.2))
+least_name names name rest l n (inl a) (inr b) = absurd (a.1 b.0 b.1 b.2 b.3)
+least_name names name rest l n (inr a) (inl b) =
+    let e : name_size name ≡ name_size a.0 + name_size a.1 = ap name_size a.2 ∙ name_size-append a.0 a.1 in
+    let some = size_some a.1 (shared_some names a.1 a.3) in
+    (b.0, b.1, omega (arith, a.4, b.2))
+least_name names name rest l n (inr a) (inr b) = let m = a.5 b.0 b.1 b.2 b.3 in (b.4.0, b.4.1, omega (arith, a.4, b.4.2))
+
+-- a rule that writes names as `spell` does, and remembers each suffix that is near while it shares all
+pub record Spells (rule : Rule) : Type 0 where
+  pub near : KeepsNear rule
+  pub few : (name : Labels) (m : Memory) (w : ℕ) → SharesAll rule (len (put_name rule name m w).memory) → SharesAll rule (len m + length (spell rule m w (len m) name).1)
+  pub writes : (name : Labels) (m : Memory) (w : ℕ) → let spelled = spell rule m w (len m) name in put_name rule name m w ≡ record { octets = spelled.0; memory = remember m (kept rule spelled.1) (w + length spelled.0) }
+
+-- the tree rule does
+spells_tree : Spells Tree
+unfolding put_name
+spells_tree = record { near = tree_keeps_near; few = λ name m w h. tt; writes = λ name m w. refl }
+
+-- so does the static rule
+spells_static : Spells Static
+unfolding put_name
+spells_static = record {
+  near = static_keeps_near;
+  few = λ name m w h. let spelled = spell Static m w (len m) name in let e = len_spell Static m (w + length spelled.0) w (len m) name in omega arith;
+  writes = λ name m w. refl;
+}
+
+-- so does the hash rule
+spells_hash : Spells Hash
+unfolding put_name
+spells_hash = record { near = hash_keeps_near; few = λ name m w h. tt; writes = λ name m w. refl }
+
+-- so does every rule that shares all
+pub spells : (rule : Rule) (n : ℕ) → SharesAll rule n → Spells rule
+spells Plain n few = absurd few
+spells Static n few = spells_static
+spells Tree n few = spells_tree
+spells Hash n few = spells_hash
+
+-- what a rule writes of a name is as short as can be, by the text and the suffixes that `spell` gives
+name_short : (rule : Rule) (name : Labels) (t : Written) (laid : Laid) (c : List ℕ) (names : List Labels) (rest : List Part) (end : ℕ) → KeepsNear rule → IsName name → Knows t.memory names
+    → let spelled = spell rule t.memory (length t.octets) (len t.memory) name in laid ≡ record { octets = spelled.0; memory = remember t.memory (kept rule spelled.1) (length t.octets + length spelled.0) }
+    → ((s : Labels) (x : Spot) → get t.memory s ≡ Some x → get laid.memory s ≡ Some x)
+    → Walked ((t.octets ++ laid.octets) ++ c) (length t.octets) (length (t.octets ++ laid.octets))
+    → PartsNear ((t.octets ++ laid.octets) ++ c) end (length t.octets) (CompressibleName name ∷ rest)
+    → SharesAll rule (len t.memory + length (spell rule t.memory (length t.octets) (len t.memory) name).1)
+    → Short names (CompressibleName name ∷ []) rest ((t.octets ++ laid.octets) ++ c) (length t.octets) (length (t.octets ++ laid.octets)) end laid.memory
+name_short rule name t laid c names rest end r is knows e g walked near few =
+    let m = t.memory in
+    let w = length t.octets in
+    let spelled = spell rule m w (len m) name in
+    let b = (t.octets ++ laid.octets) ++ c in
+    let text : laid.octets ≡ spelled.0 = ap (λ (x : Laid). x.octets) e in
+    let at = subst (λ (xs : List ℕ). At b w xs) text (at_append c (at_end t.octets laid.octets)) in
+    let all = near_kept rule r m b near.0 w (len m) name is near.1 at few in
+    let chosen = near_suffixes rule m b near.0 w (len m) name is near.1 at in
+    let q = w + length spelled.0 in
+    let memory : laid.memory ≡ remember m spelled.1 q = ap (λ (x : Laid). x.memory) e ∙ ap (λ (ss : List (Labels × ℕ)). remember m ss q) (r.chosen spelled.1 chosen) in
+    let shortest : Best names name (length spelled.0) = best rule m names w (len m) name knows all in
+    let long : length (t.octets ++ laid.octets) ≡ w + length spelled.0 = length-append t.octets laid.octets ∙ ap (λ (xs : List ℕ). w + length xs) text in
+    record {
+      knows = knows_more rule m laid.memory names w (len m) q name knows all memory g;
+      near = subst (λ k. PartsNear b end k rest) (near_end walked near.1) near.2;
+      rises = omega arith;
+      attains = λ n s.
+          let k : length spelled.0 + n ≡ length (t.octets ++ laid.octets) - w + n = omega arith in
+          subst (λ k. Spelling names (CompressibleName name ∷ rest) k) k (attains_name names name rest (length spelled.0) n shortest s);
+      least = λ n s. let l = least_name names name rest (length spelled.0) n shortest (name_parts s) in (l.0, l.1, omega (arith, l.2));
+    }
+
+-- what is remembered is remembered in more octets
+remembers_more : (m : Memory) (b c : List ℕ) → Remembers b m → Remembers (b ++ c) m
+remembers_more m b c r = record { each = λ s x e. kept_more m c s x (λ s x e. e) (r.each s x e) }
+
+-- a name is as short as can be
+pub shortens_name : (rule : Rule) (name : Labels) → Spells rule → IsName name → Shortens rule (put_name rule name) (CompressibleName name ∷ [])
+shortens_name rule name r is t =
+    let w = length t.octets in
+    let laid = put_name rule name t.memory w in
+    let spelled = spell rule t.memory w (len t.memory) name in
+    let p = puts_put_name rule name is in
+    record {
+      longer = subst (λ (x : Laid). len t.memory ≤ len x.memory) (sym (r.writes name t.memory w)) (len_remember t.memory (kept rule spelled.1) (w + length spelled.0));
+      keeps = p.keeps t;
+      short = λ c names rest end h knows near few.
+          let after = remembers_more laid.memory (t.octets ++ laid.octets) c (p.keeps t h) in
+          let small : 0 + name_size name ≤ max_size = let k = is.short in omega arith in
+          name_short rule name t laid c names rest end r.near is knows (r.writes name t.memory w) (gets ((put_name_grows rule name).grows t.memory w))
+          (spelled_walked 0 after small (spelled_more laid.memory c (λ s x e. e) (p.puts t h))) near (r.few name t.memory w few);
+    }
+
+-- so is a piece that does the same as another
+pub shortens_same : (rule : Rule) (a b : Piece) (parts : List Part) → ((t : Written) → lay a t ≡ lay b t) → Shortens rule a parts → Shortens rule b parts
+shortens_same rule a b parts e x t = subst (λ (u : Written). AddsShort rule parts t u) (e t) (x t)
+
+-- parts and others behind them, with what is known of both
+short_both : (names : List Labels) (ps qs rest : List Part) (b d : List ℕ) (p q r end : ℕ) (m n : Memory)
+    → Short names ps (qs ++ rest) d p q end m → Short (added ps names) qs rest b q r end n → Short names (ps ++ qs) rest b p r end n
+short_both names ps qs rest b d p q r end m n x y =
+    let all = append_assoc ps qs rest in
+    let up = x.rises in
+    let on = y.rises in
+    record {
+      knows = subst (λ (l : List Labels). Knows n l) (added-append ps qs names) y.knows;
+      near = y.near;
+      rises = omega arith;
+      attains = λ k s.
+          let s' : Spelling (added qs (added ps names)) rest k = subst (λ (l : List Labels). Spelling l rest k) (sym (added-append ps qs names)) s in
+          let total : q - p + (r - q + k) ≡ r - p + k = omega arith in
+          subst (λ (l : List Part). Spelling names l (r - p + k)) (sym all) (subst (λ i. Spelling names (ps ++ (qs ++ rest)) i) total (x.attains (r - q + k) (y.attains k s')));
+      least = λ k s.
+          let first = x.least k (subst (λ (l : List Part). Spelling names l k) all s) in
+          let second = y.least first.0 first.1 in
+          (second.0, subst (λ (l : List Labels). Spelling l rest second.0) (added-append ps qs names) second.1, omega (arith, first.2, second.2));
+    }
+
+-- two pieces that are laid in turn
+adds_both : (rule : Rule) (a b : Piece) (ps qs : List Part) (t : Written) → Shortens rule a ps → Shortens rule b qs → AddsShort rule (ps ++ qs) t (lay b (lay a t))
+adds_both rule a b ps qs t x y =
+    let u = lay a t in
+    let v = lay b u in
+    let first = x t in
+    let second = y u in
+    let up = first.longer in
+    let on = second.longer in
+    record {
+      longer = omega arith;
+      keeps = λ h. second.keeps (first.keeps h);
+      short = λ c names rest end h knows near few.
+          let text = (b u.memory (length u.octets)).octets in
+          let e : v.octets ++ c ≡ u.octets ++ (text ++ c) = append_assoc u.octets text c in
+          let near' = subst (λ (l : List Part). PartsNear (v.octets ++ c) end (length t.octets) l) (append_assoc ps qs rest) near in
+          let one = first.short (text ++ c) names (qs ++ rest) end h knows (subst (λ (o : List ℕ). PartsNear o end (length t.octets) (ps ++ (qs ++ rest))) e near') (few_less rule (len u.memory) (len v.memory) on few) in
+          let two = second.short c (added ps names) rest end (first.keeps h) one.knows (subst (λ (o : List ℕ). PartsNear o end (length u.octets) (qs ++ rest)) (sym e) one.near) few in
+          short_both names ps qs rest (v.octets ++ c) (u.octets ++ (text ++ c)) (length t.octets) (length u.octets) (length v.octets) end u.memory v.memory one two;
+    }
+
+-- two pieces, one behind the other
+pub shortens_both : (rule : Rule) (a b : Piece) (ps qs : List Part) → Shortens rule a ps → Shortens rule b qs → Shortens rule (both a b) (ps ++ qs)
+shortens_both rule a b ps qs x y t = subst (λ (u : Written). AddsShort rule (ps ++ qs) t u) (lay-both a b t) (adds_both rule a b ps qs t x y)
+
+-- so are parts
+pub shortens_parts : (rule : Rule) (parts : List Part) → Spells rule → AreParts parts → Shortens rule (put_parts rule parts) parts
+unfolding put_parts
+shortens_parts rule [] r is = shortens_none rule
+shortens_parts rule (Octets xs ∷ parts) r is = shortens_both rule (put_octets xs) (put_parts rule parts) (Octets xs ∷ []) parts (shortens_octets rule xs xs refl) (shortens_parts rule parts r is)
+shortens_parts rule (CompressibleName name ∷ parts) r is = shortens_both rule (put_name rule name) (put_parts rule parts) (CompressibleName name ∷ []) parts (shortens_name rule name r is.0) (shortens_parts rule parts r is.1)
+
+-- so are parts behind their length
+pub shortens_with_length : (rule : Rule) (a : Piece) (parts : List Part) → Shortens rule a parts → Shortens rule (with_length a) (Octets (0 ∷ 0 ∷ []) ∷ parts)
+shortens_with_length rule a parts x t =
+    let n = to_be_bytes w16 (length_of a t) in
+    let two = shortens_both rule (put_octets n) a (Octets (0 ∷ 0 ∷ []) ∷ []) parts (shortens_octets rule n (0 ∷ 0 ∷ []) refl) x in
+    subst (λ (u : Written). AddsShort rule (Octets (0 ∷ 0 ∷ []) ∷ parts) t u) (lay-with_length a t) (two t)
+
+-- nothing is remembered where nothing is shared
+pub knows_nothing : Knows nothing []
+knows_nothing = record {
+  has = λ s h. absurd h;
+  only = λ s x e. absurd (let k : None ≡ Some x = sym (get-empty suffix_cmp s) ∙ e in cc);
+}
+
+-- parts that are laid where nothing is remembered
+pub laid_shortest : (rule : Rule) (parts : List Part) (t u : Written) → AddsShort rule parts t u → IsTarget t → Knows t.memory [] → PartsNear u.octets (length u.octets) (length t.octets) parts → SharesAll rule (len u.memory)
+    → AddsShortest parts t u
+laid_shortest rule parts t u x h knows near few =
+    let end = length u.octets in
+    let w = length t.octets in
+    let near' : PartsNear (u.octets ++ []) end w (parts ++ []) =
+    subst (λ (l : List Part). PartsNear (u.octets ++ []) end w l) (sym (append-nil parts)) (subst (λ (o : List ℕ). PartsNear o end w parts) (sym (append-nil u.octets)) near) in
+    let s = x.short [] [] [] end h knows near' few in
+    let up = s.rises in (
+      end - w,
+      omega arith,
+      record {
+        spelling = subst (λ (l : List Part). Spelling [] l (end - w)) (append-nil parts)
+            (subst (λ k. Spelling [] (parts ++ []) k) (let e : end - w + 0 ≡ end - w = omega arith in e) (s.attains 0 none));
+        least = λ n sp. let l = s.least n (subst (λ (l : List Part). Spelling [] l n) (sym (append-nil parts)) sp) in omega (arith, l.2);
+      },
+    )
+
+-- parts are as short as can be where nothing is remembered
+pub parts_are_shortest : PartsAreShortest
+parts_are_shortest rule b parts is few near =
+    let t : Written = record { octets = b; memory = nothing } in
+    let u = lay (put_parts rule parts) t in
+    laid_shortest rule parts t u (shortens_parts rule parts (spells rule (len u.memory) few) is t) (nothing_is_kept b) knows_nothing near few

@@ -1,0 +1,134 @@
+-- What is spelled stays spelled, and stands.
+use Rattle.std.proofs.Common.{◌≡◌, ℕ, zero, suc, ◌+◌, ◌<◌, ◌≤◌, inl, inr, List, [], ◌∷◌, ◌++◌, take, length, arith, sym, subst}
+use Rattle.std.specs.Prelude.{Some}
+use Rattle.std.specs.FinMap.{get}
+use Rattle.dns_name.specs.Names.{Labels, name_size, max_size, framed}
+use Rattle.dns_wire.specs.Memory.{Memory, Spot, cut, IsClear}
+use Rattle.dns_name.specs.Standing.{Stands}
+use Rattle.dns_name.specs.Walking.{WalkedBehind, Walked}
+use Rattle.dns_octets.specs.Octets.{overwritten}
+use Rattle.dns_wire.specs.PutName.{pointer as pointer_octets}
+use Rattle.dns_wire.specs.Spelled.{At, Spelled, Labelled, Kept, Remembers}
+use Rattle.dns_wire.specs.Spelled.Spelled.{root, label, pointer}
+use Rattle.dns_wire.proofs.theory.Memories.{get_in_cut, get_of_cut}
+use Rattle.dns_wire.proofs.theory.OctetsAt.{at_append, at_take, at_before, at_behind, root_at, label_begins, pointer_at, label_octets}
+
+-- a spelled name takes octets, and they are there
+pub spelled_long : {m : Memory} {b : List ℕ} {q p : ℕ} {name : Labels} → Spelled m b q p name → (p < q) × (q ≤ length b)
+spelled_long (root h e) = let w = h.within in (omega arith, omega arith)
+spelled_long (label {first = first} l h x) = let w = spelled_long x in (omega (arith, w.0), w.1)
+spelled_long (pointer g before h e) = let w = h.within in (omega arith, omega arith)
+
+-- What is spelled between two places is spelled there in other octets too that have the same there, and by another memory that has what the first has of names that end before the second place.
+pub moved : (m n : Memory) (b c : List ℕ) (lo q : ℕ)
+    → ((p : ℕ) (xs : List ℕ) → lo ≤ p → p + length xs ≤ q → At b p xs → At c p xs)
+    → ((s : Labels) (x : Spot) → get m s ≡ Some x → x.end < q → get n s ≡ Some x)
+    → {p : ℕ} {name : Labels} → lo ≤ p → Spelled m b q p name → Spelled n c q p name
+moved m n b c lo q f g low (root {p = p} h e) = root (f p (0 ∷ []) low (omega arith) h) e
+moved m n b c lo q f g low (label {p = p} {first = first} l h x) =
+    let w = spelled_long x in
+    label l (f p (framed first) low (omega (arith, w.0)) h) (moved m n b c lo q f g (omega arith) x)
+moved m n b c lo q f g low (pointer {p = p} {name = name} {x = x} e before h is) =
+    pointer (g name x e (omega arith)) before (f p (pointer_octets x.place) low (omega arith) h) is
+
+-- the same of a name that begins with a label
+labelled_moved : (m n : Memory) (b c : List ℕ) (lo q : ℕ)
+    → ((p : ℕ) (xs : List ℕ) → lo ≤ p → p + length xs ≤ q → At b p xs → At c p xs)
+    → ((s : Labels) (x : Spot) → get m s ≡ Some x → x.end < q → get n s ≡ Some x)
+    → (p : ℕ) (name : Labels) → lo ≤ p → Labelled m b q p name → Labelled n c q p name
+labelled_moved m n b c lo q f g p [] low h = absurd h
+labelled_moved m n b c lo q f g p (first ∷ rest) low h =
+    let w = spelled_long h.2 in
+    (h.0, f p (framed first) low (omega (arith, w.0)) h.1, moved m n b c lo q f g (omega arith) h.2)
+
+-- a name that is spelled and begins with a label is spelled
+pub labelled_spelled : {m : Memory} {b : List ℕ} {q : ℕ} (p : ℕ) (name : Labels) → Labelled m b q p name → Spelled m b q p name
+labelled_spelled p [] h = absurd h
+labelled_spelled p (first ∷ rest) h = label h.0 h.1 h.2
+
+-- a remembered suffix is spelled at its place, up to the end of its name
+pub kept_spelled : {m : Memory} {b : List ℕ} (s : Labels) (x : Spot) → Kept b m s x → Spelled m b x.end x.place s
+kept_spelled s x k = labelled_spelled x.place s k.spelled
+
+-- the same of a suffix that is kept
+pub kept_moved : (m n : Memory) (b c : List ℕ) (s : Labels) (x : Spot)
+    → ((p : ℕ) (xs : List ℕ) → x.place ≤ p → p + length xs ≤ x.end → At b p xs → At c p xs)
+    → ((s : Labels) (y : Spot) → get m s ≡ Some y → y.end < x.end → get n s ≡ Some y)
+    → Kept b m s x → Kept c n s x
+kept_moved m n b c s x f g k = record { near = k.near; short = k.short; spelled = labelled_moved m n b c x.place x.end f g x.place s (omega arith) k.spelled }
+
+-- what was spelled is spelled in more octets by a memory with more
+pub spelled_more : {m : Memory} {b : List ℕ} {q p : ℕ} {name : Labels} (n : Memory) (c : List ℕ)
+    → ((s : Labels) (x : Spot) → get m s ≡ Some x → get n s ≡ Some x) → Spelled m b q p name → Spelled n (b ++ c) q p name
+spelled_more {m = m} {b = b} {q = q} n c g s = moved m n b (b ++ c) 0 q (λ p xs low fits h. at_append c h) (λ t x e less. g t x e) (omega arith) s
+
+-- what was kept is kept there
+pub kept_more : {m : Memory} {b : List ℕ} (n : Memory) (c : List ℕ) (s : Labels) (x : Spot)
+    → ((s : Labels) (x : Spot) → get m s ≡ Some x → get n s ≡ Some x) → Kept b m s x → Kept (b ++ c) n s x
+kept_more {m = m} {b = b} n c s x g k = kept_moved m n b (b ++ c) s x (λ p xs low fits h. at_append c h) (λ t y e less. g t y e) k
+
+-- A spelled name stands, where what is remembered of names with earlier ends stands.
+stands_if : {m : Memory} {b : List ℕ} {q : ℕ} → Remembers b m → ((s : Labels) (x : Spot) → get m s ≡ Some x → x.end < q → Stands b x.place s)
+    → {p : ℕ} {name : Labels} → name_size name ≤ max_size → Spelled m b q p name → Stands b p name
+stands_if r ih short (root h e) = Stands.root (root_at h)
+stands_if {b = b} {q = q} r ih short (label {p = p} {first = first} {rest = rest} l h x) =
+    let w = spelled_long x in
+    let P : List ℕ → Type 0 = λ first. Stands b p (first ∷ rest) in
+    subst P (label_octets h) (Stands.label (label_begins l h) (omega arith) (stands_if r ih (omega arith) x) (omega arith))
+stands_if r ih short (pointer {p = p} {name = name} {x = x} e before h is) =
+    let k = r.each name x e in
+    let w = spelled_long (kept_spelled name x k) in
+    Stands.pointer (pointer_at x.place k.near h) (omega (arith, w.0)) (ih name x e (omega arith))
+
+-- by induction on the end
+stands_below : {m : Memory} {b : List ℕ} → Remembers b m → (k q p : ℕ) (name : Labels) → q < k → name_size name ≤ max_size → Spelled m b q p name → Stands b p name
+stands_below r zero q p name h short s = absurd (omega arith)
+stands_below r (suc k) q p name h short s =
+    stands_if r (λ t x e less. let kept = r.each t x e in stands_below r k x.end x.place t (omega arith) kept.short (kept_spelled t x kept)) short s
+
+-- a spelled name that is short enough stands
+pub spelled_stands : {m : Memory} {b : List ℕ} {q p : ℕ} {name : Labels} → Remembers b m → name_size name ≤ max_size → Spelled m b q p name → Stands b p name
+spelled_stands {q = q} {p = p} {name = name} r short s = stands_below r (q + 1) q p name (omega arith) short s
+
+-- its octets end at q
+pub spelled_walked : {m : Memory} {b : List ℕ} {q p : ℕ} {name : Labels} (s : ℕ) → Remembers b m → s + name_size name ≤ max_size → Spelled m b q p name → WalkedBehind b p s q
+spelled_walked {b = b} s r small (root {p = p} h e) = subst (λ q. WalkedBehind b p s q) (sym e) (WalkedBehind.root (root_at h))
+spelled_walked s r small (label {p = p} {first = first} l h x) =
+    let w = spelled_long x in
+    WalkedBehind.label (label_begins l h) (omega arith) (omega arith) (spelled_walked (s + length first + 1) r (omega arith) x)
+spelled_walked {b = b} s r small (pointer {p = p} {name = name} {x = x} e before h is) =
+    subst (λ q. WalkedBehind b p s q) (sym is) (WalkedBehind.pointer (pointer_at x.place (r.each name x e).near h))
+
+-- what ends within the first octets is spelled in these
+spelled_cut : {m : Memory} {b : List ℕ} {q p : ℕ} {name : Labels} (len : ℕ) → q ≤ len → Spelled m b q p name → Spelled (cut m len) (take len b) q p name
+spelled_cut {m = m} {b = b} {q = q} len l s =
+    moved m (cut m len) b (take len b) 0 q (λ p xs low fits h. at_take len (omega arith) h) (λ t x e less. get_in_cut m len t x e (omega arith)) (omega arith) s
+
+-- what a cut leaves is kept in what it leaves of the octets
+pub remembers_cut : {m : Memory} {b : List ℕ} (len : ℕ) → Remembers b m → Remembers (take len b) (cut m len)
+remembers_cut {m = m} {b = b} len r = record {
+  each = λ s x e.
+      let g = get_of_cut m len s x e in
+      let l : x.end ≤ len = g.1 in
+      kept_moved m (cut m len) b (take len b) s x (λ p xs low fits h. at_take len (omega arith) h) (λ t y e less. get_in_cut m len t y e (omega arith)) (r.each s x g.0);
+}
+
+-- all is kept where octets are overwritten that no remembered name has
+pub remembers_over : {m : Memory} {b : List ℕ} (place : ℕ) (over : List ℕ) → IsClear m place (length over) → Remembers b m → Remembers (overwritten b place over) m
+remembers_over {m = m} {b = b} place over clear r = record {
+  each = λ s x e.
+      elim (clear s x e) [
+        | inl w ↦ kept_moved m m b _ s x (λ p xs low fits h. at_before over place (omega (arith, w)) h) (λ t y e less. e) (r.each s x e)
+        | inr w ↦ kept_moved m m b _ s x (λ p xs low fits h. at_behind over place (omega (arith, w)) h) (λ t y e less. e) (r.each s x e)
+      ];
+}
+
+-- a spelled name stands also where only the octets up to an end behind it are seen
+pub stands_within : {m : Memory} {b : List ℕ} {q p : ℕ} {name : Labels} (end : ℕ) → Remembers b m → q ≤ end → name_size name ≤ max_size
+    → Spelled m b q p name → Stands (take end b) p name
+stands_within end r l short s = spelled_stands (remembers_cut end r) short (spelled_cut end l s)
+
+-- its octets end at the same place there
+pub walked_within : {m : Memory} {b : List ℕ} {q p : ℕ} {name : Labels} (end : ℕ) → Remembers b m → q ≤ end → name_size name ≤ max_size
+    → Spelled m b q p name → Walked (take end b) p q
+walked_within end r l short s = spelled_walked 0 (remembers_cut end r) (omega arith) (spelled_cut end l s)

@@ -1,0 +1,183 @@
+-- A name stands in all octets that agree where it stands.
+use Rattle.std.proofs.Common.{◌≡◌, ℕ, zero, suc, ◌+◌, ◌-◌, ◌<◌, ◌≤◌, ◌⊎◌, inl, inr, List, [], ◌∷◌, ◌++◌, take, drop, length, length-append, length-take, length-drop, append_assoc, arith, ap, sym, ◌∙◌, refl, subst}
+use Rattle.std.specs.Prelude.{Option, Some, None, Ok, slice_get}
+use Rattle.std.specs.FinMap.{get}
+use Rattle.dns_name.specs.Names.{Labels, name_size, max_size}
+use Rattle.dns_wire.specs.Memory.{Memory, Spot, IsBehind}
+use Rattle.dns_name.specs.Heads.{head_at}
+use Rattle.dns_name.specs.Standing.{Stands, label_at}
+use Rattle.dns_wire.specs.StandsIn.{StandsIn, Agree}
+use Rattle.dns_wire.specs.StandsIn.StandsIn.{root, label, pointer}
+use Rattle.dns_octets.specs.Octets.{overwritten}
+use Rattle.dns_wire.specs.Spelled.{Spelled, Remembers}
+use Rattle.dns_wire.specs.TargetLaws.{StandsWhenOverwritten, StandsBehind}
+use Rattle.dns_name.specs.declared.head.Head.TheVariants.{Root, Label, Pointer}
+use Rattle.dns_name.proofs.theory.HeadLemmas.{label_head, label_there, root_there, root_begins, label_begins, same_head, root_within, pointer_within}
+use Rattle.dns_wire.proofs.theory.OctetsAt as octets_at
+use Rattle.dns_wire.proofs.theory.SpelledNames.{spelled_long, kept_spelled}
+
+-- a name takes octets of its content alone
+pub stands_in : {b : List ℕ} {p : ℕ} {name : Labels} → Stands b p name → StandsIn b 0 (length b) p name
+stands_in {b = b} (Stands.root {p = p} h) = let w = root_within b p h in root (omega arith) (omega arith) h
+stands_in (Stands.label h w x z) = label (omega arith) w h (stands_in x) z
+stands_in {b = b} (Stands.pointer {p = p} {t = t} h back x) =
+    let w = pointer_within b p t h in
+    pointer (omega arith) (omega arith) h back (stands_in x)
+
+-- one that takes such octets alone stands
+pub in_stands : {b : List ℕ} {lo hi p : ℕ} {name : Labels} → hi ≤ length b → StandsIn b lo hi p name → Stands b p name
+in_stands l (root low high h) = Stands.root h
+in_stands l (label {p = p} {n = n} low high h x z) = Stands.label h (omega arith) (in_stands l x) z
+in_stands l (pointer low high h back x) = Stands.pointer h back (in_stands l x)
+
+-- what may be there, before others
+abbrev before_others : Option ℕ → List ℕ → List ℕ
+before_others None xs = xs
+before_others (Some x) xs = x ∷ xs
+
+-- the first octet and those behind it
+take_get : (n p : ℕ) (b : List ℕ) → take (suc n) (drop p b) ≡ before_others (slice_get b p) (take n (drop (suc p) b))
+take_get zero zero [] = refl
+take_get zero (suc p) [] = refl
+take_get (suc n) zero [] = refl
+take_get (suc n) (suc p) [] = refl
+take_get n zero (x ∷ b) = refl
+take_get n (suc p) (x ∷ b) = take_get n p b
+
+-- lists that have the same at each of n places have the same part there
+same_part : (b c : List ℕ) (n p : ℕ) → ((k : ℕ) → p ≤ k → k < p + n → slice_get b k ≡ slice_get c k) → take n (drop p b) ≡ take n (drop p c)
+same_part b c zero p h = refl
+same_part b c (suc n) p h =
+    take_get n p b
+    ∙ (λ i. before_others (h p (omega arith) (omega arith) i) (same_part b c n (suc p) (λ k l m. h k (omega arith) (omega arith)) i))
+    ∙ sym (take_get n p c)
+
+-- where octets agree there are the same labels
+same_label : (b c : List ℕ) (lo hi p n : ℕ) → Agree b c lo hi → lo ≤ p → p + 1 + n ≤ hi → label_at b p n ≡ label_at c p n
+same_label b c lo hi p n a low high =
+    let e : p + 1 + n - (p + 1) ≡ n = omega arith in
+    ap (λ k. take k (drop (p + 1) b)) e ∙ same_part b c n (p + 1) (λ k l m. a.same k (omega arith) (omega arith)) ∙ ap (λ k. take k (drop (p + 1) c)) (sym e)
+
+-- where octets agree the same begins
+agree_root : {b c : List ℕ} {lo hi p : ℕ} → Agree b c lo hi → lo ≤ p → p + 1 ≤ hi → head_at b p ≡ Ok Root → head_at c p ≡ Ok Root
+agree_root {b = b} {c = c} {p = p} a low high h = root_begins c p (sym (a.same p low (omega arith)) ∙ root_there b p h)
+
+agree_label : {b c : List ℕ} {lo hi p n : ℕ} → Agree b c lo hi → lo ≤ p → p + 1 ≤ hi → head_at b p ≡ Ok (Label n) → head_at c p ≡ Ok (Label n)
+agree_label {b = b} {c = c} {p = p} {n = n} a low high h =
+    let l = label_head b p n h in
+    label_begins c p n (omega (arith, l.some)) (omega (arith, l.short)) (sym (a.same p low (omega arith)) ∙ label_there b p n h)
+
+agree_pointer : {b c : List ℕ} {lo hi p t : ℕ} → Agree b c lo hi → lo ≤ p → p + 2 ≤ hi → head_at b p ≡ Ok (Pointer t) → head_at c p ≡ Ok (Pointer t)
+agree_pointer {b = b} {c = c} {p = p} {t = t} a low high h = sym (same_head b c p (a.same p low (omega arith)) (a.same (p + 1) (omega arith) (omega arith))) ∙ h
+
+-- a name stands in all octets that agree where it stands
+pub agreed : {b c : List ℕ} {lo hi p : ℕ} {name : Labels} → Agree b c lo hi → StandsIn b lo hi p name → StandsIn c lo hi p name
+agreed a (root low high h) = root low high (agree_root a low high h)
+agreed {b = b} {c = c} {lo = lo} {hi = hi} a (label {p = p} {n = n} {name = name} low high h x z) =
+    let P : List ℕ → Type 0 = λ first. StandsIn c lo hi p (first ∷ name) in
+    subst P (sym (same_label b c lo hi p n a low high)) (label low high (agree_label a low (omega arith) h) (agreed a x) z)
+agreed a (pointer low high h back x) = pointer low high (agree_pointer a low high h) back (agreed a x)
+
+-- octets at their places in longer contents and in parts
+get_append : (b c : List ℕ) (k : ℕ) → k < length b → slice_get b k ≡ slice_get (b ++ c) k
+get_append [] c k h = absurd (omega arith)
+get_append (x ∷ b) c zero h = refl
+get_append (x ∷ b) c (suc k) h = get_append b c k (omega arith)
+
+get_take : (b : List ℕ) (e k : ℕ) → k < e → slice_get (take e b) k ≡ slice_get b k
+get_take [] zero k h = refl
+get_take [] (suc e) k h = refl
+get_take (x ∷ b) zero k h = absurd (omega arith)
+get_take (x ∷ b) (suc e) zero h = refl
+get_take (x ∷ b) (suc e) (suc k) h = get_take b e k (omega arith)
+
+get_behind : (xs ys : List ℕ) (k : ℕ) → slice_get (xs ++ ys) (length xs + k) ≡ slice_get ys k
+get_behind [] ys k = ap (slice_get ys) (let e : 0 + k ≡ k = omega arith in e)
+get_behind (x ∷ xs) ys k = ap (slice_get (x ∷ (xs ++ ys))) (let e : suc (length xs) + k ≡ suc (length xs + k) = omega arith in e) ∙ get_behind xs ys k
+
+get_dropped : (b : List ℕ) (n k : ℕ) → slice_get (drop n b) k ≡ slice_get b (n + k)
+get_dropped b zero k = ap (slice_get b) (let e : k ≡ 0 + k = omega arith in e)
+get_dropped [] (suc n) k = refl
+get_dropped (x ∷ b) (suc n) k = get_dropped b n k ∙ ap (slice_get (x ∷ b)) (let e : suc (n + k) ≡ suc n + k = omega arith in e)
+
+-- a longer content agrees with the first
+agree_append : (b c : List ℕ) → Agree b (b ++ c) 0 (length b)
+agree_append b c = record { long = omega (arith, length-append b c); same = λ k l h. get_append b c k h }
+
+-- a name stands in every longer content
+pub stands_append : {b : List ℕ} {p : ℕ} {name : Labels} (c : List ℕ) → Stands b p name → Stands (b ++ c) p name
+stands_append {b = b} c s = in_stands (omega (arith, length-append b c)) (agreed (agree_append b c) (stands_in s))
+
+-- octets agree before those that are overwritten
+agree_front : (b over : List ℕ) (place lo hi : ℕ) → place + length over ≤ length b → hi ≤ place → Agree b (take place b ++ (over ++ drop (place + length over) b)) lo hi
+agree_front b over place lo hi fits l =
+    let n = length-take place b in
+    let m = length-append (take place b) (over ++ drop (place + length over) b) in
+    record {
+      long = omega arith;
+      same = λ k low h. sym (get_take b place k (omega arith)) ∙ get_append (take place b) _ k (omega arith);
+    }
+
+-- and behind them
+agree_back : (b over : List ℕ) (place lo hi : ℕ) → place + length over ≤ length b → place + length over ≤ lo → hi ≤ length b
+    → Agree b (take place b ++ (over ++ drop (place + length over) b)) lo hi
+agree_back b over place lo hi fits l small =
+    let end = place + length over in
+    let behind = drop end b in
+    let n = length-take place b in
+    let m = length-append (take place b) (over ++ behind) in
+    let m' = length-append over behind in
+    let d = length-drop end b in
+    record {
+      long = omega arith;
+      same = λ k low h.
+          let j = k - end in
+          let e : k ≡ length (take place b) + (length over + j) = omega arith in
+          let f : end + j ≡ k = omega arith in
+          sym (ap (slice_get (take place b ++ (over ++ behind))) e ∙ get_behind (take place b) (over ++ behind) (length over + j) ∙ get_behind over behind j ∙ get_dropped b end j ∙ ap (slice_get b) f);
+    }
+
+-- either way
+agree_overwritten : (b over : List ℕ) (place lo hi : ℕ) → place + length over ≤ length b → hi ≤ length b → (place + length over ≤ lo) ⊎ (hi ≤ place)
+    → Agree b (take place b ++ (over ++ drop (place + length over) b)) lo hi
+agree_overwritten b over place lo hi fits l (inl w) = agree_back b over place lo hi fits w l
+agree_overwritten b over place lo hi fits l (inr w) = agree_front b over place lo hi fits w
+
+-- a name stands where octets are overwritten that it does not take
+pub stands_when_overwritten : StandsWhenOverwritten
+stands_when_overwritten t place over lo hi p name fits l w s =
+    let b = t.octets in
+    let e : take place b ++ (over ++ drop (place + length over) b) ≡ overwritten b place over = sym (append_assoc (take place b) over (drop (place + length over) b)) in
+    subst (λ (c : List ℕ). StandsIn c lo hi p name) e (agreed (agree_overwritten b over place lo hi fits l w) s)
+
+-- a name that ends before hi ends before each later place
+wider_in : {b : List ℕ} {lo hi top p : ℕ} {name : Labels} → hi ≤ top → StandsIn b lo hi p name → StandsIn b lo top p name
+wider_in l (root low high h) = root low (omega arith) h
+wider_in l (label {p = p} {n = n} low high h x z) = label low (omega arith) h (wider_in l x) z
+wider_in l (pointer low high h back x) = pointer low (omega arith) h back (wider_in l x)
+
+-- A spelled name takes octets from lo on, where what is remembered of names with earlier ends does.
+in_if : {m : Memory} {b : List ℕ} {lo q : ℕ} → Remembers b m → ((s : Labels) (x : Spot) → get m s ≡ Some x → x.end < q → StandsIn b lo x.end x.place s)
+    → {p : ℕ} {name : Labels} → lo ≤ p → name_size name ≤ max_size → Spelled m b q p name → StandsIn b lo q p name
+in_if r ih low short (Spelled.root h e) = root low (omega arith) (octets_at.root_at h)
+in_if {b = b} {lo = lo} {q = q} r ih low short (Spelled.label {p = p} {first = first} {rest = rest} l h x) =
+    let w = spelled_long x in
+    let P : List ℕ → Type 0 = λ first. StandsIn b lo q p (first ∷ rest) in
+    subst P (octets_at.label_octets h) (label low (omega arith) (octets_at.label_begins l h) (in_if r ih (omega arith) (omega arith) x) (omega arith))
+in_if r ih low short (Spelled.pointer {p = p} {name = name} {x = x} e before h is) =
+    let k = r.each name x e in
+    let w = spelled_long (kept_spelled name x k) in
+    pointer low (omega arith) (octets_at.pointer_at x.place k.near h) (omega (arith, w.0)) (wider_in (omega arith) (ih name x e (omega arith)))
+
+-- by induction on the end
+in_below : {m : Memory} {b : List ℕ} {lo : ℕ} → Remembers b m → IsBehind m lo → (k q p : ℕ) (name : Labels) → q < k → lo ≤ p → name_size name ≤ max_size
+    → Spelled m b q p name → StandsIn b lo q p name
+in_below r all zero q p name h low short s = absurd (omega arith)
+in_below r all (suc k) q p name h low short s =
+    in_if r (λ t x e less. let kept = r.each t x e in in_below r all k x.end x.place t (omega arith) (all.each t x e) kept.short (kept_spelled t x kept)) low short s
+
+-- where all suffixes are behind a place, no octet before that place is taken
+pub stands_behind : StandsBehind
+stands_behind b m lo s x r all e =
+    let kept = r.each s x e in
+    in_below r all (x.end + 1) x.end x.place s (omega arith) (all.each s x e) kept.short (kept_spelled s x kept)
