@@ -3,9 +3,9 @@ use Rattle.std.specs.Prelude.{◌≡◌, ℕ, ◌+◌, List, [], ◌∷◌, ◌+
 use Rattle.dns_wire.specs.Parts.{Part, Octets, CompressibleName}
 use Rattle.dns_wire.specs.PartsWritten.{PartsNear, PartsPointed}
 use Rattle.dns_wire.specs.Spelling.{IsShortest}
+use Rattle.dns_code.specs.HeaderSection.{header_size}
 use Rattle.dns_question.specs.Questions.{QuestionItem, question_fields}
 use Rattle.dns_item.specs.Items.{RecordItem, record_fields}
-use Rattle.dns_read.specs.Sections.{header_size}
 use Rattle.dns_build.specs.State.{State}
 
 -- a question: its name, and its fields

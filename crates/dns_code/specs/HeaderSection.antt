@@ -4,6 +4,10 @@ use Rattle.dns_code.specs.declared.header.Header.{Header}
 use Rattle.dns_code.specs.declared.counts.HeaderCounts.{HeaderCounts}
 use Rattle.dns_code.specs.declared.section.HeaderSection.{HeaderSection}
 
+-- the octets of a header section
+abbrev pub header_size : ℕ
+header_size = 12
+
 -- the twelve octets
 abbrev pub section_octets : HeaderSection → List ℕ
 section_octets s = s.octets

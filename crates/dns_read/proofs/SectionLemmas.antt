@@ -2,13 +2,14 @@
 use Rattle.std.proofs.Common.{◌≡◌, ℕ, List, subst}
 use Rattle.std.specs.Prelude.{Some, Result, Ok}
 use Rattle.dns_octets.specs.declared.error.ParseError.{ParseError}
+use Rattle.dns_code.specs.HeaderSection.{header_size}
 use Rattle.dns_question.specs.QuestionEntries.{SkipsQuestion}
 use Rattle.dns_item.specs.Entries.{SkipsRecord}
 use Rattle.dns_read.specs.Reading.{Passed}
 use Rattle.dns_read.specs.QuestionSection as questions
 use Rattle.dns_read.specs.QuestionSection.{BeginsQuestions}
 use Rattle.dns_read.specs.RecordSection.{octets_of, position, section_of, IsFresh, BeginsSection, EntersAnswers, EntersNext}
-use Rattle.dns_read.specs.Sections.{header_size, question_count, record_count, StartsAt, section_behind}
+use Rattle.dns_read.specs.Sections.{question_count, record_count, StartsAt, section_behind}
 use Rattle.dns_read.specs.Skipping.{SkipsToCome}
 use Rattle.dns_read.specs.declared.question_section.QuestionSection.{QuestionSection}
 use Rattle.dns_read.specs.declared.record_section.RecordSection.{RecordSection}

@@ -2,12 +2,13 @@
 use Rattle.std.proofs.Common.{◌≡◌, ℕ, zero, suc, ◌⊎◌, inl, inr, List, sym, ◌∙◌, refl, subst}
 use Rattle.dns_name.specs.Fault.{Fault}
 use Rattle.dns_name.specs.EachPlace.{EndsOrFaults}
+use Rattle.dns_code.specs.HeaderSection.{header_size}
 use Rattle.dns_question.proofs.theory.QuestionEntryLemmas.{question_end_or_fault}
 use Rattle.dns_item.proofs.theory.EntryLemmas.{record_end_or_fault}
 use Rattle.dns_read.specs.Reading.{Passed, StopsPassing}
 use Rattle.dns_read.specs.Reading.Passed.{none, more}
 use Rattle.dns_read.specs.Reading.StopsPassing.{here, behind}
-use Rattle.dns_read.specs.Sections.{header_size, question_count, answer_count, authority_count, AnswersStart, AuthoritiesStart, AdditionalsStart, AnswersFault, AuthoritiesFault, AdditionalsFault}
+use Rattle.dns_read.specs.Sections.{question_count, answer_count, authority_count, AnswersStart, AuthoritiesStart, AdditionalsStart, AnswersFault, AuthoritiesFault, AdditionalsFault}
 use Rattle.dns_read.specs.Readings.{QuestionsPassOrStop, RecordsPassOrStop, OneStart, StartsOrFaults, StartOrFault}
 
 module _ {Skips : ℕ → ℕ → Type 0} {FaultOf : ℕ → Fault → Type 0} (each : EndsOrFaults Skips FaultOf) where

@@ -4,12 +4,13 @@ use Rattle.dns_name.specs.Fault.{Fault, fault_of}
 use Rattle.dns_name.specs.Parsers.{seen, place}
 use Rattle.dns_octets.specs.declared.error.ParseError.{ParseError}
 use Rattle.dns_name.specs.declared.parsed_name.ParsedName.{ParsedName}
+use Rattle.dns_code.specs.HeaderSection.{header_size}
 use Rattle.dns_question.specs.QuestionEntries.{ReadsQuestion, QuestionFaultAt}
 use Rattle.dns_question.specs.Questions.{QuestionItem}
 use Rattle.dns_question.specs.Question.{parsed_question}
 use Rattle.dns_question.specs.declared.question.Question.{Question}
 use Rattle.dns_read.specs.QuestionsFrom.{questions_from}
-use Rattle.dns_read.specs.Sections.{header_size, question_count}
+use Rattle.dns_read.specs.Sections.{question_count}
 use Rattle.dns_read.specs.Skipping.{items_left}
 use Rattle.dns_read.specs.declared.question_section.QuestionSection.{QuestionSection}
 

@@ -5,16 +5,13 @@ use Rattle.std.specs.Prelude.{ℕ, ◌⊎◌, List, Option, Some, None, Result}
 use Rattle.std.specs.Int.{w16}
 use Rattle.dns_name.specs.Fault.{Fault}
 use Rattle.dns_name.specs.Parsers.{number_at}
+use Rattle.dns_code.specs.HeaderSection.{header_size}
 use Rattle.dns_question.specs.QuestionEntries.{SkipsQuestion, ReadsQuestion, QuestionFaultAt, QuestionSkipFaultAt}
 use Rattle.dns_item.specs.Entries.{SkipsRecord, ReadsRecord, RecordEntry, RecordFaultAt, RecordSkipFaultAt}
 use Rattle.dns_question.specs.Questions.{QuestionItem}
 use Rattle.dns_read.specs.Reading.{Passed, StopsPassing, Reading}
 use Rattle.dns_read.specs.declared.section.Section.{Section}
 use Rattle.dns_read.specs.declared.section.Section.TheVariants.{Answer, Authority, Additional}
-
--- the octets of the header section, behind which the question section starts
-abbrev pub header_size : ℕ
-header_size = 12
 
 -- the counts of the header section
 abbrev pub question_count : List ℕ → ℕ

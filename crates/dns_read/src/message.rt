@@ -1,5 +1,5 @@
 ghost use Rattle.std.specs.Prelude.{◌≡◌, ◌≢◌, ◌↔◌, ◌<◌, ◌≤◌, length, take, drop, slice_range, IsTrue, Ok, IfOk, IfErr, IsErr};
-ghost use Rattle.dns_read.specs.Sections.{header_size};
+ghost use Rattle.dns_code.specs.HeaderSection.{header_size};
 
 use crate::error::ShortMessage;
 use crate::question_section::QuestionSection;

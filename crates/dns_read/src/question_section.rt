@@ -1,7 +1,8 @@
 ghost use Rattle.std.specs.Prelude.{◌≡◌, ◌≤◌, length, Ok};
 ghost use Rattle.dns_name.specs.Parsers.{input, seen};
+ghost use Rattle.dns_code.specs.HeaderSection.{header_size};
 ghost use Rattle.dns_question.specs.QuestionEntries.{SkipsQuestion, QuestionSkipFaultAt};
-ghost use Rattle.dns_read.specs.Sections.{header_size, question_count};
+ghost use Rattle.dns_read.specs.Sections.{question_count};
 ghost use Rattle.dns_read.specs.Skipping.{SkipsAll};
 
 use crate::record_section::RecordSection;

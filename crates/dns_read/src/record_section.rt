@@ -1,7 +1,7 @@
 ghost use Rattle.std.specs.Prelude.{◌≡◌, ◌≢◌, ◌≤◌, length};
 ghost use Rattle.dns_name.specs.Parsers.{input, seen, place};
+ghost use Rattle.dns_code.specs.HeaderSection.{header_size};
 ghost use Rattle.dns_item.specs.Entries.{SkipsRecord, RecordSkipFaultAt};
-ghost use Rattle.dns_read.specs.Sections.{header_size};
 ghost use Rattle.dns_read.specs.Skipping.{SkipsAll};
 
 use crate::section::Section;

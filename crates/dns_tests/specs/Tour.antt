@@ -1,8 +1,9 @@
 -- What an example of README.md says.
 use Rattle.std.specs.Prelude.{◌≡◌, ℕ, List, map, Ok}
+use Rattle.dns_code.specs.HeaderSection.{header_size}
 use Rattle.dns_question.specs.Questions.{QuestionItem}
 use Rattle.dns_read.specs.QuestionsFrom.{questions_from}
-use Rattle.dns_read.specs.Sections.{header_size, question_count}
+use Rattle.dns_read.specs.Sections.{question_count}
 
 -- reading the question section of these octets gives exactly these questions, without a fault
 abbrev pub HasQuestions : List ℕ → List QuestionItem → Type 0

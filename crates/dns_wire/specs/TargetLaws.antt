@@ -99,9 +99,9 @@ BothGrow = (a b : Piece) → IsGrowing a → IsGrowing b → IsGrowing (both a b
 abbrev pub PiecesStayBehind : Type 0
 PiecesStayBehind = (piece : Piece) (t : Written) (place : ℕ) → IsGrowing piece → place ≤ length t.octets → IsBehind t.memory place → IsBehind (lay piece t).memory place
 
--- so, where all are behind the 12 octets of a header section, they are after one more name
+-- so they are after one more name
 abbrev pub NamesStayBehind : Type 0
-NamesStayBehind = (rule : Rule) (t : Written) (name : Labels) → 12 ≤ length t.octets → IsBehind t.memory 12 → IsBehind (lay (put_name rule name) t).memory 12
+NamesStayBehind = (rule : Rule) (t : Written) (name : Labels) (place : ℕ) → place ≤ length t.octets → IsBehind t.memory place → IsBehind (lay (put_name rule name) t).memory place
 
 -- a name stands at p, its walked extent ends at q, and each of its pointers leads to an earlier label below 16,384
 pub record ReadsName (b : List ℕ) (p q : ℕ) (name : Labels) : Type 0 where

@@ -57,7 +57,7 @@ pieces_stay_behind piece t place grows l h = behind_more place l (grows.grows t.
 
 -- so is what a name adds
 pub names_stay_behind : NamesStayBehind
-names_stay_behind rule t name l h = pieces_stay_behind _ t 12 (put_name_grows rule name) l h
+names_stay_behind rule t name place l h = pieces_stay_behind _ t place (put_name_grows rule name) l h
 
 -- a name reads back
 pub names_read_back : NamesReadBack
