@@ -29,7 +29,7 @@ clear_length a t v u grows is first second s x e =
     let found : get (a t.memory start).memory s ≡ Some x =
     ap (λ n. get (a t.memory n).memory s) (sym (length-append t.octets blank))
     ∙ ap (λ (w : Written). get w.memory s) (sym (second ∙ ap (lay a) first)) ∙ e in
-    one_clear (get t.memory s) _ (length t.octets) _ (extends.each s) (ends_within_content is s) x found
+    inr (one_clear (get t.memory s) _ (length t.octets) _ (extends.each s) (ends_within_content is s) x found)
 
 refused : (room : Option ℕ) (may_grow : Bool) (a : Piece) (t u : Written) (e : AppendError)
     → Composes room may_grow (both (put_octets blank) a) t u {X = Unit} (Err e) → Composes room may_grow (with_length a) t u {X = Unit} (Err e)

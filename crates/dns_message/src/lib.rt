@@ -11,8 +11,9 @@
 pub mod builder {
     //! Builders of messages, and theorems on what they build.
     pub use dns_build::{
-        AdditionalBuilder, AnswerBuilder, AuthorityBuilder, MessageBuilder, PushError,
-        QuestionBuilder, RecordSectionBuilder, laws,
+        AdditionalBuilder, AnswerBuilder, AtAdditional, AtAnswer, AtAuthority, AtBuilder, AtQuestion,
+        AuthorityBuilder, Builder, BuilderStage, MessageBuilder, PushError, QuestionBuilder,
+        RecordSectionBuilder, RecordStage, laws,
     };
 }
 
@@ -67,7 +68,7 @@ mod stage;
 pub mod target {
     //! What messages are written to.
     pub use dns_target::{
-        HashCompressor, IndexCompressor, StaticCompressor, StreamTarget, TreeCompressor,
+        Compressor, HashCompressor, IndexCompressor, StaticCompressor, StreamTarget, TreeCompressor,
     };
     pub use dns_wire::{CloneTarget, Composer, FreezeBuilder};
 }

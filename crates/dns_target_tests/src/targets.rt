@@ -3,6 +3,7 @@ ghost use Rattle.std.specs.Prelude.{◌≤◌, length};
 ghost use Rattle.dns_wire.specs.Memory.{IsClear};
 
 use arrayvec::ArrayVec;
+use dns_target::TreeCompressor;
 use dns_wire::{
     AppendError, CloneTarget, Composer, FreezeBuilder, Name, Octets, ToName, ToNameExt,
 };
@@ -62,10 +63,15 @@ fn assert_written_over<T: Composer>(rt: &impl Abort, target: &mut T)
     assert_eq!(rt; target.as_slice(), b"aXYd".as_slice());
 }
 
+/// No octets may be written over anywhere, inside a remembered name too.
 #[test]
-fn writes_over_octets(rt: HostRuntime) -> Result<(), Fail> {
-    assert_written_over(&rt, &mut Vec::from_slice(rt.alloc(), b"abcd")?);
-    assert_written_over(&rt, &mut ArrayVec::<u8, 4>::from(*b"abcd"));
+fn writes_no_octets_over_a_name(rt: HostRuntime) -> Result<(), Fail> {
+    let mut target = TreeCompressor::new(rt.alloc(), Vec::new(rt.alloc()));
+    target.append_compressed_name(&Name::from_octets(*b"\x01a\x01b\x00")?)?;
+    if target.as_slice().len() == 5 {
+        target.write_at(1, b"");
+    }
+    assert_eq!(rt; target.as_slice(), b"\x01a\x01b\x00".as_slice());
     Ok(())
 }
 

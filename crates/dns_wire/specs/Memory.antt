@@ -52,7 +52,7 @@ pub record IsBehind (m : Memory) (a : ℕ) : Type 0 where
 
 -- no remembered name has any of the n octets from a on
 abbrev pub IsClear : Memory → ℕ → ℕ → Type 0
-IsClear m a n = (s : Labels) (x : Spot) → get m s ≡ Some x → (x.end ≤ a) ⊎ (a + n ≤ x.place)
+IsClear m a n = (s : Labels) (x : Spot) → get m s ≡ Some x → (n ≡ 0) ⊎ (x.end ≤ a) ⊎ (a + n ≤ x.place)
 
 -- a suffix is as before, or is new and was written from w to v
 abbrev pub IsOldOrNew : Option Spot → Option Spot → ℕ → ℕ → Type 0

@@ -11,9 +11,10 @@ cut_nothing len = same_memory _ _ (λ q. get-cut nothing len q ∙ rw get-empty 
 pub nothing_is_kept : (b : List ℕ) → Remembers b nothing
 nothing_is_kept b = record { each = λ s x e. absurd (let k : None ≡ Some x = sym (get-empty suffix_cmp s) ∙ e in cc) }
 
-clear_nothing : (a n : ℕ) → IsClear nothing a n
+-- where nothing is remembered, all octets may be written over
+pub clear_nothing : (a n : ℕ) → IsClear nothing a n
 clear_nothing a n s x h = absurd (let k : None ≡ Some x = sym (get-empty suffix_cmp s) ∙ h in cc)
 
--- where nothing is remembered, all octets may be written over
+-- so of a memory that is empty
 pub clear_plain : (m : Memory) (a n : ℕ) → m ≡ nothing → IsClear m a n
 clear_plain m a n e = subst (λ (q : Memory). IsClear q a n) (sym e) (clear_nothing a n)

@@ -1,6 +1,7 @@
 -- What is spelled stays spelled, and stands.
-use Rattle.std.proofs.Common.{◌≡◌, ℕ, zero, suc, ◌+◌, ◌<◌, ◌≤◌, inl, inr, List, [], ◌∷◌, ◌++◌, take, length, arith, sym, subst}
-use Rattle.std.specs.Prelude.{Some}
+use Rattle.std.proofs.Common.{◌≡◌, ℕ, zero, suc, ◌+◌, ◌<◌, ◌≤◌, inl, inr, List, [], ◌∷◌, ◌++◌, take, length, arith, ap, sym, ◌∙◌, subst}
+use Rattle.std.specs.Prelude.{Some, drop}
+use Rattle.std.proofs.lemmas.List.{nil_from_length, append-nil, take-append-drop}
 use Rattle.std.specs.FinMap.{get}
 use Rattle.dns_name.specs.Names.{Labels, name_size, max_size, framed}
 use Rattle.dns_wire.specs.Memory.{Memory, Spot, cut, IsClear}
@@ -113,13 +114,20 @@ remembers_cut {m = m} {b = b} len r = record {
       kept_moved m (cut m len) b (take len b) s x (λ p xs low fits h. at_take len (omega arith) h) (λ t y e less. get_in_cut m len t y e (omega arith)) (r.each s x g.0);
 }
 
+-- no octets written over others change none
+overwritten_by_none : (b : List ℕ) (place : ℕ) (over : List ℕ) → length over ≡ 0 → overwritten b place over ≡ b
+overwritten_by_none b place over none =
+    let same_end : place + 0 ≡ place = omega arith in
+    rw (nil_from_length over none, append-nil) (ap (λ (n : ℕ). take place b ++ drop n b) same_end ∙ take-append-drop place b)
+
 -- all is kept where octets are overwritten that no remembered name has
 pub remembers_over : {m : Memory} {b : List ℕ} (place : ℕ) (over : List ℕ) → IsClear m place (length over) → Remembers b m → Remembers (overwritten b place over) m
 remembers_over {m = m} {b = b} place over clear r = record {
   each = λ s x e.
       elim (clear s x e) [
-        | inl w ↦ kept_moved m m b _ s x (λ p xs low fits h. at_before over place (omega (arith, w)) h) (λ t y e less. e) (r.each s x e)
-        | inr w ↦ kept_moved m m b _ s x (λ p xs low fits h. at_behind over place (omega (arith, w)) h) (λ t y e less. e) (r.each s x e)
+        | inl none ↦ (subst (λ (c : List ℕ). Remembers c m) (sym (overwritten_by_none b place over none)) r).each s x e
+        | inr (inl w) ↦ kept_moved m m b _ s x (λ p xs low fits h. at_before over place (omega (arith, w)) h) (λ t y e less. e) (r.each s x e)
+        | inr (inr w) ↦ kept_moved m m b _ s x (λ p xs low fits h. at_behind over place (omega (arith, w)) h) (λ t y e less. e) (r.each s x e)
       ];
 }
 
