@@ -14,11 +14,17 @@
 #include <string.h>
 #include <time.h>
 
-/* Writes the names, which stand one behind the other, as one message, `rounds`
- * times. Copies the last message to `out`, and answers its length, or 0 where
- * it failed. */
-typedef size_t compressor(const uint8_t *names, size_t names_len, size_t rounds, uint8_t *out,
-                          size_t out_len);
+/* The names of a message, which stand one behind the other, and how many such
+ * messages are written. */
+struct work {
+    const uint8_t *names;
+    size_t names_len;
+    size_t rounds;
+};
+
+/* Writes the names as one message, `rounds` times. Copies the last message to
+ * `out`, and answers its length, or 0 where it failed. */
+typedef size_t compressor(const struct work *work, uint8_t *out, size_t out_len);
 
 compressor dns_bench_static, dns_bench_tree, dns_bench_hash, dns_bench_index;
 compressor dns_bench_fresh_static, dns_bench_fresh_tree;
@@ -111,12 +117,13 @@ static void fill_response(struct workload *work)
     add_name(work, "example.com");
 }
 
-static void write_messages(const struct row *row, const struct workload *work, size_t rounds)
+static void write_messages(const struct row *row, const struct workload *load, size_t rounds)
 {
-    size_t want = row->is_static ? work->compressed_static : work->compressed;
-    size_t len = row->write(work->octets, work->len, rounds, out, sizeof out);
+    struct work work = {load->octets, load->len, rounds};
+    size_t want = row->is_static ? load->compressed_static : load->compressed;
+    size_t len = row->write(&work, out, sizeof out);
     if (len != want)
-        fail(row->name, work->name, "the message has another length");
+        fail(row->name, load->name, "the message has another length");
 }
 
 #ifdef COUNT_ALLOCATIONS

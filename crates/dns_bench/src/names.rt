@@ -1,12 +1,13 @@
 //! Names that stand one behind the other in octets, and how they are written as one message.
-ghost use Rattle.std.specs.Prelude.{◌≡◌, ◌≤◌, ◌<◌, length, take, fold, OnOk};
+ghost use Rattle.std.specs.Prelude.{◌≡◌, ◌<◌, take, fold, OnOk};
 ghost use Rattle.dns_wire.specs.Targets.{cut_to};
-ghost use Rattle.dns_bench.specs.Message.{with_name};
+ghost use Rattle.dns_bench.specs.Message.{HandsOut, with_name};
 
 use dns_wire::{AppendError, Composer, ParsedName, Parser};
 use std::alloc::Global;
 
-/// The names that stand one behind the other. There is no answer where none stands, or memory is wanting.
+/// The names that stand one behind the other. There is no answer where none stands, or memory is
+/// wanting.
 pub(crate) fn read_names(alloc: Global, octets: &[u8]) -> Option<Vec<ParsedName<'_>>> {
     let mut parser = Parser::new(octets);
     let mut names = Vec::new(alloc);
@@ -29,7 +30,8 @@ pub(crate) fn write_names<T: Composer>(
     target: &mut T,
     names: &[ParsedName<'_>],
 ) -> Result<(), AppendError>
-    ensures { OnOk result (T.written target.new ≡ fold (with_name T.rule) (T.written target.old) names.now) }
+    ensures { OnOk result (
+        T.written target.new ≡ fold (with_name T.rule) (T.written target.old) names.now) }
 {
     for name in names {
         target.append_compressed_name(name)?;
@@ -42,7 +44,9 @@ pub(crate) fn write_message<T: Composer>(
     target: &mut T,
     names: &[ParsedName<'_>],
 ) -> Result<(), AppendError>
-    ensures { OnOk result (T.written target.new ≡ fold (with_name T.rule) (cut_to 0 (T.written target.old)) names.now) }
+    ensures { OnOk result (
+        T.written target.new
+        ≡ fold (with_name T.rule) (cut_to 0 (T.written target.old)) names.now) }
 {
     target.truncate(0);
     write_names(target, names)
@@ -50,8 +54,7 @@ pub(crate) fn write_message<T: Composer>(
 
 /// Copies a message to the beginning of `out`, and gives its length: 0 where it doesn't fit.
 pub(crate) fn hand_out(message: &[u8], out: &mut [u8]) -> usize
-    ensures length { length out.new ≡ length out.old }
-    ensures within { result ≤ length out.new }
+    ensures handed_out { HandsOut out.old out.new result }
     ensures message { 0 < result → take result out.new ≡ message.now }
 {
     let len = message.len();

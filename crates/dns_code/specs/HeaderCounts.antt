@@ -21,3 +21,19 @@ counts_octets c = c.octets
 -- the four counts
 abbrev pub counts : HeaderCounts → Counts
 counts c = counts_in (counts_octets c)
+
+-- the counts with QDCOUNT changed
+abbrev pub with_qdcount : (ℕ → ℕ) → Counts → Counts
+with_qdcount change c = record c { qdcount = change c.qdcount }
+
+-- the counts with ANCOUNT changed
+abbrev pub with_ancount : (ℕ → ℕ) → Counts → Counts
+with_ancount change c = record c { ancount = change c.ancount }
+
+-- the counts with NSCOUNT changed
+abbrev pub with_nscount : (ℕ → ℕ) → Counts → Counts
+with_nscount change c = record c { nscount = change c.nscount }
+
+-- the counts with ARCOUNT changed
+abbrev pub with_arcount : (ℕ → ℕ) → Counts → Counts
+with_arcount change c = record c { arcount = change c.arcount }

@@ -1,6 +1,5 @@
 //! Classes of records.
-ghost use Rattle.std.specs.Prelude.{◌≡◌, ℕ, Some, option_map};
-ghost use Rattle.dns_code.specs.Mnemonics.{mnemonic, class_mnemonics};
+ghost use Rattle.std.specs.Prelude.{◌≡◌, ℕ, Some};
 ghost use Rattle.dns_code.specs.NumberTexts.{ReadsNumber};
 ghost use Rattle.dns_code.specs.Classes.{class_text, SpellsClass};
 
@@ -52,25 +51,15 @@ impl Class {
     {
         self.0
     }
-
-    /// The mnemonic, if there is one.
-    #[tactic(auto, unfolding(crate::specs::Mnemonics::class_mnemonics))]
-    fn mnemonic(self) -> Option<&'static str>
-        ensures { option_map (λ text. text.now) result ≡ mnemonic class_mnemonics self }
-    {
-        mnemonic::of(&MNEMONICS, self.0)
-    }
 }
 
 /// The mnemonic where there is one, else `CLASS` and the number (RFC 3597 section 5).
 impl fmt::Display for Class {
     ghost output = { λ class. Some (class_text class) };
 
+    #[tactic(auto, unfolding(crate::specs::Mnemonics::class_mnemonics))]
     fn fmt<W: fmt::Write>(&self, f: &mut fmt::Formatter<W>) -> fmt::Result {
-        match self.mnemonic() {
-            Some(mnemonic) => f.write_str(mnemonic),
-            None => write!(f, "CLASS{}", self.0),
-        }
+        mnemonic::write(f, &MNEMONICS, "CLASS", self.0)
     }
 }
 

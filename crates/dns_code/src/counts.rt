@@ -13,6 +13,7 @@ pub struct HeaderCounts {
 
 impl HeaderCounts {
     ghost use Rattle.dns_code.specs.HeaderCounts.{counts, counts_octets};
+    ghost use Rattle.dns_code.specs.HeaderCounts.{with_qdcount, with_ancount, with_nscount, with_arcount};
 
     /// All counts are 0.
     pub fn new() -> Self
@@ -62,19 +63,17 @@ impl HeaderCounts {
 
     /// Raises QDCOUNT by one. At 65,535 it is refused, and nothing changes.
     pub fn inc_qdcount(&mut self) -> Result<(), CountOverflow>
-        ensures ok { OnOk result (counts self.new ≡ record (counts self.old) { qdcount = (counts self.old).qdcount + 1 }) }
+        ensures ok { OnOk result (counts self.new ≡ with_qdcount (λ n. n + 1) (counts self.old)) }
         ensures full { IsErr result ↔ ((counts self.old).qdcount ≡ u16.MAX) }
         ensures err { OnErr result (self.new ≡ self.old) }
     {
-        let count = self.qdcount().checked_add(1).ok_or(CountOverflow::new())?;
-        self.set_qdcount(count);
-        Ok(())
+        self.raise_number_at(0)
     }
 
     /// Lowers QDCOUNT by one.
     pub fn dec_qdcount(&mut self)
         requires { 0 < (counts self.old).qdcount }
-        ensures { counts self.new ≡ record (counts self.old) { qdcount = (counts self.old).qdcount - 1 } }
+        ensures { counts self.new ≡ with_qdcount (λ n. n - 1) (counts self.old) }
     {
         self.set_qdcount(self.qdcount() - 1);
     }
@@ -95,19 +94,17 @@ impl HeaderCounts {
 
     /// Raises ANCOUNT by one. At 65,535 it is refused, and nothing changes.
     pub fn inc_ancount(&mut self) -> Result<(), CountOverflow>
-        ensures ok { OnOk result (counts self.new ≡ record (counts self.old) { ancount = (counts self.old).ancount + 1 }) }
+        ensures ok { OnOk result (counts self.new ≡ with_ancount (λ n. n + 1) (counts self.old)) }
         ensures full { IsErr result ↔ ((counts self.old).ancount ≡ u16.MAX) }
         ensures err { OnErr result (self.new ≡ self.old) }
     {
-        let count = self.ancount().checked_add(1).ok_or(CountOverflow::new())?;
-        self.set_ancount(count);
-        Ok(())
+        self.raise_number_at(2)
     }
 
     /// Lowers ANCOUNT by one.
     pub fn dec_ancount(&mut self)
         requires { 0 < (counts self.old).ancount }
-        ensures { counts self.new ≡ record (counts self.old) { ancount = (counts self.old).ancount - 1 } }
+        ensures { counts self.new ≡ with_ancount (λ n. n - 1) (counts self.old) }
     {
         self.set_ancount(self.ancount() - 1);
     }
@@ -128,19 +125,17 @@ impl HeaderCounts {
 
     /// Raises NSCOUNT by one. At 65,535 it is refused, and nothing changes.
     pub fn inc_nscount(&mut self) -> Result<(), CountOverflow>
-        ensures ok { OnOk result (counts self.new ≡ record (counts self.old) { nscount = (counts self.old).nscount + 1 }) }
+        ensures ok { OnOk result (counts self.new ≡ with_nscount (λ n. n + 1) (counts self.old)) }
         ensures full { IsErr result ↔ ((counts self.old).nscount ≡ u16.MAX) }
         ensures err { OnErr result (self.new ≡ self.old) }
     {
-        let count = self.nscount().checked_add(1).ok_or(CountOverflow::new())?;
-        self.set_nscount(count);
-        Ok(())
+        self.raise_number_at(4)
     }
 
     /// Lowers NSCOUNT by one.
     pub fn dec_nscount(&mut self)
         requires { 0 < (counts self.old).nscount }
-        ensures { counts self.new ≡ record (counts self.old) { nscount = (counts self.old).nscount - 1 } }
+        ensures { counts self.new ≡ with_nscount (λ n. n - 1) (counts self.old) }
     {
         self.set_nscount(self.nscount() - 1);
     }
@@ -161,19 +156,17 @@ impl HeaderCounts {
 
     /// Raises ARCOUNT by one. At 65,535 it is refused, and nothing changes.
     pub fn inc_arcount(&mut self) -> Result<(), CountOverflow>
-        ensures ok { OnOk result (counts self.new ≡ record (counts self.old) { arcount = (counts self.old).arcount + 1 }) }
+        ensures ok { OnOk result (counts self.new ≡ with_arcount (λ n. n + 1) (counts self.old)) }
         ensures full { IsErr result ↔ ((counts self.old).arcount ≡ u16.MAX) }
         ensures err { OnErr result (self.new ≡ self.old) }
     {
-        let count = self.arcount().checked_add(1).ok_or(CountOverflow::new())?;
-        self.set_arcount(count);
-        Ok(())
+        self.raise_number_at(6)
     }
 
     /// Lowers ARCOUNT by one.
     pub fn dec_arcount(&mut self)
         requires { 0 < (counts self.old).arcount }
-        ensures { counts self.new ≡ record (counts self.old) { arcount = (counts self.old).arcount - 1 } }
+        ensures { counts self.new ≡ with_arcount (λ n. n - 1) (counts self.old) }
     {
         self.set_arcount(self.arcount() - 1);
     }
@@ -250,5 +243,22 @@ impl HeaderCounts {
         let [high, low] = number.to_be_bytes();
         self.octets[place] = high;
         self.octets[place + 1] = low;
+    }
+
+    /// Raises the number that two octets are by one.
+    fn raise_number_at(&mut self, place: usize) -> Result<(), CountOverflow>
+        requires { place < 7 }
+        ensures ok { OnOk result (
+            ChangesNumber (counts_octets self.old) (counts_octets self.new) place
+            (number_in (counts_octets self.old) place + 1)) }
+        ensures full { IsErr result ↔ (number_in (counts_octets self.old) place ≡ u16.MAX) }
+        ensures err { OnErr result (self.new ≡ self.old) }
+    {
+        let raised = self
+            .number_at(place)
+            .checked_add(1)
+            .ok_or(CountOverflow::new())?;
+        self.set_number_at(place, raised);
+        Ok(())
     }
 }

@@ -37,7 +37,15 @@ pub struct Flags {
 impl Flags {
     /// No flag is set.
     pub fn new() -> Self
-        ensures { result ≡ record { qr = false; aa = false; tc = false; rd = false; ra = false; ad = false; cd = false } }
+        ensures { result ≡ record {
+          qr = false;
+          aa = false;
+          tc = false;
+          rd = false;
+          ra = false;
+          ad = false;
+          cd = false;
+        } }
     {
         Flags::default()
     }
@@ -82,7 +90,8 @@ fn write_names<W: fmt::Write>(f: &mut fmt::Formatter<W>, names: &[(bool, &str)])
 impl FromStr for Flags {
     type Err = FlagsFromStrError;
 
-    ghost from_str_gives = { λ text result. MatchOption (flags_read text) (IsErr result) (λ flags. result ≡ Ok flags) };
+    ghost from_str_gives = { λ text result.
+        MatchOption (flags_read text) (IsErr result) (λ flags. result ≡ Ok flags) };
 
     fn from_str(text: &str) -> Result<Self, FlagsFromStrError> {
         if !is_flags_text(text) {

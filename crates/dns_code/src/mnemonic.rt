@@ -1,16 +1,19 @@
 //! Tables of numbers with their mnemonics, and the texts that spell a number (RFC 3597 section 5).
 ghost use Rattle.std.specs.Prelude.{◌≡◌, ℕ, ◌↔◌, IsTrue, Some, option_map, ◌<◌, ◌^◌};
+ghost use Rattle.std.specs.Fmt.{WritesOnOk};
 ghost use Rattle.std.specs.Option.{SomeIff};
 ghost use Rattle.std.specs.Str.Parse.{IsNumeral, digits_value};
 ghost use Rattle.dns_code.specs.Mnemonics.{mnemonic};
-ghost use Rattle.dns_code.specs.NumberTexts.{IsMnemonic, IsNumbered, Spells};
+ghost use Rattle.dns_code.specs.NumberTexts.{IsMnemonic, IsNumbered, Spells, number_text};
 ghost use Rattle.dns_code.specs.Tables.{table, is_distinct, is_apart};
+
+use std::fmt;
 
 /// A number and its mnemonic.
 pub(crate) type Entry = (u16, &'static str);
 
 /// The mnemonic of the number, if it has one.
-pub(crate) fn of(entries: &[Entry], number: u16) -> Option<&'static str>
+fn of(entries: &[Entry], number: u16) -> Option<&'static str>
     ensures { option_map (λ text. text.now) result ≡ mnemonic (table entries.now) number }
 {
     for (known, mnemonic) in entries {
@@ -19,6 +22,22 @@ pub(crate) fn of(entries: &[Entry], number: u16) -> Option<&'static str>
         }
     }
     None
+}
+
+/// Prints the mnemonic of the number, or the word and the number in decimal digits.
+pub(crate) fn write<W: fmt::Write>(
+    f: &mut fmt::Formatter<W>,
+    entries: &[Entry],
+    word: &str,
+    number: u16,
+) -> fmt::Result
+    ensures { WritesOnOk W.write_str_gives f.old result
+        (number_text (table entries.now) word.now number) f.new }
+{
+    match of(entries, number) {
+        Some(mnemonic) => f.write_str(mnemonic),
+        None => write!(f, "{word}{number}"),
+    }
 }
 
 /// The number whose mnemonic the text is, in any ASCII case.
@@ -36,7 +55,8 @@ fn named(entries: &[Entry], text: &str) -> Option<u16>
 
 /// The number that decimal digits write, `None` above 65,535 and for any other text.
 fn decimal_number(digits: &str) -> Option<u16>
-    ensures { SomeIff result (IsNumeral 10 digits.now × (digits_value 10 digits.now < 2 ^ 16)) (digits_value 10 digits.now) }
+    ensures { let value = digits_value 10 digits.now in
+        SomeIff result (IsNumeral 10 digits.now × (value < 2 ^ 16)) value }
 {
     if digits.starts_with('+') {
         return None;

@@ -1,6 +1,5 @@
 //! Record types.
-ghost use Rattle.std.specs.Prelude.{◌≡◌, ℕ, Some, option_map};
-ghost use Rattle.dns_code.specs.Mnemonics.{mnemonic, type_mnemonics};
+ghost use Rattle.std.specs.Prelude.{◌≡◌, ℕ, Some};
 ghost use Rattle.dns_code.specs.NumberTexts.{ReadsNumber};
 ghost use Rattle.dns_code.specs.Types.{type_text, SpellsType};
 
@@ -88,25 +87,15 @@ impl Rtype {
     {
         self.0
     }
-
-    /// The mnemonic, if there is one.
-    #[tactic(auto, unfolding(crate::specs::Mnemonics::type_mnemonics))]
-    fn mnemonic(self) -> Option<&'static str>
-        ensures { option_map (λ text. text.now) result ≡ mnemonic type_mnemonics self }
-    {
-        mnemonic::of(&MNEMONICS, self.0)
-    }
 }
 
 /// The mnemonic where there is one, else `TYPE` and the number (RFC 3597 section 5).
 impl fmt::Display for Rtype {
     ghost output = { λ rtype. Some (type_text rtype) };
 
+    #[tactic(auto, unfolding(crate::specs::Mnemonics::type_mnemonics))]
     fn fmt<W: fmt::Write>(&self, f: &mut fmt::Formatter<W>) -> fmt::Result {
-        match self.mnemonic() {
-            Some(mnemonic) => f.write_str(mnemonic),
-            None => write!(f, "TYPE{}", self.0),
-        }
+        mnemonic::write(f, &MNEMONICS, "TYPE", self.0)
     }
 }
 

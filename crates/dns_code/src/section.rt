@@ -38,7 +38,8 @@ impl HeaderSection {
     /// Reads twelve octets and passes them. Where they aren't there it is `ShortInput`, and the parser stays.
     pub fn parse(parser: &mut Parser<'_>) -> Result<Self, ParseError>
         ensures { Takes parser.old parser.new 12 result (λ section.
-            section_octets section ≡ slice_range (seen parser.old) (place parser.old) (place parser.old + 12)) }
+            section_octets section
+            ≡ slice_range (seen parser.old) (place parser.old) (place parser.old + 12)) }
     {
         let octets = parser.peek(12)?;
         parser.advance(12)?;
@@ -47,7 +48,8 @@ impl HeaderSection {
 
     /// Appends the twelve octets. A refused append changes nothing.
     pub fn compose<T: Composer>(&self, target: &mut T) -> Result<(), AppendError>
-        ensures { Appends T.room T.grows (put_octets (section_octets self.now)) (T.written target.old) (T.written target.new) result }
+        ensures { Appends T.room T.grows (put_octets (section_octets self.now))
+            (T.written target.old) (T.written target.new) result }
     {
         target.append_slice(&self.octets)
     }

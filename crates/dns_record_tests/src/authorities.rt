@@ -1,7 +1,8 @@
 //! Authority records over compressors: which name becomes a pointer, and what a rewind forgets.
+use crate::compressors::{over_each, push_address};
 use dns_build::{AuthorityBuilder, MessageBuilder};
 use dns_code::{Flags, Rcode, Rtype};
-use dns_data::{A, Soa, UnknownRecordData};
+use dns_data::{Soa, UnknownRecordData};
 use dns_item::Ttl;
 use dns_target::{HashCompressor, StaticCompressor, TreeCompressor};
 use dns_wire::{Composer, Name};
@@ -33,36 +34,16 @@ fn build_response<T: Composer>(target: T) -> Result<AuthorityBuilder<T>, Fail> {
     Ok(builder)
 }
 
-#[test]
-fn compresses_a_negative_response(rt: HostRuntime) -> Result<(), Fail> {
-    let expected = NEGATIVE_RESPONSE.as_slice();
-    let alloc = rt.alloc();
-    assert_eq!(rt;
-        build_response(StaticCompressor::new(Vec::new(alloc)))?.as_slice(),
-        expected
-    );
-    assert_eq!(rt;
-        build_response(TreeCompressor::new(alloc, Vec::new(alloc)))?.as_slice(),
-        expected
-    );
-    assert_eq!(rt;
-        build_response(HashCompressor::new(alloc, Vec::new(alloc)))?.as_slice(),
-        expected
-    );
+/// The message is that of `NEGATIVE_RESPONSE`.
+fn assert_response<T: Composer>(rt: &impl Abort, target: T) -> Result<(), Fail> {
+    let builder = build_response(target)?;
+    assert_eq!(rt; builder.as_slice(), NEGATIVE_RESPONSE.as_slice());
     Ok(())
 }
 
-/// Pushes an address of a name, and gives the length of the message.
-fn push_address<T: Composer, const N: usize>(
-    builder: &mut AuthorityBuilder<T>,
-    owner: [u8; N],
-) -> Result<usize, Fail> {
-    builder.push((
-        Name::from_octets(owner)?,
-        3600,
-        A::from_octets(203, 0, 113, 1),
-    ))?;
-    Ok(builder.as_slice().len())
+#[test]
+fn compresses_a_negative_response(rt: HostRuntime) -> Result<(), Fail> {
+    over_each!(rt.alloc(), target => assert_response(&rt, target))
 }
 
 /// A rewind forgets the name whose second label stands past the bound of 16,384 octets.
@@ -94,7 +75,5 @@ fn assert_rewind_across_the_bound<T: Composer>(
 #[test]
 fn rewinds_across_the_bound(rt: HostRuntime) -> Result<(), Fail> {
     let alloc = rt.alloc();
-    assert_rewind_across_the_bound(&rt, alloc, StaticCompressor::new(Vec::new(alloc)))?;
-    assert_rewind_across_the_bound(&rt, alloc, TreeCompressor::new(alloc, Vec::new(alloc)))?;
-    assert_rewind_across_the_bound(&rt, alloc, HashCompressor::new(alloc, Vec::new(alloc)))
+    over_each!(alloc, target => assert_rewind_across_the_bound(&rt, alloc, target))
 }

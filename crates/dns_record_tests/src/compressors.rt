@@ -1,6 +1,6 @@
 //! Answers and questions over compressors: which name becomes a pointer.
 use arrayvec::ArrayVec;
-use dns_build::{AnswerBuilder, MessageBuilder, PushError, QuestionBuilder};
+use dns_build::{AnswerBuilder, Builder, MessageBuilder, PushError, QuestionBuilder, RecordStage};
 use dns_code::{Flags, Rtype};
 use dns_data::{A, Ns, UnknownRecordData};
 use dns_item::Ttl;
@@ -9,6 +9,20 @@ use dns_wire::{Composer, Name};
 use std::alloc::Global;
 use std::process::Abort;
 use std::test::Fail;
+
+/// The result of a test with each of the compressors over a vector, or the first that fails.
+macro_rules! over_each {
+    ($alloc:expr, $target:ident => $test:expr) => {{
+        let $target = StaticCompressor::new(Vec::new($alloc));
+        $test?;
+        let $target = TreeCompressor::new($alloc, Vec::new($alloc));
+        $test?;
+        let $target = HashCompressor::new($alloc, Vec::new($alloc));
+        $test
+    }};
+}
+
+pub(crate) use over_each;
 
 /// A message of a question and an answer, both for example.com.
 const POSITIVE_RESPONSE: &[u8; 45] =
@@ -22,15 +36,12 @@ fn answers_over<T: Composer>(target: T) -> Result<AnswerBuilder<T>, Fail> {
 }
 
 /// Pushes an address of a name, and gives the length of the message.
-fn push_address<T: Composer, const N: usize>(
-    builder: &mut AnswerBuilder<T>,
+pub(crate) fn push_address<T: Composer, S: RecordStage, const N: usize>(
+    builder: &mut Builder<T, S>,
     owner: [u8; N],
 ) -> Result<usize, Fail> {
-    builder.push((
-        Name::from_octets(owner)?,
-        3600,
-        A::from_octets(203, 0, 113, 1),
-    ))?;
+    let address = A::from_octets(203, 0, 113, 1);
+    builder.push((Name::from_octets(owner)?, 3600, address))?;
     Ok(builder.as_slice().len())
 }
 
@@ -52,26 +63,18 @@ fn build_response<T: Composer>(target: T) -> Result<AnswerBuilder<T>, Fail> {
     Ok(builder)
 }
 
+/// The message is that of `POSITIVE_RESPONSE`.
+fn assert_response<T: Composer>(rt: &impl Abort, target: T) -> Result<(), Fail> {
+    let builder = build_response(target)?;
+    assert_eq!(rt; builder.as_slice(), POSITIVE_RESPONSE.as_slice());
+    Ok(())
+}
+
 #[test]
 fn compresses_a_positive_response(rt: HostRuntime) -> Result<(), Fail> {
-    let expected = POSITIVE_RESPONSE.as_slice();
-    let alloc = rt.alloc();
-    assert_eq!(rt;
-        build_response(StaticCompressor::new(Vec::new(alloc)))?.as_slice(),
-        expected
-    );
-    assert_eq!(rt;
-        build_response(TreeCompressor::new(alloc, Vec::new(alloc)))?.as_slice(),
-        expected
-    );
-    assert_eq!(rt;
-        build_response(HashCompressor::new(alloc, Vec::new(alloc)))?.as_slice(),
-        expected
-    );
+    over_each!(rt.alloc(), target => assert_response(&rt, target))?;
     // into an array with room for all
-    let array = StaticCompressor::new(ArrayVec::<u8, 45>::new());
-    assert_eq!(rt; build_response(array)?.as_slice(), expected);
-    Ok(())
+    assert_response(&rt, StaticCompressor::new(ArrayVec::<u8, 45>::new()))
 }
 
 /// Pushes a record of opaque data, of so many octets, and gives the length of the message.
@@ -95,20 +98,28 @@ fn last_owner<T: Composer>(builder: &AnswerBuilder<T>, len: usize) -> &[u8] {
     &octets[end.saturating_sub(len)..end]
 }
 
+/// Pushes an address of a name: the length of the message then, and the octets of the owner.
+fn assert_pushed<T: Composer, const N: usize>(
+    rt: &impl Abort,
+    builder: &mut AnswerBuilder<T>,
+    name: [u8; N],
+    len: usize,
+    owner: &[u8],
+) -> Result<(), Fail> {
+    assert_eq!(rt; push_address(builder, name)?, len);
+    assert_eq!(rt; last_owner(builder, owner.len()), owner);
+    Ok(())
+}
+
 /// A rewind forgets the names that were taken out.
 fn assert_rewind_forgets<T: Composer>(rt: &impl Abort, target: T) -> Result<(), Fail> {
+    let name = *b"\x07example\x03com\x00";
     let mut builder = answers_over(target)?;
-    assert_eq!(rt; push_address(&mut builder, *b"\x07example\x03com\x00")?, 39);
+    assert_eq!(rt; push_address(&mut builder, name)?, 39);
     builder.rewind();
     assert_eq!(rt; builder.as_slice().len(), 12);
-    assert_eq!(rt; push_address(&mut builder, *b"\x07example\x03com\x00")?, 39);
-    assert_eq!(rt;
-        last_owner(&builder, 13),
-        b"\x07example\x03com\x00".as_slice()
-    );
-    assert_eq!(rt; push_address(&mut builder, *b"\x07example\x03com\x00")?, 55);
-    assert_eq!(rt; last_owner(&builder, 2), b"\xC0\x0C".as_slice());
-    Ok(())
+    assert_pushed(rt, &mut builder, name, 39, EXAMPLE_COM)?;
+    assert_pushed(rt, &mut builder, name, 55, b"\xC0\x0C")
 }
 
 /// A suffix is known only in its own letter case.
@@ -122,12 +133,8 @@ fn assert_letter_case<T: Composer, const N: usize>(
     let mut builder = MessageBuilder::from_target(target)?.question();
     builder.push((Name::from_octets(qname)?, Rtype::A))?;
     let mut builder = builder.answer();
-    assert_eq!(rt;
-        push_address(&mut builder, *b"\x07example\x03com\x00")?,
-        len
-    );
-    assert_eq!(rt; last_owner(&builder, owner.len()), owner);
-    Ok(())
+    let name = *b"\x07example\x03com\x00";
+    assert_pushed(rt, &mut builder, name, len, owner)
 }
 
 /// A name in data becomes a pointer too.
@@ -160,16 +167,9 @@ fn assert_names_past_the_bound<T: Composer>(
         16_400,
     )?;
     assert_eq!(rt; len, 16_439);
-    assert_eq!(rt;
-        push_address(&mut builder, *b"\x01a\x01b\x01c\x00")?,
-        16_460
-    );
-    assert_eq!(rt;
-        push_address(&mut builder, *b"\x01a\x01b\x01c\x00")?,
-        16_481
-    );
-    assert_eq!(rt; last_owner(&builder, 7), b"\x01a\x01b\x01c\x00".as_slice());
-    Ok(())
+    let name = *b"\x01a\x01b\x01c\x00";
+    assert_eq!(rt; push_address(&mut builder, name)?, 16_460);
+    assert_pushed(rt, &mut builder, name, 16_481, &name)
 }
 
 /// The last place that is remembered, and the first that isn't, with the length behind each push.
@@ -184,9 +184,7 @@ fn assert_bound<T: Composer>(
     let mut builder = answers_over(target)?;
     assert_eq!(rt; push_opaque(alloc, &mut builder, [0], padding)?, lens[0]);
     assert_eq!(rt; push_address(&mut builder, *b"\x01a\x00")?, lens[1]);
-    assert_eq!(rt; push_address(&mut builder, *b"\x01a\x00")?, lens[2]);
-    assert_eq!(rt; last_owner(&builder, owner.len()), owner);
-    Ok(())
+    assert_pushed(rt, &mut builder, *b"\x01a\x00", lens[2], owner)
 }
 
 /// A name whose second label stands past the bound.
@@ -200,9 +198,7 @@ fn assert_second_label_past_the_bound<T: Composer>(
     let mut builder = answers_over(target)?;
     assert_eq!(rt; push_opaque(alloc, &mut builder, [0], 16_359)?, 16_382);
     assert_eq!(rt; push_address(&mut builder, *b"\x01a\x01b\x00")?, 16_401);
-    assert_eq!(rt; push_address(&mut builder, *b"\x01a\x01b\x00")?, len);
-    assert_eq!(rt; last_owner(&builder, owner.len()), owner);
-    Ok(())
+    assert_pushed(rt, &mut builder, *b"\x01a\x01b\x00", len, owner)
 }
 
 /// A known suffix behind labels that stand past the bound.
@@ -218,77 +214,33 @@ fn assert_known_suffix_past_the_bound<T: Composer>(
     let mut builder = builder.answer();
     assert_eq!(rt; builder.as_slice().len(), 19);
     assert_eq!(rt; push_opaque(alloc, &mut builder, [0], 16_354)?, 16_384);
-    assert_eq!(rt; push_address(&mut builder, *b"\x01a\x01b\x01c\x00")?, len);
-    assert_eq!(rt; last_owner(&builder, owner.len()), owner);
-    Ok(())
+    assert_pushed(rt, &mut builder, *b"\x01a\x01b\x01c\x00", len, owner)
 }
 
 #[test]
 fn a_rewind_forgets(rt: HostRuntime) -> Result<(), Fail> {
-    let alloc = rt.alloc();
-    assert_rewind_forgets(&rt, StaticCompressor::new(Vec::new(alloc)))?;
-    assert_rewind_forgets(&rt, TreeCompressor::new(alloc, Vec::new(alloc)))?;
-    assert_rewind_forgets(&rt, HashCompressor::new(alloc, Vec::new(alloc)))
+    over_each!(rt.alloc(), target => assert_rewind_forgets(&rt, target))
 }
 
 #[test]
 fn keeps_the_letter_case(rt: HostRuntime) -> Result<(), Fail> {
     let alloc = rt.alloc();
     let full = *b"\x07Example\x03COM\x00";
-    assert_letter_case(
-        &rt,
-        StaticCompressor::new(Vec::new(alloc)),
-        full,
-        56,
-        EXAMPLE_COM,
-    )?;
-    assert_letter_case(
-        &rt,
-        TreeCompressor::new(alloc, Vec::new(alloc)),
-        full,
-        56,
-        EXAMPLE_COM,
-    )?;
-    assert_letter_case(
-        &rt,
-        HashCompressor::new(alloc, Vec::new(alloc)),
-        full,
-        56,
-        EXAMPLE_COM,
-    )?;
+    over_each!(alloc, target => assert_letter_case(&rt, target, full, 56, EXAMPLE_COM))?;
     let one = *b"\x07Example\x03com\x00";
     let owner = b"\x07example\xC0\x14";
-    assert_letter_case(&rt, StaticCompressor::new(Vec::new(alloc)), one, 53, owner)?;
-    assert_letter_case(
-        &rt,
-        TreeCompressor::new(alloc, Vec::new(alloc)),
-        one,
-        53,
-        owner,
-    )?;
-    assert_letter_case(
-        &rt,
-        HashCompressor::new(alloc, Vec::new(alloc)),
-        one,
-        53,
-        owner,
-    )
+    over_each!(alloc, target => assert_letter_case(&rt, target, one, 53, owner))
 }
 
 #[test]
 fn compresses_a_name_in_data(rt: HostRuntime) -> Result<(), Fail> {
-    let alloc = rt.alloc();
-    assert_name_in_data(&rt, StaticCompressor::new(Vec::new(alloc)))?;
-    assert_name_in_data(&rt, TreeCompressor::new(alloc, Vec::new(alloc)))?;
-    assert_name_in_data(&rt, HashCompressor::new(alloc, Vec::new(alloc)))
+    over_each!(rt.alloc(), target => assert_name_in_data(&rt, target))
 }
 
 #[test]
 fn remembers_nothing_past_the_bound(rt: HostRuntime) -> Result<(), Fail> {
     let alloc = rt.alloc();
-    assert_names_past_the_bound(&rt, alloc, StaticCompressor::new(Vec::new(alloc)))?;
-    assert_names_past_the_bound(&rt, alloc, TreeCompressor::new(alloc, Vec::new(alloc)))?;
-    assert_names_past_the_bound(&rt, alloc, HashCompressor::new(alloc, Vec::new(alloc)))
+    over_each!(alloc, target => assert_names_past_the_bound(&rt, alloc, target))
 }
 
 #[test]
@@ -296,30 +248,7 @@ fn remembers_the_last_place_below_the_bound(rt: HostRuntime) -> Result<(), Fail>
     let alloc = rt.alloc();
     let lens = [16_383, 16_400, 16_416];
     let place = b"\xFF\xFF";
-    assert_bound(
-        &rt,
-        alloc,
-        StaticCompressor::new(Vec::new(alloc)),
-        16_360,
-        lens,
-        place,
-    )?;
-    assert_bound(
-        &rt,
-        alloc,
-        TreeCompressor::new(alloc, Vec::new(alloc)),
-        16_360,
-        lens,
-        place,
-    )?;
-    assert_bound(
-        &rt,
-        alloc,
-        HashCompressor::new(alloc, Vec::new(alloc)),
-        16_360,
-        lens,
-        place,
-    )
+    over_each!(alloc, target => assert_bound(&rt, alloc, target, 16_360, lens, place))
 }
 
 #[test]
@@ -327,30 +256,7 @@ fn remembers_no_place_at_the_bound(rt: HostRuntime) -> Result<(), Fail> {
     let alloc = rt.alloc();
     let lens = [16_384, 16_401, 16_418];
     let full = b"\x01a\x00";
-    assert_bound(
-        &rt,
-        alloc,
-        StaticCompressor::new(Vec::new(alloc)),
-        16_361,
-        lens,
-        full,
-    )?;
-    assert_bound(
-        &rt,
-        alloc,
-        TreeCompressor::new(alloc, Vec::new(alloc)),
-        16_361,
-        lens,
-        full,
-    )?;
-    assert_bound(
-        &rt,
-        alloc,
-        HashCompressor::new(alloc, Vec::new(alloc)),
-        16_361,
-        lens,
-        full,
-    )
+    over_each!(alloc, target => assert_bound(&rt, alloc, target, 16_361, lens, full))
 }
 
 #[test]
