@@ -14,6 +14,7 @@ pub struct HeaderCounts {
 impl HeaderCounts {
     ghost use Rattle.dns_code.specs.HeaderCounts.{counts, counts_octets};
     ghost use Rattle.dns_code.specs.HeaderCounts.{with_qdcount, with_ancount, with_nscount, with_arcount};
+    ghost use Rattle.dns_code.specs.HeaderSection.{header_size};
 
     /// All counts are 0.
     pub fn new() -> Self
@@ -24,8 +25,8 @@ impl HeaderCounts {
 
     /// The counts of a message: its octets 4 to 11.
     pub fn for_message_slice(message: &[u8]) -> Self
-        requires { 12 ≤ length message.now }
-        ensures { counts_octets result ≡ slice_range message.now 4 12 }
+        requires { header_size ≤ length message.now }
+        ensures { counts_octets result ≡ slice_range message.now 4 header_size }
     {
         let mut octets = [0; 8];
         octets.copy_from_slice(&message[4..12]);

@@ -16,19 +16,19 @@ impl HeaderSection {
     ghost use Rattle.dns_wire.specs.Targets.{Appends};
     ghost use Rattle.dns_code.specs.Header.{header_octets};
     ghost use Rattle.dns_code.specs.HeaderCounts.{counts_octets};
-    ghost use Rattle.dns_code.specs.HeaderSection.{section_octets, section_header, section_counts};
+    ghost use Rattle.dns_code.specs.HeaderSection.{header_size, section_octets, section_header, section_counts};
 
     /// A header section of zero bits.
     pub fn new() -> Self
-        ensures { section_octets result ≡ replicate 12 0 }
+        ensures { section_octets result ≡ replicate header_size 0 }
     {
         HeaderSection { octets: [0; 12] }
     }
 
     /// The header section of a message: its first twelve octets.
     pub fn for_message_slice(message: &[u8]) -> Self
-        requires { 12 ≤ length message.now }
-        ensures { section_octets result ≡ take 12 message.now }
+        requires { header_size ≤ length message.now }
+        ensures { section_octets result ≡ take header_size message.now }
     {
         let mut octets = [0; 12];
         octets.copy_from_slice(&message[..12]);
@@ -37,9 +37,9 @@ impl HeaderSection {
 
     /// Reads twelve octets and passes them. Where they aren't there it is `ShortInput`, and the parser stays.
     pub fn parse(parser: &mut Parser<'_>) -> Result<Self, ParseError>
-        ensures { Takes parser.old parser.new 12 result (λ section.
+        ensures { Takes parser.old parser.new header_size result (λ section.
             section_octets section
-            ≡ slice_range (seen parser.old) (place parser.old) (place parser.old + 12)) }
+            ≡ slice_range (seen parser.old) (place parser.old) (place parser.old + header_size)) }
     {
         let octets = parser.peek(12)?;
         parser.advance(12)?;
@@ -57,7 +57,7 @@ impl HeaderSection {
     /// The twelve octets as they stand in a message.
     pub fn as_slice(&self) -> &[u8]
         ensures octets { result.now ≡ section_octets self.now }
-        ensures length { length result.now ≡ 12 }
+        ensures length { length result.now ≡ header_size }
     {
         &self.octets
     }
