@@ -58,7 +58,8 @@ impl Fault {
 
     /// Prints a line that tells the fault.
     pub(crate) fn print<W: Write>(self, writer: &mut W) -> io::Result<()>
-        ensures { OnOk result (Appends (W.contents writer.old) (W.contents writer.new) (fault_line self)) }
+        ensures { OnOk result (Appends (W.contents writer.old) (W.contents writer.new)
+            (fault_line self)) }
     {
         match self {
             Fault::BadLine(number) => writeln!(writer, "bad line {number}"),

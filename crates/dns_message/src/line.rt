@@ -1,4 +1,4 @@
-//! The lines of a script.
+//! The lines of a script, and the calls that they ask for.
 ghost use Rattle.std.specs.Prelude.{◌≡◌, ◌≤◌, ◌↔◌, IfOk, IsSome, IsTrue};
 ghost use Rattle.std.specs.Option.{SomeIff};
 ghost use Rattle.std.specs.Str.{IsAscii};
@@ -6,37 +6,22 @@ ghost use Rattle.std.specs.Str.Parse.{IsNumeral, digits_value};
 ghost use Rattle.dns_code.specs.Header.{fields};
 ghost use Rattle.dns_message.specs.Lines.{IsPassedOver, changed};
 
+use crate::record_line;
+use crate::record_line::ScriptRecord;
+use crate::script::{Call, Stage};
 use dns_code::{Flags, Header, Opcode, Rcode};
+use dns_item::Question;
+use dns_item::question::FromStrError;
+use dns_wire::{Composer, Name};
 use std::alloc::{AllocError, Global};
 use std::str;
 use std::str::FromStr;
 
-/// What a line asks for.
-#[derive(Debug, Drop)]
-pub(crate) enum Line {
-    /// A move before the sections.
-    ToBuilder,
-    /// A move to the question section.
-    ToQuestion,
-    /// A move to the answer section.
-    ToAnswer,
-    /// A move to the authority section.
-    ToAuthority,
-    /// A move to the additional section.
-    ToAdditional,
-    /// That all items of the section are taken out.
-    Rewind,
-    /// That all records of the section are taken out, and that TC is set.
-    TcRewind,
-    /// A push of the item whose words these are, joined by single spaces.
-    Push(String),
-    /// A limit, in octets.
-    Limit(usize),
-    /// That the limit is taken away.
-    NoLimit,
-    /// A change of the header.
-    Change(Change),
-}
+/// The characters between the words of a line.
+pub(crate) const BLANKS: [char; 2] = [' ', '\t'];
+
+/// A call of a script.
+pub(crate) type ScriptCall = Call<Question<Name<Vec<u8>>>, ScriptRecord>;
 
 /// A new value of one field of a header, or of its seven flags.
 #[derive(Clone, Copy, Debug)]
@@ -70,85 +55,119 @@ pub(crate) fn is_passed_over(line: &[u8]) -> bool
     line.is_empty() || line.starts_with(b"#") && line.is_ascii()
 }
 
-/// Reads a line that isn't passed over. It is `None` where the line is bad.
-pub(crate) fn read(alloc: Global, line: &[u8]) -> Result<Option<Line>, AllocError>
-    ensures { IfOk result (λ read. IsSome read → IsAscii line.now) }
+/// The call that a line asks for at a stage, where the line isn't passed over. It is `None` where the line is bad.
+pub(crate) fn call_of<T: Composer>(
+    alloc: Global,
+    stage: &Stage<T>,
+    line: &[u8],
+) -> Result<Option<ScriptCall>, AllocError>
+    ensures { IfOk result (λ call. IsSome call → IsAscii line.now) }
 {
     match str::from_utf8(line) {
-        Ok(text) if text.is_ascii() => read_words(alloc, &words(alloc, text)?),
+        Ok(text) if text.is_ascii() => call_of_text(alloc, stage, text),
         _ => Ok(None),
     }
 }
 
-/// The words of a line, which stand between spaces and tabs.
-fn words(alloc: Global, text: &str) -> Result<Vec<&str>, AllocError> {
-    text.split([' ', '\t'])
-        .filter(|word| !word.is_empty())
-        .collect(alloc)
-}
-
-fn read_words(alloc: Global, words: &[&str]) -> Result<Option<Line>, AllocError> {
-    match words {
-        ["push", item @ ..] => Ok(Some(Line::Push(joined(alloc, item)?))),
-        ["flags", names @ ..] => Ok(flags_line(&joined(alloc, names)?)),
-        [word] => Ok(lone_word(word)),
-        [word, digits] => Ok(number_line(word, digits)),
-        _ => Ok(None),
-    }
-}
-
-/// The words with one space between two.
-fn joined(alloc: Global, words: &[&str]) -> Result<String, AllocError> {
-    let mut text = String::new(alloc);
-    let mut separator = "";
-    for word in words {
-        text.push_str(separator)?;
-        text.push_str(word)?;
-        separator = " ";
-    }
-    Ok(text)
-}
-
-fn lone_word(word: &str) -> Option<Line> {
+/// The call that the first word of a text names, with what is read from the text behind it.
+fn call_of_text<T: Composer>(
+    alloc: Global,
+    stage: &Stage<T>,
+    text: &str,
+) -> Result<Option<ScriptCall>, AllocError> {
+    let (word, rest) = first_word(text);
     match word {
-        "builder" => Some(Line::ToBuilder),
-        "question" => Some(Line::ToQuestion),
-        "answer" => Some(Line::ToAnswer),
-        "authority" => Some(Line::ToAuthority),
-        "additional" => Some(Line::ToAdditional),
-        "rewind" => Some(Line::Rewind),
-        "tcrewind" => Some(Line::TcRewind),
-        "nolimit" => Some(Line::NoLimit),
+        "push" => push_of(alloc, stage, rest),
+        "limit" => Ok(number(rest, usize::MAX).map(Call::SetLimit)),
+        "flags" => Ok(header_call(stage, flags_change(alloc, rest)?)),
+        "id" | "opcode" | "rcode" => Ok(header_call(stage, number_change(word, rest))),
+        _ if rest.is_empty() => Ok(call_of_word(word)),
+        _ => Ok(None),
+    }
+}
+
+/// The first word of a text, and what stands behind it, without blanks around.
+fn first_word(text: &str) -> (&str, &str) {
+    let text = text.trim_matches(BLANKS);
+    match text.split_once(BLANKS) {
+        Some((word, rest)) => (word, rest.trim_start_matches(BLANKS)),
+        None => (text, ""),
+    }
+}
+
+/// The call that one word asks for.
+fn call_of_word(word: &str) -> Option<ScriptCall> {
+    match word {
+        "builder" => Some(Call::ToBuilder),
+        "question" => Some(Call::ToQuestion),
+        "answer" => Some(Call::ToAnswer),
+        "authority" => Some(Call::ToAuthority),
+        "additional" => Some(Call::ToAdditional),
+        "rewind" => Some(Call::Rewind),
+        "tcrewind" => Some(Call::TcRewind),
+        "nolimit" => Some(Call::ClearLimit),
         _ => None,
     }
 }
 
-fn flags_line(names: &str) -> Option<Line> {
-    match Flags::from_str(names) {
-        Ok(flags) => Some(Line::Change(Change::Flags(flags))),
-        Err(_) => None,
+/// The call that makes a change to the header of a stage.
+fn header_call<T: Composer>(stage: &Stage<T>, change: Option<Change>) -> Option<ScriptCall> {
+    Some(Call::SetHeader(change?.made_to(stage.header())))
+}
+
+/// The change to the flags that are named.
+fn flags_change(alloc: Global, names: &str) -> Result<Option<Change>, AllocError> {
+    let names = names.replace(alloc, '\t', " ")?;
+    match Flags::from_str(&names) {
+        Ok(flags) => Ok(Some(Change::Flags(flags))),
+        Err(_) => Ok(None),
     }
 }
 
-fn number_line(word: &str, digits: &str) -> Option<Line> {
-    match word {
-        "limit" => Some(Line::Limit(number(digits, usize::MAX)?)),
-        "id" => Some(Line::Change(Change::Id(number(digits, 0xffff)? as u16))),
+/// The change of a field to the number that decimal digits write.
+fn number_change(field: &str, digits: &str) -> Option<Change> {
+    match field {
+        "id" => Some(Change::Id(number(digits, 0xffff)? as u16)),
         "opcode" => {
             let number = number(digits, 15)? as u8;
-            Some(Line::Change(Change::Opcode(Opcode::from_int(number))))
+            Some(Change::Opcode(Opcode::from_int(number)))
         }
         "rcode" => {
             let number = number(digits, 15)? as u8;
-            Some(Line::Change(Change::Rcode(Rcode::checked_from_int(number)?)))
+            Some(Change::Rcode(Rcode::checked_from_int(number)?))
         }
         _ => None,
+    }
+}
+
+/// The push of the item that a text spells, a question or a record by the stage, `None` where it spells none.
+fn push_of<T: Composer>(
+    alloc: Global,
+    stage: &Stage<T>,
+    item: &str,
+) -> Result<Option<ScriptCall>, AllocError> {
+    match stage {
+        Stage::Builder(_) => Ok(None),
+        Stage::Question(_) => push_of_question(alloc, item),
+        Stage::Answer(_) | Stage::Authority(_) | Stage::Additional(_) => {
+            Ok(record_line::record(alloc, item)?.map(Call::PushRecord))
+        }
+    }
+}
+
+fn push_of_question(alloc: Global, question: &str) -> Result<Option<ScriptCall>, AllocError> {
+    match Question::<Name<Vec<u8>>>::vec_from_str(alloc, question) {
+        Ok(question) => Ok(Some(Call::PushQuestion(question))),
+        Err(FromStrError::OutOfMemory) => Err(AllocError),
+        Err(_) => Ok(None),
     }
 }
 
 /// The number that decimal digits write, `None` above `most` and for any other text.
 pub(crate) fn number(digits: &str, most: usize) -> Option<usize>
-    ensures { SomeIff result (IsNumeral 10 digits.now × (digits_value 10 digits.now ≤ most)) (digits_value 10 digits.now) }
+    ensures { SomeIff result
+        (IsNumeral 10 digits.now × (digits_value 10 digits.now ≤ most))
+        (digits_value 10 digits.now) }
 {
     if digits.starts_with('+') {
         return None;

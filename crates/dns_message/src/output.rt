@@ -1,10 +1,11 @@
 //! What the program prints: replies, octets and why it ends early.
-ghost use Rattle.std.specs.Prelude.{◌≡◌, ◌<◌, ◌/◌, ◌%◌, ◌++◌, ◌∷◌, [], OnOk, codes, decimal};
+ghost use Rattle.std.specs.Prelude.{◌≡◌, ◌<◌, ◌/◌, ◌%◌, ◌++◌, ◌∷◌, [], IfOk, OnOk, codes, decimal};
 ghost use Rattle.std.specs.Io.KnownBytes.{Appends};
 ghost use Rattle.dns_message.specs.Output.{hex_digit, hex_pair, hex_text, refusal};
 
 use crate::script::Reply;
 use dns_build::PushError;
+use std::alloc::{AllocError, Global};
 use std::io;
 use std::io::Write;
 
@@ -26,13 +27,23 @@ fn hex_pair_of(octet: u8) -> [u8; 2]
     [hex_digit_of(octet / 16), hex_digit_of(octet % 16)]
 }
 
-/// Prints octets as one line of lower-case hexadecimal digits.
-pub(crate) fn print_octets<W: Write>(writer: &mut W, octets: &[u8]) -> io::Result<()>
-    ensures { OnOk result (Appends (W.contents writer.old) (W.contents writer.new) (hex_text octets.now ++ 10 ∷ [])) }
+/// The lower-case hexadecimal digits of octets.
+fn hex_text_of(alloc: Global, octets: &[u8]) -> Result<Vec<u8>, AllocError>
+    ensures { IfOk result (λ digits. digits.items ≡ hex_text octets.now) }
 {
+    let mut digits = Vec::with_capacity(alloc, 2 * octets.len())?;
     for octet in octets {
-        writer.write_all(&hex_pair_of(*octet))?;
+        digits.extend_from_slice(&hex_pair_of(*octet))?;
     }
+    Ok(digits)
+}
+
+/// Prints octets as one line of lower-case hexadecimal digits.
+pub(crate) fn print_octets<W: Write>(alloc: Global, writer: &mut W, octets: &[u8]) -> io::Result<()>
+    ensures { OnOk result (Appends (W.contents writer.old) (W.contents writer.new)
+        (hex_text octets.now ++ 10 ∷ [])) }
+{
+    writer.write_all(&hex_text_of(alloc, octets)?)?;
     writer.write_all(b"\n")
 }
 
@@ -50,7 +61,8 @@ fn word_of(error: PushError) -> &'static str
 
 /// Prints that a call was done, with the length of the message behind it.
 pub(crate) fn print_done<W: Write>(writer: &mut W, len: usize) -> io::Result<()>
-    ensures { OnOk result (Appends (W.contents writer.old) (W.contents writer.new) (codes "ok " ++ decimal len ++ 10 ∷ [])) }
+    ensures { OnOk result (Appends (W.contents writer.old) (W.contents writer.new)
+        (codes "ok " ++ decimal len ++ 10 ∷ [])) }
 {
     writeln!(writer, "ok {len}")
 }
@@ -61,7 +73,8 @@ pub(crate) fn print_refused<W: Write>(
     error: PushError,
     len: usize,
 ) -> io::Result<()>
-    ensures { OnOk result (Appends (W.contents writer.old) (W.contents writer.new) (codes "refused " ++ refusal error ++ 32 ∷ decimal len ++ 10 ∷ [])) }
+    ensures { OnOk result (Appends (W.contents writer.old) (W.contents writer.new)
+        (codes "refused " ++ refusal error ++ 32 ∷ decimal len ++ 10 ∷ [])) }
 {
     let word = word_of(error);
     writeln!(writer, "refused {word} {len}")

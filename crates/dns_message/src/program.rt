@@ -2,16 +2,13 @@
 ghost use Rattle.std.specs.Prelude.{◌≤◌};
 
 use crate::fault::Fault;
-use crate::line::Line;
-use crate::record_line::ScriptRecord;
-use crate::script::{Call, Reply, Stage, run};
-use crate::{line, output, record_line};
+use crate::line::ScriptCall;
+use crate::script::{Reply, Stage, run};
+use crate::{line, output};
 use arrayvec::ArrayVec;
 use dns_build::MessageBuilder;
-use dns_item::Question;
-use dns_item::question::FromStrError;
 use dns_target::{HashCompressor, StaticCompressor, StreamTarget, TreeCompressor};
-use dns_wire::{Composer, Name};
+use dns_wire::Composer;
 use std::alloc::{AllocError, Global};
 use std::io;
 use std::io::{Read, Write};
@@ -96,7 +93,7 @@ fn perform<R: Read, W: Write>(
         Target::Fixed => print_build(alloc, ArrayVec::<u8, 512>::new(), &script, writer)?,
         Target::Stream => {
             let built = build(alloc, StreamTarget::new_vec(alloc)?, &script, writer)?;
-            output::print_octets(writer, built.as_stream_slice())?;
+            output::print_octets(alloc, writer, built.as_stream_slice())?;
         }
         Target::Static => {
             let target = StaticCompressor::new(Vec::new(alloc));
@@ -123,7 +120,7 @@ fn print_build<T: Composer, W: Write>(
     writer: &mut W,
 ) -> Result<(), Fault> {
     let built = build(alloc, target, script, writer)?;
-    output::print_octets(writer, built.as_slice())?;
+    output::print_octets(alloc, writer, built.as_slice())?;
     Ok(())
 }
 
@@ -135,31 +132,30 @@ fn build<T: Composer, W: Write>(
     writer: &mut W,
 ) -> Result<T, Fault> {
     let mut stage = Stage::Builder(MessageBuilder::from_target(target)?);
+    let mut replies = Vec::new(alloc);
     let lines = script.split_inclusive(|octet| *octet == b'\n');
     for (number, line) in (1..=usize::MAX).zip(lines) {
         let line = line.strip_suffix(b"\n").unwrap_or(line);
         if !line::is_passed_over(line) {
-            stage = follow(alloc, stage, number, line, writer)?;
+            stage = follow(alloc, stage, number, line, &mut replies, writer)?;
         }
     }
     Ok(stage.finish())
 }
 
-/// Makes the call of a line, and prints the reply.
+/// Makes the call of a line, and prints the reply. `replies` is room for it.
 fn follow<T: Composer, W: Write>(
     alloc: Global,
     stage: Stage<T>,
     number: usize,
     line: &[u8],
+    replies: &mut Vec<Reply>,
     writer: &mut W,
 ) -> Result<Stage<T>, Fault> {
-    let Some(line) = line::read(alloc, line)? else {
+    let Some(call) = line::call_of(alloc, &stage, line)? else {
         return Err(Fault::BadLine(number));
     };
-    let Some(call) = call_of(alloc, &stage, line)? else {
-        return Err(Fault::BadLine(number));
-    };
-    let (stage, reply) = make(alloc, stage, call)?;
+    let (stage, reply) = make(stage, call, replies)?;
     let len = stage.as_slice().len();
     match reply {
         Reply::Done => output::print_done(writer, len)?,
@@ -169,72 +165,15 @@ fn follow<T: Composer, W: Write>(
     Ok(stage)
 }
 
-/// A call of a script.
-type ScriptCall = Call<Question<Name<Vec<u8>>>, ScriptRecord>;
-
-/// The call that a line asks for at a stage, `None` where there is none.
-fn call_of<T: Composer>(
-    alloc: Global,
-    stage: &Stage<T>,
-    line: Line,
-) -> Result<Option<ScriptCall>, AllocError> {
-    match line {
-        Line::ToBuilder => Ok(Some(Call::ToBuilder)),
-        Line::ToQuestion => Ok(Some(Call::ToQuestion)),
-        Line::ToAnswer => Ok(Some(Call::ToAnswer)),
-        Line::ToAuthority => Ok(Some(Call::ToAuthority)),
-        Line::ToAdditional => Ok(Some(Call::ToAdditional)),
-        Line::Rewind => Ok(Some(Call::Rewind)),
-        Line::TcRewind => Ok(Some(Call::TcRewind)),
-        Line::Push(words) => push_of(alloc, stage, &words),
-        Line::Limit(limit) => Ok(Some(Call::SetLimit(limit))),
-        Line::NoLimit => Ok(Some(Call::ClearLimit)),
-        Line::Change(change) => Ok(Some(Call::SetHeader(change.made_to(stage.header())))),
-    }
-}
-
-/// The push of the item that the words spell, a question or a record by the stage, `None` where they spell none.
-fn push_of<T: Composer>(
-    alloc: Global,
-    stage: &Stage<T>,
-    words: &str,
-) -> Result<Option<ScriptCall>, AllocError> {
-    match stage {
-        Stage::Builder(_) => Ok(None),
-        Stage::Question(_) => push_of_question(alloc, words),
-        Stage::Answer(_) | Stage::Authority(_) | Stage::Additional(_) => {
-            push_of_record(alloc, words)
-        }
-    }
-}
-
-fn push_of_question(alloc: Global, words: &str) -> Result<Option<ScriptCall>, AllocError> {
-    match Question::<Name<Vec<u8>>>::vec_from_str(alloc, words) {
-        Ok(question) => Ok(Some(Call::PushQuestion(question))),
-        Err(FromStrError::OutOfMemory) => Err(AllocError),
-        Err(_) => Ok(None),
-    }
-}
-
-fn push_of_record(alloc: Global, words: &str) -> Result<Option<ScriptCall>, AllocError> {
-    match record_line::record(alloc, words)? {
-        Some(record) => Ok(Some(Call::PushRecord(record))),
-        None => Ok(None),
-    }
-}
-
-/// Makes one call.
+/// Makes one call, and gives the reply, which is the only one in `replies` then.
 fn make<T: Composer>(
-    alloc: Global,
     stage: Stage<T>,
     call: ScriptCall,
+    replies: &mut Vec<Reply>,
 ) -> Result<(Stage<T>, Reply), AllocError> {
-    let mut replies = Vec::new(alloc);
-    let Ok(stage) = run(stage, &[call], &mut replies) else {
-        return Err(AllocError);
-    };
-    match replies.pop() {
-        Some(reply) => Ok((stage, reply)),
-        None => Err(AllocError),
+    replies.clear();
+    match run(stage, &[call], replies) {
+        Ok(stage) => Ok((stage, replies[0])),
+        Err(_) => Err(AllocError),
     }
 }

@@ -1,7 +1,7 @@
 //! Records in the lines of a script.
 ghost use Rattle.std.specs.Prelude.{◌<◌, IfSome};
 
-use crate::line::number;
+use crate::line::{BLANKS, number};
 use crate::script_data::ScriptData;
 use dns_code::{Class, Rtype};
 use dns_data::{A, Cname, Ns, Soa, UnknownRecordData};
@@ -14,9 +14,12 @@ use std::str::FromStr;
 /// A record of a script.
 pub(crate) type ScriptRecord = Record<Name<Vec<u8>>, ScriptData>;
 
-/// The record whose owner, TTL, class, type and data the words are, `None` where they are no record.
-pub(crate) fn record(alloc: Global, words: &str) -> Result<Option<ScriptRecord>, AllocError> {
-    let words: Vec<&str> = words.split(' ').collect(alloc)?;
+/// The record whose owner, TTL, class, type and data are the words of a text, `None` where they are no record.
+pub(crate) fn record(alloc: Global, text: &str) -> Result<Option<ScriptRecord>, AllocError> {
+    let words: Vec<&str> = text
+        .split(BLANKS)
+        .filter(|word| !word.is_empty())
+        .collect(alloc)?;
     let [owner, ttl, class, rtype, data @ ..] = words.as_slice() else {
         return Ok(None);
     };
@@ -140,7 +143,7 @@ fn opaque(
 
 /// The octets that hexadecimal digits write, two digits for each; `None` for any other text.
 fn hex_octets(alloc: Global, digits: &str) -> Result<Option<Vec<u8>>, AllocError> {
-    let mut octets = Vec::new(alloc);
+    let mut octets = Vec::with_capacity(alloc, digits.len() / 2)?;
     for pair in digits.as_bytes().chunks(2) {
         let [high, low] = pair else {
             return Ok(None);
