@@ -63,6 +63,13 @@ fn assert_written_over<T: Composer>(rt: &impl Abort, target: &mut T)
     assert_eq!(rt; target.as_slice(), b"aXYd".as_slice());
 }
 
+#[test]
+fn writes_over_octets(rt: HostRuntime) -> Result<(), Fail> {
+    assert_written_over(&rt, &mut Vec::from_slice(rt.alloc(), b"abcd")?);
+    assert_written_over(&rt, &mut ArrayVec::<u8, 4>::from(*b"abcd"));
+    Ok(())
+}
+
 /// No octets may be written over anywhere, inside a remembered name too.
 #[test]
 fn writes_no_octets_over_a_name(rt: HostRuntime) -> Result<(), Fail> {
