@@ -15,8 +15,8 @@ mod record_print;
 mod record_reading;
 mod ttl;
 
-pub use parsed_record::ParsedRecord;
 pub use dns_question::{ComposeQuestion, Question, question};
+pub use parsed_record::ParsedRecord;
 pub use record::{ComposeRecord, Record};
 pub use record_header::RecordHeader;
 pub use ttl::Ttl;

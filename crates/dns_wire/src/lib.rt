@@ -9,10 +9,6 @@ pub mod target_laws;
 mod to_name;
 
 pub use composer::{CloneTarget, Composer, FreezeBuilder};
-pub use dns_name::{
-    FlattenInto, Label, LabelIter, Name, ParsedName, Parser, ToName, laws, name,
-};
-pub use dns_octets::{
-    AppendError, FormError, Octets, OctetsFrom, OctetsMut, ParseError, ShortBuf,
-};
+pub use dns_name::{FlattenInto, Label, LabelIter, Name, ParsedName, Parser, ToName, laws, name};
+pub use dns_octets::{AppendError, FormError, Octets, OctetsFrom, OctetsMut, ParseError, ShortBuf};
 pub use to_name::ToNameExt;
