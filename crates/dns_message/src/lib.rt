@@ -11,9 +11,9 @@
 pub mod builder {
     //! Builders of messages, and theorems on what they build.
     pub use dns_build::{
-        AdditionalBuilder, AnswerBuilder, AtAdditional, AtAnswer, AtAuthority, AtBuilder, AtQuestion,
-        AuthorityBuilder, Builder, BuilderStage, MessageBuilder, PushError, QuestionBuilder,
-        RecordSectionBuilder, RecordStage, laws,
+        AdditionalBuilder, AnswerBuilder, AtAdditional, AtAnswer, AtAuthority, AtBuilder,
+        AtQuestion, AuthorityBuilder, Builder, BuilderStage, MessageBuilder, PushError,
+        QuestionBuilder, RecordSectionBuilder, RecordStage, laws,
     };
 }
 

@@ -83,8 +83,7 @@ impl<T: Composer> Stage<T> {
 }
 
 fn reply_of(outcome: Result<(), PushError>) -> Reply
-    ensures { MatchResult outcome
-        (λ _. result ≡ Reply.Done)
+    ensures { MatchResult outcome (λ _. result ≡ Reply.Done)
         (λ error. result ≡ Reply.Refused error) }
 {
     match outcome {
