@@ -67,6 +67,36 @@ lacks stage (SetHeader header) = false
 lacks stage (SetLimit limit) = false
 lacks stage ClearLimit = false
 
+-- Whether a call is a move.
+abbrev pub is_move : {Q R : Type 0} → Call Q R → Bool
+is_move (PushQuestion x) = false
+is_move (PushRecord x) = false
+is_move Rewind = false
+is_move TcRewind = false
+is_move ToBuilder = true
+is_move ToQuestion = true
+is_move ToAnswer = true
+is_move ToAuthority = true
+is_move ToAdditional = true
+is_move (SetHeader header) = false
+is_move (SetLimit limit) = false
+is_move ClearLimit = false
+
+-- Whether a call changes the header or the limit, and nothing else.
+abbrev pub is_setting : {Q R : Type 0} → Call Q R → Bool
+is_setting (PushQuestion x) = false
+is_setting (PushRecord x) = false
+is_setting Rewind = false
+is_setting TcRewind = false
+is_setting ToBuilder = false
+is_setting ToQuestion = false
+is_setting ToAnswer = false
+is_setting ToAuthority = false
+is_setting ToAdditional = false
+is_setting (SetHeader header) = true
+is_setting (SetLimit limit) = true
+is_setting ClearLimit = true
+
 module _ {Q R : Type 0} (question : Q → QuestionItem) (item : R → RecordItem) where
   -- the state after a call, by the reply to it
   abbrev pub after : State → Call Q R → Reply → State
@@ -132,6 +162,14 @@ module _ (room : Option ℕ) (grows : Bool) where
     -- a step of a stage by a call, for each state that it stands for
     abbrev pub Steps : {T : Type 0} → Stage T → Call Q R → Reply → Stage T → Type 0
     Steps old call reply new = (s : State) → StageStandsFor rule s old → IsReply s call reply × StageStandsFor rule (after question item s call reply) new
+
+    -- a step of a builder from its stage, for each state that it stands for
+    abbrev pub StepsFrom : {T : Type 0} → state.Stage → Built → Call Q R → Reply → Stage T → Type 0
+    StepsFrom from old call reply new = (s : State) → StandsFor from rule s old → IsReply s call reply × StageStandsFor rule (after question item s call reply) new
+
+    -- a step of a builder that stays at its stage, for each state that it stands for
+    abbrev pub Stays : state.Stage → Built → Call Q R → Reply → Built → Type 0
+    Stays at old call reply new = (s : State) → StandsFor at rule s old → IsReply s call reply × StandsFor at rule (after question item s call reply) new
 
     -- The headline: from a state, through a list of calls, the replies are those of the calls one by one; the new stage stands for the state after them, and its octets are those of a message with that state's header and items.
     pub record Runs {T : Type 0} (s : State) (calls : List (Call Q R)) (replies : List Reply) (new : Stage T) : Type 0 where

@@ -1,10 +1,12 @@
 //! Lists of calls on the builders of a message.
-ghost use Rattle.std.specs.Prelude.{◌≡◌, IfOk, IfErr, OnErr, MatchResult};
-ghost use Rattle.dns_message.specs.Script.{Steps, RunsAll, octets_of};
+ghost use Rattle.std.specs.Prelude.{◌≡◌, true, false, IfOk, IfErr, OnErr, MatchResult};
+ghost use Rattle.dns_build.specs.State.{InQuestion};
+ghost use Rattle.dns_message.specs.Script.{Steps, StepsFrom, Stays, is_move, is_setting, RunsAll, octets_of};
 
 use dns_build::laws::folds_are_messages;
 use dns_build::{
-    AdditionalBuilder, AnswerBuilder, AuthorityBuilder, MessageBuilder, PushError, QuestionBuilder,
+    AdditionalBuilder, AnswerBuilder, AuthorityBuilder, Builder, BuilderStage, MessageBuilder,
+    PushError, QuestionBuilder, RecordStage,
 };
 use dns_code::Header;
 use dns_item::{ComposeQuestion, ComposeRecord};
@@ -90,189 +92,132 @@ fn reply_of(outcome: Result<(), PushError>) -> Reply
     }
 }
 
-/// A call on the builder before the sections, and the reply.
-fn step_builder<T: Composer, Q: ComposeQuestion, R: ComposeRecord>(
-    mut builder: MessageBuilder<T>,
+/// The stage that a call moves a builder to. The builder is given back where the call is no move.
+fn moved<T: Composer, S: BuilderStage, Q: ComposeQuestion, R: ComposeRecord>(
+    builder: Builder<T, S>,
     call: &Call<Q, R>,
-) -> (Stage<T>, Reply)
-    ensures { Steps T.room T.grows Q.question R.item T.rule
-        (Stage.Builder builder) call.now result.1 result.0 }
+) -> Result<Stage<T>, Builder<T, S>>
+    ensures moved { IfOk result (λ new. StepsFrom T.room T.grows Q.question R.item T.rule
+        S.stage builder call.now Reply.Done new) }
+    ensures same { IfErr result (λ same. same ≡ builder) }
+    ensures stays { OnErr result (is_move call.now ≡ false) }
 {
     match call {
-        Call::PushQuestion(_) | Call::PushRecord(_) | Call::Rewind | Call::TcRewind => {
-            (Stage::Builder(builder), Reply::Misplaced)
+        Call::ToBuilder => Ok(Stage::Builder(builder.builder())),
+        Call::ToQuestion => Ok(Stage::Question(builder.question())),
+        Call::ToAnswer => Ok(Stage::Answer(builder.answer())),
+        Call::ToAuthority => Ok(Stage::Authority(builder.authority())),
+        Call::ToAdditional => Ok(Stage::Additional(builder.additional())),
+        _ => Err(builder),
+    }
+}
+
+/// Changes the header or the limit, as a call asks for at any stage. Other calls are misplaced.
+fn set<T: Composer, S: BuilderStage, Q: ComposeQuestion, R: ComposeRecord>(
+    builder: &mut Builder<T, S>,
+    call: &Call<Q, R>,
+) -> Reply
+    ensures done { is_setting call.now ≡ true → Stays T.room T.grows Q.question R.item T.rule
+        S.stage builder.old call.now result builder.new }
+    ensures misplaced { is_setting call.now ≡ false → result ≡ Reply.Misplaced }
+    ensures same { is_setting call.now ≡ false → builder.new ≡ builder.old }
+{
+    match call {
+        Call::SetHeader(header) => builder.set_header(*header),
+        Call::SetLimit(limit) => builder.set_push_limit(*limit),
+        Call::ClearLimit => builder.clear_push_limit(),
+        _ => return Reply::Misplaced,
+    }
+    Reply::Done
+}
+
+/// A call that is no move on the builder of the question section, and the reply.
+fn stay_in_questions<T: Composer, Q: ComposeQuestion, R: ComposeRecord>(
+    builder: &mut QuestionBuilder<T>,
+    call: &Call<Q, R>,
+) -> Reply
+    ensures { is_move call.now ≡ false → Stays T.room T.grows Q.question R.item T.rule
+        InQuestion builder.old call.now result builder.new }
+{
+    match call {
+        Call::PushQuestion(question) => reply_of(builder.push(question)),
+        Call::Rewind => {
+            builder.rewind();
+            Reply::Done
         }
-        Call::ToBuilder => (Stage::Builder(builder.builder()), Reply::Done),
-        Call::ToQuestion => (Stage::Question(builder.question()), Reply::Done),
-        Call::ToAnswer => (Stage::Answer(builder.answer()), Reply::Done),
-        Call::ToAuthority => (Stage::Authority(builder.authority()), Reply::Done),
-        Call::ToAdditional => (Stage::Additional(builder.additional()), Reply::Done),
-        Call::SetHeader(header) => {
-            builder.set_header(*header);
-            (Stage::Builder(builder), Reply::Done)
+        _ => set(builder, call),
+    }
+}
+
+/// A call that is no move on the builder of a record section, and the reply.
+fn stay_in_records<T: Composer, S: RecordStage, Q: ComposeQuestion, R: ComposeRecord>(
+    mut builder: Builder<T, S>,
+    call: &Call<Q, R>,
+) -> (Builder<T, S>, Reply)
+    ensures { is_move call.now ≡ false → Stays T.room T.grows Q.question R.item T.rule
+        S.stage builder call.now result.1 result.0 }
+{
+    match call {
+        Call::PushRecord(pushed) => {
+            let reply = reply_of(builder.push(pushed));
+            (builder, reply)
         }
-        Call::SetLimit(limit) => {
-            builder.set_push_limit(*limit);
-            (Stage::Builder(builder), Reply::Done)
-        }
-        Call::ClearLimit => {
-            builder.clear_push_limit();
-            (Stage::Builder(builder), Reply::Done)
+        Call::Rewind => (builder.rewind_into(), Reply::Done),
+        Call::TcRewind => (builder.tc_rewind_into(), Reply::Done),
+        _ => {
+            let reply = set(&mut builder, call);
+            (builder, reply)
         }
     }
 }
 
-/// A call on the builder of the question section, and the reply.
-fn step_question<T: Composer, Q: ComposeQuestion, R: ComposeRecord>(
-    mut builder: QuestionBuilder<T>,
+/// The stage that a call moves to. The stage is given back where the call is no move.
+fn go<T: Composer, Q: ComposeQuestion, R: ComposeRecord>(
+    stage: Stage<T>,
+    call: &Call<Q, R>,
+) -> Result<Stage<T>, Stage<T>>
+    ensures moved { IfOk result (λ new. Steps T.room T.grows Q.question R.item T.rule
+        stage call.now Reply.Done new) }
+    ensures same { IfErr result (λ same. same ≡ stage) }
+    ensures stays { OnErr result (is_move call.now ≡ false) }
+{
+    match stage {
+        Stage::Builder(builder) => moved(builder, call).map_err(|same| Stage::Builder(same)),
+        Stage::Question(builder) => moved(builder, call).map_err(|same| Stage::Question(same)),
+        Stage::Answer(builder) => moved(builder, call).map_err(|same| Stage::Answer(same)),
+        Stage::Authority(builder) => moved(builder, call).map_err(|same| Stage::Authority(same)),
+        Stage::Additional(builder) => moved(builder, call).map_err(|same| Stage::Additional(same)),
+    }
+}
+
+/// A call that is no move on a stage, and the reply.
+fn stay<T: Composer, Q: ComposeQuestion, R: ComposeRecord>(
+    stage: Stage<T>,
     call: &Call<Q, R>,
 ) -> (Stage<T>, Reply)
-    ensures { Steps T.room T.grows Q.question R.item T.rule
-        (Stage.Question builder) call.now result.1 result.0 }
+    ensures { is_move call.now ≡ false → Steps T.room T.grows Q.question R.item T.rule
+        stage call.now result.1 result.0 }
 {
-    match call {
-        Call::PushQuestion(question) => {
-            let reply = reply_of(builder.push(question));
+    match stage {
+        Stage::Builder(mut builder) => {
+            let reply = set(&mut builder, call);
+            (Stage::Builder(builder), reply)
+        }
+        Stage::Question(mut builder) => {
+            let reply = stay_in_questions(&mut builder, call);
             (Stage::Question(builder), reply)
         }
-        Call::PushRecord(_) | Call::TcRewind => (Stage::Question(builder), Reply::Misplaced),
-        Call::Rewind => {
-            builder.rewind();
-            (Stage::Question(builder), Reply::Done)
-        }
-        Call::ToBuilder => (Stage::Builder(builder.builder()), Reply::Done),
-        Call::ToQuestion => (Stage::Question(builder.question()), Reply::Done),
-        Call::ToAnswer => (Stage::Answer(builder.answer()), Reply::Done),
-        Call::ToAuthority => (Stage::Authority(builder.authority()), Reply::Done),
-        Call::ToAdditional => (Stage::Additional(builder.additional()), Reply::Done),
-        Call::SetHeader(header) => {
-            builder.set_header(*header);
-            (Stage::Question(builder), Reply::Done)
-        }
-        Call::SetLimit(limit) => {
-            builder.set_push_limit(*limit);
-            (Stage::Question(builder), Reply::Done)
-        }
-        Call::ClearLimit => {
-            builder.clear_push_limit();
-            (Stage::Question(builder), Reply::Done)
-        }
-    }
-}
-
-/// A call on the builder of the answer section, and the reply.
-fn step_answer<T: Composer, Q: ComposeQuestion, R: ComposeRecord>(
-    mut builder: AnswerBuilder<T>,
-    call: &Call<Q, R>,
-) -> (Stage<T>, Reply)
-    ensures { Steps T.room T.grows Q.question R.item T.rule
-        (Stage.Answer builder) call.now result.1 result.0 }
-{
-    match call {
-        Call::PushQuestion(_) => (Stage::Answer(builder), Reply::Misplaced),
-        Call::PushRecord(pushed) => {
-            let reply = reply_of(builder.push(pushed));
+        Stage::Answer(builder) => {
+            let (builder, reply) = stay_in_records(builder, call);
             (Stage::Answer(builder), reply)
         }
-        Call::Rewind => {
-            builder.rewind();
-            (Stage::Answer(builder), Reply::Done)
-        }
-        Call::TcRewind => (Stage::Answer(builder.tc_rewind_into()), Reply::Done),
-        Call::ToBuilder => (Stage::Builder(builder.builder()), Reply::Done),
-        Call::ToQuestion => (Stage::Question(builder.question()), Reply::Done),
-        Call::ToAnswer => (Stage::Answer(builder.answer()), Reply::Done),
-        Call::ToAuthority => (Stage::Authority(builder.authority()), Reply::Done),
-        Call::ToAdditional => (Stage::Additional(builder.additional()), Reply::Done),
-        Call::SetHeader(header) => {
-            builder.set_header(*header);
-            (Stage::Answer(builder), Reply::Done)
-        }
-        Call::SetLimit(limit) => {
-            builder.set_push_limit(*limit);
-            (Stage::Answer(builder), Reply::Done)
-        }
-        Call::ClearLimit => {
-            builder.clear_push_limit();
-            (Stage::Answer(builder), Reply::Done)
-        }
-    }
-}
-
-/// A call on the builder of the authority section, and the reply.
-fn step_authority<T: Composer, Q: ComposeQuestion, R: ComposeRecord>(
-    mut builder: AuthorityBuilder<T>,
-    call: &Call<Q, R>,
-) -> (Stage<T>, Reply)
-    ensures { Steps T.room T.grows Q.question R.item T.rule
-        (Stage.Authority builder) call.now result.1 result.0 }
-{
-    match call {
-        Call::PushQuestion(_) => (Stage::Authority(builder), Reply::Misplaced),
-        Call::PushRecord(pushed) => {
-            let reply = reply_of(builder.push(pushed));
+        Stage::Authority(builder) => {
+            let (builder, reply) = stay_in_records(builder, call);
             (Stage::Authority(builder), reply)
         }
-        Call::Rewind => {
-            builder.rewind();
-            (Stage::Authority(builder), Reply::Done)
-        }
-        Call::TcRewind => (Stage::Authority(builder.tc_rewind_into()), Reply::Done),
-        Call::ToBuilder => (Stage::Builder(builder.builder()), Reply::Done),
-        Call::ToQuestion => (Stage::Question(builder.question()), Reply::Done),
-        Call::ToAnswer => (Stage::Answer(builder.answer()), Reply::Done),
-        Call::ToAuthority => (Stage::Authority(builder.authority()), Reply::Done),
-        Call::ToAdditional => (Stage::Additional(builder.additional()), Reply::Done),
-        Call::SetHeader(header) => {
-            builder.set_header(*header);
-            (Stage::Authority(builder), Reply::Done)
-        }
-        Call::SetLimit(limit) => {
-            builder.set_push_limit(*limit);
-            (Stage::Authority(builder), Reply::Done)
-        }
-        Call::ClearLimit => {
-            builder.clear_push_limit();
-            (Stage::Authority(builder), Reply::Done)
-        }
-    }
-}
-
-/// A call on the builder of the additional section, and the reply.
-fn step_additional<T: Composer, Q: ComposeQuestion, R: ComposeRecord>(
-    mut builder: AdditionalBuilder<T>,
-    call: &Call<Q, R>,
-) -> (Stage<T>, Reply)
-    ensures { Steps T.room T.grows Q.question R.item T.rule
-        (Stage.Additional builder) call.now result.1 result.0 }
-{
-    match call {
-        Call::PushQuestion(_) => (Stage::Additional(builder), Reply::Misplaced),
-        Call::PushRecord(pushed) => {
-            let reply = reply_of(builder.push(pushed));
+        Stage::Additional(builder) => {
+            let (builder, reply) = stay_in_records(builder, call);
             (Stage::Additional(builder), reply)
-        }
-        Call::Rewind => {
-            builder.rewind();
-            (Stage::Additional(builder), Reply::Done)
-        }
-        Call::TcRewind => (Stage::Additional(builder.tc_rewind_into()), Reply::Done),
-        Call::ToBuilder => (Stage::Builder(builder.builder()), Reply::Done),
-        Call::ToQuestion => (Stage::Question(builder.question()), Reply::Done),
-        Call::ToAnswer => (Stage::Answer(builder.answer()), Reply::Done),
-        Call::ToAuthority => (Stage::Authority(builder.authority()), Reply::Done),
-        Call::ToAdditional => (Stage::Additional(builder.additional()), Reply::Done),
-        Call::SetHeader(header) => {
-            builder.set_header(*header);
-            (Stage::Additional(builder), Reply::Done)
-        }
-        Call::SetLimit(limit) => {
-            builder.set_push_limit(*limit);
-            (Stage::Additional(builder), Reply::Done)
-        }
-        Call::ClearLimit => {
-            builder.clear_push_limit();
-            (Stage::Additional(builder), Reply::Done)
         }
     }
 }
@@ -285,12 +230,9 @@ fn step<T: Composer, Q: ComposeQuestion, R: ComposeRecord>(
     ensures { Steps T.room T.grows Q.question R.item T.rule
         stage call.now result.1 result.0 }
 {
-    match stage {
-        Stage::Builder(builder) => step_builder(builder, call),
-        Stage::Question(builder) => step_question(builder, call),
-        Stage::Answer(builder) => step_answer(builder, call),
-        Stage::Authority(builder) => step_authority(builder, call),
-        Stage::Additional(builder) => step_additional(builder, call),
+    match go(stage, call) {
+        Ok(next) => (next, Reply::Done),
+        Err(same) => stay(same, call),
     }
 }
 

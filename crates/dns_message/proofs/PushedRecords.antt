@@ -1,0 +1,69 @@
+-- What the reply to a push of a record says, at each record section.
+use Rattle.std.proofs.Common.{◌≡◌, ℕ, ◌<◌, ◌≤◌, Bool, false, Option, Result, Ok, Err, length, sym, ◌∙◌, ap, subst, refl}
+use Rattle.std.specs.Prelude.{OnOk, OnErr, IsTrue, MatchResult}
+use Rattle.dns_wire.specs.Pieces.{Rule}
+use Rattle.dns_wire.specs.Targets.{Fits, Passes}
+use Rattle.dns_question.specs.Questions.{QuestionItem}
+use Rattle.dns_item.specs.Items.{RecordItem}
+use Rattle.dns_build.specs.Built.{Built, PushAnswers}
+use Rattle.dns_build.specs.Fold.{fold}
+use Rattle.dns_build.specs.Standing.{StandsFor, Moves, InEach, size_after}
+use Rattle.dns_build.specs.State as state
+use Rattle.dns_build.specs.State.{State, Section, Answers, Authorities, Additionals, stage_of, with_record, records_at, most_entries}
+use Rattle.dns_build.specs.declared.push_error.PushError.{PushError}
+use Rattle.dns_build.specs.declared.push_error.PushError.TheVariants.{ShortBuf, OutOfMemory, LimitExceeded, CountOverflow}
+use Rattle.dns_message.specs.declared.script.Call.{Call}
+use Rattle.dns_message.specs.declared.script.Call.TheVariants.{PushRecord}
+use Rattle.dns_message.specs.declared.script.Reply.{Reply}
+use Rattle.dns_message.specs.declared.script.Reply.TheVariants.{Done, Refused}
+use Rattle.dns_message.specs.Script.{lacks, IsAnswer, IsReplyWhere, Stays}
+
+-- records are pushed at each record section
+has_push : (Q R : Type 0) (section : Section) (x : R) → lacks {Q = Q} (stage_of section) (PushRecord x) ≡ false
+has_push Q R Answers x = refl
+has_push Q R Authorities x = refl
+has_push Q R Additionals x = refl
+
+module _ (room : Option ℕ) (grows : Bool) (rule : Rule) (stage : state.Stage) (old : Built) (pushed : RecordItem) where
+  -- the answer to a push, for each state that the builder stands for
+  abbrev pub Answered : Result (Unit {0}) PushError → Type 0
+  Answered r = (s : State) → StandsFor stage rule s old → PushAnswers room grows s.limit (size_after rule (with_record stage pushed) s) (length (records_at stage s)) r
+
+  -- it is told by one clause for success, and one for each reason of a refusal
+  pub answered : (r : Result (Unit {0}) PushError)
+      → OnOk r (InEach stage rule old (λ s. let n = size_after rule (with_record stage pushed) s in Fits room n × (n ≤ s.limit) × (length (records_at stage s) < most_entries)))
+      → (r ≡ Err ShortBuf → InEach stage rule old (λ s. Passes room (size_after rule (with_record stage pushed) s)))
+      → (r ≡ Err OutOfMemory → IsTrue grows)
+      → (r ≡ Err LimitExceeded → InEach stage rule old (λ s. let n = size_after rule (with_record stage pushed) s in Fits room n × (s.limit < n)))
+      → (r ≡ Err CountOverflow → InEach stage rule old (λ s. let n = size_after rule (with_record stage pushed) s in Fits room n × (n ≤ s.limit) × (length (records_at stage s) ≡ most_entries)))
+      → Answered r
+  answered (Ok v) fits short memory limit count s h = fits s h
+  answered (Err ShortBuf) fits short memory limit count s h = short refl s h
+  answered (Err OutOfMemory) fits short memory limit count s h = memory refl
+  answered (Err LimitExceeded) fits short memory limit count s h = limit refl s h
+  answered (Err CountOverflow) fits short memory limit count s h = count refl s h
+
+  -- so it is said of the state's own stage
+  answered_here : (r : Result (Unit {0}) PushError) → Answered r → (s : State) → StandsFor stage rule s old
+      → PushAnswers room grows s.limit (size_after rule (with_record s.stage pushed) s) (length (records_at s.stage s)) r
+  answered_here r a s h =
+      subst (λ at. PushAnswers room grows s.limit (size_after rule (with_record at pushed) s) (length (records_at at s)) r) (sym h.here) (a s h)
+
+module _ (room : Option ℕ) (grows : Bool) {Q R : Type 0} (question : Q → QuestionItem) (item : R → RecordItem) (rule : Rule) (stage : state.Stage) (old new : Built) (x : R) where
+  -- a push of a record steps as its contract says
+  pub push_stays : (section : Section) (call : Call Q R) (r : Result (Unit {0}) PushError) (reply : Reply)
+      → stage ≡ stage_of section → call ≡ PushRecord x → MatchResult r (λ _. reply ≡ Done) (λ error. reply ≡ Refused error)
+      → OnOk r (Moves stage stage rule (with_record stage (item x)) old new) → OnErr r (new ≡ old) → Answered room grows rule stage old (item x) r
+      → Stays room grows question item rule stage old call reply new
+  push_stays section call (Ok v) reply at is m moved same answer s h =
+      let has : lacks {Q = Q} s.stage (PushRecord x) ≡ false = ap (λ here. lacks {Q = Q} here (PushRecord x)) (h.here ∙ at) ∙ has_push Q R section x in
+      rw (is, m, has) (
+        answered_here room grows rule stage old (item x) (Ok v) answer s h,
+        subst (λ here. StandsFor stage rule (with_record here (item x) s) new) (sym h.here) (moved s h),
+      )
+  push_stays section call (Err e) reply at is m moved same answer s h =
+      let has : lacks {Q = Q} s.stage (PushRecord x) ≡ false = ap (λ here. lacks {Q = Q} here (PushRecord x)) (h.here ∙ at) ∙ has_push Q R section x in
+      rw (is, m, has) (
+        answered_here room grows rule stage old (item x) (Err e) answer s h,
+        subst (λ b. StandsFor stage rule s b) (sym same) h,
+      )
