@@ -8,7 +8,7 @@ use crate::parsed_name::ParsedName;
 use std::cmp::Ordering;
 use std::hash::{Hash, Hasher};
 
-/// Whether the labels are the same but for the case of ASCII letters.
+/// Whether the labels are the same but for the case of ASCII letters (RFC 1035 section 2.3.3).
 pub fn same_labels(name: &ParsedName<'_>, other: &ParsedName<'_>) -> bool
     ensures { IsTrue result ↔ (lowered (labels name.now) ≡ lowered (labels other.now)) }
 {
@@ -40,7 +40,7 @@ pub fn same_octets(name: &ParsedName<'_>, other: &ParsedName<'_>) -> bool
     rest.next().is_none()
 }
 
-/// Compares the labels from the root leftwards, the case of ASCII letters ignored.
+/// Compares the labels from the root leftwards, the case of ASCII letters ignored (RFC 4034 section 6.1).
 pub fn order_from_root(name: &ParsedName<'_>, other: &ParsedName<'_>) -> Ordering
     ensures { result ≡ name_order (labels name.now) (labels other.now) }
 {
@@ -48,7 +48,7 @@ pub fn order_from_root(name: &ParsedName<'_>, other: &ParsedName<'_>) -> Orderin
     from_root.cmp(other.iter_labels().rev())
 }
 
-/// Compares the octets of the names without pointers, ASCII letters lowercased.
+/// Compares the octets of the names without pointers, ASCII letters lowercased (RFC 4034 sections 6.2 and 6.3).
 #[tactic(auto, using(crate::proofs::Orders::row_steps))]
 pub fn order_composed(name: &ParsedName<'_>, other: &ParsedName<'_>) -> Ordering
     ensures { result ≡ composed_order (labels name.now) (labels other.now) }

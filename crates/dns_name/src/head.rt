@@ -10,9 +10,9 @@ const MAX_SIZE: usize = 254;
 pub enum Head {
     /// A zero octet: the root label, the last.
     Root,
-    /// A label of so many octets, from 1 to 63.
+    /// A label of so many octets behind its length octet, from 1 to 63.
     Label(u8),
-    /// A pointer to a place.
+    /// A pointer to a place, which counts octets from the start of the message.
     Pointer(u16),
 }
 
