@@ -3,7 +3,7 @@ use Rattle.std.proofs.Common.{◌≡◌, ℕ, ◌+◌, ◌≤◌, ◌⊎◌, inl
 use Rattle.std.specs.FinMap.{get}
 use Rattle.dns_wire.specs.Memory.{Spot, IsClear, IsOldOrNew, Extends}
 use Rattle.dns_wire.specs.Pieces.{Piece, IsGrowing, put_octets, both, with_length}
-use Rattle.dns_wire.specs.Targets.{Written, IsTarget, Answers, lay, Composes}
+use Rattle.dns_wire.specs.Targets.{Written, IsTarget, AnswersInSteps, lay, Composes}
 use Rattle.dns_octets.specs.declared.error.AppendError.{AppendError}
 use Rattle.dns_wire.proofs.theory.Composing.{composes_both}
 use Rattle.dns_wire.proofs.theory.GrowingPieces.{put_octets_grows}
@@ -38,7 +38,7 @@ refused room may_grow a t u e h = record {
   err = h.err;
   answer =
       let n : length (lay (both (put_octets blank) a) t).octets ≡ length (lay (with_length a) t).octets = length-append t.octets _ ∙ sym (length-append t.octets _) in
-      subst (λ n. Answers {X = Unit} room may_grow n (Err e)) n h.answer;
+      subst (λ n. AnswersInSteps {X = Unit} room may_grow n (Err e)) n h.answer;
 }
 
 -- where the piece is refused behind the two octets, it is refused with its length

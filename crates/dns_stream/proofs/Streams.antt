@@ -12,6 +12,10 @@ use Rattle.dns_stream.specs.Stream.{stream_room, message_written as plain}
 take_two : (xs : List ℕ) (n : ℕ) → drop 2 (take (n + 2) xs) ≡ take n (drop 2 xs)
 take_two xs n = grind (arith, common_steps)
 
+-- a message has two octets less than its target
+pub message_length : (t : Written) (v : List ℕ) → 2 ≤ length t.octets → drop 2 t.octets ≡ v → length v + 2 ≡ length t.octets
+message_length t v l is = rw (← is) (grind (arith, common_steps))
+
 -- a target that is cut behind n octets of the message and has another prefix
 pub shortened : (t u v : Written) (xs bytes : List ℕ) (n : ℕ) → length bytes ≡ 2 → u ≡ cut_to (n + 2) t → v ≡ overwrite 0 bytes u → drop 2 t.octets ≡ xs → plain (drop 2 v.octets) ≡ cut_to n (plain xs)
 shortened t u v xs (a ∷ b ∷ []) n two e f is =
@@ -29,22 +33,32 @@ passes None t xs l f h = absurd h
 passes (Some room) t xs l f h =
     let a = length-append t.octets xs in
     let b = length-append (drop 2 t.octets) xs in
-    let c : length (drop 2 t.octets) + 2 ≡ length t.octets = grind (arith, common_steps) in
+    let c = message_length t (drop 2 t.octets) l refl in
     omega arith
 
-answers : (room : Option ℕ) (grows : Bool) (t : Written) (xs : List ℕ) (e : AppendError) → 2 ≤ length t.octets → Fits room (length t.octets)
-    → Answers {X = Unit {0}} room grows (length (t.octets ++ xs)) (Err e) → Answers {X = Unit {0}} (stream_room room) grows (length (drop 2 t.octets ++ xs)) (Err e)
-answers room grows t xs ShortBuf l f h = passes room t xs l f h
-answers room grows t xs OutOfMemory l f h = h
+-- what the room of the target and the length can take, the message's room can
+fits_stream : (room : Option ℕ) (t : Written) (xs : List ℕ) → 2 ≤ length t.octets → length (drop 2 t.octets ++ xs) ≤ 65535 → Fits room (length (t.octets ++ xs)) → Fits (stream_room room) (length (drop 2 t.octets ++ xs))
+fits_stream None t xs l few f = few
+fits_stream (Some room) t xs l few f =
+    let a = length-append t.octets xs in
+    let b = length-append (drop 2 t.octets) xs in
+    let c = message_length t (drop 2 t.octets) l refl in
+    omega arith
 
-refuses : (room : Option ℕ) (grows : Bool) (xs : List ℕ) (t u : Written) (e : AppendError) → 2 ≤ length t.octets → Fits room (length t.octets)
+answers : (room : Option ℕ) (grows : Bool) (t : Written) (xs : List ℕ) (e : AppendError) → 2 ≤ length t.octets → Fits room (length t.octets) → length (drop 2 t.octets ++ xs) ≤ 65535
+    → Answers {X = Unit {0}} room grows (length (t.octets ++ xs)) (Err e) → Answers {X = Unit {0}} (stream_room room) grows (length (drop 2 t.octets ++ xs)) (Err e)
+answers room grows t xs ShortBuf l f few h = passes room t xs l f h
+answers room grows t xs OutOfMemory l f few h = (fits_stream room t xs l few h.0, h.1)
+
+refuses : (room : Option ℕ) (grows : Bool) (xs : List ℕ) (t u : Written) (e : AppendError) → 2 ≤ length t.octets → Fits room (length t.octets) → length (drop 2 t.octets ++ xs) ≤ 65535
     → Appends room grows (put_octets xs) t u {X = Unit {0}} (Err e) → Appends (stream_room room) grows (put_octets xs) (plain (drop 2 t.octets)) (plain (drop 2 u.octets)) {X = Unit {0}} (Err e)
-refuses room grows xs t u e l f h = record { ok = tt; err = ap (λ (w : Written). plain (drop 2 w.octets)) h.err; answer = answers room grows t xs e l f h.answer }
+refuses room grows xs t u e l f few h = record { ok = tt; err = ap (λ (w : Written). plain (drop 2 w.octets)) h.err; answer = answers room grows t xs e l f few h.answer }
 
 -- an append that the target refuses is refused for the message
-pub refused : (room : Option ℕ) (grows : Bool) (xs : List ℕ) (t u : Written) (v : List ℕ) (r : Result (Unit {0}) AppendError) (e : AppendError) → 2 ≤ length t.octets → Fits room (length t.octets) → drop 2 t.octets ≡ v → r ≡ Err e
+pub refused : (room : Option ℕ) (grows : Bool) (xs : List ℕ) (t u : Written) (v : List ℕ) (r : Result (Unit {0}) AppendError) (e : AppendError) → 2 ≤ length t.octets → Fits room (length t.octets) → drop 2 t.octets ≡ v → length v + length xs ≤ 65535 → r ≡ Err e
     → Appends room grows (put_octets xs) t u {X = Unit {0}} (Err e) → Appends (stream_room room) grows (put_octets xs) (plain v) (plain (drop 2 u.octets)) r
-refused room grows xs t u v r e l f is out h = rw (out, ← is) (refuses room grows xs t u e l f h)
+refused room grows xs t u v r e l f is few out h =
+    rw (out, ← is) (refuses room grows xs t u e l f (rw (length-append, is) few) h)
 
 written_two_on : (ys bytes : List ℕ) (place : ℕ) → 2 ≤ length ys → drop 2 (take (place + 2) ys ++ bytes ++ drop (place + 2 + length bytes) ys) ≡ take place (drop 2 ys) ++ bytes ++ drop (place + length bytes) (drop 2 ys)
 written_two_on [] bytes place l = absurd (omega arith)
@@ -61,5 +75,5 @@ over t u xs bytes place l e is =
 
 -- what fits the target leaves a message that fits its room
 pub fits : (room : Option ℕ) (t : Written) (xs : List ℕ) → 2 ≤ length t.octets → length t.octets ≤ 65537 → Fits room (length t.octets) → drop 2 t.octets ≡ xs → Fits (stream_room room) (length xs)
-fits None t xs l k f is = rw (← is) (let c : length (drop 2 t.octets) + 2 ≡ length t.octets = grind (arith, common_steps) in omega arith)
-fits (Some room) t xs l k f is = rw (← is) (let c : length (drop 2 t.octets) + 2 ≡ length t.octets = grind (arith, common_steps) in omega arith)
+fits None t xs l k f is = let c = message_length t xs l is in omega arith
+fits (Some room) t xs l k f is = let c = message_length t xs l is in omega arith

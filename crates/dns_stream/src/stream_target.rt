@@ -1,11 +1,9 @@
 //! A target for messages that go over a stream.
-ghost use Rattle.std.specs.Prelude.{◌≡◌, ◌+◌, ◌<◌, [], length, refl, IfOk, IfErr, OnErr, IsTrue};
+ghost use Rattle.std.specs.Prelude.{◌≡◌, [], refl, IfOk, IfErr, OnErr, IsTrue};
 ghost use Rattle.dns_wire.specs.Memory.{nothing};
-ghost use Rattle.dns_name.specs.Names.{uncompressed};
-ghost use Rattle.dns_wire.specs.Pieces.{Plain, put_octets};
-ghost use Rattle.dns_wire.specs.PutName.{put_name};
-ghost use Rattle.dns_wire.specs.Targets.{Answers, Appends};
-ghost use Rattle.dns_stream.specs.Stream.{message_written, most_octets, stream_room, with_prefix};
+ghost use Rattle.dns_wire.specs.Pieces.{Plain};
+ghost use Rattle.dns_wire.specs.Targets.{Answers};
+ghost use Rattle.dns_stream.specs.Stream.{message_written, stream_room, with_prefix};
 
 use dns_wire::{AppendError, CloneTarget, Composer, ToName};
 use std::alloc::{AllocError, Global};
@@ -126,12 +124,7 @@ impl<T: Composer> Composer for StreamTarget<T> {
         &self.target.as_slice()[PREFIX_LEN..]
     }
 
-    fn append_slice(&mut self, octets: &[u8]) -> Result<(), AppendError>
-        ensures appends { Appends (stream_room T.room) T.grows (put_octets octets.now)
-            (message_written self.old) (message_written self.new) result }
-        ensures long { most_octets < length self.old + length octets.now
-            → result ≡ Err AppendError.ShortBuf }
-    {
+    fn append_slice(&mut self, octets: &[u8]) -> Result<(), AppendError> {
         let len = self.target.as_slice().len() - PREFIX_LEN;
         if octets.len() > MOST_OCTETS - len {
             return Err(AppendError::ShortBuf);
@@ -143,12 +136,7 @@ impl<T: Composer> Composer for StreamTarget<T> {
     }
 
     #[tactic(auto, unfolding(dns_wire::specs::PutName::put_name))]
-    fn append_compressed_name<N: ToName>(&mut self, name: &N) -> Result<(), AppendError>
-        ensures appends { Appends (stream_room T.room) T.grows (put_name Plain (N.name name.now))
-            (message_written self.old) (message_written self.new) result }
-        ensures long { most_octets < length self.old + length (uncompressed (N.name name.now))
-            → result ≡ Err AppendError.ShortBuf }
-    {
+    fn append_compressed_name<N: ToName>(&mut self, name: &N) -> Result<(), AppendError> {
         match name.as_flat_slice() {
             Some(octets) => self.append_slice(octets),
             None => self.append_slice(name.as_parsed().uncompressed().as_slice()),

@@ -6,7 +6,6 @@ ghost use Rattle.dns_name.specs.ParsedName.{labels};
 ghost use Rattle.dns_wire.specs.Pieces.{Plain, put_octets};
 ghost use Rattle.dns_wire.specs.PutName.{put_name};
 ghost use Rattle.dns_wire.specs.Targets.{Appends};
-ghost use Rattle.dns_target.specs.Causes.{IsShortFirst};
 ghost use Rattle.dns_target.specs.Rules.{compressing_not_plain};
 
 use crate::hashes::Hashes;
@@ -144,10 +143,8 @@ impl<Target: Composer, Index: SuffixIndex> Compressor<Target, Index> {
     /// Appends a name, which is given with its octets without pointers.
     fn append_name(&mut self, name: ParsedName<'_>, octets: &[u8]) -> Result<(), AppendError>
         requires { octets.now ≡ uncompressed (labels name) }
-        ensures appends { Appends Target.room (Index.takes_memory || Target.grows)
+        ensures { Appends Target.room (Index.takes_memory || Target.grows)
             (put_name Index.rule (labels name.entry)) self.old self.new result }
-        ensures short { IsShortFirst Target.room Target.grows
-            (put_name Index.rule (labels name.entry)) self.old result }
     {
         let mut starts = ArrayVec::new();
         note_starts(&name, octets, &mut starts);
@@ -206,12 +203,7 @@ impl<Target: Composer, Index: SuffixIndex> Composer for Compressor<Target, Index
         self.target.append_slice(octets)
     }
 
-    fn append_compressed_name<N: ToName>(&mut self, name: &N) -> Result<(), AppendError>
-        ensures appends { Appends Target.room (Index.takes_memory || Target.grows)
-            (put_name Index.rule (N.name name.now)) self.old self.new result }
-        ensures short { IsShortFirst Target.room Target.grows
-            (put_name Index.rule (N.name name.now)) self.old result }
-    {
+    fn append_compressed_name<N: ToName>(&mut self, name: &N) -> Result<(), AppendError> {
         let parsed = name.as_parsed();
         match name.as_flat_slice() {
             Some(octets) => self.append_name(parsed, octets),

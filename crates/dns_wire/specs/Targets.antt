@@ -37,11 +37,17 @@ abbrev pub Passes : Option ℕ → ℕ → Type 0
 Passes None n = ⊥
 Passes (Some room) n = room < n
 
--- The answer where the content would have n octets: `ShortBuf` where they pass the room, and `OutOfMemory` only where the target may take memory.
+-- The answer to an append that would leave n octets: `ShortBuf` where they pass the room. Else all of it is appended, or it is `OutOfMemory`, where the target may take memory.
 abbrev pub Answers : {X : Type 0} → Option ℕ → Bool → ℕ → Result X AppendError → Type 0
 Answers room grows n (Ok x) = Fits room n
 Answers room grows n (Err ShortBuf) = Passes room n
-Answers room grows n (Err OutOfMemory) = IsTrue grows
+Answers room grows n (Err OutOfMemory) = Fits room n × IsTrue grows
+
+-- The answer to several appends that would leave n octets: memory may be wanting before the room is passed.
+abbrev pub AnswersInSteps : {X : Type 0} → Option ℕ → Bool → ℕ → Result X AppendError → Type 0
+AnswersInSteps room grows n (Ok x) = Fits room n
+AnswersInSteps room grows n (Err ShortBuf) = Passes room n
+AnswersInSteps room grows n (Err OutOfMemory) = IsTrue grows
 
 -- an append of a piece: all of it, or nothing and the cause
 pub record Appends (room : Option ℕ) (grows : Bool) (piece : Piece) (before after : Written) {X : Type 0} (result : Result X AppendError) : Type 0 where
@@ -53,4 +59,4 @@ pub record Appends (room : Option ℕ) (grows : Bool) (piece : Piece) (before af
 pub record Composes (room : Option ℕ) (grows : Bool) (piece : Piece) (before after : Written) {X : Type 0} (result : Result X AppendError) : Type 0 where
   pub ok : OnOk result (after ≡ lay piece before)
   pub err : OnErr result (cut_to (length before.octets) after ≡ cut_to (length before.octets) before)
-  pub answer : Answers room grows (length (lay piece before).octets) result
+  pub answer : AnswersInSteps room grows (length (lay piece before).octets) result

@@ -5,7 +5,7 @@ use Rattle.std.proofs.lemmas.List.{take-append-le}
 use Rattle.std.specs.FinMap.{get}
 use Rattle.dns_wire.specs.Memory.{Memory, Spot, cut, ends_within}
 use Rattle.dns_wire.specs.Pieces.{IsGrowing, Piece, both}
-use Rattle.dns_wire.specs.Targets.{Written, lay, cut_to, Fits, Passes, Answers, Composes}
+use Rattle.dns_wire.specs.Targets.{Written, lay, cut_to, Fits, Passes, AnswersInSteps, Composes}
 use Rattle.dns_wire.specs.TargetLaws.{AppendsCompose, ComposesBoth, ComposesFirst}
 use Rattle.dns_octets.specs.declared.error.AppendError.{AppendError}
 use Rattle.dns_octets.specs.declared.error.AppendError.TheVariants.{ShortBuf, OutOfMemory}
@@ -42,7 +42,8 @@ passes_more (Some r) n k l h = omega arith
 -- an append composes its piece
 pub appends_compose : AppendsCompose
 appends_compose room grows a t u (Ok x) h = record { ok = h.ok; err = h.err; answer = h.answer }
-appends_compose room grows a t u (Err e) h = record { ok = h.ok; err = ap (cut_to (length t.octets)) h.err; answer = h.answer }
+appends_compose room grows a t u (Err ShortBuf) h = record { ok = h.ok; err = ap (cut_to (length t.octets)) h.err; answer = h.answer }
+appends_compose room grows a t u (Err OutOfMemory) h = record { ok = h.ok; err = ap (cut_to (length t.octets)) h.err; answer = h.answer.1 }
 
 -- what was composed behind a piece composes both
 pub composes_both : ComposesBoth
@@ -57,7 +58,7 @@ composes_both room grows a b t u v (Err d) g e h = record {
       let longer : length t.octets ≤ length u.octets = rw e (rw length-append (omega arith)) in
       sym (cut_to-cut_to v (length t.octets) (length u.octets) longer) ∙ ap (cut_to (length t.octets)) h.err
       ∙ cut_to-cut_to u _ _ longer ∙ ap (cut_to (length t.octets)) e ∙ cut_to-lay a t (length t.octets) g (omega arith);
-  answer = subst (λ w. Answers {X = Unit} room grows (length w.octets) (Err d)) (ap (lay b) e ∙ lay-both a b t) h.answer;
+  answer = subst (λ w. AnswersInSteps {X = Unit} room grows (length w.octets) (Err d)) (ap (lay b) e ∙ lay-both a b t) h.answer;
 }
 
 -- a refusal of the first is one of both
