@@ -1,39 +1,16 @@
--- What parsing and skipping a record answer, in both directions.
+-- What parsing and skipping a record answer.
 use Rattle.std.proofs.Common.{◌≡◌, ℕ, ◌+◌, ◌<◌, ◌≤◌, List, length, arith, ap, sym, ◌∙◌, refl, subst}
 use Rattle.std.specs.Int.{w16}
-use Rattle.std.specs.Prelude.{Result, Ok, Err, IsOk}
 use Rattle.dns_name.specs.Fault.{fault_of}
-use Rattle.dns_name.specs.ParsedName.{AnswersFault, MovesBehindName}
+use Rattle.dns_name.specs.ParsedName.{MovesBehindName}
 use Rattle.dns_name.specs.Parsers.{seen, place, number_at, MovesTo}
 use Rattle.dns_octets.specs.declared.error.ParseError.{ParseError}
 use Rattle.dns_octets.specs.declared.error.ParseError.TheVariants.{ShortInput}
 use Rattle.dns_name.specs.declared.parser.Parser.{Parser}
-use Rattle.dns_item.specs.Entries.{SkipsRecord, ReadsRecord, RecordEntry, RecordFaultAt, RecordSkipFaultAt}
+use Rattle.dns_item.specs.Entries.{ReadsRecord, RecordEntry, RecordSkipFaultAt}
 use Rattle.dns_item.specs.Entries.LacksRecord.{fields, rdata}
 use Rattle.dns_item.specs.Entries.RecordSkipFaultAt.{short as unended_record}
-use Rattle.dns_item.specs.ParsedRecord.{ParsesRecord, ReadsReadableRecord, SkipsOverRecord}
-use Rattle.dns_item.specs.declared.parsed_record.ParsedRecord.{ParsedRecord}
-use Rattle.dns_item.proofs.theory.EntryLemmas.{record_or_fault, record_end_or_fault}
-
--- what can be read is what is given
-pub reads_readable : (old new : Parser) (r : Result ParsedRecord ParseError) → ParsesRecord old new r → ReadsReadableRecord (seen old) (place old) r
-reads_readable old new (Ok r) h q x reads = ((record_or_fault (seen old)).one (place old) _ _ _ _ h.0 reads).1
-reads_readable old new (Err e) h q x reads = absurd ((record_or_fault (seen old)).not_both (place old) q x (fault_of e) reads h.0)
-
--- a fault is what is answered
-pub parse_answers_fault : (old new : Parser) (r : Result ParsedRecord ParseError) → ParsesRecord old new r → AnswersFault (RecordFaultAt (seen old) (place old)) r
-parse_answers_fault old new (Ok r) h f fault = absurd ((record_or_fault (seen old)).not_both (place old) _ _ f h.0 fault)
-parse_answers_fault old new (Err e) h f fault = (record_or_fault (seen old)).one_fault (place old) _ _ h.0 fault
-
--- what can be skipped is skipped
-pub skips_skippable : (old new : Parser) (r : Result Unit ParseError) → SkipsOverRecord old new r → (q : ℕ) → SkipsRecord (seen old) (place old) q → IsOk r
-skips_skippable old new (Ok _) h q skips = refl
-skips_skippable old new (Err e) h q skips = absurd ((record_end_or_fault (seen old)).not_both (place old) q (fault_of e) skips h.0)
-
--- a fault is what is answered
-pub skip_answers_fault : (old new : Parser) (r : Result Unit ParseError) → SkipsOverRecord old new r → AnswersFault (RecordSkipFaultAt (seen old) (place old)) r
-skip_answers_fault old new (Ok _) h f fault = absurd ((record_end_or_fault (seen old)).not_both (place old) _ f h.0 fault)
-skip_answers_fault old new (Err e) h f fault = (record_end_or_fault (seen old)).one_fault (place old) _ _ h.0 fault
+use Rattle.dns_item.proofs.theory.EntryLemmas.{record_or_fault}
 
 -- of the ten octets behind a passed owner, some aren't there
 pub without_fields : (old mid : Parser) (n : ℕ) (e : ParseError) → MovesBehindName old mid → n < place mid + 10 → n ≡ length (seen mid) → e ≡ ShortInput
@@ -64,7 +41,3 @@ of_read P b seen_then p end q then x h is k holds =
 pub behind_read : (old new : Parser) (q : ℕ) (then x : RecordEntry)
     → ReadsRecord (seen old) (place old) (place new) then → MovesTo old new (place new) → ReadsRecord (seen old) (place old) q x → MovesTo old new q
 behind_read old new q then x h moves k = subst (MovesTo old new) ((record_or_fault (seen old)).one (place old) (place new) q then x h k).0 moves
-
--- the data of a record that can be read is there
-pub read_there : (b : List ℕ) (p q : ℕ) (x : RecordEntry) → ReadsRecord b p q x → x.data_end ≤ length b
-read_there b p q x h = let e = h.data_end in let l = h.skips.within in omega (arith, e, l)

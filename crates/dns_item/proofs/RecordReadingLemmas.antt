@@ -7,14 +7,16 @@ use Rattle.dns_name.specs.Fault.Fault.{Form}
 use Rattle.dns_name.specs.Parsers.{seen, place}
 use Rattle.dns_wire.specs.Parts.{Part, PartsStand}
 use Rattle.dns_octets.specs.declared.error.ParseError.{ParseError}
+use Rattle.dns_name.specs.declared.parsed_name.ParsedName.{ParsedName}
 use Rattle.dns_name.specs.declared.parser.Parser.{Parser}
 use Rattle.dns_data.specs.Layout.{Layout, IsLaidOut, DataStands}
 use Rattle.dns_data.specs.RecordData.{ParsesLaidOut, ParsesTaken}
 use Rattle.dns_data.proofs.theory.DataAnswers.{one_datum_or_fault}
 use Rattle.dns_data.proofs.theory.StandingParts.{standing_parts_read}
 use Rattle.dns_item.specs.Entries.{RecordEntry}
-use Rattle.dns_item.specs.Items.{RecordItem}
-use Rattle.dns_item.specs.RecordReading.{WholeDataFaultAt, item_of, IsThere, up_to_data_end, HasData, HasDataFault, GivesLaidOut, GivesTaken, GivesBackLaidOut, GivesBackTaken, IsWhole, IsWholeTaken}
+use Rattle.dns_item.specs.Record.{data_of}
+use Rattle.dns_item.specs.declared.record.Record.{Record}
+use Rattle.dns_item.specs.RecordReading.{WholeDataFaultAt, item_of, IsThere, up_to_data_end, HasData, HasDataFault, IsRecordOf, GivesLaidOut, GivesTaken, AnswersLaidOut, AnswersTaken, GivesBack, GivesBackTaken, IsWhole, IsWholeTaken}
 use Rattle.dns_item.specs.RecordReading.WholeDataFaultAt.{first, left_over}
 
 module _ {D : Type 0} (rtype_of : D → ℕ) (parts_of : D → List Part) (rtype : ℕ) (old new : Parser) where
@@ -49,7 +51,7 @@ no_fault b layout p parts f l h (left_over q others k short) =
     let e = (one_datum_or_fault b layout p l).one (length b) q parts others h k in
     omega (arith, e.0, short)
 
-module _ {R : Type 0} (item : R → RecordItem) (b : List ℕ) (x : RecordEntry) (start : x.data_start ≤ x.data_end) where
+module _ {D : Type 0} (rtype_of : D → ℕ) (parts_of : D → List Part) (b : List ℕ) (x : RecordEntry) (start : x.data_start ≤ x.data_end) where
   -- the octets up to the end of data that is there
   ends_there : IsThere b x → length (up_to_data_end b x) ≡ x.data_end
   ends_there there = grind (arith, common_steps)
@@ -59,10 +61,11 @@ module _ {R : Type 0} (item : R → RecordItem) (b : List ℕ) (x : RecordEntry)
   stands_there layout parts there laid stands = standing_parts_read b x.data_end x.data_start layout parts there stands laid
 
   -- what is read where data of the layout stands are its parts
-  read_there : (layout : Layout) (parts : List Part) (r : R) → IsThere b x → HasData b x layout parts → GivesLaidOut item b x layout (Ok r) → item r ≡ item_of x parts
+  read_there : (layout : Layout) (parts : List Part) (r : Record ParsedName D) → IsThere b x → HasData b x layout parts → GivesLaidOut rtype_of parts_of b x layout (Ok r)
+      → IsRecordOf rtype_of parts_of b x parts r
   read_there layout parts r there d h =
       let is = ends_there there in
-      let e = (one_datum_or_fault (up_to_data_end b x) layout x.data_start (omega (arith, is, start))).one x.data_end x.data_end (item r).parts parts h.1 d in
+      let e = (one_datum_or_fault (up_to_data_end b x) layout x.data_start (omega (arith, is, start))).one x.data_end x.data_end (parts_of (data_of r)) parts h.1 d in
       h.0 ∙ ap (item_of x) e.1
 
   -- no fault is met there
@@ -71,18 +74,19 @@ module _ {R : Type 0} (item : R → RecordItem) (b : List ℕ) (x : RecordEntry)
       let is = ends_there there in
       no_fault (up_to_data_end b x) layout x.data_start parts f (omega (arith, is, start)) (subst (λ q. DataStands (up_to_data_end b x) layout x.data_start q parts) (sym is) d) h
 
-  -- parts that fill the data are those that are given
-  pub gives_back : (layout : Layout) (result : Result R ParseError) → (IsThere b x → GivesLaidOut item b x layout result) → GivesBackLaidOut item b x layout result
-  gives_back layout (Ok r) gives parts there laid stands = read_there layout parts r there (stands_there layout parts there laid stands) (gives there)
-  gives_back layout (Err e) gives parts there laid stands = absurd (no_fault_there layout parts (fault_of e) there (stands_there layout parts there laid stands) (gives there))
+  -- parts that fill the data are given back
+  pub gives_back : (layout : Layout) (result : Result (Record ParsedName D) ParseError) → AnswersLaidOut rtype_of parts_of b x layout result → GivesBack rtype_of parts_of b x layout result
+  gives_back layout (Ok r) h parts there laid stands = read_there layout parts r there (stands_there layout parts there laid stands) (h.gives there)
+  gives_back layout (Err e) h parts there laid stands = absurd (no_fault_there layout parts (fault_of e) there (stands_there layout parts there laid stands) (h.gives there))
 
-  given_back : (layout : Layout) (result : Result (Option R) ParseError) (parts : List Part) → IsThere b x → HasData b x layout parts → GivesTaken item b x (Some layout) result
-      → IsOkAnd result (λ o. IsSomeAnd o (λ r. item r ≡ item_of x parts))
+  given_back : (layout : Layout) (result : Result (Option (Record ParsedName D)) ParseError) (parts : List Part) → IsThere b x → HasData b x layout parts
+      → GivesTaken rtype_of parts_of b x (Some layout) result → IsOkAnd result (λ o. IsSomeAnd o (IsRecordOf rtype_of parts_of b x parts))
   given_back layout (Ok None) parts there d h = absurd h
   given_back layout (Ok (Some r)) parts there d h = read_there layout parts r there d h
   given_back layout (Err e) parts there d h = absurd (no_fault_there layout parts (fault_of e) there d h)
 
   -- the same where the type may not be taken
-  pub gives_back_taken : (taken : Option Layout) (result : Result (Option R) ParseError) → (IsThere b x → GivesTaken item b x taken result) → GivesBackTaken item b x taken result
-  gives_back_taken taken result gives layout parts is there laid stands =
-      given_back layout result parts there (stands_there layout parts there laid stands) (subst (λ (o : Option Layout). GivesTaken item b x o result) is (gives there))
+  pub gives_back_taken : (taken : Option Layout) (result : Result (Option (Record ParsedName D)) ParseError) → AnswersTaken rtype_of parts_of b x taken result
+      → GivesBackTaken rtype_of parts_of b x taken result
+  gives_back_taken taken result h layout parts is there laid stands =
+      given_back layout result parts there (stands_there layout parts there laid stands) (subst (λ (o : Option Layout). GivesTaken rtype_of parts_of b x o result) is (h.gives there))

@@ -26,15 +26,20 @@ octets_of r = seen (data_parser r)
 abbrev pub parsed_entry : ParsedRecord → RecordEntry
 parsed_entry r = record_at (header_of r) (place (data_parser r))
 
+-- a record where it stands: the octets that it is read from, and what is read of it
+pub record StandingRecord : Type 0 where
+  pub octets : List ℕ
+  pub entry : RecordEntry
+
+-- so of a record that was read
+abbrev pub standing_record : ParsedRecord → StandingRecord
+standing_record r = record { octets = octets_of r; entry = parsed_entry r }
+
 -- What parsing gives is the record that can be read at the parser's place, behind which the parser then stands, and the data's parser sees the same octets. Or it is the fault there, and the parser stays.
 abbrev pub ParsesRecord : Parser → Parser → Result ParsedRecord ParseError → Type 0
 ParsesRecord old new (Ok r) =
     ReadsRecord (seen old) (place old) (place new) (parsed_entry r) × MovesTo old new (place new) × MovesTo old (data_parser r) (place (data_parser r))
 ParsesRecord old new (Err e) = RecordFaultAt (seen old) (place old) (fault_of e) × (new ≡ old)
-
--- a record that can be read at the place is what is given
-abbrev pub ReadsReadableRecord : List ℕ → ℕ → Result ParsedRecord ParseError → Type 0
-ReadsReadableRecord b p result = (q : ℕ) (x : RecordEntry) → ReadsRecord b p q x → IsOkAnd result (λ r. parsed_entry r ≡ x)
 
 -- Skipping moves behind the record, or answers the fault of one that can't be skipped, and the parser stays.
 abbrev pub SkipsOverRecord : Parser → Parser → Result Unit ParseError → Type 0

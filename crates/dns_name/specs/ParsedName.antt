@@ -30,11 +30,3 @@ ParsesName old new (Err e) = FaultAt (seen old) (place old) (fault_of e) × (new
 abbrev pub SkipsName : Parser → Parser → Result Unit ParseError → Type 0
 SkipsName old new (Ok _) = MovesBehindName old new
 SkipsName old new (Err e) = SkipFaultAt (seen old) (place old) (fault_of e) × (new ≡ old)
-
--- a name that stands at the place is what is read
-abbrev pub ReadsStanding : List ℕ → ℕ → Result ParsedName ParseError → Type 0
-ReadsStanding b p result = (name : Labels) → Stands b p name → IsOkAnd result (λ r. labels r ≡ name)
-
--- a fault at the place is what is answered
-abbrev pub AnswersFault : {T : Type 0} → (Fault → Type 0) → Result T ParseError → Type 0
-AnswersFault faulty result = (f : Fault) → faulty f → IsErrAnd result (λ e. fault_of e ≡ f)

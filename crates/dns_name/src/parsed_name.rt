@@ -1,4 +1,4 @@
-ghost use Rattle.std.specs.Prelude.{◌≡◌, ◌+◌, ◌≤◌, ◌↔◌, IsTrue, IsOk, IsSome, IfSome, ℕ, List, [], length};
+ghost use Rattle.std.specs.Prelude.{◌≡◌, ◌+◌, ◌≤◌, ◌↔◌, IsTrue, IsSome, IfSome, ℕ, List, [], length};
 ghost use Rattle.dns_name.specs.Unique.{NameOfSize, NameOfSize-prop};
 
 use crate::head::Head;
@@ -18,10 +18,8 @@ pub struct ParsedName<'a> {
 
 impl<'a> ParsedName<'a> {
     ghost use Rattle.dns_name.specs.Names.{Labels, name_size, uncompressed, with_root};
-    ghost use Rattle.dns_name.specs.Parsers.{seen, place};
-    ghost use Rattle.dns_name.specs.ParsedName.{labels, ParsesName, SkipsName, ReadsStanding, AnswersFault, IsFlat};
-    ghost use Rattle.dns_name.specs.Standing.{Stands, FaultAt};
-    ghost use Rattle.dns_name.specs.Walking.{Walked, SkipFaultAt};
+    ghost use Rattle.dns_name.specs.ParsedName.{labels, ParsesName, SkipsName, IsFlat};
+    ghost use Rattle.dns_name.specs.Standing.{Stands};
     ghost use Rattle.dns_name.specs.Uncompressed.{WholeName};
     ghost use Rattle.dns_name.specs.LabelIter.{labels_left};
 
@@ -31,14 +29,6 @@ impl<'a> ParsedName<'a> {
     /// pointer leads strictly back. An octet that is missing is `ShortInput`, any other fault `Form`; the leftmost is
     /// answered.
     pub fn parse(parser: &mut Parser<'a>) -> Result<ParsedName<'a>, ParseError>
-        ensures reads { ParsesName parser.old parser.new result }
-        ensures name { ReadsStanding (seen parser.old) (place parser.old) result }
-        ensures fault { AnswersFault (FaultAt (seen parser.old) (place parser.old)) result }
-    {
-        ParsedName::read(parser)
-    }
-
-    fn read(parser: &mut Parser<'a>) -> Result<ParsedName<'a>, ParseError>
         ensures { ParsesName parser.old parser.new result }
     {
         let octets = &parser.octets[..parser.end];
@@ -74,14 +64,6 @@ impl<'a> ParsedName<'a> {
 
     /// Passes a name without following a pointer. What is missing is `ShortInput`, any other fault `Form`.
     pub fn skip(parser: &mut Parser<'_>) -> Result<(), ParseError>
-        ensures skips { SkipsName parser.old parser.new result }
-        ensures walked { (q : ℕ) → Walked (seen parser.old) (place parser.old) q → IsOk result }
-        ensures fault { AnswersFault (SkipFaultAt (seen parser.old) (place parser.old)) result }
-    {
-        ParsedName::pass(parser)
-    }
-
-    fn pass(parser: &mut Parser<'_>) -> Result<(), ParseError>
         ensures { SkipsName parser.old parser.new result }
     {
         let octets = &parser.octets[..parser.end];

@@ -1,5 +1,4 @@
 -- Lemmas that crates above cite: a change here is one for them too.
-pub mod Names
 pub mod QuestionEntryLemmas
 pub mod QuestionItemLemmas
 pub mod OneAnswer

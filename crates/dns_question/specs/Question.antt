@@ -40,10 +40,6 @@ abbrev pub ParsesQuestion : Parser → Parser → Result (Question ParsedName) P
 ParsesQuestion old new (Ok q) = ReadsQuestion (seen old) (place old) (place new) (parsed_question q) × MovesTo old new (place new)
 ParsesQuestion old new (Err e) = QuestionFaultAt (seen old) (place old) (fault_of e) × (new ≡ old)
 
--- a question that can be read at the place is what is given
-abbrev pub ReadsReadable : List ℕ → ℕ → Result (Question ParsedName) ParseError → Type 0
-ReadsReadable b p result = (q : ℕ) (x : QuestionItem) → ReadsQuestion b p q x → IsOkAnd result (λ question. parsed_question question ≡ x)
-
 -- Skipping moves behind the question, or answers the fault of one that can't be skipped, and the parser stays.
 abbrev pub SkipsOverQuestion : Parser → Parser → Result Unit ParseError → Type 0
 SkipsOverQuestion old new (Ok _) = SkipsQuestion (seen old) (place old) (place new) × MovesTo old new (place new)

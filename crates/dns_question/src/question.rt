@@ -1,11 +1,8 @@
 //! Questions (RFC 1035 section 4.1.2).
-ghost use Rattle.std.specs.Prelude.{◌≡◌, ℕ, IsOk};
-ghost use Rattle.dns_name.specs.ParsedName.{AnswersFault};
-ghost use Rattle.dns_name.specs.Parsers.{seen, place};
+ghost use Rattle.std.specs.Prelude.{◌≡◌};
 ghost use Rattle.dns_wire.specs.Targets.{Composes};
-ghost use Rattle.dns_question.specs.QuestionEntries.{SkipsQuestion, QuestionFaultAt, QuestionSkipFaultAt};
 ghost use Rattle.dns_question.specs.Questions.{QuestionItem, IsQuestion, put_question};
-ghost use Rattle.dns_question.specs.Question.{qname_of, qtype_of, qclass_of, HasFields, question_item, ParsesQuestion, ReadsReadable, SkipsOverQuestion};
+ghost use Rattle.dns_question.specs.Question.{qname_of, qtype_of, qclass_of, HasFields, question_item, ParsesQuestion, SkipsOverQuestion};
 
 pub use crate::question_error::{FromStrError, PresentationError, PresentationErrorEnum};
 use dns_code::{Class, Rtype};
@@ -96,14 +93,6 @@ impl<'a> Question<ParsedName<'a>> {
     /// The fault of its name is answered, or `ShortInput` where the four octets behind the name aren't there. Then the
     /// parser stays.
     pub fn parse(parser: &mut Parser<'a>) -> Result<Self, ParseError>
-        ensures parses { ParsesQuestion parser.old parser.new result }
-        ensures question { ReadsReadable (seen parser.old) (place parser.old) result }
-        ensures fault { AnswersFault (QuestionFaultAt (seen parser.old) (place parser.old)) result }
-    {
-        Question::read(parser)
-    }
-
-    fn read(parser: &mut Parser<'a>) -> Result<Self, ParseError>
         ensures { ParsesQuestion parser.old parser.new result }
     {
         let mut ahead = *parser;
@@ -121,16 +110,6 @@ impl Question<()> {
     /// The fault of passing its name is answered, or `ShortInput` where the four octets behind the name aren't there.
     /// Then the parser stays.
     pub fn skip(parser: &mut Parser<'_>) -> Result<(), ParseError>
-        ensures skips { SkipsOverQuestion parser.old parser.new result }
-        ensures skippable { (q : ℕ) → SkipsQuestion (seen parser.old) (place parser.old) q
-            → IsOk result }
-        ensures fault { AnswersFault (QuestionSkipFaultAt (seen parser.old) (place parser.old))
-            result }
-    {
-        Question::pass(parser)
-    }
-
-    fn pass(parser: &mut Parser<'_>) -> Result<(), ParseError>
         ensures { SkipsOverQuestion parser.old parser.new result }
     {
         let mut ahead = *parser;

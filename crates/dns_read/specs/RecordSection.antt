@@ -5,10 +5,10 @@ use Rattle.dns_name.specs.Parsers.{seen, place}
 use Rattle.dns_octets.specs.declared.error.ParseError.{ParseError}
 use Rattle.dns_question.specs.QuestionEntries.{SkipsQuestion, QuestionSkipFaultAt}
 use Rattle.dns_item.specs.Entries.{SkipsRecord, ReadsRecord, RecordEntry, RecordFaultAt, RecordSkipFaultAt}
-use Rattle.dns_item.specs.ParsedRecord.{parsed_entry}
+use Rattle.dns_item.specs.ParsedRecord.{octets_of as record_octets, parsed_entry, StandingRecord, standing_record}
 use Rattle.dns_item.specs.declared.parsed_record.ParsedRecord.{ParsedRecord}
 use Rattle.dns_read.specs.QuestionSection as questions
-use Rattle.dns_read.specs.RecordsFrom.{records_from}
+use Rattle.dns_read.specs.RecordsFrom.{records_in}
 use Rattle.dns_read.specs.Sections.{record_count, StartsAt, section_behind}
 use Rattle.dns_read.specs.Skipping.{items_left, SkipsToCome, StopsToCome}
 use Rattle.dns_read.specs.declared.question_section.QuestionSection.{QuestionSection}
@@ -33,17 +33,17 @@ abbrev pub to_come : RecordSection → Result ℕ ParseError
 to_come cursor = cursor.left
 
 -- what is left to be given
-abbrev pub records_left : RecordSection → List (Result RecordEntry Fault)
-records_left cursor = items_left (λ n. records_from (octets_of cursor) n (position cursor)) (to_come cursor)
+abbrev pub records_left : RecordSection → List (Result StandingRecord Fault)
+records_left cursor = items_left (λ n. records_in (octets_of cursor) n (position cursor)) (to_come cursor)
 
--- what an answer of the cursor says: a record, or a fault
-abbrev pub record_answer : Result ParsedRecord ParseError → Result RecordEntry Fault
-record_answer (Ok r) = Ok (parsed_entry r)
+-- what an answer of the cursor says: a record and the octets that it is read from, or a fault
+abbrev pub record_answer : Result ParsedRecord ParseError → Result StandingRecord Fault
+record_answer (Ok r) = Ok (standing_record r)
 record_answer (Err e) = Err (fault_of e)
 
--- The cursor moves behind a record that it gave. Else it stays: where no record can be read, and at the end.
+-- The cursor moves behind a record that it gave, which is read from the message's octets. Else it stays: where no record can be read, and at the end.
 abbrev pub PassesRecord : RecordSection → RecordSection → Option (Result ParsedRecord ParseError) → Type 0
-PassesRecord old new (Some (Ok r)) = ReadsRecord (octets_of old) (position old) (position new) (parsed_entry r)
+PassesRecord old new (Some (Ok r)) = ReadsRecord (octets_of old) (position old) (position new) (parsed_entry r) × (record_octets r ≡ octets_of old)
 PassesRecord old new (Some (Err e)) = RecordFaultAt (octets_of old) (position old) (fault_of e) × (position new ≡ position old)
 PassesRecord old new None = position new ≡ position old
 
@@ -52,7 +52,7 @@ pub record IsFresh (which : Section) (b : List ℕ) (cursor : RecordSection) : T
   pub octets : octets_of cursor ≡ b
   pub section : section_of cursor ≡ which
   pub count : to_come cursor ≡ Ok (record_count which b)
-  pub records : records_left cursor ≡ records_from b (record_count which b) (position cursor)
+  pub records : records_left cursor ≡ records_in b (record_count which b) (position cursor)
 
 -- such a cursor at the start of the section
 pub record BeginsSection (which : Section) (b : List ℕ) (cursor : RecordSection) : Type 0 where

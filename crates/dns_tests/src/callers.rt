@@ -7,16 +7,16 @@ ghost use Rattle.dns_message.specs.Script.{after_all, octets_of};
 ghost use Rattle.dns_message.specs.declared.script.Reply.{Reply};
 ghost use Rattle.dns_read.specs.Message.{message_octets};
 ghost use Rattle.dns_read.specs.Sections.{AnswersStart};
-ghost use Rattle.dns_tests.specs.Callers.{IsShortMessage};
+ghost use Rattle.dns_tests.specs.Callers.{IsShortMessage, StandsFirst};
 
 use dns_message::builder::MessageBuilder;
 use dns_message::code::{Class, Rtype};
-use dns_message::data::UnknownRecordData;
+use dns_message::data::{A, ParseRecordData, UnknownRecordData};
 use dns_message::header::Header;
 use dns_message::message::Message;
-use dns_message::name::Name;
+use dns_message::name::{Name, ParsedName};
 use dns_message::question::ComposeQuestion;
-use dns_message::record::{ComposeRecord, Ttl};
+use dns_message::record::{ComposeRecord, Record, Ttl};
 use dns_message::script::{Call, Stage, run};
 use dns_message::target::HashCompressor;
 use dns_message::wire::Octets;
@@ -91,6 +91,29 @@ fn finds_the_answers(rt: HostRuntime) -> Result<(), Fail> {
     let octets = b"\x00\x00\x00\x00\x00\x01\x00\x00\x00\x00\x00\x00\x01a\x00\x00\x01\x00\x01";
     let message = Message::from_octets(octets.as_slice())?;
     assert_eq!(rt; answers_start(&message), Some(19));
+    Ok(())
+}
+
+/// The record that stands first in the answer section, if it can be read with such data.
+fn first_answer<'a, Octs: Octets, D: ParseRecordData<'a> + Drop>(
+    message: &'a Message<Octs>,
+) -> Option<Record<ParsedName<'a>, D>>
+    ensures { IfSome result (StandsFirst D.rtype_of D.parts D.layout (message_octets message.now)) }
+{
+    let mut answers = message.answer().ok()?;
+    let record = answers.next()?.ok()?;
+    match record.to_record() {
+        Ok(read) => read,
+        Err(_) => None,
+    }
+}
+
+#[test]
+fn reads_the_first_answer(rt: HostRuntime) -> Result<(), Fail> {
+    let octets = b"\x00\x00\x81\xA0\x00\x00\x00\x01\x00\x00\x00\x00\x01a\x00\x00\x01\x00\x01\x00\x00\x0E\x10\x00\x04\xCB\x00\x71\x01";
+    let message = Message::from_octets(octets.as_slice())?;
+    let address = first_answer::<_, A>(&message).ok_or("address")?;
+    assert_eq!(rt; address.data().octets(), [203, 0, 113, 1]);
     Ok(())
 }
 

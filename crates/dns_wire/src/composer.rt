@@ -48,7 +48,8 @@ pub trait Composer: Drop {
 
     /// Cuts the content to its first `len` octets, if it has more, and forgets the names that end behind them.
     fn truncate(&mut self, len: usize)
-        ensures { written self.new ≡ cut_to len (written self.old) };
+        ensures cut { written self.new ≡ cut_to len (written self.old) }
+        ensures is_target { IsTarget (written self.new) };
 
     /// Writes octets over those from a place on.
     fn write_at(&mut self, place: usize, octets: &[u8])
@@ -110,7 +111,7 @@ impl Composer for Vec<u8> {
         false
     }
 
-    #[tactic(auto, using(crate::proofs::theory::PlainTargets::cut_nothing))]
+    #[tactic(auto, using(crate::proofs::theory::PlainTargets::cut_nothing, crate::proofs::theory::PlainTargets::nothing_is_kept))]
     fn truncate(&mut self, len: usize) {
         self.truncate(len);
     }
@@ -166,7 +167,7 @@ impl<const N: usize> Composer for ArrayVec<u8, N> {
         false
     }
 
-    #[tactic(auto, using(crate::proofs::theory::PlainTargets::cut_nothing))]
+    #[tactic(auto, using(crate::proofs::theory::PlainTargets::cut_nothing, crate::proofs::theory::PlainTargets::nothing_is_kept))]
     fn truncate(&mut self, len: usize) {
         self.truncate(len)
     }

@@ -12,7 +12,7 @@ use Rattle.dns_item.specs.Entries.RecordFaultAt.{owner as owner_fault, short as 
 use Rattle.dns_item.specs.Entries.RecordSkipFaultAt.{owner as owner_skip_fault, short as unended_record}
 use Rattle.dns_item.specs.Entries.LacksRecord.{fields, rdata}
 use Rattle.dns_item.specs.EntryLaws.{HeaderOrFault, RecordOrFault, RecordEndOrFault, RecordSkipAgrees}
-use Rattle.dns_question.proofs.theory.Names.{name_or_fault, not_both, one_name, one_fault, end_or_skip_fault, end_not_both, one_end, names_end, skip_faults}
+use Rattle.dns_name.proofs.theory.Names.{name_or_fault, not_both, one_name, one_fault, end_or_skip_fault, end_not_both, one_end, names_end, skip_faults}
 
 module _ (b : List ℕ) where
   header_at : (p : ℕ) → ((q : ℕ) × (x : HeaderEntry) × ReadsHeader b p q x) ⊎ ((f : Fault) × HeaderFaultAt b p f)

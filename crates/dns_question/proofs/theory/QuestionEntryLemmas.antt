@@ -11,7 +11,7 @@ use Rattle.dns_question.specs.QuestionEntries.{SkipsQuestion, ReadsQuestion, Que
 use Rattle.dns_question.specs.QuestionEntries.QuestionFaultAt.{name as name_fault, short as short_question}
 use Rattle.dns_question.specs.QuestionEntries.QuestionSkipFaultAt.{name as name_skip_fault, short as unended_question}
 use Rattle.dns_question.specs.QuestionLaws.{QuestionOrFault, QuestionEndOrFault, QuestionSkipAgrees}
-use Rattle.dns_question.proofs.theory.Names.{name_or_fault, not_both, one_name, one_fault, end_or_skip_fault, end_not_both, one_end, names_end, skip_faults}
+use Rattle.dns_name.proofs.theory.Names.{name_or_fault, not_both, one_name, one_fault, end_or_skip_fault, end_not_both, one_end, names_end, skip_faults}
 
 module _ (b : List ℕ) where
   -- the end of a question whose name ends at r, where it is within

@@ -14,4 +14,4 @@ loop-name-preserved g c =
     c.append_slice-octets.ensures
 
 pub returns : goal.returns
-returns g c = c.truncate.ensures ∙ ap (λ n. cut_to n (g.T.Composer.written c.loop-name.target)) (ap length c.as_slice-len.ensures.octets) ∙ c.loop-name.invariant.cut
+returns g c = c.truncate.ensures.cut ∙ ap (λ n. cut_to n (g.T.Composer.written c.loop-name.target)) (ap length c.as_slice-len.ensures.octets) ∙ c.loop-name.invariant.cut

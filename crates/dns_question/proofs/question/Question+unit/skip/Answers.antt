@@ -1,8 +1,15 @@
-use Rattle.dns_question.proofs.QuestionLemmas.{skips_skippable, skip_answers_fault}
+use Rattle.std.proofs.Common.{refl}
+use Rattle.std.proofs.lemmas.Result.{err_from_is_err_and}
+use Rattle.dns_question.specs.QuestionEntries.QuestionSkipFaultAt.{name}
+use Rattle.dns_question.proofs.QuestionLemmas.{unended}
 use Rattle.dns_question.proofs.question.Question+unit.skip.Goals as goal
 
-pub returns-clause-skippable : goal.returns-clause-skippable
-returns-clause-skippable c = skips_skippable c.args.parser.now c.pass.new.parser c.pass.result c.pass.ensures
+pub returns-in_err-skip : goal.returns-in_err-skip
+returns-in_err-skip c =
+    let p = err_from_is_err_and c.from_residual.result c.from_residual.ensures.1 in
+    rw (p.1, p.2) (name c.in_err-skip.ensures.0, refl)
 
-pub returns-clause-fault : goal.returns-clause-fault
-returns-clause-fault c = skip_answers_fault c.args.parser.now c.pass.new.parser c.pass.result c.pass.ensures
+pub returns-in_err-advance : goal.returns-in_err-advance
+returns-in_err-advance c =
+    let p = err_from_is_err_and c.from_residual-in_err-advance.result c.from_residual-in_err-advance.ensures.1 in
+    rw (p.1, p.2) (unended _ _ _ c.in_ok-skip.ensures c.in_err-advance.ensures.0 c.in_err-advance.ensures.1, refl)

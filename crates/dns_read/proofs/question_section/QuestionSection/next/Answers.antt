@@ -18,11 +18,11 @@ pub returns-in-Ok-clause-steps : goal.returns-in-Ok-clause-steps
 returns-in-Ok-clause-steps c =
     let old = c.args.self.now in
     let new = c.parse.new.parser in
-    let reads = c.in-Ok.ensures.parses in
+    let reads = c.in-Ok.ensures in
     gives_entry (questions_from_are_read (octets_of old)) (position old) (to_come old) _ c.in_ok-ok.ensures.value _ (place new) _ c.in_ok-left.ensures reads.0
     ∙ ap (λ (b : List ℕ). Ok (parsed_question c.in-Ok.question) ∷ questions_from b c.in_ok-left.left (place new)) (sym reads.1.seen)
 
 pub returns-in-Err-clause-steps : goal.returns-in-Err-clause-steps
 returns-in-Err-clause-steps c =
     let old = c.args.self.now in
-    gives_fault (questions_from_are_read (octets_of old)) (position old) (to_come old) _ c.in_ok-ok.ensures.value _ _ c.in_ok-left.ensures c.in-Err.ensures.parses.0
+    gives_fault (questions_from_are_read (octets_of old)) (position old) (to_come old) _ c.in_ok-ok.ensures.value _ _ c.in_ok-left.ensures c.in-Err.ensures.0

@@ -1,6 +1,6 @@
 use Rattle.std.proofs.Common.{length, ◌+◌, ◌-◌, ◌*◌}
 use Rattle.dns_name.proofs.Walks.{Leads}
-use Rattle.dns_name.proofs.parsed_name.ParsedName.read.Given as goal
+use Rattle.dns_name.proofs.parsed_name.ParsedName.parse.Given as goal
 
 abbrev pub invariant-walk : goal.invariant-walk
 invariant-walk l = Leads l.octets l.start l.pos l.size l.end

@@ -1,6 +1,6 @@
 use Rattle.std.proofs.Common.{length, ◌-◌}
 use Rattle.dns_name.proofs.Walks.{Passes}
-use Rattle.dns_name.proofs.parsed_name.ParsedName.pass.Given as goal
+use Rattle.dns_name.proofs.parsed_name.ParsedName.skip.Given as goal
 
 abbrev pub invariant-walk : goal.invariant-walk
 invariant-walk l = Passes l.octets l.start l.pos l.size

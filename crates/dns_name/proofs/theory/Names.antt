@@ -1,4 +1,4 @@
--- What is used here of names in octets, each as a law of the crate below.
+-- What stands at each place of all octets: one name or one fault, and one walked extent or one skip fault.
 use Rattle.std.proofs.Common.{arith, inl, inr}
 use Rattle.dns_name.specs.Laws.{NameOrFault, NameOrFaultNotBoth, OneName, OneFault, EndOrSkipFault, EndOrSkipFaultNotBoth, OneEnd, StandingNamesEnd, SkipFaultsAreFaults}
 use Rattle.dns_name.specs.Unique.{same_name as same}

@@ -1,0 +1,10 @@
+use Rattle.std.proofs.Common.{arith}
+use Rattle.dns_item.specs.ParsedRecord.{octets_of, parsed_entry}
+use Rattle.dns_item.proofs.RecordReadingLemmas.{gives_back}
+use Rattle.dns_item.proofs.parsed_record.ParsedRecord.to_any_record.Goals as goal
+
+pub returns-clause-back : goal.returns-clause-back
+returns-clause-back g c =
+    let r = c.args.self.now in
+    gives_back g.D.RecordData.rtype_of g.D.RecordData.parts (octets_of r) (parsed_entry r) (omega arith)
+    (g.D.ParseAnyRecordData.any_layout (parsed_entry r).rtype) c.parse_into_any_record.result c.parse_into_any_record.ensures.answers
