@@ -6,9 +6,9 @@ use Rattle.dns_code.specs.declared.header.Header.{Header}
 use Rattle.dns_item.specs.Items.{RecordItem, IsRecord, put_record}
 use Rattle.dns_build.specs.declared.push_error.PushError.{PushError}
 use Rattle.dns_build.specs.Built.{Built, PushesOn, last_start, earlier_starts, emptied_from}
-use Rattle.dns_build.specs.Standing.{StandsFor, Moves, InEach}
+use Rattle.dns_build.specs.Standing.{StandsFor, MovesState, InEach}
 use Rattle.dns_build.specs.State.{Section, Answers, Authorities, Additionals, stage_of, depth_of, Stage, State, with_record, records_at, with_tc, with_header, rewound, tc_rewound}
-use Rattle.dns_build.proofs.PushClauses.{Takes}
+use Rattle.dns_build.proofs.PushClauses.{AnswersPush}
 use Rattle.dns_build.proofs.RecordFolds.{place_of}
 use Rattle.dns_build.proofs.RecordMoves.{takes-record, rewinds, rewinds-tc, starts-section}
 
@@ -41,28 +41,28 @@ module _ (stage : Stage) (k : Section) (at : stage ≡ stage_of k) where
 
     -- a push of a record
     pub takes-at : (room : Option ℕ) (grows : Bool) (x : RecordItem) (old new : Built) (r : Result (Unit {0}) PushError) → OnOk r (IsRecord x)
-        → PushesOn room grows place (put_record rule x) old new r → Takes stage room grows rule (with_record stage x) (λ s. length (records_at stage s)) old new r
+        → PushesOn room grows place (put_record rule x) old new r → AnswersPush stage room grows rule (with_record stage x) (λ s. length (records_at stage s)) old new r
     takes-at room grows x old new r one pushes =
-        subst (λ t. Takes t room grows rule (with_record t x) (λ s. length (records_at t s)) old new r) (sym at)
+        subst (λ t. AnswersPush t room grows rule (with_record t x) (λ s. length (records_at t s)) old new r) (sym at)
         (takes-record k room grows rule x old new r one (subst (λ n. PushesOn room grows n (put_record rule x) old new r) place-at pushes))
 
     -- a rewind
     pub rewinds-at : (start : ℕ) (old new : Built) → start ≡ last_start old.starts
-        → new ≡ record old { written = emptied_from start place old.written } → Moves stage stage rule (rewound stage) old new
+        → new ≡ record old { written = emptied_from start place old.written } → MovesState stage stage rule (rewound stage) old new
     rewinds-at start old new from then =
         let emptied : new ≡ record old { written = emptied_from (last_start old.starts) (place_of k) old.written }
         = then ∙ (λ i. record old { written = emptied_from (from i) (place-at i) old.written }) in
-        subst (λ t. Moves t t rule (rewound t) old new) (sym at)
+        subst (λ t. MovesState t t rule (rewound t) old new) (sym at)
         (λ s h. rewinds k rule (last_start old.starts) (earlier_starts old.starts) old new (has_start k rule old s h) emptied s h)
 
   -- a rewind, and then TC set
-  pub rewinds-tc-at : (rule : Rule) (shown set : Header) (old mid new : Built) → Moves stage stage rule (rewound stage) old mid
-      → InEach stage rule mid (λ s. shown ≡ s.header) → set ≡ with_tc shown → Moves stage stage rule (with_header set) mid new
-      → Moves stage stage rule (tc_rewound stage) old new
+  pub rewinds-tc-at : (rule : Rule) (shown set : Header) (old mid new : Built) → MovesState stage stage rule (rewound stage) old mid
+      → InEach stage rule mid (λ s. shown ≡ s.header) → set ≡ with_tc shown → MovesState stage stage rule (with_header set) mid new
+      → MovesState stage stage rule (tc_rewound stage) old new
   rewinds-tc-at rule shown set old mid new rewinds shows sets writes =
-      subst (λ t. Moves t t rule (tc_rewound t) old new) (sym at)
+      subst (λ t. MovesState t t rule (tc_rewound t) old new) (sym at)
       (rewinds-tc k rule shown set old mid new
-      (subst (λ t. Moves t t rule (rewound t) old mid) at rewinds)
+      (subst (λ t. MovesState t t rule (rewound t) old mid) at rewinds)
       (subst (λ t. InEach t rule mid (λ s. shown ≡ s.header)) at shows)
       sets
-      (subst (λ t. Moves t t rule (with_header set) mid new) at writes))
+      (subst (λ t. MovesState t t rule (with_header set) mid new) at writes))

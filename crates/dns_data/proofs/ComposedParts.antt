@@ -11,7 +11,7 @@ use Rattle.dns_wire.proofs.theory.GrowingPieces.{put_part_grows}
 use Rattle.dns_name.proofs.theory.LabelsLemmas.{length-uncompressed}
 use Rattle.dns_wire.proofs.theory.PieceLaws.{same_written}
 use Rattle.dns_data.specs.RecordData.{IsData}
-use Rattle.dns_data.specs.Laws.{NoPartComposes, OnePartComposes, PartsComposeBehind, RefusedPartComposes, NamesAreShort}
+use Rattle.dns_data.specs.Laws.{NoPartComposes, OnePartComposes, PartsComposeBehind, RefusedPartComposes, NamesAreBounded}
 
 -- no octets change nothing
 lay-nothing : (t : Written) → t ≡ lay (put_octets []) t
@@ -43,7 +43,7 @@ one_part_composes room grows rule part t u (Ok done) h =
 one_part_composes room grows rule part t u (Err e) h = refused_part_composes room grows rule part [] t u (Err e) (Err e) e refl refl h
 
 -- a name takes at most 255 octets where it isn't compressed
-pub names_are_short : NamesAreShort
+pub names_are_short : NamesAreBounded
 names_are_short name is = let size = length-uncompressed name in let few = is.short in omega arith
 
 -- one name is short enough to be data

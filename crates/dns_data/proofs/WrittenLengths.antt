@@ -1,7 +1,7 @@
 -- A piece behind two octets into which its length is written.
 use Rattle.std.proofs.Common.{◌≡◌, ℕ, ◌+◌, ◌≤◌, ◌⊎◌, inl, inr, Bool, Option, Some, Result, Err, List, [], ◌∷◌, length, length-append, ap, sym, ◌∙◌, subst}
 use Rattle.std.specs.FinMap.{get}
-use Rattle.dns_wire.specs.Memory.{Spot, IsClear, IsOldOrNew, Extends}
+use Rattle.dns_wire.specs.Memory.{Spot, IsClear, IsOldOrWithin, Extends}
 use Rattle.dns_wire.specs.Pieces.{Piece, IsGrowing, put_octets, both, with_length}
 use Rattle.dns_wire.specs.Targets.{Written, IsTarget, AnswersInSteps, lay, Composes}
 use Rattle.dns_octets.specs.declared.error.AppendError.{AppendError}
@@ -13,7 +13,7 @@ use Rattle.dns_wire.proofs.theory.PutNames.{ends_within_content}
 abbrev blank : List ℕ
 blank = 0 ∷ 0 ∷ []
 
-one_clear : (before after : Option Spot) (w v : ℕ) → IsOldOrNew before after (w + 2) v → ((x : Spot) → before ≡ Some x → x.end ≤ w)
+one_clear : (before after : Option Spot) (w v : ℕ) → IsOldOrWithin before after (w + 2) v → ((x : Spot) → before ≡ Some x → x.end ≤ w)
     → (y : Spot) → after ≡ Some y → (y.end ≤ w) ⊎ (w + 2 ≤ y.place)
 one_clear before after w v (inl same) h y e = inl (h y (sym same ∙ e))
 one_clear before after w v (inr new) h y e =

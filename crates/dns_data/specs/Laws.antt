@@ -29,8 +29,8 @@ RefusedPartComposes = (room : Option ℕ) (grows : Bool) (rule : Rule) (part : P
     → r ≡ Err e → q ≡ Err e → Appends room grows (put_part rule part) t u r → Composes room grows (put_parts rule (part ∷ parts)) t u q
 
 -- without pointers, a name takes at most 255 octets
-abbrev pub NamesAreShort : Type 0
-NamesAreShort = (name : Labels) → IsName name → length (uncompressed name) ≤ 255
+abbrev pub NamesAreBounded : Type 0
+NamesAreBounded = (name : Labels) → IsName name → length (uncompressed name) ≤ 255
 
 -- from a place exactly one list of parts stands in a layout, with one end, or exactly one fault is met, and never both
 pub record DatumOrFault (b : List ℕ) (layout : Layout) (p : ℕ) : Type 0 where

@@ -1,6 +1,6 @@
 //! Theorems on parts that are composed, and on data where it stands. The functions do nothing: each contract is a theorem
 //! over all targets, parts, octets and layouts.
-ghost use Rattle.dns_data.specs.Laws.{NoPartComposes, OnePartComposes, PartsComposeBehind, RefusedPartComposes, NamesAreShort, OneDatumOrFault, StandingPartsRead};
+ghost use Rattle.dns_data.specs.Laws.{NoPartComposes, OnePartComposes, PartsComposeBehind, RefusedPartComposes, NamesAreBounded, OneDatumOrFault, StandingPartsRead};
 
 /// What is appended part by part composes all parts: no part composes nothing, one append its one part, what is composed
 /// behind an appended part both, and the refusal of the first part is that of all.
@@ -13,7 +13,7 @@ pub fn parts_compose()
 
 /// A name takes at most 255 octets where it isn't compressed.
 pub fn names_are_short()
-    ensures { NamesAreShort }
+    ensures { NamesAreBounded }
 {}
 
 /// At each place exactly one datum of a layout stands, with one end, or exactly one fault is met, never both.

@@ -7,7 +7,7 @@ use Rattle.dns_question.specs.Questions.{QuestionItem}
 use Rattle.dns_item.specs.Items.{RecordItem}
 use Rattle.dns_build.specs.Built.{Built, PushAnswers}
 use Rattle.dns_build.specs.Fold.{fold}
-use Rattle.dns_build.specs.Standing.{StandsFor, Moves, InEach, size_after}
+use Rattle.dns_build.specs.Standing.{StandsFor, MovesState, InEach, size_after}
 use Rattle.dns_build.specs.State as state
 use Rattle.dns_build.specs.State.{State, Section, Answers, Authorities, Additionals, stage_of, with_record, records_at, most_entries}
 use Rattle.dns_build.specs.declared.push_error.PushError.{PushError}
@@ -53,7 +53,7 @@ module _ (room : Option ℕ) (grows : Bool) {Q R : Type 0} (question : Q → Que
   -- a push of a record steps as its contract says
   pub push_stays : (section : Section) (call : Call Q R) (r : Result (Unit {0}) PushError) (reply : Reply)
       → stage ≡ stage_of section → call ≡ PushRecord x → MatchResult r (λ _. reply ≡ Done) (λ error. reply ≡ Refused error)
-      → OnOk r (Moves stage stage rule (with_record stage (item x)) old new) → OnErr r (new ≡ old) → Answered room grows rule stage old (item x) r
+      → OnOk r (MovesState stage stage rule (with_record stage (item x)) old new) → OnErr r (new ≡ old) → Answered room grows rule stage old (item x) r
       → Stays room grows question item rule stage old call reply new
   push_stays section call (Ok v) reply at is m moved same answer s h =
       let has : lacks {Q = Q} s.stage (PushRecord x) ≡ false = ap (λ here. lacks {Q = Q} here (PushRecord x)) (h.here ∙ at) ∙ has_push Q R section x in

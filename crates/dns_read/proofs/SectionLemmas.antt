@@ -10,7 +10,7 @@ use Rattle.dns_read.specs.QuestionSection as questions
 use Rattle.dns_read.specs.QuestionSection.{BeginsQuestions}
 use Rattle.dns_read.specs.RecordSection.{octets_of, position, section_of, IsFresh, BeginsSection, EntersAnswers, EntersNext}
 use Rattle.dns_read.specs.Sections.{question_count, record_count, StartsAt, section_behind}
-use Rattle.dns_read.specs.Skipping.{SkipsToCome}
+use Rattle.dns_read.specs.Skipping.{SkipsRest}
 use Rattle.dns_read.specs.declared.question_section.QuestionSection.{QuestionSection}
 use Rattle.dns_read.specs.declared.record_section.RecordSection.{RecordSection}
 use Rattle.dns_read.specs.declared.section.Section.{Section}
@@ -19,7 +19,7 @@ use Rattle.dns_read.specs.declared.section.Section.TheVariants.{Answer, Authorit
 -- the answer section, behind all questions
 pub begins_answers : (b : List ℕ) (old : QuestionSection) (new : RecordSection) → BeginsQuestions b old → EntersAnswers old new → BeginsSection Answer b new
 begins_answers b old new begins enters =
-    let counted = subst (λ (left : Result ℕ ParseError). SkipsToCome (SkipsQuestion (questions.octets_of old)) left (questions.position old) (position new)) begins.count enters.skips in
+    let counted = subst (λ (left : Result ℕ ParseError). SkipsRest (SkipsQuestion (questions.octets_of old)) left (questions.position old) (position new)) begins.count enters.skips in
     let placed = subst (λ p. Passed (SkipsQuestion (questions.octets_of old)) (question_count b) p (position new)) begins.start counted in
     record {
       fresh = subst (λ (o : List ℕ). IsFresh Answer o new) begins.octets enters.fresh;
@@ -36,6 +36,6 @@ pub begins_next : (which next : Section) (b : List ℕ) (old new : RecordSection
 begins_next which next b old new behind begins enters =
     let section : section_of new ≡ next = cc in
     let fresh = subst (λ k. IsFresh k b new) section (subst (λ (o : List ℕ). IsFresh (section_of new) o new) begins.fresh.octets enters.fresh) in
-    let counted = subst (λ (left : Result ℕ ParseError). SkipsToCome (SkipsRecord (octets_of old)) left (position old) (position new)) begins.fresh.count enters.skips in
-    let passed = subst (λ (o : List ℕ). SkipsToCome (SkipsRecord o) (Ok (record_count which b)) (position old) (position new)) begins.fresh.octets counted in
+    let counted = subst (λ (left : Result ℕ ParseError). SkipsRest (SkipsRecord (octets_of old)) left (position old) (position new)) begins.fresh.count enters.skips in
+    let passed = subst (λ (o : List ℕ). SkipsRest (SkipsRecord o) (Ok (record_count which b)) (position old) (position new)) begins.fresh.octets counted in
     record { fresh = fresh; start = starts_behind which next b (position old) (position new) behind begins.start passed }

@@ -10,7 +10,7 @@ use Rattle.dns_item.specs.declared.parsed_record.ParsedRecord.{ParsedRecord}
 use Rattle.dns_read.specs.QuestionSection as questions
 use Rattle.dns_read.specs.RecordsFrom.{records_in}
 use Rattle.dns_read.specs.Sections.{record_count, StartsAt, section_behind}
-use Rattle.dns_read.specs.Skipping.{items_left, SkipsToCome, StopsToCome}
+use Rattle.dns_read.specs.Skipping.{items_left, SkipsRest, StopsInRest}
 use Rattle.dns_read.specs.declared.question_section.QuestionSection.{QuestionSection}
 use Rattle.dns_read.specs.declared.record_section.RecordSection.{RecordSection}
 use Rattle.dns_read.specs.declared.section.Section.{Section}
@@ -62,26 +62,26 @@ pub record BeginsSection (which : Section) (b : List ℕ) (cursor : RecordSectio
 -- the answer section begins behind the questions that were left
 pub record EntersAnswers (old : QuestionSection) (new : RecordSection) : Type 0 where
   pub fresh : IsFresh Answer (questions.octets_of old) new
-  pub skips : SkipsToCome (SkipsQuestion (questions.octets_of old)) (questions.to_come old) (questions.position old) (position new)
+  pub skips : SkipsRest (SkipsQuestion (questions.octets_of old)) (questions.to_come old) (questions.position old) (position new)
 
 -- What moving on from the questions answers: the answer section behind those that are left, or why they can't be skipped.
 abbrev pub MovesToAnswers : QuestionSection → Result RecordSection ParseError → Type 0
 MovesToAnswers old (Ok new) = EntersAnswers old new
-MovesToAnswers old (Err e) = StopsToCome (SkipsQuestion (questions.octets_of old)) (QuestionSkipFaultAt (questions.octets_of old)) (questions.to_come old) (questions.position old) e
+MovesToAnswers old (Err e) = StopsInRest (SkipsQuestion (questions.octets_of old)) (QuestionSkipFaultAt (questions.octets_of old)) (questions.to_come old) (questions.position old) e
 
 -- the next section begins behind the records that were left
 pub record EntersNext (old new : RecordSection) : Type 0 where
   pub next : section_behind (section_of old) ≡ Some (section_of new)
   pub fresh : IsFresh (section_of new) (octets_of old) new
-  pub skips : SkipsToCome (SkipsRecord (octets_of old)) (to_come old) (position old) (position new)
+  pub skips : SkipsRest (SkipsRecord (octets_of old)) (to_come old) (position old) (position new)
 
 -- What moving on from a section that isn't the last answers: the next section behind the records that are left, or why they can't be skipped.
 abbrev pub MovesToNext : RecordSection → Result RecordSection ParseError → Type 0
 MovesToNext old (Ok new) = EntersNext old new
-MovesToNext old (Err e) = StopsToCome (SkipsRecord (octets_of old)) (RecordSkipFaultAt (octets_of old)) (to_come old) (position old) e
+MovesToNext old (Err e) = StopsInRest (SkipsRecord (octets_of old)) (RecordSkipFaultAt (octets_of old)) (to_come old) (position old) e
 
 -- What moving on from a section answers: nothing behind the last, also after an error; else the next section behind the records that are left, or why they can't be skipped.
 abbrev pub MovesOn : RecordSection → Result (Option RecordSection) ParseError → Type 0
 MovesOn old (Ok None) = section_of old ≡ Additional
 MovesOn old (Ok (Some new)) = EntersNext old new
-MovesOn old (Err e) = (section_of old ≢ Additional) × StopsToCome (SkipsRecord (octets_of old)) (RecordSkipFaultAt (octets_of old)) (to_come old) (position old) e
+MovesOn old (Err e) = (section_of old ≢ Additional) × StopsInRest (SkipsRecord (octets_of old)) (RecordSkipFaultAt (octets_of old)) (to_come old) (position old) e

@@ -23,11 +23,11 @@ CountsDown old new (Some (Err e)) = new ≡ Err e
 CountsDown old new None = new ≡ old
 
 -- what is to come is skipped, up to a place; once an error was given there is no such place
-abbrev pub SkipsToCome : (ℕ → ℕ → Type 0) → Result ℕ ParseError → ℕ → ℕ → Type 0
-SkipsToCome Skips (Ok n) p q = Passed Skips n p q
-SkipsToCome Skips (Err e) p q = ⊥
+abbrev pub SkipsRest : (ℕ → ℕ → Type 0) → Result ℕ ParseError → ℕ → ℕ → Type 0
+SkipsRest Skips (Ok n) p q = Passed Skips n p q
+SkipsRest Skips (Err e) p q = ⊥
 
 -- why that can't be: the fault of the first entry that can't be skipped, or the error that was given
-abbrev pub StopsToCome : (ℕ → ℕ → Type 0) → (ℕ → Fault → Type 0) → Result ℕ ParseError → ℕ → ParseError → Type 0
-StopsToCome Skips FaultOf (Ok n) p e = StopsPassing Skips FaultOf n p (fault_of e)
-StopsToCome Skips FaultOf (Err given) p e = e ≡ given
+abbrev pub StopsInRest : (ℕ → ℕ → Type 0) → (ℕ → Fault → Type 0) → Result ℕ ParseError → ℕ → ParseError → Type 0
+StopsInRest Skips FaultOf (Ok n) p e = StopsPassing Skips FaultOf n p (fault_of e)
+StopsInRest Skips FaultOf (Err given) p e = e ≡ given

@@ -110,7 +110,8 @@ fn first_answer<'a, Octs: Octets, D: ParseRecordData<'a> + Drop>(
 
 #[test]
 fn reads_the_first_answer(rt: HostRuntime) -> Result<(), Fail> {
-    let octets = b"\x00\x00\x81\xA0\x00\x00\x00\x01\x00\x00\x00\x00\x01a\x00\x00\x01\x00\x01\x00\x00\x0E\x10\x00\x04\xCB\x00\x71\x01";
+    let octets =
+        b"\x00\x00\x81\xA0\x00\x00\x00\x01\x00\x00\x00\x00\x01a\x00\x00\x01\x00\x01\x00\x00\x0E\x10\x00\x04\xCB\x00\x71\x01";
     let message = Message::from_octets(octets.as_slice())?;
     let address = first_answer::<_, A>(&message).ok_or("address")?;
     assert_eq!(rt; address.data().octets(), [203, 0, 113, 1]);

@@ -55,9 +55,9 @@ abbrev pub IsClear : Memory → ℕ → ℕ → Type 0
 IsClear m a n = (s : Labels) (x : Spot) → get m s ≡ Some x → (n ≡ 0) ⊎ (x.end ≤ a) ⊎ (a + n ≤ x.place)
 
 -- a suffix is as before, or is new and was written from w to v
-abbrev pub IsOldOrNew : Option Spot → Option Spot → ℕ → ℕ → Type 0
-IsOldOrNew before after w v = (after ≡ before) ⊎ ((before ≡ None) × ((x : Spot) × (after ≡ Some x) × (w ≤ x.place) × (w < x.end) × (x.end ≤ v)))
+abbrev pub IsOldOrWithin : Option Spot → Option Spot → ℕ → ℕ → Type 0
+IsOldOrWithin before after w v = (after ≡ before) ⊎ ((before ≡ None) × ((x : Spot) × (after ≡ Some x) × (w ≤ x.place) × (w < x.end) × (x.end ≤ v)))
 
 -- n is m with suffixes that were written from w to v
 pub record Extends (m n : Memory) (w v : ℕ) : Type 0 where
-  pub each : (s : Labels) → IsOldOrNew (get m s) (get n s) w v
+  pub each : (s : Labels) → IsOldOrWithin (get m s) (get n s) w v

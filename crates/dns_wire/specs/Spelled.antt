@@ -23,11 +23,11 @@ Labelled m b q p [] = ⊥
 Labelled m b q p (first ∷ rest) = IsLabel first × At b p (framed first) × Spelled m b q (p + 1 + length first) rest
 
 -- A remembered suffix: a pointer can lead to it, a label begins there, and the octets up to the name's end spell it.
-pub record Kept (b : List ℕ) (m : Memory) (s : Labels) (x : Spot) : Type 0 where
+pub record IsRemembered (b : List ℕ) (m : Memory) (s : Labels) (x : Spot) : Type 0 where
   pub near : x.place < pointer_end
   pub short : name_size s ≤ max_size
   pub spelled : Labelled m b x.end x.place s
 
 -- each suffix that the memory has is kept in the octets
 pub record Remembers (b : List ℕ) (m : Memory) : Type 0 where
-  pub each : (s : Labels) (x : Spot) → get m s ≡ Some x → Kept b m s x
+  pub each : (s : Labels) (x : Spot) → get m s ≡ Some x → IsRemembered b m s x

@@ -3,7 +3,7 @@ use Rattle.std.proofs.Common.{◌≡◌, ℕ, zero, suc, ◌+◌, ◌-◌, ◌<�
 use Rattle.dns_name.specs.Names.{Labels, name_size, with_root}
 use Rattle.dns_name.specs.Standing.{Stands}
 use Rattle.dns_name.specs.Unique.{same_name, NameOfSize}
-use Rattle.dns_name.specs.LabelsAt.{Counts, LabelsAt, LabelsAt-prop, one_count}
+use Rattle.dns_name.specs.LabelsAt.{LabelsTake, LabelsAt, LabelsAt-prop, one_count}
 use Rattle.dns_name.specs.Label.{IsFirst, label_octets}
 use Rattle.dns_name.specs.declared.label.Label.{Label}
 use Rattle.dns_name.proofs.theory.AnswerLaws.{standing_short}
@@ -52,11 +52,11 @@ module _ (b : List ℕ) where
     rest : LabelsAt b behind (left - (length (label_octets l) + 1))
     gives : labels ≡ label_octets l ∷ take rest.1.0 (with_root rest.0.0)
 
-  after : (behind left count : ℕ) (name : Labels) (l : Label) → left ≢ 0 → IsFirst b name l behind → Counts (with_root name) left count → After behind left (take count (with_root name)) l
+  after : (behind left count : ℕ) (name : Labels) (l : Label) → left ≢ 0 → IsFirst b name l behind → LabelsTake (with_root name) left count → After behind left (take count (with_root name)) l
   after behind left zero name l some f c = absurd (some (sym c.1))
   after behind left (suc k) [] l some f c =
       let none : k ≡ 0 = omega (arith, c.0) in
-      let P : ℕ → Type 0 = λ k. Counts (with_root []) left (suc k) → After behind left (take (suc k) (with_root [])) l in
+      let P : ℕ → Type 0 = λ k. LabelsTake (with_root []) left (suc k) → After behind left (take (suc k) (with_root [])) l in
       let none_left : length (label_octets l) ≡ 0 = ap length f.0 in
       subst P (sym none) (λ c. record {
         fits = omega (arith, c.1);
@@ -100,7 +100,7 @@ module _ (b : List ℕ) where
   pub passed_none : (p left : ℕ) (n : LabelsAt b p left) → left ≢ 0 → Passed n.0.0 n.1.0 p 0
   passed_none p left n some = record { number = 0; before = first n.1.0 n.1.1; stands = n.0.1; size = refl }
     where
-      first : (count : ℕ) → Counts (with_root n.0.0) left count → 0 < count
+      first : (count : ℕ) → LabelsTake (with_root n.0.0) left count → 0 < count
       first zero c = absurd (some (sym c.1))
       first (suc k) c = omega arith
 
@@ -127,7 +127,7 @@ module _ (b : List ℕ) where
     last : take (suc s.number) (with_root name) ≡ take s.number (with_root name) ++ label_octets l ∷ []
     last = take_last behind s.number l name within (f (drop s.number name) s.stands)
 
-    sizes : Counts (with_root name) (passed + taken) (suc s.number)
+    sizes : LabelsTake (with_root name) (passed + taken) (suc s.number)
     sizes =
         let e = length-with_root name in let w = within in
         (omega arith, ap name_size last ∙ name_size-append (take s.number (with_root name)) (label_octets l ∷ []) ∙ (let z = s.size in omega arith))
@@ -149,7 +149,7 @@ module _ (b : List ℕ) where
     pub back_gives : passed + taken ≡ left → (m : LabelsAt b p passed) → take n.1.0 (with_root name) ≡ take m.1.0 (with_root m.0.0) ++ label_octets l ∷ []
     unfolding back_has
     back_gives all m =
-        let counts : Counts (with_root name) left (suc s.number) = subst (λ k. Counts (with_root name) k (suc s.number)) all sizes in
+        let counts : LabelsTake (with_root name) left (suc s.number) = subst (λ k. LabelsTake (with_root name) k (suc s.number)) all sizes in
         let e : n.1.0 ≡ suc s.number = one_count (with_root name) left n.1.0 (suc s.number) n.1.1 counts in
         ap (λ k. take k (with_root name)) e ∙ last
         ∙ ap (λ (m : LabelsAt b p passed). take m.1.0 (with_root m.0.0) ++ label_octets l ∷ []) (LabelsAt-prop b p passed (back_has all) m)

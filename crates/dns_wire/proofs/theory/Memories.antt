@@ -7,7 +7,7 @@ use Rattle.std.specs.FinMap.{get, insert, same_map, get-retain_keys, get-insert}
 use Rattle.std.specs.Cmp.{Equal-is}
 use Rattle.std.specs.Ordering.{eq_by_cmp}
 use Rattle.dns_name.specs.Names.{Labels}
-use Rattle.dns_wire.specs.Memory.{suffix_cmp, suffix_total, suffix_exact, Spot, Memory, ends_within, cut, IsWithin, IsBehind, IsOldOrNew, Extends}
+use Rattle.dns_wire.specs.Memory.{suffix_cmp, suffix_total, suffix_exact, Spot, Memory, ends_within, cut, IsWithin, IsBehind, IsOldOrWithin, Extends}
 
 -- what a cut has at a suffix
 pub get-cut : (m : Memory) (len : ℕ) (q : Labels) → get (cut m len) q ≡ cond (ends_within len (get m q)) (get m q) None
@@ -45,7 +45,7 @@ within_all w (Some x) h = let l : x.end ≤ w = h x refl in grind (arith, common
 pub cut-within : (m : Memory) (w : ℕ) → IsWithin m w → cut m w ≡ m
 cut-within m w h = same_memory _ _ (λ q. get-cut m w q ∙ within_all w (get m q) (λ x e. h q x e))
 
-cut_new : (e w v : ℕ) (before after : Option Spot) → e ≤ w → IsOldOrNew before after w v
+cut_new : (e w v : ℕ) (before after : Option Spot) → e ≤ w → IsOldOrWithin before after w v
     → cond (ends_within e after) after None ≡ cond (ends_within e before) before None
 cut_new e w v before after l (inl same) = ap (λ o. cond (ends_within e o) o None) same
 cut_new e w v before after l (inr new) = rw (new.0, new.1.1) (let late : e < new.1.0.end = omega (arith, new.1.3) in grind (arith, common_steps))
@@ -58,7 +58,7 @@ cut-extends m n w v e l x = same_memory _ _ (λ q. get-cut n e q ∙ cut_new e w
 pub extends_refl : (m : Memory) (w v : ℕ) → Extends m m w v
 extends_refl m w v = record { each = λ s. inl refl }
 
-widen_one : (before after : Option Spot) (w v w' v' : ℕ) → w' ≤ w → v ≤ v' → IsOldOrNew before after w v → IsOldOrNew before after w' v'
+widen_one : (before after : Option Spot) (w v w' v' : ℕ) → w' ≤ w → v ≤ v' → IsOldOrWithin before after w v → IsOldOrWithin before after w' v'
 widen_one before after w v w' v' l k (inl same) = inl same
 widen_one before after w v w' v' l k (inr new) = inr (new.0, (new.1.0, new.1.1, omega (arith, new.1.2), omega (arith, new.1.3), omega (arith, new.1.4)))
 
@@ -66,7 +66,7 @@ widen_one before after w v w' v' l k (inr new) = inr (new.0, (new.1.0, new.1.1, 
 pub extends_wider : (m n : Memory) (w v w' v' : ℕ) → w' ≤ w → v ≤ v' → Extends m n w v → Extends m n w' v'
 extends_wider m n w v w' v' l k x = record { each = λ s. widen_one (get m s) (get n s) w v w' v' l k (x.each s) }
 
-join_one : (a b c : Option Spot) (w v : ℕ) → IsOldOrNew a b w v → IsOldOrNew b c w v → IsOldOrNew a c w v
+join_one : (a b c : Option Spot) (w v : ℕ) → IsOldOrWithin a b w v → IsOldOrWithin b c w v → IsOldOrWithin a c w v
 join_one a b c w v (inl p) (inl q) = inl (q ∙ p)
 join_one a b c w v (inl p) (inr q) = inr (sym p ∙ q.0, q.1)
 join_one a b c w v (inr p) (inl q) = inr (p.0, (p.1.0, q ∙ p.1.1, p.1.2, p.1.3, p.1.4))
@@ -77,7 +77,7 @@ pub extends_join : (a b c : Memory) (w v : ℕ) → Extends a b w v → Extends 
 extends_join a b c w v x y = record { each = λ s. join_one (get a s) (get b s) (get c s) w v (x.each s) (y.each s) }
 
 inserted_one : (before after found : Option Spot) (x : Spot) (w v : ℕ) (b : Bool) → found ≡ cond b (Some x) after → (b ≡ true → before ≡ None)
-    → IsOldOrNew before after w v → w ≤ x.place → w < x.end → x.end ≤ v → IsOldOrNew before found w v
+    → IsOldOrWithin before after w v → w ≤ x.place → w < x.end → x.end ≤ v → IsOldOrWithin before found w v
 inserted_one before after found x w v true e h (inl same) p q r = inr (h refl, (x, e, p, q, r))
 inserted_one before after found x w v true e h (inr new) p q r = inr (h refl, (x, e, p, q, r))
 inserted_one before after found x w v false e h (inl same) p q r = inl (e ∙ same)
@@ -94,7 +94,7 @@ inserted m n k x w v g none p q r = record {
   each = λ s. inserted_one (get m s) (get n s) _ x w v (eq_by_cmp suffix_cmp s k) (get-insert suffix_total n k x s) (λ e. ap (get m) (tied s k e) ∙ none) (g.each s) p q r;
 }
 
-old_kept : (before after : Option Spot) (w v : ℕ) (x : Spot) → IsOldOrNew before after w v → before ≡ Some x → after ≡ Some x
+old_kept : (before after : Option Spot) (w v : ℕ) (x : Spot) → IsOldOrWithin before after w v → before ≡ Some x → after ≡ Some x
 old_kept before after w v x (inl same) e = same ∙ e
 old_kept before after w v x (inr new) e = absurd (let n : None ≡ Some x = sym new.0 ∙ e in cc)
 
@@ -102,7 +102,7 @@ old_kept before after w v x (inr new) e = absurd (let n : None ≡ Some x = sym 
 pub gets : {m n : Memory} {w v : ℕ} → Extends m n w v → (s : Labels) (x : Spot) → get m s ≡ Some x → get n s ≡ Some x
 gets {m = m} {n = n} {w = w} {v = v} g s x e = old_kept (get m s) (get n s) w v x (g.each s) e
 
-behind_one : (a w v : ℕ) (before after : Option Spot) → a ≤ w → IsOldOrNew before after w v
+behind_one : (a w v : ℕ) (before after : Option Spot) → a ≤ w → IsOldOrWithin before after w v
     → ((x : Spot) → before ≡ Some x → a ≤ x.place) → (x : Spot) → after ≡ Some x → a ≤ x.place
 behind_one a w v before after l (inl same) h x e = h x (sym same ∙ e)
 behind_one a w v before after l (inr new) h x e =

@@ -10,7 +10,7 @@ use Rattle.dns_name.specs.Names.{Labels, IsName, name_size, max_size, uncompress
 use Rattle.dns_wire.specs.Memory.{Memory, Spot, remember, IsWithin, suffix_cmp, suffix_total}
 use Rattle.dns_wire.specs.Pieces.{Rule, Plain, Static, Tree, Hash}
 use Rattle.dns_wire.specs.PutName.{spell, spell_label, kept, is_kept, put_name}
-use Rattle.dns_wire.specs.Spelled.{At, Spelled, Labelled, Kept, Remembers}
+use Rattle.dns_wire.specs.Spelled.{At, Spelled, Labelled, IsRemembered, Remembers}
 use Rattle.dns_wire.specs.Spelled.Spelled.{root, label, pointer}
 use Rattle.dns_wire.proofs.theory.Memories.{gets, tied}
 use Rattle.dns_wire.proofs.theory.GrowingPieces.{put_name_grows}
@@ -146,7 +146,7 @@ ends_within_content r s x e = (spelled_long (kept_spelled s x (r.each s x e))).1
 
 -- a suffix that was written out where a pointer can lead is kept
 new_kept : (m n : Memory) (b : List ℕ) (s : Labels) (x : Spot) → ((s : Labels) (x : Spot) → get m s ≡ Some x → get n s ≡ Some x)
-    → Out IsNear m b x.end (s, x.place) → Kept b n s x
+    → Out IsNear m b x.end (s, x.place) → IsRemembered b n s x
 new_kept m n b s x g h =
     kept_moved m n b b s x (λ p xs l fits h. h) (λ t y e less. g t y e) (record { near = h.near; short = h.short; spelled = h.spelled })
 

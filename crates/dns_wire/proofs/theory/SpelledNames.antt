@@ -9,7 +9,7 @@ use Rattle.dns_name.specs.Standing.{Stands}
 use Rattle.dns_name.specs.Walking.{WalkedBehind, Walked}
 use Rattle.dns_octets.specs.Octets.{overwritten}
 use Rattle.dns_wire.specs.PutName.{pointer as pointer_octets}
-use Rattle.dns_wire.specs.Spelled.{At, Spelled, Labelled, Kept, Remembers}
+use Rattle.dns_wire.specs.Spelled.{At, Spelled, Labelled, IsRemembered, Remembers}
 use Rattle.dns_wire.specs.Spelled.Spelled.{root, label, pointer}
 use Rattle.dns_wire.proofs.theory.Memories.{get_in_cut, get_of_cut}
 use Rattle.dns_wire.proofs.theory.OctetsAt.{at_append, at_take, at_before, at_behind, root_at, label_begins, pointer_at, label_octets}
@@ -48,14 +48,14 @@ labelled_spelled p [] h = absurd h
 labelled_spelled p (first ∷ rest) h = label h.0 h.1 h.2
 
 -- a remembered suffix is spelled at its place, up to the end of its name
-pub kept_spelled : {m : Memory} {b : List ℕ} (s : Labels) (x : Spot) → Kept b m s x → Spelled m b x.end x.place s
+pub kept_spelled : {m : Memory} {b : List ℕ} (s : Labels) (x : Spot) → IsRemembered b m s x → Spelled m b x.end x.place s
 kept_spelled s x k = labelled_spelled x.place s k.spelled
 
 -- the same of a suffix that is kept
 pub kept_moved : (m n : Memory) (b c : List ℕ) (s : Labels) (x : Spot)
     → ((p : ℕ) (xs : List ℕ) → x.place ≤ p → p + length xs ≤ x.end → At b p xs → At c p xs)
     → ((s : Labels) (y : Spot) → get m s ≡ Some y → y.end < x.end → get n s ≡ Some y)
-    → Kept b m s x → Kept c n s x
+    → IsRemembered b m s x → IsRemembered c n s x
 kept_moved m n b c s x f g k = record { near = k.near; short = k.short; spelled = labelled_moved m n b c x.place x.end f g x.place s (omega arith) k.spelled }
 
 -- what was spelled is spelled in more octets by a memory with more
@@ -65,7 +65,7 @@ spelled_more {m = m} {b = b} {q = q} n c g s = moved m n b (b ++ c) 0 q (λ p xs
 
 -- what was kept is kept there
 pub kept_more : {m : Memory} {b : List ℕ} (n : Memory) (c : List ℕ) (s : Labels) (x : Spot)
-    → ((s : Labels) (x : Spot) → get m s ≡ Some x → get n s ≡ Some x) → Kept b m s x → Kept (b ++ c) n s x
+    → ((s : Labels) (x : Spot) → get m s ≡ Some x → get n s ≡ Some x) → IsRemembered b m s x → IsRemembered (b ++ c) n s x
 kept_more {m = m} {b = b} n c s x g k = kept_moved m n b (b ++ c) s x (λ p xs low fits h. at_append c h) (λ t y e less. g t y e) k
 
 -- A spelled name stands, where what is remembered of names with earlier ends stands.
