@@ -4,7 +4,7 @@ use Rattle.std.specs.Prelude.{Ok, Err}
 use Rattle.std.proofs.lemmas.List.{append-nil}
 use Rattle.dns_name.specs.Names.{Labels, IsName}
 use Rattle.dns_wire.specs.Parts.{CompressibleName, put_part, put_parts}
-use Rattle.dns_wire.specs.Pieces.{Rule, put_octets}
+use Rattle.dns_wire.specs.Pieces.{put_octets}
 use Rattle.dns_wire.specs.Targets.{Written, Fits, lay}
 use Rattle.dns_wire.proofs.theory.Composing.{appends_compose, composes_both, composes_first}
 use Rattle.dns_wire.proofs.theory.GrowingPieces.{put_part_grows}

@@ -9,7 +9,7 @@ use Rattle.dns_octets.specs.declared.error.ParseError.{ParseError}
 use Rattle.dns_octets.specs.declared.error.ParseError.TheVariants.{ShortInput}
 use Rattle.dns_name.specs.declared.parsed_name.ParsedName.{ParsedName}
 use Rattle.dns_name.specs.declared.parser.Parser.{Parser}
-use Rattle.dns_item.specs.Entries.{HeaderFaultAt, RecordEntry, ReadsRecord, RecordFaultAt}
+use Rattle.dns_item.specs.Entries.{HeaderFaultAt, ReadsRecord, RecordFaultAt}
 use Rattle.dns_item.specs.Entries.HeaderFaultAt.{owner as header_owner_fault, short as short_header}
 use Rattle.dns_item.specs.Entries.LacksRecord.{fields, rdata}
 use Rattle.dns_item.specs.Entries.RecordFaultAt.{owner as owner_fault, short as short_record}

@@ -1,5 +1,5 @@
 -- What parsing and skipping a record answer.
-use Rattle.std.proofs.Common.{◌≡◌, ℕ, ◌+◌, ◌<◌, ◌≤◌, List, length, arith, ap, sym, ◌∙◌, refl, subst}
+use Rattle.std.proofs.Common.{◌≡◌, ℕ, ◌+◌, ◌<◌, ◌≤◌, List, length, arith, ap, sym, ◌∙◌, subst}
 use Rattle.std.specs.Int.{w16}
 use Rattle.dns_name.specs.Fault.{fault_of}
 use Rattle.dns_name.specs.ParsedName.{MovesBehindName}

@@ -1,5 +1,5 @@
 -- The parts of a record that was read, and what parsing and skipping one answer. RFC 1035 section 4.1.3.
-use Rattle.std.specs.Prelude.{◌≡◌, ℕ, List, Result, Ok, Err, IsOkAnd}
+use Rattle.std.specs.Prelude.{◌≡◌, ℕ, List, Result, Ok, Err}
 use Rattle.dns_name.specs.Fault.{fault_of}
 use Rattle.dns_name.specs.Parsers.{seen, place, MovesTo}
 use Rattle.dns_octets.specs.declared.error.ParseError.{ParseError}

@@ -1,5 +1,5 @@
 -- The fields of a record's header, and what parsing one answers. RFC 1035 section 4.1.3.
-use Rattle.std.specs.Prelude.{◌≡◌, ℕ, ◌+◌, List, ◌++◌, Result, Ok, Err, IsOkAnd}
+use Rattle.std.specs.Prelude.{◌≡◌, ℕ, ◌+◌, List, ◌++◌, Result, Ok, Err}
 use Rattle.std.specs.Int.{to_be_bytes, w16, w32}
 use Rattle.dns_name.specs.Fault.{fault_of}
 use Rattle.dns_name.specs.Names.{Labels}

@@ -6,7 +6,6 @@ use Rattle.dns_wire.specs.Targets.{Fits, Passes}
 use Rattle.dns_question.specs.Questions.{QuestionItem}
 use Rattle.dns_item.specs.Items.{RecordItem}
 use Rattle.dns_build.specs.Built.{Built, PushAnswers}
-use Rattle.dns_build.specs.Fold.{fold}
 use Rattle.dns_build.specs.Standing.{StandsFor, MovesState, InEach, size_after}
 use Rattle.dns_build.specs.State as state
 use Rattle.dns_build.specs.State.{State, Section, Answers, Authorities, Additionals, stage_of, with_record, records_at, most_entries}
@@ -16,7 +15,7 @@ use Rattle.dns_message.specs.declared.script.Call.{Call}
 use Rattle.dns_message.specs.declared.script.Call.TheVariants.{PushRecord}
 use Rattle.dns_message.specs.declared.script.Reply.{Reply}
 use Rattle.dns_message.specs.declared.script.Reply.TheVariants.{Done, Refused}
-use Rattle.dns_message.specs.Script.{lacks, IsAnswer, IsReplyWhere, Stays}
+use Rattle.dns_message.specs.Script.{lacks, Stays}
 
 -- records are pushed at each record section
 has_push : (Q R : Type 0) (section : Section) (x : R) → lacks {Q = Q} (stage_of section) (PushRecord x) ≡ false

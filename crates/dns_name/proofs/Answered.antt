@@ -1,16 +1,9 @@
--- What parsing or skipping answered is the only answer, and the two agree.
-use Rattle.std.proofs.Common.{ℕ, arith}
-use Rattle.std.specs.Prelude.{Result, Ok, Err, IsOk, refl}
-use Rattle.dns_name.specs.Standing.{FaultAt}
-use Rattle.dns_name.specs.Walking.{Walked, SkipFaultAt}
-use Rattle.dns_name.specs.Unique.{same_name}
-use Rattle.dns_name.specs.Parsers.{seen, place}
+-- What parsing and skipping answer at one place agrees.
+use Rattle.std.proofs.Common.{arith}
+use Rattle.std.specs.Prelude.{Ok, Err, refl}
+use Rattle.dns_name.specs.Parsers.{seen}
 use Rattle.dns_name.specs.Laws.{SkippingEndsAlike, SkippingFailsAlike}
-use Rattle.dns_name.specs.ParsedName.{labels, ParsesName, SkipsName}
-use Rattle.dns_octets.specs.declared.error.ParseError.{ParseError}
-use Rattle.dns_name.specs.declared.parser.Parser.{Parser}
-use Rattle.dns_name.specs.declared.parsed_name.ParsedName.{ParsedName}
-use Rattle.dns_name.proofs.theory.AnswerLaws.{not_both, one_fault, standing_short}
+use Rattle.dns_name.proofs.theory.AnswerLaws.{one_fault}
 use Rattle.dns_name.proofs.theory.WalkLaws.{end_or_fault, skip_fault, one_end}
 
 pub ends_alike : SkippingEndsAlike

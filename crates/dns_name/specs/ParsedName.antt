@@ -1,6 +1,6 @@
 -- What parsing and skipping a name answer. RFC 1035 section 4.1.4.
-use Rattle.std.specs.Prelude.{◌≡◌, ℕ, List, ◌++◌, drop, Result, Ok, Err, IsOkAnd, IsErrAnd}
-use Rattle.dns_name.specs.Fault.{Fault, fault_of}
+use Rattle.std.specs.Prelude.{◌≡◌, ℕ, List, ◌++◌, drop, Result, Ok, Err, IsOkAnd}
+use Rattle.dns_name.specs.Fault.{fault_of}
 use Rattle.dns_name.specs.Names.{Labels, uncompressed}
 use Rattle.dns_name.specs.Standing.{Stands, FaultAt}
 use Rattle.dns_name.specs.Walking.{Walked, SkipFaultAt}
@@ -30,3 +30,7 @@ ParsesName old new (Err e) = FaultAt (seen old) (place old) (fault_of e) × (new
 abbrev pub SkipsName : Parser → Parser → Result Unit ParseError → Type 0
 SkipsName old new (Ok _) = MovesBehindName old new
 SkipsName old new (Err e) = SkipFaultAt (seen old) (place old) (fault_of e) × (new ≡ old)
+
+-- a name that stands at the place is what is read
+abbrev pub ReadsStanding : List ℕ → ℕ → Result ParsedName ParseError → Type 0
+ReadsStanding b p result = (name : Labels) → Stands b p name → IsOkAnd result (λ r. labels r ≡ name)

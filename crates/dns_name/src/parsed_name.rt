@@ -1,4 +1,4 @@
-ghost use Rattle.std.specs.Prelude.{◌≡◌, ◌+◌, ◌≤◌, ◌↔◌, IsTrue, IsSome, IfSome, ℕ, List, [], length};
+ghost use Rattle.std.specs.Prelude.{◌≡◌, ◌+◌, ◌↔◌, IsTrue, IsSome, IfSome, [], length};
 ghost use Rattle.dns_name.specs.Unique.{NameOfSize, NameOfSize-prop};
 
 use crate::head::Head;
@@ -17,8 +17,9 @@ pub struct ParsedName<'a> {
 }
 
 impl<'a> ParsedName<'a> {
-    ghost use Rattle.dns_name.specs.Names.{Labels, name_size, uncompressed, with_root};
-    ghost use Rattle.dns_name.specs.ParsedName.{labels, ParsesName, SkipsName, IsFlat};
+    ghost use Rattle.dns_name.specs.Names.{Labels, uncompressed, with_root};
+    ghost use Rattle.dns_name.specs.Parsers.{seen, place};
+    ghost use Rattle.dns_name.specs.ParsedName.{labels, ParsesName, SkipsName, ReadsStanding, IsFlat};
     ghost use Rattle.dns_name.specs.Standing.{Stands};
     ghost use Rattle.dns_name.specs.Uncompressed.{WholeName};
     ghost use Rattle.dns_name.specs.LabelIter.{labels_left};
@@ -29,7 +30,8 @@ impl<'a> ParsedName<'a> {
     /// pointer leads strictly back. An octet that is missing is `ShortInput`, any other fault `Form`; the leftmost is
     /// answered.
     pub fn parse(parser: &mut Parser<'a>) -> Result<ParsedName<'a>, ParseError>
-        ensures { ParsesName parser.old parser.new result }
+        ensures reads { ParsesName parser.old parser.new result }
+        ensures name { ReadsStanding (seen parser.old) (place parser.old) result }
     {
         let octets = &parser.octets[..parser.end];
         let start = parser.pos;

@@ -10,7 +10,7 @@ use Rattle.dns_octets.specs.declared.error.ParseError.{ParseError}
 use Rattle.dns_octets.specs.declared.error.ParseError.TheVariants.{ShortInput}
 use Rattle.dns_name.specs.declared.parser.Parser.{Parser}
 use Rattle.dns_question.specs.Questions.{QuestionItem}
-use Rattle.dns_question.specs.QuestionEntries.{SkipsQuestion, ReadsQuestion, QuestionFaultAt, QuestionSkipFaultAt}
+use Rattle.dns_question.specs.QuestionEntries.{ReadsQuestion, QuestionFaultAt, QuestionSkipFaultAt}
 use Rattle.dns_question.specs.QuestionEntries.QuestionFaultAt.{short as short_question}
 use Rattle.dns_question.specs.QuestionEntries.QuestionSkipFaultAt.{short as unended_question}
 

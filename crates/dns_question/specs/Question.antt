@@ -1,5 +1,5 @@
 -- The fields of a question, and what parsing and skipping one answer. RFC 1035 section 4.1.2.
-use Rattle.std.specs.Prelude.{◌≡◌, ℕ, List, Result, Ok, Err, IsOkAnd}
+use Rattle.std.specs.Prelude.{◌≡◌, ℕ, Result, Ok, Err}
 use Rattle.dns_name.specs.Fault.{fault_of}
 use Rattle.dns_name.specs.Names.{Labels}
 use Rattle.dns_name.specs.ParsedName.{labels}

@@ -4,7 +4,7 @@ use Rattle.dns_name.specs.Fault.{Fault, fault_of}
 use Rattle.dns_name.specs.Parsers.{seen, place}
 use Rattle.dns_octets.specs.declared.error.ParseError.{ParseError}
 use Rattle.dns_question.specs.QuestionEntries.{SkipsQuestion, QuestionSkipFaultAt}
-use Rattle.dns_item.specs.Entries.{SkipsRecord, ReadsRecord, RecordEntry, RecordFaultAt, RecordSkipFaultAt}
+use Rattle.dns_item.specs.Entries.{SkipsRecord, ReadsRecord, RecordFaultAt, RecordSkipFaultAt}
 use Rattle.dns_item.specs.ParsedRecord.{octets_of as record_octets, parsed_entry, StandingRecord, standing_record}
 use Rattle.dns_item.specs.declared.parsed_record.ParsedRecord.{ParsedRecord}
 use Rattle.dns_read.specs.QuestionSection as questions

@@ -1,6 +1,5 @@
 //! A target for messages that go over a stream.
 ghost use Rattle.std.specs.Prelude.{◌≡◌, [], refl, IfOk, IfErr, OnErr, IsTrue};
-ghost use Rattle.dns_wire.specs.Memory.{nothing};
 ghost use Rattle.dns_wire.specs.Pieces.{Plain};
 ghost use Rattle.dns_wire.specs.Targets.{Answers};
 ghost use Rattle.dns_stream.specs.Stream.{message_written, stream_room, with_prefix};

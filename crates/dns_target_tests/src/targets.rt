@@ -137,7 +137,7 @@ impl Composer for Refusing {
         false
     }
 
-    #[tactic(auto, using(dns_wire::proofs::theory::PlainTargets::cut_nothing))]
+    #[tactic(auto, using(dns_wire::proofs::theory::PlainTargets::cut_nothing, dns_wire::proofs::theory::PlainTargets::nothing_is_kept))]
     fn truncate(&mut self, _len: usize) {}
 
     fn write_at(&mut self, _place: usize, _octets: &[u8]) {}

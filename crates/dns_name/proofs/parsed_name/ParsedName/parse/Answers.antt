@@ -10,10 +10,11 @@ use Rattle.dns_name.proofs.Walks.{leads_label, leads_pointer, leads_root, leads_
 use Rattle.dns_name.proofs.theory.WalkLaws.{skip_fault}
 use Rattle.dns_name.proofs.theory.LabelsLemmas.{name_stands}
 use Rattle.dns_name.proofs.ParserLemmas.{length-seen}
+use Rattle.dns_name.proofs.theory.Names.{one_name, not_both}
 use Rattle.dns_name.proofs.parsed_name.ParsedName.parse.Goals as goal
 
-pub returns-in_err-behind : goal.returns-in_err-behind
-returns-in_err-behind c =
+pub returns-in_err-behind-clause-reads : goal.returns-in_err-behind-clause-reads
+returns-in_err-behind-clause-reads c =
     let p = err_from_is_err_and c.from_residual.result c.from_residual.ensures.1 in
     rw (p.1, p.2) (c.walk.invariant.faults _ (skip_fault _ c.in_err-behind.ensures), refl)
 
@@ -22,8 +23,8 @@ walk-preserved-in-Label c =
     let h : Begins (seen c.args.parser.now) c.walk.pos c.walk.size (Label c.in-Label.len) = rw c.in-Label.is at c.in_ok-behind.ensures in
     leads_label _ _ _ _ _ _ _ _ c.walk.invariant h (omega arith) (omega arith)
 
-pub returns-then-target-pos : goal.returns-then-target-pos
-returns-then-target-pos c =
+pub returns-then-target-pos-clause-reads : goal.returns-then-target-pos-clause-reads
+returns-then-target-pos-clause-reads c =
     let h : head_at (seen c.args.parser.now) c.walk.pos ≡ Ok (Pointer c.in-Pointer.target) = cc c.in_ok-behind.ensures.there in
     (c.walk.invariant.faults _ (Faulty.ahead h (omega arith)), refl)
 
@@ -43,7 +44,16 @@ invariant_of-parser c =
     let within = (leads_end _ _ _ _ _ c.walk.invariant h).1 in
     record { before_end = omega (arith, within, c.unwrap_or-parser.ensures, length-seen c.args.parser.now); within = omega arith }
 
-pub returns : goal.returns
-returns c =
+pub returns-clause-reads : goal.returns-clause-reads
+returns-clause-reads c =
     let h : head_at (seen c.args.parser.now) c.walk.pos ≡ Ok Root = cc c.in_ok-behind.ensures.there in
     (search (rules, name_stands), (rw c.unwrap_or-parser.ensures (leads_end _ _ _ _ _ c.walk.invariant h).0, record { input = refl; seen = refl; place = refl }))
+
+pub returns-in_err-behind-clause-name : goal.returns-in_err-behind-clause-name
+returns-in_err-behind-clause-name c other x = absurd (not_both _ _ other _ x (c.walk.invariant.faults _ (skip_fault _ c.in_err-behind.ensures)))
+
+pub returns-then-target-pos-clause-name : goal.returns-then-target-pos-clause-name
+returns-then-target-pos-clause-name c other x = absurd (not_both _ _ other _ x (returns-then-target-pos-clause-reads c).0)
+
+pub returns-clause-name : goal.returns-clause-name
+returns-clause-name c other x = one_name _ _ _ other (returns-clause-reads c).0 x

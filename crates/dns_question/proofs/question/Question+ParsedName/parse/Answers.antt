@@ -12,13 +12,13 @@ use Rattle.dns_question.proofs.question.Question+ParsedName.parse.Goals as goal
 pub returns-in_err-qname : goal.returns-in_err-qname
 returns-in_err-qname c =
     let p = err_from_is_err_and c.from_residual.result c.from_residual.ensures.1 in
-    rw (p.1, p.2) (name c.in_err-qname.ensures.0, refl)
+    rw (p.1, p.2) (name c.in_err-qname.ensures.reads.0, refl)
 
 pub returns-in_err-parse_u16_be : goal.returns-in_err-parse_u16_be
 returns-in_err-parse_u16_be c =
     let p = err_from_is_err_and c.from_residual-in_err-parse_u16_be.result c.from_residual-in_err-parse_u16_be.ensures.1 in
     let h = c.in_err-parse_u16_be.ensures in
-    rw (p.1, p.2) (short _ _ _ _ _ c.in_ok-qname.ensures.0 c.in_ok-qname.ensures.1 (omega (arith, h.0)) refl h.1, refl)
+    rw (p.1, p.2) (short _ _ _ _ _ c.in_ok-qname.ensures.reads.0 c.in_ok-qname.ensures.reads.1 (omega (arith, h.0)) refl h.1, refl)
 
 pub returns-in_err-parse_u16_be-2 : goal.returns-in_err-parse_u16_be-2
 returns-in_err-parse_u16_be-2 c =
@@ -26,7 +26,7 @@ returns-in_err-parse_u16_be-2 c =
     let h = c.in_err-parse_u16_be-2.ensures in
     let first = c.in_ok-parse_u16_be.ensures in
     let at = first.1.place in
-    rw (p.1, p.2) (short _ _ _ _ _ c.in_ok-qname.ensures.0 c.in_ok-qname.ensures.1 (omega (arith, h.0, at)) (ap length first.1.seen) h.1, refl)
+    rw (p.1, p.2) (short _ _ _ _ _ c.in_ok-qname.ensures.reads.0 c.in_ok-qname.ensures.reads.1 (omega (arith, h.0, at)) (ap length first.1.seen) h.1, refl)
 
 pub returns : goal.returns
 returns c =
@@ -35,6 +35,6 @@ returns c =
     let q = c.new.ensures in
     let n : labels (qname_of c.new.result) ≡ labels c.in_ok-qname.qname = ap labels q.qname in
     reads_fields c.args.parser.now c.parse.new.parser c.parse_u16_be.new.self c.parse_u16_be-2.new.self (parsed_question c.new.result)
-    (subst (λ (name : Labels). Stands (seen c.args.parser.now) (place c.args.parser.now) name) (sym n) c.in_ok-qname.ensures.0)
-    c.in_ok-qname.ensures.1
+    (subst (λ (name : Labels). Stands (seen c.args.parser.now) (place c.args.parser.now) name) (sym n) c.in_ok-qname.ensures.reads.0)
+    c.in_ok-qname.ensures.reads.1
     first.1 (q.qtype ∙ c.from_int-qtype.ensures ∙ first.2) second.0 second.1 (q.qclass ∙ c.from_int-qclass.ensures ∙ second.2)

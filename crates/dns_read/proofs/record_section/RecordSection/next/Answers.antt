@@ -1,4 +1,4 @@
-use Rattle.std.proofs.Common.{◌≡◌, ◌∙◌, ◌∷◌, List, map, ℕ, ap, sym, refl}
+use Rattle.std.proofs.Common.{◌≡◌, ◌∙◌, ◌∷◌, List, map, ℕ, ap, sym}
 use Rattle.std.specs.Prelude.{Result, Ok, Err}
 use Rattle.dns_name.specs.Fault.{Fault}
 use Rattle.dns_name.specs.Parsers.{place}
