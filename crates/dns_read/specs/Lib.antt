@@ -8,3 +8,4 @@ pub mod Skipping
 pub mod QuestionSection
 pub mod RecordSection
 pub mod Message
+pub mod Searches

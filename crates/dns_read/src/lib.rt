@@ -12,6 +12,7 @@ pub mod laws;
 mod message;
 mod question_section;
 mod record_section;
+mod searches;
 mod section;
 
 pub use error::ShortMessage;

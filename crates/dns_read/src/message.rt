@@ -1,4 +1,4 @@
-ghost use Rattle.std.specs.Prelude.{◌≡◌, ◌≢◌, ◌↔◌, ◌<◌, ◌≤◌, length, take, drop, slice_range, IsTrue, Ok, IfOk, IfErr, IsErr};
+ghost use Rattle.std.specs.Prelude.{◌≡◌, ◌≢◌, ◌↔◌, ◌<◌, ◌≤◌, ◌-◌, length, take, drop, slice_range, IsTrue, Ok, IfOk, IfErr, IsErr};
 ghost use Rattle.dns_code.specs.HeaderSection.{header_size};
 
 use crate::error::ShortMessage;
@@ -254,6 +254,7 @@ impl<Octs: Octets> Message<Octs> {
 impl<Octs: OctetsMut> Message<Octs> {
     ghost use Rattle.dns_code.specs.Header.{header_octets};
     ghost use Rattle.dns_read.specs.Message.{message_octets};
+    ghost use Rattle.dns_read.specs.Sections.{additional_count};
 
     /// Writes the header over the first four octets. The others stay.
     pub fn set_header(&mut self, header: Header)
@@ -261,6 +262,19 @@ impl<Octs: OctetsMut> Message<Octs> {
         ensures others { drop 4 (message_octets self.new) ≡ drop 4 (message_octets self.old) }
     {
         self.octets.write_at(0, header.as_slice());
+    }
+
+    /// Lowers ARCOUNT by one, so that the last additional record isn't read any more. Its octets stay.
+    pub fn remove_last_additional(&mut self)
+        requires { 0 < additional_count (message_octets self.old) }
+        ensures count { additional_count (message_octets self.new)
+            ≡ additional_count (message_octets self.old) - 1 }
+        ensures before { take 10 (message_octets self.new) ≡ take 10 (message_octets self.old) }
+        ensures behind { drop header_size (message_octets self.new)
+            ≡ drop header_size (message_octets self.old) }
+    {
+        let count = self.header_counts().arcount() - 1;
+        self.octets.write_at(10, &count.to_be_bytes());
     }
 }
 

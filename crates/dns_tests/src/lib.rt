@@ -14,4 +14,6 @@ mod program;
 #[cfg(test)]
 mod questions;
 #[cfg(test)]
+mod searches;
+#[cfg(test)]
 mod tour;

@@ -1,0 +1,114 @@
+//! What is looked for in the questions of a message (RFC 1035 section 4.1).
+ghost use Rattle.std.specs.Prelude.{◌≡◌, ◌<◌, ◌↔◌, Some, option_map, IsTrue, IsErrAnd};
+ghost use Rattle.dns_name.specs.Fault.{fault_of};
+ghost use Rattle.dns_name.specs.Fault.Fault.{Form};
+ghost use Rattle.dns_question.specs.Question.{parsed_question};
+ghost use Rattle.dns_read.specs.Message.{message_octets};
+ghost use Rattle.dns_read.specs.QuestionSection.{question_answer, questions_left};
+ghost use Rattle.dns_read.specs.Searches.{questions_of, first_item, asked_first, asked_type, AsksForTransfer, answers_query, same_item, same_readings};
+ghost use Rattle.dns_read.specs.Sections.{question_count};
+
+use crate::message::Message;
+use crate::question_section::QuestionSection;
+use dns_code::Rtype;
+use dns_item::Question;
+use dns_wire::{FormError, Octets, ParseError, ParsedName};
+
+impl<Octs: Octets> Message<Octs> {
+    /// The first question, if it can be read.
+    pub fn first_question(&self) -> Option<Question<ParsedName<'_>>>
+        ensures { option_map parsed_question result ≡ asked_first (message_octets self.now) }
+    {
+        match self.question().next() {
+            Some(Ok(question)) => Some(question),
+            Some(Err(_)) | None => None,
+        }
+    }
+
+    /// The record type that the first question asks for, if the question can be read.
+    pub fn qtype(&self) -> Option<Rtype>
+        ensures { result ≡ asked_type (message_octets self.now) }
+    {
+        match self.first_question() {
+            Some(question) => Some(question.qtype()),
+            None => None,
+        }
+    }
+
+    /// Whether the first question asks for a zone transfer, by IXFR (RFC 1995 section 3) or AXFR (RFC 5936 section 2).
+    pub fn is_xfr(&self) -> bool
+        ensures { IsTrue result ↔ AsksForTransfer (message_octets self.now) }
+    {
+        match self.qtype() {
+            Some(rtype) => rtype == Rtype::IXFR || rtype == Rtype::AXFR,
+            None => false,
+        }
+    }
+
+    /// Whether this message is an answer to a query: QR is set, the IDs and the numbers of questions are equal, and the
+    /// questions are the same, in order and without a fault.
+    pub fn is_answer<Other: Octets>(&self, query: &Message<Other>) -> bool
+        ensures { result ≡ answers_query (message_octets self.now) (message_octets query.now) }
+    {
+        let header = self.header();
+        header.qr()
+            && header.id() == query.header().id()
+            && self.header_counts().qdcount() == query.header_counts().qdcount()
+            && self.question().same_questions(&query.question())
+    }
+
+    /// The question of a message that has to have one.
+    ///
+    /// `Form` is answered where the header says that there are none or more than one, and else the fault of the question if
+    /// it can't be read.
+    pub fn sole_question(&self) -> Result<Question<ParsedName<'_>>, ParseError>
+        ensures none { question_count (message_octets self.now) ≡ 0
+            → IsErrAnd result (λ e. fault_of e ≡ Form) }
+        ensures many { 1 < question_count (message_octets self.now)
+            → IsErrAnd result (λ e. fault_of e ≡ Form) }
+        ensures one { question_count (message_octets self.now) ≡ 1
+            → Some (question_answer result) ≡ first_item (questions_of (message_octets self.now)) }
+    {
+        if self.header_counts().qdcount() > 1 {
+            return Err(ParseError::Form(FormError::MULTIPLE_QUESTIONS));
+        }
+        match self.question().next() {
+            Some(answer) => answer,
+            None => Err(ParseError::Form(FormError::NO_QUESTION)),
+        }
+    }
+}
+
+impl QuestionSection<'_> {
+    /// Whether this cursor and another have the same questions before them, in order, and no fault.
+    ///
+    /// Questions are the same where their names are equal up to ASCII case, and their types and classes are.
+    pub fn same_questions(&self, other: &QuestionSection<'_>) -> bool
+        ensures { result ≡ same_readings (questions_left self.now) (questions_left other.now) }
+    {
+        let mut questions = *self;
+        let mut others = *other;
+        while let Some(question) = questions.next() {
+            let Some(other) = others.next() else {
+                return false;
+            };
+            if !same_answers(question, other) {
+                return false;
+            }
+        }
+        others.next().is_none()
+    }
+}
+
+/// Whether both answers are the same question.
+fn same_answers(
+    answer: Result<Question<ParsedName<'_>>, ParseError>,
+    other: Result<Question<ParsedName<'_>>, ParseError>,
+) -> bool
+    ensures { result ≡ same_item (question_answer answer.entry) (question_answer other.entry) }
+{
+    match (answer, other) {
+        (Ok(question), Ok(other)) => question == other,
+        _ => false,
+    }
+}
