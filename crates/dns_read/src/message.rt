@@ -264,7 +264,9 @@ impl<Octs: OctetsMut> Message<Octs> {
         self.octets.write_at(0, header.as_slice());
     }
 
-    /// Lowers ARCOUNT by one, so that the last additional record isn't read any more. Its octets stay.
+    /// Lowers ARCOUNT by one, so that the last additional record isn't read any more (RFC 1035 section 4.1.1).
+    ///
+    /// There is an additional record by ARCOUNT. All other octets stay, those of the record too.
     pub fn remove_last_additional(&mut self)
         requires { 0 < additional_count (message_octets self.old) }
         ensures count { additional_count (message_octets self.new)

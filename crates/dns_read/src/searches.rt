@@ -45,8 +45,8 @@ impl<Octs: Octets> Message<Octs> {
         }
     }
 
-    /// Whether this message is an answer to a query: QR is set, the IDs and the numbers of questions are equal, and the
-    /// questions are the same, in order and without a fault.
+    /// Whether this message is an answer to a query: QR is set, the IDs and the numbers of questions are equal (RFC 1035
+    /// section 4.1.1), and the questions are the same, in order and without a fault.
     pub fn is_answer<Other: Octets>(&self, query: &Message<Other>) -> bool
         ensures { result ≡ answers_query (message_octets self.now) (message_octets query.now) }
     {
