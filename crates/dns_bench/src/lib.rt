@@ -1,11 +1,13 @@
-//! Names written by the four compressors, message after message, for C code that times it. Each
-//! export writes the same names as one message, so many times, and hands the last message out.
+//! Names written by the four compressors, message after message, and a walk over a message, for C
+//! code that times both. Each export but the walk writes the same names as one message, so many
+//! times, and hands the last message out.
 //!
 //! The last message goes to the beginning of `out`, and its length is answered: 0 where no name
 //! stands, memory is wanting, or `out` is too short.
 #![tactic(auto)]
 
 mod names;
+mod walk;
 
 ghost use Rattle.dns_bench.specs.Message.{HandsOut};
 
@@ -134,4 +136,13 @@ pub extern "C" fn dns_bench_fresh_index(alloc: Global, work: &Work<'_>, out: &mu
 {
     let new_target = || IndexCompressor::new(alloc, Vec::new(alloc));
     write_fresh(alloc, new_target, work, out)
+}
+
+/// The sum of all that is read of a message, and all bits set where something can't be read.
+#[unsafe(no_mangle)]
+pub extern "C" fn dns_bench_walk(octets: &[u8]) -> u64 {
+    match walk::walk(octets) {
+        Some(sum) => sum,
+        None => u64::MAX,
+    }
 }

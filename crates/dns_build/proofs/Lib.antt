@@ -1,13 +1,6 @@
 pub mod Messages
 pub mod Folds
-pub mod RecordFolds
+pub mod Sections
 pub mod FoldReading
-pub mod PushClauses
 pub mod Moves
-pub mod RecordMoves
-pub mod Shown
-pub mod TcLemmas
-pub mod FilledFolds
-pub mod ShortestFolds
-pub mod AtSection
 pub mod Steps

@@ -1,13 +1,86 @@
 -- The octets of a message with a state's header and items: what they are, and what they give. RFC 1035 section 4.1.
-use Rattle.std.specs.Prelude.{◌≡◌, ℕ, ◌≤◌, List, length}
+use Rattle.std.specs.Prelude.{◌≡◌, ℕ, List, [], ◌∷◌, length, map, take, Ok, ◌+◌, ◌++◌, ◌≤◌, true}
 use Rattle.std.specs.FinMap.{len}
-use Rattle.dns_name.specs.Heads.{pointer_end}
-use Rattle.dns_wire.specs.Pieces.{Rule}
-use Rattle.dns_wire.specs.SpellingLaws.{SharesAll}
-use Rattle.dns_build.specs.Fold.{fold}
-use Rattle.dns_build.specs.ReadsBack.{ReadsBack}
-use Rattle.dns_build.specs.Spellings.{PointsToLabels, HasLabelsNear, IsShortestOf}
-use Rattle.dns_build.specs.State.{State}
+use Rattle.dns_name.specs.Names.{pointer_end}
+use Rattle.dns_wire.specs.Parts.{Part, Octets, CompressibleName, PartsNear, PartsPointed}
+use Rattle.dns_wire.specs.Spelling.{IsShortest, SharesAll}
+use Rattle.dns_wire.specs.Pieces.{Rule, IsBehind}
+use Rattle.dns_wire.specs.Targets.{IsTarget}
+use Rattle.dns_code.specs.Header.{header_octets, fields}
+use Rattle.dns_code.specs.HeaderSection.{header_size}
+use Rattle.dns_code.specs.declared.header.Header.{Header}
+use Rattle.dns_question.specs.Questions.{QuestionItem, question_fields}
+use Rattle.dns_item.specs.Items.{SkipsRecord, RecordEntry, TellsRecord, RecordItem, record_fields}
+use Rattle.dns_section.specs.QuestionsFrom.{questions_from}
+use Rattle.dns_section.specs.Reading.{Passed}
+use Rattle.dns_section.specs.Sections.{question_count, answer_count, authority_count, additional_count, AnswersStart, AuthoritiesStart, AdditionalsStart, ReadingRecords}
+use Rattle.dns_build.specs.State.{State, fold, IsState, with_tc}
+
+-- What reading the octets of a state gives: the state. RFC 1035 section 4.1.
+
+-- the entries are those of the records, one for each, whose parts their data have
+abbrev pub AllTell : List ℕ → List RecordEntry → List RecordItem → Type 0
+AllTell b [] [] = Unit {0}
+AllTell b [] (x ∷ xs) = ⊥
+AllTell b (e ∷ es) [] = ⊥
+AllTell b (e ∷ es) (x ∷ xs) = TellsRecord b e x × AllTell b es xs
+
+-- reading so many records from a place on gives exactly these, without a fault
+pub record GivesRecords (b : List ℕ) (n p : ℕ) (xs : List RecordItem) : Type 0 where
+  pub entries : List RecordEntry
+  pub reading : ReadingRecords b n p (map Ok entries)
+  pub tell : AllTell b entries xs
+
+-- The header section has the state's header and the lengths of its lists. Each section starts somewhere, and reading it gives its list without a fault. The last ends where the octets end.
+pub record ReadsBack (s : State) (b : List ℕ) : Type 0 where
+  pub header : take 4 b ≡ header_octets s.header
+  pub questions_counted : question_count b ≡ length s.questions
+  pub answers_counted : answer_count b ≡ length s.answers
+  pub authorities_counted : authority_count b ≡ length s.authorities
+  pub additionals_counted : additional_count b ≡ length s.additionals
+  pub questions : questions_from b (question_count b) header_size ≡ map Ok s.questions
+  pub answers_start : ℕ
+  pub answers_at : AnswersStart b answers_start
+  pub answers : GivesRecords b (answer_count b) answers_start s.answers
+  pub authorities_start : ℕ
+  pub authorities_at : AuthoritiesStart b authorities_start
+  pub authorities : GivesRecords b (authority_count b) authorities_start s.authorities
+  pub additionals_start : ℕ
+  pub additionals_at : AdditionalsStart b additionals_start
+  pub additionals : GivesRecords b (additional_count b) additionals_start s.additionals
+  pub ends : Passed (SkipsRecord b) (additional_count b) additionals_start (length b)
+
+-- The items of a state as parts: the ways to spell their names, and where the names are written. RFC 1035 sections 4.1.2 to 4.1.4.
+
+-- a question: its name, and its fields
+abbrev pub question_parts : QuestionItem → List Part
+question_parts x = CompressibleName x.name ∷ Octets (question_fields x) ∷ []
+
+-- a record: its owner, its fields, two octets for the length of its data, whatever they are, and its data
+abbrev pub record_parts : RecordItem → List Part
+record_parts x = CompressibleName x.owner ∷ Octets (record_fields x) ∷ Octets (0 ∷ 0 ∷ []) ∷ x.parts
+
+-- the parts of all items of a list
+abbrev pub all_parts : {X : Type 0} → (X → List Part) → List X → List Part
+all_parts parts [] = []
+all_parts parts (x ∷ xs) = parts x ++ all_parts parts xs
+
+-- the parts of all items in order
+abbrev pub parts_of : State → List Part
+parts_of s =
+    all_parts question_parts s.questions ++ (all_parts record_parts s.answers ++ (all_parts record_parts s.authorities ++ all_parts record_parts s.additionals))
+
+-- In the octets of a message with these items, each pointer of a name leads to an earlier place below 16,384 where a label begins. Octets in data are no names.
+abbrev pub PointsToLabels : State → List ℕ → Type 0
+PointsToLabels s b = PartsPointed b (length b) header_size (parts_of s)
+
+-- in such octets, each label begins below 16,384
+abbrev pub HasLabelsNear : State → List ℕ → Type 0
+HasLabelsNear s b = PartsNear b (length b) header_size (parts_of s)
+
+-- they are as many as a header section and a spelling of the items have, and no spelling is shorter
+abbrev pub IsShortestOf : State → List ℕ → Type 0
+IsShortestOf s b = (n : ℕ) × (length b ≡ header_size + n) × IsShortest (parts_of s) n
 
 -- They are one fold's over the state, and read back as it. Each pointer of a name leads to an earlier label below 16,384. While each label begins below 16,384, as it does in at most 16,384 octets, no spelling of the items is shorter: under the tree and the hash rule, and under the static rule while the fold remembers fewer than 24 suffixes.
 pub record IsMessageOf (rule : Rule) (s : State) (b : List ℕ) : Type 0 where
@@ -16,3 +89,21 @@ pub record IsMessageOf (rule : Rule) (s : State) (b : List ℕ) : Type 0 where
   pub pointers : PointsToLabels s b
   pub shortest : SharesAll rule (len (fold rule s).memory) → HasLabelsNear s b → IsShortestOf s b
   pub near : length b ≤ pointer_end → HasLabelsNear s b
+
+-- What holds of all states, rules and headers. RFC 1035 section 4.1.
+
+-- the fold of a state reads back as the state
+abbrev pub FoldsReadBack : Type 0
+FoldsReadBack = (rule : Rule) (s : State) → IsState s → ReadsBack s (fold rule s).octets
+
+-- what it remembers stands there, and behind the header section
+abbrev pub FoldsRemember : Type 0
+FoldsRemember = (rule : Rule) (s : State) → IsState s → IsTarget (fold rule s) × IsBehind (fold rule s).memory header_size
+
+-- a header with TC set has all other fields as they were
+abbrev pub TcIsSet : Type 0
+TcIsSet = (header : Header) → length (header_octets header) ≡ 4 → fields (with_tc header) ≡ record (fields header) { tc = true }
+
+-- the octets of a fold are those of a message with the state's header and items
+abbrev pub FoldsAreMessages : Type 0
+FoldsAreMessages = (rule : Rule) (s : State) → IsState s → IsMessageOf rule s (fold rule s).octets

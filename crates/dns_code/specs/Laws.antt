@@ -1,5 +1,5 @@
--- What holds of all octets, flags, numbers and texts.
-use Rattle.std.specs.Prelude.{◌≡◌, ◌↔◌, IsTrue, ℕ, ◌<◌, ◌^◌, List, ◌++◌, length, All, Some, Result, Ok}
+-- What holds of all octets, flags and their texts.
+use Rattle.std.specs.Prelude.{◌≡◌, ◌↔◌, IsTrue, ℕ, ◌<◌, List, ◌++◌, length, All, Some}
 use Rattle.std.specs.List.{list_all}
 use Rattle.dns_code.specs.Flags.{is_flags_token, joined, flags_named, flags_read, flags_text}
 use Rattle.dns_code.specs.Header.{fields_in, header_octets}
@@ -7,11 +7,6 @@ use Rattle.dns_code.specs.HeaderCounts.{counts_in, counts_octets}
 use Rattle.dns_code.specs.HeaderSection.{section_octets, section_header, section_counts}
 use Rattle.dns_code.specs.declared.flags.Flags.{Flags}
 use Rattle.dns_code.specs.declared.section.HeaderSection.{HeaderSection}
-use Rattle.dns_code.specs.NumberTexts.{ReadsNumber}
-use Rattle.dns_code.specs.Types.{type_text, SpellsType}
-use Rattle.dns_code.specs.Classes.{class_text, SpellsClass}
-use Rattle.dns_code.specs.declared.rtype.FromStrError.{FromStrError as TypeError}
-use Rattle.dns_code.specs.declared.class.FromStrError.{FromStrError as ClassError}
 
 -- so many octets
 pub record AreOctets (b : List ℕ) (count : ℕ) : Type 0 where
@@ -37,11 +32,3 @@ FlagsReadBack = (flags : Flags) → flags_read (flags_text flags) ≡ Some flags
 -- A text tells flags exactly if it is tokens with single spaces between them, each empty or the name of a flag, and a flag is set exactly if a token names it.
 abbrev pub FlagsTexts : Type 0
 FlagsTexts = (text : List ℕ) (flags : Flags) → (flags_read text ≡ Some flags) ↔ ((ts : List (List ℕ)) × (joined ts ≡ text) × IsTrue (list_all is_flags_token ts) × (flags_named ts ≡ flags))
-
--- the text of each record type is read as that type
-abbrev pub TypesReadBack : Type 0
-TypesReadBack = (n : ℕ) (r : Result ℕ TypeError) → n < 2 ^ 16 → ReadsNumber (SpellsType (type_text n)) r → r ≡ Ok n
-
--- the text of each class is read as that class
-abbrev pub ClassesReadBack : Type 0
-ClassesReadBack = (n : ℕ) (r : Result ℕ ClassError) → n < 2 ^ 16 → ReadsNumber (SpellsClass (class_text n)) r → r ≡ Ok n

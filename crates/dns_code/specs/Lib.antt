@@ -3,10 +3,4 @@ pub mod HeaderCounts
 pub mod Flags
 pub mod Header
 pub mod Bits
-pub mod Mnemonics
-pub mod NumberTexts
-pub mod Types
-pub mod Classes
-pub mod Tables
-pub mod Rcodes
 pub mod Laws

@@ -2,8 +2,7 @@ ghost use Rattle.std.specs.Prelude.{◌≡◌, ◌≤◌, ◌%◌, length, take,
 
 use crate::bits::{is_bit_set, with_bit};
 use crate::flags::Flags;
-use crate::opcode::Opcode;
-use crate::rcode::Rcode;
+use dns_number::{Opcode, Rcode};
 
 /// The first four octets of a message: its ID, opcode, flags and rcode (RFC 1035 section 4.1.1; RFC 4035 section 3).
 #[derive(Clone, Copy, Debug, Default, PartialEq, Eq)]
@@ -55,21 +54,6 @@ impl Header {
         self.octets[1] = low;
     }
 
-    /// Whether this is an answer, and not a query (QR).
-    pub fn qr(self) -> bool
-        ensures { result ≡ (fields self).qr }
-    {
-        is_bit_set(self.octets[2], 7)
-    }
-
-    /// Changes QR.
-    #[tactic(auto, using(crate::proofs::theory::HeaderLemmas::qr_changed))]
-    pub fn set_qr(&mut self, set: bool)
-        ensures { fields self.new ≡ record (fields self.old) { qr = set } }
-    {
-        self.octets[2] = with_bit(self.octets[2], 7, set);
-    }
-
     /// The kind of query.
     pub fn opcode(self) -> Opcode
         ensures { result ≡ (fields self).opcode }
@@ -119,6 +103,21 @@ impl Header {
         self.set_ra(flags.ra);
         self.set_ad(flags.ad);
         self.set_cd(flags.cd);
+    }
+
+    /// Whether this is an answer, and not a query (QR).
+    pub fn qr(self) -> bool
+        ensures { result ≡ (fields self).qr }
+    {
+        is_bit_set(self.octets[2], 7)
+    }
+
+    /// Changes QR.
+    #[tactic(auto, using(crate::proofs::theory::HeaderLemmas::qr_changed))]
+    pub fn set_qr(&mut self, set: bool)
+        ensures { fields self.new ≡ record (fields self.old) { qr = set } }
+    {
+        self.octets[2] = with_bit(self.octets[2], 7, set);
     }
 
     /// Whether the server that answers is an authority for the name (AA).

@@ -1,6 +1,8 @@
-//! Theorems on headers, flags and the texts of numbers. The functions do nothing: each contract is a theorem over all
-//! octets, flags, numbers or texts.
-ghost use Rattle.dns_code.specs.Laws.{FieldsAreAllBits, CountsAreAllOctets, SectionIsHeaderAndCounts, FlagsReadBack, FlagsTexts, TypesReadBack, ClassesReadBack};
+//! Theorems on headers and flags, and on the texts of numbers. The functions do nothing: each contract is a theorem over
+//! all octets, flags, numbers or texts.
+ghost use Rattle.dns_code.specs.Laws.{FieldsAreAllBits, CountsAreAllOctets, SectionIsHeaderAndCounts, FlagsReadBack, FlagsTexts};
+
+pub use dns_number::laws::printed_numbers_read_back;
 
 /// Headers with the same fields have the same octets, and so have counts. A header section is both, one behind the other.
 pub fn octets_of_fields()
@@ -13,10 +15,4 @@ pub fn octets_of_fields()
 pub fn texts_of_flags()
     ensures texts { FlagsTexts }
     ensures read_back { FlagsReadBack }
-{}
-
-/// What is printed for a record type or a class is read as that number, for every number of 16 bits.
-pub fn printed_numbers_read_back()
-    ensures types { TypesReadBack }
-    ensures classes { ClassesReadBack }
 {}

@@ -1,13 +1,11 @@
 -- A piece behind two octets into which its length is written.
 use Rattle.std.proofs.Common.{◌≡◌, ℕ, ◌+◌, ◌≤◌, ◌⊎◌, inl, inr, Bool, Option, Some, Result, Err, List, [], ◌∷◌, length, length-append, ap, sym, ◌∙◌, subst}
 use Rattle.std.specs.FinMap.{get}
-use Rattle.dns_wire.specs.Memory.{Spot, IsClear, IsOldOrWithin, Extends}
-use Rattle.dns_wire.specs.Pieces.{Piece, IsGrowing, put_octets, both, with_length}
+use Rattle.dns_wire.specs.Pieces.{Spot, IsClear, IsOldOrWithin, Extends, Piece, IsGrowing, put_octets, both, with_length}
 use Rattle.dns_wire.specs.Targets.{Written, IsTarget, AnswersInSteps, lay, Composes}
 use Rattle.dns_octets.specs.declared.error.AppendError.{AppendError}
-use Rattle.dns_wire.proofs.theory.Composing.{composes_both}
-use Rattle.dns_wire.proofs.theory.GrowingPieces.{put_octets_grows}
-use Rattle.dns_wire.proofs.theory.PutNames.{ends_within_content}
+use Rattle.dns_wire.proofs.theory.PieceLaws.{composes_both}
+use Rattle.dns_wire.proofs.theory.PutNames.{put_octets_grows, ends_within_content}
 
 -- the two octets before the length is known
 abbrev blank : List ℕ

@@ -1,7 +1,6 @@
 -- What holds of all parts that are composed, and of all data in all octets. RFC 1035 sections 3.3 and 4.1.4.
 use Rattle.std.specs.Prelude.{◌≡◌, ◌⊎◌, ℕ, ◌≤◌, List, [], ◌∷◌, length, take, Bool, Option, Result, Ok, Err}
-use Rattle.dns_name.specs.Fault.{Fault}
-use Rattle.dns_name.specs.Names.{Labels, IsName, uncompressed}
+use Rattle.dns_name.specs.Names.{Fault, Labels, IsName, uncompressed}
 use Rattle.dns_wire.specs.Parts.{Part, PartsStand, put_part, put_parts}
 use Rattle.dns_wire.specs.Pieces.{Rule}
 use Rattle.dns_wire.specs.Targets.{Written, Fits, lay, Appends, Composes}

@@ -1,7 +1,6 @@
 -- What reading and writing the data of a record answers. RFC 1035 sections 3.3 and 4.1.3; the canonical form is that of RFC 4034 section 6.2.
 use Rattle.std.specs.Prelude.{◌≡◌, ℕ, ◌≤◌, ◌==◌, if◌then◌else◌, List, map, Option, None, Some, Result, Ok, Err}
-use Rattle.dns_name.specs.Fault.{fault_of}
-use Rattle.dns_name.specs.Names.{lowered, uncompressed}
+use Rattle.dns_name.specs.Names.{fault_of, lowered, uncompressed}
 use Rattle.dns_name.specs.Parsers.{seen, place, MovesTo}
 use Rattle.dns_wire.specs.Parts.{Part, AreParts, parts_size}
 use Rattle.dns_wire.specs.Parts.Part.{Octets, CompressibleName}

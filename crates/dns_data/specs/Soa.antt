@@ -1,5 +1,6 @@
 -- The fields of the start of a zone of authority. RFC 1035 section 3.3.13.
-use Rattle.std.specs.Prelude.{ℕ, List, [], ◌∷◌}
+use Rattle.std.specs.Prelude.{◌≡◌, ℕ, List, [], ◌∷◌, length}
+use Rattle.std.proofs.Common.{arith}
 use Rattle.std.specs.Int.{to_be_bytes, w32}
 use Rattle.std.specs.List.{flat_map}
 use Rattle.dns_name.specs.Names.{Labels}
@@ -37,6 +38,11 @@ module _ {N : Type 0} where
   -- the octets of the numbers, four for each
   unfoldable pub number_octets : Soa N → List ℕ
   number_octets soa = flat_map (to_be_bytes w32) (numbers_of soa)
+
+  -- twenty octets
+  pub length-number_octets : (soa : Soa N) → length (number_octets soa) ≡ 20
+  unfolding number_octets
+  length-number_octets soa = omega arith
 
   -- two names, and the numbers
   abbrev pub soa_parts : (N → Labels) → Soa N → List Part

@@ -1,7 +1,6 @@
 //! Addresses (RFC 1035 section 3.4.1).
-ghost use Rattle.std.specs.Prelude.{◌≡◌, [], ◌∷◌};
+ghost use Rattle.std.specs.Prelude.{◌≡◌, [], ◌∷◌, length, refl};
 ghost use Rattle.dns_wire.specs.Parts.{Octets};
-ghost use Rattle.dns_data.specs.A.{address_of};
 ghost use Rattle.dns_data.specs.Layout.{Fixed, End};
 ghost use Rattle.dns_data.specs.RecordData.{only};
 
@@ -14,9 +13,12 @@ use dns_wire::{AppendError, Composer, ParseError, Parser};
 #[derive(Clone, Copy, Debug, PartialEq, Eq, PartialOrd, Ord, Hash)]
 pub struct A {
     octets: [u8; 4],
+    ghost four: { length octets ≡ 4 },
 }
 
 impl A {
+    ghost use Rattle.dns_data.specs.A.{address_of};
+
     /// The address of four octets, from the left.
     pub fn from_octets(a: u8, b: u8, c: u8, d: u8) -> Self
         ensures { address_of result ≡ a ∷ b ∷ c ∷ d ∷ [] }
@@ -35,6 +37,8 @@ impl A {
 }
 
 impl RecordData for A {
+    ghost use Rattle.dns_data.specs.A.{address_of};
+
     ghost rtype_of = { λ _. 1 };
 
     ghost parts = { λ a. Octets (address_of a) ∷ [] };
@@ -64,4 +68,6 @@ impl<'a> ParseRecordData<'a> for A {
         let octets = take_octets(parser, 4)?;
         Ok(Some(A::from_octets(octets[0], octets[1], octets[2], octets[3])))
     }
+
+    ghost laid_out = { λ a. (a.four, refl) };
 }

@@ -1,9 +1,8 @@
 //! Data behind its length (RFC 1035 section 4.1.3).
 ghost use Rattle.std.specs.Prelude.{◌≡◌, ◌+◌, ◌-◌, ◌≤◌, length, OnOk};
 ghost use Rattle.std.specs.Int.{to_be_bytes, w16};
-ghost use Rattle.dns_wire.specs.Memory.{IsClear};
+ghost use Rattle.dns_wire.specs.Pieces.{IsClear, with_length};
 ghost use Rattle.dns_wire.specs.Parts.{put_parts};
-ghost use Rattle.dns_wire.specs.Pieces.{with_length};
 ghost use Rattle.dns_wire.specs.Targets.{Composes, overwrite};
 ghost use Rattle.dns_data.specs.RecordData.{IsData, canonical};
 

@@ -1,5 +1,5 @@
 //! Data that is one name (RFC 1035 sections 3.3.1 and 3.3.11).
-ghost use Rattle.std.specs.Prelude.{◌≡◌, [], ◌∷◌};
+ghost use Rattle.std.specs.Prelude.{◌≡◌, [], ◌∷◌, refl};
 ghost use Rattle.dns_name.specs.Names.{lowered, uncompressed};
 ghost use Rattle.dns_wire.specs.Parts.{CompressibleName, Octets, put_parts};
 ghost use Rattle.dns_wire.specs.Targets.{Composes};
@@ -85,6 +85,8 @@ impl<'a> ParseRecordData<'a> for Ns<ParsedName<'a>> {
         let nsdname = ParsedName::parse(parser)?;
         Ok(Some(Ns::new(nsdname)))
     }
+
+    ghost laid_out = { λ _. refl };
 }
 
 /// The canonical name of an alias (RFC 1035 section 3.3.1).
@@ -147,4 +149,6 @@ impl<'a> ParseRecordData<'a> for Cname<ParsedName<'a>> {
         let cname = ParsedName::parse(parser)?;
         Ok(Some(Cname::new(cname)))
     }
+
+    ghost laid_out = { λ _. refl };
 }

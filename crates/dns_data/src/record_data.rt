@@ -1,8 +1,8 @@
 //! What the data of a record is.
-ghost use Rattle.std.specs.Prelude.{◌≡◌, ℕ, List, Option};
+ghost use Rattle.std.specs.Prelude.{◌≡◌, ℕ, List, Option, IsSomeAnd};
 ghost use Rattle.dns_wire.specs.Parts.{Part, put_parts};
 ghost use Rattle.dns_wire.specs.Targets.{Composes};
-ghost use Rattle.dns_data.specs.Layout.{Layout};
+ghost use Rattle.dns_data.specs.Layout.{Layout, IsLaidOut};
 ghost use Rattle.dns_data.specs.RecordData.{IsData, canonical, ParsesLaidOut, ParsesTaken};
 
 use dns_code::Rtype;
@@ -50,6 +50,10 @@ pub trait ParseRecordData<'a>: RecordData + Sized {
     fn parse_rdata(rtype: Rtype, parser: &mut Parser<'a>) -> Result<Option<Self>, ParseError>
         ensures { ParsesTaken Self.rtype_of Self.parts (layout rtype) rtype parser.old parser.new
             result };
+
+    /// The type of each value is taken, and the value's parts are those of its layout.
+    ghost laid_out: { (d : Self) → IsSomeAnd (layout (Self.rtype_of d))
+        (λ l. IsLaidOut l (Self.parts d)) };
 }
 
 /// Data that can be read from a message for every record type.
@@ -61,6 +65,9 @@ pub trait ParseAnyRecordData<'a>: RecordData + Sized {
     fn parse_any_rdata(rtype: Rtype, parser: &mut Parser<'a>) -> Result<Self, ParseError>
         ensures { ParsesLaidOut Self.rtype_of Self.parts (any_layout rtype) rtype parser.old
             parser.new result };
+
+    /// The parts of each value are those of its type's layout.
+    ghost any_laid_out: { (d : Self) → IsLaidOut (any_layout (Self.rtype_of d)) (Self.parts d) };
 }
 
 impl<D: RecordData> RecordData for &D {

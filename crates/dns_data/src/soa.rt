@@ -1,9 +1,9 @@
 //! The start of a zone of authority (RFC 1035 section 3.3.13).
-ghost use Rattle.std.specs.Prelude.{◌≡◌, ◌+◌, ◌≤◌, length, slice_range};
+ghost use Rattle.std.specs.Prelude.{◌≡◌, ◌+◌, ◌≤◌, length, slice_range, refl};
 ghost use Rattle.std.specs.Int.{to_be_bytes, w32};
 ghost use Rattle.dns_data.specs.Layout.{DomainName, Fixed, End};
 ghost use Rattle.dns_data.specs.RecordData.{only};
-ghost use Rattle.dns_data.specs.Soa.{mname_of, rname_of, serial_of, refresh_of, retry_of, expire_of, minimum_of, number_octets, soa_parts};
+ghost use Rattle.dns_data.specs.Soa.{mname_of, rname_of, serial_of, refresh_of, retry_of, expire_of, minimum_of, number_octets, length-number_octets, soa_parts};
 
 use crate::octets::take_octets;
 use crate::record_data::{ComposeRecordData, ParseRecordData, RecordData};
@@ -187,4 +187,6 @@ impl<'a> ParseRecordData<'a> for Soa<ParsedName<'a>> {
         *parser = ahead;
         Ok(Some(Soa::of_octets(mname, rname, numbers)))
     }
+
+    ghost laid_out = { λ soa. (length-number_octets soa, refl) };
 }

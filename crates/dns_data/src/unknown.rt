@@ -1,5 +1,6 @@
 //! Opaque data (RFC 3597 section 4).
-ghost use Rattle.std.specs.Prelude.{◌≤◌, length};
+ghost use Rattle.std.proofs.Common.{rules};
+ghost use Rattle.std.specs.Prelude.{◌≤◌, length, refl};
 
 use crate::error::LongRecordData;
 use crate::record_data::{ComposeRecordData, ParseAnyRecordData, ParseRecordData, RecordData};
@@ -80,6 +81,8 @@ impl<'a> ParseAnyRecordData<'a> for UnknownRecordData<&'a [u8]> {
         parser.advance(octets.len())?;
         Ok(unknown)
     }
+
+    ghost any_laid_out = { λ unknown. (_, refl, Prim.search rules) };
 }
 
 /// As `parse_any_rdata`.
@@ -95,6 +98,8 @@ impl<'a> ParseRecordData<'a> for UnknownRecordData<&'a [u8]> {
             Err(error) => Err(error),
         }
     }
+
+    ghost laid_out = { λ unknown. (_, refl, Prim.search rules) };
 }
 
 /// A clone of the holder. One that doesn't hold the same octets is answered by `AllocError`.

@@ -1,16 +1,67 @@
 -- What parsing and skipping a record answer.
-use Rattle.std.proofs.Common.{◌≡◌, ℕ, ◌+◌, ◌<◌, ◌≤◌, List, length, arith, ap, sym, ◌∙◌, subst}
+use Rattle.std.proofs.Common.{◌≡◌, ℕ, ◌+◌, ◌<◌, ◌≤◌, Ok, List, length, arith, ap, sym, ◌∙◌, refl, subst}
 use Rattle.std.specs.Int.{w16}
-use Rattle.dns_name.specs.Fault.{fault_of}
-use Rattle.dns_name.specs.ParsedName.{MovesBehindName}
-use Rattle.dns_name.specs.Parsers.{seen, place, number_at, MovesTo}
 use Rattle.dns_octets.specs.declared.error.ParseError.{ParseError}
 use Rattle.dns_octets.specs.declared.error.ParseError.TheVariants.{ShortInput}
+use Rattle.dns_name.specs.Names.{Fault, fault_of, Labels, Stands}
+use Rattle.dns_name.specs.ParsedName.{MovesBehindName}
+use Rattle.dns_name.specs.Parsers.{seen, place, MovesTo, number_at}
+use Rattle.dns_name.specs.declared.parsed_name.ParsedName.{ParsedName}
 use Rattle.dns_name.specs.declared.parser.Parser.{Parser}
-use Rattle.dns_item.specs.Entries.{ReadsRecord, RecordEntry, RecordSkipFaultAt}
-use Rattle.dns_item.specs.Entries.LacksRecord.{fields, rdata}
-use Rattle.dns_item.specs.Entries.RecordSkipFaultAt.{short as unended_record}
+use Rattle.dns_question.specs.BehindNames.FieldsFaultAt.{name, short as short_fields}
+use Rattle.dns_question.specs.BehindNames.FieldsSkipFaultAt.{short as unended_record}
+use Rattle.dns_item.specs.Items.{HeaderFaultAt, ReadsRecord, RecordFaultAt, RecordEntry, RecordSkipFaultAt}
+use Rattle.dns_item.specs.Items.LacksRecord.{fields, rdata}
+use Rattle.dns_item.specs.RecordHeader.{rdlen_of, record_at, ParsesHeader}
+use Rattle.dns_item.specs.declared.record_header.RecordHeader.{RecordHeader}
 use Rattle.dns_item.proofs.theory.EntryLemmas.{record_or_fault}
+
+-- What parsing the header of a record answers, and where a header and its data are a record.
+
+-- the octets behind an owner that stands are too few
+pub short : (old mid : Parser) (owner : Labels) (e : ParseError) → Stands (seen old) (place old) owner → MovesBehindName old mid → length (seen mid) < place mid + 10 → e ≡ ShortInput
+    → HeaderFaultAt (seen old) (place old) (fault_of e)
+short old mid owner e stands moves l is =
+    let n : length (seen mid) ≡ length (seen old) = ap length moves.1.seen in
+    subst (λ e. HeaderFaultAt (seen old) (place old) (fault_of e)) (sym is) (short_fields stands moves.0 (omega arith))
+
+-- where no header can be read there is no record
+pub without_header : (b : List ℕ) (p : ℕ) (f : Fault) → HeaderFaultAt b p f → RecordFaultAt b p f
+without_header b p f (name g) = name g
+without_header b p f (short_fields s w l) = short_fields s w (fields l)
+
+-- a header and the data behind it, which is passed, are a record
+pub with_data : (old mid new : Parser) (header : RecordHeader ParsedName) (n : ℕ) → ParsesHeader old mid (Ok header) → n ≡ rdlen_of header
+    → place mid + n ≤ length (seen mid) → MovesTo mid new (place mid + n) → ReadsRecord (seen old) (place old) (place new) (record_at header (place mid)) × MovesTo old new (place new)
+with_data old mid new header n parses is long to =
+    let reads = parses.0 in
+    let there : seen mid ≡ seen old = parses.1.seen in
+    let m : length (seen mid) ≡ length (seen old) = ap length there in
+    let a = reads.end in
+    let d = reads.rdlen in
+    let end = to.place in (
+      record {
+        skips = record { name_end = reads.name_end; walked = reads.walked; end = omega arith; within = omega arith };
+        owner = reads.owner;
+        rtype = reads.rtype;
+        class = reads.class;
+        ttl = reads.ttl;
+        data_start = reads.end;
+        data_end = omega arith;
+      },
+      record { input = to.input ∙ parses.1.input; seen = to.seen ∙ there; place = refl },
+    )
+
+-- the data behind a header isn't all there
+pub without_data : (old mid : Parser) (header : RecordHeader ParsedName) (n : ℕ) (e : ParseError) → ParsesHeader old mid (Ok header) → n ≡ rdlen_of header
+    → length (seen mid) < place mid + n → e ≡ ShortInput → RecordFaultAt (seen old) (place old) (fault_of e)
+without_data old mid header n e parses is l short_input =
+    let reads = parses.0 in
+    let m : length (seen mid) ≡ length (seen old) = ap length parses.1.seen in
+    let end = reads.end in
+    let within = reads.within in
+    let d = reads.rdlen in
+    subst (λ e. RecordFaultAt (seen old) (place old) (fault_of e)) (sym short_input) (short_fields reads.owner reads.walked (rdata (omega arith) (omega arith)))
 
 -- of the ten octets behind a passed owner, some aren't there
 pub without_fields : (old mid : Parser) (n : ℕ) (e : ParseError) → MovesBehindName old mid → n < place mid + 10 → n ≡ length (seen mid) → e ≡ ShortInput
@@ -20,9 +71,9 @@ without_fields old mid n e moves l long is =
     subst (λ e. RecordSkipFaultAt (seen old) (place old) (fault_of e)) (sym is) (unended_record moves.0 (fields (omega arith)))
 
 -- the ten octets are there, but not all of the data
-pub without_data : (old mid behind last : Parser) (n : ℕ) (e : ParseError) → MovesBehindName old mid → MovesTo mid behind (place mid + 8) → MovesTo behind last (place behind + 2)
+pub lacks_data : (old mid behind last : Parser) (n : ℕ) (e : ParseError) → MovesBehindName old mid → MovesTo mid behind (place mid + 8) → MovesTo behind last (place behind + 2)
     → place behind + 2 ≤ length (seen behind) → n ≡ number_at w16 (seen behind) (place behind) → length (seen last) < place last + n → e ≡ ShortInput → RecordSkipFaultAt (seen old) (place old) (fault_of e)
-without_data old mid behind last n e moves first second long is l short_input =
+lacks_data old mid behind last n e moves first second long is l short_input =
     let there : seen behind ≡ seen old = first.seen ∙ moves.1.seen in
     let k : length (seen behind) ≡ length (seen old) = ap length there in
     let m : length (seen last) ≡ length (seen behind) = ap length second.seen in

@@ -1,22 +1,21 @@
 -- The data of a record, read to its end.
-use Rattle.std.proofs.Common.{◌≡◌, ◌∙◌, ap, sym, subst, ℕ, ◌<◌, ◌≤◌, List, length, arith}
-use Rattle.std.proofs.lemmas.Grind.{common_steps}
+use Rattle.std.proofs.Common.{◌≡◌, ◌∙◌, ap, sym, subst, refl, ℕ, ◌<◌, ◌≤◌, List, length}
 use Rattle.std.specs.Prelude.{Option, None, Some, Result, Ok, Err, IsOkAnd, IsSomeAnd}
-use Rattle.dns_name.specs.Fault.{Fault, fault_of}
-use Rattle.dns_name.specs.Fault.Fault.{Form}
+use Rattle.dns_name.specs.Names.{Fault, fault_of}
+use Rattle.dns_name.specs.Names.Fault.{Form}
 use Rattle.dns_name.specs.Parsers.{seen, place}
 use Rattle.dns_wire.specs.Parts.{Part, PartsStand}
 use Rattle.dns_octets.specs.declared.error.ParseError.{ParseError}
 use Rattle.dns_name.specs.declared.parsed_name.ParsedName.{ParsedName}
 use Rattle.dns_name.specs.declared.parser.Parser.{Parser}
-use Rattle.dns_data.specs.Layout.{Layout, IsLaidOut, DataStands}
+use Rattle.dns_data.specs.Layout.{Layout, IsLaidOut}
 use Rattle.dns_data.specs.RecordData.{ParsesLaidOut, ParsesTaken}
-use Rattle.dns_data.proofs.theory.DataAnswers.{one_datum_or_fault}
 use Rattle.dns_data.proofs.theory.StandingParts.{standing_parts_read}
-use Rattle.dns_item.specs.Entries.{RecordEntry}
+use Rattle.dns_item.specs.DataAnswer.{HasSpan, one_data, no_data_fault}
+use Rattle.dns_item.specs.Items.{RecordEntry}
 use Rattle.dns_item.specs.Record.{data_of}
 use Rattle.dns_item.specs.declared.record.Record.{Record}
-use Rattle.dns_item.specs.RecordReading.{WholeDataFaultAt, item_of, IsThere, up_to_data_end, HasData, HasDataFault, IsRecordOf, GivesLaidOut, GivesTaken, AnswersLaidOut, AnswersTaken, GivesBack, GivesBackTaken, IsWhole, IsWholeTaken}
+use Rattle.dns_item.specs.RecordReading.{WholeDataFaultAt, item_of, IsThere, HasData, HasDataFault, IsRecordOf, GivesLaidOut, GivesTaken, AnswersLaidOut, AnswersTaken, GivesBack, GivesBackTaken, GivesValueBack, GivesValueBackTaken, IsWhole, IsWholeTaken}
 use Rattle.dns_item.specs.RecordReading.WholeDataFaultAt.{first, left_over}
 
 module _ {D : Type 0} (rtype_of : D → ℕ) (parts_of : D → List Part) (rtype : ℕ) (old new : Parser) where
@@ -44,17 +43,10 @@ module _ {D : Type 0} (rtype_of : D → ℕ) (parts_of : D → List Part) (rtype
   whole_left_over_taken (Some layout) value e h l f =
       subst (WholeDataFaultAt (seen old) layout (place old)) (sym f) (whole_left_over layout value h l)
 
--- where data of the layout goes to the end, there is no fault
-no_fault : (b : List ℕ) (layout : Layout) (p : ℕ) (parts : List Part) (f : Fault) → p ≤ length b → DataStands b layout p (length b) parts → WholeDataFaultAt b layout p f → ⊥
-no_fault b layout p parts f l h (first g) = (one_datum_or_fault b layout p l).not_both (length b) parts f h g
-no_fault b layout p parts f l h (left_over q others k short) =
-    let e = (one_datum_or_fault b layout p l).one (length b) q parts others h k in
-    omega (arith, e.0, short)
-
 module _ {D : Type 0} (rtype_of : D → ℕ) (parts_of : D → List Part) (b : List ℕ) (x : RecordEntry) (start : x.data_start ≤ x.data_end) where
-  -- the octets up to the end of data that is there
-  ends_there : IsThere b x → length (up_to_data_end b x) ≡ x.data_end
-  ends_there there = grind (arith, common_steps)
+  -- data that is there is within the octets
+  span : IsThere b x → HasSpan (record { octets = b; entry = x })
+  span there = record { start = start; end = there }
 
   -- parts that fill the data stand there in each layout that they have
   stands_there : (layout : Layout) (parts : List Part) → IsThere b x → IsLaidOut layout parts → PartsStand b x.data_end x.data_start parts → HasData b x layout parts
@@ -63,16 +55,11 @@ module _ {D : Type 0} (rtype_of : D → ℕ) (parts_of : D → List Part) (b : L
   -- what is read where data of the layout stands are its parts
   read_there : (layout : Layout) (parts : List Part) (r : Record ParsedName D) → IsThere b x → HasData b x layout parts → GivesLaidOut rtype_of parts_of b x layout (Ok r)
       → IsRecordOf rtype_of parts_of b x parts r
-  read_there layout parts r there d h =
-      let is = ends_there there in
-      let e = (one_datum_or_fault (up_to_data_end b x) layout x.data_start (omega (arith, is, start))).one x.data_end x.data_end (parts_of (data_of r)) parts h.1 d in
-      h.0 ∙ ap (item_of x) e.1
+  read_there layout parts r there d h = h.0 ∙ ap (item_of x) (one_data (record { octets = b; entry = x }) layout (span there) (parts_of (data_of r)) parts h.1 d)
 
   -- no fault is met there
   no_fault_there : (layout : Layout) (parts : List Part) (f : Fault) → IsThere b x → HasData b x layout parts → HasDataFault b x layout f → ⊥
-  no_fault_there layout parts f there d h =
-      let is = ends_there there in
-      no_fault (up_to_data_end b x) layout x.data_start parts f (omega (arith, is, start)) (subst (λ q. DataStands (up_to_data_end b x) layout x.data_start q parts) (sym is) d) h
+  no_fault_there layout parts f there d h = no_data_fault (record { octets = b; entry = x }) layout (span there) parts f d h
 
   -- parts that fill the data are given back
   pub gives_back : (layout : Layout) (result : Result (Record ParsedName D) ParseError) → AnswersLaidOut rtype_of parts_of b x layout result → GivesBack rtype_of parts_of b x layout result
@@ -90,3 +77,20 @@ module _ {D : Type 0} (rtype_of : D → ℕ) (parts_of : D → List Part) (b : L
       → GivesBackTaken rtype_of parts_of b x taken result
   gives_back_taken taken result h layout parts is there laid stands =
       given_back layout result parts there (stands_there layout parts there laid stands) (subst (λ (o : Option Layout). GivesTaken rtype_of parts_of b x o result) is (h.gives there))
+
+module _ {D : Type 0} (rtype_of : D → ℕ) (parts_of : D → List Part) (b : List ℕ) (x : RecordEntry) where
+  -- so is a value of the data type, as its parts are laid out
+  pub gives_value_back : (layout : ℕ → Layout) (result : Result (Record ParsedName D) ParseError) → ((value : D) → IsLaidOut (layout (rtype_of value)) (parts_of value))
+      → GivesBack rtype_of parts_of b x (layout x.rtype) result → GivesValueBack rtype_of parts_of b x result
+  gives_value_back layout result laid back value is there stands =
+      back (parts_of value) there (subst (λ n. IsLaidOut (layout n) (parts_of value)) is (laid value)) stands
+
+  -- the same where the type may not be taken
+  pub gives_value_back_taken : (layout : ℕ → Option Layout) (result : Result (Option (Record ParsedName D)) ParseError)
+      → ((value : D) → IsSomeAnd (layout (rtype_of value)) (λ l. IsLaidOut l (parts_of value)))
+      → GivesBackTaken rtype_of parts_of b x (layout x.rtype) result → GivesValueBackTaken rtype_of parts_of b x result
+  gives_value_back_taken layout result laid back value is there stands = by (layout x.rtype) refl (subst (λ n. IsSomeAnd (layout n) (λ l. IsLaidOut l (parts_of value))) is (laid value))
+    where
+      by : (o : Option Layout) → layout x.rtype ≡ o → IsSomeAnd o (λ l. IsLaidOut l (parts_of value)) → IsOkAnd result (λ o. IsSomeAnd o (IsRecordOf rtype_of parts_of b x (parts_of value)))
+      by None e h = absurd h
+      by (Some l) e h = back l (parts_of value) e there h stands

@@ -1,10 +1,9 @@
 pub mod Ttl
 pub mod Items
-pub mod Entries
 pub mod RecordHeader
 pub mod ParsedRecord
 pub mod Record
 pub mod RecordReading
+pub mod DataAnswer
+pub mod TypedRecords
 pub mod RecordPrinting
-pub mod EntryLaws
-pub mod ItemLaws

@@ -1,11 +1,11 @@
 -- The parts of a record that was read, and what parsing and skipping one answer. RFC 1035 section 4.1.3.
 use Rattle.std.specs.Prelude.{◌≡◌, ℕ, List, Result, Ok, Err}
-use Rattle.dns_name.specs.Fault.{fault_of}
+use Rattle.dns_name.specs.Names.{fault_of}
 use Rattle.dns_name.specs.Parsers.{seen, place, MovesTo}
 use Rattle.dns_octets.specs.declared.error.ParseError.{ParseError}
 use Rattle.dns_name.specs.declared.parsed_name.ParsedName.{ParsedName}
 use Rattle.dns_name.specs.declared.parser.Parser.{Parser}
-use Rattle.dns_item.specs.Entries.{SkipsRecord, RecordEntry, ReadsRecord, RecordFaultAt, RecordSkipFaultAt}
+use Rattle.dns_item.specs.Items.{SkipsRecord, RecordEntry, ReadsRecord, RecordFaultAt, RecordSkipFaultAt}
 use Rattle.dns_item.specs.RecordHeader.{record_at}
 use Rattle.dns_item.specs.declared.parsed_record.ParsedRecord.{ParsedRecord}
 use Rattle.dns_item.specs.declared.record_header.RecordHeader.{RecordHeader}

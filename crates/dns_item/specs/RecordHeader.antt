@@ -1,16 +1,14 @@
 -- The fields of a record's header, and what parsing one answers. RFC 1035 section 4.1.3.
 use Rattle.std.specs.Prelude.{◌≡◌, ℕ, ◌+◌, List, ◌++◌, Result, Ok, Err}
 use Rattle.std.specs.Int.{to_be_bytes, w16, w32}
-use Rattle.dns_name.specs.Fault.{fault_of}
-use Rattle.dns_name.specs.Names.{Labels}
+use Rattle.dns_name.specs.Names.{fault_of, Labels}
 use Rattle.dns_name.specs.ParsedName.{labels}
 use Rattle.dns_name.specs.Parsers.{seen, place, number_at, MovesTo}
-use Rattle.dns_wire.specs.Pieces.{Rule, Piece, put_octets, both}
-use Rattle.dns_wire.specs.PutName.{put_name}
+use Rattle.dns_wire.specs.Pieces.{Rule, Piece, put_octets, both, put_name}
 use Rattle.dns_octets.specs.declared.error.ParseError.{ParseError}
 use Rattle.dns_name.specs.declared.parsed_name.ParsedName.{ParsedName}
 use Rattle.dns_name.specs.declared.parser.Parser.{Parser}
-use Rattle.dns_item.specs.Entries.{HeaderEntry, ReadsHeader, HeaderFaultAt, RecordEntry, ReadsRecord, RecordFaultAt}
+use Rattle.dns_item.specs.Items.{HeaderEntry, ReadsHeader, HeaderFaultAt, RecordEntry, ReadsRecord, RecordFaultAt}
 use Rattle.dns_item.specs.declared.record_header.RecordHeader.{RecordHeader}
 
 -- the fields

@@ -1,7 +1,7 @@
 -- What reading the data of a record answers. RFC 1035 sections 3.3 and 4.1.3.
 use Rattle.std.specs.Prelude.{◌≡◌, ℕ, ◌<◌, ◌≤◌, List, length, take, Option, None, Some, Result, Ok, Err, IsOkAnd, IsSomeAnd, ⊤}
-use Rattle.dns_name.specs.Fault.{Fault, fault_of}
-use Rattle.dns_name.specs.Fault.Fault.{Form}
+use Rattle.dns_name.specs.Names.{Fault, fault_of}
+use Rattle.dns_name.specs.Names.Fault.{Form}
 use Rattle.dns_name.specs.ParsedName.{labels}
 use Rattle.dns_name.specs.Parsers.{seen, MovesTo}
 use Rattle.dns_wire.specs.Parts.{Part, PartsStand}
@@ -10,8 +10,7 @@ use Rattle.dns_octets.specs.declared.error.ParseError.TheVariants.{ShortInput}
 use Rattle.dns_name.specs.declared.parsed_name.ParsedName.{ParsedName}
 use Rattle.dns_name.specs.declared.parser.Parser.{Parser}
 use Rattle.dns_data.specs.Layout.{Layout, IsLaidOut, DataStands, DataFaultAt}
-use Rattle.dns_item.specs.Entries.{RecordEntry}
-use Rattle.dns_item.specs.Items.{RecordItem}
+use Rattle.dns_item.specs.Items.{RecordEntry, RecordItem}
 use Rattle.dns_item.specs.Record.{data_of, record_item}
 use Rattle.dns_item.specs.declared.record.Record.{Record}
 
@@ -84,6 +83,18 @@ module _ {D : Type 0} (rtype_of : D → ℕ) (parts_of : D → List Part) (b : L
   GivesBackTaken taken result =
       (layout : Layout) (parts : List Part) → taken ≡ Some layout → IsThere b x → IsLaidOut layout parts → PartsStand b x.data_end x.data_start parts
       → IsOkAnd result (λ o. IsSomeAnd o (IsRecordOf parts))
+
+  -- A value of the record's type whose parts fill the data is given back: a record with these parts.
+  abbrev pub GivesValueBack : Result (Record ParsedName D) ParseError → Type 0
+  GivesValueBack result =
+      (value : D) → rtype_of value ≡ x.rtype → IsThere b x → PartsStand b x.data_end x.data_start (parts_of value)
+      → IsOkAnd result (IsRecordOf (parts_of value))
+
+  -- the same where the type may not be taken
+  abbrev pub GivesValueBackTaken : Result (Option (Record ParsedName D)) ParseError → Type 0
+  GivesValueBackTaken result =
+      (value : D) → rtype_of value ≡ x.rtype → IsThere b x → PartsStand b x.data_end x.data_start (parts_of value)
+      → IsOkAnd result (λ o. IsSomeAnd o (IsRecordOf (parts_of value)))
 
 module _ {D : Type 0} (rtype_of : D → ℕ) (parts_of : D → List Part) (b : List ℕ) (p : ℕ) where
   -- What reading data from p to the end gives: the data that goes so far, or the fault.

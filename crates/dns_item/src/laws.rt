@@ -1,9 +1,8 @@
 //! Theorems on questions and records where they stand and where they are put, and on questions as texts. The functions do nothing: each contract is a theorem over all octets, places, items and texts.
-ghost use Rattle.dns_question.specs.QuestionLaws.{QuestionOrFault, QuestionEndOrFault, QuestionSkipAgrees};
-ghost use Rattle.dns_item.specs.EntryLaws.{HeaderOrFault, RecordOrFault, RecordEndOrFault, RecordSkipAgrees};
-ghost use Rattle.dns_question.specs.QuestionLaws.{QuestionsGrow, QuestionsReadBack};
-ghost use Rattle.dns_item.specs.ItemLaws.{RecordsGrow, RecordsReadBack};
-ghost use Rattle.dns_question.specs.QuestionTextLaws.{EachTextAnswered, OneTextAnswer, EachWordsAnswered, OneWordsAnswer};
+ghost use Rattle.dns_question.specs.Questions.{QuestionOrFault, QuestionEndOrFault, QuestionSkipAgrees, QuestionsGrow, QuestionsReadBack};
+ghost use Rattle.dns_item.specs.Items.{HeaderOrFault, RecordOrFault, RecordEndOrFault, RecordSkipAgrees, RecordsGrow, RecordsReadBack};
+ghost use Rattle.dns_item.specs.TypedRecords.{DataIsAnswered};
+ghost use Rattle.dns_question.specs.QuestionTexts.{EachTextAnswered, OneTextAnswer, EachWordsAnswered, OneWordsAnswer};
 
 /// At each place exactly one question can be read or exactly one fault is met, never both; so for records and their headers.
 pub fn one_entry_or_fault()
@@ -30,6 +29,11 @@ pub fn items_read_back()
     ensures records_grow { RecordsGrow }
     ensures questions { QuestionsReadBack }
     ensures records { RecordsReadBack }
+{}
+
+/// To the data of each record a layout has exactly one answer: the parts that fill it, or its fault. It is what `data_in` says.
+pub fn one_data_answer()
+    ensures { DataIsAnswered }
 {}
 
 /// Every text is read as a question or as one that has a fault, and as one thing only. So is every list of words.

@@ -1,11 +1,11 @@
 //! Records read with their data (RFC 1035 section 4.1.3).
 ghost use Rattle.std.specs.Prelude.{◌≡◌, ℕ, IsErrAnd};
-ghost use Rattle.dns_name.specs.Fault.{Fault, fault_of};
+ghost use Rattle.dns_name.specs.Names.{Fault, fault_of};
 ghost use Rattle.dns_name.specs.Parsers.{seen, place, MovesTo};
-ghost use Rattle.dns_item.specs.Entries.{ReadsRecord, RecordEntry, RecordFaultAt};
+ghost use Rattle.dns_item.specs.Items.{ReadsRecord, RecordEntry, RecordFaultAt};
 ghost use Rattle.dns_item.specs.ParsedRecord.{octets_of, parsed_entry};
 ghost use Rattle.dns_item.specs.RecordHeader.{rtype_of, record_at};
-ghost use Rattle.dns_item.specs.RecordReading.{MovesBehindData, AnswersLaidOut, AnswersTaken, GivesBack, GivesBackTaken, IsWhole, IsWholeTaken};
+ghost use Rattle.dns_item.specs.RecordReading.{MovesBehindData, AnswersLaidOut, AnswersTaken, GivesBack, GivesBackTaken, GivesValueBack, GivesValueBackTaken, IsWhole, IsWholeTaken};
 
 use crate::parsed_record::ParsedRecord;
 use crate::record::Record;
@@ -99,6 +99,8 @@ impl<'a> ParsedRecord<'a> {
             (parsed_entry self.now) (D.layout (parsed_entry self.now).rtype) result }
         ensures back { GivesBackTaken D.rtype_of D.parts (octets_of self.now)
             (parsed_entry self.now) (D.layout (parsed_entry self.now).rtype) result }
+        ensures value { GivesValueBackTaken D.rtype_of D.parts (octets_of self.now)
+            (parsed_entry self.now) result }
     {
         let mut parser = self.data;
         self.header.parse_into_record(&mut parser)
@@ -112,6 +114,8 @@ impl<'a> ParsedRecord<'a> {
             (parsed_entry self.entry) (D.layout (parsed_entry self.entry).rtype) result }
         ensures back { GivesBackTaken D.rtype_of D.parts (octets_of self.entry)
             (parsed_entry self.entry) (D.layout (parsed_entry self.entry).rtype) result }
+        ensures value { GivesValueBackTaken D.rtype_of D.parts (octets_of self.entry)
+            (parsed_entry self.entry) result }
     {
         self.to_record()
     }
@@ -124,6 +128,8 @@ impl<'a> ParsedRecord<'a> {
             (parsed_entry self.now) (D.any_layout (parsed_entry self.now).rtype) result }
         ensures back { GivesBack D.rtype_of D.parts (octets_of self.now)
             (parsed_entry self.now) (D.any_layout (parsed_entry self.now).rtype) result }
+        ensures value { GivesValueBack D.rtype_of D.parts (octets_of self.now)
+            (parsed_entry self.now) result }
     {
         let mut parser = self.data;
         self.header.parse_into_any_record(&mut parser)
@@ -137,6 +143,8 @@ impl<'a> ParsedRecord<'a> {
             (parsed_entry self.entry) (D.any_layout (parsed_entry self.entry).rtype) result }
         ensures back { GivesBack D.rtype_of D.parts (octets_of self.entry)
             (parsed_entry self.entry) (D.any_layout (parsed_entry self.entry).rtype) result }
+        ensures value { GivesValueBack D.rtype_of D.parts (octets_of self.entry)
+            (parsed_entry self.entry) result }
     {
         self.to_any_record()
     }
@@ -155,6 +163,9 @@ impl<'a, D: ParseRecordData<'a> + Drop> Record<ParsedName<'a>, D> {
         ensures back { (q : ℕ) (x : RecordEntry)
             → ReadsRecord (seen parser.old) (place parser.old) q x
             → GivesBackTaken D.rtype_of D.parts (seen parser.old) x (D.layout x.rtype) result }
+        ensures value { (q : ℕ) (x : RecordEntry)
+            → ReadsRecord (seen parser.old) (place parser.old) q x
+            → GivesValueBackTaken D.rtype_of D.parts (seen parser.old) x result }
         ensures fault { (f : Fault) → RecordFaultAt (seen parser.old) (place parser.old) f
             → IsErrAnd result (λ e. fault_of e ≡ f) × (parser.new ≡ parser.old) }
     {

@@ -6,14 +6,13 @@ use Rattle.dns_wire.specs.Pieces.{Rule}
 use Rattle.dns_wire.specs.Targets.{Written}
 use Rattle.dns_question.specs.Questions.{QuestionItem}
 use Rattle.dns_item.specs.Items.{RecordItem}
-use Rattle.dns_build.specs.Laws.{FoldsAreMessages}
-use Rattle.dns_build.specs.MessageOf.{IsMessageOf}
+use Rattle.dns_build.specs.MessageOf.{FoldsAreMessages, IsMessageOf}
 use Rattle.dns_build.specs.State.{State}
 use Rattle.dns_message.specs.declared.script.Stage.{Stage}
 use Rattle.dns_message.specs.declared.script.Stage.TheVariants.{Builder, Question, Answer, Authority, Additional}
 use Rattle.dns_message.specs.declared.script.Call.{Call}
 use Rattle.dns_message.specs.declared.script.Reply.{Reply}
-use Rattle.dns_message.specs.Script.{StageStandsFor, after, after_all, IsReply, AreReplies, Steps, Runs, RunsAll, octets_of}
+use Rattle.dns_message.specs.Script.{StageStandsFor, after, after_all, IsReply, AreReplies, Steps, RunsAll, octets_of}
 
 module _ {Q R : Type 0} (room : Option ℕ) (grows : Bool) (question : Q → QuestionItem) (item : R → RecordItem) (rule : Rule) where
   -- through the calls, for each state that the stage stands for: replies, and a stage that stands for the state after them

@@ -1,21 +1,8 @@
--- What is printed piece by piece.
-use Rattle.std.proofs.Common.{◌≡◌, ℕ, Option, Result, List, [], ◌∷◌, ◌++◌, OnOk, Ok, Err, None, Some, ap, subst, ◌∙◌, take, length, get_or, append_assoc, ◌+◌, ◌<◌}
+-- The digits of octets, one octet after another.
+use Rattle.std.proofs.Common.{◌≡◌, ℕ, List, [], ◌∷◌, ◌++◌, ap, ◌∙◌, take, length, get_or, ◌+◌, ◌<◌}
 use Rattle.std.proofs.lemmas.Grind.{flat_map-append}
 use Rattle.std.proofs.lemmas.List.{take_more}
-use Rattle.std.specs.Io.KnownBytes.{Appends}
 use Rattle.dns_message.specs.Output.{hex_pair, hex_text}
-
--- one appended behind another
-pub appends_both : (a b c : Option (List ℕ)) (xs ys : List ℕ) → Appends a b xs → Appends b c ys → Appends a c (xs ++ ys)
-appends_both None b c xs ys h k = tt
-appends_both (Some front) None c xs ys h k = absurd h
-appends_both (Some front) (Some bs) None xs ys h k = absurd k
-appends_both (Some front) (Some bs) (Some cs) xs ys h k = k ∙ ap (λ l. l ++ ys) h ∙ append_assoc front xs ys
-
--- a text is printed, and what stands behind it
-pub prints_both : {E X : Type 0} (a b c : Option (List ℕ)) (text xs ys : List ℕ) (r : Result X E) → xs ≡ text → Appends a b xs → OnOk r (Appends b c ys) → OnOk r (Appends a c (text ++ ys))
-prints_both a b c text xs ys (Ok x) is h k = appends_both a b c text ys (subst (λ l. Appends a b l) is h) k
-prints_both a b c text xs ys (Err e) is h k = k
 
 -- the digits of one octet more
 pub hex_more : (octets : List ℕ) (i : ℕ) → i < length octets → hex_text (take (i + 1) octets) ≡ hex_text (take i octets) ++ hex_pair (get_or octets i 0)

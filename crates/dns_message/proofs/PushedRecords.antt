@@ -5,10 +5,11 @@ use Rattle.dns_wire.specs.Pieces.{Rule}
 use Rattle.dns_wire.specs.Targets.{Fits, Passes}
 use Rattle.dns_question.specs.Questions.{QuestionItem}
 use Rattle.dns_item.specs.Items.{RecordItem}
-use Rattle.dns_build.specs.Built.{Built, PushAnswers}
-use Rattle.dns_build.specs.Standing.{StandsFor, MovesState, InEach, size_after}
+use Rattle.dns_build.specs.Standing.{Built, PushAnswers, StandsFor, MovesState, InEach, size_after}
 use Rattle.dns_build.specs.State as state
-use Rattle.dns_build.specs.State.{State, Section, Answers, Authorities, Additionals, stage_of, with_record, records_at, most_entries}
+use Rattle.dns_section.specs.declared.section.Section.{Section}
+use Rattle.dns_section.specs.declared.section.Section.TheVariants.{Answer, Authority, Additional}
+use Rattle.dns_build.specs.State.{State, stage_of, with_record, records_at, most_entries}
 use Rattle.dns_build.specs.declared.push_error.PushError.{PushError}
 use Rattle.dns_build.specs.declared.push_error.PushError.TheVariants.{ShortBuf, OutOfMemory, LimitExceeded, CountOverflow}
 use Rattle.dns_message.specs.declared.script.Call.{Call}
@@ -19,9 +20,9 @@ use Rattle.dns_message.specs.Script.{lacks, Stays}
 
 -- records are pushed at each record section
 has_push : (Q R : Type 0) (section : Section) (x : R) → lacks {Q = Q} (stage_of section) (PushRecord x) ≡ false
-has_push Q R Answers x = refl
-has_push Q R Authorities x = refl
-has_push Q R Additionals x = refl
+has_push Q R Answer x = refl
+has_push Q R Authority x = refl
+has_push Q R Additional x = refl
 
 module _ (room : Option ℕ) (grows : Bool) (rule : Rule) (stage : state.Stage) (old : Built) (pushed : RecordItem) where
   -- the answer to a push, for each state that the builder stands for

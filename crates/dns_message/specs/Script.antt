@@ -3,12 +3,10 @@ use Rattle.std.specs.Prelude.{◌≡◌, ℕ, Bool, true, false, Option, Ok, Err
 use Rattle.dns_wire.specs.Pieces.{Rule}
 use Rattle.dns_question.specs.Questions.{QuestionItem}
 use Rattle.dns_item.specs.Items.{RecordItem}
-use Rattle.dns_build.specs.Built.{Built, PushAnswers}
-use Rattle.dns_build.specs.Fold.{fold}
+use Rattle.dns_build.specs.Standing.{Built, PushAnswers, StandsFor}
+use Rattle.dns_build.specs.State.{fold, State, InBuilder, InQuestion, InAnswer, InAuthority, InAdditional, with_question, with_record, records_at, with_header, with_limit, no_limit, rewound, tc_rewound, move_to}
 use Rattle.dns_build.specs.MessageOf.{IsMessageOf}
-use Rattle.dns_build.specs.Standing.{StandsFor}
 use Rattle.dns_build.specs.State as state
-use Rattle.dns_build.specs.State.{State, InBuilder, InQuestion, InAnswer, InAuthority, InAdditional, with_question, with_record, records_at, with_header, with_limit, no_limit, rewound, tc_rewound, move_to}
 use Rattle.dns_message.specs.declared.script.Stage.{Stage}
 use Rattle.dns_message.specs.declared.script.Stage.TheVariants.{Builder, Question, Answer, Authority, Additional}
 use Rattle.dns_message.specs.declared.script.Call.{Call}

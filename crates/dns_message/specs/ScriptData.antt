@@ -1,6 +1,6 @@
 -- The data of a record of a script, as a type and parts. RFC 1035 section 3.3.
 use Rattle.std.specs.Prelude.{ℕ, List, [], ◌∷◌}
-use Rattle.dns_name.specs.NameLabels.{name_labels}
+use Rattle.dns_name.specs.NameReading.{name_labels}
 use Rattle.dns_wire.specs.Parts.{Part}
 use Rattle.dns_wire.specs.Parts.Part.{Octets, CompressibleName}
 use Rattle.dns_data.specs.A.{address_of}

@@ -16,6 +16,10 @@ pub(crate) enum Fault {
     Usage,
     /// The line with this number, from 1, can't be read, or its call is misplaced.
     BadLine(usize),
+    /// The input isn't hexadecimal digits, two for each octet, with white space between.
+    BadHex,
+    /// There are fewer octets than a header section has.
+    ShortMessage,
     /// Reading, writing or memory failed.
     Failed,
 }
@@ -50,7 +54,7 @@ impl Fault {
         ensures { result ≡ status_of self }
     {
         match self {
-            Fault::BadLine(_) => 1,
+            Fault::BadLine(_) | Fault::BadHex | Fault::ShortMessage => 1,
             Fault::Usage => 2,
             Fault::Failed => 3,
         }
@@ -63,6 +67,8 @@ impl Fault {
     {
         match self {
             Fault::BadLine(number) => writeln!(writer, "bad line {number}"),
+            Fault::BadHex => writeln!(writer, "bad hex"),
+            Fault::ShortMessage => writeln!(writer, "short message"),
             Fault::Usage => writeln!(writer, "usage: dnsmsg build TARGET | dnsmsg show"),
             Fault::Failed => writeln!(writer, "failed"),
         }

@@ -5,7 +5,7 @@
 //! that reading gives these back in order, that each compression pointer leads to an earlier label, that a push is refused
 //! only for room, memory, limit or count, and that a compressor's message is as short as its names can be spelled, where
 //! `Runs` of `specs/Script.antt` says so. It also has the work of the program `dnsmsg` (`tool`), which is safe and ends on
-//! every input; what it prints is tested.
+//! every input.
 #![tactic(auto)]
 
 pub mod builder {
@@ -31,7 +31,10 @@ pub mod header {
 
 pub mod message {
     //! Messages read lazily, and theorems on what reading them gives.
-    pub use dns_read::{Message, QuestionSection, RecordSection, Section, ShortMessage, laws};
+    pub use dns_read::{
+        AnyRecordIter, Message, MessageIter, QuestionSection, RecordIter, RecordSection, Section,
+        ShortMessage, laws, search_laws,
+    };
 }
 
 pub mod name {
@@ -57,6 +60,7 @@ pub mod data {
 }
 
 mod fault;
+mod hex;
 mod line;
 mod output;
 mod program;

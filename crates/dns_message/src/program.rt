@@ -1,12 +1,15 @@
 //! The work of the program `dnsmsg`.
-ghost use Rattle.std.specs.Prelude.{◌≤◌};
+ghost use Rattle.std.specs.Prelude.{◌≤◌, OnOk, IfErr};
+ghost use Rattle.dns_message.specs.ShowDigits.{Shows, IsFaultOf};
 
 use crate::fault::Fault;
 use crate::line::ScriptCall;
 use crate::script::{Reply, Stage, run};
-use crate::{line, output};
+use crate::{hex, line, output};
 use arrayvec::ArrayVec;
 use dns_build::MessageBuilder;
+use dns_read::Message;
+use dns_show::print_message;
 use dns_target::{HashCompressor, StaticCompressor, StreamTarget, TreeCompressor};
 use dns_wire::Composer;
 use std::alloc::{AllocError, Global};
@@ -31,17 +34,35 @@ enum Target {
 }
 
 impl Target {
+    fn of_word(word: &str) -> Option<Self> {
+        match word {
+            "plain" => Some(Target::Plain),
+            "fixed" => Some(Target::Fixed),
+            "stream" => Some(Target::Stream),
+            "static" => Some(Target::Static),
+            "tree" => Some(Target::Tree),
+            "hash" => Some(Target::Hash),
+            _ => None,
+        }
+    }
+}
+
+/// What the program is asked to do.
+#[derive(Clone, Copy, Debug)]
+enum Command {
+    /// Builds a message over a target.
+    Build(Target),
+    /// Prints a message.
+    Show,
+}
+
+impl Command {
     fn of_arguments(args: &[String]) -> Option<Self> {
-        let [verb, target] = args else {
-            return None;
-        };
-        match (verb.as_str(), target.as_str()) {
-            ("build", "plain") => Some(Target::Plain),
-            ("build", "fixed") => Some(Target::Fixed),
-            ("build", "stream") => Some(Target::Stream),
-            ("build", "static") => Some(Target::Static),
-            ("build", "tree") => Some(Target::Tree),
-            ("build", "hash") => Some(Target::Hash),
+        match args {
+            [verb] if verb.as_str() == "show" => Some(Command::Show),
+            [verb, target] if verb.as_str() == "build" => {
+                Some(Command::Build(Target::of_word(target.as_str())?))
+            }
             _ => None,
         }
     }
@@ -49,8 +70,10 @@ impl Target {
 
 /// Does what the program `dnsmsg` does with the words behind its name, and gives its exit status.
 ///
-/// `build TARGET` reads a script, builds a message over the target, and prints the replies and the octets. The status is
-/// 0; 1 where a line is bad; 2 for other words; 3 where reading, writing or memory fails, but for a push that is refused.
+/// `build TARGET` reads a script, builds a message over the target, and prints the replies and the octets. `show` reads a
+/// message in hexadecimal digits, and prints its header, its counts and its items. The status is 0; 1 where a line of a
+/// script is bad, and where the digits are no message; 2 for other words; 3 where reading, writing or memory fails, but for
+/// a push that is refused.
 pub fn tool<R: Read + Drop, W: Write + Drop>(
     alloc: Global,
     args: &[String],
@@ -83,33 +106,63 @@ fn perform<R: Read, W: Write>(
     reader: &mut R,
     writer: &mut W,
 ) -> Result<(), Fault> {
-    let Some(target) = Target::of_arguments(args) else {
+    let Some(command) = Command::of_arguments(args) else {
         return Err(Fault::Usage);
     };
-    let mut script = Vec::new(alloc);
-    reader.read_to_end(&mut script)?;
-    match target {
-        Target::Plain => print_build(alloc, Vec::new(alloc), &script, writer)?,
-        Target::Fixed => print_build(alloc, ArrayVec::<u8, 512>::new(), &script, writer)?,
-        Target::Stream => {
-            let built = build(alloc, StreamTarget::new_vec(alloc)?, &script, writer)?;
-            output::print_octets(alloc, writer, built.as_stream_slice())?;
-        }
-        Target::Static => {
-            let target = StaticCompressor::new(Vec::new(alloc));
-            print_build(alloc, target, &script, writer)?;
-        }
-        Target::Tree => {
-            let target = TreeCompressor::new(alloc, Vec::new(alloc));
-            print_build(alloc, target, &script, writer)?;
-        }
-        Target::Hash => {
-            let target = HashCompressor::new(alloc, Vec::new(alloc));
-            print_build(alloc, target, &script, writer)?;
-        }
+    let mut input = Vec::new(alloc);
+    reader.read_to_end(&mut input)?;
+    match command {
+        Command::Build(target) => build_over(alloc, target, &input, writer)?,
+        Command::Show => show_digits(alloc, &input, writer)?,
     }
     writer.flush()?;
     Ok(())
+}
+
+/// Prints the message whose octets hexadecimal digits write.
+fn show_digits<W: Write>(alloc: Global, digits: &[u8], writer: &mut W) -> Result<(), Fault>
+    ensures shows { OnOk result (Shows digits.now (W.contents writer.old)
+        (W.contents writer.new)) }
+    ensures fault { IfErr result (IsFaultOf digits.now) }
+{
+    let Some(octets) = hex::spaced_octets(alloc, digits)? else {
+        return Err(Fault::BadHex);
+    };
+    let Ok(message) = Message::from_slice(&octets) else {
+        return Err(Fault::ShortMessage);
+    };
+    print_message(writer, &message)?;
+    Ok(())
+}
+
+/// Builds a message over a target of a kind as a script says, and prints the replies and the octets.
+fn build_over<W: Write>(
+    alloc: Global,
+    target: Target,
+    script: &[u8],
+    writer: &mut W,
+) -> Result<(), Fault> {
+    match target {
+        Target::Plain => print_build(alloc, Vec::new(alloc), script, writer),
+        Target::Fixed => print_build(alloc, ArrayVec::<u8, 512>::new(), script, writer),
+        Target::Stream => {
+            let built = build(alloc, StreamTarget::new_vec(alloc)?, script, writer)?;
+            output::print_octets(alloc, writer, built.as_stream_slice())?;
+            Ok(())
+        }
+        Target::Static => {
+            let target = StaticCompressor::new(Vec::new(alloc));
+            print_build(alloc, target, script, writer)
+        }
+        Target::Tree => {
+            let target = TreeCompressor::new(alloc, Vec::new(alloc));
+            print_build(alloc, target, script, writer)
+        }
+        Target::Hash => {
+            let target = HashCompressor::new(alloc, Vec::new(alloc));
+            print_build(alloc, target, script, writer)
+        }
+    }
 }
 
 /// Builds a message over a target as a script says, and prints the replies and the octets.

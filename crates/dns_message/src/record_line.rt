@@ -1,6 +1,5 @@
 //! Records in the lines of a script.
-ghost use Rattle.std.specs.Prelude.{◌<◌, IfSome};
-
+use crate::hex;
 use crate::line::{BLANKS, number};
 use crate::script_data::ScriptData;
 use dns_code::{Class, Rtype};
@@ -129,7 +128,7 @@ fn opaque(
         [digits] => digits,
         _ => return Ok(None),
     };
-    let Some(octets) = hex_octets(alloc, digits)? else {
+    let Some(octets) = hex::octets(alloc, digits.as_bytes())? else {
         return Ok(None);
     };
     if number(len, 0xffff) != Some(octets.len()) {
@@ -139,26 +138,4 @@ fn opaque(
         Ok(data) => Ok(Some(ScriptData::Opaque(data))),
         Err(_) => Ok(None),
     }
-}
-
-/// The octets that hexadecimal digits write, two digits for each; `None` for any other text.
-fn hex_octets(alloc: Global, digits: &str) -> Result<Option<Vec<u8>>, AllocError> {
-    let mut octets = Vec::with_capacity(alloc, digits.len() / 2)?;
-    for pair in digits.as_bytes().chunks(2) {
-        let [high, low] = pair else {
-            return Ok(None);
-        };
-        let (Some(high), Some(low)) = (hex_value(*high), hex_value(*low)) else {
-            return Ok(None);
-        };
-        octets.push(high * 16 + low)?;
-    }
-    Ok(Some(octets))
-}
-
-/// The value of a hexadecimal digit.
-fn hex_value(digit: u8) -> Option<u8>
-    ensures { IfSome result (λ value. value < 16) }
-{
-    Some(char::from(digit).to_digit(16)? as u8)
 }

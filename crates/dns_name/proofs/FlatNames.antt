@@ -3,16 +3,12 @@ use Rattle.std.proofs.Common.{◌≡◌, ℕ, ◌+◌, ◌-◌, ◌≤◌, List,
 use Rattle.std.specs.Prelude.{Ok}
 use Rattle.std.proofs.lemmas.List.Elements.{All-head}
 use Rattle.std.proofs.Math.Seq.{drop-append_seam, take-append_seam}
-use Rattle.dns_name.specs.Names.{Labels, IsLabel, uncompressed}
-use Rattle.dns_name.specs.Heads.{head_at}
-use Rattle.dns_name.specs.Standing.{Stands, label_at}
+use Rattle.dns_name.specs.Names.{Labels, IsLabel, uncompressed, head_at, Stands, label_at}
 use Rattle.dns_name.specs.declared.head.Head.TheVariants.{Root, Label, Pointer}
 use Rattle.dns_name.proofs.theory.AnswerLaws.{standing_name}
-use Rattle.dns_name.proofs.theory.HeadLemmas.{root_begins, label_begins}
+use Rattle.dns_name.proofs.theory.HeadLemmas.{root_begins, label_begins, at_root, at_label, length_label}
 use Rattle.dns_name.proofs.theory.LabelsLemmas.{length-uncompressed}
-use Rattle.dns_name.proofs.Places.{at_root, at_label}
 use Rattle.dns_name.proofs.theory.Spelling.{drop_label, drop_root, get_drop}
-use Rattle.dns_name.proofs.Walks.{length_label}
 
 -- How far a name is known to stand without a pointer: labels lead from start to at, where the rest of it stands.
 pub record Flat (b : List ℕ) (start at : ℕ) (whole : Labels) : Type 0 where

@@ -1,7 +1,4 @@
 pub mod theory
-pub mod Walks
-pub mod Places
-pub mod Answered
 pub mod ParserLemmas
 pub mod NameOrderLemmas
 pub mod Orders

@@ -5,9 +5,8 @@ use Rattle.std.specs.Cmp.Lexicographic.{bytes_decides, on_texts, texts_ties}
 use Rattle.std.specs.List.{flat_map}
 use Rattle.std.proofs.lemmas.List.{append_cancel_right}
 use Rattle.dns_name.specs.Names.{Labels, with_root, lowered, framed, uncompressed}
-use Rattle.dns_name.specs.NameOrders.{name_order, composed_order}
+use Rattle.dns_name.specs.NameOrders.{name_order, composed_order, name_order-Decides}
 use Rattle.dns_name.specs.Laws.{NameOrderAgrees, ComposedOrderIsTotal, ComposedOrderAgrees}
-use Rattle.dns_name.specs.NameTies.{name_order-Decides}
 
 -- lists that begin with lists of one length have the same beginnings and the same ends
 append-injective : {A : Type 0} (xs ys us vs : List A) → length xs ≡ length ys → xs ++ us ≡ ys ++ vs → (xs ≡ ys) × (us ≡ vs)

@@ -52,21 +52,6 @@ label_more text size label left rest o x s short room =
       faults = λ f h. x.faults f (NameTextFaulty.octet s short room (subst (λ n. NameTextFaulty rest n size f) more h));
     }
 
--- the label is read
-pub label_end : (text : List ℕ) (size : ℕ) (label left : List ℕ) → InLabel text size label left → EndsLabel left → (0 < length left → 0 < length label)
-    → LabelFirst text size label left
-label_end text size [] [] x ends some = let h = x.some in absurd (omega (arith, h))
-label_end text size [] (c ∷ left) x ends some = let h = some (omega arith) in absurd (omega (arith, h))
-label_end text size (o ∷ label) left x ends some = record {
-  front = x.front;
-  whole = x.whole;
-  spelled = x.spelled;
-  is_label = record { some = omega arith; short = x.short };
-  room = x.room (omega arith);
-  ends = ends;
-  faults = x.faults;
-}
-
 -- The labels that are read so far have these octets. What is spelled behind them is spelled by the text with them, and a fault that is met behind them is one of the text.
 pub record InLabels (text octets left : List ℕ) : Type 0 where
   pub name : Labels
@@ -76,18 +61,6 @@ pub record InLabels (text octets left : List ℕ) : Type 0 where
   pub some : 0 < length left
   pub spelled : (rest : Labels) → SpellsLabels left rest → SpellsLabels text (name ++ rest)
   pub faults : (f : PresentationError) → NameTextFaulty left 0 (length octets) f → NameTextFaulty text 0 0 f
-
--- no label is read yet
-pub labels_start : (text : List ℕ) → 0 < length text → InLabels text [] text
-labels_start text some = record {
-  name = [];
-  same = refl;
-  labels = λ k d h. absurd (omega (arith, h));
-  room = omega arith;
-  some = some;
-  spelled = λ rest h. h;
-  faults = λ f h. h;
-}
 
 -- a list of one label
 one_label : (label : List ℕ) → IsLabel label → All IsLabel (label ∷ [])

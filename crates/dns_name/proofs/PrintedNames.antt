@@ -4,8 +4,7 @@ use Rattle.std.specs.Prelude.{All, not, if◌then◌else◌}
 use Rattle.std.proofs.lemmas.Bool.Decides.{nat_tests}
 use Rattle.std.proofs.lemmas.List.Elements.{All-head, All-tail}
 use Rattle.dns_name.specs.Names.{Labels}
-use Rattle.dns_name.specs.NameTexts.{zero_digit, backslash, is_special, is_graphic, is_digit, is_plain, decimal_value, decimal_text, octet_text, label_text, name_text, SpellsOctet, SpellsLabel, SpellsLabels}
-use Rattle.dns_name.specs.NameTextLaws.{PrintedNamesSpell}
+use Rattle.dns_name.specs.NameTexts.{zero_digit, backslash, is_special, is_graphic, is_digit, is_plain, decimal_value, decimal_text, octet_text, label_text, name_text, SpellsOctet, SpellsLabel, SpellsLabels, PrintedNamesSpell}
 
 special_graphic : (o : ℕ) → is_special o ≡ true → is_graphic o ≡ true
 special_graphic o h = grind (arith, nat_tests)

@@ -7,6 +7,4 @@ pub mod Spelling
 pub mod Steps
 pub mod NameLemmas
 pub mod NameTextFaults
-pub mod NameOrTextFault
-pub mod OneTextName
 pub mod Names

@@ -2,11 +2,8 @@
 use Rattle.std.specs.Prelude.{◌≡◌, ◌↔◌, ℕ, ◌⊎◌, List, Result, Ok, Err, IsOk, IsErrAnd}
 use Rattle.std.specs.Cmp.{IsTotalOrder}
 use Rattle.std.specs.declared.cmp.Ordering.TheVariants.{Equal}
-use Rattle.dns_name.specs.Fault.{Fault, fault_of}
-use Rattle.dns_name.specs.Names.{Labels, IsName, lowered}
+use Rattle.dns_name.specs.Names.{Fault, fault_of, Labels, IsName, lowered, Stands, FaultAt, Walked, SkipFaultAt}
 use Rattle.dns_name.specs.NameOrders.{name_order, composed_order, name_hash_input}
-use Rattle.dns_name.specs.Standing.{Stands, FaultAt}
-use Rattle.dns_name.specs.Walking.{Walked, SkipFaultAt}
 use Rattle.dns_name.specs.Parsers.{place}
 use Rattle.dns_name.specs.ParsedName.{ParsesName, SkipsName}
 use Rattle.dns_octets.specs.declared.error.ParseError.{ParseError}

@@ -1,14 +1,17 @@
 -- What reading names from texts answers. RFC 1035 section 5.1.
 use Rattle.std.specs.Prelude.{◌≡◌, ℕ, ◌≤◌, ◌<◌, ◌+◌, List, [], ◌∷◌, ◌++◌, length, Option, Some, None, Result, Ok, Err}
 use Rattle.std.specs.Borrow.{Bor}
-use Rattle.dns_name.specs.Names.{Labels, IsLabel, IsName, max_size, uncompressed}
-use Rattle.dns_name.specs.NameLabels.{name_labels}
-use Rattle.dns_name.specs.NameTexts.{dot, SpellsFirst, SpellsLabel, SpellsName, NameTextFaulty, NameTextFault}
 use Rattle.dns_octets.specs.declared.octets.Octets.{Ghosts}
+use Rattle.dns_name.specs.Names.{Labels, IsLabel, IsName, max_size, uncompressed}
 use Rattle.dns_name.specs.declared.name.Name.{Name}
+use Rattle.dns_name.specs.NameTexts.{dot, SpellsFirst, SpellsLabel, SpellsName, NameTextFaulty, NameTextFault}
 use Rattle.dns_name.specs.declared.name_error.PresentationError.{PresentationError}
 use Rattle.dns_name.specs.declared.name_error.FromStrError.{FromStrError}
 use Rattle.dns_name.specs.declared.name_error.FromStrError.TheVariants.{Presentation, ShortBuf, OutOfMemory}
+
+-- the labels of a name in octets of its own
+abbrev pub name_labels : {X : Type 0} {holder : Ghosts X} → Name X holder → Labels
+name_labels name = name.whole.0.0
 
 -- the first octet that the text spells, and the text behind it; or the fault there, whatever stands before it
 abbrev pub ReadsOctet : List ℕ → Result (ℕ × Bor (List ℕ)) PresentationError → Type 0

@@ -1,5 +1,5 @@
 -- Names as texts, a profile of the master file format. RFC 1035 section 5.1.
-use Rattle.std.specs.Prelude.{◌≡◌, ℕ, Bool, IsTrue, not, ◌==◌, ◌&&◌, ◌||◌, ◌+◌, ◌-◌, ◌*◌, ◌/◌, ◌%◌, ◌<◌, ◌≤◌, if◌then◌else◌, ◌⊎◌, List, [], ◌∷◌, ◌++◌, map}
+use Rattle.std.specs.Prelude.{◌≡◌, ℕ, Bool, IsTrue, not, ◌==◌, ◌&&◌, ◌||◌, ◌+◌, ◌-◌, ◌*◌, ◌/◌, ◌%◌, ◌<◌, ◌≤◌, if◌then◌else◌, ◌⊎◌, List, [], ◌∷◌, ◌++◌, map, All}
 use Rattle.std.specs.Int.{is_in_range}
 use Rattle.std.specs.List.{flat_map, join_with_byte}
 use Rattle.dns_name.specs.Names.{Labels, IsName, max_size}
@@ -100,3 +100,25 @@ pub data NameTextFaulty : List ℕ → ℕ → ℕ → PresentationError → Typ
 -- the leftmost fault of a text
 abbrev pub NameTextFault : List ℕ → PresentationError → Type 0
 NameTextFault text f = ((text ≡ []) × (f ≡ EmptyLabel)) ⊎ ((text ≡ dot ∷ [] → ⊥) × NameTextFaulty text 0 0 f)
+
+-- What holds of all texts of names.
+
+-- one fault at most is the leftmost of a text
+abbrev pub OneTextFault : Type 0
+OneTextFault = (text : List ℕ) (f g : PresentationError) → NameTextFault text f → NameTextFault text g → f ≡ g
+
+-- a text that spells a name has no fault
+abbrev pub TextNameOrFaultNotBoth : Type 0
+TextNameOrFaultNotBoth = (text : List ℕ) (name : Labels) (f : PresentationError) → SpellsName text name → NameTextFault text f → ⊥
+
+-- a text spells a name, or it has a fault
+abbrev pub TextNameOrFault : Type 0
+TextNameOrFault = (text : List ℕ) → ((name : Labels) × SpellsName text name) ⊎ ((f : PresentationError) × NameTextFault text f)
+
+-- a text spells one name at most
+abbrev pub OneTextName : Type 0
+OneTextName = (text : List ℕ) (m n : Labels) → SpellsName text m → SpellsName text n → m ≡ n
+
+-- the printed text of a name of octets spells it, but for the root
+abbrev pub PrintedNamesSpell : Type 0
+PrintedNamesSpell = (name : Labels) → IsName name → All (λ label. All (λ o. o < 256) label) name → (name ≡ [] → ⊥) → SpellsName (name_text name) name

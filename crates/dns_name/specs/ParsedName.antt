@@ -1,13 +1,12 @@
 -- What parsing and skipping a name answer. RFC 1035 section 4.1.4.
-use Rattle.std.specs.Prelude.{◌≡◌, ℕ, List, ◌++◌, drop, Result, Ok, Err, IsOkAnd}
-use Rattle.dns_name.specs.Fault.{fault_of}
-use Rattle.dns_name.specs.Names.{Labels, uncompressed}
-use Rattle.dns_name.specs.Standing.{Stands, FaultAt}
-use Rattle.dns_name.specs.Walking.{Walked, SkipFaultAt}
-use Rattle.dns_name.specs.Parsers.{seen, place, MovesTo}
+use Rattle.std.specs.Prelude.{◌≡◌, ℕ, List, ◌++◌, drop, Result, Ok, Err, IsOkAnd, [], ◌∷◌, take}
 use Rattle.dns_octets.specs.declared.error.ParseError.{ParseError}
+use Rattle.dns_name.specs.Names.{fault_of, Labels, uncompressed, Stands, FaultAt, Walked, SkipFaultAt, with_root}
+use Rattle.dns_name.specs.Parsers.{seen, place, MovesTo}
 use Rattle.dns_name.specs.declared.parser.Parser.{Parser}
 use Rattle.dns_name.specs.declared.parsed_name.ParsedName.{ParsedName}
+use Rattle.dns_name.specs.declared.label.Label.{Label}
+use Rattle.dns_name.specs.declared.label_iter.LabelIter.{LabelIter}
 
 -- the labels of a name
 abbrev pub labels : ParsedName → Labels
@@ -34,3 +33,16 @@ SkipsName old new (Err e) = SkipFaultAt (seen old) (place old) (fault_of e) × (
 -- a name that stands at the place is what is read
 abbrev pub ReadsStanding : List ℕ → ℕ → Result ParsedName ParseError → Type 0
 ReadsStanding b p result = (name : Labels) → Stands b p name → IsOkAnd result (λ r. labels r ≡ name)
+
+-- the octets of a label, without its length octet
+abbrev pub label_octets : Label → List ℕ
+label_octets label = label.octets.now
+
+-- the first label of a name, and the place where its other labels stand
+abbrev pub IsFirst : List ℕ → Labels → Label → ℕ → Type 0
+IsFirst b [] label behind = (label_octets label ≡ []) × Stands b behind []
+IsFirst b (first ∷ others) label behind = (label_octets label ≡ first) × Stands b behind others
+
+-- the labels that are left, the root label behind the others
+abbrev pub labels_left : LabelIter → Labels
+labels_left it = take it.labels_at.1.0 (with_root it.labels_at.0.0)

@@ -1,11 +1,9 @@
 -- Octets that are one name without pointers. RFC 1035 section 3.1.
 use Rattle.std.specs.Prelude.{◌≡◌, ℕ, List}
 use Rattle.std.proofs.Props.{props}
-use Rattle.dns_name.specs.Fault.{Fault}
-use Rattle.dns_name.specs.Fault.Fault.{Form}
-use Rattle.dns_name.specs.Names.{Labels, IsName, uncompressed}
+use Rattle.dns_name.specs.Names.{Fault, Labels, IsName, uncompressed, Walked, SkipFaultAt}
+use Rattle.dns_name.specs.Names.Fault.{Form}
 use Rattle.dns_name.specs.Unique.{NameAt, NameAt-prop}
-use Rattle.dns_name.specs.Walking.{Walked, SkipFaultAt}
 
 -- the octets are those of a name
 abbrev pub IsUncompressed : List ℕ → Type 0

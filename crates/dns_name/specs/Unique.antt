@@ -1,12 +1,9 @@
 -- At most one name stands at a place, and in one way. So a ghost field can hold the name.
-use Rattle.std.specs.Prelude.{◌≡◌, ℕ, ◌+◌, ◌<◌, ◌≤◌, List, [], ◌∷◌, length, Result, Ok}
-use Rattle.std.proofs.Common.{sym, ◌∙◌, ap, subst}
+use Rattle.std.specs.Prelude.{◌≡◌, ℕ, ◌+◌, ◌<◌, ◌≤◌, List, [], ◌∷◌, length, Result, Ok, zero, suc, take}
+use Rattle.std.proofs.Common.{sym, ◌∙◌, ap, subst, refl, arith}
 use Rattle.std.proofs.Props.{props}
-use Rattle.dns_name.specs.Fault.{Fault}
-use Rattle.dns_name.specs.Names.{Labels, name_size, max_size}
-use Rattle.dns_name.specs.Heads.{head_at}
-use Rattle.dns_name.specs.Standing.{Stands, label_at}
-use Rattle.dns_name.specs.Standing.Stands.{root, label, pointer}
+use Rattle.dns_name.specs.Names.{Fault, Labels, name_size, max_size, head_at, Stands, label_at, with_root}
+use Rattle.dns_name.specs.Names.Stands.{root, label, pointer}
 use Rattle.dns_name.specs.declared.head.Head.{Head}
 use Rattle.dns_name.specs.declared.head.Head.TheVariants.{Root, Label, Pointer}
 
@@ -83,3 +80,40 @@ NameOfSize b p size = (name : NameAt b p) × (name_size name.0 ≡ size)
 
 pub NameOfSize-prop : (b : List ℕ) (p size : ℕ) → IsProp (NameOfSize b p size)
 NameOfSize-prop b p size = hlevel (props, NameAt-prop b {p = p})
+
+-- The first labels of a name where it stands, by the octets that they take.
+
+-- so many of the labels take `left` octets, each with its length octet
+abbrev pub LabelsTake : Labels → ℕ → ℕ → Type 0
+LabelsTake labels left count = (count ≤ length labels) × (name_size (take count labels) ≡ left)
+
+-- the first labels of a name, the root label behind the others, that take `left` octets
+abbrev pub FrontOfSize : Labels → ℕ → Type 0
+FrontOfSize name left = (count : ℕ) × LabelsTake (with_root name) left count
+
+-- a name stands at the place, and has first labels that take `left` octets
+abbrev pub LabelsAt : List ℕ → ℕ → ℕ → Type 0
+LabelsAt b p left = (name : NameAt b p) × FrontOfSize name.0 left
+
+-- each label takes an octet at least
+pub one_count : (labels : Labels) (left j k : ℕ) → LabelsTake labels left j → LabelsTake labels left k → j ≡ k
+one_count labels left zero zero x y = refl
+one_count [] left zero (suc k) x y = absurd (omega (arith, y.0))
+one_count (first ∷ labels) left zero (suc k) x y = absurd (omega (arith, x.1, y.1))
+one_count [] left (suc j) k x y = absurd (omega (arith, x.0))
+one_count (first ∷ labels) left (suc j) zero x y = absurd (omega (arith, x.1, y.1))
+one_count (first ∷ labels) left (suc j) (suc k) x y =
+    ap suc (one_count labels (name_size (take j labels)) j k (omega (arith, x.0), refl) (omega (arith, y.0), omega (arith, x.1, y.1)))
+
+LabelsTake-prop : (labels : Labels) (left count : ℕ) → IsProp (LabelsTake labels left count)
+LabelsTake-prop labels left count = hlevel props
+
+FrontOfSize-prop : (name : Labels) (left : ℕ) → IsProp (FrontOfSize name left)
+FrontOfSize-prop name left x y =
+    let P : ℕ → Type 0 = λ count. (z : LabelsTake (with_root name) left count) → x ≡ (count, z) in
+    subst P (one_count (with_root name) left x.0 y.0 x.1 y.1) (λ z. ap (λ (w : LabelsTake (with_root name) left x.0). let front : FrontOfSize name left = (x.0, w) in front) (LabelsTake-prop (with_root name) left x.0 x.1 z)) y.1
+
+pub LabelsAt-prop : (b : List ℕ) (p left : ℕ) → IsProp (LabelsAt b p left)
+LabelsAt-prop b p left x y =
+    let P : NameAt b p → Type 0 = λ name. (z : FrontOfSize name.0 left) → x ≡ (name, z) in
+    subst P (NameAt-prop b x.0 y.0) (λ z. ap (λ (w : FrontOfSize x.0.0 left). let labels : LabelsAt b p left = (x.0, w) in labels) (FrontOfSize-prop x.0.0 left x.1 z)) y.1

@@ -81,8 +81,7 @@ pub(crate) fn hash_labels<H: Hasher>(name: &ParsedName<'_>, state: &mut H)
 impl PartialEq for ParsedName<'_> {
     ghost use Rattle.std.specs.Cmp.{on_equiv, partial_equiv_from_equiv};
     ghost use Rattle.std.specs.Ordering.{on};
-    ghost use Rattle.dns_name.specs.NameOrders.{names_equal};
-    ghost use Rattle.dns_name.specs.NameTies.{names_equal-equiv};
+    ghost use Rattle.dns_name.specs.NameOrders.{names_equal, names_equal-equiv};
 
     ghost eq = { on labels names_equal };
 
@@ -95,7 +94,7 @@ impl PartialEq for ParsedName<'_> {
 
 impl Eq for ParsedName<'_> {
     ghost use Rattle.std.specs.Cmp.{on_equiv};
-    ghost use Rattle.dns_name.specs.NameTies.{names_equal-equiv};
+    ghost use Rattle.dns_name.specs.NameOrders.{names_equal-equiv};
 
     ghost laws = { on_equiv labels names_equal-equiv };
 }
@@ -103,7 +102,7 @@ impl Eq for ParsedName<'_> {
 impl PartialOrd for ParsedName<'_> {
     ghost use Rattle.std.specs.Cmp.{on_po};
     ghost use Rattle.std.specs.Ordering.{on, as_partial_cmp};
-    ghost use Rattle.dns_name.specs.NameTies.{name_order-partial};
+    ghost use Rattle.dns_name.specs.NameOrders.{name_order-partial};
 
     ghost partial_cmp = { on labels (as_partial_cmp name_order) };
 
@@ -119,7 +118,7 @@ impl Ord for ParsedName<'_> {
     ghost use Rattle.std.proofs.Common.{refl};
     ghost use Rattle.std.specs.Cmp.{on_total};
     ghost use Rattle.std.specs.Ordering.{on};
-    ghost use Rattle.dns_name.specs.NameTies.{name_order-total, name_order-ties};
+    ghost use Rattle.dns_name.specs.NameOrders.{name_order-total, name_order-ties};
 
     ghost cmp = { on labels name_order };
 
@@ -135,7 +134,7 @@ impl Ord for ParsedName<'_> {
 }
 
 impl Hash for ParsedName<'_> {
-    ghost use Rattle.dns_name.specs.NameTies.{name_hash_input-alike};
+    ghost use Rattle.dns_name.specs.NameOrders.{name_hash_input-alike};
 
     ghost hash_input = { λ name. name_hash_input (labels name) };
 

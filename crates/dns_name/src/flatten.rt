@@ -2,9 +2,8 @@
 ghost use Rattle.std.specs.Prelude.{◌≡◌, ◌+◌, ◌≤◌, ◌++◌, length, ⊤};
 ghost use Rattle.arrayvec.specs.ArrayVec.{array_vec_len};
 ghost use Rattle.dns_octets.specs.Converts.{Converts};
-ghost use Rattle.dns_name.specs.Label.{label_octets};
-ghost use Rattle.dns_name.specs.NameLabels.{name_labels};
-ghost use Rattle.dns_name.specs.ParsedName.{labels};
+ghost use Rattle.dns_name.specs.ParsedName.{label_octets, labels};
+ghost use Rattle.dns_name.specs.NameReading.{name_labels};
 ghost use Rattle.dns_name.specs.Names.{framed, lowered, uncompressed};
 
 use crate::label::Label;

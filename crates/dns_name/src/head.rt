@@ -17,11 +17,10 @@ pub enum Head {
 }
 
 impl Head {
-    ghost use Rattle.dns_name.specs.Heads.{head_at};
-    ghost use Rattle.dns_name.specs.HeadAnswers.{Reads, BeginsOrFails};
+    ghost use Rattle.dns_name.specs.Names.{head_at, Reads, BeginsOrFails};
 
     /// What begins at the place.
-    #[tactic(auto, unfolding(crate::specs::Heads::head_at))]
+    #[tactic(auto, unfolding(crate::specs::Names::head_at))]
     pub(crate) fn at(octets: &[u8], place: usize) -> Result<Head, ParseError>
         ensures head { Reads result (head_at octets.now place) }
         ensures within { OnOk result (place < length octets.now) }

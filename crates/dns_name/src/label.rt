@@ -14,11 +14,10 @@ pub struct Label<'a> {
 }
 
 impl<'a> Label<'a> {
-    ghost use Rattle.dns_name.specs.Names.{Labels, lowered_label};
-    ghost use Rattle.dns_name.specs.Label.{label_octets, IsFirst};
+    ghost use Rattle.dns_name.specs.Names.{Labels, lowered_label, Stands};
+    ghost use Rattle.dns_name.specs.ParsedName.{label_octets, IsFirst};
     ghost use Rattle.dns_name.specs.NameOrders.{framed_order};
     ghost use Rattle.dns_name.specs.Unique.{NameAt};
-    ghost use Rattle.dns_name.specs.Standing.{Stands};
 
     pub(crate) fn new(octets: &'a [u8]) -> Self
         requires { length octets.now < 64 }
@@ -91,7 +90,7 @@ impl PartialEq for Label<'_> {
     ghost use Rattle.std.specs.Ordering.{on};
     ghost use Rattle.std.specs.Cmp.Lexicographic.{pointwise};
     ghost use Rattle.dns_name.specs.Names.{lowered_label};
-    ghost use Rattle.dns_name.specs.Label.{label_octets};
+    ghost use Rattle.dns_name.specs.ParsedName.{label_octets};
 
     ghost eq = { on (λ label. lowered_label (label_octets label)) (pointwise ◌==◌) };
 
@@ -114,7 +113,7 @@ impl PartialOrd for Label<'_> {
     ghost use Rattle.std.specs.Cmp.{partial_order_from_own_ties};
     ghost use Rattle.std.specs.Cmp.Rules.{comparing};
     ghost use Rattle.std.specs.Ordering.{on, as_partial_cmp};
-    ghost use Rattle.dns_name.specs.Label.{label_octets};
+    ghost use Rattle.dns_name.specs.ParsedName.{label_octets};
     ghost use Rattle.dns_name.specs.NameOrders.{label_order};
 
     ghost partial_cmp = { as_partial_cmp (on label_octets label_order) };
@@ -130,7 +129,7 @@ impl Ord for Label<'_> {
     ghost use Rattle.std.proofs.Common.{rules};
     ghost use Rattle.std.specs.Cmp.Rules.{comparing};
     ghost use Rattle.std.specs.Ordering.{on};
-    ghost use Rattle.dns_name.specs.Label.{label_octets};
+    ghost use Rattle.dns_name.specs.ParsedName.{label_octets};
     ghost use Rattle.dns_name.specs.NameOrders.{label_order};
 
     ghost cmp = { on label_octets label_order };
@@ -151,7 +150,7 @@ impl Ord for Label<'_> {
 impl Hash for Label<'_> {
     ghost use Rattle.std.proofs.Common.{rules};
     ghost use Rattle.std.specs.Cmp.Rules.{hashing};
-    ghost use Rattle.dns_name.specs.Label.{label_octets};
+    ghost use Rattle.dns_name.specs.ParsedName.{label_octets};
     ghost use Rattle.dns_name.specs.NameOrders.{label_hash_input};
 
     ghost hash_input = { λ label. label_hash_input (label_octets label) };

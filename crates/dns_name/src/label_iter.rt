@@ -1,5 +1,5 @@
 ghost use Rattle.std.specs.Prelude.{◌≡◌};
-ghost use Rattle.dns_name.specs.LabelsAt.{LabelsAt, LabelsAt-prop};
+ghost use Rattle.dns_name.specs.Unique.{LabelsAt, LabelsAt-prop};
 
 use crate::label::Label;
 
@@ -15,9 +15,8 @@ pub struct LabelIter<'a> {
 }
 
 impl<'a> LabelIter<'a> {
-    ghost use Rattle.dns_name.specs.Names.{Labels, with_root};
-    ghost use Rattle.dns_name.specs.LabelIter.{labels_left};
-    ghost use Rattle.dns_name.specs.Standing.{Stands};
+    ghost use Rattle.dns_name.specs.Names.{Labels, with_root, Stands};
+    ghost use Rattle.dns_name.specs.ParsedName.{labels_left};
     ghost use Rattle.dns_name.specs.Unique.{NameOfSize};
 
     /// The labels of the name at the place, which take so many octets.
@@ -36,8 +35,7 @@ impl<'a> LabelIter<'a> {
 
 impl<'a> Iterator for LabelIter<'a> {
     ghost use Rattle.std.specs.Iterator.{YieldsFirstBy, item_count};
-    ghost use Rattle.dns_name.specs.Label.{label_octets};
-    ghost use Rattle.dns_name.specs.LabelIter.{labels_left};
+    ghost use Rattle.dns_name.specs.ParsedName.{label_octets, labels_left};
 
     type Item = Label<'a>;
 
@@ -58,8 +56,7 @@ impl<'a> Iterator for LabelIter<'a> {
 
 impl DoubleEndedIterator for LabelIter<'_> {
     ghost use Rattle.std.specs.Iterator.{YieldsLastBy};
-    ghost use Rattle.dns_name.specs.Label.{label_octets};
-    ghost use Rattle.dns_name.specs.LabelIter.{labels_left};
+    ghost use Rattle.dns_name.specs.ParsedName.{label_octets, labels_left};
 
     ghost next_back_gives = { YieldsLastBy label_octets labels_left };
 

@@ -1,7 +1,7 @@
 //! Theorems on names in octets and as texts. The functions do nothing: each contract is a theorem over all octets and places, or all texts.
 ghost use Rattle.dns_name.specs.Laws.{NameOrFault, NameOrFaultNotBoth, OneName, OneFault, StandingNames, EndOrSkipFault, EndOrSkipFaultNotBoth, OneEnd, StandingNamesEnd, SkipFaultsAreFaults, SkippingEndsAlike, SkippingFailsAlike};
 ghost use Rattle.dns_name.specs.Laws.{NameOrderIsTotal, ComposedOrderIsTotal, NameOrderAgrees, ComposedOrderAgrees, EqualNamesHashAlike};
-ghost use Rattle.dns_name.specs.NameTextLaws.{OneTextFault, OneTextName, PrintedNamesSpell, TextNameOrFault, TextNameOrFaultNotBoth};
+ghost use Rattle.dns_name.specs.NameTexts.{OneTextFault, OneTextName, PrintedNamesSpell, TextNameOrFault, TextNameOrFaultNotBoth};
 
 /// At each place exactly one name stands or exactly one fault is met, never both.
 pub fn one_name_or_fault()

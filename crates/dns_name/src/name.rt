@@ -19,7 +19,7 @@ pub struct Name<Octs: Octets> {
 }
 
 impl Name<&'static [u8]> {
-    ghost use Rattle.dns_name.specs.NameLabels.{name_labels};
+    ghost use Rattle.dns_name.specs.NameReading.{name_labels};
 
     /// The root.
     pub fn root_slice() -> Self
@@ -30,9 +30,8 @@ impl Name<&'static [u8]> {
 }
 
 impl<Octs: Octets> Name<Octs> {
-    ghost use Rattle.dns_name.specs.Fault.{fault_of};
-    ghost use Rattle.dns_name.specs.Names.{uncompressed};
-    ghost use Rattle.dns_name.specs.NameLabels.{name_labels};
+    ghost use Rattle.dns_name.specs.Names.{fault_of, uncompressed};
+    ghost use Rattle.dns_name.specs.NameReading.{name_labels};
     ghost use Rattle.dns_name.specs.Uncompressed.{IsUncompressed, NotUncompressed};
 
     /// The name that all of the octets spell.
@@ -63,7 +62,7 @@ impl<Octs: Octets> Name<Octs> {
     }
 }
 
-ghost use Rattle.dns_name.specs.Fault.{fault_of};
+ghost use Rattle.dns_name.specs.Names.{fault_of};
 ghost use Rattle.dns_name.specs.Uncompressed.{IsUncompressed, NotUncompressed};
 
 /// Whether the octets are one name without pointers.
@@ -89,7 +88,7 @@ fn check(octets: &[u8]) -> Result<(), ParseError>
 impl<Octs: Octets> ToName for Name<Octs> {
     ghost use Rattle.std.specs.Prelude.{IsSome, IfSome};
     ghost use Rattle.dns_name.specs.Names.{uncompressed};
-    ghost use Rattle.dns_name.specs.NameLabels.{name_labels};
+    ghost use Rattle.dns_name.specs.NameReading.{name_labels};
 
     ghost name = { λ n. name_labels n };
 
@@ -110,7 +109,7 @@ impl<Octs: Octets> ToName for Name<Octs> {
 /// A clone of the holder. One that doesn't hold the same octets is answered by `AllocError`.
 impl<Octs: Octets + Clone> Clone for Name<Octs> {
     ghost use Rattle.std.specs.Prelude.{◌≡◌};
-    ghost use Rattle.dns_name.specs.NameLabels.{name_labels};
+    ghost use Rattle.dns_name.specs.NameReading.{name_labels};
 
     ghost is_clone = { λ name clone. name_labels clone ≡ name_labels name };
 
@@ -128,9 +127,8 @@ impl<Octs: Octets + Copy> Copy for Name<Octs> {}
 impl<Octs: Octets> PartialEq for Name<Octs> {
     ghost use Rattle.std.specs.Cmp.{on_equiv, partial_equiv_from_equiv};
     ghost use Rattle.std.specs.Ordering.{on};
-    ghost use Rattle.dns_name.specs.NameLabels.{name_labels};
-    ghost use Rattle.dns_name.specs.NameOrders.{names_equal};
-    ghost use Rattle.dns_name.specs.NameTies.{names_equal-equiv};
+    ghost use Rattle.dns_name.specs.NameReading.{name_labels};
+    ghost use Rattle.dns_name.specs.NameOrders.{names_equal, names_equal-equiv};
 
     ghost eq = { on (λ n. name_labels n) names_equal };
 
@@ -143,8 +141,8 @@ impl<Octs: Octets> PartialEq for Name<Octs> {
 
 impl<Octs: Octets> Eq for Name<Octs> {
     ghost use Rattle.std.specs.Cmp.{on_equiv};
-    ghost use Rattle.dns_name.specs.NameLabels.{name_labels};
-    ghost use Rattle.dns_name.specs.NameTies.{names_equal-equiv};
+    ghost use Rattle.dns_name.specs.NameReading.{name_labels};
+    ghost use Rattle.dns_name.specs.NameOrders.{names_equal-equiv};
 
     ghost laws = { on_equiv (λ n. name_labels n) names_equal-equiv };
 }
@@ -152,9 +150,8 @@ impl<Octs: Octets> Eq for Name<Octs> {
 impl<Octs: Octets> PartialOrd for Name<Octs> {
     ghost use Rattle.std.specs.Cmp.{on_po};
     ghost use Rattle.std.specs.Ordering.{on, as_partial_cmp};
-    ghost use Rattle.dns_name.specs.NameLabels.{name_labels};
-    ghost use Rattle.dns_name.specs.NameOrders.{name_order};
-    ghost use Rattle.dns_name.specs.NameTies.{name_order-partial};
+    ghost use Rattle.dns_name.specs.NameReading.{name_labels};
+    ghost use Rattle.dns_name.specs.NameOrders.{name_order, name_order-partial};
 
     ghost partial_cmp = { on (λ n. name_labels n) (as_partial_cmp name_order) };
 
@@ -170,9 +167,8 @@ impl<Octs: Octets> Ord for Name<Octs> {
     ghost use Rattle.std.proofs.Common.{refl};
     ghost use Rattle.std.specs.Cmp.{on_total};
     ghost use Rattle.std.specs.Ordering.{on};
-    ghost use Rattle.dns_name.specs.NameLabels.{name_labels};
-    ghost use Rattle.dns_name.specs.NameOrders.{name_order};
-    ghost use Rattle.dns_name.specs.NameTies.{name_order-total, name_order-ties};
+    ghost use Rattle.dns_name.specs.NameReading.{name_labels};
+    ghost use Rattle.dns_name.specs.NameOrders.{name_order, name_order-total, name_order-ties};
 
     ghost cmp = { on (λ n. name_labels n) name_order };
 
@@ -188,9 +184,8 @@ impl<Octs: Octets> Ord for Name<Octs> {
 }
 
 impl<Octs: Octets> Hash for Name<Octs> {
-    ghost use Rattle.dns_name.specs.NameLabels.{name_labels};
-    ghost use Rattle.dns_name.specs.NameOrders.{name_hash_input};
-    ghost use Rattle.dns_name.specs.NameTies.{name_hash_input-alike};
+    ghost use Rattle.dns_name.specs.NameReading.{name_labels};
+    ghost use Rattle.dns_name.specs.NameOrders.{name_hash_input, name_hash_input-alike};
 
     ghost hash_input = { λ n. name_hash_input (name_labels n) };
 

@@ -1,7 +1,7 @@
 //! Conversions of names between holders of octets.
 ghost use Rattle.std.specs.Prelude.{◌≡◌, ◌<◌, length, ⊤};
 ghost use Rattle.dns_octets.specs.Converts.{Converts};
-ghost use Rattle.dns_name.specs.NameLabels.{name_labels};
+ghost use Rattle.dns_name.specs.NameReading.{name_labels};
 ghost use Rattle.dns_name.specs.Names.{uncompressed};
 
 use crate::name::Name;

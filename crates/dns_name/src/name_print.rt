@@ -1,10 +1,9 @@
 //! Names printed, in a profile of the master file format (RFC 1035 section 5.1).
 ghost use Rattle.std.specs.Prelude.{◌≡◌, Some, ℕ};
 ghost use Rattle.std.specs.Fmt.{WritesOnOk};
-ghost use Rattle.dns_name.specs.Label.{label_octets};
-ghost use Rattle.dns_name.specs.NameLabels.{name_labels};
+ghost use Rattle.dns_name.specs.ParsedName.{label_octets, labels};
+ghost use Rattle.dns_name.specs.NameReading.{name_labels};
 ghost use Rattle.dns_name.specs.NameTexts.{decimal_text, label_text, name_text, octet_text};
-ghost use Rattle.dns_name.specs.ParsedName.{labels};
 
 use crate::label::Label;
 use crate::name::Name;

@@ -17,12 +17,10 @@ pub struct ParsedName<'a> {
 }
 
 impl<'a> ParsedName<'a> {
-    ghost use Rattle.dns_name.specs.Names.{Labels, uncompressed, with_root};
+    ghost use Rattle.dns_name.specs.Names.{Labels, uncompressed, with_root, Stands};
     ghost use Rattle.dns_name.specs.Parsers.{seen, place};
-    ghost use Rattle.dns_name.specs.ParsedName.{labels, ParsesName, SkipsName, ReadsStanding, IsFlat};
-    ghost use Rattle.dns_name.specs.Standing.{Stands};
+    ghost use Rattle.dns_name.specs.ParsedName.{labels, ParsesName, SkipsName, ReadsStanding, IsFlat, labels_left};
     ghost use Rattle.dns_name.specs.Uncompressed.{WholeName};
-    ghost use Rattle.dns_name.specs.LabelIter.{labels_left};
 
     /// Reads the name that stands at the parser's place, and moves behind the octets that it takes there.
     ///

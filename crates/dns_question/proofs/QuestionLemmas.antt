@@ -1,18 +1,15 @@
 -- What parsing and skipping a question answer.
 use Rattle.std.proofs.Common.{◌≡◌, ℕ, ◌+◌, ◌<◌, ◌≤◌, List, length, arith, ap, sym, ◌∙◌, refl, subst}
 use Rattle.std.specs.Int.{w16}
-use Rattle.dns_name.specs.Fault.{fault_of}
-use Rattle.dns_name.specs.Names.{Labels}
+use Rattle.dns_name.specs.Names.{fault_of, Labels, Stands}
 use Rattle.dns_name.specs.ParsedName.{MovesBehindName}
 use Rattle.dns_name.specs.Parsers.{seen, place, number_at, MovesTo}
-use Rattle.dns_name.specs.Standing.{Stands}
 use Rattle.dns_octets.specs.declared.error.ParseError.{ParseError}
 use Rattle.dns_octets.specs.declared.error.ParseError.TheVariants.{ShortInput}
 use Rattle.dns_name.specs.declared.parser.Parser.{Parser}
-use Rattle.dns_question.specs.Questions.{QuestionItem}
-use Rattle.dns_question.specs.QuestionEntries.{ReadsQuestion, QuestionFaultAt, QuestionSkipFaultAt}
-use Rattle.dns_question.specs.QuestionEntries.QuestionFaultAt.{short as short_question}
-use Rattle.dns_question.specs.QuestionEntries.QuestionSkipFaultAt.{short as unended_question}
+use Rattle.dns_question.specs.Questions.{QuestionItem, ReadsQuestion, QuestionFaultAt, QuestionSkipFaultAt}
+use Rattle.dns_question.specs.BehindNames.FieldsFaultAt.{short as short_question}
+use Rattle.dns_question.specs.BehindNames.FieldsSkipFaultAt.{short as unended_question}
 
 -- the octets behind a passed name that ends at the place are too few
 pub unended : (old mid : Parser) (e : ParseError) → MovesBehindName old mid → length (seen mid) < place mid + 4 → e ≡ ShortInput → QuestionSkipFaultAt (seen old) (place old) (fault_of e)

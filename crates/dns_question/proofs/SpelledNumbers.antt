@@ -9,13 +9,13 @@ use Rattle.std.proofs.lemmas.Bool.{cases_lt, cases_Bool}
 use Rattle.std.proofs.lemmas.List.{length-map}
 use Rattle.std.proofs.lemmas.Slice.Eq.{bytes_eq-Decides}
 use Rattle.std.proofs.Math.Seq.{take-append_seam}
-use Rattle.dns_code.specs.Classes.{SpellsClass}
-use Rattle.dns_code.specs.Mnemonics.{Mnemonics, type_mnemonics, class_mnemonics}
-use Rattle.dns_code.specs.NumberTexts.{IsMnemonic, IsNumbered, Spells}
-use Rattle.dns_code.specs.Tables.{is_distinct, is_apart}
-use Rattle.dns_code.specs.Types.{SpellsType}
-use Rattle.dns_code.proofs.theory.MnemonicLemmas.{is_text, one_number}
-use Rattle.dns_code.proofs.theory.NumberedLemmas.{numbered_is, spells_mnemonic, spells_numbered}
+use Rattle.dns_number.specs.Classes.{SpellsClass}
+use Rattle.dns_number.specs.Mnemonics.{Mnemonics, type_mnemonics, class_mnemonics}
+use Rattle.dns_number.specs.NumberTexts.{IsMnemonic, IsNumbered, Spells}
+use Rattle.dns_number.specs.Tables.{is_distinct, is_apart}
+use Rattle.dns_number.specs.Types.{SpellsType}
+use Rattle.dns_number.proofs.theory.MnemonicLemmas.{is_text, one_number}
+use Rattle.dns_number.proofs.theory.NumberedLemmas.{numbered_is, spells_mnemonic, spells_numbered}
 
 -- a fact holds of one number, or of none
 abbrev pub OneOrNone : (ℕ → Type 0) → Type 0

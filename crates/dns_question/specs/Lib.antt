@@ -1,10 +1,4 @@
+pub mod BehindNames
 pub mod Questions
-pub mod QuestionEntries
-pub mod QuestionLaws
 pub mod Question
-pub mod QuestionErrors
-pub mod Words
 pub mod QuestionTexts
-pub mod QuestionReading
-pub mod QuestionPrinting
-pub mod QuestionTextLaws

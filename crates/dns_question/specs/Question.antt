@@ -1,14 +1,14 @@
 -- The fields of a question, and what parsing and skipping one answer. RFC 1035 section 4.1.2.
-use Rattle.std.specs.Prelude.{◌≡◌, ℕ, Result, Ok, Err}
-use Rattle.dns_name.specs.Fault.{fault_of}
-use Rattle.dns_name.specs.Names.{Labels}
+use Rattle.std.specs.Prelude.{◌≡◌, ℕ, Result, Ok, Err, List, ◌++◌, ◌∷◌, Option, option_map, codes}
+use Rattle.dns_octets.specs.declared.error.ParseError.{ParseError}
+use Rattle.dns_name.specs.Names.{fault_of, Labels}
 use Rattle.dns_name.specs.ParsedName.{labels}
 use Rattle.dns_name.specs.Parsers.{seen, place, MovesTo}
-use Rattle.dns_octets.specs.declared.error.ParseError.{ParseError}
 use Rattle.dns_name.specs.declared.parsed_name.ParsedName.{ParsedName}
 use Rattle.dns_name.specs.declared.parser.Parser.{Parser}
-use Rattle.dns_question.specs.QuestionEntries.{SkipsQuestion, ReadsQuestion, QuestionFaultAt, QuestionSkipFaultAt}
-use Rattle.dns_question.specs.Questions.{QuestionItem}
+use Rattle.dns_number.specs.Classes.{class_text}
+use Rattle.dns_number.specs.Types.{type_text}
+use Rattle.dns_question.specs.Questions.{SkipsQuestion, ReadsQuestion, QuestionFaultAt, QuestionSkipFaultAt, QuestionItem}
 use Rattle.dns_question.specs.declared.question.Question.{Question}
 
 -- the fields
@@ -44,3 +44,17 @@ ParsesQuestion old new (Err e) = QuestionFaultAt (seen old) (place old) (fault_o
 abbrev pub SkipsOverQuestion : Parser → Parser → Result Unit ParseError → Type 0
 SkipsOverQuestion old new (Ok _) = SkipsQuestion (seen old) (place old) (place new) × MovesTo old new (place new)
 SkipsOverQuestion old new (Err e) = QuestionSkipFaultAt (seen old) (place old) (fault_of e) × (new ≡ old)
+
+-- How questions are printed. RFC 1035 section 5.1.
+
+-- the octet of a tab
+abbrev pub tab : ℕ
+tab = 0x09
+
+-- the text of a question whose name has this text
+abbrev pub fields_text : List ℕ → ℕ → ℕ → List ℕ
+fields_text name rtype class = name ++ codes "." ++ tab ∷ type_text rtype ++ tab ∷ class_text class
+
+-- how a question is printed, where it is known how its name is
+abbrev pub question_text : {N : Type 0} → (N → Option (List ℕ)) → Question N → Option (List ℕ)
+question_text name_text q = option_map (λ name. fields_text name (qtype_of q) (qclass_of q)) (name_text (qname_of q))

@@ -1,14 +1,46 @@
 -- Questions as texts, a profile of the master file format. RFC 1035 section 5.1.
-use Rattle.std.specs.Prelude.{ℕ, List, [], ◌∷◌, Result, Ok, Err}
+use Rattle.std.specs.Prelude.{ℕ, ◌<◌, List, [], ◌∷◌, ◌++◌, length, Result, Ok, Err, ◌≡◌, Option, Some, None}
+use Rattle.std.specs.Char.{is_whitespace, is_not_whitespace}
+use Rattle.std.specs.Str.{NoCharPasses, EmptyOrStartsWithPassing, IsUtf8}
+use Rattle.std.specs.Borrow.{Bor}
+use Rattle.dns_octets.specs.declared.octets.Octets.{Ghosts}
 use Rattle.dns_name.specs.Names.{Labels}
 use Rattle.dns_name.specs.NameTexts.{SpellsName, NameTextFault}
-use Rattle.dns_name.specs.declared.name_error.PresentationError.{PresentationError}
-use Rattle.dns_code.specs.Types.{SpellsType}
-use Rattle.dns_code.specs.Classes.{SpellsClass}
+use Rattle.dns_name.specs.declared.name_error.PresentationError.{PresentationError as NamePresentationError}
+use Rattle.dns_name.specs.declared.name_error.FromStrError.{FromStrError as NameError}
+use Rattle.dns_name.specs.declared.name_error.FromStrError.TheVariants.{Presentation as NamePresentation, ShortBuf as NameShortBuf, OutOfMemory as NameOutOfMemory}
+use Rattle.dns_name.specs.NameReading.{name_labels}
+use Rattle.dns_name.specs.declared.name.Name.{Name}
+use Rattle.dns_number.specs.Types.{SpellsType}
+use Rattle.dns_number.specs.Classes.{SpellsClass}
 use Rattle.dns_question.specs.Questions.{QuestionItem}
-use Rattle.dns_question.specs.Words.{AreWords}
 use Rattle.dns_question.specs.declared.question_error.PresentationErrorEnum.{PresentationErrorEnum}
 use Rattle.dns_question.specs.declared.question_error.PresentationErrorEnum.TheVariants.{BadName, MissingQname, MissingClassAndQtype, MissingQtype, BadClass, BadQtype, TrailingData}
+use Rattle.dns_question.specs.declared.question_error.FromStrError.{FromStrError}
+use Rattle.dns_question.specs.declared.question_error.FromStrError.TheVariants.{Presentation, ShortBuf, OutOfMemory}
+use Rattle.dns_question.specs.declared.question_error.PresentationError.{PresentationError}
+use Rattle.dns_question.specs.Question.{question_item}
+use Rattle.dns_question.specs.declared.question.Question.{Question}
+
+-- The words of a text, as RFC 1035 section 5.1 has them, but between Unicode white space.
+
+-- nothing but white space
+abbrev pub IsGap : List ℕ → Type 0
+IsGap text = NoCharPasses is_not_whitespace text
+
+-- characters, none of which is white space
+pub record IsWord (text : List ℕ) : Type 0 where
+  pub some : 0 < length text
+  pub no_white : NoCharPasses is_whitespace text
+
+-- nothing, or white space and whatever stands behind it
+abbrev pub StartsWhite : List ℕ → Type 0
+StartsWhite text = (behind : List ℕ) × EmptyOrStartsWithPassing is_whitespace text behind
+
+-- the words of a text from the left, each as long as it can be
+pub data AreWords : List ℕ → List (List ℕ) → Type 0 where
+  none : {gap : List ℕ} → IsGap gap → AreWords gap []
+  word : {gap word text : List ℕ} {words : List (List ℕ)} → IsGap gap → IsWord word → StartsWhite text → AreWords text words → AreWords (gap ++ (word ++ text)) (word ∷ words)
 
 -- the class IN
 abbrev pub class_in : ℕ
@@ -16,11 +48,11 @@ class_in = 1
 
 -- no type is spelled
 abbrev pub SpellsNoType : List ℕ → Type 0
-SpellsNoType word = (n : ℕ) → SpellsType word n → ⊥
+SpellsNoType a = (n : ℕ) → SpellsType a n → ⊥
 
 -- no class is spelled
 abbrev pub SpellsNoClass : List ℕ → Type 0
-SpellsNoClass word = (n : ℕ) → SpellsClass word n → ⊥
+SpellsNoClass a = (n : ℕ) → SpellsClass a n → ⊥
 
 -- the question for a name, a type and a class
 abbrev pub asks : Labels → ℕ → ℕ → QuestionItem
@@ -33,7 +65,7 @@ Answer = Result QuestionItem PresentationErrorEnum
 -- What words are read as: a name, and behind it a type, or a type and a class in any order. Whatever stands before a fault is right.
 pub data ReadsWords : List (List ℕ) → Answer → Type 0 where
   no_name : ReadsWords [] (Err MissingQname)
-  bad_name : {a : List ℕ} {more : List (List ℕ)} {f : PresentationError} → NameTextFault a f → ReadsWords (a ∷ more) (Err (BadName f))
+  bad_name : {a : List ℕ} {more : List (List ℕ)} {f : NamePresentationError} → NameTextFault a f → ReadsWords (a ∷ more) (Err (BadName f))
   name_alone : {a : List ℕ} {name : Labels} → SpellsName a name → ReadsWords (a ∷ []) (Err MissingClassAndQtype)
   class_alone : {a b : List ℕ} {name : Labels} {class : ℕ} → SpellsName a name → SpellsClass b class → ReadsWords (a ∷ b ∷ []) (Err MissingQtype)
   no_type_behind_class : {a b c : List ℕ} {more : List (List ℕ)} {name : Labels} {class : ℕ} → SpellsName a name → SpellsClass b class → SpellsNoType c
@@ -55,3 +87,72 @@ pub record ReadsText (text : List ℕ) (answer : Answer) : Type 0 where
   pub words : List (List ℕ)
   pub are_words : AreWords text words
   pub reads : ReadsWords words answer
+
+-- What holds of all texts of questions.
+
+-- every text is read as something
+abbrev pub EachTextAnswered : Type 0
+EachTextAnswered = (text : List ℕ) → IsUtf8 text → (answer : Answer) × ReadsText text answer
+
+-- and as one thing
+abbrev pub OneTextAnswer : Type 0
+OneTextAnswer = (text : List ℕ) (x y : Answer) → ReadsText text x → ReadsText text y → x ≡ y
+
+-- so is every list of words
+abbrev pub EachWordsAnswered : Type 0
+EachWordsAnswered = (words : List (List ℕ)) → (answer : Answer) × ReadsWords words answer
+
+abbrev pub OneWordsAnswer : Type 0
+OneWordsAnswer = (words : List (List ℕ)) (x y : Answer) → ReadsWords words x → ReadsWords words y → x ≡ y
+
+-- What reading questions from texts answers. RFC 1035 section 5.1.
+
+-- Why a question can't be read from a text. RFC 1035 section 5.1.
+
+-- what is wrong
+abbrev pub kind_of : PresentationError → PresentationErrorEnum
+kind_of error = error.0
+
+-- the error tells that this is wrong with the text
+abbrev pub IsKind : PresentationErrorEnum → FromStrError → Type 0
+IsKind kind e = (error : PresentationError) × (e ≡ Presentation error) × (kind_of error ≡ kind)
+
+-- the error of a question whose name has this error
+abbrev pub IsErrorOfName : NameError → FromStrError → Type 0
+IsErrorOfName (NamePresentation fault) e = IsKind (BadName fault) e
+IsErrorOfName NameShortBuf e = e ≡ ShortBuf
+IsErrorOfName NameOutOfMemory e = e ≡ OutOfMemory
+
+-- a type and a class, or what is wrong with the words for them
+abbrev pub Fields : Type 0
+Fields = Result (ℕ × ℕ) PresentationErrorEnum
+
+-- what is read of the name and of the words behind it
+abbrev pub named : Labels → Fields → Answer
+named name (Ok (rtype, class)) = Ok (asks name rtype class)
+named name (Err f) = Err f
+
+-- behind every word that spells a name, the words are read so
+abbrev pub ReadsBehindName : List (List ℕ) → Fields → Type 0
+ReadsBehindName words fields = (a : List ℕ) (name : Labels) → SpellsName a name → ReadsWords (a ∷ words) (named name fields)
+
+-- What is read of the second word and of the third, if there is one. A fault of three words is one whatever stands behind them.
+abbrev pub ReadsFields : List ℕ → Option (Bor (List ℕ)) → Fields → Type 0
+ReadsFields b None fields = ReadsBehindName (b ∷ []) fields
+ReadsFields b (Some c) (Ok x) = ReadsBehindName (b ∷ c.now ∷ []) (Ok x)
+ReadsFields b (Some c) (Err f) = (more : List (List ℕ)) → ReadsBehindName (b ∷ c.now ∷ more) (Err f)
+
+-- what is read of the text behind the first word
+abbrev pub ReadsTextBehindName : List ℕ → Fields → Type 0
+ReadsTextBehindName text fields = IsUtf8 text → (words : List (List ℕ)) × AreWords text words × ReadsBehindName words fields
+
+-- What is wrong with the text. Nothing else is wrong but a want of memory, where memory is taken.
+abbrev pub ReadsFault : Type 0 → List ℕ → FromStrError → Type 0
+ReadsFault Memory text (Presentation error) = ReadsText text (Err (kind_of error))
+ReadsFault Memory text ShortBuf = ⊥
+ReadsFault Memory text OutOfMemory = Memory
+
+-- the question that the text is read as, or what is wrong
+abbrev pub ReadsQuestionText : {X : Type 0} {holder : Ghosts X} → Type 0 → List ℕ → Result (Question (Name X holder)) FromStrError → Type 0
+ReadsQuestionText Memory text (Ok question) = ReadsText text (Ok (question_item name_labels question))
+ReadsQuestionText Memory text (Err e) = ReadsFault Memory text e

@@ -36,7 +36,7 @@ pub enum PresentationErrorEnum {
 pub struct PresentationError(PresentationErrorEnum);
 
 impl PresentationError {
-    ghost use Rattle.dns_question.specs.QuestionErrors.{kind_of};
+    ghost use Rattle.dns_question.specs.QuestionTexts.{kind_of};
 
     /// What is wrong.
     pub fn kind(&self) -> PresentationErrorEnum
@@ -48,7 +48,7 @@ impl PresentationError {
 
 /// The fault of the name.
 impl From<name::PresentationError> for PresentationError {
-    ghost use Rattle.dns_question.specs.QuestionErrors.{kind_of};
+    ghost use Rattle.dns_question.specs.QuestionTexts.{kind_of};
     ghost use Rattle.dns_question.specs.declared.question_error.PresentationErrorEnum.TheVariants.{BadName};
 
     ghost from_gives = { λ fault error. kind_of error ≡ BadName fault };
@@ -73,7 +73,7 @@ pub enum FromStrError {
 }
 
 impl FromStrError {
-    ghost use Rattle.dns_question.specs.QuestionErrors.{IsKind};
+    ghost use Rattle.dns_question.specs.QuestionTexts.{IsKind};
 
     pub(crate) fn of_kind(kind: PresentationErrorEnum) -> Self
         ensures { IsKind kind result }
@@ -84,7 +84,7 @@ impl FromStrError {
 
 /// The same error; the fault of a name is that of the question.
 impl From<name::FromStrError> for FromStrError {
-    ghost use Rattle.dns_question.specs.QuestionErrors.{IsErrorOfName};
+    ghost use Rattle.dns_question.specs.QuestionTexts.{IsErrorOfName};
 
     ghost from_gives = { IsErrorOfName };
 

@@ -4,7 +4,7 @@ use std::fmt;
 
 /// The name, a dot, a tab, the type, a tab and the class.
 impl<N: fmt::Display> fmt::Display for Question<N> {
-    ghost use Rattle.dns_question.specs.QuestionPrinting.{question_text};
+    ghost use Rattle.dns_question.specs.Question.{question_text};
 
     ghost output = { question_text N.output };
 

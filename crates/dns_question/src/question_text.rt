@@ -1,9 +1,8 @@
 //! Questions read from texts (RFC 1035 section 5.1).
 ghost use Rattle.std.specs.Prelude.{◌≡◌, ℕ, List, ⊤};
 ghost use Rattle.std.specs.Str.Iter.{split_whitespace_rest};
-ghost use Rattle.dns_code.specs.Classes.{SpellsClass};
-ghost use Rattle.dns_question.specs.QuestionReading.{ReadsFields, ReadsQuestionText, ReadsTextBehindName};
-ghost use Rattle.dns_question.specs.QuestionTexts.{SpellsNoClass};
+ghost use Rattle.dns_number.specs.Classes.{SpellsClass};
+ghost use Rattle.dns_question.specs.QuestionTexts.{ReadsFields, ReadsQuestionText, ReadsTextBehindName, SpellsNoClass};
 
 use crate::question::Question;
 use crate::question_error::{FromStrError, PresentationErrorEnum};

@@ -1,8 +1,6 @@
-pub mod theory
-pub mod ReadingLemmas
-pub mod StartLemmas
-pub mod RecordsFromLemmas
 pub mod HeaderLemmas
-pub mod CursorLemmas
-pub mod SkipLemmas
-pub mod SectionLemmas
+pub mod theory
+pub mod MessageIterLemmas
+pub mod RecordSearchLemmas
+pub mod NthNameLemmas
+pub mod ReadingItems

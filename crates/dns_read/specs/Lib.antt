@@ -1,11 +1,5 @@
-pub mod Reading
-pub mod Sections
-pub mod Readings
-pub mod Unique
-pub mod QuestionsFrom
-pub mod RecordsFrom
-pub mod Skipping
-pub mod QuestionSection
-pub mod RecordSection
 pub mod Message
 pub mod Searches
+pub mod SectionStarts
+pub mod MessageIter
+pub mod RecordSearches

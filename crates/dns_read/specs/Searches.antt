@@ -1,15 +1,14 @@
 -- What is looked for in the questions of a message, as functions of their reading. RFC 1035 section 4.1.
 --
 -- `b` are the octets of the message.
-use Rattle.std.specs.Prelude.{◌≡◌, ℕ, ◌⊎◌, Bool, false, ◌&&◌, ◌==◌, List, [], ◌∷◌, take, Option, Some, None, option_map, Result, Ok, Err}
-use Rattle.std.specs.Cmp.Lexicographic.{pointwise}
-use Rattle.dns_name.specs.Fault.{Fault}
-use Rattle.dns_name.specs.NameOrders.{names_equal}
+use Rattle.std.specs.Prelude.{◌≡◌, ℕ, ◌⊎◌, Bool, ◌&&◌, ◌==◌, List, [], ◌∷◌, take, Option, Some, None, option_map, Result, Ok, Err}
+use Rattle.dns_name.specs.Names.{Fault}
 use Rattle.dns_code.specs.Header.{fields_in}
 use Rattle.dns_code.specs.HeaderSection.{header_size}
 use Rattle.dns_question.specs.Questions.{QuestionItem}
-use Rattle.dns_read.specs.QuestionsFrom.{questions_from}
-use Rattle.dns_read.specs.Sections.{question_count}
+use Rattle.dns_section.specs.QuestionsFrom.{questions_from}
+use Rattle.dns_section.specs.SameQuestions.{same_readings}
+use Rattle.dns_section.specs.Sections.{question_count}
 
 -- the reading of the question section
 abbrev pub questions_of : List ℕ → List (Result QuestionItem Fault)
@@ -37,20 +36,6 @@ asked_type b = option_map (λ (q : QuestionItem). q.rtype) (asked_first b)
 -- a zone transfer is asked for: IXFR (RFC 1995 section 3) or AXFR (RFC 5936 section 2)
 abbrev pub AsksForTransfer : List ℕ → Type 0
 AsksForTransfer b = (asked_type b ≡ Some 251) ⊎ (asked_type b ≡ Some 252)
-
--- questions are the same: their names up to ASCII case, their types and their classes
-abbrev pub same_question : QuestionItem → QuestionItem → Bool
-same_question x y = names_equal x.name y.name && (x.rtype == y.rtype) && (x.class == y.class)
-
--- items of two readings are the same questions; a fault is the same as nothing
-abbrev pub same_item : Result QuestionItem Fault → Result QuestionItem Fault → Bool
-same_item (Ok x) (Ok y) = same_question x y
-same_item (Ok x) (Err g) = false
-same_item (Err f) y = false
-
--- two readings have no fault, and the same questions in order
-abbrev pub same_readings : List (Result QuestionItem Fault) → List (Result QuestionItem Fault) → Bool
-same_readings = pointwise same_item
 
 -- a message is an answer to a query: QR is set, the IDs and the QDCOUNTs are equal, and so are the questions
 abbrev pub answers_query : List ℕ → List ℕ → Bool

@@ -2,9 +2,8 @@ ghost use Rattle.std.specs.Prelude.{◌≡◌, ◌≢◌, ◌↔◌, ◌<◌, �
 ghost use Rattle.dns_code.specs.HeaderSection.{header_size};
 
 use crate::error::ShortMessage;
-use crate::question_section::QuestionSection;
-use crate::record_section::RecordSection;
 use dns_code::{Header, HeaderCounts, HeaderSection, Rcode};
+use dns_section::{QuestionSection, RecordSection, first_section, following};
 use dns_wire::{Octets, OctetsMut, ParseError};
 use std::alloc::AllocError;
 use std::convert::AsSlice;
@@ -35,12 +34,12 @@ impl<Octs: Octets> Message<Octs> {
     ghost use Rattle.dns_code.specs.HeaderCounts.{counts, counts_octets};
     ghost use Rattle.dns_code.specs.HeaderSection.{section_octets};
     ghost use Rattle.dns_read.specs.Message.{holder_of, message_octets};
-    ghost use Rattle.dns_read.specs.QuestionSection.{octets_of, position, to_come, questions_left, BeginsQuestions};
-    ghost use Rattle.dns_read.specs.QuestionsFrom.{questions_from};
-    ghost use Rattle.dns_read.specs.RecordSection.{BeginsSection};
-    ghost use Rattle.dns_read.specs.Sections.{question_count, answer_count, authority_count, additional_count, AnswersFault, AuthoritiesFault, AdditionalsFault};
-    ghost use Rattle.dns_read.specs.declared.section.Section.TheVariants.{Answer, Authority, Additional};
-    ghost use Rattle.dns_name.specs.Fault.{fault_of};
+    ghost use Rattle.dns_section.specs.QuestionSection.{octets_of, position, to_come, questions_left, BeginsQuestions};
+    ghost use Rattle.dns_section.specs.QuestionsFrom.{questions_from};
+    ghost use Rattle.dns_section.specs.RecordSection.{BeginsSection};
+    ghost use Rattle.dns_section.specs.Sections.{question_count, answer_count, authority_count, additional_count, AnswersFault, AuthoritiesFault, AdditionalsFault};
+    ghost use Rattle.dns_section.specs.declared.section.Section.TheVariants.{Answer, Authority, Additional};
+    ghost use Rattle.dns_name.specs.Names.{fault_of};
 
     /// The message of these octets. Fewer than twelve are refused.
     pub fn from_octets(octets: Octs) -> Result<Self, ShortMessage>
@@ -155,7 +154,7 @@ impl<Octs: Octets> Message<Octs> {
         ensures questions { let b = message_octets self.now in questions_left result
             ≡ questions_from b (question_count b) header_size }
     {
-        QuestionSection::new(self.as_slice())
+        first_section(self.as_slice())
     }
 
     /// The zone section of an UPDATE message, which is the question section (RFC 2136 section 2.3).
@@ -195,7 +194,7 @@ impl<Octs: Octets> Message<Octs> {
         ensures fault { IfErr result (λ e. AuthoritiesFault (message_octets self.now)
             (fault_of e)) }
     {
-        self.answer()?.following()
+        following(self.answer()?)
     }
 
     /// The update section of an UPDATE message, which is the authority section (RFC 2136 section 2.5).
@@ -216,7 +215,7 @@ impl<Octs: Octets> Message<Octs> {
         ensures fault { IfErr result (λ e. AdditionalsFault (message_octets self.now)
             (fault_of e)) }
     {
-        self.authority()?.following()
+        following(self.authority()?)
     }
 
     /// The question, answer, authority and additional sections. The fault of the first entry before the additional section
@@ -245,8 +244,8 @@ impl<Octs: Octets> Message<Octs> {
     {
         let question = self.question();
         let answer = question.answer()?;
-        let authority = answer.following()?;
-        let additional = authority.following()?;
+        let authority = following(answer)?;
+        let additional = following(authority)?;
         Ok((question, answer, authority, additional))
     }
 }
@@ -254,7 +253,7 @@ impl<Octs: Octets> Message<Octs> {
 impl<Octs: OctetsMut> Message<Octs> {
     ghost use Rattle.dns_code.specs.Header.{header_octets};
     ghost use Rattle.dns_read.specs.Message.{message_octets};
-    ghost use Rattle.dns_read.specs.Sections.{additional_count};
+    ghost use Rattle.dns_section.specs.Sections.{additional_count};
 
     /// Writes the header over the first four octets. The others stay.
     pub fn set_header(&mut self, header: Header)

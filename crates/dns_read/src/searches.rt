@@ -1,15 +1,14 @@
 //! What is looked for in the questions of a message (RFC 1035 section 4.1).
 ghost use Rattle.std.specs.Prelude.{◌≡◌, ◌<◌, ◌↔◌, Some, option_map, IsTrue, IsErrAnd};
-ghost use Rattle.dns_name.specs.Fault.{fault_of};
-ghost use Rattle.dns_name.specs.Fault.Fault.{Form};
+ghost use Rattle.dns_name.specs.Names.{fault_of};
+ghost use Rattle.dns_name.specs.Names.Fault.{Form};
 ghost use Rattle.dns_question.specs.Question.{parsed_question};
 ghost use Rattle.dns_read.specs.Message.{message_octets};
-ghost use Rattle.dns_read.specs.QuestionSection.{question_answer, questions_left};
-ghost use Rattle.dns_read.specs.Searches.{questions_of, first_item, asked_first, asked_type, AsksForTransfer, answers_query, same_item, same_readings};
-ghost use Rattle.dns_read.specs.Sections.{question_count};
+ghost use Rattle.dns_section.specs.QuestionSection.{question_answer};
+ghost use Rattle.dns_read.specs.Searches.{questions_of, first_item, asked_first, asked_type, AsksForTransfer, answers_query};
+ghost use Rattle.dns_section.specs.Sections.{question_count};
 
 use crate::message::Message;
-use crate::question_section::QuestionSection;
 use dns_code::Rtype;
 use dns_item::Question;
 use dns_wire::{FormError, Octets, ParseError, ParsedName};
@@ -76,39 +75,5 @@ impl<Octs: Octets> Message<Octs> {
             Some(answer) => answer,
             None => Err(ParseError::Form(FormError::NO_QUESTION)),
         }
-    }
-}
-
-impl QuestionSection<'_> {
-    /// Whether this cursor and another have the same questions before them, in order, and no fault.
-    ///
-    /// Questions are the same where their names are equal up to ASCII case, and their types and classes are.
-    pub fn same_questions(&self, other: &QuestionSection<'_>) -> bool
-        ensures { result ≡ same_readings (questions_left self.now) (questions_left other.now) }
-    {
-        let mut questions = *self;
-        let mut others = *other;
-        while let Some(question) = questions.next() {
-            let Some(other) = others.next() else {
-                return false;
-            };
-            if !same_answers(question, other) {
-                return false;
-            }
-        }
-        others.next().is_none()
-    }
-}
-
-/// Whether both answers are the same question.
-fn same_answers(
-    answer: Result<Question<ParsedName<'_>>, ParseError>,
-    other: Result<Question<ParsedName<'_>>, ParseError>,
-) -> bool
-    ensures { result ≡ same_item (question_answer answer.entry) (question_answer other.entry) }
-{
-    match (answer, other) {
-        (Ok(question), Ok(other)) => question == other,
-        _ => false,
     }
 }

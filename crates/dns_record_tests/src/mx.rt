@@ -1,4 +1,5 @@
 //! Mail exchangers: a data type that is none of the library's, proved against its contracts alone.
+ghost use Rattle.std.proofs.Common.{rules};
 ghost use Rattle.std.specs.Prelude.{◌≡◌, [], ◌∷◌, length};
 ghost use Rattle.std.specs.Int.{to_be_bytes, w16};
 ghost use Rattle.dns_wire.specs.Parts.{Octets, CompressibleName};
@@ -74,6 +75,8 @@ impl<'a> ParseRecordData<'a> for Mx<ParsedName<'a>> {
             exchange,
         }))
     }
+
+    ghost laid_out = { Prim.search rules };
 }
 
 #[test]

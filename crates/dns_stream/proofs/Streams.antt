@@ -6,7 +6,7 @@ use Rattle.dns_wire.specs.Targets.{Written, Fits, Passes, Answers, Appends, cut_
 use Rattle.dns_octets.specs.declared.error.AppendError.{AppendError}
 use Rattle.dns_octets.specs.declared.error.AppendError.TheVariants.{ShortBuf, OutOfMemory}
 use Rattle.dns_wire.proofs.theory.PieceLaws.{same_written}
-use Rattle.dns_wire.proofs.theory.PlainTargets.{cut_nothing}
+use Rattle.dns_wire.proofs.theory.Memories.{cut_nothing}
 use Rattle.dns_stream.specs.Stream.{stream_room, message_written as plain}
 
 take_two : (xs : List ℕ) (n : ℕ) → drop 2 (take (n + 2) xs) ≡ take n (drop 2 xs)

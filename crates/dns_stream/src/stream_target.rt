@@ -134,7 +134,7 @@ impl<T: Composer> Composer for StreamTarget<T> {
         Ok(())
     }
 
-    #[tactic(auto, unfolding(dns_wire::specs::PutName::put_name))]
+    #[tactic(auto, unfolding(dns_wire::specs::Pieces::put_name))]
     fn append_compressed_name<N: ToName>(&mut self, name: &N) -> Result<(), AppendError> {
         match name.as_flat_slice() {
             Some(octets) => self.append_slice(octets),

@@ -1,12 +1,10 @@
 //! A target that compresses names, by an index of the suffixes that it remembers.
 ghost use Rattle.std.specs.Prelude.{◌≡◌, ◌||◌, true, IfOk, OnErr, IsTrue};
-ghost use Rattle.dns_wire.specs.Memory.{nothing};
+ghost use Rattle.dns_wire.specs.Pieces.{nothing, Plain, put_octets, put_name};
 ghost use Rattle.dns_name.specs.Names.{uncompressed};
 ghost use Rattle.dns_name.specs.ParsedName.{labels};
-ghost use Rattle.dns_wire.specs.Pieces.{Plain, put_octets};
-ghost use Rattle.dns_wire.specs.PutName.{put_name};
 ghost use Rattle.dns_wire.specs.Targets.{Appends};
-ghost use Rattle.dns_target.specs.Rules.{compressing_not_plain};
+ghost use Rattle.dns_target.specs.Indexes.{compressing_not_plain};
 
 use crate::hashes::Hashes;
 use crate::index::SuffixIndex;
@@ -45,8 +43,7 @@ pub type HashCompressor<Target> = Compressor<Target, Suffixes>;
 pub type IndexCompressor<Target> = Compressor<Target, Hashes>;
 
 impl<Target: Composer, Index: SuffixIndex> Model for Compressor<Target, Index> {
-    ghost use Rattle.dns_wire.specs.Targets.{Written};
-    ghost use Rattle.dns_wire.specs.WrittenCode.{written_code};
+    ghost use Rattle.dns_wire.specs.Targets.{Written, written_code};
     ghost use Rattle.dns_target.specs.Held.{with_spots, IsHeld};
 
     ghost Value = { Written };

@@ -3,9 +3,8 @@ use Rattle.std.proofs.Common.{◌≡◌, ℕ, ◌≤◌, Bool, Option, Result, O
 use Rattle.dns_wire.specs.Pieces.{Piece, IsGrowing, put_octets}
 use Rattle.dns_wire.specs.Targets.{Written, IsTarget, Appends, cut_to}
 use Rattle.dns_octets.specs.declared.error.AppendError.{AppendError}
-use Rattle.dns_wire.proofs.theory.Composing.{cut_to-lay}
-use Rattle.dns_wire.proofs.theory.GrowingPieces.{put_octets_grows}
-use Rattle.dns_wire.proofs.theory.PieceLaws.{cut_undoes, same_written}
+use Rattle.dns_wire.proofs.theory.PieceLaws.{cut_to-lay, cut_undoes, same_written}
+use Rattle.dns_wire.proofs.theory.PutNames.{put_octets_grows}
 
 -- a cut at its length leaves a target as it is
 pub whole : (t : Written) → IsTarget t → cut_to (length t.octets) t ≡ t

@@ -1,6 +1,6 @@
 //! Targets: octets and names appended, cut and written over, and what a refused append leaves.
 ghost use Rattle.std.specs.Prelude.{◌≤◌, length};
-ghost use Rattle.dns_wire.specs.Memory.{IsClear};
+ghost use Rattle.dns_wire.specs.Pieces.{IsClear};
 
 use arrayvec::ArrayVec;
 use dns_target::TreeCompressor;
@@ -108,8 +108,7 @@ pub(crate) struct Refusing;
 
 impl Composer for Refusing {
     ghost use Rattle.std.specs.Prelude.{None, true, [], refl};
-    ghost use Rattle.dns_wire.specs.Memory.{nothing};
-    ghost use Rattle.dns_wire.specs.Pieces.{Plain};
+    ghost use Rattle.dns_wire.specs.Pieces.{nothing, Plain};
 
     ghost rule = { Plain };
 
@@ -137,7 +136,7 @@ impl Composer for Refusing {
         false
     }
 
-    #[tactic(auto, using(dns_wire::proofs::theory::PlainTargets::cut_nothing, dns_wire::proofs::theory::PlainTargets::nothing_is_kept))]
+    #[tactic(auto, using(dns_wire::proofs::theory::Memories::cut_nothing, dns_wire::proofs::theory::Memories::nothing_is_kept))]
     fn truncate(&mut self, _len: usize) {}
 
     fn write_at(&mut self, _place: usize, _octets: &[u8]) {}

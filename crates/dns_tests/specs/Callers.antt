@@ -1,14 +1,19 @@
 -- What the proved callers say.
-use Rattle.std.specs.Prelude.{◌≤◌, ℕ, List, length, Option, Some, Ok}
+use Rattle.std.specs.Prelude.{◌≡◌, ◌≤◌, ℕ, List, length, map, Option, Some, None, Result, Ok, Err}
+use Rattle.std.specs.List.{filter_map}
+use Rattle.dns_name.specs.Names.{Fault}
 use Rattle.dns_name.specs.declared.parsed_name.ParsedName.{ParsedName}
 use Rattle.dns_wire.specs.Parts.{Part}
 use Rattle.dns_data.specs.Layout.{Layout}
-use Rattle.dns_item.specs.Entries.{RecordEntry, ReadsRecord}
+use Rattle.dns_item.specs.Items.{RecordEntry, ReadsRecord, RecordItem}
 use Rattle.dns_item.specs.RecordReading.{GivesTaken}
 use Rattle.dns_item.specs.declared.record.Record.{Record}
-use Rattle.dns_read.specs.Sections.{AnswersStart}
-use Rattle.dns_build.specs.ReadsBack.{ReadsBack}
-use Rattle.dns_build.specs.Spellings.{PointsToLabels, IsShortestOf}
+use Rattle.dns_section.specs.Limited.{limited}
+use Rattle.dns_section.specs.RecordsFrom.{records_in}
+use Rattle.dns_section.specs.Sections.{AnswersStart, answer_count}
+use Rattle.dns_section.specs.declared.section.Section.{Section}
+use Rattle.dns_read.specs.MessageIter.{Item}
+use Rattle.dns_build.specs.MessageOf.{ReadsBack, PointsToLabels, IsShortestOf}
 use Rattle.dns_build.specs.State.{State}
 
 -- The octets read back as a state's header and items. Each pointer of a name leads to an earlier label, and in at most 16,384 octets no spelling of the items is shorter.
@@ -25,3 +30,27 @@ pub record StandsFirst {D : Type 0} (rtype_of : D → ℕ) (parts_of : D → Lis
   pub entry : RecordEntry
   pub reads : ReadsRecord b start end entry
   pub gives : GivesTaken rtype_of parts_of b entry (layout entry.rtype) (Ok (Some r))
+
+-- the parts of the data of an item, where that can be read
+abbrev pub parts_of_item : Result RecordItem Fault → Option (List Part)
+parts_of_item (Ok item) = Some item.parts
+parts_of_item (Err f) = None
+
+-- the data among items that can be read
+abbrev pub data_among : List (Result RecordItem Fault) → List (List Part)
+data_among = filter_map parts_of_item
+
+-- these are, in order, the data of the answers that a data type takes and that can be read
+pub record AreAnswers {D : Type 0} (parts_of : D → List Part) (layout : ℕ → Option Layout) (b : List ℕ) (found : List D) : Type 0 where
+  pub start : ℕ
+  pub starts : AnswersStart b start
+  pub read : map parts_of found ≡ data_among (limited layout (records_in b (answer_count b) start))
+
+-- the section of the record that an item is
+abbrev pub section_of_item : Item → Option Section
+section_of_item (Ok x) = Some x.1
+section_of_item (Err f) = None
+
+-- the sections of the records among items, in order
+abbrev pub sections_among : List Item → List Section
+sections_among = filter_map section_of_item

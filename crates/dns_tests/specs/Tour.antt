@@ -2,8 +2,8 @@
 use Rattle.std.specs.Prelude.{◌≡◌, ℕ, List, map, Ok}
 use Rattle.dns_code.specs.HeaderSection.{header_size}
 use Rattle.dns_question.specs.Questions.{QuestionItem}
-use Rattle.dns_read.specs.QuestionsFrom.{questions_from}
-use Rattle.dns_read.specs.Sections.{question_count}
+use Rattle.dns_section.specs.QuestionsFrom.{questions_from}
+use Rattle.dns_section.specs.Sections.{question_count}
 
 -- reading the question section of these octets gives exactly these questions, without a fault
 abbrev pub HasQuestions : List ℕ → List QuestionItem → Type 0

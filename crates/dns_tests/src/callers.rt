@@ -1,26 +1,31 @@
 //! Proved callers: examples of the pages that say how the crates are called.
-ghost use Rattle.std.specs.Prelude.{◌≡◌, ◌≤◌, ◌↔◌, List, length, max, min, true, IfSome, IsSome};
+ghost use Rattle.std.specs.Prelude.{◌≡◌, ◌≤◌, ◌↔◌, List, length, map, max, min, true, IfOk, IfSome, IsSome, IsTrue};
 ghost use Rattle.dns_code.specs.Header.{fields};
+ghost use Rattle.dns_data.specs.Layout.{End, Fixed};
+ghost use Rattle.dns_data.specs.RecordData.{only};
 ghost use Rattle.dns_item.specs.Ttl.{cap_seconds};
 ghost use Rattle.dns_build.specs.Standing.{fresh};
 ghost use Rattle.dns_message.specs.Script.{after_all, octets_of};
 ghost use Rattle.dns_message.specs.declared.script.Reply.{Reply};
 ghost use Rattle.dns_read.specs.Message.{message_octets};
-ghost use Rattle.dns_read.specs.Sections.{AnswersStart};
-ghost use Rattle.dns_tests.specs.Callers.{IsShortMessage, StandsFirst};
+ghost use Rattle.dns_read.specs.MessageIter.{message_items};
+ghost use Rattle.dns_read.specs.RecordSearches.{HasAnswer};
+ghost use Rattle.dns_section.specs.RecordIter.{typed_left};
+ghost use Rattle.dns_section.specs.Sections.{AnswersStart};
+ghost use Rattle.dns_tests.specs.Callers.{IsShortMessage, StandsFirst, AreAnswers, data_among, sections_among};
 
 use dns_message::builder::MessageBuilder;
 use dns_message::code::{Class, Rtype};
 use dns_message::data::{A, ParseRecordData, UnknownRecordData};
 use dns_message::header::Header;
-use dns_message::message::Message;
+use dns_message::message::{Message, RecordIter, Section};
 use dns_message::name::{Name, ParsedName};
 use dns_message::question::ComposeQuestion;
 use dns_message::record::{ComposeRecord, Record, Ttl};
 use dns_message::script::{Call, Stage, run};
 use dns_message::target::HashCompressor;
 use dns_message::wire::Octets;
-use std::alloc::Global;
+use std::alloc::{AllocError, Global};
 use std::test::Fail;
 
 /// The header of a reply to a query: its ID and its RD, and QR.
@@ -115,6 +120,87 @@ fn reads_the_first_answer(rt: HostRuntime) -> Result<(), Fail> {
     let message = Message::from_octets(octets.as_slice())?;
     let address = first_answer::<_, A>(&message).ok_or("address")?;
     assert_eq!(rt; address.data().octets(), [203, 0, 113, 1]);
+    Ok(())
+}
+
+/// The data of the records that can be read, in order.
+fn data_of<'a, D: ParseRecordData<'a> + Drop>(
+    alloc: Global,
+    records: RecordIter<'a, D>,
+) -> Result<Vec<D>, AllocError>
+    ensures { IfOk result (λ found. map D.parts found.items
+        ≡ data_among (typed_left D.layout records.entry)) }
+{
+    let mut found = Vec::new(alloc);
+    for record in records {
+        if let Ok(record) = record {
+            found.push(record.into_data())?;
+        }
+    }
+    Ok(found)
+}
+
+/// The data of the answers that a data type takes, as far as it can be read.
+fn data_of_answers<'a, Octs: Octets, D: ParseRecordData<'a> + Drop>(
+    alloc: Global,
+    message: &'a Message<Octs>,
+) -> Option<Vec<D>>
+    ensures { IfSome result (λ found. AreAnswers D.parts D.layout (message_octets message.now)
+        found.items) }
+{
+    let answers = message.answer().ok()?;
+    match data_of(alloc, answers.limit_to()) {
+        Ok(found) => Some(found),
+        Err(_) => None,
+    }
+}
+
+#[test]
+fn collects_the_addresses(rt: HostRuntime) -> Result<(), Fail> {
+    let octets =
+        b"\x00\x00\x81\xA0\x00\x00\x00\x01\x00\x00\x00\x00\x01a\x00\x00\x01\x00\x01\x00\x00\x0E\x10\x00\x04\xCB\x00\x71\x01";
+    let message = Message::from_octets(octets.as_slice())?;
+    let addresses = data_of_answers::<_, A>(rt.alloc(), &message).ok_or("addresses")?;
+    assert_eq!(rt; addresses.len(), 1);
+    assert_eq!(rt; addresses[0].octets(), [203, 0, 113, 1]);
+    Ok(())
+}
+
+/// The sections of the records that can be read in a row, in order.
+fn sections_of<Octs: Octets>(
+    alloc: Global,
+    message: &Message<Octs>,
+) -> Result<Vec<Section>, AllocError>
+    ensures { IfOk result (λ found. found.items
+        ≡ sections_among (message_items (message_octets message.now))) }
+{
+    let mut found = Vec::new(alloc);
+    for item in message.iter() {
+        if let Ok((_, section)) = item {
+            found.push(section)?;
+        }
+    }
+    Ok(found)
+}
+
+/// Whether the answers have an address, or something that can't be read.
+fn has_address<Octs: Octets>(message: &Message<Octs>) -> bool
+    ensures { IsTrue result ↔ HasAnswer (only 1 (Fixed 4 End)) (message_octets message.now) }
+{
+    message.contains_answer::<A>()
+}
+
+#[test]
+fn knows_the_sections(rt: HostRuntime) -> Result<(), Fail> {
+    let octets =
+        b"\x00\x00\x81\xA0\x00\x00\x00\x01\x00\x00\x00\x01\x00\x00\x01\x00\x01\x00\x00\x00\x00\x00\x04\xCB\x00\x71\x01\x00\x00\x02\x00\x01\x00\x00\x00\x00\x00\x01\x00";
+    let message = Message::from_octets(octets.as_slice())?;
+    assert!(rt; has_address(&message));
+    let sections = sections_of(rt.alloc(), &message)?;
+    assert_eq!(rt;
+        sections.as_slice(),
+        [Section::Answer, Section::Additional].as_slice()
+    );
     Ok(())
 }
 

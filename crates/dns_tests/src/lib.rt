@@ -8,11 +8,15 @@ mod builders;
 #[cfg(test)]
 mod callers;
 #[cfg(test)]
+mod iterators;
+#[cfg(test)]
 mod messages;
 #[cfg(test)]
 mod program;
 #[cfg(test)]
 mod questions;
+#[cfg(test)]
+mod record_searches;
 #[cfg(test)]
 mod searches;
 #[cfg(test)]

@@ -1,7 +1,6 @@
 //! The examples of README.md.
 ghost use Rattle.std.specs.Prelude.{◌≡◌, ◌↔◌, IsTrue, IfOk, ◌∷◌, []};
-ghost use Rattle.dns_name.specs.Names.{Labels, lowered};
-ghost use Rattle.dns_name.specs.Standing.{Stands};
+ghost use Rattle.dns_name.specs.Names.{Labels, lowered, Stands};
 ghost use Rattle.dns_read.specs.Message.{message_octets};
 ghost use Rattle.dns_tests.specs.Tour.{HasQuestions};
 

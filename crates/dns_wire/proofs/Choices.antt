@@ -6,11 +6,11 @@ use Rattle.std.proofs.lemmas.Bool.{and_parts}
 use Rattle.std.proofs.lemmas.Grind.{common_steps}
 use Rattle.std.specs.FinMap.{get, len}
 use Rattle.dns_name.specs.Names.{Labels, framed}
-use Rattle.dns_wire.specs.Memory.{Memory, Spot, remember}
-use Rattle.dns_wire.specs.Pieces.{Rule, Plain, Static, Tree, Hash}
-use Rattle.dns_wire.specs.PutName.{spell, spell_label, is_kept, put_name, pointer}
+use Rattle.dns_wire.specs.Pieces.{Memory, Spot, remember, Rule, Plain, Static, Tree, Hash, spell, spell_label, is_kept, put_name, pointer}
 use Rattle.dns_wire.specs.Choice.{place_of, first_suffixes, IsFirstKnown, IsFar, Chooses, IsAmong, NamesByChoice}
 use Rattle.dns_wire.specs.Choice.Chooses.{shared, written_out}
+use Rattle.dns_wire.proofs.theory.PutNames.{SpellsAs, spells_as}
+use Rattle.dns_wire.proofs.theory.PutNames.SpellsAs.{at_root, at_known, at_kept, at_far}
 
 -- a label that may be remembered is not too far
 far_not : (rule : Rule) (held place : ℕ) → is_kept rule place held ≡ true → IsFar rule held place → ⊥
@@ -87,23 +87,15 @@ chooses_step rule m w held label rest e here (written_out c j known less far nea
     (far_same rule (held + 1 + c) (held + suc c) (place_of (w + 1 + length label) rest c) (place_of w (label ∷ rest) (suc c)) (omega arith) (omega arith) far)
     (not_far_step rule w held label rest c here near)
 
-chooses_one : (rule : Rule) (m : Memory) (w held : ℕ) (o : Option Spot) (keep : Bool) (label : List ℕ) (rest : Labels) (after : List ℕ × List (Labels × ℕ))
-    → get m (label ∷ rest) ≡ o → is_kept rule w held ≡ keep → Chooses rule m (w + 1 + length label) (held + 1) rest after.0 after.1
-    → let spelled = spell_label o keep label rest w after in Chooses rule m w held (label ∷ rest) spelled.0 spelled.1
-chooses_one rule m w held (Some x) keep label rest after e k h =
-    shared 0 (pointer x.place) (known_here m label rest x e) (inr (x, e, refl)) (λ i l far. omega arith)
-chooses_one rule m w held None true label rest after e k h = chooses_step rule m w held label rest e (far_not rule held w k) h
-chooses_one rule m w held None false label rest after e k h =
-    let known = first_known m rest in
-    written_out 0 (suc known.0) (known_step m label rest known.0 e known.1) (omega arith)
-    (far_same rule held (held + 0) w (w + 0) (omega arith) (omega arith) (far_is rule held w k)) (λ i l far. omega arith)
-
 -- the text of a name, and the suffixes that are written out, are chosen
-chooses : (rule : Rule) (m : Memory) (w held : ℕ) (name : Labels) → let spelled = spell rule m w held name in Chooses rule m w held name spelled.0 spelled.1
-chooses rule m w held [] = shared 0 (0 ∷ []) (known_none m) (inl (refl, refl)) (λ i l far. omega arith)
-chooses rule m w held (label ∷ rest) =
-    let behind = w + 1 + length label in
-    chooses_one rule m w held (get m (label ∷ rest)) (is_kept rule w held) label rest (spell rule m behind (held + 1) rest) refl refl (chooses rule m behind (held + 1) rest)
+chosen : {rule : Rule} {m : Memory} {p held : ℕ} {name : Labels} {text : List ℕ} {ss : List (Labels × ℕ)} → SpellsAs rule m p held name text ss → Chooses rule m p held name text ss
+chosen {m = m} at_root = shared 0 (0 ∷ []) (known_none m) (inl (refl, refl)) (λ i l far. omega arith)
+chosen {m = m} (at_known {first = first} {rest = rest} {x = x} e) = shared 0 (pointer x.place) (known_here m first rest x e) (inr (x, e, refl)) (λ i l far. omega arith)
+chosen {rule = rule} {m = m} (at_kept {p = p} {held = held} {first = first} {rest = rest} e k s) = chooses_step rule m p held first rest e (far_not rule held p k) (chosen s)
+chosen {rule = rule} {m = m} (at_far {p = p} {held = held} {first = first} {rest = rest} e k) =
+    let known = first_known m rest in
+    written_out 0 (suc known.0) (known_step m first rest known.0 e known.1) (omega arith)
+    (far_same rule held (held + 0) p (p + 0) (omega arith) (omega arith) (far_is rule held p k)) (λ i l far. omega arith)
 
 -- whether a pointer can lead to a suffix
 abbrev near_test : Labels × ℕ → Bool
@@ -147,13 +139,13 @@ hash_memory m ss q false e = inr (some_far ss e, refl)
 pub names_by_choice : NamesByChoice
 unfolding put_name
 names_by_choice = record {
-  static = λ m w name. record { suffixes = (spell Static m w (len m) name).1; chooses = chooses Static m w (len m) name; memory = refl };
-  tree = λ m w name. record { suffixes = (spell Tree m w (len m) name).1; chooses = chooses Tree m w (len m) name; memory = refl };
+  static = λ m w name. record { suffixes = (spell Static m w (len m) name).1; chooses = chosen (spells_as Static m w (len m) name); memory = refl };
+  tree = λ m w name. record { suffixes = (spell Tree m w (len m) name).1; chooses = chosen (spells_as Tree m w (len m) name); memory = refl };
   hash = λ m w name.
       let spelled = spell Hash m w (len m) name in
       record {
         suffixes = spelled.1;
-        chooses = chooses Hash m w (len m) name;
+        chooses = chosen (spells_as Hash m w (len m) name);
         memory = hash_memory m spelled.1 (w + length spelled.0) (list_all (λ s. near_test s) spelled.1) refl;
       };
 }

@@ -6,17 +6,15 @@ use Rattle.std.proofs.lemmas.Grind.{common_steps}
 use Rattle.std.specs.FinMap.{get, insert, len, get-insert, len-insert, contains_key}
 use Rattle.std.specs.Ordering.{eq_by_cmp}
 use Rattle.dns_name.specs.Names.{Labels, IsLabel, IsName, uncompressed, name_size}
-use Rattle.dns_wire.specs.Memory.{Memory, Spot, remember, suffix_cmp, suffix_total}
-use Rattle.dns_wire.specs.Pieces.{Rule, Plain, Static, Tree, Hash}
-use Rattle.dns_wire.specs.PutName.{spell, spell_label, kept, is_kept}
-use Rattle.dns_wire.specs.Spelled.{At}
-use Rattle.dns_wire.specs.Spelling.{IsSuffix, IsShared}
-use Rattle.dns_wire.specs.SpellingLaws.{SharesAll}
-use Rattle.dns_wire.specs.PartsWritten.{LabelsNear}
-use Rattle.dns_wire.proofs.theory.FilledPlaces.{near_label}
-use Rattle.dns_wire.proofs.theory.OctetsAt.{label_begins, label_part, behind_label}
-use Rattle.dns_wire.proofs.theory.Remembered.{get-insert_same}
-use Rattle.dns_wire.proofs.theory.PutNames.{Each, found}
+use Rattle.dns_wire.specs.Pieces.{Memory, Spot, remember, suffix_cmp, suffix_total, Rule, Plain, Static, Tree, Hash, spell, spell_label, kept, is_kept}
+use Rattle.dns_wire.specs.Targets.{At}
+use Rattle.dns_wire.specs.Spelling.{IsSuffix, IsShared, SharesAll}
+use Rattle.dns_wire.specs.Parts.{LabelsNear}
+use Rattle.dns_wire.proofs.theory.TargetTheorems.{near_label}
+use Rattle.dns_wire.proofs.theory.SpelledNames.{label_begins, label_part, behind_label}
+use Rattle.dns_wire.proofs.theory.Memories.{get-insert_same}
+use Rattle.dns_wire.proofs.theory.PutNames.{Each, found, SpellsAs, spells_as}
+use Rattle.dns_wire.proofs.theory.PutNames.SpellsAs.{at_root, at_known, at_kept, at_far}
 use Rattle.dns_name.proofs.theory.Spelling.{name_tail}
 
 -- what is remembered is what is shared
@@ -40,15 +38,12 @@ shared_some [] s h = absurd h
 shared_some (name ∷ names) s (inl h) = h.some
 shared_some (name ∷ names) s (inr h) = shared_some names s h
 
--- a label is kept, and so are the others, or the whole is known
-abbrev KeptLabel : Option Spot → Bool → Type 0 → Type 0
-KeptLabel (Some x) keep others = Unit {0}
-KeptLabel None keep others = (keep ≡ true) × others
-
 -- no label before a known suffix is too far to be remembered
-abbrev pub AllKept : Rule → Memory → ℕ → ℕ → Labels → Type 0
-AllKept rule m p held [] = Unit {0}
-AllKept rule m p held (first ∷ rest) = KeptLabel (get m (first ∷ rest)) (is_kept rule p held) (AllKept rule m (p + 1 + length first) (held + 1) rest)
+abbrev pub AllKept : {rule : Rule} {m : Memory} {p held : ℕ} {name : Labels} {text : List ℕ} {ss : List (Labels × ℕ)} → SpellsAs rule m p held name text ss → Type 0
+AllKept at_root = Unit {0}
+AllKept (at_known e) = Unit {0}
+AllKept (at_kept e k s) = AllKept s
+AllKept (at_far e k) = ⊥
 
 -- a name of so many octets is the shortest
 abbrev pub Best : List Labels → Labels → ℕ → Type 0
@@ -84,24 +79,15 @@ best_label names label others n without (inr a) =
       behind_first (λ f r. name_size (label ∷ a.0) ≤ name_size f) names label others without (λ f r e s. let l = a.5 f r e s in omega arith),
     )
 
--- a label and the others, by what is known of the whole name: as short as can be, where the others are
-best_one : (m : Memory) (names : List Labels) (o : Option Spot) (keep : Bool) (label : List ℕ) (others : Labels) (p : ℕ) (after : List ℕ × List (Labels × ℕ)) (Others : Type 0)
-    → Knows m names → get m (label ∷ others) ≡ o → KeptLabel o keep Others → (Others → Best names others (length after.0))
-    → Best names (label ∷ others) (length (spell_label o keep label others p after).0)
-best_one m names (Some x) keep label others p after Others knows e k rec =
-    inr ([], label ∷ others, refl, knows.only (label ∷ others) x e, refl, λ f r e s. omega arith)
-best_one m names None true label others p after Others knows e k rec =
-    let without : IsShared names (label ∷ others) → ⊥ = λ s. let h = knows.has (label ∷ others) s in let c : None ≡ Some h.0 = sym e ∙ h.1 in cc in
-    let is : 1 + length label + length after.0 ≡ suc (length (label ++ after.0)) = let l = length-append label after.0 in omega arith in
-    subst (λ n. Best names (label ∷ others) n) is (best_label names label others (length after.0) without (rec k.1))
-best_one m names None false label others p after Others knows e k rec = absurd (let c = k.0 in cc)
-
 -- the text of a name is as short as can be
-pub best : (rule : Rule) (m : Memory) (names : List Labels) (p held : ℕ) (name : Labels) → Knows m names → AllKept rule m p held name → Best names name (length (spell rule m p held name).0)
-best rule m names p held [] knows k = best_root names
-best rule m names p held (label ∷ others) knows k =
-    best_one m names (get m (label ∷ others)) (is_kept rule p held) label others p (spell rule m (p + 1 + length label) (held + 1) others) (AllKept rule m (p + 1 + length label) (held + 1) others)
-    knows refl k (λ k'. best rule m names (p + 1 + length label) (held + 1) others knows k')
+pub best : {rule : Rule} {m : Memory} {p held : ℕ} {name : Labels} {text : List ℕ} {ss : List (Labels × ℕ)} (names : List Labels) → Knows m names → (s : SpellsAs rule m p held name text ss) → AllKept s → Best names name (length text)
+best names knows at_root k = best_root names
+best names knows (at_known {first = first} {rest = rest} {x = x} e) k = inr ([], first ∷ rest, refl, knows.only (first ∷ rest) x e, refl, λ f r e s. omega arith)
+best names knows (at_kept {first = first} {rest = rest} {text = text} e is s) k =
+    let without : IsShared names (first ∷ rest) → ⊥ = λ s. let h = knows.has (first ∷ rest) s in let c : None ≡ Some h.0 = sym e ∙ h.1 in cc in
+    let size : 1 + length first + length text ≡ suc (length (first ++ text)) = let l = length-append first text in omega arith in
+    subst (λ n. Best names (first ∷ rest) n) size (best_label names first rest (length text) without (best names knows s k))
+best names knows (at_far e is) k = absurd k
 
 -- a name is a suffix of its own
 suffix_whole : (label : List ℕ) (others : Labels) → IsSuffix (label ∷ others) (label ∷ others)
@@ -116,16 +102,12 @@ each_others : (label : List ℕ) (others : Labels) (ss : List (Labels × ℕ)) �
 each_others label others [] h = tt
 each_others label others (s ∷ ss) h = (suffix_others s.0 label others h.0, each_others label others ss h.1)
 
--- a label and the others, by what is known of the whole name: only its suffixes, where only those of the others are
-suffixes_one : (o : Option Spot) (keep : Bool) (label : List ℕ) (others : Labels) (p : ℕ) (after : List ℕ × List (Labels × ℕ)) → Each (λ s. IsSuffix s.0 others) after.1 → Each (λ s. IsSuffix s.0 (label ∷ others)) (spell_label o keep label others p after).1
-suffixes_one (Some x) keep label others p after h = tt
-suffixes_one None true label others p after h = (suffix_whole label others, each_others label others after.1 h)
-suffixes_one None false label others p after h = tt
-
 -- only suffixes of the name are remembered of it
-spell_suffixes : (rule : Rule) (m : Memory) (p held : ℕ) (name : Labels) → Each (λ s. IsSuffix s.0 name) (spell rule m p held name).1
-spell_suffixes rule m p held [] = tt
-spell_suffixes rule m p held (label ∷ others) = suffixes_one (get m (label ∷ others)) (is_kept rule p held) label others p (spell rule m (p + 1 + length label) (held + 1) others) (spell_suffixes rule m (p + 1 + length label) (held + 1) others)
+spell_suffixes : {rule : Rule} {m : Memory} {p held : ℕ} {name : Labels} {text : List ℕ} {ss : List (Labels × ℕ)} → SpellsAs rule m p held name text ss → Each (λ s. IsSuffix s.0 name) ss
+spell_suffixes at_root = tt
+spell_suffixes (at_known e) = tt
+spell_suffixes (at_kept {first = first} {rest = rest} {ss = ss} e k s) = (suffix_whole first rest, each_others first rest ss (spell_suffixes s))
+spell_suffixes (at_far e k) = tt
 
 -- a suffix is one of these
 abbrev Listed : Labels → List (Labels × ℕ) → Type 0
@@ -137,28 +119,20 @@ suffix_cases : (s : Labels) (label : List ℕ) (others first : Labels) → label
 suffix_cases s label others [] e some = inl (sym e)
 suffix_cases s label others (l ∷ first) e some = inr (record { first = first; whole = cc; some = some })
 
--- a label and the others, by what is known of the whole name: each of its suffixes, where each of those of the others is
-listed_one : (m : Memory) (names : List Labels) (o : Option Spot) (keep : Bool) (label : List ℕ) (others : Labels) (p : ℕ) (after : List ℕ × List (Labels × ℕ)) (Others : Type 0) (s : Labels)
-    → Knows m names → get m (label ∷ others) ≡ o → KeptLabel o keep Others → (Others → IsSuffix s others → IsShared names s ⊎ Listed s after.1)
-    → IsSuffix s (label ∷ others) → IsShared names s ⊎ Listed s (spell_label o keep label others p after).1
-listed_one m names (Some x) keep label others p after Others s knows e k rec h = inl (shared_suffix names s (label ∷ others) h (knows.only (label ∷ others) x e))
-listed_one m names None true label others p after Others s knows e k rec h =
-    elim (suffix_cases s label others h.first h.whole h.some) [
-      | inl w ↦ inr (inl w)
-      | inr w ↦ elim (rec k.1 w) [ inl a ↦ inl a | inr a ↦ inr (inr a) ]
-    ]
-listed_one m names None false label others p after Others s knows e k rec h = absurd (let c = k.0 in cc)
-
 -- the root has no suffix
 no_suffix : (s : Labels) → IsSuffix s [] → ⊥
 no_suffix s h = let some = h.some in let l : 0 ≡ length h.first + length s = ap length h.whole ∙ length-append h.first s in omega arith
 
 -- each suffix of the name was shared, or is listed
-pub listed : (rule : Rule) (m : Memory) (names : List Labels) (p held : ℕ) (name s : Labels) → Knows m names → AllKept rule m p held name → IsSuffix s name → IsShared names s ⊎ Listed s (spell rule m p held name).1
-listed rule m names p held [] s knows k h = absurd (no_suffix s h)
-listed rule m names p held (label ∷ others) s knows k h =
-    listed_one m names (get m (label ∷ others)) (is_kept rule p held) label others p (spell rule m (p + 1 + length label) (held + 1) others) (AllKept rule m (p + 1 + length label) (held + 1) others) s
-    knows refl k (λ k' h'. listed rule m names (p + 1 + length label) (held + 1) others s knows k' h') h
+listed : {rule : Rule} {m : Memory} {p held : ℕ} {name : Labels} {text : List ℕ} {ss : List (Labels × ℕ)} (names : List Labels) (t : Labels) → Knows m names → (s : SpellsAs rule m p held name text ss) → AllKept s → IsSuffix t name → IsShared names t ⊎ Listed t ss
+listed names t knows at_root k h = absurd (no_suffix t h)
+listed names t knows (at_known {first = first} {rest = rest} {x = x} e) k h = inl (shared_suffix names t (first ∷ rest) h (knows.only (first ∷ rest) x e))
+listed names t knows (at_kept {first = first} {rest = rest} e is s) k h =
+    elim (suffix_cases t first rest h.first h.whole h.some) [
+      | inl w ↦ inr (inl w)
+      | inr w ↦ elim (listed names t knows s k w) [ inl a ↦ inl a | inr a ↦ inr (inr a) ]
+    ]
+listed names t knows (at_far e is) k h = absurd k
 
 -- what is inserted is found
 inserted_same : (m : Memory) (t k : Labels) (v : Spot) → t ≡ k → get (insert m k v) t ≡ Some v
@@ -180,7 +154,7 @@ listed_found m t q (s ∷ ss) (inr h) =
     (o.0, get-insert suffix_total (remember m ss q) s.0 v t ∙ o.1)
 
 -- the memory knows the name too
-pub knows_more : (rule : Rule) (m n : Memory) (names : List Labels) (p held q : ℕ) (name : Labels) → Knows m names → AllKept rule m p held name
+pub knows_more : (rule : Rule) (m n : Memory) (names : List Labels) (p held q : ℕ) (name : Labels) → Knows m names → AllKept (spells_as rule m p held name)
     → n ≡ remember m (spell rule m p held name).1 q → ((s : Labels) (x : Spot) → get m s ≡ Some x → get n s ≡ Some x) → Knows n (name ∷ names)
 knows_more rule m n names p held q name knows k is g =
     let ss = (spell rule m p held name).1 in
@@ -188,14 +162,14 @@ knows_more rule m n names p held q name knows k is g =
     record {
       has = λ s h.
           elim h [
-            | inl a ↦ elim (listed rule m names p held name s knows k a) [
+            | inl a ↦ elim (listed names s knows (spells_as rule m p held name) k a) [
               | inl b ↦ old s b
               | inr b ↦ let f = listed_found m s q ss b in (f.0, ap (λ (r : Memory). get r s) is ∙ f.1)
             ]
             | inr a ↦ old s a
           ];
       only = λ s x e.
-          elim (found m ss q (λ t. IsSuffix t.0 name) s x (spell_suffixes rule m p held name) (ap (λ (r : Memory). get r s) (sym is) ∙ e)) [
+          elim (found m ss q (λ t. IsSuffix t.0 name) s x (spell_suffixes (spells_as rule m p held name)) (ap (λ (r : Memory). get r s) (sym is) ∙ e)) [
             | inl a ↦ inr (knows.only s x a)
             | inr a ↦ inl a.0
           ];
@@ -232,53 +206,30 @@ static_keeps_near = record { keeps = λ p held h few. static_keeps p held h few;
 pub hash_keeps_near : KeepsNear Hash
 hash_keeps_near = record { keeps = λ p held h few. refl; chosen = λ ss h. ap (λ (b : Bool). cond b ss []) h }
 
-module _ (rule : Rule) (r : KeepsNear rule) (m : Memory) (b : List ℕ) (q : ℕ) where
-  -- a label and the others, by what is known of the whole name: every label before a known suffix is kept, where it is of the others
-  kept_one : (p held : ℕ) (o : Option Spot) (keep : Bool) (label : List ℕ) (others : Labels) (after : List ℕ × List (Labels × ℕ)) (Others : Type 0)
-      → is_kept rule p held ≡ keep → IsLabel label → LabelsNear b q p → At b p (spell_label o keep label others p after).0
-      → SharesAll rule (held + length (spell_label o keep label others p after).1)
-      → (LabelsNear b q (p + 1 + length label) → At b (p + 1 + length label) after.0 → SharesAll rule (held + 1 + length after.1) → Others) → KeptLabel o keep Others
-  kept_one p held (Some x) keep label others after Others e is near h few rec = tt
-  kept_one p held None true label others after Others e is near h few rec =
-      let a = near_label near (label_begins is (label_part label after.0 h)) in
-      (refl, rec a.1 (behind_label label after.0 h) (few_less rule (held + 1 + length after.1) (held + suc (length after.1)) (omega arith) few))
-  kept_one p held None false label others after Others e is near h few rec =
-      let a = near_label near (label_begins is (label_part label (uncompressed others) h)) in
-      absurd (let t : true ≡ false = sym (r.keeps p held a.0 (few_less rule held (held + 0) (omega arith) few)) ∙ e in cc)
+-- where every label of a name that is written is near, every one before a known suffix is kept
+pub near_kept : {rule : Rule} {m : Memory} {p held : ℕ} {name : Labels} {text : List ℕ} {ss : List (Labels × ℕ)} (r : KeepsNear rule) (b : List ℕ) (q : ℕ) (s : SpellsAs rule m p held name text ss) → IsName name → LabelsNear b q p → At b p text → SharesAll rule (held + length ss) → AllKept s
+near_kept r b q at_root is near h few = tt
+near_kept r b q (at_known e) is near h few = tt
+near_kept {rule = rule} r b q (at_kept {held = held} {first = first} {rest = rest} {text = text} {ss = ss} e k s) is near h few =
+    let tail = name_tail first rest is in
+    let a = near_label near (label_begins tail.0 (label_part first text h)) in
+    near_kept r b q s tail.1 a.1 (behind_label first text h) (few_less rule (held + 1 + length ss) (held + suc (length ss)) (omega arith) few)
+near_kept {rule = rule} r b q (at_far {p = p} {held = held} {first = first} {rest = rest} e k) is near h few =
+    let a = near_label near (label_begins (name_tail first rest is).0 (label_part first (uncompressed rest) h)) in
+    let t : true ≡ false = sym (r.keeps p held a.0 (few_less rule held (held + 0) (omega arith) few)) ∙ k in
+    absurd (cc)
 
-  -- where every label of a name that is written is near, every one before a known suffix is kept
-  pub near_kept : (p held : ℕ) (name : Labels) → IsName name → LabelsNear b q p → At b p (spell rule m p held name).0
-      → SharesAll rule (held + length (spell rule m p held name).1) → AllKept rule m p held name
-  near_kept p held [] is near h few = tt
-  near_kept p held (label ∷ others) is near h few =
-      let tail = name_tail label others is in
-      let p' = p + 1 + length label in
-      kept_one p held (get m (label ∷ others)) (is_kept rule p held) label others (spell rule m p' (held + 1) others) (AllKept rule m p' (held + 1) others)
-      refl tail.0 near h few (λ near' h' few'. near_kept p' (held + 1) others tail.1 near' h' few')
-
-module _ (rule : Rule) (m : Memory) (b : List ℕ) (q : ℕ) where
-  -- a label and the others, by what is known of the whole name: every suffix that is written out is near, where it is of the others
-  near_one : (p : ℕ) (o : Option Spot) (keep : Bool) (label : List ℕ) (others : Labels) (after : List ℕ × List (Labels × ℕ))
-      → IsLabel label → LabelsNear b q p → At b p (spell_label o keep label others p after).0
-      → (LabelsNear b q (p + 1 + length label) → At b (p + 1 + length label) after.0 → list_all (λ s. nat_lt s.1 16384) after.1 ≡ true)
-      → list_all (λ s. nat_lt s.1 16384) (spell_label o keep label others p after).1 ≡ true
-  near_one p (Some x) keep label others after is near h rec = refl
-  near_one p None true label others after is near h rec =
-      let a = near_label near (label_begins is (label_part label after.0 h)) in
-      let small : nat_lt p 16384 ≡ true = let k = a.0 in grind (arith, common_steps) in
-      let behind = rec a.1 (behind_label label after.0 h) in
-      rw (small, behind) refl
-  near_one p None false label others after is near h rec = refl
-
-  -- where every label that is written is near, so is every suffix that is written out
-  pub near_suffixes : (p held : ℕ) (name : Labels) → IsName name → LabelsNear b q p → At b p (spell rule m p held name).0
-      → list_all (λ s. nat_lt s.1 16384) (spell rule m p held name).1 ≡ true
-  near_suffixes p held [] is near h = refl
-  near_suffixes p held (label ∷ others) is near h =
-      let tail = name_tail label others is in
-      let p' = p + 1 + length label in
-      near_one p (get m (label ∷ others)) (is_kept rule p held) label others (spell rule m p' (held + 1) others) tail.0 near h
-      (λ near' h'. near_suffixes p' (held + 1) others tail.1 near' h')
+-- where every label that is written is near, so is every suffix that is written out
+pub near_suffixes : {rule : Rule} {m : Memory} {p held : ℕ} {name : Labels} {text : List ℕ} {ss : List (Labels × ℕ)} (b : List ℕ) (q : ℕ) → SpellsAs rule m p held name text ss → IsName name → LabelsNear b q p → At b p text → list_all (λ s. nat_lt s.1 16384) ss ≡ true
+near_suffixes b q at_root is near h = refl
+near_suffixes b q (at_known e) is near h = refl
+near_suffixes b q (at_kept {p = p} {first = first} {rest = rest} {text = text} e k s) is near h =
+    let tail = name_tail first rest is in
+    let a = near_label near (label_begins tail.0 (label_part first text h)) in
+    let small : nat_lt p 16384 ≡ true = let k = a.0 in grind (arith, common_steps) in
+    let behind = near_suffixes b q s tail.1 a.1 (behind_label first text h) in
+    rw (small, behind) refl
+near_suffixes b q (at_far e k) is near h = refl
 
 -- an insert never lessens
 len_more : (m : Memory) (k : Labels) (v : Spot) (b : Bool) → len (insert m k v) ≡ cond b (len m) (len m + 1) → len m ≤ len (insert m k v)
@@ -308,24 +259,17 @@ longer label others h = let e : length others ≡ length h.first + suc (length o
 len_new : (r : Memory) (k : Labels) (v : Spot) → get r k ≡ None → len (insert r k v) ≡ len r + 1
 len_new r k v e = len-insert suffix_total r k v ∙ ap (λ (o : Option Spot). cond (is_some o) (len r) (len r + 1)) e
 
--- a label and the others, by what is known of the whole name: each suffix counts, where each of those of the others does
-len_one : (rule : Rule) (m : Memory) (q p : ℕ) (o : Option Spot) (keep : Bool) (label : List ℕ) (others : Labels) (after : List ℕ × List (Labels × ℕ)) → get m (label ∷ others) ≡ o
-    → Each (λ s. IsSuffix s.0 others) after.1 → len (remember m after.1 q) ≡ len m + length after.1
-    → let ss = (spell_label o keep label others p after).1 in len (remember m ss q) ≡ len m + length ss
-len_one rule m q p (Some x) keep label others after e each rec = omega arith
-len_one rule m q p None true label others after e each rec =
-    let r = remember m after.1 q in
-    let new : get r (label ∷ others) ≡ None = none_of (get r (label ∷ others)) (λ x f.
-    elim (found m after.1 q (λ t. IsSuffix t.0 others) (label ∷ others) x each f) [
-      | inl a ↦ let k : None ≡ Some x = sym e ∙ a in cc
-      | inr a ↦ longer label others a.0
-    ]) in
-    len_new r (label ∷ others) (record { place = p; end = q }) new ∙ omega (arith, rec)
-len_one rule m q p None false label others after e each rec = omega arith
-
 -- each suffix that is written out counts
-pub len_spell : (rule : Rule) (m : Memory) (q p held : ℕ) (name : Labels) → let ss = (spell rule m p held name).1 in len (remember m ss q) ≡ len m + length ss
-len_spell rule m q p held [] = omega arith
-len_spell rule m q p held (label ∷ others) =
-    let after = spell rule m (p + 1 + length label) (held + 1) others in
-    len_one rule m q p (get m (label ∷ others)) (is_kept rule p held) label others after refl (spell_suffixes rule m (p + 1 + length label) (held + 1) others) (len_spell rule m q (p + 1 + length label) (held + 1) others)
+pub len_spell : {rule : Rule} {m : Memory} {p held : ℕ} {name : Labels} {text : List ℕ} {ss : List (Labels × ℕ)} (q : ℕ) → SpellsAs rule m p held name text ss → len (remember m ss q) ≡ len m + length ss
+len_spell q at_root = omega arith
+len_spell q (at_known e) = omega arith
+len_spell {m = m} q (at_kept {p = p} {first = first} {rest = rest} {ss = ss} e k s) =
+    let r = remember m ss q in
+    let rec = len_spell q s in
+    let new : get r (first ∷ rest) ≡ None = none_of (get r (first ∷ rest)) (λ x f.
+    elim (found m ss q (λ t. IsSuffix t.0 rest) (first ∷ rest) x (spell_suffixes s) f) [
+      | inl a ↦ let k : None ≡ Some x = sym e ∙ a in cc
+      | inr a ↦ longer first rest a.0
+    ]) in
+    len_new r (first ∷ rest) (record { place = p; end = q }) new ∙ omega arith
+len_spell q (at_far e k) = omega arith

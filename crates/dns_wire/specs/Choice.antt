@@ -2,11 +2,8 @@
 use Rattle.std.specs.Prelude.{◌≡◌, ℕ, zero, suc, ◌+◌, ◌<◌, ◌≤◌, ◌⊎◌, Some, None, List, [], ◌∷◌, ◌++◌, length, take, drop}
 use Rattle.std.specs.List.{flat_map}
 use Rattle.std.specs.FinMap.{get, len}
-use Rattle.dns_name.specs.Names.{Labels, framed, name_size, uncompressed}
-use Rattle.dns_name.specs.Heads.{pointer_end}
-use Rattle.dns_wire.specs.Memory.{Memory, Spot, remember}
-use Rattle.dns_wire.specs.Pieces.{Rule, Plain, Static, Tree, Hash, Laid}
-use Rattle.dns_wire.specs.PutName.{pointer, put_name}
+use Rattle.dns_name.specs.Names.{Labels, framed, name_size, uncompressed, pointer_end}
+use Rattle.dns_wire.specs.Pieces.{Memory, Spot, remember, Rule, Plain, Static, Tree, Hash, Laid, pointer, put_name}
 
 -- where label i is written, if the name is written at w
 abbrev pub place_of : ℕ → Labels → ℕ → ℕ

@@ -1,14 +1,6 @@
-pub mod Memory
 pub mod Pieces
-pub mod PutName
 pub mod Parts
-pub mod Spelled
 pub mod Targets
-pub mod WrittenCode
-pub mod StandsIn
-pub mod Pointed
 pub mod Choice
 pub mod TargetLaws
 pub mod Spelling
-pub mod PartsWritten
-pub mod SpellingLaws

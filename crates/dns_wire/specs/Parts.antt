@@ -1,10 +1,8 @@
 -- What record data is made of, how it is written, and where it stands. RFC 1035 sections 3.3 and 4.1.4.
-use Rattle.std.specs.Prelude.{◌≡◌, ℕ, ◌+◌, List, [], ◌∷◌, length, take, slice_range}
-use Rattle.dns_name.specs.Names.{Labels, IsName, uncompressed}
-use Rattle.dns_wire.specs.Pieces.{Rule, Piece, put_octets, both}
-use Rattle.dns_wire.specs.PutName.{put_name}
-use Rattle.dns_name.specs.Standing.{Stands}
-use Rattle.dns_name.specs.Walking.{Walked}
+use Rattle.std.specs.Prelude.{◌≡◌, ℕ, ◌+◌, List, [], ◌∷◌, length, take, slice_range, ◌<◌, Ok}
+use Rattle.dns_name.specs.Names.{Labels, IsName, uncompressed, Stands, Walked, head_at, pointer_end}
+use Rattle.dns_name.specs.declared.head.Head.TheVariants.{Root, Label, Pointer}
+use Rattle.dns_wire.specs.Pieces.{Rule, Piece, put_octets, both, put_name}
 
 -- octets, or a name that may be compressed
 pub data Part : Type 0 where
@@ -40,3 +38,33 @@ abbrev pub AreParts : List Part → Type 0
 AreParts [] = Unit {0}
 AreParts (Octets octets ∷ parts) = AreParts parts
 AreParts (CompressibleName name ∷ parts) = IsName name × AreParts parts
+
+-- Pointers that lead back to labels. RFC 1035 section 4.1.4.
+
+-- From a place to q there are labels, and then a zero octet, or a pointer to an earlier place below 16,384 where a label begins.
+pub data WellPointed (b : List ℕ) (q : ℕ) : ℕ → Type 0 where
+  root : {p : ℕ} → head_at b p ≡ Ok Root → q ≡ p + 1 → WellPointed b q p
+  label : {p n : ℕ} → head_at b p ≡ Ok (Label n) → WellPointed b q (p + 1 + n) → WellPointed b q p
+  pointer : {p t n : ℕ} → head_at b p ≡ Ok (Pointer t) → t < p → t < pointer_end → head_at b t ≡ Ok (Label n) → q ≡ p + 2 → WellPointed b q p
+
+-- Where parts stand in octets, and where the labels and the pointers of the names among them do. RFC 1035 section 4.1.4.
+
+-- The parts fill the places from p to the end, one behind the other, and each name among them is written from its first place to the next part's as `IsWritten` says.
+abbrev pub PartsFill : (ℕ → ℕ → Type 0) → ℕ → ℕ → List Part → Type 0
+PartsFill IsWritten end p [] = p ≡ end
+PartsFill IsWritten end p (Octets octets ∷ parts) = PartsFill IsWritten end (p + length octets) parts
+PartsFill IsWritten end p (CompressibleName name ∷ parts) = (q : ℕ) × IsWritten p q × PartsFill IsWritten end q parts
+
+-- From a place to q there are labels, each of which begins below 16,384, and then a zero octet or a pointer.
+pub data LabelsNear (b : List ℕ) (q : ℕ) : ℕ → Type 0 where
+  root : {p : ℕ} → head_at b p ≡ Ok Root → q ≡ p + 1 → LabelsNear b q p
+  label : {p n : ℕ} → head_at b p ≡ Ok (Label n) → p < pointer_end → LabelsNear b q (p + 1 + n) → LabelsNear b q p
+  pointer : {p t : ℕ} → head_at b p ≡ Ok (Pointer t) → q ≡ p + 2 → LabelsNear b q p
+
+-- every label of the names among the parts begins below 16,384
+abbrev pub PartsNear : List ℕ → ℕ → ℕ → List Part → Type 0
+PartsNear b end p parts = PartsFill (λ p q. LabelsNear b q p) end p parts
+
+-- every pointer of the names among the parts leads to an earlier place below 16,384 where a label begins
+abbrev pub PartsPointed : List ℕ → ℕ → ℕ → List Part → Type 0
+PartsPointed b end p parts = PartsFill (λ p q. WellPointed b q p) end p parts

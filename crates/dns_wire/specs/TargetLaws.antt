@@ -1,20 +1,27 @@
 -- What holds of every target, and of all names and parts that are put there. RFC 1035 section 4.1.4.
-use Rattle.std.specs.Prelude.{◌≡◌, ℕ, ◌<◌, ◌≤◌, Some, Ok, List, ◌++◌, length, take, ◌⊎◌, ◌+◌, Bool, Option, Result, Err}
+use Rattle.std.specs.Prelude.{◌≡◌, ℕ, ◌+◌, ◌<◌, ◌≤◌, List, [], ◌∷◌, length, Ok, slice_get, Some, ◌++◌, take, ◌⊎◌, Bool, Option, Result, Err}
 use Rattle.std.specs.FinMap.{get}
-use Rattle.dns_name.specs.Names.{Labels, IsName, uncompressed}
-use Rattle.dns_name.specs.Heads.{head_at, pointer_end}
-use Rattle.dns_name.specs.Standing.{Stands}
-use Rattle.dns_name.specs.Walking.{Walked}
-use Rattle.dns_wire.specs.StandsIn.{StandsIn, Agree}
-use Rattle.dns_wire.specs.Pointed.{WellPointed}
-use Rattle.dns_wire.specs.Memory.{Memory, Spot, nothing, IsBehind, IsClear}
-use Rattle.dns_wire.specs.Pieces.{Rule, Piece, IsGrowing, put_octets, both}
-use Rattle.dns_wire.specs.PutName.{put_name}
-use Rattle.dns_wire.specs.Parts.{Part, PartsStand, AreParts, put_parts}
-use Rattle.dns_wire.specs.Spelled.{Remembers}
-use Rattle.dns_wire.specs.Targets.{Written, IsTarget, lay, cut_to, overwrite, Appends, Composes}
 use Rattle.dns_octets.specs.declared.error.AppendError.{AppendError}
-use Rattle.dns_name.specs.declared.head.Head.TheVariants.{Label}
+use Rattle.dns_name.specs.Names.{Labels, name_size, max_size, head_at, label_at, IsName, uncompressed, pointer_end, Stands, Walked}
+use Rattle.dns_name.specs.declared.head.Head.TheVariants.{Root, Label, Pointer}
+use Rattle.dns_wire.specs.Parts.{WellPointed, Part, PartsStand, AreParts, put_parts}
+use Rattle.dns_wire.specs.Pieces.{Memory, Spot, nothing, IsBehind, IsClear, Rule, Piece, IsGrowing, put_octets, both, put_name}
+use Rattle.dns_wire.specs.Targets.{Remembers, Written, IsTarget, lay, cut_to, overwrite, Appends, Composes}
+
+-- Names that stand between two places, and octets that agree there. RFC 1035 section 4.1.4.
+
+-- A name stands at a place, and all octets that it takes, also where its pointers lead, are at lo or behind it and before hi.
+pub data StandsIn (b : List ℕ) (lo hi : ℕ) : ℕ → Labels → Type 0 where
+  root : {p : ℕ} → lo ≤ p → p + 1 ≤ hi → head_at b p ≡ Ok Root → StandsIn b lo hi p []
+  label : {p n : ℕ} {name : Labels} → lo ≤ p → p + 1 + n ≤ hi → head_at b p ≡ Ok (Label n)
+      → StandsIn b lo hi (p + 1 + n) name → n + 1 + name_size name ≤ max_size → StandsIn b lo hi p (label_at b p n ∷ name)
+  pointer : {p t : ℕ} {name : Labels} → lo ≤ p → p + 2 ≤ hi → head_at b p ≡ Ok (Pointer t) → t < p
+      → StandsIn b lo hi t name → StandsIn b lo hi p name
+
+-- the same octets at each place from lo on and before hi
+pub record Agree (b c : List ℕ) (lo hi : ℕ) : Type 0 where
+  pub long : hi ≤ length c
+  pub same : (k : ℕ) → lo ≤ k → k < hi → slice_get b k ≡ slice_get c k
 
 -- a name stands in all octets that agree with these from lo to hi, where all octets are that it takes
 abbrev pub StandsWhereAgreed : Type 0

@@ -1,11 +1,40 @@
 -- What a target holds, and what its calls do to it.
-use Rattle.std.specs.Prelude.{◌≡◌, OnOk, OnErr, ℕ, ◌≤◌, ◌<◌, Bool, IsTrue, Option, None, Some, Result, Ok, Err, List, ◌++◌, length, take}
-use Rattle.dns_wire.specs.Memory.{Memory, cut}
+use Rattle.std.specs.Prelude.{◌≡◌, ℕ, ◌+◌, ◌≤◌, ◌<◌, Some, List, [], ◌∷◌, length, slice_range, OnOk, OnErr, Bool, IsTrue, Option, None, Result, Ok, Err, ◌++◌, take, refl}
+use Rattle.std.specs.FinMap.{get, code}
+use Rattle.std.specs.Coded.{Coded, code_by, coded×, coded_ℕ, coded_list}
 use Rattle.dns_octets.specs.Octets.{overwritten}
-use Rattle.dns_wire.specs.Pieces.{Piece}
-use Rattle.dns_wire.specs.Spelled.{Remembers}
 use Rattle.dns_octets.specs.declared.error.AppendError.{AppendError}
 use Rattle.dns_octets.specs.declared.error.AppendError.TheVariants.{ShortBuf, OutOfMemory}
+use Rattle.dns_name.specs.Names.{Labels, IsLabel, name_size, max_size, framed, pointer_end}
+use Rattle.dns_wire.specs.Pieces.{Memory, Spot, pointer as pointer_octets, cut, Piece}
+
+-- Names where they were written, with what a target remembers. RFC 1035 section 4.1.4.
+
+-- the octets stand at a place
+pub record At (b : List ℕ) (p : ℕ) (xs : List ℕ) : Type 0 where
+  pub within : p + length xs ≤ length b
+  pub same : slice_range b p (p + length xs) ≡ xs
+
+-- The octets from a place to q spell a name: labels, and then a zero octet or a pointer to where the memory says that the others stand.
+pub data Spelled (m : Memory) (b : List ℕ) (q : ℕ) : ℕ → Labels → Type 0 where
+  root : {p : ℕ} → At b p (0 ∷ []) → q ≡ p + 1 → Spelled m b q p []
+  label : {p : ℕ} {first : List ℕ} {rest : Labels} → IsLabel first → At b p (framed first) → Spelled m b q (p + 1 + length first) rest → Spelled m b q p (first ∷ rest)
+  pointer : {p : ℕ} {name : Labels} {x : Spot} → get m name ≡ Some x → x.end ≤ p → At b p (pointer_octets x.place) → q ≡ p + 2 → Spelled m b q p name
+
+-- the same, and it begins with a label
+abbrev pub Labelled : Memory → List ℕ → ℕ → ℕ → Labels → Type 0
+Labelled m b q p [] = ⊥
+Labelled m b q p (first ∷ rest) = IsLabel first × At b p (framed first) × Spelled m b q (p + 1 + length first) rest
+
+-- A remembered suffix: a pointer can lead to it, a label begins there, and the octets up to the name's end spell it.
+pub record IsRemembered (b : List ℕ) (m : Memory) (s : Labels) (x : Spot) : Type 0 where
+  pub near : x.place < pointer_end
+  pub short : name_size s ≤ max_size
+  pub spelled : Labelled m b x.end x.place s
+
+-- each suffix that the memory has is kept in the octets
+pub record Remembers (b : List ℕ) (m : Memory) : Type 0 where
+  pub each : (s : Labels) (x : Spot) → get m s ≡ Some x → IsRemembered b m s x
 
 -- octets, and what is remembered of them
 pub record Written : Type 0 where
@@ -60,3 +89,13 @@ pub record Composes (room : Option ℕ) (grows : Bool) (piece : Piece) (before a
   pub ok : OnOk result (after ≡ lay piece before)
   pub err : OnErr result (cut_to (length before.octets) after ≡ cut_to (length before.octets) before)
   pub answer : AnswersInSteps room grows (length (lay piece before).octets) result
+
+-- What a target holds, stored as plain data: the value of a model.
+
+-- the place and the end of a suffix
+abbrev pub spot_code : Coded Spot
+spot_code = code_by (ℕ × ℕ) (coded× coded_ℕ coded_ℕ) (λ s. (s.place, s.end)) (λ p. record { place = p.0; end = p.1 }) (λ _. refl)
+
+-- the octets and the memory
+abbrev pub written_code : Coded Written
+written_code = code_by (List ℕ × Memory) (coded× (coded_list coded_ℕ) (code (coded_list (coded_list coded_ℕ)) spot_code)) (λ w. (w.octets, w.memory)) (λ p. record { octets = p.0; memory = p.1 }) (λ _. refl)

@@ -1,7 +1,5 @@
 ghost use Rattle.std.specs.Prelude.{◌≡◌, ◌+◌, ◌≤◌, ℕ, Bool, Option, Some, None, true, false, length, refl, IfOk, OnErr, IsTrue};
-ghost use Rattle.dns_wire.specs.Memory.{IsClear, nothing};
-ghost use Rattle.dns_wire.specs.Pieces.{Rule, Plain, compresses, put_octets};
-ghost use Rattle.dns_wire.specs.PutName.{put_name};
+ghost use Rattle.dns_wire.specs.Pieces.{IsClear, nothing, Rule, Plain, compresses, put_octets, put_name};
 ghost use Rattle.dns_wire.specs.Targets.{Written, IsTarget, Fits, Appends, cut_to, overwrite};
 
 use arrayvec::ArrayVec;
@@ -99,7 +97,7 @@ impl Composer for Vec<u8> {
             .map_err(|_| AppendError::OutOfMemory)
     }
 
-    #[tactic(auto, unfolding(crate::specs::PutName::put_name))]
+    #[tactic(auto, unfolding(crate::specs::Pieces::put_name))]
     fn append_compressed_name<N: ToName>(&mut self, name: &N) -> Result<(), AppendError> {
         match name.as_flat_slice() {
             Some(octets) => self.append_slice(octets),
@@ -111,7 +109,7 @@ impl Composer for Vec<u8> {
         false
     }
 
-    #[tactic(auto, using(crate::proofs::theory::PlainTargets::cut_nothing, crate::proofs::theory::PlainTargets::nothing_is_kept))]
+    #[tactic(auto, using(crate::proofs::theory::Memories::cut_nothing, crate::proofs::theory::Memories::nothing_is_kept))]
     fn truncate(&mut self, len: usize) {
         self.truncate(len);
     }
@@ -155,7 +153,7 @@ impl<const N: usize> Composer for ArrayVec<u8, N> {
             .map_err(|_| AppendError::ShortBuf)
     }
 
-    #[tactic(auto, unfolding(crate::specs::PutName::put_name))]
+    #[tactic(auto, unfolding(crate::specs::Pieces::put_name))]
     fn append_compressed_name<M: ToName>(&mut self, name: &M) -> Result<(), AppendError> {
         match name.as_flat_slice() {
             Some(octets) => self.append_slice(octets),
@@ -167,7 +165,7 @@ impl<const N: usize> Composer for ArrayVec<u8, N> {
         false
     }
 
-    #[tactic(auto, using(crate::proofs::theory::PlainTargets::cut_nothing, crate::proofs::theory::PlainTargets::nothing_is_kept))]
+    #[tactic(auto, using(crate::proofs::theory::Memories::cut_nothing, crate::proofs::theory::Memories::nothing_is_kept))]
     fn truncate(&mut self, len: usize) {
         self.truncate(len)
     }

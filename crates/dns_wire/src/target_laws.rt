@@ -1,6 +1,6 @@
 //! Theorems on targets and what is put there. The functions do nothing: each contract is a theorem over all contents, names and parts.
 ghost use Rattle.dns_wire.specs.Choice.{NamesByChoice};
-ghost use Rattle.dns_wire.specs.SpellingLaws.{PartsAreShortest, PartsPointToLabels, ShortPartsAreNear};
+ghost use Rattle.dns_wire.specs.Spelling.{PartsAreShortest, PartsPointToLabels, ShortPartsAreNear};
 ghost use Rattle.dns_wire.specs.TargetLaws.{StandsWhereAgreed, StandsWithMore, StandsInAll, StandsOfIn, StandsWhenOverwritten};
 ghost use Rattle.dns_wire.specs.TargetLaws.{RemembersWhatStands, StandsBehind, NothingIsTarget, NameKeeps, OctetsKeep, CutKeeps, OverwriteKeeps};
 ghost use Rattle.dns_wire.specs.TargetLaws.{CutUndoes, NamesGrow, OctetsGrow, PartsGrow, BothGrow, PiecesStayBehind, NamesStayBehind};

@@ -1,6 +1,8 @@
-//! The program `dnsmsg` builds the message that a script on standard input describes:
+//! The program `dnsmsg` builds the message that a script on standard input describes, or prints the message that
+//! hexadecimal digits write:
 //!
 //!     dnsmsg build TARGET < SCRIPT
+//!     dnsmsg show < DIGITS
 //!
 //! What it does is that of `dns_message::tool`, which is proved to be safe and to end on every input.
 #![tactic(auto)]

@@ -2,18 +2,16 @@
 use Rattle.std.proofs.Common.{◌≡◌, ℕ, ◌+◌, ◌-◌, ◌≤◌, ◌⊎◌, inl, inr, List, [], ◌∷◌, length, drop, slice_range, length-take, length-drop, ap, sym, ◌∙◌, refl, subst, arith}
 use Rattle.std.proofs.lemmas.Bool.{cases_Bool}
 use Rattle.std.proofs.lemmas.Bool.Decides.{leb_tells}
-use Rattle.dns_name.specs.Fault.{Fault}
-use Rattle.dns_name.specs.Fault.Fault.{ShortInput}
-use Rattle.dns_name.specs.Names.{Labels}
+use Rattle.dns_name.specs.Names.{Fault, Labels, Stands, FaultAt}
+use Rattle.dns_name.specs.Names.Fault.{ShortInput}
 use Rattle.dns_wire.specs.Parts.{Part}
 use Rattle.dns_wire.specs.Parts.Part.{Octets, CompressibleName}
-use Rattle.dns_name.specs.Standing.{Stands, FaultAt}
 use Rattle.dns_name.specs.Unique.{same_name}
 use Rattle.dns_name.proofs.theory.AnswerLaws.{one_answer, standing_short}
 use Rattle.dns_name.proofs.theory.AnswerLaws as names
 use Rattle.dns_name.proofs.theory.WalkLaws.{one_end, standing_end, walked_in_octets}
-use Rattle.dns_data.specs.Layout.{Layout, DataStands, DataFaultAt}
-use Rattle.dns_data.specs.Layout.Layout.{End, Rest, Fixed, DomainName}
+use Rattle.dns_data.specs.Layout.{Layout, string_size, DataStands, DataFaultAt}
+use Rattle.dns_data.specs.Layout.Layout.{End, Rest, Fixed, CharacterString, DomainName}
 use Rattle.dns_data.specs.Laws.{OneDatumOrFault}
 
 module _ (b : List ℕ) where
@@ -32,6 +30,21 @@ module _ (b : List ℕ) where
       let m = length-drop p b in
       omega arith
 
+  -- data ends within the octets
+  pub data_within : (layout : Layout) (p q : ℕ) (parts : List Part) → p ≤ length b → DataStands b layout p q parts → q ≤ length b
+  data_within End p q parts l h = let end = h.0 in omega arith
+  data_within (Rest accepts) p q parts l h = let end = h.0 in omega arith
+  data_within (Fixed n layout) p q [] l h = absurd h
+  data_within (Fixed n layout) p q (CompressibleName x ∷ parts) l h = absurd h
+  data_within (Fixed n layout) p q (Octets x ∷ parts) l h = data_within layout (p + n) q parts (range_within p n x l h.0 h.1) h.2
+  data_within (CharacterString layout) p q [] l h = absurd h
+  data_within (CharacterString layout) p q (CompressibleName x ∷ parts) l h = absurd h
+  data_within (CharacterString layout) p q (Octets x ∷ parts) l h =
+      let n = string_size b p in data_within layout (p + n) q parts (range_within p n x l h.0 h.1) h.2
+  data_within (DomainName layout) p q [] l h = absurd h
+  data_within (DomainName layout) p q (Octets x ∷ parts) l h = absurd h
+  data_within (DomainName layout) p q (CompressibleName x ∷ parts) l h = data_within layout h.0 q parts (walked_in_octets h.2) h.3
+
   datum_or_fault : (layout : Layout) (p : ℕ) → ((q : ℕ) × (parts : List Part) × DataStands b layout p q parts) ⊎ ((f : Fault) × DataFaultAt b layout p f)
   datum_or_fault End p = inl (p, [], (refl, refl))
   datum_or_fault (Rest accepts) p = elim (cases_Bool (accepts (drop p b))) [
@@ -45,6 +58,15 @@ module _ (b : List ℕ) where
     ]
     | inr l ↦ inr (ShortInput, inl (refl, l.1))
   ]
+  datum_or_fault (CharacterString layout) p =
+      let n = string_size b p in
+      elim (leb_tells (p + n) (length b)) [
+        | inl l ↦ elim (datum_or_fault layout (p + n)) [
+          | inl d ↦ inl (d.0, Octets (slice_range b p (p + n)) ∷ d.1, (length-range p n l.1, refl, d.2))
+          | inr f ↦ inr (f.0, inr (l.1, f.1))
+        ]
+        | inr l ↦ inr (ShortInput, inl (refl, l.1))
+      ]
   datum_or_fault (DomainName layout) p = elim (one_answer b p) [
     | inl x ↦
         let w = standing_end 0 x.1 x.2 in
@@ -66,6 +88,14 @@ module _ (b : List ℕ) where
       let behind = one_datum layout (p + n) q r xs ys h.2 k.2 in
       let same : x ≡ y = sym h.1 ∙ k.1 in
       (behind.0, cc (same, behind.1))
+  one_datum (CharacterString layout) p q r [] ys h k = absurd h
+  one_datum (CharacterString layout) p q r (CompressibleName x ∷ xs) ys h k = absurd h
+  one_datum (CharacterString layout) p q r (Octets x ∷ xs) [] h k = absurd k
+  one_datum (CharacterString layout) p q r (Octets x ∷ xs) (CompressibleName y ∷ ys) h k = absurd k
+  one_datum (CharacterString layout) p q r (Octets x ∷ xs) (Octets y ∷ ys) h k =
+      let behind = one_datum layout (p + string_size b p) q r xs ys h.2 k.2 in
+      let same : x ≡ y = sym h.1 ∙ k.1 in
+      (behind.0, cc (same, behind.1))
   one_datum (DomainName layout) p q r [] ys h k = absurd h
   one_datum (DomainName layout) p q r (Octets x ∷ xs) ys h k = absurd h
   one_datum (DomainName layout) p q r (CompressibleName x ∷ xs) [] h k = absurd k
@@ -83,6 +113,13 @@ module _ (b : List ℕ) where
   not_both (Fixed n layout) p q (CompressibleName x ∷ parts) f l h k = h
   not_both (Fixed n layout) p q (Octets x ∷ parts) f l h (inl k) = let w = range_within p n x l h.0 h.1 in let short = k.1 in omega arith
   not_both (Fixed n layout) p q (Octets x ∷ parts) f l h (inr k) = not_both layout (p + n) q parts f k.0 h.2 k.1
+  not_both (CharacterString layout) p q [] f l h k = h
+  not_both (CharacterString layout) p q (CompressibleName x ∷ parts) f l h k = h
+  not_both (CharacterString layout) p q (Octets x ∷ parts) f l h (inl k) =
+      let w = range_within p (string_size b p) x l h.0 h.1 in
+      let short = k.1 in
+      omega arith
+  not_both (CharacterString layout) p q (Octets x ∷ parts) f l h (inr k) = not_both layout (p + string_size b p) q parts f k.0 h.2 k.1
   not_both (DomainName layout) p q [] f l h k = h
   not_both (DomainName layout) p q (Octets x ∷ parts) f l h k = h
   not_both (DomainName layout) p q (CompressibleName x ∷ parts) f l h (inl k) = name_or_fault h.1 k
@@ -97,6 +134,10 @@ module _ (b : List ℕ) where
   one_fault (Fixed n layout) p f g (inl h) (inr k) = let short = h.1 in let long = k.0 in absurd (omega arith)
   one_fault (Fixed n layout) p f g (inr h) (inl k) = let short = k.1 in let long = h.0 in absurd (omega arith)
   one_fault (Fixed n layout) p f g (inr h) (inr k) = one_fault layout (p + n) f g h.1 k.1
+  one_fault (CharacterString layout) p f g (inl h) (inl k) = h.0 ∙ sym k.0
+  one_fault (CharacterString layout) p f g (inl h) (inr k) = let short = h.1 in let long = k.0 in absurd (omega arith)
+  one_fault (CharacterString layout) p f g (inr h) (inl k) = let short = k.1 in let long = h.0 in absurd (omega arith)
+  one_fault (CharacterString layout) p f g (inr h) (inr k) = one_fault layout (p + string_size b p) f g h.1 k.1
   one_fault (DomainName layout) p f g (inl h) (inl k) = names.one_fault b h k
   one_fault (DomainName layout) p f g (inl h) (inr k) = absurd (name_or_fault k.2 h)
   one_fault (DomainName layout) p f g (inr h) (inl k) = absurd (name_or_fault h.2 k)

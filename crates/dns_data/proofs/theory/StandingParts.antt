@@ -1,11 +1,12 @@
 -- Parts that fill a span are read in each layout that they have.
-use Rattle.std.proofs.Common.{◌≡◌, ℕ, ◌+◌, ◌-◌, ◌≤◌, List, [], ◌∷◌, length, take, drop, slice_range, ap, sym, ◌∙◌, refl, subst, arith}
+use Rattle.std.proofs.Common.{◌≡◌, ℕ, ◌+◌, ◌-◌, ◌<◌, ◌≤◌, List, [], ◌∷◌, length, take, drop, slice_index, slice_range, ap, sym, ◌∙◌, refl, subst, arith}
 use Rattle.std.specs.Prelude.{IsTrue}
-use Rattle.std.proofs.lemmas.List.{drop-take, take-take, length-take-le}
+use Rattle.std.proofs.lemmas.List.{drop-take, take-take, length-take-le, get_or-take, get_or-drop}
 use Rattle.dns_wire.specs.Parts.{Part, PartsStand}
 use Rattle.dns_wire.specs.Parts.Part.{Octets, CompressibleName}
 use Rattle.dns_name.proofs.theory.WalkLaws.{walked_rises}
-use Rattle.dns_data.specs.Layout.Layout.{End, Rest, Fixed, DomainName}
+use Rattle.dns_data.specs.Layout.{string_size, DataStands}
+use Rattle.dns_data.specs.Layout.Layout.{End, Rest, Fixed, CharacterString, DomainName}
 use Rattle.dns_data.specs.Laws.{StandingPartsRead}
 
 -- parts go on from their place
@@ -20,6 +21,14 @@ range_before b end p n l =
     let more : end ≡ p + (end - p) = omega arith in
     let few : p + n - p ≤ end - p = omega arith in
     ap (λ e. take (p + n - p) (drop p (take e b))) more ∙ ap (take (p + n - p)) (drop-take p (end - p) b) ∙ take-take (p + n - p) (end - p) (drop p b) few
+
+-- a character string begins with the octet at its place
+string_size-range : (b : List ℕ) (p n : ℕ) (octets : List ℕ) → 0 < n → slice_range b p (p + n) ≡ octets → string_size octets 0 ≡ string_size b p
+string_size-range b p n octets l is =
+    let size : p + n - p ≡ n = omega arith in
+    let start : p + 0 ≡ p = omega arith in
+    let first : slice_index (slice_range b p (p + n)) 0 ≡ slice_index b p = ap (λ k. slice_index (take k (drop p b)) 0) size ∙ get_or-take n (drop p b) 0 0 l ∙ get_or-drop p b 0 0 ∙ ap (slice_index b) start in
+    ap (λ (xs : List ℕ). string_size xs 0) (sym is) ∙ ap (λ k. 1 + k) first
 
 pub standing_parts_read : StandingPartsRead
 standing_parts_read b end p End parts l h is = by parts h is
@@ -39,6 +48,13 @@ standing_parts_read b end p (Fixed n layout) (Octets octets ∷ parts) l h is =
     let behind : PartsStand b end (p + n) parts = subst (λ k. PartsStand b end (p + k) parts) is.0 h.1 in
     let here : slice_range b p (p + n) ≡ octets = subst (λ k. slice_range b p (p + k) ≡ octets) is.0 h.0 in
     (is.0, range_before b end p n (parts_rise b end (p + n) parts behind) ∙ here, standing_parts_read b end (p + n) layout parts l behind is.1)
+standing_parts_read b end p (CharacterString layout) [] l h is = absurd is
+standing_parts_read b end p (CharacterString layout) (CompressibleName name ∷ parts) l h is = absurd is
+standing_parts_read b end p (CharacterString layout) (Octets octets ∷ parts) l h is =
+    let next = p + length octets in
+    let here : slice_range (take end b) p next ≡ octets = range_before b end p (length octets) (parts_rise b end next parts h.1) ∙ h.0 in
+    let size : length octets ≡ string_size (take end b) p = is.0 ∙ string_size-range (take end b) p (length octets) octets (omega (arith, is.0)) here in
+    (size, subst (λ k. slice_range (take end b) p (p + k) ≡ octets) size here, subst (λ k. DataStands (take end b) layout (p + k) end parts) size (standing_parts_read b end next layout parts l h.1 is.1))
 standing_parts_read b end p (DomainName layout) [] l h is = absurd is
 standing_parts_read b end p (DomainName layout) (Octets octets ∷ parts) l h is = absurd is
 standing_parts_read b end p (DomainName layout) (CompressibleName name ∷ parts) l h is = (h.0, h.1, h.2, standing_parts_read b end h.0 layout parts l h.3 is)

@@ -3,17 +3,12 @@ use Rattle.std.proofs.Common.{◌≡◌, ℕ, zero, suc, ◌+◌, ◌-◌, ◌*�
 use Rattle.std.specs.Prelude.{Result, Ok, Err, All}
 use Rattle.std.proofs.lemmas.List.Elements.{All-cons}
 use Rattle.std.proofs.lemmas.Bool.Decides.{leb_tells}
-use Rattle.dns_name.specs.Fault.{Fault}
-use Rattle.dns_name.specs.Fault.Fault.{ShortInput, Form}
-use Rattle.dns_name.specs.Names.{Labels, IsLabel, IsName, name_size, max_size}
-use Rattle.dns_name.specs.Heads.{head_at}
-use Rattle.dns_name.specs.Standing.{Stands, Faulty, label_at}
-use Rattle.dns_name.specs.Standing.Faulty.{head, long, cut, ahead, label, pointer}
+use Rattle.dns_name.specs.Names.{Fault, Labels, IsLabel, IsName, name_size, max_size, head_at, Stands, Faulty, label_at}
+use Rattle.dns_name.specs.Names.Fault.{ShortInput, Form}
+use Rattle.dns_name.specs.Names.Faulty.{head, long, cut, ahead, label, pointer}
 use Rattle.dns_name.specs.declared.head.Head.{Head}
 use Rattle.dns_name.specs.declared.head.Head.TheVariants.{Root, Label, Pointer}
-use Rattle.dns_name.proofs.Places.{at_label, at_pointer}
-use Rattle.dns_name.proofs.theory.HeadLemmas.{label_head}
-use Rattle.dns_name.proofs.Walks.{name_size-label_at, length_label}
+use Rattle.dns_name.proofs.theory.HeadLemmas.{at_label, at_pointer, name_size-label_at, length_label, label_head}
 
 module _ (b : List ℕ) where
   no_head : {p : ℕ} {name : Labels} {f : Fault} → Stands b p name → head_at b p ≡ Err f → ⊥

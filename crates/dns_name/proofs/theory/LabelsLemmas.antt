@@ -1,7 +1,6 @@
 -- What is known of the labels of a name.
 use Rattle.std.proofs.Common.{◌≡◌, ℕ, ◌+◌, List, [], ◌∷◌, length, length-append, arith, refl}
-use Rattle.dns_name.specs.Names.{Labels, name_size, uncompressed, with_root}
-use Rattle.dns_name.specs.Standing.{Stands}
+use Rattle.dns_name.specs.Names.{Labels, name_size, uncompressed, with_root, Stands}
 use Rattle.dns_name.specs.Unique.{NameOfSize}
 use Rattle.dns_name.specs.ParsedName.{labels}
 use Rattle.dns_name.specs.declared.parsed_name.ParsedName.{ParsedName}

@@ -6,10 +6,9 @@ use Rattle.std.proofs.lemmas.Bool.Decides.{nat_tests}
 use Rattle.std.proofs.lemmas.Grind.{common_steps}
 use Rattle.std.proofs.lemmas.List.{map-append, length-map}
 use Rattle.std.proofs.lemmas.List.Elements.{All-head, All-tail}
-use Rattle.dns_name.specs.Names.{Labels, IsLabel, IsName, framed, lowered_label, lowered, uncompressed}
-use Rattle.dns_name.specs.Standing.{Stands}
+use Rattle.dns_name.specs.Names.{Labels, IsLabel, IsName, framed, lowered_label, lowered, uncompressed, Stands}
 use Rattle.dns_name.specs.Uncompressed.{WholeName}
-use Rattle.dns_name.specs.NameLabels.{name_labels}
+use Rattle.dns_name.specs.NameReading.{name_labels}
 use Rattle.dns_name.specs.ParsedName.{labels}
 use Rattle.dns_octets.specs.declared.octets.Octets.{Ghosts}
 use Rattle.dns_name.specs.declared.name.Name.{Name}

@@ -1,14 +1,14 @@
 -- A text has one leftmost fault at most, and none where it spells a name.
-use Rattle.std.proofs.Common.{◌≡◌, ◌∙◌, ℕ, zero, suc, ◌+◌, ◌<◌, ◌≤◌, true, false, nat_eq, nat_lt, List, [], ◌∷◌, ◌++◌, length, ap, sym, subst, refl, arith, inl, inr, append_assoc, append-nil, length-append}
+use Rattle.std.proofs.Common.{◌≡◌, ◌∙◌, ℕ, zero, suc, ◌+◌, ◌<◌, ◌≤◌, true, false, nat_eq, nat_lt, List, [], ◌∷◌, ◌++◌, length, ap, sym, subst, refl, arith, inl, inr, append_assoc, append-nil, length-append, ◌⊎◌, Bool}
 use Rattle.std.specs.Prelude.{All, Option, Some, None, if◌then◌else◌}
 use Rattle.std.proofs.lemmas.Bool.Decides.{nat_tests}
 use Rattle.std.proofs.lemmas.List.Elements.{All-head, All-tail}
+use Rattle.std.proofs.lemmas.Bool.{cases_lt}
 use Rattle.dns_name.specs.Names.{Labels, IsLabel, name_size, max_size}
-use Rattle.dns_name.specs.NameTexts.{dot, backslash, SpellsFirst, SpellsLabel, SpellsLabels, NameTextFaulty}
-use Rattle.dns_name.specs.NameTextLaws.{OneTextFault, TextNameOrFaultNotBoth}
+use Rattle.dns_name.specs.NameTexts.{dot, backslash, SpellsFirst, SpellsLabel, SpellsLabels, NameTextFaulty, OneTextFault, TextNameOrFaultNotBoth, OneTextName, SpellsOctet, SpellsName, NameTextFault, TextNameOrFault}
 use Rattle.dns_name.specs.declared.name_error.PresentationError.{PresentationError}
 use Rattle.dns_name.specs.declared.name_error.PresentationError.TheVariants.{EmptyLabel, BadSymbol, BadEscape, LongLabel, LongName}
-use Rattle.dns_name.proofs.OctetTexts.{octet_read, first_is, first_shorter, octet_long, none_read, symbol_read}
+use Rattle.dns_name.proofs.OctetTexts.{octet_read, first_is, first_shorter, octet_long, none_read, symbol_read, octet_view, none_spelled, symbol_of}
 
 -- the fault where no octet is read; `next` tells what is behind a dot
 abbrev none_fault : (List ℕ → ℕ → ℕ → Option PresentationError) → List ℕ → ℕ → ℕ → Option PresentationError
@@ -142,3 +142,223 @@ text_name_or_fault_not_both text name f (inr x) (inr y) =
     let none = labels_step x.0 x.1.labels 0 (omega (arith, x.1.short)) (length text) (omega arith) in
     let some = fault_known y.1 (length text) (omega arith) in
     cc
+
+-- A text spells one name at most.
+
+-- an octet more in front of the first label
+abbrev push : ℕ → Labels → Labels
+push o [] = []
+push o (label ∷ others) = (o ∷ label) ∷ others
+
+-- the labels, where what is read of the text is known; `next` tells those of what is behind
+abbrev read_labels : (List ℕ → Labels) → Option (ℕ × List ℕ) → List ℕ → Labels
+read_labels next (Some (o, rest)) text = push o (next rest)
+read_labels next None [] = [] ∷ []
+read_labels next None (c ∷ []) = [] ∷ []
+read_labels next None (c ∷ d ∷ text) = [] ∷ next (d ∷ text)
+
+-- the labels of a text; the number is above the text's length
+abbrev labels_of_text : ℕ → List ℕ → Labels
+labels_of_text zero text = []
+labels_of_text (suc k) text = read_labels (labels_of_text k) (octet_read text) text
+
+octet_passed : {text rest label : List ℕ} {others : Labels} {o : ℕ} → SpellsFirst text o rest
+    → ((j : ℕ) → length rest < j → labels_of_text j rest ≡ label ∷ others) → (k : ℕ) → length text < k → labels_of_text k text ≡ (o ∷ label) ∷ others
+octet_passed s after zero h = absurd (omega (arith, h))
+octet_passed {o = o} s after (suc k) h = rw (first_is s) (ap (push o) (after k (omega (arith, h, first_shorter s))))
+
+label_passed : {front label : List ℕ} → SpellsLabel front label → (rest : List ℕ) (others : Labels)
+    → ((j : ℕ) → length rest < j → labels_of_text j rest ≡ [] ∷ others) → (k : ℕ) → length (front ++ rest) < k → labels_of_text k (front ++ rest) ≡ label ∷ others
+label_passed SpellsLabel.none rest others after k h = after k h
+label_passed (SpellsLabel.octet {front = a} {text = b} s l) rest others after k h =
+    octet_passed (record { front = a; whole = append_assoc a b rest; spelled = s }) (λ j within. label_passed l rest others after j within) k h
+
+end_passed : (k : ℕ) → 0 < k → labels_of_text k [] ≡ [] ∷ []
+end_passed zero h = absurd (omega (arith, h))
+end_passed (suc k) h = refl
+
+last_dot_passed : (k : ℕ) → 1 < k → labels_of_text k (dot ∷ []) ≡ [] ∷ []
+last_dot_passed zero h = absurd (omega (arith, h))
+last_dot_passed (suc k) h = refl
+
+dot_passed : (text : List ℕ) (others : Labels) → 0 < length text → ((j : ℕ) → length text < j → labels_of_text j text ≡ others)
+    → (k : ℕ) → length (dot ∷ text) < k → labels_of_text k (dot ∷ text) ≡ [] ∷ others
+dot_passed [] others some after k h = absurd (omega (arith, some))
+dot_passed (d ∷ text) others some after zero h = absurd (omega (arith, h))
+dot_passed (d ∷ text) others some after (suc k) h = ap (λ (ls : Labels). [] ∷ ls) (after k (omega (arith, h)))
+
+labels_are : {text : List ℕ} {name : Labels} → SpellsLabels text name → All IsLabel name → (k : ℕ) → length text < k → labels_of_text k text ≡ name
+labels_are (SpellsLabels.last {text = text} {label = label} l) all k h =
+    let whole = append-nil text in
+    subst (λ t. labels_of_text k t ≡ label ∷ []) whole (label_passed l [] [] (λ j within. end_passed j (omega (arith, within))) k (omega (arith, h, ap length whole)))
+labels_are (SpellsLabels.closed l) all k h = label_passed l (dot ∷ []) [] (λ j within. last_dot_passed j (omega (arith, within))) k h
+labels_are (SpellsLabels.more {text = text} {label = label} {rest = rest} l others) all k h =
+    let behind = All-tail IsLabel label rest all in
+    label_passed l (dot ∷ text) rest (λ j within. dot_passed text rest (labels_long others behind) (λ i fits. labels_are others behind i fits) j within) k h
+
+dot_spells_no_labels : (text : List ℕ) (name : Labels) → text ≡ dot ∷ [] → SpellsLabels text name → All IsLabel name → ⊥
+dot_spells_no_labels text name e s all =
+    let same = labels_are (subst (λ t. SpellsLabels t name) e s) all 2 (omega arith) in
+    let first = (All-head IsLabel [] [] (subst (λ n. All IsLabel n) (sym same) all)).some in
+    omega (arith, first)
+
+-- one name at most
+pub one_text_name : OneTextName
+one_text_name text m n (inl x) (inl y) = x.1 ∙ sym y.1
+one_text_name text m n (inl x) (inr y) = absurd (dot_spells_no_labels text n x.0 y.0 y.1.labels)
+one_text_name text m n (inr x) (inl y) = absurd (dot_spells_no_labels text m y.0 x.0 x.1.labels)
+one_text_name text m n (inr x) (inr y) = sym (labels_are x.0 x.1.labels (suc (length text)) (omega arith)) ∙ labels_are y.0 y.1.labels (suc (length text)) (omega arith)
+
+-- A text spells a name, or it has a fault.
+
+-- The text spells the rest of a label of which n octets are read, behind labels of the size, and more labels.
+record Rest (text : List ℕ) (n size : ℕ) : Type 0 where
+  label : List ℕ
+  others : Labels
+  spelled : SpellsLabels text (label ∷ others)
+  some : 0 < n + length label
+  short : n + length label ≤ 63
+  labels : All IsLabel others
+  room : size + n + length label + 1 + name_size others ≤ max_size
+
+abbrev Faulty : List ℕ → ℕ → ℕ → Type 0
+Faulty text n size = (f : PresentationError) × NameTextFaulty text n size f
+
+no_labels : All IsLabel []
+no_labels k d h = absurd (omega (arith, h))
+
+spells_octet : {front text label : List ℕ} {others : Labels} {o : ℕ} → SpellsOctet front o → SpellsLabels text (label ∷ others) → SpellsLabels (front ++ text) ((o ∷ label) ∷ others)
+spells_octet s (SpellsLabels.last l) = SpellsLabels.last (SpellsLabel.octet s l)
+spells_octet {front = front} {label = label} {o = o} s (SpellsLabels.closed {text = text} l) =
+    subst (λ t. SpellsLabels t ((o ∷ label) ∷ [])) (append_assoc front text (dot ∷ [])) (SpellsLabels.closed (SpellsLabel.octet s l))
+spells_octet {front = front} {label = label} {others = others} {o = o} s (SpellsLabels.more {front = first} {text = text} l m) =
+    subst (λ t. SpellsLabels t ((o ∷ label) ∷ others)) (append_assoc front first (dot ∷ text)) (SpellsLabels.more (SpellsLabel.octet s l) m)
+
+-- an octet more in front
+rest_octet : {text rest : List ℕ} {o : ℕ} (n size : ℕ) → SpellsFirst text o rest → Rest rest (n + 1) size → Rest text n size
+rest_octet {rest = rest} {o = o} n size s x = record {
+  label = o ∷ x.label;
+  others = x.others;
+  spelled = subst (λ t. SpellsLabels t ((o ∷ x.label) ∷ x.others)) (sym s.whole) (spells_octet s.spelled x.spelled);
+  some = omega arith;
+  short = let h = x.short in omega (arith, h);
+  labels = x.labels;
+  room = let h = x.room in omega (arith, h);
+}
+
+-- the end of the text
+rest_end : (n size : ℕ) → 0 < n → n ≤ 63 → size + n + 1 ≤ max_size → Rest [] n size
+rest_end n size some short room = record {
+  label = [];
+  others = [];
+  spelled = SpellsLabels.last SpellsLabel.none;
+  some = omega (arith, some);
+  short = omega (arith, short);
+  labels = no_labels;
+  room = omega (arith, room);
+}
+
+-- a dot at the end
+rest_dot : (n size : ℕ) → 0 < n → n ≤ 63 → size + n + 1 ≤ max_size → Rest (dot ∷ []) n size
+rest_dot n size some short room = record {
+  label = [];
+  others = [];
+  spelled = SpellsLabels.closed SpellsLabel.none;
+  some = omega (arith, some);
+  short = omega (arith, short);
+  labels = no_labels;
+  room = omega (arith, room);
+}
+
+cons_label : (label : List ℕ) (others : Labels) → IsLabel label → All IsLabel others → All IsLabel (label ∷ others)
+cons_label label others h all zero d within = h
+cons_label label others h all (suc k) d within = all k d (omega (arith, within))
+
+-- a dot and more labels
+rest_more : (text : List ℕ) (n size : ℕ) → 0 < n → n ≤ 63 → Rest text 0 (size + n + 1) → Rest (dot ∷ text) n size
+rest_more text n size some short x =
+    let a = x.some in
+    let b = x.short in
+    let c = x.room in
+    record {
+      label = [];
+      others = x.label ∷ x.others;
+      spelled = SpellsLabels.more SpellsLabel.none x.spelled;
+      some = omega (arith, some);
+      short = omega (arith, short);
+      labels = cons_label x.label x.others (record { some = omega (arith, a); short = omega (arith, b) }) x.labels;
+      room = omega (arith, c);
+    }
+
+abbrev Decided : List ℕ → ℕ → ℕ → Type 0
+Decided text n size = Rest text n size ⊎ Faulty text n size
+
+-- where an octet is read
+at_octet : {text rest : List ℕ} {o : ℕ} (n size : ℕ) → SpellsFirst text o rest → n ≤ 63 → (n < 63 → size + n + 2 ≤ max_size → Decided rest (n + 1) size) → Decided text n size
+at_octet n size s short next =
+    elim (cases_lt n 63) [
+      | inl fits ↦ elim (cases_lt max_size (size + n + 2)) [
+        | inl long ↦ inr (LongName, NameTextFaulty.long_name s fits long)
+        | inr room ↦ elim (next fits room) [ inl x ↦ inl (rest_octet n size s x) | inr f ↦ inr (f.0, NameTextFaulty.octet s fits room f.1) ]
+      ]
+      | inr long ↦ inr (LongLabel, (let is : n ≡ 63 = omega (arith, short, long) in NameTextFaulty.long_label s is))
+    ]
+
+-- where a dot is next
+at_dot : (text : List ℕ) (n size : ℕ) → n ≤ 63 → (0 < n → size + n + 1 ≤ max_size) → (0 < n → 0 < length text → Decided text 0 (size + n + 1)) → Decided (dot ∷ text) n size
+at_dot text zero size short room next = inr (EmptyLabel, NameTextFaulty.empty)
+at_dot [] (suc n) size short room next = inl (rest_dot (suc n) size (omega arith) short (room (omega arith)))
+at_dot (c ∷ text) (suc n) size short room next =
+    elim (next (omega arith) (omega arith)) [
+      | inl x ↦ inl (rest_more (c ∷ text) (suc n) size (omega arith) short x)
+      | inr f ↦ inr (f.0, (let some : 0 < suc n = omega arith in NameTextFaulty.behind_dot some f.1))
+    ]
+
+-- where no octet is read
+at_none : (c : ℕ) (text : List ℕ) (n size : ℕ) (d b : Bool) → nat_eq c dot ≡ d → nat_eq c backslash ≡ b → octet_read (c ∷ text) ≡ None
+    → n ≤ 63 → (0 < n → size + n + 1 ≤ max_size) → (0 < n → 0 < length text → Decided text 0 (size + n + 1)) → Decided (c ∷ text) n size
+at_none c text n size true b p q none short room next =
+    let is : c ≡ dot = grind (arith, nat_tests) in
+    subst (λ x. Decided (x ∷ text) n size) (sym is) (at_dot text n size short room next)
+at_none c text n size false true p q none short room next =
+    let is : c ≡ backslash = grind (arith, nat_tests) in
+    let gone : octet_read (backslash ∷ text) ≡ None = subst (λ x. octet_read (x ∷ text) ≡ None) is none in
+    subst (λ x. Decided (x ∷ text) n size) (sym is) (inr (BadEscape, NameTextFaulty.escape (none_spelled (backslash ∷ text) gone)))
+at_none c text n size false false p q none short room next = inr (BadSymbol, NameTextFaulty.symbol (symbol_of c text p q none))
+
+decided : (k : ℕ) (text : List ℕ) (n size : ℕ) → length text ≤ k → 0 < n + length text → n ≤ 63 → (0 < n → size + n + 1 ≤ max_size) → Decided text n size
+decided k [] n size h some short room = inl (rest_end n size (omega (arith, some)) short (room (omega (arith, some))))
+decided zero (c ∷ text) n size h some short room = absurd (omega (arith, h))
+decided (suc k) (c ∷ text) n size h some short room =
+    elim (octet_view (c ∷ text)) [
+      | inl none ↦ at_none c text n size _ _ refl refl none short room (λ a b. decided k text 0 (size + n + 1) (omega (arith, h)) (omega (arith, b)) (omega arith) (λ z. omega (arith, z)))
+      | inr s ↦ at_octet n size s.2 short (λ fits more. decided k s.1 (n + 1) size (omega (arith, h, first_shorter s.2)) (omega arith) (omega (arith, fits)) (λ z. omega (arith, more)))
+    ]
+
+-- a text of one character at least
+some_text : (c : ℕ) (text : List ℕ) → (c ∷ text ≡ dot ∷ [] → ⊥) → ((name : Labels) × SpellsName (c ∷ text) name) ⊎ ((f : PresentationError) × NameTextFault (c ∷ text) f)
+some_text c text other =
+    elim (decided (length (c ∷ text)) (c ∷ text) 0 0 (omega arith) (omega arith) (omega arith) (λ z. omega (arith, z))) [
+      | inl x ↦ inl (
+        x.label ∷ x.others,
+        inr (
+          x.spelled,
+          (let a = x.some in let b = x.short in let r = x.room in
+              record { labels = cons_label x.label x.others (record { some = omega (arith, a); short = omega (arith, b) }) x.labels; short = omega (arith, r) }),
+        ),
+      )
+      | inr f ↦ inr (f.0, inr (other, f.1))
+    ]
+
+not_dot : (c : ℕ) → nat_eq c dot ≡ false → c ≡ dot → ⊥
+not_dot c p is = grind (arith, nat_tests)
+
+first_dot : (c : ℕ) (d : Bool) → nat_eq c dot ≡ d → ((name : Labels) × SpellsName (c ∷ []) name) ⊎ ((f : PresentationError) × NameTextFault (c ∷ []) f)
+first_dot c true p = let is : c ≡ dot = grind (arith, nat_tests) in inl ([], inl (ap (λ x. x ∷ []) is, refl))
+first_dot c false p = some_text c [] (λ e. let is : c ≡ dot = cc in absurd (not_dot c p is))
+
+-- a name or a fault
+pub text_name_or_fault : TextNameOrFault
+text_name_or_fault [] = inr (EmptyLabel, inl (refl, refl))
+text_name_or_fault (c ∷ []) = first_dot c _ refl
+text_name_or_fault (c ∷ d ∷ text) = some_text c (d ∷ text) (λ e. cc)

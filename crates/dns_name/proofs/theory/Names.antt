@@ -1,6 +1,7 @@
 -- What stands at each place of all octets: one name or one fault, and one walked extent or one skip fault.
-use Rattle.std.proofs.Common.{arith, inl, inr}
-use Rattle.dns_name.specs.Laws.{NameOrFault, NameOrFaultNotBoth, OneName, OneFault, EndOrSkipFault, EndOrSkipFaultNotBoth, OneEnd, StandingNamesEnd, SkipFaultsAreFaults}
+use Rattle.std.proofs.Common.{arith, inl, inr, refl, Ok, Err}
+use Rattle.dns_name.specs.Laws.{NameOrFault, NameOrFaultNotBoth, OneName, OneFault, EndOrSkipFault, EndOrSkipFaultNotBoth, OneEnd, StandingNamesEnd, SkipFaultsAreFaults, SkippingEndsAlike, SkippingFailsAlike}
+use Rattle.dns_name.specs.Parsers.{seen}
 use Rattle.dns_name.specs.Unique.{same_name as same}
 use Rattle.dns_name.proofs.theory.AnswerLaws as answers
 use Rattle.dns_name.proofs.theory.WalkLaws as walks
@@ -31,3 +32,12 @@ names_end b p name x = walks.standing_end 0 x (omega (arith, answers.standing_sh
 
 pub skip_faults : SkipFaultsAreFaults
 skip_faults b p f x = walks.skip_fault b x
+
+-- what parsing and skipping answer at one place agrees
+pub ends_alike : SkippingEndsAlike
+ends_alike old parsed skipped name (Ok done) h k = (refl, walks.one_end (seen old) k.0 h.1.0)
+ends_alike old parsed skipped name (Err e) h k = absurd (walks.end_or_fault (seen old) h.1.0 k.0)
+
+pub fails_alike : SkippingFailsAlike
+fails_alike old parsed skipped e (Ok name) k h = absurd (walks.end_or_fault (seen old) h.1.0 k.0)
+fails_alike old parsed skipped e (Err f) k h = answers.one_fault (seen old) h.0 (walks.skip_fault (seen old) k.0)

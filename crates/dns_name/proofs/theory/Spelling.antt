@@ -5,18 +5,12 @@ use Rattle.std.proofs.lemmas.List.{take-append-drop, drop-drop}
 use Rattle.std.proofs.lemmas.List.Elements.{All-head, All-tail}
 use Rattle.std.proofs.lemmas.Option.{get_or_from_slice_get, slice_get_within}
 use Rattle.std.proofs.Math.Seq.{drop-cons, drop-append_seam, take-append_seam}
-use Rattle.dns_name.specs.Fault.{Fault}
-use Rattle.dns_name.specs.Names.{Labels, IsLabel, IsName, name_size, max_size, uncompressed}
-use Rattle.dns_name.specs.Heads.{head_at}
-use Rattle.dns_name.specs.HeadAnswers.{Begins}
-use Rattle.dns_name.specs.Standing.{Stands, label_at}
-use Rattle.dns_name.specs.Walking.{SkipFaulty}
+use Rattle.dns_name.specs.Names.{Fault, Labels, IsLabel, IsName, name_size, max_size, uncompressed, head_at, Begins, Stands, label_at, SkipFaulty}
 use Rattle.dns_name.specs.Uncompressed.{IsUncompressed, WholeName, WholeName-prop}
 use Rattle.dns_name.specs.declared.head.Head.TheVariants.{Root, Label, Pointer}
-use Rattle.dns_name.proofs.theory.HeadLemmas.{label_there, root_there, root_begins, label_begins}
+use Rattle.dns_name.proofs.theory.HeadLemmas.{label_there, root_there, root_begins, label_begins, Passes, passes_none, passes_label, name_size-label_at, length_label}
 use Rattle.dns_name.proofs.theory.AnswerLaws.{not_both}
 use Rattle.dns_name.proofs.theory.WalkLaws.{skip_fault}
-use Rattle.dns_name.proofs.Walks.{Passes, passes_none, passes_label, name_size-label_at, length_label}
 
 -- the octets from a place on begin with the one that is there
 drop_at : (b : List ℕ) (p x : ℕ) → slice_get b p ≡ Some x → drop p b ≡ x ∷ drop (p + 1) b

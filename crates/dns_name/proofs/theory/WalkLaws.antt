@@ -2,17 +2,12 @@
 use Rattle.std.proofs.Common.{◌≡◌, ℕ, zero, suc, ◌+◌, ◌-◌, ◌<◌, ◌≤◌, ◌⊎◌, inl, inr, List, length, arith, sym, refl, subst}
 use Rattle.std.specs.Prelude.{Result, Ok, Err}
 use Rattle.std.proofs.lemmas.Bool.Decides.{leb_tells}
-use Rattle.dns_name.specs.Fault.{Fault}
-use Rattle.dns_name.specs.Fault.Fault.{ShortInput, Form}
-use Rattle.dns_name.specs.Names.{Labels, name_size, max_size}
-use Rattle.dns_name.specs.Heads.{head_at}
-use Rattle.dns_name.specs.Standing.{Stands, Faulty}
-use Rattle.dns_name.specs.Walking.{WalkedBehind, SkipFaulty}
-use Rattle.dns_name.specs.Walking.SkipFaulty.{head, long, cut, label}
+use Rattle.dns_name.specs.Names.{Fault, Labels, name_size, max_size, head_at, Stands, Faulty, WalkedBehind, SkipFaulty}
+use Rattle.dns_name.specs.Names.Fault.{ShortInput, Form}
+use Rattle.dns_name.specs.Names.SkipFaulty.{head, long, cut, label}
 use Rattle.dns_name.specs.declared.head.Head.{Head}
 use Rattle.dns_name.specs.declared.head.Head.TheVariants.{Root, Label, Pointer}
-use Rattle.dns_name.proofs.theory.HeadLemmas.{root_within, pointer_within}
-use Rattle.dns_name.proofs.Walks.{name_size-label_at}
+use Rattle.dns_name.proofs.theory.HeadLemmas.{root_within, pointer_within, name_size-label_at}
 
 module _ (b : List ℕ) where
   end_root : {p s q : ℕ} → WalkedBehind b p s q → head_at b p ≡ Ok Root → q ≡ p + 1

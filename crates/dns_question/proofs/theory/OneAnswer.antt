@@ -4,19 +4,14 @@ use Rattle.std.specs.Prelude.{Option, Some, None, Result, Ok, Err}
 use Rattle.dns_name.specs.Names.{Labels}
 use Rattle.dns_name.specs.NameTexts.{SpellsName, NameTextFault}
 use Rattle.dns_name.specs.declared.name_error.PresentationError.{PresentationError}
-use Rattle.dns_name.proofs.theory.NameOrTextFault.{text_name_or_fault}
-use Rattle.dns_name.proofs.theory.NameTextFaults.{one_text_fault, text_name_or_fault_not_both}
-use Rattle.dns_name.proofs.theory.OneTextName.{one_text_name}
-use Rattle.dns_code.specs.Classes.{SpellsClass}
-use Rattle.dns_code.specs.Types.{SpellsType}
-use Rattle.dns_question.specs.QuestionReading.{Fields, named}
-use Rattle.dns_question.specs.QuestionTextLaws.{EachTextAnswered, OneTextAnswer, EachWordsAnswered, OneWordsAnswer}
-use Rattle.dns_question.specs.QuestionTexts.{Answer, ReadsWords}
+use Rattle.dns_name.proofs.theory.NameTextFaults.{text_name_or_fault, one_text_fault, text_name_or_fault_not_both, one_text_name}
+use Rattle.dns_number.specs.Classes.{SpellsClass}
+use Rattle.dns_number.specs.Types.{SpellsType}
+use Rattle.dns_question.specs.QuestionTexts.{Fields, named, EachTextAnswered, OneTextAnswer, EachWordsAnswered, OneWordsAnswer, Answer, ReadsWords}
 use Rattle.dns_question.specs.QuestionTexts.ReadsWords.{no_name, bad_name, name_alone, class_alone, no_type_behind_class, class_and_type, neither, type_alone, no_class_behind_type, type_and_class, trailing}
 use Rattle.dns_question.specs.declared.question_error.PresentationErrorEnum.TheVariants.{BadName, MissingQname, MissingClassAndQtype, MissingQtype, BadClass, BadQtype, TrailingData}
-use Rattle.dns_question.proofs.OneWords.{one_words}
+use Rattle.dns_question.proofs.WordLemmas.{one_words, some_words}
 use Rattle.dns_question.proofs.SpelledNumbers.{type_of, class_of, found, none_found}
-use Rattle.dns_question.proofs.WordLemmas.{some_words}
 
 -- ---- what a word is, as a name
 

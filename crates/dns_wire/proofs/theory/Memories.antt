@@ -1,13 +1,16 @@
 -- What a cut leaves of a memory, and what is added to it.
-use Rattle.std.proofs.Common.{◌≡◌, ℕ, ◌≤◌, ◌<◌, Bool, true, false, cond, Option, Some, None, ap, sym, ◌∙◌, subst, refl, arith, inl, inr}
+use Rattle.std.proofs.Common.{◌≡◌, ℕ, ◌≤◌, ◌<◌, Bool, true, false, cond, Option, Some, None, ap, sym, ◌∙◌, subst, refl, arith, inl, inr, ◌≢◌, nat_le, List, [], ◌∷◌, length, ◌⊎◌}
 use Rattle.std.specs.Prelude.{nat_le}
 use Rattle.std.proofs.lemmas.Grind.{common_steps}
 use Rattle.std.proofs.lemmas.Option.{cond_some}
-use Rattle.std.specs.FinMap.{get, insert, same_map, get-retain_keys, get-insert}
+use Rattle.std.specs.FinMap.{get, insert, same_map, get-retain_keys, get-insert, get-empty}
 use Rattle.std.specs.Cmp.{Equal-is}
 use Rattle.std.specs.Ordering.{eq_by_cmp}
+use Rattle.std.proofs.lemmas.Bool.Decides.{nat_tests}
+use Rattle.std.proofs.lemmas.Cmp.{eq_by_cmp_equiv}
 use Rattle.dns_name.specs.Names.{Labels}
-use Rattle.dns_wire.specs.Memory.{suffix_cmp, suffix_total, suffix_exact, Spot, Memory, ends_within, cut, IsWithin, IsBehind, IsOldOrWithin, Extends}
+use Rattle.dns_wire.specs.Pieces.{suffix_cmp, suffix_total, suffix_exact, Spot, Memory, ends_within, cut, IsWithin, IsBehind, IsOldOrWithin, Extends, remember, nothing, IsClear}
+use Rattle.dns_wire.specs.Targets.{Remembers}
 
 -- what a cut has at a suffix
 pub get-cut : (m : Memory) (len : ℕ) (q : Labels) → get (cut m len) q ≡ cond (ends_within len (get m q)) (get m q) None
@@ -113,3 +116,70 @@ behind_one a w v before after l (inr new) h x e =
 -- what is new stands behind what was there
 pub behind_more : {m n : Memory} {w v : ℕ} (a : ℕ) → a ≤ w → Extends m n w v → IsBehind m a → IsBehind n a
 behind_more {m = m} {n = n} {w = w} {v = v} a l g h = record { each = λ s x e. behind_one a w v (get m s) (get n s) l (g.each s) (λ y f. h.each s y f) x e }
+
+-- A memory with suffixes added.
+
+-- suffixes that differ are told apart
+pub untied : (q k : Labels) (b : Bool) → eq_by_cmp suffix_cmp q k ≡ b → q ≢ k → b ≡ false
+untied q k true e n = absurd (n (tied q k e))
+untied q k false e n = refl
+
+-- each suffix is itself
+pub tied_self : (q : Labels) → eq_by_cmp suffix_cmp q q ≡ true
+tied_self q = (eq_by_cmp_equiv suffix_total).refl q
+
+-- what is added is found
+pub get-insert_same : (m : Memory) (k : Labels) (x : Spot) → get (insert m k x) k ≡ Some x
+get-insert_same m k x = get-insert suffix_total m k x k ∙ ap (λ b. cond b (Some x) (get m k)) (tied_self k)
+
+-- and changes no other suffix
+pub get-insert_other : (m : Memory) (k : Labels) (x : Spot) (q : Labels) → q ≢ k → get (insert m k x) q ≡ get m q
+get-insert_other m k x q n = get-insert suffix_total m k x q ∙ ap (λ b. cond b (Some x) (get m q)) (untied q k _ refl n)
+
+-- a suffix is the one that was added, or is as before
+pub insert_cases : (m : Memory) (k : Labels) (x : Spot) (q : Labels) → ((q ≡ k) × (get (insert m k x) q ≡ Some x)) ⊎ (get (insert m k x) q ≡ get m q)
+insert_cases m k x q = cases_by _ refl
+  where
+    cases_by : (b : Bool) → eq_by_cmp suffix_cmp q k ≡ b → ((q ≡ k) × (get (insert m k x) q ≡ Some x)) ⊎ (get (insert m k x) q ≡ get m q)
+    cases_by true is = inl (tied q k is, get-insert suffix_total m k x q ∙ ap (λ b. cond b (Some x) (get m q)) is)
+    cases_by false is = inr (get-insert suffix_total m k x q ∙ ap (λ b. cond b (Some x) (get m q)) is)
+
+-- a suffix that ends past a cut leaves nothing
+pub cut-insert_late : (m : Memory) (k : Labels) (x : Spot) (len : ℕ) → get m k ≡ None → len < x.end → cut (insert m k x) len ≡ cut m len
+cut-insert_late m k x len none l = same_memory _ _ (λ q. get-cut (insert m k x) len q ∙ late_by q (insert_cases m k x q) ∙ sym (get-cut m len q))
+  where
+    late : cond (ends_within len (Some x)) (Some x) None ≡ None
+    late = let b : nat_le x.end len ≡ false = grind (arith, nat_tests) in rw b refl
+
+    late_by : (q : Labels) → ((q ≡ k) × (get (insert m k x) q ≡ Some x)) ⊎ (get (insert m k x) q ≡ get m q)
+        → cond (ends_within len (get (insert m k x) q)) (get (insert m k x) q) None ≡ cond (ends_within len (get m q)) (get m q) None
+    late_by q (inl h) = rw (h.1, ap (get m) h.0 ∙ none) late
+    late_by q (inr h) = ap (λ o. cond (ends_within len o) o None) h
+
+-- the suffixes have fewer labels
+abbrev pub AreShorter : ℕ → List (Labels × ℕ) → Type 0
+AreShorter n [] = Unit {0}
+AreShorter n (s ∷ ss) = (length s.0 < n) × AreShorter n ss
+
+-- so they are none of a longer name
+pub get-remember_longer : (m : Memory) (ss : List (Labels × ℕ)) (end : ℕ) (k : Labels) → get m k ≡ None → AreShorter (length k) ss → get (remember m ss end) k ≡ None
+get-remember_longer m [] end k none h = none
+get-remember_longer m (s ∷ ss) end k none h =
+    get-insert_other (remember m ss end) s.0 (record { place = s.1; end = end }) k (λ e. let z = ap length e in let l = h.0 in omega arith)
+    ∙ get-remember_longer m ss end k none h.1
+
+-- Targets that remember nothing.
+
+pub cut_nothing : (len : ℕ) → cut nothing len ≡ nothing
+cut_nothing len = same_memory _ _ (λ q. get-cut nothing len q ∙ rw get-empty refl)
+
+pub nothing_is_kept : (b : List ℕ) → Remembers b nothing
+nothing_is_kept b = record { each = λ s x e. absurd (let k : None ≡ Some x = sym (get-empty suffix_cmp s) ∙ e in cc) }
+
+-- where nothing is remembered, all octets may be written over
+pub clear_nothing : (a n : ℕ) → IsClear nothing a n
+clear_nothing a n s x h = absurd (let k : None ≡ Some x = sym (get-empty suffix_cmp s) ∙ h in cc)
+
+-- so of a memory that is empty
+pub clear_plain : (m : Memory) (a n : ℕ) → m ≡ nothing → IsClear m a n
+clear_plain m a n e = subst (λ (q : Memory). IsClear q a n) (sym e) (clear_nothing a n)

@@ -1,18 +1,22 @@
 -- Pieces behind one another, each with what it puts.
-use Rattle.std.proofs.Common.{◌≡◌, ℕ, ◌+◌, ◌≤◌, List, [], ◌∷◌, ◌++◌, length, length-append, append_assoc, arith, sym, ◌∙◌, refl, subst}
+use Rattle.std.proofs.Common.{◌≡◌, ℕ, ◌+◌, ◌≤◌, List, [], ◌∷◌, ◌++◌, length, length-append, append_assoc, arith, sym, ◌∙◌, refl, subst, ◌-◌, ◌<◌, ◌^◌, ap, nat_le, Bool, true, false, cond, Option, Some, None, Ok, Err}
 use Rattle.std.proofs.Math.Seq.{take-append_seam}
+use Rattle.std.specs.Int.{to_be_bytes, from_be_bytes, w16, w32}
+use Rattle.std.proofs.lemmas.Nat.{from_be_bytes-to_be_bytes_2, from_be_bytes-to_be_bytes_4}
+use Rattle.std.proofs.lemmas.Grind.{common_steps}
+use Rattle.std.proofs.lemmas.List.{take-append-le}
+use Rattle.std.specs.FinMap.{get}
+use Rattle.dns_octets.specs.declared.error.AppendError.{AppendError}
+use Rattle.dns_octets.specs.declared.error.AppendError.TheVariants.{ShortBuf, OutOfMemory}
 use Rattle.dns_name.specs.Names.{Labels, IsName}
-use Rattle.dns_wire.specs.Pieces.{Rule, Piece, IsGrowing, put_octets, both}
-use Rattle.dns_wire.specs.PutName.{put_name}
+use Rattle.dns_name.specs.Parsers.{number_at}
+use Rattle.dns_wire.specs.Pieces.{Rule, Piece, IsGrowing, put_octets, both, put_name, Memory, with_length, Spot, cut, ends_within}
 use Rattle.dns_wire.specs.Parts.{Part, Octets, CompressibleName, PartsStand, AreParts, put_parts}
-use Rattle.dns_wire.specs.Spelled.{At, Spelled}
-use Rattle.dns_wire.specs.Targets.{Written, IsTarget, lay}
-use Rattle.dns_wire.specs.TargetLaws.{CutUndoes}
-use Rattle.dns_wire.proofs.theory.Memories.{cut-extends, cut-within, gets}
-use Rattle.dns_wire.proofs.theory.GrowingPieces.{put_name_grows, put_octets_grows, both_grows}
-use Rattle.dns_wire.proofs.theory.OctetsAt.{at_append, at_end}
-use Rattle.dns_wire.proofs.theory.SpelledNames.{spelled_long, spelled_more, kept_more, stands_within, walked_within}
-use Rattle.dns_wire.proofs.theory.PutNames.{ends_within_content, puts_name}
+use Rattle.dns_wire.specs.Targets.{At, Spelled, Written, IsTarget, lay, cut_to, Fits, Passes, AnswersInSteps, Composes}
+use Rattle.dns_wire.specs.TargetLaws.{CutUndoes, AppendsCompose, ComposesBoth, ComposesFirst}
+use Rattle.dns_wire.proofs.theory.Memories.{cut-extends, cut-within, gets, get-cut, same_memory}
+use Rattle.dns_wire.proofs.theory.PutNames.{put_name_grows, put_octets_grows, both_grows, with_length_grows, ends_within_content, puts_name}
+use Rattle.dns_wire.proofs.theory.SpelledNames.{at_append, at_end, spelled_long, spelled_more, kept_more, stands_within, walked_within}
 
 -- targets with the same octets and the same memory are the same
 pub same_written : (t u : Written) → t.octets ≡ u.octets → t.memory ≡ u.memory → t ≡ u
@@ -144,3 +148,127 @@ parts_stand (Octets xs ∷ parts) t p q is good h =
 parts_stand (CompressibleName name ∷ parts) t p q is good h =
     let l = parts_rise parts t h.0 q h.2 in
     (h.0, stands_within q good l is.0.short h.1, walked_within q good l is.0.short h.1, parts_stand parts t h.0 q is.1 good h.2)
+
+-- Numbers that stand at places, and pieces behind their length.
+
+-- a number of two octets is read where its octets stand
+pub number_16 : (b : List ℕ) (p n : ℕ) → n < 2 ^ 16 → At b p (to_be_bytes w16 n) → number_at w16 b p ≡ n
+number_16 b p n l h = ap (from_be_bytes w16) h.same ∙ from_be_bytes-to_be_bytes_2 n l
+
+-- so is one of four
+pub number_32 : (b : List ℕ) (p n : ℕ) → n < 2 ^ 32 → At b p (to_be_bytes w32 n) → number_at w32 b p ≡ n
+number_32 b p n l h = ap (from_be_bytes w32) h.same ∙ from_be_bytes-to_be_bytes_4 n l
+
+-- a fact behind two octets that tell how many others go up to q
+abbrev pub HasLength : (Written → ℕ → ℕ → Type 0) → Written → ℕ → ℕ → Type 0
+HasLength P t p q = At t.octets p (to_be_bytes w16 (q - (p + 2))) × P t (p + 2) q × (q ≤ p + 2 + 65535)
+
+-- it stays
+pub stable_length : (P : Written → ℕ → ℕ → Type 0) → IsStable P → IsStable (HasLength P)
+stable_length P f = record { stays = λ piece t p q grows h. (at_append _ h.0, f.stays piece t (p + 2) q grows h.1, h.2) }
+
+-- how many octets a piece takes behind its length
+pub length_of : Piece → Written → ℕ
+length_of a t = length (a t.memory (length t.octets + 2)).octets
+
+-- a piece behind its length is two pieces
+pub lay-with_length : (a : Piece) (t : Written) → lay (both (put_octets (to_be_bytes w16 (length_of a t))) a) t ≡ lay (with_length a) t
+unfolding length_of
+lay-with_length a t = refl
+
+size-with_length : (a : Piece) (t : Written)
+    → length (lay (both (put_octets (to_be_bytes w16 (length_of a t))) a) t).octets ≡ length t.octets + 2 + length_of a t
+unfolding length_of
+size-with_length a t =
+    let text = (a t.memory (length t.octets + 2)).octets in
+    let n = length-append t.octets (to_be_bytes w16 (length text) ++ text) in
+    omega arith
+
+length_small : (a : Piece) (t : Written) → ((m : Memory) (w : ℕ) → length (a m w).octets ≤ 65535) → length_of a t ≤ 65535
+unfolding length_of
+length_small a t small = small t.memory (length t.octets + 2)
+
+-- a piece that is never longer than 65,535 octets is put behind its length
+pub puts_with_length : (a : Piece) (P : Written → ℕ → ℕ → Type 0) → ((m : Memory) (w : ℕ) → length (a m w).octets ≤ 65535) → Puts a P → Puts (with_length a) (HasLength P)
+puts_with_length a P small x = record {
+  grows = with_length_grows a x.grows;
+  keeps = λ t h.
+      let length_octets = to_be_bytes w16 (length_of a t) in
+      subst (λ (u : Written). IsTarget u) (lay-with_length a t)
+      ((puts_both (put_octets length_octets) a (HasOctets length_octets) P (stable_octets length_octets) (puts_octets length_octets) x).keeps t h);
+  puts = λ t h.
+      let n = length_of a t in
+      let u = lay (both (put_octets (to_be_bytes w16 n)) a) t in
+      let p = length t.octets in
+      let two = (puts_both (put_octets (to_be_bytes w16 n)) a (HasOctets (to_be_bytes w16 n)) P (stable_octets (to_be_bytes w16 n)) (puts_octets (to_be_bytes w16 n)) x).puts t h in
+      let size = size-with_length a t in
+      let is : n ≡ length u.octets - (p + 2) = omega arith in
+      let few : n ≤ 65535 = length_small a t small in
+      subst (λ (v : Written). HasLength P v p (length v.octets)) (lay-with_length a t)
+      (subst (λ k. At u.octets p (to_be_bytes w16 k)) is two.1.0, subst (λ r. P u r (length u.octets)) two.1.1 two.2, omega arith);
+}
+
+-- A piece that is put in by several appends.
+
+-- of two tests of one end the smaller one counts
+twice_at : (d e : ℕ) (x : Spot) (p : Option Spot) → d ≤ e → (b : Bool) → nat_le x.end e ≡ b → p ≡ cond b (Some x) None → cond (ends_within d p) p None ≡ cond (nat_le x.end d) (Some x) None
+twice_at d e x p l true is h = rw h refl
+twice_at d e x p l false is h = rw h (let late : e < x.end = grind (arith, common_steps) in grind (arith, common_steps))
+
+-- also where there is no such end
+twice : (d e : ℕ) (o p : Option Spot) → d ≤ e → p ≡ cond (ends_within e o) o None → cond (ends_within d p) p None ≡ cond (ends_within d o) o None
+twice d e None p l h = rw h refl
+twice d e (Some x) p l h = twice_at d e x p l (nat_le x.end e) refl h
+
+-- of two cuts the shorter one counts
+pub cut-cut : (m : Memory) (d e : ℕ) → d ≤ e → cut (cut m e) d ≡ cut m d
+cut-cut m d e l = same_memory _ _ (λ q. get-cut (cut m e) d q ∙ twice d e (get m q) (get (cut m e) q) l (get-cut m e q) ∙ sym (get-cut m d q))
+
+-- so of a target
+cut_to-cut_to : (t : Written) (d e : ℕ) → d ≤ e → cut_to d (cut_to e t) ≡ cut_to d t
+cut_to-cut_to t d e l = same_written _ _ (grind (arith, common_steps)) (cut-cut t.memory d e l)
+
+-- a cut before a growing piece leaves nothing of it
+pub cut_to-lay : (piece : Piece) (t : Written) (w : ℕ) → IsGrowing piece → w ≤ length t.octets → cut_to w (lay piece t) ≡ cut_to w t
+cut_to-lay piece t w g l = same_written _ _ (take-append-le w t.octets _ l) (cut-extends t.memory _ (length t.octets) _ w l (g.grows t.memory (length t.octets)))
+
+-- what passes a room, passes it with more
+passes_more : (room : Option ℕ) (n k : ℕ) → n ≤ k → Passes room n → Passes room k
+passes_more None n k l h = h
+passes_more (Some r) n k l h = omega arith
+
+-- an append composes its piece
+pub appends_compose : AppendsCompose
+appends_compose room grows a t u (Ok x) h = record { ok = h.ok; err = h.err; answer = h.answer }
+appends_compose room grows a t u (Err ShortBuf) h = record { ok = h.ok; err = ap (cut_to (length t.octets)) h.err; answer = h.answer }
+appends_compose room grows a t u (Err OutOfMemory) h = record { ok = h.ok; err = ap (cut_to (length t.octets)) h.err; answer = h.answer.1 }
+
+-- what was composed behind a piece composes both
+pub composes_both : ComposesBoth
+composes_both room grows a b t u v (Ok x) g e h = record {
+  ok = h.ok ∙ (ap (lay b) e ∙ lay-both a b t);
+  err = tt;
+  answer = subst (λ w. Fits room (length w.octets)) (ap (lay b) e ∙ lay-both a b t) h.answer;
+}
+composes_both room grows a b t u v (Err d) g e h = record {
+  ok = tt;
+  err =
+      let longer : length t.octets ≤ length u.octets = rw e (rw length-append (omega arith)) in
+      sym (cut_to-cut_to v (length t.octets) (length u.octets) longer) ∙ ap (cut_to (length t.octets)) h.err
+      ∙ cut_to-cut_to u _ _ longer ∙ ap (cut_to (length t.octets)) e ∙ cut_to-lay a t (length t.octets) g (omega arith);
+  answer = subst (λ w. AnswersInSteps {X = Unit} room grows (length w.octets) (Err d)) (ap (lay b) e ∙ lay-both a b t) h.answer;
+}
+
+-- a refusal of the first is one of both
+stopped : (room : Option ℕ) (grows : Bool) (a b : Piece) (t u : Written) (e : AppendError)
+    → Composes room grows a t u {X = Unit} (Err e) → Composes room grows (both a b) t u {X = Unit} (Err e)
+stopped room grows a b t u ShortBuf h = record {
+  ok = tt;
+  err = h.err;
+  answer = passes_more room (length (lay a t).octets) (length (lay (both a b) t).octets) (rw (length-append, length-append, length-append) (omega arith)) h.answer;
+}
+stopped room grows a b t u OutOfMemory h = record { ok = tt; err = h.err; answer = h.answer }
+
+-- where the first of two pieces is refused, both are
+pub composes_first : ComposesFirst
+composes_first room grows a b t u r q e is out h = rw out (stopped room grows a b t u e (rw is at h))

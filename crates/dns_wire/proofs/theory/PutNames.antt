@@ -1,22 +1,129 @@
 -- A name that is put behind octets is spelled there, and what is remembered of it is kept.
-use Rattle.std.proofs.Common.{◌≡◌, ℕ, ◌+◌, ◌<◌, ◌≤◌, ◌⊎◌, inl, inr, Bool, true, false, cond, List, [], ◌∷◌, ◌++◌, length, length-append, arith, ap, sym, ◌∙◌, refl, subst}
+use Rattle.std.proofs.Common.{◌≡◌, ℕ, ◌+◌, ◌≤◌, ◌<◌, Bool, true, false, cond, Option, Some, None, List, [], ◌∷◌, ◌++◌, length, length-append, refl, arith, ◌⊎◌, inl, inr, ap, sym, ◌∙◌, subst}
+use Rattle.std.specs.FinMap.{get, len, get-insert}
 use Rattle.std.specs.Prelude.{Option, Some, None, nat_lt}
 use Rattle.std.specs.List.{list_all}
 use Rattle.std.proofs.lemmas.Bool.{and_parts}
 use Rattle.std.proofs.lemmas.Grind.{common_steps}
-use Rattle.std.specs.FinMap.{get, len, get-insert}
 use Rattle.std.specs.Ordering.{eq_by_cmp}
-use Rattle.dns_name.specs.Names.{Labels, IsName, name_size, max_size, uncompressed}
-use Rattle.dns_wire.specs.Memory.{Memory, Spot, remember, IsWithin, suffix_cmp, suffix_total}
-use Rattle.dns_wire.specs.Pieces.{Rule, Plain, Static, Tree, Hash}
-use Rattle.dns_wire.specs.PutName.{spell, spell_label, kept, is_kept, put_name}
-use Rattle.dns_wire.specs.Spelled.{At, Spelled, Labelled, IsRemembered, Remembers}
-use Rattle.dns_wire.specs.Spelled.Spelled.{root, label, pointer}
-use Rattle.dns_wire.proofs.theory.Memories.{gets, tied}
-use Rattle.dns_wire.proofs.theory.GrowingPieces.{put_name_grows}
-use Rattle.dns_wire.proofs.theory.OctetsAt.{at_end, label_part, behind_label}
+use Rattle.dns_name.specs.Names.{Labels, IsName, name_size, max_size, uncompressed, framed}
 use Rattle.dns_name.proofs.theory.Spelling.{name_tail}
-use Rattle.dns_wire.proofs.theory.SpelledNames.{moved, kept_moved, kept_more, kept_spelled, spelled_long}
+use Rattle.dns_wire.specs.Pieces.{Spot, Memory, remember, Extends, IsGrowing, Rule, Plain, Static, Tree, Hash, Piece, put_octets, both, with_length, spell_label, spell, kept, pointer as put_pointer, put_name, IsWithin, suffix_cmp, suffix_total, is_kept}
+use Rattle.dns_wire.specs.Parts.{Part, Octets, CompressibleName, put_part, put_parts}
+use Rattle.dns_wire.specs.Targets.{At, Spelled, Labelled, IsRemembered, Remembers}
+use Rattle.dns_wire.specs.Targets.Spelled.{root, label, pointer}
+use Rattle.dns_wire.proofs.theory.Memories.{extends_refl, extends_wider, extends_join, inserted, gets, tied}
+use Rattle.dns_wire.proofs.theory.SpelledNames.{at_end, label_part, behind_label, moved, kept_moved, kept_more, kept_spelled, spelled_long}
+
+-- Names, octets and parts remember only suffixes that they write.
+
+-- the suffixes are new to the memory, and stand at w or later
+abbrev AreNew : Memory → ℕ → List (Labels × ℕ) → Type 0
+AreNew m w [] = Unit {0}
+AreNew m w (s ∷ ss) = (get m s.0 ≡ None) × (w ≤ s.1) × AreNew m w ss
+
+newer : (m : Memory) (w w' : ℕ) (ss : List (Labels × ℕ)) → w' ≤ w → AreNew m w ss → AreNew m w' ss
+newer m w w' [] l h = tt
+newer m w w' (s ∷ ss) l h = (h.0, omega (arith, h.1), newer m w w' ss l h.2)
+
+-- how a name is spelled: the octets and the suffixes that are written out
+pub data SpellsAs (rule : Rule) (m : Memory) : ℕ → ℕ → Labels → List ℕ → List (Labels × ℕ) → Type 0 where
+  at_root : {p held : ℕ} → SpellsAs rule m p held [] (0 ∷ []) []
+  at_known : {p held : ℕ} {first : List ℕ} {rest : Labels} {x : Spot} → get m (first ∷ rest) ≡ Some x → SpellsAs rule m p held (first ∷ rest) (put_pointer x.place) []
+  at_kept : {p held : ℕ} {first : List ℕ} {rest : Labels} {text : List ℕ} {ss : List (Labels × ℕ)} → get m (first ∷ rest) ≡ None → is_kept rule p held ≡ true
+      → SpellsAs rule m (p + 1 + length first) (held + 1) rest text ss → SpellsAs rule m p held (first ∷ rest) (framed first ++ text) ((first ∷ rest, p) ∷ ss)
+  at_far : {p held : ℕ} {first : List ℕ} {rest : Labels} → get m (first ∷ rest) ≡ None → is_kept rule p held ≡ false → SpellsAs rule m p held (first ∷ rest) (uncompressed (first ∷ rest)) []
+
+label_as : (rule : Rule) (m : Memory) (p held : ℕ) (o : Option Spot) (keep : Bool) (first : List ℕ) (rest : Labels) (after : List ℕ × List (Labels × ℕ)) → get m (first ∷ rest) ≡ o → is_kept rule p held ≡ keep
+    → SpellsAs rule m (p + 1 + length first) (held + 1) rest after.0 after.1 → let spelled = spell_label o keep first rest p after in SpellsAs rule m p held (first ∷ rest) spelled.0 spelled.1
+label_as rule m p held (Some x) keep first rest after e k s = at_known e
+label_as rule m p held None true first rest after e k s = at_kept e k s
+label_as rule m p held None false first rest after e k s = at_far e k
+
+pub spells_as : (rule : Rule) (m : Memory) (p held : ℕ) (name : Labels) → let spelled = spell rule m p held name in SpellsAs rule m p held name spelled.0 spelled.1
+spells_as rule m p held [] = at_root
+spells_as rule m p held (first ∷ rest) = label_as rule m p held _ _ first rest _ refl refl (spells_as rule m (p + 1 + length first) (held + 1) rest)
+
+-- the suffixes that are written out are new
+spell_new : {rule : Rule} {m : Memory} {p held : ℕ} {name : Labels} {text : List ℕ} {ss : List (Labels × ℕ)} → SpellsAs rule m p held name text ss → AreNew m p ss
+spell_new at_root = tt
+spell_new (at_known e) = tt
+spell_new {m = m} (at_kept {p = p} {first = first} {ss = ss} e k s) = (e, omega arith, newer m (p + 1 + length first) p ss (omega arith) (spell_new s))
+spell_new (at_far e k) = tt
+
+chosen_new : (m : Memory) (w : ℕ) (b : Bool) (ss : List (Labels × ℕ)) → AreNew m w ss → AreNew m w (cond b ss [])
+chosen_new m w true ss h = h
+chosen_new m w false ss h = tt
+
+-- so are those of them that are remembered
+kept_new : (rule : Rule) (m : Memory) (w : ℕ) (ss : List (Labels × ℕ)) → AreNew m w ss → AreNew m w (kept rule ss)
+kept_new Plain m w ss h = tt
+kept_new Static m w ss h = h
+kept_new Tree m w ss h = h
+kept_new Hash m w ss h = chosen_new m w _ ss h
+
+-- with suffixes remembered that are new
+extends-remember : (m : Memory) (ss : List (Labels × ℕ)) (w end : ℕ) → w < end → AreNew m w ss → Extends m (remember m ss end) w end
+extends-remember m [] w end l h = extends_refl m w end
+extends-remember m (s ∷ ss) w end l h =
+    inserted m (remember m ss end) s.0 (record { place = s.1; end = end }) w end (extends-remember m ss w end l h.2) h.0 h.1 l (omega arith)
+
+-- at least one octet is written of a name
+spell_long : {rule : Rule} {m : Memory} {p held : ℕ} {name : Labels} {text : List ℕ} {ss : List (Labels × ℕ)} → SpellsAs rule m p held name text ss → 0 < length text
+spell_long at_root = omega arith
+spell_long (at_known e) = omega arith
+spell_long (at_kept e k s) = omega arith
+spell_long (at_far e k) = omega arith
+
+-- with those of a name
+named : (rule : Rule) (name : Labels) (m : Memory) (w held : ℕ)
+    → let spelled = spell rule m w held name in Extends m (remember m (kept rule spelled.1) (w + length spelled.0)) w (w + length spelled.0)
+named rule name m w held = let long = spell_long (spells_as rule m w held name) in extends-remember m _ w _ (omega arith) (kept_new rule m w _ (spell_new (spells_as rule m w held name)))
+
+-- a name is a growing piece
+pub put_name_grows : (rule : Rule) (name : Labels) → IsGrowing (put_name rule name)
+unfolding put_name
+put_name_grows Plain name = record { grows = λ m w. extends_refl m w _ }
+put_name_grows Static name = record { grows = λ m w. named Static name m w _ }
+put_name_grows Tree name = record { grows = λ m w. named Tree name m w _ }
+put_name_grows Hash name = record { grows = λ m w. named Hash name m w _ }
+
+-- octets are one
+pub put_octets_grows : (octets : List ℕ) → IsGrowing (put_octets octets)
+put_octets_grows octets = record { grows = λ m w. extends_refl m w _ }
+
+-- so are two growing pieces, one behind the other
+pub both_grows : (a b : Piece) → IsGrowing a → IsGrowing b → IsGrowing (both a b)
+both_grows a b g h = record {
+  grows = λ m w.
+      let first = a m w in
+      let v = w + length first.octets in
+      let second = b first.memory v in
+      let size : length (first.octets ++ second.octets) ≡ length first.octets + length second.octets = length-append _ _ in
+      let end = w + length (first.octets ++ second.octets) in
+      extends_join m first.memory second.memory w end
+      (extends_wider m first.memory w v w end (omega arith) (omega arith) (g.grows m w))
+      (extends_wider first.memory second.memory v (v + length second.octets) w end (omega arith) (omega arith) (h.grows first.memory v));
+}
+
+-- so is a growing piece behind its length
+pub with_length_grows : (a : Piece) → IsGrowing a → IsGrowing (with_length a)
+with_length_grows a g = record {
+  grows = λ m w.
+      let laid = a m (w + 2) in
+      extends_wider m laid.memory (w + 2) (w + 2 + length laid.octets) w _ (omega arith) (omega arith) (g.grows m (w + 2));
+}
+
+-- so is a part
+pub put_part_grows : (rule : Rule) (part : Part) → IsGrowing (put_part rule part)
+put_part_grows rule (Octets octets) = put_octets_grows octets
+put_part_grows rule (CompressibleName name) = put_name_grows rule name
+
+-- so are parts
+pub put_parts_grows : (rule : Rule) (parts : List Part) → IsGrowing (put_parts rule parts)
+unfolding put_parts
+put_parts_grows rule [] = put_octets_grows []
+put_parts_grows rule (part ∷ parts) = both_grows _ _ (put_part_grows rule part) (put_parts_grows rule parts)
 
 -- it holds of each
 abbrev pub Each : (Labels × ℕ → Type 0) → List (Labels × ℕ) → Type 0
@@ -32,28 +139,20 @@ spelled_full m b q p (first ∷ rest) is h e =
     label t.0 (label_part first (uncompressed rest) h)
     (spelled_full m b q (p + 1 + length first) rest t.1 (behind_label first (uncompressed rest) h) (omega arith))
 
-label_spelled : (m : Memory) (b : List ℕ) (q p : ℕ) (o : Option Spot) (keep : Bool) (first : List ℕ) (rest : Labels) (after : List ℕ × List (Labels × ℕ))
-    → IsName (first ∷ rest) → IsWithin m p → get m (first ∷ rest) ≡ o
-    → (At b (p + 1 + length first) after.0 → q ≡ p + 1 + length first + length after.0 → Spelled m b q (p + 1 + length first) rest)
-    → At b p (spell_label o keep first rest p after).0 → q ≡ p + length (spell_label o keep first rest p after).0 → Spelled m b q p (first ∷ rest)
-label_spelled m b q p (Some x) keep first rest after is ends g rec h e = pointer g (ends (first ∷ rest) x g) h (omega arith)
-label_spelled m b q p None true first rest after is ends g rec h e =
-    let n = length-append first after.0 in
-    label (name_tail first rest is).0 (label_part first after.0 h) (rec (behind_label first after.0 h) (omega arith))
-label_spelled m b q p None false first rest after is ends g rec h e = spelled_full m b q p (first ∷ rest) is h e
-
 -- names that end within some octets end within more
 later : (m : Memory) (p q : ℕ) → p ≤ q → IsWithin m p → IsWithin m q
 later m p q l ends s x e = omega (arith, ends s x e)
 
 -- the text of a name spells it
-spelled_by : (rule : Rule) (m : Memory) (b : List ℕ) (q p held : ℕ) (name : Labels) → IsName name → IsWithin m p
-    → At b p (spell rule m p held name).0 → q ≡ p + length (spell rule m p held name).0 → Spelled m b q p name
-spelled_by rule m b q p held [] is ends h e = root h e
-spelled_by rule m b q p held (first ∷ rest) is ends h e =
-    let behind = p + 1 + length first in
-    label_spelled m b q p (get m (first ∷ rest)) (is_kept rule p held) first rest (spell rule m behind (held + 1) rest) is ends refl
-    (λ h' e'. spelled_by rule m b q behind (held + 1) rest (name_tail first rest is).1 (later m p behind (omega arith) ends) h' e') h e
+spelled_by : {rule : Rule} {m : Memory} {p held : ℕ} {name : Labels} {text : List ℕ} {ss : List (Labels × ℕ)} (b : List ℕ) (q : ℕ) → SpellsAs rule m p held name text ss → IsName name → IsWithin m p
+    → At b p text → q ≡ p + length text → Spelled m b q p name
+spelled_by b q at_root is ends h e = root h e
+spelled_by b q (at_known {first = first} {rest = rest} {x = x} g) is ends h e = pointer g (ends (first ∷ rest) x g) h (omega arith)
+spelled_by {m = m} b q (at_kept {p = p} {first = first} {rest = rest} {text = text} g k s) is ends h e =
+    let n = length-append first text in
+    let tail = name_tail first rest is in
+    label tail.0 (label_part first text h) (spelled_by b q s tail.1 (later m p (p + 1 + length first) (omega arith) ends) (behind_label first text h) (omega arith))
+spelled_by {m = m} b q (at_far {p = p} {first = first} {rest = rest} g k) is ends h e = spelled_full m b q p (first ∷ rest) is h e
 
 -- a place that a pointer can lead to
 abbrev IsNear : ℕ → Type 0
@@ -79,29 +178,19 @@ record Out (Near : ℕ → Type 0) (m : Memory) (b : List ℕ) (q : ℕ) (s : La
   short : name_size s.0 ≤ max_size
   near : Near s.1
 
-label_out : (rule : Rule) (m : Memory) (b : List ℕ) (q p held : ℕ) (o : Option Spot) (keep : Bool) (first : List ℕ) (rest : Labels) (after : List ℕ × List (Labels × ℕ))
-    → IsName (first ∷ rest) → is_kept rule p held ≡ keep
-    → (At b (p + 1 + length first) after.0 → q ≡ p + 1 + length first + length after.0
-    → Spelled m b q (p + 1 + length first) rest × Each (Out (NearFor rule) m b q) after.1)
-    → At b p (spell_label o keep first rest p after).0 → q ≡ p + length (spell_label o keep first rest p after).0
-    → Each (Out (NearFor rule) m b q) (spell_label o keep first rest p after).1
-label_out rule m b q p held (Some x) keep first rest after is k rec h e = tt
-label_out rule m b q p held None true first rest after is k rec h e =
-    let n = length-append first after.0 in
-    let r = rec (behind_label first after.0 h) (omega arith) in
-    (record { spelled = ((name_tail first rest is).0, label_part first after.0 h, r.0); short = is.short; near = near_for rule p held k }, r.1)
-label_out rule m b q p held None false first rest after is k rec h e = tt
-
 -- each suffix that is written out is spelled at its place
-all_out : (rule : Rule) (m : Memory) (b : List ℕ) (q p held : ℕ) (name : Labels) → IsName name → IsWithin m p
-    → At b p (spell rule m p held name).0 → q ≡ p + length (spell rule m p held name).0 → Each (Out (NearFor rule) m b q) (spell rule m p held name).1
-all_out rule m b q p held [] is ends h e = tt
-all_out rule m b q p held (first ∷ rest) is ends h e =
-    let behind = p + 1 + length first in
-    let t = (name_tail first rest is).1 in
-    let ends' : IsWithin m behind = later m p behind (omega arith) ends in
-    label_out rule m b q p held (get m (first ∷ rest)) (is_kept rule p held) first rest (spell rule m behind (held + 1) rest) is refl
-    (λ h' e'. (spelled_by rule m b q behind (held + 1) rest t ends' h' e', all_out rule m b q behind (held + 1) rest t ends' h' e')) h e
+all_out : {rule : Rule} {m : Memory} {p held : ℕ} {name : Labels} {text : List ℕ} {ss : List (Labels × ℕ)} (b : List ℕ) (q : ℕ) → SpellsAs rule m p held name text ss → IsName name → IsWithin m p
+    → At b p text → q ≡ p + length text → Each (Out (NearFor rule) m b q) ss
+all_out b q at_root is ends h e = tt
+all_out b q (at_known g) is ends h e = tt
+all_out {rule = rule} {m = m} b q (at_kept {p = p} {held = held} {first = first} {rest = rest} {text = text} g k s) is ends h e =
+    let n = length-append first text in
+    let tail = name_tail first rest is in
+    let ends' : IsWithin m (p + 1 + length first) = later m p (p + 1 + length first) (omega arith) ends in
+    let behind = behind_label first text h in
+    let end : q ≡ p + 1 + length first + length text = omega arith in
+    (record { spelled = (tail.0, label_part first text h, spelled_by b q s tail.1 ends' behind end); short = is.short; near = near_for rule p held k }, all_out b q s tail.1 ends' behind end)
+all_out b q (at_far g k) is ends h e = tt
 
 near_tested : (m : Memory) (b : List ℕ) (q : ℕ) (ss : List (Labels × ℕ)) → list_all (λ s. nat_lt s.1 16384) ss ≡ true
     → Each (Out (NearFor Hash) m b q) ss → Each (Out IsNear m b q) ss
@@ -166,9 +255,9 @@ by_rule rule m n b name held l r is g =
     let q = w + length text in
     let h = at_end b text in
     let within = ends_within_content r in
-    let all = near_kept rule m (b ++ text) q written.1 (all_out rule m (b ++ text) q w held name l within h refl) in
+    let all = near_kept rule m (b ++ text) q written.1 (all_out (b ++ text) q (spells_as rule m w held name) l within h refl) in
     record {
-      spelled = moved m n (b ++ text) (b ++ text) 0 q (λ p xs low fits h. h) (λ t x e less. g t x e) (omega arith) (spelled_by rule m (b ++ text) q w held name l within h refl);
+      spelled = moved m n (b ++ text) (b ++ text) 0 q (λ p xs low fits h. h) (λ t x e less. g t x e) (omega arith) (spelled_by (b ++ text) q (spells_as rule m w held name) l within h refl);
       remembers = record {
         each = λ s x e.
             elim (found m (kept rule written.1) q (Out IsNear m (b ++ text) q) s x all (ap (λ (n : Memory). get n s) (sym is) ∙ e)) [

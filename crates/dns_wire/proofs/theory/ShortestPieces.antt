@@ -3,27 +3,18 @@ use Rattle.std.proofs.Common.{◌≡◌, ℕ, ◌+◌, ◌-◌, ◌≤◌, ◌�
 use Rattle.std.specs.Prelude.{Some, None}
 use Rattle.std.specs.Int.{to_be_bytes, w16}
 use Rattle.std.specs.FinMap.{get, len, get-empty}
-use Rattle.dns_name.specs.Names.{Labels, IsName, name_size, max_size}
-use Rattle.dns_wire.specs.Memory.{Memory, Spot, nothing, suffix_cmp, remember}
-use Rattle.dns_wire.specs.Pieces.{Rule, Plain, Static, Tree, Hash, Piece, Laid, put_octets, both, with_length}
-use Rattle.dns_wire.specs.PutName.{spell, kept, put_name}
-use Rattle.dns_wire.specs.Parts.{Part, Octets, CompressibleName, AreParts, put_parts}
-use Rattle.dns_wire.specs.PartsWritten.{PartsNear}
-use Rattle.dns_wire.specs.Spelled.{At, Remembers}
-use Rattle.dns_wire.specs.Spelling.{IsShared, Spelling, IsShortest}
+use Rattle.dns_name.specs.Names.{Labels, IsName, name_size, max_size, Walked}
+use Rattle.dns_wire.specs.Pieces.{Memory, Spot, nothing, suffix_cmp, remember, Rule, Plain, Static, Tree, Hash, Piece, Laid, put_octets, both, with_length, spell, kept, put_name}
+use Rattle.dns_wire.specs.Parts.{Part, Octets, CompressibleName, AreParts, put_parts, PartsNear}
+use Rattle.dns_wire.specs.Targets.{At, Remembers, Written, IsTarget, lay}
+use Rattle.dns_wire.specs.Spelling.{IsShared, Spelling, IsShortest, SharesAll, AddsShortest, PartsAreShortest}
 use Rattle.dns_wire.specs.Spelling.Spelling.{none, octets, whole, shared}
-use Rattle.dns_wire.specs.SpellingLaws.{SharesAll, AddsShortest, PartsAreShortest}
-use Rattle.dns_name.specs.Walking.{Walked}
-use Rattle.dns_wire.specs.Targets.{Written, IsTarget, lay}
-use Rattle.dns_wire.proofs.theory.FilledPlaces.{near_end}
-use Rattle.dns_wire.proofs.theory.GrowingPieces.{put_name_grows}
-use Rattle.dns_wire.proofs.theory.LengthPieces.{length_of, lay-with_length}
-use Rattle.dns_wire.proofs.theory.Memories.{gets}
-use Rattle.dns_wire.proofs.theory.OctetsAt.{at_append, at_end}
-use Rattle.dns_wire.proofs.theory.PieceLaws.{lay-both, puts_put_name, puts_octets}
-use Rattle.dns_wire.proofs.theory.PlainTargets.{nothing_is_kept}
+use Rattle.dns_wire.proofs.theory.TargetTheorems.{near_end}
+use Rattle.dns_wire.proofs.theory.PutNames.{put_name_grows, spells_as}
+use Rattle.dns_wire.proofs.theory.PieceLaws.{length_of, lay-with_length, lay-both, puts_put_name, puts_octets}
+use Rattle.dns_wire.proofs.theory.Memories.{gets, nothing_is_kept}
+use Rattle.dns_wire.proofs.theory.SpelledNames.{at_append, at_end, spelled_walked, spelled_more, kept_more}
 use Rattle.dns_wire.proofs.SharedSuffixes.{Knows, Best, KeepsNear, tree_keeps_near, static_keeps_near, hash_keeps_near, best, knows_more, near_kept, near_suffixes, few_less, shared_some, len_spell, len_remember}
-use Rattle.dns_wire.proofs.theory.SpelledNames.{spelled_walked, spelled_more, kept_more}
 use Rattle.dns_name.proofs.theory.Steps.{name_size-append}
 
 -- the names behind these parts
@@ -141,7 +132,7 @@ spells_static : Spells Static
 unfolding put_name
 spells_static = record {
   near = static_keeps_near;
-  few = λ name m w h. let spelled = spell Static m w (len m) name in let e = len_spell Static m (w + length spelled.0) w (len m) name in omega arith;
+  few = λ name m w h. let spelled = spell Static m w (len m) name in let e = len_spell (w + length spelled.0) (spells_as Static m w (len m) name) in omega arith;
   writes = λ name m w. refl;
 }
 
@@ -172,11 +163,11 @@ name_short rule name t laid c names rest end r is knows e g walked near few =
     let b = (t.octets ++ laid.octets) ++ c in
     let text : laid.octets ≡ spelled.0 = ap (λ (x : Laid). x.octets) e in
     let at = subst (λ (xs : List ℕ). At b w xs) text (at_append c (at_end t.octets laid.octets)) in
-    let all = near_kept rule r m b near.0 w (len m) name is near.1 at few in
-    let chosen = near_suffixes rule m b near.0 w (len m) name is near.1 at in
+    let all = near_kept r b near.0 (spells_as rule m w (len m) name) is near.1 at few in
+    let chosen = near_suffixes b near.0 (spells_as rule m w (len m) name) is near.1 at in
     let q = w + length spelled.0 in
     let memory : laid.memory ≡ remember m spelled.1 q = ap (λ (x : Laid). x.memory) e ∙ ap (λ (ss : List (Labels × ℕ)). remember m ss q) (r.chosen spelled.1 chosen) in
-    let shortest : Best names name (length spelled.0) = best rule m names w (len m) name knows all in
+    let shortest : Best names name (length spelled.0) = best names knows (spells_as rule m w (len m) name) all in
     let long : length (t.octets ++ laid.octets) ≡ w + length spelled.0 = length-append t.octets laid.octets ∙ ap (λ (xs : List ℕ). w + length xs) text in
     record {
       knows = knows_more rule m laid.memory names w (len m) q name knows all memory g;
@@ -208,10 +199,6 @@ shortens_name rule name r is t =
           name_short rule name t laid c names rest end r.near is knows (r.writes name t.memory w) (gets ((put_name_grows rule name).grows t.memory w))
           (spelled_walked 0 after small (spelled_more laid.memory c (λ s x e. e) (p.puts t h))) near (r.few name t.memory w few);
     }
-
--- so is a piece that does the same as another
-pub shortens_same : (rule : Rule) (a b : Piece) (parts : List Part) → ((t : Written) → lay a t ≡ lay b t) → Shortens rule a parts → Shortens rule b parts
-shortens_same rule a b parts e x t = subst (λ (u : Written). AddsShort rule parts t u) (e t) (x t)
 
 -- parts and others behind them, with what is known of both
 short_both : (names : List Labels) (ps qs rest : List Part) (b d : List ℕ) (p q r end : ℕ) (m n : Memory)

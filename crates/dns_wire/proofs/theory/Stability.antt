@@ -2,18 +2,15 @@
 use Rattle.std.proofs.Common.{◌≡◌, ℕ, zero, suc, ◌+◌, ◌-◌, ◌<◌, ◌≤◌, ◌⊎◌, inl, inr, List, [], ◌∷◌, ◌++◌, take, drop, length, length-append, length-take, length-drop, append_assoc, arith, ap, sym, ◌∙◌, refl, subst}
 use Rattle.std.specs.Prelude.{Option, Some, None, Ok, slice_get}
 use Rattle.std.specs.FinMap.{get}
-use Rattle.dns_name.specs.Names.{Labels, name_size, max_size}
-use Rattle.dns_wire.specs.Memory.{Memory, Spot, IsBehind}
-use Rattle.dns_name.specs.Heads.{head_at}
-use Rattle.dns_name.specs.Standing.{Stands, label_at}
-use Rattle.dns_wire.specs.StandsIn.{StandsIn, Agree}
-use Rattle.dns_wire.specs.StandsIn.StandsIn.{root, label, pointer}
+use Rattle.dns_name.specs.Names.{Labels, name_size, max_size, head_at, Stands, label_at}
+use Rattle.dns_wire.specs.Pieces.{Memory, Spot, IsBehind}
+use Rattle.dns_wire.specs.TargetLaws.{StandsIn, Agree, StandsWhenOverwritten, StandsBehind}
+use Rattle.dns_wire.specs.TargetLaws.StandsIn.{root, label, pointer}
 use Rattle.dns_octets.specs.Octets.{overwritten}
-use Rattle.dns_wire.specs.Spelled.{Spelled, Remembers}
-use Rattle.dns_wire.specs.TargetLaws.{StandsWhenOverwritten, StandsBehind}
+use Rattle.dns_wire.specs.Targets.{Spelled, Remembers}
 use Rattle.dns_name.specs.declared.head.Head.TheVariants.{Root, Label, Pointer}
 use Rattle.dns_name.proofs.theory.HeadLemmas.{label_head, label_there, root_there, root_begins, label_begins, same_head, root_within, pointer_within}
-use Rattle.dns_wire.proofs.theory.OctetsAt as octets_at
+use Rattle.dns_wire.proofs.theory.SpelledNames as octets_at
 use Rattle.dns_wire.proofs.theory.SpelledNames.{spelled_long, kept_spelled}
 
 -- a name takes octets of its content alone

@@ -1,22 +1,18 @@
 -- What is remembered stands, and what is put reads back.
-use Rattle.std.proofs.Common.{◌≡◌, ℕ, List, [], ◌∷◌, length, arith}
+use Rattle.std.proofs.Common.{◌≡◌, ℕ, List, [], ◌∷◌, length, arith, ◌+◌, ◌<◌, ◌≤◌, ◌++◌, append-nil, sym, refl, subst}
 use Rattle.std.specs.Prelude.{Ok}
-use Rattle.dns_name.specs.Names.{Labels}
-use Rattle.dns_name.specs.Heads.{head_at}
-use Rattle.dns_wire.specs.Memory.{Memory}
-use Rattle.dns_wire.specs.Parts.{put_parts}
-use Rattle.dns_wire.specs.Pointed.{WellPointed}
-use Rattle.dns_wire.specs.Spelled.{Spelled, Labelled, Remembers}
-use Rattle.dns_wire.specs.Spelled.Spelled.{root, label, pointer}
-use Rattle.dns_wire.specs.Targets.{lay}
+use Rattle.dns_name.specs.Names.{Labels, head_at, WalkedBehind}
+use Rattle.dns_name.specs.declared.head.Head.TheVariants.{Label, Root, Pointer}
+use Rattle.dns_wire.specs.Pieces.{Memory, Rule}
+use Rattle.dns_wire.specs.Parts.{put_parts, WellPointed, Part, Octets, CompressibleName, AreParts, PartsFill, LabelsNear}
+use Rattle.dns_wire.specs.Targets.{Spelled, Labelled, Remembers, lay, Written, IsTarget}
+use Rattle.dns_wire.specs.Targets.Spelled.{root, label, pointer}
 use Rattle.dns_wire.specs.TargetLaws.{RemembersWhatStands, NothingIsTarget, PiecesStayBehind, NamesStayBehind, NamesReadBack, PartsReadBack}
-use Rattle.dns_name.specs.declared.head.Head.TheVariants.{Label}
-use Rattle.dns_wire.proofs.theory.Memories.{behind_more}
-use Rattle.dns_wire.proofs.theory.GrowingPieces.{put_name_grows}
-use Rattle.dns_wire.proofs.theory.PlainTargets.{nothing_is_kept}
-use Rattle.dns_wire.proofs.theory.OctetsAt.{root_at, label_begins, pointer_at}
-use Rattle.dns_wire.proofs.theory.SpelledNames.{spelled_long, kept_spelled, spelled_stands, spelled_walked, stands_within}
-use Rattle.dns_wire.proofs.theory.PieceLaws.{puts_put_name, puts_parts, parts_stand}
+use Rattle.dns_wire.specs.Spelling.{PartsPointToLabels, ShortPartsAreNear}
+use Rattle.dns_wire.proofs.theory.Memories.{behind_more, nothing_is_kept}
+use Rattle.dns_wire.proofs.theory.PutNames.{put_name_grows}
+use Rattle.dns_wire.proofs.theory.SpelledNames.{root_at, label_begins, pointer_at, spelled_long, kept_spelled, spelled_stands, spelled_walked, stands_within}
+use Rattle.dns_wire.proofs.theory.PieceLaws.{puts_put_name, puts_parts, parts_stand, HasName, HasParts}
 
 -- a label begins where a name is spelled that begins with one
 begins : (m : Memory) (b : List ℕ) (q p : ℕ) (name : Labels) → Labelled m b q p name → (n : ℕ) × (head_at b p ≡ Ok (Label n))
@@ -73,3 +69,67 @@ parts_read_back rule t parts is h =
     let p = puts_parts rule parts is in
     let u = lay (put_parts rule parts) t in
     (parts_stand parts u (length t.octets) (length u.octets) is (p.keeps t h) (p.puts t h), p.keeps t h)
+
+-- Where the labels and the pointers of parts that are put stand.
+
+-- what holds of each name that is spelled in a target
+abbrev pub OfEachName : Written → (ℕ → ℕ → Type 0) → Type 0
+OfEachName t IsWritten = (p q : ℕ) (name : Labels) → HasName name t p q → IsWritten p q
+
+-- parts that a target has between two places fill them, and so do others behind them
+pub parts_fill : {IsWritten : ℕ → ℕ → Type 0} (t : Written) → OfEachName t IsWritten → (parts rest : List Part) (p q end : ℕ) → HasParts parts t p q
+    → PartsFill IsWritten end q rest → PartsFill IsWritten end p (parts ++ rest)
+parts_fill {IsWritten} t each [] rest p q end h more = subst (λ k. PartsFill IsWritten end k rest) (sym h) more
+parts_fill {IsWritten} t each (Octets xs ∷ parts) rest p q end h more =
+    subst (λ k. PartsFill IsWritten end k (parts ++ rest)) h.1.1 (parts_fill t each parts rest h.0 q end h.2 more)
+parts_fill t each (CompressibleName name ∷ parts) rest p q end h more = (h.0, each p h.0 name h.1, parts_fill t each parts rest h.0 q end h.2 more)
+
+-- so do parts that are put at the end
+put_parts_fill : {IsWritten : ℕ → ℕ → Type 0} (rule : Rule) (t : Written) (parts : List Part) → AreParts parts → IsTarget t
+    → let u = lay (put_parts rule parts) t in OfEachName u IsWritten → PartsFill IsWritten (length u.octets) (length t.octets) parts
+put_parts_fill {IsWritten} rule t parts is good each =
+    let u = lay (put_parts rule parts) t in
+    let end = length u.octets in
+    subst (λ (l : List Part). PartsFill IsWritten end (length t.octets) l) (append-nil parts)
+    (parts_fill u each parts [] (length t.octets) end end ((puts_parts rule parts is).puts t good) refl)
+
+-- each pointer of parts that are put leads to an earlier label
+pub parts_point_to_labels : PartsPointToLabels
+parts_point_to_labels rule t parts is good =
+    let keeps = (puts_parts rule parts is).keeps t good in put_parts_fill rule t parts is good (λ p q name h. pointed keeps h)
+
+-- in at most 16,384 octets the labels of a name begin below 16,384
+pub spelled_near : {m : Memory} {b : List ℕ} {q p : ℕ} {name : Labels} → length b ≤ 16384 → Remembers b m → Spelled m b q p name → LabelsNear b q p
+spelled_near l r (root h e) = LabelsNear.root (root_at h) e
+spelled_near l r (label is h x) = let w = spelled_long x in LabelsNear.label (label_begins is h) (omega (arith, w)) (spelled_near l r x)
+spelled_near l r (pointer {name = name} {x = x} e before h is) = LabelsNear.pointer (pointer_at x.place (r.each name x e).near h) is
+
+-- so do those of parts
+pub short_parts_are_near : ShortPartsAreNear
+short_parts_are_near rule t parts is good l =
+    let keeps = (puts_parts rule parts is).keeps t good in put_parts_fill rule t parts is good (λ p q name h. spelled_near l keeps h)
+
+-- a label that is near begins below 16,384, and the labels behind it are near
+pub near_label : {b : List ℕ} {q p n : ℕ} → LabelsNear b q p → head_at b p ≡ Ok (Label n) → (p < 16384) × LabelsNear b q (p + 1 + n)
+near_label (LabelsNear.root h end) e = cc
+near_label (LabelsNear.pointer h end) e = cc
+near_label {b = b} {q = q} {p = p} (LabelsNear.label {n = k} h near x) e =
+    let P : ℕ → Type 0 = λ n. (p < 16384) × LabelsNear b q (p + 1 + n) in subst P (cc) (near, x)
+
+-- at a zero octet, what is near ends behind it
+near_root : {b : List ℕ} {q p : ℕ} → LabelsNear b q p → head_at b p ≡ Ok Root → q ≡ p + 1
+near_root (LabelsNear.root h end) e = end
+near_root (LabelsNear.label h near x) e = cc
+near_root (LabelsNear.pointer h end) e = cc
+
+-- at a pointer, what is near ends behind its two octets
+near_pointer : {b : List ℕ} {q p t : ℕ} → LabelsNear b q p → head_at b p ≡ Ok (Pointer t) → q ≡ p + 2
+near_pointer (LabelsNear.root h end) e = cc
+near_pointer (LabelsNear.label h near x) e = cc
+near_pointer (LabelsNear.pointer h end) e = end
+
+-- labels that are near end where the walked extent does
+pub near_end : {b : List ℕ} {q r p s : ℕ} → WalkedBehind b p s r → LabelsNear b q p → q ≡ r
+near_end (WalkedBehind.root h) near = near_root near h
+near_end (WalkedBehind.pointer h) near = near_pointer near h
+near_end (WalkedBehind.label h small fits x) near = near_end x (near_label near h).1

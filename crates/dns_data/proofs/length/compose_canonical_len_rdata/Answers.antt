@@ -1,7 +1,7 @@
 use Rattle.std.proofs.Common.{Err, ap, ◌∙◌}
 use Rattle.std.proofs.lemmas.Result.{err_from_is_err_and}
 use Rattle.dns_wire.specs.Parts.{put_parts}
-use Rattle.dns_wire.proofs.theory.GrowingPieces.{put_parts_grows}
+use Rattle.dns_wire.proofs.theory.PutNames.{put_parts_grows}
 use Rattle.dns_data.specs.RecordData.{canonical}
 use Rattle.dns_data.proofs.WrittenLengths.{clear_length, piece_refused}
 use Rattle.dns_data.proofs.length.compose_canonical_len_rdata.Goals as goal

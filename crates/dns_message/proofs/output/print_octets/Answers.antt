@@ -1,5 +1,5 @@
 use Rattle.std.proofs.Common.{◌∙◌}
-use Rattle.dns_message.proofs.OutputLemmas.{prints_both}
+use Rattle.dns_show.proofs.theory.AppendedTexts.{prints_both}
 use Rattle.dns_message.proofs.output.print_octets.Goals as goal
 
 pub returns : goal.returns

@@ -2,10 +2,9 @@ use Rattle.std.proofs.Common.{◌≡◌}
 use Rattle.std.specs.Prelude.{fold}
 use Rattle.std.specs.Hash as fed
 use Rattle.std.specs.List.{flat_map}
-use Rattle.dns_name.specs.LabelIter.{labels_left}
+use Rattle.dns_name.specs.ParsedName.{labels_left, labels}
 use Rattle.dns_name.specs.Names.{lowered, framed}
 use Rattle.dns_name.specs.NameOrders.{name_hash_input}
-use Rattle.dns_name.specs.ParsedName.{labels}
 use Rattle.dns_name.proofs.compare.hash_labels.Given as goal
 
 abbrev pub invariant-loop-label : goal.invariant-loop-label

@@ -1,7 +1,6 @@
 use Rattle.std.proofs.Common.{◌≡◌}
-use Rattle.dns_name.specs.LabelIter.{labels_left}
+use Rattle.dns_name.specs.ParsedName.{labels_left, labels}
 use Rattle.dns_name.specs.NameOrders.{composed_order}
-use Rattle.dns_name.specs.ParsedName.{labels}
 use Rattle.dns_name.proofs.Orders.{row_order}
 use Rattle.dns_name.proofs.compare.order_composed.Given as goal
 

@@ -1,10 +1,8 @@
 use Rattle.std.proofs.Common.{◌≡◌, ◌∙◌, refl}
 use Rattle.std.proofs.lemmas.Iterator.Search.{cmp_from_yields_List}
-use Rattle.dns_name.specs.Label.{label_octets}
+use Rattle.dns_name.specs.ParsedName.{label_octets, labels_left, labels}
 use Rattle.dns_name.specs.Names.{with_root}
-use Rattle.dns_name.specs.LabelIter.{labels_left}
 use Rattle.dns_name.specs.NameOrders.{label_order}
-use Rattle.dns_name.specs.ParsedName.{labels}
 use Rattle.dns_name.proofs.Orders.{YieldsList-from_last, name_order-with_root}
 use Rattle.dns_name.proofs.compare.order_from_root.Goals as goal
 

@@ -1,6 +1,5 @@
 use Rattle.std.proofs.Common.{◌≡◌, ◌↔◌}
-use Rattle.dns_name.specs.ParsedName.{labels}
-use Rattle.dns_name.specs.LabelIter.{labels_left}
+use Rattle.dns_name.specs.ParsedName.{labels, labels_left}
 use Rattle.dns_name.proofs.compare.same_octets.Given as goal
 
 abbrev pub invariant-loop-label : goal.invariant-loop-label

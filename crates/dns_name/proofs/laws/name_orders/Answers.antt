@@ -1,7 +1,7 @@
 use Rattle.std.proofs.Common.{ap}
 use Rattle.std.specs.Hash as fed
 use Rattle.std.specs.List.{flat_map}
-use Rattle.dns_name.specs.NameTies.{name_order-total}
+use Rattle.dns_name.specs.NameOrders.{name_order-total}
 use Rattle.dns_name.specs.Names.{uncompressed}
 use Rattle.dns_name.proofs.NameOrderLemmas.{name_order_agrees, composed_order_total, composed_order_agrees}
 use Rattle.dns_name.proofs.laws.name_orders.Goals as goal

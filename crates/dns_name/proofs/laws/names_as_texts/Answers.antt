@@ -1,6 +1,4 @@
-use Rattle.dns_name.proofs.theory.NameTextFaults.{one_text_fault, text_name_or_fault_not_both}
-use Rattle.dns_name.proofs.theory.NameOrTextFault.{text_name_or_fault}
-use Rattle.dns_name.proofs.theory.OneTextName.{one_text_name}
+use Rattle.dns_name.proofs.theory.NameTextFaults.{one_text_fault, text_name_or_fault_not_both, one_text_name, text_name_or_fault}
 use Rattle.dns_name.proofs.PrintedNames.{printed_names_spell}
 use Rattle.dns_name.proofs.laws.names_as_texts.Goals as goal
 

@@ -1,6 +1,5 @@
-use Rattle.dns_name.proofs.Answered.{ends_alike, fails_alike}
 use Rattle.dns_name.proofs.theory.Names as names
 use Rattle.dns_name.proofs.laws.skipping_agrees.Goals as goal
 
 pub returns : goal.returns
-returns c = record { names_end = names.names_end; faults = names.skip_faults; ends_alike = ends_alike; fails_alike = fails_alike }
+returns c = record { names_end = names.names_end; faults = names.skip_faults; ends_alike = names.ends_alike; fails_alike = names.fails_alike }

@@ -1,9 +1,7 @@
 use Rattle.std.proofs.Common.{◌≡◌, arith, length, ◌<◌}
 use Rattle.std.specs.Prelude.{Ok}
 use Rattle.std.proofs.lemmas.Result.{err_from_is_err_and}
-use Rattle.dns_name.specs.Heads.{head_at}
-use Rattle.dns_name.specs.HeadAnswers.{Begins}
-use Rattle.dns_name.specs.Walking.{WalkedBehind}
+use Rattle.dns_name.specs.Names.{head_at, Begins, WalkedBehind}
 use Rattle.dns_name.specs.Uncompressed.{NotUncompressed}
 use Rattle.dns_name.specs.declared.head.Head.TheVariants.{Root, Label, Pointer}
 use Rattle.dns_name.proofs.theory.Spelling.{spells_none, spells_label, spells_root, spells_more, spells_pointer, spells_fault}

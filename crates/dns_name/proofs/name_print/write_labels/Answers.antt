@@ -1,10 +1,8 @@
 use Rattle.std.proofs.Common.{◌≡◌, ◌∙◌, ◌∷◌, [], ◌++◌, true, ap, sym, rules, refl}
 use Rattle.std.proofs.lemmas.Grind.{put_three}
-use Rattle.dns_name.specs.Label.{label_octets}
-use Rattle.dns_name.specs.LabelIter.{labels_left}
+use Rattle.dns_name.specs.ParsedName.{label_octets, labels_left, labels}
 use Rattle.dns_name.specs.Names.{with_root}
 use Rattle.dns_name.specs.NameTexts.{label_text}
-use Rattle.dns_name.specs.ParsedName.{labels}
 use Rattle.dns_name.proofs.theory.NameLemmas.{parsed_is}
 use Rattle.dns_name.proofs.NameTextLemmas.{text_left, all_text_left, one_label_printed}
 use Rattle.dns_name.proofs.name_print.write_labels.Goals as goal

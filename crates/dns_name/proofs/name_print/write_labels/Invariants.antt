@@ -1,8 +1,7 @@
 use Rattle.std.proofs.Common.{◌≡◌, ◌++◌, List, ℕ}
 use Rattle.std.specs.Fmt.{HasWritten, IsPlainFormatter}
-use Rattle.dns_name.specs.LabelIter.{labels_left}
+use Rattle.dns_name.specs.ParsedName.{labels_left, labels}
 use Rattle.dns_name.specs.NameTexts.{name_text}
-use Rattle.dns_name.specs.ParsedName.{labels}
 use Rattle.dns_name.proofs.NameTextLemmas.{text_left}
 use Rattle.dns_name.proofs.name_print.write_labels.Given as goal
 use denote.Shadow.{shadow}

@@ -1,5 +1,5 @@
 use Rattle.std.proofs.Common.{◌≡◌, ◌∙◌, subst}
-use Rattle.dns_name.specs.Label.{label_octets}
+use Rattle.dns_name.specs.ParsedName.{label_octets}
 use Rattle.dns_name.specs.NameReading.{LabelFirst}
 use Rattle.dns_name.proofs.NameTextReading.{labels_more, labels_end}
 use Rattle.dns_name.proofs.name_text.read_labels.Goals as goal

@@ -2,9 +2,8 @@ use Rattle.std.proofs.Common.{List, ℕ, [], ◌∷◌, subst, sym, ap, ◌∙�
 use Rattle.std.specs.Prelude.{Err}
 use Rattle.std.specs.Str.Iter.{split_whitespace_rest}
 use Rattle.std.proofs.lemmas.Result.{err_from_is_err_and}
-use Rattle.dns_question.specs.QuestionTexts.{ReadsWords}
+use Rattle.dns_question.specs.QuestionTexts.{ReadsWords, Fields, named}
 use Rattle.dns_question.specs.QuestionTexts.ReadsWords.{name_alone, trailing}
-use Rattle.dns_question.specs.QuestionReading.{Fields, named}
 use Rattle.dns_question.proofs.WordLemmas.{word_before, no_words, utf8_behind, some_words}
 use Rattle.dns_question.proofs.question_text.read_behind_name.Goals as goal
 

@@ -1,5 +1,5 @@
-use Rattle.dns_code.specs.Classes.{SpellsClass}
-use Rattle.dns_question.proofs.FieldWords.{unspelled}
+use Rattle.dns_number.specs.Classes.{SpellsClass}
+use Rattle.dns_question.proofs.QuestionTextLemmas.{unspelled}
 use Rattle.dns_question.proofs.question_text.read_fields.Goals as goal
 
 pub read_type_first-requires : goal.read_type_first-requires

@@ -1,5 +1,5 @@
-use Rattle.dns_code.specs.Types.{SpellsType}
-use Rattle.dns_question.proofs.FieldWords.{spelled, unspelled, read_class_alone, read_class_without_type, read_class_and_type}
+use Rattle.dns_number.specs.Types.{SpellsType}
+use Rattle.dns_question.proofs.QuestionTextLemmas.{spelled, unspelled, read_class_alone, read_class_without_type, read_class_and_type}
 use Rattle.dns_question.proofs.question_text.read_type.Goals as goal
 
 pub returns-in_default : goal.returns-in_default

@@ -1,6 +1,6 @@
-use Rattle.dns_code.specs.Classes.{SpellsClass}
-use Rattle.dns_code.specs.Types.{SpellsType}
-use Rattle.dns_question.proofs.FieldWords.{spelled, unspelled, read_neither, read_type_alone, read_type_without_class, read_type_and_class}
+use Rattle.dns_number.specs.Classes.{SpellsClass}
+use Rattle.dns_number.specs.Types.{SpellsType}
+use Rattle.dns_question.proofs.QuestionTextLemmas.{spelled, unspelled, read_neither, read_type_alone, read_type_without_class, read_type_and_class}
 use Rattle.dns_question.proofs.question_text.read_type_first.Goals as goal
 
 pub returns-in_default : goal.returns-in_default

@@ -1,6 +1,6 @@
 use Rattle.std.proofs.Common.{◌∙◌, ap, arith, length}
 use Rattle.dns_wire.specs.Targets.{cut_to}
-use Rattle.dns_wire.proofs.theory.GrowingPieces.{put_name_grows, put_octets_grows}
+use Rattle.dns_wire.proofs.theory.PutNames.{put_name_grows, put_octets_grows}
 use Rattle.dns_target_tests.proofs.CutAway.{whole, goes_on}
 use Rattle.dns_target_tests.proofs.history.append_and_cut.Goals as goal
 

@@ -1,4 +1,4 @@
-use Rattle.dns_wire.proofs.theory.PlainTargets.{clear_nothing}
+use Rattle.dns_wire.proofs.theory.Memories.{clear_nothing}
 use Rattle.dns_target_tests.proofs.stream.tells_its_length.Goals as goal
 
 pub write_at-requires-clause-clear : goal.write_at-requires-clause-clear

@@ -1,4 +1,4 @@
-use Rattle.dns_wire.proofs.theory.GrowingPieces.{put_name_grows, put_octets_grows, put_parts_grows, both_grows}
+use Rattle.dns_wire.proofs.theory.PutNames.{put_name_grows, put_octets_grows, put_parts_grows, both_grows}
 use Rattle.dns_wire.proofs.theory.PieceLaws.{puts_put_name, puts_octets, cut_undoes}
 use Rattle.dns_wire.proofs.theory.SpelledNames.{remembers_cut, remembers_over}
 use Rattle.dns_wire.proofs.theory.Stability.{stands_behind}

@@ -1,4 +1,4 @@
-use Rattle.dns_wire.proofs.theory.FilledPlaces as places
+use Rattle.dns_wire.proofs.theory.TargetTheorems as places
 use Rattle.dns_wire.proofs.theory.ShortestPieces as pieces
 use Rattle.dns_wire.proofs.target_laws.parts_are_shortest.Goals as goal
 

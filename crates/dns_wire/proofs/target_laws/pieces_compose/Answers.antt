@@ -1,4 +1,4 @@
-use Rattle.dns_wire.proofs.theory.Composing as composing
+use Rattle.dns_wire.proofs.theory.PieceLaws as composing
 use Rattle.dns_wire.proofs.target_laws.pieces_compose.Goals as goal
 
 pub returns : goal.returns

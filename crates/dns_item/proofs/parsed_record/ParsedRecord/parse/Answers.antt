@@ -1,6 +1,6 @@
 use Rattle.std.proofs.Common.{◌∙◌, refl}
 use Rattle.std.proofs.lemmas.Result.{err_from_is_err_and}
-use Rattle.dns_item.proofs.HeaderLemmas.{with_data, without_data, without_header}
+use Rattle.dns_item.proofs.RecordLemmas.{with_data, without_data, without_header}
 use Rattle.dns_item.proofs.parsed_record.ParsedRecord.parse.Goals as goal
 
 pub returns-in_err-advance-in-Ok : goal.returns-in_err-advance-in-Ok

@@ -1,13 +1,13 @@
 use Rattle.std.proofs.Common.{◌∙◌, ap, arith, length, refl}
 use Rattle.std.proofs.lemmas.Result.{err_from_is_err_and}
-use Rattle.dns_item.specs.Entries.RecordSkipFaultAt.{owner}
-use Rattle.dns_item.proofs.RecordLemmas.{without_fields, without_data}
+use Rattle.dns_question.specs.BehindNames.FieldsSkipFaultAt.{name}
+use Rattle.dns_item.proofs.RecordLemmas.{without_fields, lacks_data}
 use Rattle.dns_item.proofs.parsed_record.ParsedRecord.skip.Goals as goal
 
 pub returns-in_err-skip : goal.returns-in_err-skip
 returns-in_err-skip c =
     let p = err_from_is_err_and c.from_residual.result c.from_residual.ensures.1 in
-    rw (p.1, p.2) (owner c.in_err-skip.ensures.0, refl)
+    rw (p.1, p.2) (name c.in_err-skip.ensures.0, refl)
 
 pub returns-in_err-advance : goal.returns-in_err-advance
 returns-in_err-advance c =
@@ -29,4 +29,4 @@ returns-in_err-advance-2 c =
     let h = c.in_err-advance-2.ensures in
     let first = c.in_ok-advance.ensures in
     let second = c.in_ok-rdlen.ensures in
-    rw (p.1, p.2) (without_data _ _ _ _ _ _ c.in_ok-skip.ensures first.1 second.1 second.0 (c.from.ensures ∙ second.2) h.0 h.1, refl)
+    rw (p.1, p.2) (lacks_data _ _ _ _ _ _ c.in_ok-skip.ensures first.1 second.1 second.0 (c.from.ensures ∙ second.2) h.0 h.1, refl)

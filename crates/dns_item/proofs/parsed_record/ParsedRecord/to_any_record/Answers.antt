@@ -1,6 +1,6 @@
 use Rattle.std.proofs.Common.{arith}
 use Rattle.dns_item.specs.ParsedRecord.{octets_of, parsed_entry}
-use Rattle.dns_item.proofs.RecordReadingLemmas.{gives_back}
+use Rattle.dns_item.proofs.RecordReadingLemmas.{gives_back, gives_value_back}
 use Rattle.dns_item.proofs.parsed_record.ParsedRecord.to_any_record.Goals as goal
 
 pub returns-clause-back : goal.returns-clause-back
@@ -8,3 +8,9 @@ returns-clause-back g c =
     let r = c.args.self.now in
     gives_back g.D.RecordData.rtype_of g.D.RecordData.parts (octets_of r) (parsed_entry r) (omega arith)
     (g.D.ParseAnyRecordData.any_layout (parsed_entry r).rtype) c.parse_into_any_record.result c.parse_into_any_record.ensures.answers
+
+pub returns-clause-value : goal.returns-clause-value
+returns-clause-value g c =
+    let r = c.args.self.now in
+    gives_value_back g.D.RecordData.rtype_of g.D.RecordData.parts (octets_of r) (parsed_entry r) g.D.ParseAnyRecordData.any_layout c.parse_into_any_record.result
+    (g.met.D.ParseAnyRecordData c.lifetimes (assumption c)).any_laid_out (returns-clause-back g c)

@@ -1,7 +1,7 @@
 use Rattle.std.proofs.Common.{refl}
 use Rattle.std.proofs.lemmas.Result.{err_from_is_err_and}
 use Rattle.dns_name.specs.Parsers.{place}
-use Rattle.dns_item.proofs.HeaderLemmas.{with_data, without_data, without_header}
+use Rattle.dns_item.proofs.RecordLemmas.{with_data, without_data, without_header}
 use Rattle.dns_item.proofs.record_header.RecordHeader+ParsedName.parse_and_skip.Goals as goal
 
 pub returns-in_err-advance-in-Ok : goal.returns-in_err-advance-in-Ok

@@ -1,9 +1,9 @@
 use Rattle.std.proofs.Common.{List, ℕ}
 use Rattle.std.proofs.lemmas.Result.{err_from_is_err_and}
 use Rattle.dns_name.specs.Parsers.{seen, place}
-use Rattle.dns_item.specs.Entries.{RecordEntry}
+use Rattle.dns_item.specs.Items.{RecordEntry}
 use Rattle.dns_item.specs.ParsedRecord.{octets_of, parsed_entry}
-use Rattle.dns_item.specs.RecordReading.{AnswersTaken, GivesBackTaken}
+use Rattle.dns_item.specs.RecordReading.{AnswersTaken, GivesBackTaken, GivesValueBackTaken}
 use Rattle.dns_item.proofs.theory.EntryLemmas.{record_or_fault}
 use Rattle.dns_item.proofs.RecordLemmas.{of_read, behind_read}
 use Rattle.dns_item.proofs.record_reading.Record+ParsedName+D.parse.Goals as goal
@@ -33,6 +33,18 @@ returns-clause-back g c q x h =
     let parses = c.in_ok-parse.ensures in
     of_read (λ (b : List ℕ) (x : RecordEntry). GivesBackTaken g.D.RecordData.rtype_of g.D.RecordData.parts b x (g.D.ParseRecordData.layout x.rtype) c.into_record.result)
     (seen old) (octets_of r) (place old) (place c.parse.new.parser) q (parsed_entry r) x parses.0 parses.2.seen h c.into_record.ensures.back
+
+pub returns-in_err-parse-clause-value : goal.returns-in_err-parse-clause-value
+returns-in_err-parse-clause-value g c q x h =
+    absurd ((record_or_fault (seen c.args.parser.now)).not_both (place c.args.parser.now) q x _ h c.in_err-parse.ensures.0)
+
+pub returns-clause-value : goal.returns-clause-value
+returns-clause-value g c q x h =
+    let old = c.args.parser.now in
+    let r = c.in_ok-parse.field-0 in
+    let parses = c.in_ok-parse.ensures in
+    of_read (λ (b : List ℕ) (x : RecordEntry). GivesValueBackTaken g.D.RecordData.rtype_of g.D.RecordData.parts b x c.into_record.result)
+    (seen old) (octets_of r) (place old) (place c.parse.new.parser) q (parsed_entry r) x parses.0 parses.2.seen h c.into_record.ensures.value
 
 pub returns-in_err-parse-clause-fault : goal.returns-in_err-parse-clause-fault
 returns-in_err-parse-clause-fault g c f h =

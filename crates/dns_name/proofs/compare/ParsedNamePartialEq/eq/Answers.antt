@@ -1,5 +1,5 @@
 use Rattle.std.specs.Bool.{one_answer}
-use Rattle.dns_name.specs.NameTies.{names_equal-Decides}
+use Rattle.dns_name.specs.NameOrders.{names_equal-Decides}
 use Rattle.dns_name.proofs.compare.ParsedNamePartialEq.eq.Goals as goal
 
 pub returns : goal.returns

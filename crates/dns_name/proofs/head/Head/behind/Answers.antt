@@ -1,8 +1,7 @@
 use Rattle.std.proofs.Common.{◌≡◌, ◌<◌, arith, length}
 use Rattle.std.specs.Prelude.{Ok}
 use Rattle.std.proofs.lemmas.Result.{err_from_is_err_and}
-use Rattle.dns_name.specs.Heads.{head_at}
-use Rattle.dns_name.specs.Walking.{SkipFaulty}
+use Rattle.dns_name.specs.Names.{head_at, SkipFaulty}
 use Rattle.dns_name.specs.declared.head.Head.TheVariants.{Label}
 use Rattle.dns_name.proofs.head.Head.behind.Goals as goal
 

@@ -1,5 +1,5 @@
 use Rattle.std.proofs.Common.{arith}
-use Rattle.dns_name.proofs.Places.{first_root, first_label, follows_pointer, length_label}
+use Rattle.dns_name.proofs.theory.HeadLemmas.{first_root, first_label, follows_pointer, length_label_at}
 use Rattle.dns_name.proofs.label.Label.first_at.Goals as goal
 
 pub returns-in-Root : goal.returns-in-Root
@@ -10,7 +10,7 @@ returns-in-Root c =
 pub new-requires-in-Label : goal.new-requires-in-Label
 new-requires-in-Label c =
     let h = rw c.in-Label.ensures at c.at.ensures.head in
-    rw c.from.ensures (length_label _ c.walk.invariant.name h)
+    rw c.from.ensures (length_label_at _ c.walk.invariant.name h)
 
 pub returns-in-Label : goal.returns-in-Label
 returns-in-Label c =

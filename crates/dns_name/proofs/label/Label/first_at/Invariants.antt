@@ -1,4 +1,4 @@
-use Rattle.dns_name.proofs.Places.{Follows}
+use Rattle.dns_name.proofs.theory.HeadLemmas.{Follows}
 use Rattle.dns_name.proofs.label.Label.first_at.Given as goal
 
 abbrev pub invariant-walk : goal.invariant-walk

@@ -1,5 +1,5 @@
 use Rattle.std.proofs.Common.{◌≡◌, ◌≢◌, ◌+◌, ◌≤◌, ◌<◌, length, arith, rules, ap}
-use Rattle.dns_name.specs.Label.{label_octets}
+use Rattle.dns_name.specs.ParsedName.{label_octets}
 use Rattle.dns_name.proofs.theory.Steps.{passed_none, passed_below, left_small, step_on, back_has, back_gives, back_fewer}
 use Rattle.dns_name.proofs.label_iter.LabelIterDoubleEndedIterator.next_back.Goals as goal
 

@@ -1,5 +1,5 @@
 use Rattle.std.proofs.Common.{◌≡◌, ◌≢◌, ◌+◌, length, arith, rules, ap}
-use Rattle.dns_name.specs.Label.{label_octets}
+use Rattle.dns_name.specs.ParsedName.{label_octets}
 use Rattle.dns_name.proofs.theory.Steps.{step_fits, step_has, step_gives, step_fewer}
 use Rattle.dns_name.proofs.label_iter.LabelIterIterator.next.Goals as goal
 

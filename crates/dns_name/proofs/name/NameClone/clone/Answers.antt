@@ -1,5 +1,5 @@
 use Rattle.std.proofs.Common.{◌≡◌, ◌∙◌, subst, rules}
-use Rattle.dns_name.specs.NameLabels.{name_labels}
+use Rattle.dns_name.specs.NameReading.{name_labels}
 use Rattle.dns_name.specs.Uncompressed.{WholeName}
 use Rattle.dns_name.specs.Names.{uncompressed}
 use Rattle.dns_name.proofs.theory.NameLemmas.{name_whole, same_names}

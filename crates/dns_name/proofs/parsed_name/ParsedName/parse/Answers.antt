@@ -1,12 +1,10 @@
 use Rattle.std.proofs.Common.{◌≡◌, arith, refl, rules}
 use Rattle.std.specs.Prelude.{Ok}
 use Rattle.std.proofs.lemmas.Result.{err_from_is_err_and}
-use Rattle.dns_name.specs.Heads.{head_at}
-use Rattle.dns_name.specs.HeadAnswers.{Begins}
+use Rattle.dns_name.specs.Names.{head_at, Begins, Faulty}
 use Rattle.dns_name.specs.Parsers.{seen}
-use Rattle.dns_name.specs.Standing.{Faulty}
 use Rattle.dns_name.specs.declared.head.Head.TheVariants.{Root, Label, Pointer}
-use Rattle.dns_name.proofs.Walks.{leads_label, leads_pointer, leads_root, leads_end}
+use Rattle.dns_name.proofs.theory.HeadLemmas.{leads_label, leads_pointer, leads_root, leads_end}
 use Rattle.dns_name.proofs.theory.WalkLaws.{skip_fault}
 use Rattle.dns_name.proofs.theory.LabelsLemmas.{name_stands}
 use Rattle.dns_name.proofs.ParserLemmas.{length-seen}

@@ -1,9 +1,9 @@
 use Rattle.std.proofs.Common.{◌≤◌, arith, refl, length}
 use Rattle.std.proofs.lemmas.Result.{err_from_is_err_and}
-use Rattle.dns_name.specs.HeadAnswers.{Begins}
+use Rattle.dns_name.specs.Names.{Begins}
 use Rattle.dns_name.specs.Parsers.{seen}
 use Rattle.dns_name.specs.declared.head.Head.TheVariants.{Label}
-use Rattle.dns_name.proofs.Walks.{passes_label, passes_root, passes_pointer}
+use Rattle.dns_name.proofs.theory.HeadLemmas.{passes_label, passes_root, passes_pointer}
 use Rattle.dns_name.proofs.ParserLemmas.{length-seen}
 use Rattle.dns_name.proofs.parsed_name.ParsedName.skip.Goals as goal
 use Rattle.dns_name.proofs.parsed_name.ParsedName.skip.Goals.{in-Root, in-Pointer}

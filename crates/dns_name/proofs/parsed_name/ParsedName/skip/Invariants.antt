@@ -1,5 +1,5 @@
 use Rattle.std.proofs.Common.{length, ◌-◌}
-use Rattle.dns_name.proofs.Walks.{Passes}
+use Rattle.dns_name.proofs.theory.HeadLemmas.{Passes}
 use Rattle.dns_name.proofs.parsed_name.ParsedName.skip.Given as goal
 
 abbrev pub invariant-walk : goal.invariant-walk

@@ -1,8 +1,7 @@
 use Rattle.std.proofs.Common.{◌≡◌, ◌++◌}
 use Rattle.std.specs.List.{flat_map}
 use Rattle.dns_name.specs.Names.{framed, uncompressed}
-use Rattle.dns_name.specs.ParsedName.{labels}
-use Rattle.dns_name.specs.LabelIter.{labels_left}
+use Rattle.dns_name.specs.ParsedName.{labels, labels_left}
 use Rattle.dns_name.proofs.parsed_name.ParsedName.uncompressed.Given as goal
 
 abbrev pub invariant-loop-label : goal.invariant-loop-label

@@ -1,12 +1,11 @@
 use Rattle.std.proofs.Common.{◌∙◌, ap, length, refl, arith, sym, subst, ◌≡◌}
 use Rattle.std.proofs.lemmas.Result.{err_from_is_err_and}
-use Rattle.dns_question.specs.QuestionEntries.QuestionFaultAt.{name}
+use Rattle.dns_question.specs.BehindNames.FieldsFaultAt.{name}
 use Rattle.dns_question.proofs.QuestionLemmas.{short, reads_fields}
 use Rattle.dns_question.specs.Question.{qname_of, parsed_question}
-use Rattle.dns_name.specs.Names.{Labels}
+use Rattle.dns_name.specs.Names.{Labels, Stands}
 use Rattle.dns_name.specs.ParsedName.{labels}
 use Rattle.dns_name.specs.Parsers.{seen, place}
-use Rattle.dns_name.specs.Standing.{Stands}
 use Rattle.dns_question.proofs.question.Question+ParsedName.parse.Goals as goal
 
 pub returns-in_err-qname : goal.returns-in_err-qname

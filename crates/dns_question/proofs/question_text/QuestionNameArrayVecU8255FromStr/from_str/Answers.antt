@@ -1,11 +1,9 @@
 use Rattle.std.proofs.Common.{[], subst, sym}
 use Rattle.std.specs.Prelude.{Ok, Err}
 use Rattle.std.proofs.lemmas.Result.{err_from_is_err_and}
-use Rattle.dns_name.specs.NameLabels.{name_labels}
-use Rattle.dns_question.specs.QuestionReading.{ReadsQuestionText}
-use Rattle.dns_question.specs.QuestionTexts.{ReadsText}
+use Rattle.dns_name.specs.NameReading.{name_labels}
+use Rattle.dns_question.specs.QuestionTexts.{ReadsQuestionText, ReadsText, AreWords}
 use Rattle.dns_question.specs.QuestionTexts.ReadsWords.{no_name}
-use Rattle.dns_question.specs.Words.{AreWords}
 use Rattle.dns_question.specs.declared.question_error.PresentationErrorEnum.TheVariants.{MissingQname}
 use Rattle.dns_question.proofs.WordLemmas.{no_words}
 use Rattle.dns_question.proofs.QuestionTextLemmas.{answers_kind, question_item_is, reads_bad_name, reads_named}

@@ -1,18 +1,10 @@
-use Rattle.std.proofs.Common.{◌≡◌, ◌∙◌, ℕ, suc, List, [], ap, sym}
-use Rattle.std.specs.Prelude.{Result}
-use Rattle.dns_name.specs.Fault.{Fault}
+use Rattle.std.proofs.Common.{◌∙◌, ap, sym}
 use Rattle.dns_code.specs.HeaderSection.{header_size}
 use Rattle.dns_read.specs.Message.{message_octets}
-use Rattle.dns_read.specs.QuestionsFrom.{questions_from}
-use Rattle.dns_read.specs.Reading.{Reading}
-use Rattle.dns_read.specs.Reading.Reading.{entry, stop}
-use Rattle.dns_read.proofs.theory.QuestionsFromLemmas.{questions_from_are_read}
+use Rattle.dns_section.specs.QuestionsFrom.{questions_from}
+use Rattle.dns_section.proofs.theory.QuestionsFromLemmas.{questions_from_are_read}
+use Rattle.dns_read.proofs.ReadingItems.{has_item}
 use Rattle.dns_read.proofs.message.Message.sole_question.Goals as goal
-
--- where an entry is asked for, a reading has an item
-has_item : {X : Type 0} {Reads : ℕ → ℕ → X → Type 0} {FaultOf : ℕ → Fault → Type 0} (n p : ℕ) (xs : List (Result X Fault)) → Reading Reads FaultOf (suc n) p xs → xs ≡ [] → ⊥
-has_item n p xs (entry reads rest) e = absurd (cc)
-has_item n p xs (stop fault) e = absurd (cc)
 
 pub returns-in-Some-clause-none : goal.returns-in-Some-clause-none
 returns-in-Some-clause-none g c zero =

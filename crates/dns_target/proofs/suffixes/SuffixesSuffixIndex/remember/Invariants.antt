@@ -1,14 +1,16 @@
-use Rattle.std.proofs.Common.{◌≡◌, ◌≤◌, ◌-◌, drop, length}
-use Rattle.dns_wire.specs.Choice.{place_of}
-use Rattle.dns_target.specs.Table.{with_keys, rest_behind}
+use Rattle.std.proofs.Common.{◌≡◌, ◌<◌, ◌≤◌, drop, length}
+use Rattle.dns_wire.specs.Choice.{first_suffixes}
+use Rattle.dns_target.specs.Held.{memory_in, with_suffixes}
+use Rattle.dns_target.specs.Table.{spots_in, RestIsName, AreKeyed}
 use Rattle.dns_target.proofs.suffixes.SuffixesSuffixIndex.remember.Given as goal
 
 abbrev pub invariant-loop-index : goal.invariant-loop-index
 invariant-loop-index l = record {
   within : l.index ≤ l.count;
   room : l.index ≤ l.self.room;
-  rest : l.rest ≡ rest_behind (l.count - l.index) l.fn.found.place (place_of l.place l.labels l.index);
-  kept : l.self.suffixes ≡ with_keys l.fn.self.suffixes (l.count - l.index) l.fn.found.place (drop l.index l.labels) (place_of l.place l.labels l.index) (length l.content);
+  held : spots_in l.self.suffixes ≡ with_suffixes (spots_in l.fn.self.suffixes) (drop l.index (first_suffixes l.count l.labels l.place)) (length l.content);
+  keyed : AreKeyed l.content l.self.suffixes;
+  rest : 0 < l.index → RestIsName (memory_in l.content (spots_in l.self.suffixes)) l.rest (drop l.index l.labels);
 }
 
 abbrev pub decreases-loop-index : goal.decreases-loop-index

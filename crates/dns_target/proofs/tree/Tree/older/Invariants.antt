@@ -1,13 +1,14 @@
-use Rattle.std.proofs.Common.{◌≡◌, ◌≤◌, Some, false}
+use Rattle.std.proofs.Common.{◌≡◌, ◌≤◌, ◌∷◌, Some, false}
 use Rattle.std.specs.Str.{bytes_eq}
-use Rattle.dns_target.specs.Nodes.{entries_of}
-use Rattle.dns_target.specs.Tree.{IsWalk, entry_at}
+use Rattle.dns_target.specs.Tree.{IsWalk, entry_at, name_at}
 use Rattle.dns_target.proofs.tree.Tree.older.Given as goal
 
 abbrev pub invariant-loop-at : goal.invariant-loop-at
-invariant-loop-at l =
-    let ts = entries_of l.self-inside.nodes.items in
-    IsWalk ts l.fn.rest l.label (Some l.at) × (bytes_eq (entry_at ts l.at).label l.label ≡ false) × (l.at ≤ l.fn.newer)
+invariant-loop-at l = record {
+  walk : IsWalk l.self.entries l.fn.rest (l.label ∷ name_at l.self.entries l.fn.rest) (Some l.at);
+  other : bytes_eq (entry_at l.self.entries l.at).label l.label ≡ false;
+  within : l.at ≤ l.fn.newer;
+}
 
 abbrev pub decreases-loop-at : goal.decreases-loop-at
 decreases-loop-at l = l.at

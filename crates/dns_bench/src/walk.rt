@@ -1,0 +1,87 @@
+//! A walk over all of a message, by its cursors: each field, the labels of each name, and the data of each record.
+use dns_code::Rtype;
+use dns_data::{A, Cname, Ns};
+use dns_item::{ParsedRecord, Question};
+use dns_read::{Message, RecordSection};
+use dns_wire::ParsedName;
+
+/// The labels but the root, and the octets that the name takes without pointers.
+fn name_sum(name: &ParsedName<'_>) -> u64 {
+    let mut sum = name.compose_len() as u64;
+    for label in name.iter_labels() {
+        if !label.is_root() {
+            sum = sum.wrapping_add(1);
+        }
+    }
+    sum
+}
+
+fn question_sum(question: &Question<ParsedName<'_>>) -> u64 {
+    name_sum(question.qname())
+        .wrapping_add(u64::from(question.qtype().to_int()))
+        .wrapping_add(u64::from(question.qclass().to_int()))
+}
+
+/// What the data adds. There is no answer where it can't be read.
+fn data_sum(record: &ParsedRecord<'_>) -> Option<u64> {
+    match record.rtype() {
+        Rtype::A => {
+            let read = record.to_record::<A>().ok()??;
+            Some(u64::from(u32::from_be_bytes(read.data().octets())))
+        }
+        Rtype::NS => {
+            let read = record.to_record::<Ns<ParsedName<'_>>>().ok()??;
+            Some(name_sum(read.data().nsdname()))
+        }
+        Rtype::CNAME => {
+            let read = record.to_record::<Cname<ParsedName<'_>>>().ok()??;
+            Some(name_sum(read.data().cname()))
+        }
+        _ => Some(u64::from(record.rdlen())),
+    }
+}
+
+fn record_sum(record: &ParsedRecord<'_>) -> Option<u64> {
+    let header = name_sum(&record.owner())
+        .wrapping_add(u64::from(record.rtype().to_int()))
+        .wrapping_add(u64::from(record.class().to_int()))
+        .wrapping_add(u64::from(record.ttl().as_secs()));
+    Some(header.wrapping_add(data_sum(record)?))
+}
+
+fn section_sum(section: &mut RecordSection<'_>) -> Option<u64> {
+    let mut sum = 0u64;
+    for record in section {
+        sum = sum.wrapping_add(record_sum(&record.ok()?)?);
+    }
+    Some(sum)
+}
+
+/// The header and the counts.
+fn header_sum(message: &Message<&[u8]>) -> u64 {
+    let header = message.header();
+    let octets = header.as_slice();
+    let counts = message.header_counts();
+    u64::from(header.id())
+        .wrapping_add(u64::from(u16::from_be_bytes([octets[2], octets[3]])))
+        .wrapping_add(u64::from(counts.qdcount()))
+        .wrapping_add(u64::from(counts.ancount()))
+        .wrapping_add(u64::from(counts.nscount()))
+        .wrapping_add(u64::from(counts.arcount()))
+}
+
+/// The sum of all that is read. There is no answer where something can't be read.
+pub(crate) fn walk(octets: &[u8]) -> Option<u64> {
+    let message = Message::from_slice(octets).ok()?;
+    let mut sum = header_sum(&message);
+    let mut questions = message.question();
+    for question in &mut questions {
+        sum = sum.wrapping_add(question_sum(&question.ok()?));
+    }
+    let mut answers = questions.answer().ok()?;
+    sum = sum.wrapping_add(section_sum(&mut answers)?);
+    let mut authorities = answers.next_section().ok()??;
+    sum = sum.wrapping_add(section_sum(&mut authorities)?);
+    let mut additionals = authorities.next_section().ok()??;
+    Some(sum.wrapping_add(section_sum(&mut additionals)?))
+}

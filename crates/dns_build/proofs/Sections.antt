@@ -1,0 +1,149 @@
+-- The sections that a builder can be at, and the fold under one item more and without the last section's items.
+use Rattle.std.proofs.Common.{◌≡◌, ℕ, ◌+◌, ◌*◌, ◌-◌, ◌<◌, List, [], ◌∷◌, ◌++◌, map, length, replicate, take, ap, sym, ◌∙◌, refl, arith}
+use Rattle.std.proofs.lemmas.List.{length-map, map-append}
+use Rattle.dns_wire.specs.Pieces.{IsGrowing, Rule, Piece}
+use Rattle.dns_wire.specs.Targets.{Written, lay}
+use Rattle.dns_code.specs.Header.{header_octets}
+use Rattle.dns_question.specs.Questions.{QuestionItem, IsQuestion, put_question}
+use Rattle.dns_item.specs.Items.{RecordItem, IsRecord, put_record}
+use Rattle.dns_question.proofs.theory.QuestionItemLemmas.{questions_grow}
+use Rattle.dns_item.proofs.theory.ItemLemmas.{records_grow}
+use Rattle.dns_build.specs.Standing.{count_at, counted, emptied_from}
+use Rattle.dns_section.specs.declared.section.Section.{Section}
+use Rattle.dns_section.specs.declared.section.Section.TheVariants.{Answer, Authority, Additional}
+use Rattle.dns_build.specs.State.{fold, stage_of, Stage, InBuilder, InQuestion, InAnswer, InAuthority, State, Every, with_question, with_record, records_at, up_to}
+use Rattle.dns_build.proofs.Folds.{pieces, message, sections_of, fold-message, sections_grow, between, every_map, count-message, size-more, message-more, message-less}
+
+-- the section of questions, or one of records
+pub data Kind : Type 0 where
+  Questions : Kind
+  Records : Section → Kind
+
+-- how many sections are before it
+abbrev pub number : Kind → ℕ
+number Questions = 0
+number (Records Answer) = 1
+number (Records Authority) = 2
+number (Records Additional) = 3
+
+-- where its count stands in a message
+abbrev pub place_of : Kind → ℕ
+place_of k = 4 + 2 * number k
+
+-- the stage at it
+abbrev pub at : Kind → Stage
+at Questions = InQuestion
+at (Records k) = stage_of k
+
+-- the stage before
+abbrev pub prior : Kind → Stage
+prior Questions = InBuilder
+prior (Records Answer) = InQuestion
+prior (Records Authority) = InAnswer
+prior (Records Additional) = InAuthority
+
+-- its items
+abbrev pub Item : Kind → Type 0
+Item Questions = QuestionItem
+Item (Records k) = RecordItem
+
+abbrev pub IsItem : (k : Kind) → Item k → Type 0
+IsItem Questions x = IsQuestion x
+IsItem (Records k) x = IsRecord x
+
+abbrev pub put : (k : Kind) → Rule → Item k → Piece
+put Questions rule x = put_question rule x
+put (Records k) rule x = put_record rule x
+
+abbrev pub items : (k : Kind) → State → List (Item k)
+items Questions s = s.questions
+items (Records k) s = records_at (stage_of k) s
+
+abbrev pub with_item : (k : Kind) → Item k → State → State
+with_item Questions x s = with_question x s
+with_item (Records k) x s = with_record (stage_of k) x s
+
+-- each grows what it is put behind
+items_grow : (k : Kind) (rule : Rule) (x : Item k) → IsGrowing (put k rule x)
+items_grow Questions rule x = questions_grow rule x
+items_grow (Records k) rule x = records_grow rule x
+
+-- the sections before it
+abbrev before : Kind → Rule → State → List (List Piece)
+before k rule s = take (number k) (sections_of rule s)
+
+-- those behind it, which are empty
+abbrev empty : Kind → List (List Piece)
+empty k = replicate (3 - number k) []
+
+-- the sections of a state with these pieces in it
+abbrev sections : Kind → Rule → State → List Piece → List (List Piece)
+sections k rule s = between (before k rule s) (empty k)
+
+-- the folds of a state without the sections behind it, and without its own items
+record Splits (k : Kind) (rule : Rule) (s : State) : Type 0 where
+  all : length (before k rule s) + length (empty k) ≡ 3
+  number : length (before k rule s) ≡ number k
+  last : pieces (empty k) ≡ []
+  whole : fold rule (up_to (at k) s) ≡ message (header_octets s.header) (sections k rule s (map (put k rule) (items k s)))
+  less : fold rule (up_to (prior k) s) ≡ message (header_octets s.header) (sections k rule s [])
+  grow : Every IsGrowing (pieces (sections k rule s (map (put k rule) (items k s))))
+  front : Every IsGrowing (pieces (sections k rule s []))
+
+splits : (k : Kind) (rule : Rule) (s : State) → Splits k rule s
+splits Questions rule s = record { all = refl; number = refl; last = refl; whole = fold-message rule _; less = fold-message rule _; grow = sections_grow rule (up_to InQuestion s); front = sections_grow rule (up_to InBuilder s) }
+splits (Records Answer) rule s = record { all = refl; number = refl; last = refl; whole = fold-message rule _; less = fold-message rule _; grow = sections_grow rule (up_to InAnswer s); front = sections_grow rule (up_to InQuestion s) }
+splits (Records Authority) rule s = record { all = refl; number = refl; last = refl; whole = fold-message rule _; less = fold-message rule _; grow = sections_grow rule (up_to InAuthority s); front = sections_grow rule (up_to InAnswer s) }
+splits (Records Additional) rule s = record { all = refl; number = refl; last = refl; whole = fold-message rule _; less = fold-message rule _; grow = sections_grow rule s; front = sections_grow rule (up_to InAuthority s) }
+
+-- the fold of a state with one item more, which has no section behind it
+splits_more : (k : Kind) (rule : Rule) (s : State) (x : Item k) → fold rule (with_item k x (up_to (at k) s)) ≡ message (header_octets s.header) (sections k rule s (map (put k rule) (items k s ++ x ∷ [])))
+splits_more Questions rule s x = fold-message rule _
+splits_more (Records Answer) rule s x = fold-message rule _
+splits_more (Records Authority) rule s x = fold-message rule _
+splits_more (Records Additional) rule s x = fold-message rule _
+
+module _ (k : Kind) (rule : Rule) (s : State) (four : length (header_octets s.header) ≡ 4) (last : s ≡ up_to (at k) s) where
+  place : 4 + 2 * length (before k rule s) ≡ place_of k
+  place = let is = splits k rule s in ap (λ n. 4 + 2 * n) is.number
+
+  whole : fold rule s ≡ message (header_octets s.header) (sections k rule s (map (put k rule) (items k s)))
+  whole = let is = splits k rule s in ap (fold rule) last ∙ is.whole
+
+  more : (x : Item k) → fold rule (with_item k x s) ≡ message (header_octets s.header) (sections k rule s (map (put k rule) (items k s) ++ put k rule x ∷ []))
+  more x =
+      ap (λ (t : State). fold rule (with_item k x t)) last ∙ splits_more k rule s x
+      ∙ ap (λ ps. message (header_octets s.header) (sections k rule s ps)) (map-append (put k rule) (items k s) (x ∷ []))
+
+  -- its items are counted
+  pub fold-count : length (items k s) < 65536 → count_at (place_of k) (fold rule s) ≡ length (items k s)
+  fold-count few =
+      let is = splits k rule s in
+      let size = length-map (items k s) (put k rule) in
+      (λ i. count_at (sym place i) (whole i))
+      ∙ count-message (header_octets s.header) four (before k rule s) (empty k) is.all is.last (map (put k rule) (items k s)) is.grow (omega arith) ∙ size
+
+  -- the octets of a fold with one item more, also where it can't be counted
+  pub fold-size : (x : Item k) → length (lay (put k rule x) (fold rule s)).octets ≡ length (fold rule (with_item k x s)).octets
+  fold-size x =
+      let is = splits k rule s in
+      ap (λ (w : Written). length (lay (put k rule x) w).octets) whole
+      ∙ size-more (header_octets s.header) four (before k rule s) (empty k) is.all is.last (map (put k rule) (items k s)) is.grow (put k rule x)
+      ∙ ap (λ (w : Written). length w.octets) (sym (more x))
+
+  -- a fold with one item more
+  pub fold-more : (x : Item k) → length (items k s) < 65535 → counted (place_of k) (lay (put k rule x) (fold rule s)) ≡ fold rule (with_item k x s)
+  fold-more x few =
+      let is = splits k rule s in
+      let size = length-map (items k s) (put k rule) in
+      (λ i. counted (sym place i) (lay (put k rule x) (whole i)))
+      ∙ message-more (header_octets s.header) four (before k rule s) (empty k) is.all is.last (map (put k rule) (items k s)) is.grow (put k rule x) (omega arith)
+      ∙ sym (more x)
+
+  -- a fold without its items
+  pub fold-less : emptied_from (length (fold rule (up_to (prior k) s)).octets) (place_of k) (fold rule s) ≡ fold rule (up_to (prior k) s)
+  fold-less =
+      let is = splits k rule s in
+      (λ i. emptied_from (length (is.less i).octets) (sym place i) (whole i))
+      ∙ message-less (header_octets s.header) four (before k rule s) (empty k) is.all is.last (map (put k rule) (items k s)) is.grow is.front (every_map IsGrowing (put k rule) (items_grow k rule) (items k s))
+      ∙ sym is.less

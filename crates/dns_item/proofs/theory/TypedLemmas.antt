@@ -1,0 +1,51 @@
+-- What reading the data of a record gives is what the data type answers.
+use Rattle.std.proofs.Common.{◌≡◌, ◌∙◌, ap, sym, refl, ℕ, List}
+use Rattle.std.specs.Prelude.{Option, None, Some, option_map, Result, Ok, Err}
+use Rattle.std.specs.Result.{result_transpose}
+use Rattle.dns_name.specs.Names.{Fault, fault_of}
+use Rattle.dns_name.specs.declared.parsed_name.ParsedName.{ParsedName}
+use Rattle.dns_octets.specs.declared.error.ParseError.{ParseError}
+use Rattle.dns_wire.specs.Parts.{Part}
+use Rattle.dns_data.specs.Layout.{Layout}
+use Rattle.dns_item.specs.DataAnswer.{HasSpan, one_data_answer}
+use Rattle.dns_item.specs.DataAnswer.IsDataAnswer.{whole, fault}
+use Rattle.dns_item.specs.Items.{RecordItem}
+use Rattle.dns_item.specs.ParsedRecord.{StandingRecord}
+use Rattle.dns_item.specs.Record.{data_of}
+use Rattle.dns_item.specs.RecordReading.{GivesLaidOut, GivesTaken, AnswersLaidOut, AnswersTaken}
+use Rattle.dns_item.specs.TypedRecords.{data_in, DataIsAnswered, with_parts, laid_out, typed_answer}
+use Rattle.dns_item.specs.declared.record.Record.{Record}
+
+pub data_is_answered : DataIsAnswered
+unfolding data_in
+data_is_answered = record {
+  answer = λ x layout. (one_data_answer x layout).some.1;
+  only = λ x layout r h. (one_data_answer x layout).one _ r (one_data_answer x layout).some.1 h;
+}
+
+module _ {D : Type 0} (rtype_of : D → ℕ) (parts_of : D → List Part) (x : StandingRecord) (span : HasSpan x) where
+  -- a record, or the fault, of data that is laid out so
+  pub laid_out-given : (layout : Layout) (r : Result (Record ParsedName D) ParseError) → GivesLaidOut rtype_of parts_of x.octets x.entry layout r
+      → typed_answer rtype_of parts_of r ≡ laid_out x layout
+  laid_out-given layout (Ok r) h =
+      ap (λ (item : RecordItem). let y : Result RecordItem Fault = Ok item in y) h.0
+      ∙ sym (ap (with_parts x.entry) (data_is_answered.only x layout (Ok (parts_of (data_of r))) (whole span h.1)))
+  laid_out-given layout (Err e) h = sym (ap (with_parts x.entry) (data_is_answered.only x layout (Err (fault_of e)) (fault span h)))
+
+  given : (taken : Option Layout) (r : Result (Option (Record ParsedName D)) ParseError) → GivesTaken rtype_of parts_of x.octets x.entry taken r
+      → option_map (typed_answer rtype_of parts_of) (result_transpose r) ≡ option_map (laid_out x) taken
+  given None (Ok None) h = refl
+  given None (Ok (Some r)) h = absurd h
+  given None (Err e) h = absurd h
+  given (Some layout) (Ok None) h = absurd h
+  given (Some layout) (Ok (Some r)) h = ap (λ (y : Result RecordItem Fault). Some y) (laid_out-given layout (Ok r) h)
+  given (Some layout) (Err e) h = ap (λ (y : Result RecordItem Fault). Some y) (laid_out-given layout (Err e) h)
+
+  -- so it is of a record whose data is there
+  pub laid_out-answered : (layout : Layout) (r : Result (Record ParsedName D) ParseError) → AnswersLaidOut rtype_of parts_of x.octets x.entry layout r
+      → typed_answer rtype_of parts_of r ≡ laid_out x layout
+  laid_out-answered layout r h = laid_out-given layout r (h.gives span.end)
+
+  pub answer_to-answered : (taken : Option Layout) (r : Result (Option (Record ParsedName D)) ParseError) → AnswersTaken rtype_of parts_of x.octets x.entry taken r
+      → option_map (typed_answer rtype_of parts_of) (result_transpose r) ≡ option_map (laid_out x) taken
+  answer_to-answered taken r h = given taken r (h.gives span.end)

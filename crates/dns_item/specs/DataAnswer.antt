@@ -1,0 +1,119 @@
+-- What a layout answers to the data of a record, and that there is exactly one answer. RFC 1035 sections 3.3 and 4.1.3. It stands here since the answer is taken from it.
+use Rattle.std.proofs.Common.{◌≡◌, ap, sym, refl, subst, ℕ, ◌≤◌, ◌⊎◌, inl, inr, List, length, arith}
+use Rattle.std.proofs.lemmas.Bool.Decides.{leb_tells}
+use Rattle.std.proofs.lemmas.Grind.{common_steps}
+use Rattle.std.specs.Prelude.{Result, Ok, Err}
+use Rattle.dns_name.specs.Names.{Fault}
+use Rattle.dns_name.specs.Names.Fault.{Form, ShortInput}
+use Rattle.dns_wire.specs.Parts.{Part}
+use Rattle.dns_data.specs.Layout.{Layout, DataStands}
+use Rattle.dns_data.proofs.theory.DataAnswers.{one_datum_or_fault, data_within}
+use Rattle.dns_item.specs.ParsedRecord.{StandingRecord}
+use Rattle.dns_item.specs.RecordReading.{WholeDataFaultAt, IsThere, up_to_data_end, HasData, HasDataFault}
+use Rattle.dns_item.specs.RecordReading.WholeDataFaultAt.{first, left_over}
+
+-- the data of a record lies within the octets that it is read from
+pub record HasSpan (x : StandingRecord) : Type 0 where
+  pub start : x.entry.data_start ≤ x.entry.data_end
+  pub end : IsThere x.octets x.entry
+
+-- What a layout answers to the data of a record: the parts that fill it, or the fault in it; `ShortInput` where the data isn't there.
+pub data IsDataAnswer (x : StandingRecord) (layout : Layout) : Result (List Part) Fault → Type 0 where
+  whole : {parts : List Part} → HasSpan x → HasData x.octets x.entry layout parts → IsDataAnswer x layout (Ok parts)
+  fault : {f : Fault} → HasSpan x → HasDataFault x.octets x.entry layout f → IsDataAnswer x layout (Err f)
+  missing : (HasSpan x → ⊥) → IsDataAnswer x layout (Err ShortInput)
+
+-- there is an answer, and no other
+pub record OneDataAnswer (x : StandingRecord) (layout : Layout) : Type 0 where
+  pub some : (r : Result (List Part) Fault) × IsDataAnswer x layout r
+  pub one : (r s : Result (List Part) Fault) → IsDataAnswer x layout r → IsDataAnswer x layout s → r ≡ s
+
+-- data of a layout that goes from p to the end, or the fault of octets that aren't such data
+module _ (b : List ℕ) (layout : Layout) (p : ℕ) (within : p ≤ length b) where
+  some_whole : ((parts : List Part) × DataStands b layout p (length b) parts) ⊎ ((f : Fault) × WholeDataFaultAt b layout p f)
+  some_whole =
+      elim (one_datum_or_fault b layout p within).some [
+        | inl d ↦ elim (leb_tells (length b) d.0) [
+          | inl l ↦
+              let end = data_within b layout p d.0 d.1 within d.2 in
+              let all : d.0 ≡ length b = omega (arith, l.1, end) in
+              inl (d.1, subst (λ q. DataStands b layout p q d.1) all d.2)
+          | inr l ↦ inr (Form, left_over d.0 d.1 d.2 l.1)
+        ]
+        | inr f ↦ inr (f.0, first f.1)
+      ]
+
+  -- where data goes to the end, there is no fault
+  pub no_fault : (parts : List Part) (f : Fault) → DataStands b layout p (length b) parts → WholeDataFaultAt b layout p f → ⊥
+  no_fault parts f h (first g) = (one_datum_or_fault b layout p within).not_both (length b) parts f h g
+  no_fault parts f h (left_over q others k short) =
+      let e = (one_datum_or_fault b layout p within).one (length b) q parts others h k in
+      omega (arith, e.0, short)
+
+  one_whole_fault : {f g : Fault} → WholeDataFaultAt b layout p f → WholeDataFaultAt b layout p g → f ≡ g
+  one_whole_fault {f} {g} (first h) (first k) = (one_datum_or_fault b layout p within).one_fault f g h k
+  one_whole_fault {f} (first h) (left_over q parts k short) = absurd ((one_datum_or_fault b layout p within).not_both q parts f k h)
+  one_whole_fault {f} {g} (left_over q parts k short) (first h) = absurd ((one_datum_or_fault b layout p within).not_both q parts g k h)
+  one_whole_fault (left_over q parts h short) (left_over r others k less) = refl
+
+module _ (x : StandingRecord) (layout : Layout) where
+  -- the octets up to the end of data that is there
+  pub ends_there : HasSpan x → length (up_to_data_end x.octets x.entry) ≡ x.entry.data_end
+  ends_there span = let there = span.end in grind (arith, common_steps)
+
+  starts_within : HasSpan x → x.entry.data_start ≤ length (up_to_data_end x.octets x.entry)
+  starts_within span = let start = span.start in let end = ends_there span in omega arith
+
+  span_or_not : HasSpan x ⊎ (HasSpan x → ⊥)
+  span_or_not =
+      elim (leb_tells x.entry.data_start x.entry.data_end) [
+        | inl start ↦ elim (leb_tells x.entry.data_end (length x.octets)) [
+          | inl end ↦ inl (record { start = start.1; end = end.1 })
+          | inr short ↦ inr (λ span. omega (arith, span.end, short.1))
+        ]
+        | inr short ↦ inr (λ span. omega (arith, span.start, short.1))
+      ]
+
+  -- the data up to its end, which is the end of the octets that are seen
+  to_end : HasSpan x → (parts : List Part) → HasData x.octets x.entry layout parts
+      → DataStands (up_to_data_end x.octets x.entry) layout x.entry.data_start (length (up_to_data_end x.octets x.entry)) parts
+  to_end span parts h =
+      subst (λ q. DataStands (up_to_data_end x.octets x.entry) layout x.entry.data_start q parts) (sym (ends_there span)) h
+
+  some_answer : (r : Result (List Part) Fault) × IsDataAnswer x layout r
+  some_answer =
+      elim span_or_not [
+        | inl span ↦ elim (some_whole (up_to_data_end x.octets x.entry) layout x.entry.data_start (starts_within span)) [
+          | inl d ↦
+              let there = subst (λ q. DataStands (up_to_data_end x.octets x.entry) layout x.entry.data_start q d.0) (ends_there span) d.1 in
+              (Ok d.0, whole span there)
+          | inr f ↦ (Err f.0, fault span f.1)
+        ]
+        | inr none ↦ (Err ShortInput, missing none)
+      ]
+
+  -- the parts that fill the data, and not others
+  pub one_data : HasSpan x → (xs ys : List Part) → HasData x.octets x.entry layout xs → HasData x.octets x.entry layout ys → xs ≡ ys
+  one_data span xs ys h k =
+      ((one_datum_or_fault (up_to_data_end x.octets x.entry) layout x.entry.data_start (starts_within span)).one x.entry.data_end x.entry.data_end xs ys h k).1
+
+  -- parts that fill the data, and no fault
+  pub no_data_fault : HasSpan x → (parts : List Part) (f : Fault) → HasData x.octets x.entry layout parts → HasDataFault x.octets x.entry layout f → ⊥
+  no_data_fault span parts f h k =
+      no_fault (up_to_data_end x.octets x.entry) layout x.entry.data_start (starts_within span) parts f (to_end span parts h) k
+
+  one_answer : {r s : Result (List Part) Fault} → IsDataAnswer x layout r → IsDataAnswer x layout s → r ≡ s
+  one_answer (whole {parts = xs} span h) (whole {parts = ys} again k) = ap (λ (zs : List Part). let r : Result (List Part) Fault = Ok zs in r) (one_data span xs ys h k)
+  one_answer (whole {parts = xs} span h) (fault {f = f} again k) = absurd (no_data_fault span xs f h k)
+  one_answer (whole span h) (missing none) = absurd (none span)
+  one_answer (fault {f = f} span h) (whole {parts = xs} again k) = absurd (no_data_fault span xs f k h)
+  one_answer (fault span h) (fault again k) =
+      ap (λ (f : Fault). let r : Result (List Part) Fault = Err f in r)
+      (one_whole_fault (up_to_data_end x.octets x.entry) layout x.entry.data_start (starts_within span) h k)
+  one_answer (fault span h) (missing none) = absurd (none span)
+  one_answer (missing none) (whole span h) = absurd (none span)
+  one_answer (missing none) (fault span h) = absurd (none span)
+  one_answer (missing none) (missing never) = refl
+
+  pub one_data_answer : OneDataAnswer x layout
+  one_data_answer = record { some = some_answer; one = λ r s h k. one_answer h k }

@@ -1,0 +1,3 @@
+pub mod theory
+pub mod TableLemmas
+pub mod TextLemmas

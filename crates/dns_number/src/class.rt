@@ -1,0 +1,81 @@
+//! Classes of records.
+ghost use Rattle.std.specs.Prelude.{◌≡◌, ℕ, Some};
+ghost use Rattle.dns_number.specs.NumberTexts.{ReadsNumber};
+ghost use Rattle.dns_number.specs.Classes.{class_text, SpellsClass};
+
+use crate::mnemonic::{self, Entry};
+use std::fmt;
+use std::marker::Model;
+use std::str::FromStr;
+use thiserror::Error;
+
+/// The class of a record, as a number of 16 bits (RFC 1035 section 3.2.4).
+#[derive(Clone, Copy, Debug, PartialEq, Eq, PartialOrd, Ord, Hash)]
+pub struct Class(u16);
+
+impl Model for Class {
+    ghost Value = { ℕ };
+
+    ghost view = { λ class. class.0 };
+
+    ghost inverse = { λ n. record { 0 = n } };
+}
+
+/// The classes that have a mnemonic.
+const MNEMONICS: [Entry; 3] = [
+    (Class::IN.0, "IN"),
+    (Class::CH.0, "CH"),
+    (Class::HS.0, "HS"),
+];
+
+impl Class {
+    /// The Internet, 1 (RFC 1035 section 3.2.4).
+    pub const IN: Class = Class(1);
+
+    /// Chaos, 3 (RFC 1035 section 3.2.4).
+    pub const CH: Class = Class(3);
+
+    /// Hesiod, 4 (RFC 1035 section 3.2.4).
+    pub const HS: Class = Class(4);
+
+    /// The class of a number.
+    pub fn from_int(number: u16) -> Self
+        ensures { result ≡ number }
+    {
+        Class(number)
+    }
+
+    /// The number of the class.
+    pub fn to_int(self) -> u16
+        ensures { result ≡ self }
+    {
+        self.0
+    }
+}
+
+/// The mnemonic where there is one, else `CLASS` and the number (RFC 3597 section 5).
+impl fmt::Display for Class {
+    ghost output = { λ class. Some (class_text class) };
+
+    #[tactic(auto, unfolding(crate::specs::Mnemonics::class_mnemonics))]
+    fn fmt<W: fmt::Write>(&self, f: &mut fmt::Formatter<W>) -> fmt::Result {
+        mnemonic::write(f, &MNEMONICS, "CLASS", self.0)
+    }
+}
+
+/// Reads a mnemonic, or `CLASS` and a number up to 65,535 in decimal digits; ASCII letters in any case.
+impl FromStr for Class {
+    type Err = FromStrError;
+
+    ghost from_str_gives = { λ text r. ReadsNumber (SpellsClass text) r };
+
+    fn from_str(text: &str) -> Result<Self, FromStrError> {
+        let number = mnemonic::read(&MNEMONICS, "CLASS", text).ok_or(FromStrError)?;
+        Ok(Class(number))
+    }
+}
+
+/// The text is neither a mnemonic of a class nor `CLASS` and a number.
+#[derive(Clone, Copy, Debug, PartialEq, Eq, Error)]
+#[error("unknown class")]
+pub struct FromStrError;

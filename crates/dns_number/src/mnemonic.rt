@@ -1,0 +1,88 @@
+//! Tables of numbers with their mnemonics, and the texts that spell a number (RFC 3597 section 5).
+ghost use Rattle.std.specs.Prelude.{◌≡◌, ℕ, ◌↔◌, IsTrue, Some, option_map, ◌<◌, ◌^◌};
+ghost use Rattle.std.specs.Fmt.{WritesOnOk};
+ghost use Rattle.std.specs.Option.{SomeIff};
+ghost use Rattle.std.specs.Str.Parse.{IsNumeral, digits_value};
+ghost use Rattle.dns_number.specs.Mnemonics.{mnemonic};
+ghost use Rattle.dns_number.specs.NumberTexts.{IsMnemonic, IsNumbered, Spells, number_text};
+ghost use Rattle.dns_number.specs.Tables.{table, is_distinct, is_apart};
+
+use std::fmt;
+
+/// A number and its mnemonic.
+pub(crate) type Entry = (u16, &'static str);
+
+/// The mnemonic of the number, if it has one.
+fn of(entries: &[Entry], number: u16) -> Option<&'static str>
+    ensures { option_map (λ text. text.now) result ≡ mnemonic (table entries.now) number }
+{
+    for (known, mnemonic) in entries {
+        if *known == number {
+            return Some(mnemonic);
+        }
+    }
+    None
+}
+
+/// Prints the mnemonic of the number, or the word and the number in decimal digits.
+pub(crate) fn write<W: fmt::Write>(
+    f: &mut fmt::Formatter<W>,
+    entries: &[Entry],
+    word: &str,
+    number: u16,
+) -> fmt::Result
+    ensures { WritesOnOk W.write_str_gives f.old result
+        (number_text (table entries.now) word.now number) f.new }
+{
+    match of(entries, number) {
+        Some(mnemonic) => f.write_str(mnemonic),
+        None => write!(f, "{word}{number}"),
+    }
+}
+
+/// The number whose mnemonic the text is, in any ASCII case.
+fn named(entries: &[Entry], text: &str) -> Option<u16>
+    requires { IsTrue (is_distinct (table entries.now)) }
+    ensures { (n : ℕ) → IsMnemonic (table entries.now) text.now n ↔ (result ≡ Some n) }
+{
+    for (number, mnemonic) in entries {
+        if mnemonic.eq_ignore_ascii_case(text) {
+            return Some(*number);
+        }
+    }
+    None
+}
+
+/// The number that decimal digits write, `None` above 65,535 and for any other text.
+fn decimal_number(digits: &str) -> Option<u16>
+    ensures { let value = digits_value 10 digits.now in
+        SomeIff result (IsNumeral 10 digits.now × (value < 2 ^ 16)) value }
+{
+    if digits.starts_with('+') {
+        return None;
+    }
+    digits.parse().ok()
+}
+
+/// The number of which the text is the word, in any ASCII case, and decimal digits.
+fn numbered(word: &str, text: &str) -> Option<u16>
+    ensures { (n : ℕ) → IsNumbered word.now text.now n ↔ (result ≡ Some n) }
+{
+    let (front, digits) = text.split_at_checked(word.len())?;
+    if !front.eq_ignore_ascii_case(word) {
+        return None;
+    }
+    decimal_number(digits)
+}
+
+/// The number that the text spells: its mnemonic, or the word and decimal digits.
+pub(crate) fn read(entries: &[Entry], word: &str, text: &str) -> Option<u16>
+    requires distinct { IsTrue (is_distinct (table entries.now)) }
+    requires apart { IsTrue (is_apart word.now (table entries.now)) }
+    ensures { (n : ℕ) → Spells (table entries.now) word.now text.now n ↔ (result ≡ Some n) }
+{
+    if let Some(number) = named(entries, text) {
+        return Some(number);
+    }
+    numbered(word, text)
+}

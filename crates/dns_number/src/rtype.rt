@@ -1,0 +1,117 @@
+//! Record types.
+ghost use Rattle.std.specs.Prelude.{◌≡◌, ℕ, Some};
+ghost use Rattle.dns_number.specs.NumberTexts.{ReadsNumber};
+ghost use Rattle.dns_number.specs.Types.{type_text, SpellsType};
+
+use crate::mnemonic::{self, Entry};
+use std::fmt;
+use std::marker::Model;
+use std::str::FromStr;
+use thiserror::Error;
+
+/// The type of a record, as a number of 16 bits (RFC 1035 section 3.2.2).
+#[derive(Clone, Copy, Debug, PartialEq, Eq, PartialOrd, Ord, Hash)]
+pub struct Rtype(u16);
+
+impl Model for Rtype {
+    ghost Value = { ℕ };
+
+    ghost view = { λ rtype. rtype.0 };
+
+    ghost inverse = { λ n. record { 0 = n } };
+}
+
+/// The types that have a mnemonic.
+const MNEMONICS: [Entry; 12] = [
+    (Rtype::A.0, "A"),
+    (Rtype::NS.0, "NS"),
+    (Rtype::CNAME.0, "CNAME"),
+    (Rtype::SOA.0, "SOA"),
+    (Rtype::PTR.0, "PTR"),
+    (Rtype::MX.0, "MX"),
+    (Rtype::TXT.0, "TXT"),
+    (Rtype::AAAA.0, "AAAA"),
+    (Rtype::OPT.0, "OPT"),
+    (Rtype::IXFR.0, "IXFR"),
+    (Rtype::AXFR.0, "AXFR"),
+    (Rtype::ANY.0, "ANY"),
+];
+
+impl Rtype {
+    /// An IPv4 address, 1 (RFC 1035 section 3.4.1).
+    pub const A: Rtype = Rtype(1);
+
+    /// A name server of the zone, 2 (RFC 1035 section 3.3.11).
+    pub const NS: Rtype = Rtype(2);
+
+    /// The canonical name of an alias, 5 (RFC 1035 section 3.3.1).
+    pub const CNAME: Rtype = Rtype(5);
+
+    /// The start of a zone of authority, 6 (RFC 1035 section 3.3.13).
+    pub const SOA: Rtype = Rtype(6);
+
+    /// A pointer to another name, 12 (RFC 1035 section 3.3.12).
+    pub const PTR: Rtype = Rtype(12);
+
+    /// A mail exchange, 15 (RFC 1035 section 3.3.9).
+    pub const MX: Rtype = Rtype(15);
+
+    /// Texts, 16 (RFC 1035 section 3.3.14).
+    pub const TXT: Rtype = Rtype(16);
+
+    /// An IPv6 address, 28 (RFC 3596 section 2.1).
+    pub const AAAA: Rtype = Rtype(28);
+
+    /// The options of a message, 41 (RFC 6891 section 6.1.1).
+    pub const OPT: Rtype = Rtype(41);
+
+    /// A request for the changes of a zone, 251 (RFC 1995).
+    pub const IXFR: Rtype = Rtype(251);
+
+    /// A request for a whole zone, 252 (RFC 1035 section 3.2.3).
+    pub const AXFR: Rtype = Rtype(252);
+
+    /// A request for all records, 255 (RFC 1035 section 3.2.3).
+    pub const ANY: Rtype = Rtype(255);
+
+    /// The record type of a number.
+    pub fn from_int(number: u16) -> Self
+        ensures { result ≡ number }
+    {
+        Rtype(number)
+    }
+
+    /// The number of the record type.
+    pub fn to_int(self) -> u16
+        ensures { result ≡ self }
+    {
+        self.0
+    }
+}
+
+/// The mnemonic where there is one, else `TYPE` and the number (RFC 3597 section 5).
+impl fmt::Display for Rtype {
+    ghost output = { λ rtype. Some (type_text rtype) };
+
+    #[tactic(auto, unfolding(crate::specs::Mnemonics::type_mnemonics))]
+    fn fmt<W: fmt::Write>(&self, f: &mut fmt::Formatter<W>) -> fmt::Result {
+        mnemonic::write(f, &MNEMONICS, "TYPE", self.0)
+    }
+}
+
+/// Reads a mnemonic, or `TYPE` and a number up to 65,535 in decimal digits; ASCII letters in any case.
+impl FromStr for Rtype {
+    type Err = FromStrError;
+
+    ghost from_str_gives = { λ text r. ReadsNumber (SpellsType text) r };
+
+    fn from_str(text: &str) -> Result<Self, FromStrError> {
+        let number = mnemonic::read(&MNEMONICS, "TYPE", text).ok_or(FromStrError)?;
+        Ok(Rtype(number))
+    }
+}
+
+/// The text is neither a mnemonic of a record type nor `TYPE` and a number.
+#[derive(Clone, Copy, Debug, PartialEq, Eq, Error)]
+#[error("unknown record type")]
+pub struct FromStrError;

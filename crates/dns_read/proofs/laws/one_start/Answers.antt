@@ -1,5 +1,0 @@
-use Rattle.dns_read.proofs.StartLemmas.{one_start}
-use Rattle.dns_read.proofs.laws.one_start.Goals as goal
-
-pub returns : goal.returns
-returns c = one_start

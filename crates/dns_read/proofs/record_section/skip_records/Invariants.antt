@@ -1,8 +1,0 @@
-use Rattle.dns_name.specs.Parsers.{seen, place, MovesTo}
-use Rattle.dns_item.specs.Entries.{SkipsRecord}
-use Rattle.dns_read.specs.Reading.{Passed}
-use Rattle.dns_read.proofs.record_section.skip_records.Given as goal
-
-abbrev pub invariant-loop-record : goal.invariant-loop-record
-invariant-loop-record l =
-    Passed (SkipsRecord (seen l.fn.parser)) l._record (place l.fn.parser) (place l.parser) × MovesTo l.fn.parser l.parser (place l.parser)

@@ -1,0 +1,100 @@
+ghost use Rattle.std.specs.Prelude.{◌≡◌, ◌≤◌, ◌+◌, length};
+
+use crate::message::Message;
+use dns_item::ParsedRecord;
+use dns_section::{RecordSection, Section};
+use dns_wire::{Octets, ParseError};
+
+/// An iterator over the records of a message, each with its section (RFC 1035 section 4.1).
+///
+/// It gives the records that can be read in a row, of the answer, authority and additional sections. The first that can't be
+/// read is answered by its error and, but in the additional section, by the same error once more. Then there are no more.
+#[derive(Clone, Copy, Debug)]
+pub struct MessageIter<'a> {
+    /// The section that is read, or `None` where no more is to come.
+    cursor: Option<RecordSection<'a>>,
+}
+
+impl<'a> MessageIter<'a> {
+    ghost use Rattle.std.specs.Iterator.{YieldsFirstBy};
+    ghost use Rattle.dns_read.specs.MessageIter.{item_answer, items_left};
+
+    /// The next record with its section, or the error of the first that can't be read.
+    pub fn next(&mut self) -> Option<Result<(ParsedRecord<'a>, Section), ParseError>>
+        ensures { YieldsFirstBy item_answer items_left self.old result self.new }
+    {
+        while let Some(mut cursor) = self.cursor {
+            match cursor.next() {
+                Some(Ok(record)) => {
+                    self.cursor = Some(cursor);
+                    return Some(Ok((record, cursor.section())));
+                }
+                Some(Err(error)) => {
+                    self.cursor = Some(cursor);
+                    return Some(Err(error));
+                }
+                None => {}
+            }
+            match cursor.next_section() {
+                Ok(next) => self.cursor = next,
+                Err(error) => {
+                    self.cursor = None;
+                    return Some(Err(error));
+                }
+            }
+        }
+        None
+    }
+}
+
+/// As the method `next`.
+impl<'a> Iterator for MessageIter<'a> {
+    ghost use Rattle.std.specs.Iterator.{YieldsFirstBy, item_count};
+    ghost use Rattle.dns_read.specs.MessageIter.{item_answer, items_left};
+
+    type Item = Result<(ParsedRecord<'a>, Section), ParseError>;
+
+    ghost next_gives = { YieldsFirstBy item_answer items_left };
+
+    ghost remaining = { item_count items_left };
+
+    fn next(&mut self) -> Option<Self::Item> {
+        MessageIter::next(self)
+    }
+}
+
+impl<Octs: Octets> Message<Octs> {
+    ghost use Rattle.dns_read.specs.Message.{message_octets};
+    ghost use Rattle.dns_read.specs.MessageIter.{items_left, message_items};
+    ghost use Rattle.dns_section.specs.Sections.{answer_count, authority_count, additional_count};
+
+    /// Iterates over the records of the answer, authority and additional sections.
+    ///
+    /// There are none where the answer section has no start.
+    pub fn iter(&self) -> MessageIter<'_>
+        ensures items { items_left result ≡ message_items (message_octets self.now) }
+        ensures count { length (items_left result) ≤ answer_count (message_octets self.now)
+            + authority_count (message_octets self.now)
+            + additional_count (message_octets self.now) + 1 }
+    {
+        MessageIter {
+            cursor: self.answer().ok(),
+        }
+    }
+}
+
+/// As the method `iter`.
+impl<'a, Octs: Octets> IntoIterator for &'a Message<Octs> {
+    ghost use Rattle.dns_read.specs.Message.{message_octets};
+    ghost use Rattle.dns_read.specs.MessageIter.{items_left, message_items};
+
+    type Item = Result<(ParsedRecord<'a>, Section), ParseError>;
+
+    type IntoIter = MessageIter<'a>;
+
+    ghost into_iter_gives = { λ message it. items_left it ≡ message_items (message_octets message.now) };
+
+    fn into_iter(self) -> MessageIter<'a> {
+        self.iter()
+    }
+}

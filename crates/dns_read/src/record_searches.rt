@@ -1,0 +1,91 @@
+//! What is looked for in the records of a message (RFC 1035 sections 3.3.1 and 4.1).
+ghost use Rattle.std.specs.Prelude.{◌≡◌, ◌↔◌, IfSome, IsTrue, option_map};
+ghost use Rattle.dns_name.specs.ParsedName.{labels};
+ghost use Rattle.dns_item.specs.DataAnswer.{HasSpan};
+ghost use Rattle.dns_item.specs.ParsedRecord.{standing_record};
+ghost use Rattle.dns_item.specs.Record.{record_item};
+ghost use Rattle.dns_section.specs.Limited.{limited};
+ghost use Rattle.dns_section.specs.RecordSection.{records_left};
+ghost use Rattle.dns_read.specs.Message.{message_octets};
+ghost use Rattle.dns_read.specs.RecordSearches.{HasAnswer, last_record, last_additional, cname_layout, alias_of, CanonicalName};
+
+use crate::message::Message;
+use dns_data::{Cname, ParseRecordData};
+use dns_item::{ParsedRecord, Record};
+use dns_section::RecordSection;
+use dns_wire::{Octets, ParsedName};
+
+/// How many names are looked at, from the first question's on, for one that is no alias.
+const MOST_NAMES: usize = 20;
+
+impl<Octs: Octets> Message<Octs> {
+    /// Whether the answer section has a record that the data type takes, or a fault.
+    pub fn contains_answer<'a, D: ParseRecordData<'a> + Drop>(&'a self) -> bool
+        ensures { IsTrue result ↔ HasAnswer D.layout (message_octets self.now) }
+    {
+        match self.answer() {
+            Ok(section) => section.limit_to::<D>().next().is_some(),
+            Err(_) => false,
+        }
+    }
+
+    /// The last additional record with its data, if all additional records can be read and the data type takes it.
+    pub fn get_last_additional<'a, D: ParseRecordData<'a> + Drop>(
+        &'a self,
+    ) -> Option<Record<ParsedName<'a>, D>>
+        ensures { option_map (record_item labels D.rtype_of D.parts) result
+            ≡ last_additional D.layout (message_octets self.now) }
+    {
+        last_of(self.additional().ok()?)?.to_record().ok()?
+    }
+
+    /// The name that the first question's name is an alias of, by the CNAME records of the answer section, in any class (RFC
+    /// 1034 section 3.6.2). It is the question's own name where that is no alias.
+    ///
+    /// There is none where twenty aliases follow one another, where no question can be read, or where the answer section has
+    /// no start.
+    pub fn canonical_name(&self) -> Option<ParsedName<'_>>
+        ensures { CanonicalName (message_octets self.now) (option_map labels result) }
+    {
+        let Some(question) = self.first_question() else {
+            return None;
+        };
+        let mut name = question.into_qname();
+        let answers = self.answer().ok()?;
+        for _name in 0..MOST_NAMES {
+            match alias_of(answers, &name) {
+                Some(target) => name = target,
+                None => return Some(name),
+            }
+        }
+        None
+    }
+}
+
+/// The last record of a section, if all of them can be read.
+fn last_of<'a>(mut section: RecordSection<'a>) -> Option<ParsedRecord<'a>>
+    ensures record { option_map standing_record result
+        ≡ last_record (records_left section.entry) }
+    ensures span { IfSome result (λ last. HasSpan (standing_record last)) }
+{
+    let mut last = None;
+    while let Some(record) = section.next() {
+        last = Some(record.ok()?);
+    }
+    last
+}
+
+/// What a name is an alias of, by these answers.
+fn alias_of<'a>(answers: RecordSection<'a>, name: &ParsedName<'a>) -> Option<ParsedName<'a>>
+    ensures { option_map labels result
+        ≡ alias_of (limited cname_layout (records_left answers.entry)) (labels name.now) }
+{
+    let mut aliases = answers.limit_to::<Cname<ParsedName<'a>>>();
+    while let Some(item) = aliases.next() {
+        let Ok(record) = item else { continue };
+        if record.owner() == name {
+            return Some(record.into_data().into_cname());
+        }
+    }
+    None
+}

@@ -1,0 +1,53 @@
+//! Character strings, for data types that are none of the library's (RFC 1035 section 3.3).
+ghost use Rattle.std.specs.Prelude.{◌≡◌, ◌+◌, ◌≤◌, length};
+ghost use Rattle.dns_data.specs.Layout.{string_size};
+
+use dns_message::wire::{ParseError, Parser};
+
+/// A character string as it stands in a message: a length octet and so many octets (RFC 1035 section 3.3).
+#[derive(Clone, Copy, Debug)]
+pub struct CharStr<'a> {
+    octets: &'a [u8],
+    ghost is_string: { length octets.now ≡ string_size octets.now 0 },
+    ghost short: { length octets.now ≤ 256 },
+}
+
+impl<'a> CharStr<'a> {
+    ghost use Rattle.std.specs.Prelude.{◌↔◌, slice_range, IfSome, IsSome};
+    ghost use Rattle.dns_name.specs.Parsers.{seen, place, Takes};
+    ghost use Rattle.dns_record_tests.specs.CharStr.{string_octets};
+
+    /// The character string of these octets, of which the first has to say how many others there are.
+    pub fn from_octets(octets: &'a [u8]) -> Option<Self>
+        ensures accepts { IsSome result ↔ (length octets.now ≡ string_size octets.now 0) }
+        ensures octets { IfSome result (λ string. string_octets string ≡ octets.now) }
+    {
+        let [len, text @ ..] = octets else {
+            return None;
+        };
+        if text.len() != usize::from(*len) {
+            return None;
+        }
+        Some(CharStr { octets })
+    }
+
+    /// The length octet and the octets behind it.
+    pub fn as_slice(&self) -> &'a [u8]
+        ensures octets { result.now ≡ string_octets self.now }
+        ensures short { length result.now ≤ 256 }
+    {
+        self.octets
+    }
+
+    /// Reads a character string and passes it.
+    pub fn parse(parser: &mut Parser<'a>) -> Result<Self, ParseError>
+        ensures { let n = string_size (seen parser.old) (place parser.old) in
+            Takes parser.old parser.new n result (λ string. string_octets string
+            ≡ slice_range (seen parser.old) (place parser.old) (place parser.old + n)) }
+    {
+        let size = 1 + usize::from(parser.peek(1)?[0]);
+        let octets = parser.peek(size)?;
+        parser.advance(size)?;
+        Ok(CharStr { octets })
+    }
+}

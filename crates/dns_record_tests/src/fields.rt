@@ -1,0 +1,28 @@
+//! Data of which all fields are octets.
+ghost use Rattle.std.specs.Prelude.{◌∷◌, map};
+ghost use Rattle.dns_wire.specs.Parts.{Octets, put_parts};
+ghost use Rattle.dns_wire.specs.Targets.{Composes};
+
+use dns_message::data::laws::parts_compose;
+use dns_message::target::Composer;
+use dns_message::wire::AppendError;
+
+/// Appends fields one behind the other.
+pub fn compose_fields<T: Composer>(
+    first: &[u8],
+    behind: &[&[u8]],
+    target: &mut T,
+) -> Result<(), AppendError>
+    ensures { Composes T.room T.grows (put_parts T.rule (Octets first.now
+        ∷ map (λ field. Octets field.now) behind.now)) (T.written target.old)
+        (T.written target.new) result }
+{
+    parts_compose();
+    match behind {
+        [] => target.append_slice(first),
+        [second, behind @ ..] => {
+            target.append_slice(first)?;
+            compose_fields(second, behind, target)
+        }
+    }
+}

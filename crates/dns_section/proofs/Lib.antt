@@ -1,0 +1,4 @@
+pub mod theory
+pub mod CursorLemmas
+pub mod SkipLemmas
+pub mod LimitedLemmas

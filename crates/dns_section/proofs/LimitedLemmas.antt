@@ -1,0 +1,105 @@
+-- What a data type answers to lists of items that are joined, and how a cursor passes them.
+use Rattle.std.proofs.Common.{◌≡◌, ◌∙◌, ap, refl, ℕ, Bool, true, false, List, [], ◌∷◌, ◌++◌, length, arith}
+use Rattle.std.proofs.lemmas.List.Elements.{filter-append}
+use Rattle.std.specs.List.{filter_map, cons_option}
+use Rattle.std.specs.Prelude.{◌==◌, if◌then◌else◌, Option, Some, None, option_to_list, Result, Ok}
+use Rattle.dns_name.specs.Names.{Fault}
+use Rattle.dns_octets.specs.declared.error.ParseError.{ParseError}
+use Rattle.dns_data.specs.Layout.{Layout}
+use Rattle.dns_item.specs.Items.{RecordItem}
+use Rattle.dns_item.specs.DataAnswer.{HasSpan}
+use Rattle.dns_item.specs.ParsedRecord.{StandingRecord, standing_record}
+use Rattle.dns_item.specs.TypedRecords.{answer_to}
+use Rattle.dns_item.specs.declared.parsed_record.ParsedRecord.{ParsedRecord}
+use Rattle.dns_section.specs.Given.{GivesNext, Given, PassesToAnswer, PassesToEnd}
+use Rattle.dns_section.specs.Given.Given.{none, more}
+use Rattle.dns_section.specs.Limited.{answer_to_item, limited, is_in_class_in, limited_by}
+use Rattle.dns_section.specs.RecordSection.{records_left, record_answer}
+use Rattle.dns_section.specs.declared.record_section.RecordSection.{RecordSection}
+
+cons_option-append : {X : Type 0} (o : Option X) (xs ys : List X) → cons_option o (xs ++ ys) ≡ cons_option o xs ++ ys
+cons_option-append None xs ys = refl
+cons_option-append (Some x) xs ys = refl
+
+filter_map-append : {X Y : Type 0} (h : X → Option Y) (xs ys : List X) → filter_map h (xs ++ ys) ≡ filter_map h xs ++ filter_map h ys
+filter_map-append h [] ys = refl
+filter_map-append h (x ∷ xs) ys = ap (cons_option (h x)) (filter_map-append h xs ys) ∙ cons_option-append (h x) (filter_map h xs) (filter_map h ys)
+
+pub limited-append : (layouts : ℕ → Option Layout) (xs ys : List (Result StandingRecord Fault)) → limited layouts (xs ++ ys) ≡ limited layouts xs ++ limited layouts ys
+limited-append layouts xs ys = filter_map-append (answer_to_item layouts) xs ys
+
+pub limited_by-append : (layouts : ℕ → Option Layout) (in_only : Bool) (xs ys : List (Result StandingRecord Fault))
+    → limited_by layouts in_only (xs ++ ys) ≡ limited_by layouts in_only xs ++ limited_by layouts in_only ys
+limited_by-append layouts true xs ys = ap (limited layouts) (filter-append is_in_class_in xs ys) ∙ limited-append layouts _ _
+limited_by-append layouts false xs ys = limited-append layouts xs ys
+
+cons_option-nil : {X : Type 0} (o : Option X) → cons_option o [] ≡ option_to_list o
+cons_option-nil None = refl
+cons_option-nil (Some x) = refl
+
+-- the answer to one record, which is of class IN where only such records may be taken
+pub limited_by-one : (layouts : ℕ → Option Layout) (in_only : Bool) (x : StandingRecord) → (in_only ≡ true → (x.entry.class == 1) ≡ true)
+    → limited_by layouts in_only (Ok x ∷ []) ≡ option_to_list (answer_to layouts x)
+limited_by-one layouts true x class =
+    let one : List (Result StandingRecord Fault) = Ok x ∷ [] in
+    ap (λ (b : Bool). limited layouts (if b then one else [])) (class refl) ∙ cons_option-nil (answer_to layouts x)
+limited_by-one layouts false x class = cons_option-nil (answer_to layouts x)
+
+-- the data of a record that a cursor gave lies within the octets
+pub given_span : (old new : RecordSection) (r : ParsedRecord) → GivesNext old (Some (Ok r)) new → HasSpan (standing_record r)
+given_span old new r calls =
+    let end = calls.passes.0.data_end in
+    let within = calls.passes.0.skips.within in
+    let same = ap length calls.passes.1 in
+    record { start = omega arith; end = omega arith }
+
+pub limited_by-none : (layouts : ℕ → Option Layout) (in_only : Bool) → limited_by layouts in_only [] ≡ []
+limited_by-none layouts true = refl
+limited_by-none layouts false = refl
+
+-- one more call
+given_last : {old mid new : RecordSection} {items : List (Result StandingRecord Fault)} (answer : Result ParsedRecord ParseError) → Given old items mid → GivesNext mid (Some answer) new
+    → Given old (items ++ record_answer answer ∷ []) new
+given_last answer none calls = more answer calls refl none
+given_last answer (more first call is rest) calls = more first call is (given_last answer rest calls)
+
+-- the cursor gave items that aren't answered
+pub record Passing (answers : List (Result StandingRecord Fault) → List (Result RecordItem Fault)) (old now : RecordSection) : Type 0 where
+  pub passed : List (Result StandingRecord Fault)
+  pub given : Given old passed now
+  pub unanswered : answers passed ≡ []
+  pub left : answers (records_left old) ≡ answers (records_left now)
+
+module _ (answers : List (Result StandingRecord Fault) → List (Result RecordItem Fault)) (nothing : answers [] ≡ []) (append : (xs ys : List (Result StandingRecord Fault)) → answers (xs ++ ys) ≡ answers xs ++ answers ys) where
+  pub passing_none : (cursor : RecordSection) → Passing answers cursor cursor
+  passing_none cursor = record { passed = []; given = none; unanswered = nothing; left = refl }
+
+  -- what is left, by the item that is given next
+  one_first : (old new : RecordSection) (answer : Result ParsedRecord ParseError) (given : List (Result RecordItem Fault)) → GivesNext old (Some answer) new → answers (record_answer answer ∷ []) ≡ given
+      → answers (records_left old) ≡ given ++ answers (records_left new)
+  one_first old new answer given calls is =
+      ap answers calls.steps ∙ append (record_answer answer ∷ []) (records_left new) ∙ ap (λ (ys : List (Result RecordItem Fault)). ys ++ answers (records_left new)) is
+
+  pub passing_more : (old now new : RecordSection) (answer : Result ParsedRecord ParseError) → Passing answers old now → GivesNext now (Some answer) new → answers (record_answer answer ∷ []) ≡ []
+      → Passing answers old new
+  passing_more old now new answer p calls is = record {
+    passed = p.passed ++ record_answer answer ∷ [];
+    given = given_last answer p.given calls;
+    unanswered = append p.passed (record_answer answer ∷ []) ∙ (λ i. p.unanswered i ++ is i);
+    left = p.left ∙ one_first now new answer [] calls is;
+  }
+
+  pub passing_answered : (old now new : RecordSection) (answer : Result ParsedRecord ParseError) (x : Result RecordItem Fault) → Passing answers old now → GivesNext now (Some answer) new
+      → answers (record_answer answer ∷ []) ≡ x ∷ [] → (answers (records_left old) ≡ x ∷ answers (records_left new)) × PassesToAnswer answers old new x
+  passing_answered old now new answer x p calls is = (
+    p.left ∙ one_first now new answer (x ∷ []) calls is,
+    record { passed = p.passed; last = record_answer answer; given = given_last answer p.given calls; unanswered = p.unanswered; answered = is },
+  )
+
+  pub passing_ended : (old now new : RecordSection) → Passing answers old now → GivesNext now None new
+      → (answers (records_left old) ≡ []) × (answers (records_left new) ≡ []) × PassesToEnd answers old new
+  passing_ended old now new p calls = (
+    p.left ∙ ap answers calls.steps.0 ∙ nothing,
+    ap answers calls.steps.1 ∙ nothing,
+    record { passed = p.passed; before_end = now; given = p.given; ended = calls; unanswered = p.unanswered },
+  )

@@ -1,0 +1,19 @@
+-- The lists of `questions_from` are the readings of questions.
+use Rattle.std.proofs.Common.{◌≡◌, ℕ, List}
+use Rattle.std.specs.Prelude.{Result}
+use Rattle.dns_name.specs.Names.{Fault}
+use Rattle.dns_question.specs.Questions.{QuestionItem}
+use Rattle.dns_section.specs.Sections.{ReadingQuestions}
+use Rattle.dns_section.specs.QuestionsFrom.{questions_from, QuestionsFromAreRead}
+use Rattle.dns_section.specs.Unique.{one_reading_of_questions}
+use Rattle.dns_section.proofs.theory.ReadingLemmas.{are_readings}
+
+questions_from-reading : (b : List ℕ) (n p : ℕ) → ReadingQuestions b n p (questions_from b n p)
+unfolding questions_from
+questions_from-reading b n p = ((one_reading_of_questions b).some n p).1
+
+pub questions_from_are_read : QuestionsFromAreRead
+questions_from_are_read b = are_readings (one_reading_of_questions b) (questions_from b) (questions_from-reading b)
+
+pub questions_from-only : (b : List ℕ) (n p : ℕ) (xs : List (Result QuestionItem Fault)) → ReadingQuestions b n p xs → questions_from b n p ≡ xs
+questions_from-only b = (questions_from_are_read b).only

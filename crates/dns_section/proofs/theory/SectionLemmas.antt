@@ -1,0 +1,41 @@
+-- Cursors that move on from the start of a section stand at the start of the next.
+use Rattle.std.proofs.Common.{◌≡◌, ℕ, List, subst}
+use Rattle.std.specs.Prelude.{Some, Result, Ok}
+use Rattle.dns_octets.specs.declared.error.ParseError.{ParseError}
+use Rattle.dns_code.specs.HeaderSection.{header_size}
+use Rattle.dns_question.specs.Questions.{SkipsQuestion}
+use Rattle.dns_item.specs.Items.{SkipsRecord}
+use Rattle.dns_section.specs.Reading.{Passed}
+use Rattle.dns_section.specs.QuestionSection as questions
+use Rattle.dns_section.specs.QuestionSection.{BeginsQuestions}
+use Rattle.dns_section.specs.RecordSection.{octets_of, position, section_of, IsFresh, BeginsSection, EntersAnswers, EntersNext}
+use Rattle.dns_section.specs.Sections.{question_count, record_count, StartsAt, section_behind}
+use Rattle.dns_section.specs.Skipping.{SkipsRest}
+use Rattle.dns_section.specs.declared.question_section.QuestionSection.{QuestionSection}
+use Rattle.dns_section.specs.declared.record_section.RecordSection.{RecordSection}
+use Rattle.dns_section.specs.declared.section.Section.{Section}
+use Rattle.dns_section.specs.declared.section.Section.TheVariants.{Answer, Authority, Additional}
+
+-- the answer section, behind all questions
+pub begins_answers : (b : List ℕ) (old : QuestionSection) (new : RecordSection) → BeginsQuestions b old → EntersAnswers old new → BeginsSection Answer b new
+begins_answers b old new begins enters =
+    let counted = subst (λ (left : Result ℕ ParseError). SkipsRest (SkipsQuestion (questions.octets_of old)) left (questions.position old) (position new)) begins.count enters.skips in
+    let placed = subst (λ p. Passed (SkipsQuestion (questions.octets_of old)) (question_count b) p (position new)) begins.start counted in
+    record {
+      fresh = subst (λ (o : List ℕ). IsFresh Answer o new) begins.octets enters.fresh;
+      start = subst (λ (o : List ℕ). Passed (SkipsQuestion o) (question_count b) header_size (position new)) begins.octets placed;
+    }
+
+-- a section starts behind the records of the one before it
+pub starts_behind : (which next : Section) (b : List ℕ) (p q : ℕ) → section_behind which ≡ Some next → StartsAt which b p → Passed (SkipsRecord b) (record_count which b) p q → StartsAt next b q
+starts_behind Answer next b p q behind start passed = let e : Authority ≡ next = cc in subst (λ k. StartsAt k b q) e (p, start, passed)
+starts_behind Authority next b p q behind start passed = let e : Additional ≡ next = cc in subst (λ k. StartsAt k b q) e (p, start, passed)
+starts_behind Additional next b p q behind start passed = absurd (cc)
+
+pub begins_next : (which next : Section) (b : List ℕ) (old new : RecordSection) → section_behind which ≡ Some next → BeginsSection which b old → EntersNext old new → BeginsSection next b new
+begins_next which next b old new behind begins enters =
+    let section : section_of new ≡ next = cc in
+    let fresh = subst (λ k. IsFresh k b new) section (subst (λ (o : List ℕ). IsFresh (section_of new) o new) begins.fresh.octets enters.fresh) in
+    let counted = subst (λ (left : Result ℕ ParseError). SkipsRest (SkipsRecord (octets_of old)) left (position old) (position new)) begins.fresh.count enters.skips in
+    let passed = subst (λ (o : List ℕ). SkipsRest (SkipsRecord o) (Ok (record_count which b)) (position old) (position new)) begins.fresh.octets counted in
+    record { fresh = fresh; start = starts_behind which next b (position old) (position new) behind begins.start passed }

@@ -1,0 +1,21 @@
+-- What an iterator over all records with their data has before it. RFC 1035 section 4.1.3.
+use Rattle.std.specs.Prelude.{ℕ, List, Option, Some, Result}
+use Rattle.dns_name.specs.Names.{Fault}
+use Rattle.dns_data.specs.Layout.{Layout}
+use Rattle.dns_item.specs.Items.{RecordItem}
+use Rattle.dns_section.specs.Limited.{limited}
+use Rattle.dns_section.specs.RecordSection.{records_left}
+use Rattle.dns_section.specs.declared.any_record_iter.AnyRecordIter.{AnyRecordIter}
+use Rattle.dns_section.specs.declared.record_section.RecordSection.{RecordSection}
+
+-- layouts of which each record type has one
+abbrev pub every : (ℕ → Layout) → ℕ → Option Layout
+every layouts rtype = Some (layouts rtype)
+
+-- the cursor over the records
+abbrev pub cursor_of : {D : Type 0} → AnyRecordIter D → RecordSection
+cursor_of it = it.cursor
+
+-- what is left to be given, by how the data type lays out each record type
+abbrev pub typed_left : {D : Type 0} → (ℕ → Layout) → AnyRecordIter D → List (Result RecordItem Fault)
+typed_left layouts it = limited (every layouts) (records_left (cursor_of it))

@@ -1,0 +1,46 @@
+-- How a cursor over records passes those that a data type doesn't answer to. RFC 1035 section 4.1.3.
+use Rattle.std.specs.Prelude.{◌≡◌, List, [], ◌∷◌, ◌++◌, Option, Some, None, Result}
+use Rattle.std.specs.Iterator.{YieldsFirstBy}
+use Rattle.dns_name.specs.Names.{Fault}
+use Rattle.dns_octets.specs.declared.error.ParseError.{ParseError}
+use Rattle.dns_item.specs.Items.{RecordItem}
+use Rattle.dns_item.specs.ParsedRecord.{StandingRecord}
+use Rattle.dns_item.specs.declared.parsed_record.ParsedRecord.{ParsedRecord}
+use Rattle.dns_section.specs.RecordSection.{octets_of, section_of, to_come, records_left, record_answer, PassesRecord}
+use Rattle.dns_section.specs.Skipping.{CountsDown}
+use Rattle.dns_section.specs.declared.record_section.RecordSection.{RecordSection}
+
+-- what a cursor gives next, and where that leaves it: what a call of its `next` answers
+pub record GivesNext (old : RecordSection) (result : Option (Result ParsedRecord ParseError)) (new : RecordSection) : Type 0 where
+  pub steps : YieldsFirstBy record_answer records_left old result new
+  pub passes : PassesRecord old new result
+  pub counts : CountsDown (to_come old) (to_come new) result
+  pub octets : octets_of new ≡ octets_of old
+  pub section : section_of new ≡ section_of old
+
+-- A cursor gives these items, one behind the other, and is then another.
+pub data Given : RecordSection → List (Result StandingRecord Fault) → RecordSection → Type 0 where
+  none : {cursor : RecordSection} → Given cursor [] cursor
+  more : {old mid new : RecordSection} {item : Result StandingRecord Fault} {items : List (Result StandingRecord Fault)} (answer : Result ParsedRecord ParseError)
+      → GivesNext old (Some answer) mid → record_answer answer ≡ item → Given mid items new → Given old (item ∷ items) new
+
+-- The cursor gave items that are not answered, and then one that is: this is its answer.
+pub record PassesToAnswer (answers : List (Result StandingRecord Fault) → List (Result RecordItem Fault)) (old new : RecordSection) (answer : Result RecordItem Fault) : Type 0 where
+  pub passed : List (Result StandingRecord Fault)
+  pub last : Result StandingRecord Fault
+  pub given : Given old (passed ++ last ∷ []) new
+  pub unanswered : answers passed ≡ []
+  pub answered : answers (last ∷ []) ≡ answer ∷ []
+
+-- The cursor gave all that it had, and nothing of it is answered.
+pub record PassesToEnd (answers : List (Result StandingRecord Fault) → List (Result RecordItem Fault)) (old new : RecordSection) : Type 0 where
+  pub passed : List (Result StandingRecord Fault)
+  pub before_end : RecordSection
+  pub given : Given old passed before_end
+  pub ended : GivesNext before_end None new
+  pub unanswered : answers passed ≡ []
+
+-- So a cursor moves where the first of what it has left that is answered is given, or nothing.
+abbrev pub PassesTo : {A : Type 0} → (A → Result RecordItem Fault) → (List (Result StandingRecord Fault) → List (Result RecordItem Fault)) → RecordSection → RecordSection → Option A → Type 0
+PassesTo answer_of answers old new (Some answer) = PassesToAnswer answers old new (answer_of answer)
+PassesTo answer_of answers old new None = PassesToEnd answers old new

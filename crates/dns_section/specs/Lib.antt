@@ -1,0 +1,14 @@
+pub mod Reading
+pub mod Sections
+pub mod Readings
+pub mod Unique
+pub mod QuestionsFrom
+pub mod RecordsFrom
+pub mod Skipping
+pub mod QuestionSection
+pub mod RecordSection
+pub mod SameQuestions
+pub mod Limited
+pub mod Given
+pub mod RecordIter
+pub mod AnyRecordIter

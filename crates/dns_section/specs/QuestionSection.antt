@@ -1,0 +1,48 @@
+-- What a cursor over the questions of a message has before it, and how it moves. RFC 1035 sections 4.1 and 4.1.2.
+use Rattle.std.specs.Prelude.{◌≡◌, ℕ, List, Option, Some, None, Result, Ok, Err}
+use Rattle.dns_name.specs.Names.{Fault, fault_of}
+use Rattle.dns_name.specs.Parsers.{seen, place}
+use Rattle.dns_octets.specs.declared.error.ParseError.{ParseError}
+use Rattle.dns_name.specs.declared.parsed_name.ParsedName.{ParsedName}
+use Rattle.dns_code.specs.HeaderSection.{header_size}
+use Rattle.dns_question.specs.Questions.{ReadsQuestion, QuestionFaultAt, QuestionItem}
+use Rattle.dns_question.specs.Question.{parsed_question}
+use Rattle.dns_question.specs.declared.question.Question.{Question}
+use Rattle.dns_section.specs.QuestionsFrom.{questions_from}
+use Rattle.dns_section.specs.Sections.{question_count}
+use Rattle.dns_section.specs.Skipping.{items_left}
+use Rattle.dns_section.specs.declared.question_section.QuestionSection.{QuestionSection}
+
+-- the octets of the message
+abbrev pub octets_of : QuestionSection → List ℕ
+octets_of section = seen section.parser
+
+-- the place behind the questions that were given
+abbrev pub position : QuestionSection → ℕ
+position section = place section.parser
+
+-- how many questions may still come, or the error that was given
+abbrev pub to_come : QuestionSection → Result ℕ ParseError
+to_come section = section.left
+
+-- what is left to be given
+abbrev pub questions_left : QuestionSection → List (Result QuestionItem Fault)
+questions_left section = items_left (λ n. questions_from (octets_of section) n (position section)) (to_come section)
+
+-- what an answer of the cursor says: a question, or a fault
+abbrev pub question_answer : Result (Question ParsedName) ParseError → Result QuestionItem Fault
+question_answer (Ok question) = Ok (parsed_question question)
+question_answer (Err e) = Err (fault_of e)
+
+-- The cursor moves behind a question that it gave. Else it stays: where no question can be read, and at the end.
+abbrev pub PassesQuestion : QuestionSection → QuestionSection → Option (Result (Question ParsedName) ParseError) → Type 0
+PassesQuestion old new (Some (Ok question)) = ReadsQuestion (octets_of old) (position old) (position new) (parsed_question question)
+PassesQuestion old new (Some (Err e)) = QuestionFaultAt (octets_of old) (position old) (fault_of e) × (position new ≡ position old)
+PassesQuestion old new None = position new ≡ position old
+
+-- a cursor over the question section of these octets, with all of its questions to come
+pub record BeginsQuestions (b : List ℕ) (section : QuestionSection) : Type 0 where
+  pub octets : octets_of section ≡ b
+  pub start : position section ≡ header_size
+  pub count : to_come section ≡ Ok (question_count b)
+  pub questions : questions_left section ≡ questions_from b (question_count b) header_size

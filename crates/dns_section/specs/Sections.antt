@@ -1,0 +1,72 @@
+-- The sections of a message: how many entries each has, where it starts, and what reading it gives. RFC 1035 sections 4.1 and 4.1.1.
+--
+-- `b` are the octets of the message.
+use Rattle.std.specs.Prelude.{ℕ, ◌⊎◌, List, Option, Some, None, Result}
+use Rattle.std.specs.Int.{w16}
+use Rattle.dns_name.specs.Names.{Fault}
+use Rattle.dns_name.specs.Parsers.{number_at}
+use Rattle.dns_code.specs.HeaderSection.{header_size}
+use Rattle.dns_question.specs.Questions.{SkipsQuestion, ReadsQuestion, QuestionFaultAt, QuestionSkipFaultAt, QuestionItem}
+use Rattle.dns_item.specs.Items.{SkipsRecord, ReadsRecord, RecordEntry, RecordFaultAt, RecordSkipFaultAt}
+use Rattle.dns_section.specs.Reading.{Passed, StopsPassing, Reading}
+use Rattle.dns_section.specs.declared.section.Section.{Section}
+use Rattle.dns_section.specs.declared.section.Section.TheVariants.{Answer, Authority, Additional}
+
+-- the counts of the header section
+abbrev pub question_count : List ℕ → ℕ
+question_count b = number_at w16 b 4
+
+abbrev pub answer_count : List ℕ → ℕ
+answer_count b = number_at w16 b 6
+
+abbrev pub authority_count : List ℕ → ℕ
+authority_count b = number_at w16 b 8
+
+abbrev pub additional_count : List ℕ → ℕ
+additional_count b = number_at w16 b 10
+
+-- each section behind the first starts at a place, where all entries of those before it can be skipped
+abbrev pub AnswersStart : List ℕ → ℕ → Type 0
+AnswersStart b p = Passed (SkipsQuestion b) (question_count b) header_size p
+
+abbrev pub AuthoritiesStart : List ℕ → ℕ → Type 0
+AuthoritiesStart b p = (before : ℕ) × AnswersStart b before × Passed (SkipsRecord b) (answer_count b) before p
+
+abbrev pub AdditionalsStart : List ℕ → ℕ → Type 0
+AdditionalsStart b p = (before : ℕ) × AuthoritiesStart b before × Passed (SkipsRecord b) (authority_count b) before p
+
+-- Where an entry of a section can't be skipped, no section behind that one has a start. This is the fault of the first such entry.
+abbrev pub AnswersFault : List ℕ → Fault → Type 0
+AnswersFault b f = StopsPassing (SkipsQuestion b) (QuestionSkipFaultAt b) (question_count b) header_size f
+
+abbrev pub AuthoritiesFault : List ℕ → Fault → Type 0
+AuthoritiesFault b f =
+    AnswersFault b f ⊎ ((before : ℕ) × AnswersStart b before × StopsPassing (SkipsRecord b) (RecordSkipFaultAt b) (answer_count b) before f)
+
+abbrev pub AdditionalsFault : List ℕ → Fault → Type 0
+AdditionalsFault b f =
+    AuthoritiesFault b f ⊎ ((before : ℕ) × AuthoritiesStart b before × StopsPassing (SkipsRecord b) (RecordSkipFaultAt b) (authority_count b) before f)
+
+-- of a section of records: its count, where it starts, the fault where it has no start, and the section behind it
+abbrev pub record_count : Section → List ℕ → ℕ
+record_count Answer b = answer_count b
+record_count Authority b = authority_count b
+record_count Additional b = additional_count b
+
+abbrev pub StartsAt : Section → List ℕ → ℕ → Type 0
+StartsAt Answer b p = AnswersStart b p
+StartsAt Authority b p = AuthoritiesStart b p
+StartsAt Additional b p = AdditionalsStart b p
+
+abbrev pub section_behind : Section → Option Section
+section_behind Answer = Some Authority
+section_behind Authority = Some Additional
+section_behind Additional = None
+
+-- the reading of at most so many questions from a place on
+abbrev pub ReadingQuestions : List ℕ → ℕ → ℕ → List (Result QuestionItem Fault) → Type 0
+ReadingQuestions b n p xs = Reading (ReadsQuestion b) (QuestionFaultAt b) n p xs
+
+-- the reading of at most so many records from a place on
+abbrev pub ReadingRecords : List ℕ → ℕ → ℕ → List (Result RecordEntry Fault) → Type 0
+ReadingRecords b n p xs = Reading (ReadsRecord b) (RecordFaultAt b) n p xs

@@ -1,0 +1,86 @@
+ghost use Rattle.std.specs.Prelude.{◌≡◌};
+ghost use Rattle.std.specs.Iterator.{YieldsFirstBy, item_count};
+ghost use Rattle.dns_item.specs.TypedRecords.{typed_answer};
+ghost use Rattle.dns_section.specs.AnyRecordIter.{every, cursor_of, typed_left};
+ghost use Rattle.dns_section.specs.Given.{PassesTo};
+ghost use Rattle.dns_section.specs.Limited.{limited};
+ghost use Rattle.dns_section.specs.RecordSection.{records_left, MovesOn};
+
+use crate::record_section::RecordSection;
+use dns_data::ParseAnyRecordData;
+use dns_item::Record;
+use dns_wire::{ParseError, ParsedName};
+use std::marker::PhantomData;
+
+/// An iterator over all records of a section, read with their data (RFC 1035 section 4.1.3).
+///
+/// Data that can't be read is answered by an error, and the iterator goes on behind it; a record that can't be read is
+/// answered by an error, and then there are no more.
+#[derive(Drop)]
+#[derive_where(Clone, Debug)]
+pub struct AnyRecordIter<'a, D> {
+    cursor: RecordSection<'a>,
+    marker: PhantomData<D>,
+}
+
+impl<'a> RecordSection<'a> {
+    /// The records before this cursor, read with their data.
+    pub fn into_records<D: ParseAnyRecordData<'a>>(self) -> AnyRecordIter<'a, D>
+        ensures cursor { cursor_of result ≡ self.entry }
+        ensures left { typed_left D.any_layout result
+            ≡ limited (every D.any_layout) (records_left self.entry) }
+    {
+        AnyRecordIter {
+            cursor: self,
+            marker: PhantomData,
+        }
+    }
+}
+
+impl<'a, D> AnyRecordIter<'a, D> {
+    /// The cursor, behind the last record that was given.
+    pub fn unwrap(self) -> RecordSection<'a>
+        ensures { result ≡ cursor_of self.entry }
+    {
+        self.cursor
+    }
+
+    /// The next section, as `RecordSection::next_section` answers of the cursor.
+    pub fn next_section(self) -> Result<Option<RecordSection<'a>>, ParseError>
+        ensures { MovesOn (cursor_of self.entry) result }
+    {
+        self.cursor.next_section()
+    }
+}
+
+impl<'a, D: ParseAnyRecordData<'a> + Drop> AnyRecordIter<'a, D> {
+    /// The next record, or the error of its data; or the error of the first record that can't be read, after which there
+    /// are no more.
+    ///
+    /// The cursor is then behind what was given, and nothing behind that was read.
+    pub fn next(&mut self) -> Option<Result<Record<ParsedName<'a>, D>, ParseError>>
+        ensures steps { YieldsFirstBy (typed_answer D.rtype_of D.parts) (typed_left D.any_layout)
+            self.old result self.new }
+        ensures moves { PassesTo (typed_answer D.rtype_of D.parts) (limited (every D.any_layout))
+            (cursor_of self.old) (cursor_of self.new) result }
+    {
+        match self.cursor.next() {
+            Some(Ok(record)) => Some(record.to_any_record()),
+            Some(Err(error)) => Some(Err(error)),
+            None => None,
+        }
+    }
+}
+
+/// As the method `next`.
+impl<'a, D: ParseAnyRecordData<'a> + Drop> Iterator for AnyRecordIter<'a, D> {
+    type Item = Result<Record<ParsedName<'a>, D>, ParseError>;
+
+    ghost next_gives = { YieldsFirstBy (typed_answer D.rtype_of D.parts) (typed_left D.any_layout) };
+
+    ghost remaining = { item_count (typed_left D.any_layout) };
+
+    fn next(&mut self) -> Option<Self::Item> {
+        AnyRecordIter::next(self)
+    }
+}

@@ -1,0 +1,125 @@
+ghost use Rattle.std.specs.Prelude.{◌≡◌, ◌≤◌, length, Ok};
+ghost use Rattle.dns_name.specs.Parsers.{input, seen};
+ghost use Rattle.dns_code.specs.HeaderSection.{header_size};
+ghost use Rattle.dns_question.specs.Questions.{SkipsQuestion, QuestionSkipFaultAt};
+ghost use Rattle.dns_section.specs.Sections.{question_count};
+ghost use Rattle.dns_section.specs.Skipping.{SkipsAll};
+
+use crate::record_section::RecordSection;
+use crate::section::Section;
+use dns_code::HeaderCounts;
+use dns_item::Question;
+use dns_wire::{ParseError, ParsedName, Parser};
+
+/// A cursor over the questions of a message (RFC 1035 section 4.1.2).
+///
+/// It gives the questions in a row, at most as many as the header says. The first that can't be read is answered by one
+/// error, and then there are no more.
+#[derive(Clone, Copy, Debug)]
+pub struct QuestionSection<'a> {
+    parser: Parser<'a>,
+    /// How many questions may still come, or the error that was given.
+    left: Result<u16, ParseError>,
+    ghost long: { header_size ≤ length (input parser) },
+    ghost whole: { seen parser ≡ input parser },
+}
+
+impl<'a> QuestionSection<'a> {
+    ghost use Rattle.std.specs.Iterator.{YieldsFirstBy};
+    ghost use Rattle.dns_section.specs.QuestionSection.{octets_of, position, to_come, questions_left, question_answer, PassesQuestion};
+    ghost use Rattle.dns_section.specs.QuestionsFrom.{questions_from};
+    ghost use Rattle.dns_section.specs.RecordSection.{MovesToAnswers};
+    ghost use Rattle.dns_section.specs.Skipping.{CountsDown};
+
+    /// The question section of a message of these octets.
+    pub(crate) fn new(octets: &'a [u8]) -> Self
+        requires { header_size ≤ length octets.now }
+        ensures octets { octets_of result ≡ octets.now }
+        ensures position { position result ≡ header_size }
+        ensures count { to_come result ≡ Ok (question_count octets.now) }
+        ensures questions { questions_left result
+            ≡ questions_from octets.now (question_count octets.now) header_size }
+    {
+        let mut parser = Parser::new(octets);
+        parser.advance(12).unwrap();
+        QuestionSection {
+            parser,
+            left: Ok(HeaderCounts::for_message_slice(octets).qdcount()),
+        }
+    }
+
+    /// The place behind the questions that were given, counted in octets from the start of the message.
+    pub fn pos(&self) -> usize
+        ensures { result ≡ position self.now }
+    {
+        self.parser.pos()
+    }
+
+    /// The next question, or the error of the first that can't be read. After that there are no more.
+    ///
+    /// The cursor is then behind the question. At one that can't be read, and at the end, it stays.
+    pub fn next(&mut self) -> Option<Result<Question<ParsedName<'a>>, ParseError>>
+        ensures steps { YieldsFirstBy question_answer questions_left self.old result self.new }
+        ensures passes { PassesQuestion self.old self.new result }
+        ensures counts { CountsDown (to_come self.old) (to_come self.new) result }
+        ensures octets { octets_of self.new ≡ octets_of self.old }
+    {
+        let left = self.left.ok()?.checked_sub(1)?;
+        match Question::parse(&mut self.parser) {
+            Ok(question) => {
+                self.left = Ok(left);
+                Some(Ok(question))
+            }
+            Err(error) => {
+                self.left = Err(error);
+                Some(Err(error))
+            }
+        }
+    }
+
+    /// The answer section, behind the questions that are left.
+    ///
+    /// The questions that are left are skipped, so they need not be readable. The fault of the first that can't be skipped
+    /// is answered; and where the cursor gave an error, the same error again.
+    pub fn answer(self) -> Result<RecordSection<'a>, ParseError>
+        ensures { MovesToAnswers self.entry result }
+    {
+        let mut parser = self.parser;
+        skip_questions(&mut parser, self.left?)?;
+        Ok(RecordSection::at(Section::Answer, parser))
+    }
+
+    /// As `answer`.
+    pub fn next_section(self) -> Result<RecordSection<'a>, ParseError>
+        ensures { MovesToAnswers self.entry result }
+    {
+        self.answer()
+    }
+}
+
+/// Passes so many questions.
+fn skip_questions(parser: &mut Parser<'_>, count: u16) -> Result<(), ParseError>
+    ensures { SkipsAll (SkipsQuestion (seen parser.old)) (QuestionSkipFaultAt (seen parser.old))
+        count parser.old parser.new result }
+{
+    for _question in 0..count {
+        Question::skip(parser)?;
+    }
+    Ok(())
+}
+
+/// As the method `next`.
+impl<'a> Iterator for QuestionSection<'a> {
+    ghost use Rattle.std.specs.Iterator.{YieldsFirstBy, item_count};
+    ghost use Rattle.dns_section.specs.QuestionSection.{questions_left, question_answer};
+
+    type Item = Result<Question<ParsedName<'a>>, ParseError>;
+
+    ghost next_gives = { YieldsFirstBy question_answer questions_left };
+
+    ghost remaining = { item_count questions_left };
+
+    fn next(&mut self) -> Option<Self::Item> {
+        QuestionSection::next(self)
+    }
+}

@@ -1,0 +1,42 @@
+//! Whether the questions before two cursors are the same (RFC 1035 section 4.1.2).
+ghost use Rattle.std.specs.Prelude.{◌≡◌};
+ghost use Rattle.dns_section.specs.QuestionSection.{question_answer, questions_left};
+ghost use Rattle.dns_section.specs.SameQuestions.{same_item, same_readings};
+
+use crate::question_section::QuestionSection;
+use dns_item::Question;
+use dns_wire::{ParseError, ParsedName};
+
+impl QuestionSection<'_> {
+    /// Whether this cursor and another have the same questions before them, in order, and no fault.
+    ///
+    /// Questions are the same where their names are equal up to ASCII case, and their types and classes are.
+    pub fn same_questions(&self, other: &QuestionSection<'_>) -> bool
+        ensures { result ≡ same_readings (questions_left self.now) (questions_left other.now) }
+    {
+        let mut questions = *self;
+        let mut others = *other;
+        while let Some(question) = questions.next() {
+            let Some(other) = others.next() else {
+                return false;
+            };
+            if !same_answers(question, other) {
+                return false;
+            }
+        }
+        others.next().is_none()
+    }
+}
+
+/// Whether both answers are the same question.
+fn same_answers(
+    answer: Result<Question<ParsedName<'_>>, ParseError>,
+    other: Result<Question<ParsedName<'_>>, ParseError>,
+) -> bool
+    ensures { result ≡ same_item (question_answer answer.entry) (question_answer other.entry) }
+{
+    match (answer, other) {
+        (Ok(question), Ok(other)) => question == other,
+        _ => false,
+    }
+}

@@ -1,0 +1,34 @@
+//! Where a message calls for a section that it has.
+ghost use Rattle.std.specs.Prelude.{◌≡◌, ◌≢◌, ◌≤◌, length, Ok};
+ghost use Rattle.dns_code.specs.HeaderSection.{header_size};
+ghost use Rattle.dns_section.specs.QuestionSection.{octets_of, position, to_come, questions_left};
+ghost use Rattle.dns_section.specs.QuestionsFrom.{questions_from};
+ghost use Rattle.dns_section.specs.RecordSection.{section_of, MovesToNext};
+ghost use Rattle.dns_section.specs.Sections.{question_count};
+ghost use Rattle.dns_section.specs.declared.section.Section.TheVariants.{Additional};
+
+use crate::question_section::QuestionSection;
+use crate::record_section::RecordSection;
+use dns_wire::ParseError;
+
+/// The question section of a message of these octets, which are twelve or more.
+#[inline(always)]
+pub fn first_section<'a>(octets: &'a [u8]) -> QuestionSection<'a>
+    requires { header_size ≤ length octets.now }
+    ensures octets { octets_of result ≡ octets.now }
+    ensures position { position result ≡ header_size }
+    ensures count { to_come result ≡ Ok (question_count octets.now) }
+    ensures questions { questions_left result
+        ≡ questions_from octets.now (question_count octets.now) header_size }
+{
+    QuestionSection::new(octets)
+}
+
+/// The next section of one that isn't the last.
+#[inline(always)]
+pub fn following<'a>(section: RecordSection<'a>) -> Result<RecordSection<'a>, ParseError>
+    requires { section_of section ≢ Additional }
+    ensures { MovesToNext section.entry result }
+{
+    Ok(section.next_section()?.unwrap())
+}
