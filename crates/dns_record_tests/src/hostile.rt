@@ -1,4 +1,5 @@
 //! Messages that are cut, and records that can't be read.
+use dns_data::A;
 use dns_read::{Message, RecordSection};
 use dns_wire::{FormError, ParseError};
 use std::process::Abort;
@@ -55,11 +56,27 @@ fn answers_the_fault_of_the_start(rt: HostRuntime) -> Result<(), Fail> {
         ),
     ];
     for (octets, fault) in faults {
-        match Message::from_octets(octets)?.answer() {
-            Err(error) => assert_eq!(rt; error, fault),
-            Ok(_) => panic!(rt; "a start"),
-        }
+        let message = Message::from_octets(octets)?;
+        assert!(rt; matches!(message.answer(), Err(error) if error == fault));
+        assert!(rt; matches!(message.authority(), Err(error) if error == fault));
+        assert!(rt; matches!(message.additional(), Err(error) if error == fault));
+        assert!(rt; matches!(message.sections(), Err(error) if error == fault));
+        assert!(rt; message.iter().next().is_none());
+        assert!(rt; message.canonical_name().is_none());
+        assert!(rt; !message.contains_answer::<A>());
+        assert!(rt; message.get_last_additional::<A>().is_none());
     }
+    Ok(())
+}
+
+#[test]
+fn no_canonical_name_of_an_unreadable_question(rt: HostRuntime) -> Result<(), Fail> {
+    // The name is a pointer to its own place, which can be skipped.
+    let octets = b"\x00\x00\x00\x00\x00\x01\x00\x00\x00\x00\x00\x00\xC0\x0C\x00\x01\x00\x01";
+    let message = Message::from_octets(octets.as_slice())?;
+    assert_eq!(rt; message.answer()?.pos(), 18);
+    assert!(rt; message.first_question().is_none());
+    assert!(rt; message.canonical_name().is_none());
     Ok(())
 }
 

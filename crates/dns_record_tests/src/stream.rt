@@ -4,7 +4,7 @@ use dns_build::{AdditionalBuilder, AnswerBuilder, MessageBuilder, PushError};
 use dns_code::{Flags, Rtype};
 use dns_data::{A, Ns, UnknownRecordData};
 use dns_item::Ttl;
-use dns_read::Message;
+use dns_read::{Message, RecordIter};
 use dns_target::{StaticCompressor, StreamTarget};
 use dns_wire::{AppendError, Name, ToNameExt};
 use std::alloc::Global;
@@ -111,29 +111,40 @@ fn build_message(rt: &impl Abort, alloc: Global) -> Result<AdditionalBuilder<Com
     Ok(builder)
 }
 
+/// The iterator gives this address of example.com next.
+fn assert_address<'a>(
+    rt: &impl Abort,
+    records: &mut RecordIter<'a, A>,
+    address: [u8; 4],
+) -> Result<(), Fail> {
+    let record = records.next().ok_or("record")??;
+    assert!(rt; record.owner().octets_eq(&Name::from_octets(*b"\x07example\x03com\x00")?));
+    assert_eq!(rt; record.ttl().as_secs(), 86_400);
+    assert_eq!(rt; record.data().octets(), address);
+    Ok(())
+}
+
 #[test]
 fn compresses_behind_the_length(rt: HostRuntime) -> Result<(), Fail> {
     let target = build_message(&rt, rt.alloc())?.finish().into_target();
     assert_eq!(rt; target.as_stream_slice(), MESSAGE.as_slice());
     let message = Message::from_octets(target.as_dgram_slice())?;
     let name = Name::from_octets(*b"\x07example\x03com\x00")?;
-    let Some(Ok(question)) = message.question().next() else {
-        panic!(rt; "no question")
-    };
+    let question = message.first_question().ok_or("question")?;
     assert!(rt; question.qname().octets_eq(&name));
-    let Some(Ok(authority)) = message.authority()?.next() else {
-        panic!(rt; "no authority record")
-    };
-    let Ok(Some(authority)) = authority.to_record::<Ns<_>>() else {
-        panic!(rt; "no name server")
-    };
-    assert!(rt; authority.data().nsdname().octets_eq(&name));
-    let Some(Ok(additional)) = message.additional()?.next() else {
-        panic!(rt; "no additional record")
-    };
-    let Ok(Some(additional)) = additional.to_record::<A>() else {
-        panic!(rt; "no address")
-    };
-    assert_eq!(rt; additional.data().octets(), [192, 0, 2, 1]);
+    assert_eq!(rt; question.qtype(), Rtype::A);
+    let mut answers = message.answer()?.limit_to::<A>();
+    assert_address(&rt, &mut answers, [192, 0, 2, 1])?;
+    assert_address(&rt, &mut answers, [192, 0, 2, 2])?;
+    assert!(rt; answers.next().is_none());
+    let mut servers = message.authority()?.limit_to::<Ns<_>>();
+    let server = servers.next().ok_or("server")??;
+    assert!(rt; server.owner().octets_eq(&name));
+    assert_eq!(rt; server.ttl().as_secs(), 0);
+    assert!(rt; server.data().nsdname().octets_eq(&name));
+    assert!(rt; servers.next().is_none());
+    let mut additionals = message.additional()?.limit_to::<A>();
+    assert_address(&rt, &mut additionals, [192, 0, 2, 1])?;
+    assert!(rt; additionals.next().is_none());
     Ok(())
 }

@@ -11,10 +11,10 @@ use Rattle.dns_item.specs.DataAnswer.{HasSpan}
 use Rattle.dns_item.specs.ParsedRecord.{StandingRecord, standing_record}
 use Rattle.dns_item.specs.TypedRecords.{answer_to}
 use Rattle.dns_item.specs.declared.parsed_record.ParsedRecord.{ParsedRecord}
-use Rattle.dns_section.specs.Given.{GivesNext, Given, PassesToAnswer, PassesToEnd}
+use Rattle.dns_section.specs.Given.{Given, PassesToAnswer, PassesToEnd}
 use Rattle.dns_section.specs.Given.Given.{none, more}
 use Rattle.dns_section.specs.Limited.{answer_to_item, limited, is_in_class_in, limited_by}
-use Rattle.dns_section.specs.RecordSection.{records_left, record_answer}
+use Rattle.dns_section.specs.RecordSection.{records_left, record_answer, GivesNext}
 use Rattle.dns_section.specs.declared.record_section.RecordSection.{RecordSection}
 
 cons_option-append : {X : Type 0} (o : Option X) (xs ys : List X) → cons_option o (xs ++ ys) ≡ cons_option o xs ++ ys

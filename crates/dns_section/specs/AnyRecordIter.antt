@@ -1,10 +1,18 @@
 -- What an iterator over all records with their data has before it. RFC 1035 section 4.1.3.
+use Rattle.std.specs.Iterator.{YieldsFirstBy}
 use Rattle.std.specs.Prelude.{ℕ, List, Option, Some, Result}
+use Rattle.dns_octets.specs.declared.error.ParseError.{ParseError}
 use Rattle.dns_name.specs.Names.{Fault}
+use Rattle.dns_name.specs.declared.parsed_name.ParsedName.{ParsedName}
+use Rattle.dns_wire.specs.Parts.{Part}
 use Rattle.dns_data.specs.Layout.{Layout}
 use Rattle.dns_item.specs.Items.{RecordItem}
+use Rattle.dns_item.specs.TypedRecords.{typed_answer}
+use Rattle.dns_item.specs.declared.record.Record.{Record}
+use Rattle.dns_section.specs.Given.{PassesTo}
 use Rattle.dns_section.specs.Limited.{limited}
-use Rattle.dns_section.specs.RecordSection.{records_left}
+use Rattle.dns_section.specs.RecordSection.{to_come, records_left}
+use Rattle.dns_section.specs.Skipping.{KeepsError}
 use Rattle.dns_section.specs.declared.any_record_iter.AnyRecordIter.{AnyRecordIter}
 use Rattle.dns_section.specs.declared.record_section.RecordSection.{RecordSection}
 
@@ -19,3 +27,9 @@ cursor_of it = it.cursor
 -- what is left to be given, by how the data type lays out each record type
 abbrev pub typed_left : {D : Type 0} → (ℕ → Layout) → AnyRecordIter D → List (Result RecordItem Fault)
 typed_left layouts it = limited (every layouts) (records_left (cursor_of it))
+
+-- what a call of `next` answers, and where that leaves the iterator
+pub record GivesNext {D : Type 0} (rtype_of : D → ℕ) (parts_of : D → List Part) (layouts : ℕ → Layout) (old : AnyRecordIter D) (result : Option (Result (Record ParsedName D) ParseError)) (new : AnyRecordIter D) : Type 0 where
+  pub steps : YieldsFirstBy (typed_answer rtype_of parts_of) (typed_left layouts) old result new
+  pub moves : PassesTo (typed_answer rtype_of parts_of) (limited (every layouts)) (cursor_of old) (cursor_of new) result
+  pub kept : KeepsError (to_come (cursor_of new)) result

@@ -1,22 +1,12 @@
 -- How a cursor over records passes those that a data type doesn't answer to. RFC 1035 section 4.1.3.
 use Rattle.std.specs.Prelude.{◌≡◌, List, [], ◌∷◌, ◌++◌, Option, Some, None, Result}
-use Rattle.std.specs.Iterator.{YieldsFirstBy}
 use Rattle.dns_name.specs.Names.{Fault}
 use Rattle.dns_octets.specs.declared.error.ParseError.{ParseError}
 use Rattle.dns_item.specs.Items.{RecordItem}
 use Rattle.dns_item.specs.ParsedRecord.{StandingRecord}
 use Rattle.dns_item.specs.declared.parsed_record.ParsedRecord.{ParsedRecord}
-use Rattle.dns_section.specs.RecordSection.{octets_of, section_of, to_come, records_left, record_answer, PassesRecord}
-use Rattle.dns_section.specs.Skipping.{CountsDown}
+use Rattle.dns_section.specs.RecordSection.{record_answer, GivesNext}
 use Rattle.dns_section.specs.declared.record_section.RecordSection.{RecordSection}
-
--- what a cursor gives next, and where that leaves it: what a call of its `next` answers
-pub record GivesNext (old : RecordSection) (result : Option (Result ParsedRecord ParseError)) (new : RecordSection) : Type 0 where
-  pub steps : YieldsFirstBy record_answer records_left old result new
-  pub passes : PassesRecord old new result
-  pub counts : CountsDown (to_come old) (to_come new) result
-  pub octets : octets_of new ≡ octets_of old
-  pub section : section_of new ≡ section_of old
 
 -- A cursor gives these items, one behind the other, and is then another.
 pub data Given : RecordSection → List (Result StandingRecord Fault) → RecordSection → Type 0 where

@@ -1,4 +1,5 @@
 -- What a cursor over the questions of a message has before it, and how it moves. RFC 1035 sections 4.1 and 4.1.2.
+use Rattle.std.specs.Iterator.{YieldsFirstBy}
 use Rattle.std.specs.Prelude.{◌≡◌, ℕ, List, Option, Some, None, Result, Ok, Err}
 use Rattle.dns_name.specs.Names.{Fault, fault_of}
 use Rattle.dns_name.specs.Parsers.{seen, place}
@@ -10,7 +11,7 @@ use Rattle.dns_question.specs.Question.{parsed_question}
 use Rattle.dns_question.specs.declared.question.Question.{Question}
 use Rattle.dns_section.specs.QuestionsFrom.{questions_from}
 use Rattle.dns_section.specs.Sections.{question_count}
-use Rattle.dns_section.specs.Skipping.{items_left}
+use Rattle.dns_section.specs.Skipping.{items_left, CountsDown}
 use Rattle.dns_section.specs.declared.question_section.QuestionSection.{QuestionSection}
 
 -- the octets of the message
@@ -39,6 +40,13 @@ abbrev pub PassesQuestion : QuestionSection → QuestionSection → Option (Resu
 PassesQuestion old new (Some (Ok question)) = ReadsQuestion (octets_of old) (position old) (position new) (parsed_question question)
 PassesQuestion old new (Some (Err e)) = QuestionFaultAt (octets_of old) (position old) (fault_of e) × (position new ≡ position old)
 PassesQuestion old new None = position new ≡ position old
+
+-- what a call of `next` answers, and where that leaves the cursor
+pub record GivesNext (old : QuestionSection) (result : Option (Result (Question ParsedName) ParseError)) (new : QuestionSection) : Type 0 where
+  pub steps : YieldsFirstBy question_answer questions_left old result new
+  pub passes : PassesQuestion old new result
+  pub counts : CountsDown (to_come old) (to_come new) result
+  pub octets : octets_of new ≡ octets_of old
 
 -- a cursor over the question section of these octets, with all of its questions to come
 pub record BeginsQuestions (b : List ℕ) (section : QuestionSection) : Type 0 where

@@ -1,4 +1,5 @@
 -- What a cursor over the records of a section has before it, and how it moves, also to the next section. RFC 1035 sections 4.1 and 4.1.3.
+use Rattle.std.specs.Iterator.{YieldsFirstBy}
 use Rattle.std.specs.Prelude.{◌≡◌, ◌≢◌, ℕ, List, Option, Some, None, Result, Ok, Err}
 use Rattle.dns_name.specs.Names.{Fault, fault_of}
 use Rattle.dns_name.specs.Parsers.{seen, place}
@@ -10,7 +11,7 @@ use Rattle.dns_item.specs.declared.parsed_record.ParsedRecord.{ParsedRecord}
 use Rattle.dns_section.specs.QuestionSection as questions
 use Rattle.dns_section.specs.RecordsFrom.{records_in}
 use Rattle.dns_section.specs.Sections.{record_count, StartsAt, section_behind}
-use Rattle.dns_section.specs.Skipping.{items_left, SkipsRest, StopsInRest}
+use Rattle.dns_section.specs.Skipping.{items_left, CountsDown, SkipsRest, StopsInRest}
 use Rattle.dns_section.specs.declared.question_section.QuestionSection.{QuestionSection}
 use Rattle.dns_section.specs.declared.record_section.RecordSection.{RecordSection}
 use Rattle.dns_section.specs.declared.section.Section.{Section}
@@ -46,6 +47,14 @@ abbrev pub PassesRecord : RecordSection → RecordSection → Option (Result Par
 PassesRecord old new (Some (Ok r)) = ReadsRecord (octets_of old) (position old) (position new) (parsed_entry r) × (record_octets r ≡ octets_of old)
 PassesRecord old new (Some (Err e)) = RecordFaultAt (octets_of old) (position old) (fault_of e) × (position new ≡ position old)
 PassesRecord old new None = position new ≡ position old
+
+-- what a call of `next` answers, and where that leaves the cursor
+pub record GivesNext (old : RecordSection) (result : Option (Result ParsedRecord ParseError)) (new : RecordSection) : Type 0 where
+  pub steps : YieldsFirstBy record_answer records_left old result new
+  pub passes : PassesRecord old new result
+  pub counts : CountsDown (to_come old) (to_come new) result
+  pub octets : octets_of new ≡ octets_of old
+  pub section : section_of new ≡ section_of old
 
 -- a cursor over a section of these octets, with all of its records to come
 pub record IsFresh (which : Section) (b : List ℕ) (cursor : RecordSection) : Type 0 where

@@ -1,4 +1,5 @@
 -- What skipping entries one behind the other answers. RFC 1035 section 4.1.
+use Rattle.std.specs.Bool.{⊤}
 use Rattle.std.specs.Prelude.{◌≡◌, ℕ, suc, List, [], Option, Some, None, Result, Ok, Err}
 use Rattle.dns_name.specs.Names.{Fault, fault_of}
 use Rattle.dns_name.specs.Parsers.{place, MovesTo}
@@ -21,6 +22,13 @@ abbrev pub CountsDown : {T : Type 0} → Result ℕ ParseError → Result ℕ Pa
 CountsDown old new (Some (Ok entry)) = (n : ℕ) × (old ≡ Ok (suc n)) × (new ≡ Ok n)
 CountsDown old new (Some (Err e)) = new ≡ Err e
 CountsDown old new None = new ≡ old
+
+-- Where an error that ended a cursor stands behind an answer that is an error, that is the error that was answered.
+abbrev pub KeepsError : {T : Type 0} → Result ℕ ParseError → Option (Result T ParseError) → Type 0
+KeepsError (Err kept) (Some (Err e)) = e ≡ kept
+KeepsError (Err kept) (Some (Ok entry)) = ⊤
+KeepsError (Err kept) None = ⊤
+KeepsError (Ok n) result = ⊤
 
 -- what is to come is skipped, up to a place; once an error was given there is no such place
 abbrev pub SkipsRest : (ℕ → ℕ → Type 0) → Result ℕ ParseError → ℕ → ℕ → Type 0

@@ -1,10 +1,11 @@
 ghost use Rattle.std.specs.Prelude.{◌≡◌};
 ghost use Rattle.std.specs.Iterator.{YieldsFirstBy, item_count};
 ghost use Rattle.dns_item.specs.TypedRecords.{typed_answer};
-ghost use Rattle.dns_section.specs.AnyRecordIter.{every, cursor_of, typed_left};
+ghost use Rattle.dns_section.specs.AnyRecordIter.{every, cursor_of, typed_left, GivesNext};
 ghost use Rattle.dns_section.specs.Given.{PassesTo};
 ghost use Rattle.dns_section.specs.Limited.{limited};
-ghost use Rattle.dns_section.specs.RecordSection.{records_left, MovesOn};
+ghost use Rattle.dns_section.specs.RecordSection.{to_come, records_left, MovesOn};
+ghost use Rattle.dns_section.specs.Skipping.{KeepsError};
 
 use crate::record_section::RecordSection;
 use dns_data::ParseAnyRecordData;
@@ -63,6 +64,7 @@ impl<'a, D: ParseAnyRecordData<'a> + Drop> AnyRecordIter<'a, D> {
             self.old result self.new }
         ensures moves { PassesTo (typed_answer D.rtype_of D.parts) (limited (every D.any_layout))
             (cursor_of self.old) (cursor_of self.new) result }
+        ensures kept { KeepsError (to_come (cursor_of self.new)) result }
     {
         match self.cursor.next() {
             Some(Ok(record)) => Some(record.to_any_record()),
@@ -76,7 +78,7 @@ impl<'a, D: ParseAnyRecordData<'a> + Drop> AnyRecordIter<'a, D> {
 impl<'a, D: ParseAnyRecordData<'a> + Drop> Iterator for AnyRecordIter<'a, D> {
     type Item = Result<Record<ParsedName<'a>, D>, ParseError>;
 
-    ghost next_gives = { YieldsFirstBy (typed_answer D.rtype_of D.parts) (typed_left D.any_layout) };
+    ghost next_gives = { GivesNext D.rtype_of D.parts D.any_layout };
 
     ghost remaining = { item_count (typed_left D.any_layout) };
 

@@ -110,12 +110,12 @@ fn skip_questions(parser: &mut Parser<'_>, count: u16) -> Result<(), ParseError>
 
 /// As the method `next`.
 impl<'a> Iterator for QuestionSection<'a> {
-    ghost use Rattle.std.specs.Iterator.{YieldsFirstBy, item_count};
-    ghost use Rattle.dns_section.specs.QuestionSection.{questions_left, question_answer};
+    ghost use Rattle.std.specs.Iterator.{item_count};
+    ghost use Rattle.dns_section.specs.QuestionSection.{questions_left, GivesNext};
 
     type Item = Result<Question<ParsedName<'a>>, ParseError>;
 
-    ghost next_gives = { YieldsFirstBy question_answer questions_left };
+    ghost next_gives = { GivesNext };
 
     ghost remaining = { item_count questions_left };
 

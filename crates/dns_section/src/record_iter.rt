@@ -1,4 +1,4 @@
-ghost use Rattle.std.specs.Prelude.{◌≡◌, true, false, ◌∷◌, [], option_map, option_to_list};
+ghost use Rattle.std.specs.Prelude.{◌≡◌, true, false, ◌∷◌, [], Some, option_map, option_to_list, Err, IfErr};
 ghost use Rattle.std.specs.Iterator.{YieldsFirstBy, item_count};
 ghost use Rattle.std.specs.Result.{ForOk};
 ghost use Rattle.dns_item.specs.DataAnswer.{HasSpan};
@@ -6,8 +6,9 @@ ghost use Rattle.dns_item.specs.ParsedRecord.{standing_record};
 ghost use Rattle.dns_item.specs.TypedRecords.{typed_answer};
 ghost use Rattle.dns_section.specs.Given.{PassesTo};
 ghost use Rattle.dns_section.specs.Limited.{limited, in_class_in, limited_by};
-ghost use Rattle.dns_section.specs.RecordIter.{cursor_of, takes_in_only, typed_left};
-ghost use Rattle.dns_section.specs.RecordSection.{record_answer, records_left, MovesOn};
+ghost use Rattle.dns_section.specs.RecordIter.{cursor_of, takes_in_only, typed_left, GivesNext};
+ghost use Rattle.dns_section.specs.RecordSection.{to_come, record_answer, records_left, MovesOn};
+ghost use Rattle.dns_section.specs.Skipping.{KeepsError};
 
 use crate::record_section::RecordSection;
 use dns_code::Class;
@@ -86,6 +87,7 @@ impl<'a, D: ParseRecordData<'a> + Drop> RecordIter<'a, D> {
         ensures moves { PassesTo (typed_answer D.rtype_of D.parts)
             (limited_by D.layout (takes_in_only self.old)) (cursor_of self.old)
             (cursor_of self.new) result }
+        ensures kept { KeepsError (to_come (cursor_of self.new)) result }
         ensures classes { takes_in_only self.new ≡ takes_in_only self.old }
     {
         while let Some(item) = self.cursor.next() {
@@ -104,8 +106,9 @@ fn typed<'a, D: ParseRecordData<'a> + Drop>(
     in_only: bool,
 ) -> Option<Result<Record<ParsedName<'a>, D>, ParseError>>
     requires { ForOk item (λ parsed. HasSpan (standing_record parsed)) }
-    ensures { limited_by D.layout in_only (record_answer item.entry ∷ [])
+    ensures answer { limited_by D.layout in_only (record_answer item.entry ∷ [])
         ≡ option_to_list (option_map (typed_answer D.rtype_of D.parts) result) }
+    ensures error { IfErr item.entry (λ e. result ≡ Some (Err e)) }
 {
     match item {
         Ok(record) => {
@@ -122,7 +125,7 @@ fn typed<'a, D: ParseRecordData<'a> + Drop>(
 impl<'a, D: ParseRecordData<'a> + Drop> Iterator for RecordIter<'a, D> {
     type Item = Result<Record<ParsedName<'a>, D>, ParseError>;
 
-    ghost next_gives = { YieldsFirstBy (typed_answer D.rtype_of D.parts) (typed_left D.layout) };
+    ghost next_gives = { GivesNext D.rtype_of D.parts D.layout };
 
     ghost remaining = { item_count (typed_left D.layout) };
 

@@ -117,12 +117,12 @@ fn skip_records(parser: &mut Parser<'_>, count: u16) -> Result<(), ParseError>
 
 /// As the method `next`.
 impl<'a> Iterator for RecordSection<'a> {
-    ghost use Rattle.std.specs.Iterator.{YieldsFirstBy, item_count};
-    ghost use Rattle.dns_section.specs.RecordSection.{records_left, record_answer};
+    ghost use Rattle.std.specs.Iterator.{item_count};
+    ghost use Rattle.dns_section.specs.RecordSection.{records_left, GivesNext};
 
     type Item = Result<ParsedRecord<'a>, ParseError>;
 
-    ghost next_gives = { YieldsFirstBy record_answer records_left };
+    ghost next_gives = { GivesNext };
 
     ghost remaining = { item_count records_left };
 

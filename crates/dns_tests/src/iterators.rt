@@ -144,6 +144,13 @@ fn ends_at_a_record_that_cant_be_read(rt: HostRuntime) -> Result<(), Fail> {
     let mut addresses = message.answer()?.limit_to::<A>();
     assert_one_fault(&rt, &mut addresses, fault);
     assert!(rt; matches!(addresses.next_section(), Err(error) if error == fault));
+    let mut addresses = message.answer()?.limit_to_in::<A>();
+    assert_one_fault(&rt, &mut addresses, fault);
+    assert!(rt; matches!(addresses.next_section(), Err(error) if error == fault));
+    let mut records = message.answer()?.into_records::<UnknownRecordData<&[u8]>>();
+    assert!(rt; matches!(records.next(), Some(Err(error)) if error == fault));
+    assert!(rt; records.next().is_none() && records.next().is_none());
+    assert!(rt; matches!(records.next_section(), Err(error) if error == fault));
     assert_eq!(rt; message.authority()?.pos(), 24);
 
     let message = Message::from_octets(unreadable(0, 1))?;

@@ -2,7 +2,7 @@
 use arrayvec::ArrayVec;
 use dns_data::{A, Cname, Ns};
 use dns_read::{Message, MessageIter, Section};
-use dns_wire::{Name, ParseError, ParsedName, ToNameExt};
+use dns_wire::{FormError, Name, ParseError, ParsedName, ToNameExt};
 use std::process::Abort;
 use std::test::Fail;
 
@@ -164,12 +164,12 @@ fn has_a_last_additional(rt: HostRuntime) -> Result<(), Fail> {
     Ok(())
 }
 
-/// The next item is `ShortInput`.
-fn assert_short(rt: &impl Abort, items: &mut MessageIter<'_>) {
-    match items.next() {
-        Some(Err(error)) => assert_eq!(rt; error, ParseError::ShortInput),
-        _ => panic!(rt; "no error"),
+/// The iterator gives this error so many times, and then nothing again and again.
+fn assert_faults(rt: &impl Abort, mut items: MessageIter<'_>, fault: ParseError, times: usize) {
+    for _time in 0..times {
+        assert!(rt; matches!(items.next(), Some(Err(error)) if error == fault));
     }
+    assert!(rt; items.next().is_none() && items.next().is_none());
 }
 
 #[test]
@@ -177,14 +177,21 @@ fn iterates_over_missing_records(rt: HostRuntime) -> Result<(), Fail> {
     let question = Message::from_octets(*b"\x00\x00\x00\x00\x00\x01\x00\x00\x00\x00\x00\x00")?;
     assert!(rt; question.iter().next().is_none());
     let answer = Message::from_octets(with_counts(1, 0, b"")?)?;
-    let mut items = answer.iter();
-    assert_short(&rt, &mut items);
-    assert_short(&rt, &mut items);
-    assert!(rt; items.next().is_none() && items.next().is_none());
+    assert_faults(&rt, answer.iter(), ParseError::ShortInput, 2);
+    let authority = Message::from_octets(*b"\x00\x00\x00\x00\x00\x00\x00\x00\x00\x01\x00\x00")?;
+    assert_faults(&rt, authority.iter(), ParseError::ShortInput, 2);
     let additional = Message::from_octets(with_counts(0, 1, b"")?)?;
-    let mut items = additional.iter();
-    assert_short(&rt, &mut items);
-    assert!(rt; items.next().is_none() && items.next().is_none());
+    assert_faults(&rt, additional.iter(), ParseError::ShortInput, 1);
+    Ok(())
+}
+
+#[test]
+fn iterates_over_unreadable_records(rt: HostRuntime) -> Result<(), Fail> {
+    let fault = ParseError::Form(FormError::BAD_POINTER);
+    let answer = Message::from_octets(with_counts(1, 0, UNREADABLE)?)?;
+    assert_faults(&rt, answer.iter(), fault, 2);
+    let additional = Message::from_octets(with_counts(0, 1, UNREADABLE)?)?;
+    assert_faults(&rt, additional.iter(), fault, 1);
     Ok(())
 }
 

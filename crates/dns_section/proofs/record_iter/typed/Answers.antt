@@ -36,8 +36,8 @@ not_false : (b : Bool) → false ≡ not b → b ≡ true
 not_false true e = cc
 not_false false e = cc
 
-pub returns-else-in_only : goal.returns-else-in_only
-returns-else-in_only g c =
+pub returns-else-in_only-clause-answer : goal.returns-else-in_only-clause-answer
+returns-else-in_only-clause-answer g c =
     record_taken g.D.RecordData.rtype_of g.D.RecordData.parts g.D.ParseRecordData.layout c.args.in_only c.args.item c.in-Ok.record c.to_record.result c.transpose.result c.in-Ok.is
     (c.requires c.in-Ok.record c.in-Ok.is) c.to_record.ensures.answers c.transpose.ensures
     (elim c.else-in_only.branch [

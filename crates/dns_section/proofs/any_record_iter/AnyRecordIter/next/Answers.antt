@@ -13,9 +13,9 @@ use Rattle.dns_item.specs.declared.parsed_record.ParsedRecord.{ParsedRecord}
 use Rattle.dns_item.specs.declared.record.Record.{Record}
 use Rattle.dns_item.proofs.theory.TypedLemmas.{laid_out-answered}
 use Rattle.dns_section.specs.AnyRecordIter.{every}
-use Rattle.dns_section.specs.Given.{GivesNext, PassesToAnswer}
+use Rattle.dns_section.specs.Given.{PassesToAnswer}
 use Rattle.dns_section.specs.Limited.{limited}
-use Rattle.dns_section.specs.RecordSection.{records_left}
+use Rattle.dns_section.specs.RecordSection.{records_left, GivesNext}
 use Rattle.dns_section.specs.declared.record_section.RecordSection.{RecordSection}
 use Rattle.dns_section.proofs.LimitedLemmas.{limited-append, given_span, passing_none, passing_answered, passing_ended}
 use Rattle.dns_section.proofs.any_record_iter.AnyRecordIter.next.Goals as goal
