@@ -161,11 +161,11 @@ fn read_fields(parser: &mut Parser<'_>) -> Result<(Rtype, Class, Ttl, u16), Pars
         (λ fields. AreFieldsAt (seen parser.old) (place parser.old) fields.0 fields.1 fields.2
         fields.3) }
 {
-    let mut ahead = *parser;
-    let rtype = Rtype::from_int(ahead.parse_u16_be()?);
-    let class = Class::from_int(ahead.parse_u16_be()?);
-    let ttl = Ttl::parse(&mut ahead)?;
-    let rdlen = ahead.parse_u16_be()?;
-    *parser = ahead;
-    Ok((rtype, class, ttl, rdlen))
+    let octets = parser.peek(10)?;
+    let rtype = Rtype::from_int(u16::from_be_bytes([octets[0], octets[1]]));
+    let class = Class::from_int(u16::from_be_bytes([octets[2], octets[3]]));
+    let ttl = u32::from_be_bytes([octets[4], octets[5], octets[6], octets[7]]);
+    let rdlen = u16::from_be_bytes([octets[8], octets[9]]);
+    parser.advance(10)?;
+    Ok((rtype, class, Ttl::from_secs(ttl), rdlen))
 }

@@ -1,23 +1,15 @@
-//! Tests of messages and questions, read, built and printed: the worked examples, with answers from outside.
+//! Tests over `dns_message` alone: the examples of the pages, and the program `dnsmsg`, with answers from outside.
 //!
 //! Nothing is exported.
 #![tactic(auto)]
 
 #[cfg(test)]
-mod builders;
-#[cfg(test)]
 mod callers;
 #[cfg(test)]
-mod iterators;
-#[cfg(test)]
-mod messages;
+mod histories;
 #[cfg(test)]
 mod program;
 #[cfg(test)]
-mod questions;
-#[cfg(test)]
-mod record_searches;
-#[cfg(test)]
-mod searches;
+mod record_program;
 #[cfg(test)]
 mod tour;

@@ -1,0 +1,15 @@
+//! Tests of messages that are built: items pushed, refused and taken out again, over each target, with answers from outside.
+//!
+//! Nothing is exported.
+#![tactic(auto)]
+
+#[cfg(test)]
+mod authorities;
+#[cfg(test)]
+mod builders;
+#[cfg(test)]
+mod building;
+#[cfg(test)]
+mod compressors;
+#[cfg(test)]
+mod stream;

@@ -1,0 +1,17 @@
+//! Tests of messages that are read: sections, cursors, iterators and searches, with answers from outside.
+//!
+//! Nothing is exported.
+#![tactic(auto)]
+
+#[cfg(test)]
+mod hostile;
+#[cfg(test)]
+mod iterators;
+#[cfg(test)]
+mod messages;
+#[cfg(test)]
+mod record_searches;
+#[cfg(test)]
+mod searches;
+#[cfg(test)]
+mod sections;
