@@ -118,7 +118,11 @@ fn assert_address<'a>(
     address: [u8; 4],
 ) -> Result<(), Fail> {
     let record = records.next().ok_or("record")??;
-    assert!(rt; record.owner().octets_eq(&Name::from_octets(*b"\x07example\x03com\x00")?));
+    assert!(rt;
+        record
+            .owner()
+            .octets_eq(&Name::from_octets(*b"\x07example\x03com\x00")?)
+    );
     assert_eq!(rt; record.ttl().as_secs(), 86_400);
     assert_eq!(rt; record.data().octets(), address);
     Ok(())
