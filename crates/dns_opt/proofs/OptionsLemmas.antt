@@ -1,0 +1,112 @@
+-- What the list of options is that octets are.
+use Rattle.std.proofs.Common.{◌≡◌, ◌∙◌, ap, sym, refl, subst, ℕ, ◌<◌, ◌⊎◌, inl, inr, Bool, true, false, List, [], ◌∷◌, ◌++◌, length, arith}
+use Rattle.std.specs.Option.{option_map_or}
+use Rattle.std.specs.Prelude.{Option, Some, None, is_some, IsSome}
+use Rattle.std.proofs.lemmas.List.Elements.{All-head, All-tail}
+use Rattle.std.proofs.lemmas.Nat.{from_be_bytes-to_be_bytes_2}
+use Rattle.std.specs.List.{All}
+use Rattle.dns_opt.specs.Laws.{IsOption}
+use Rattle.dns_opt.specs.Options.{OptionItem, OptionBegins, AreOptions, put_option, put_options}
+use Rattle.dns_opt.specs.OptionsOf.{one_or_none, one_list, chosen, options_of, are_options, options_in, one_first}
+
+chosen-is : {b : List ℕ} (r : ((xs : List OptionItem) × AreOptions b xs) ⊎ ((xs : List OptionItem) → AreOptions b xs → ⊥)) (xs : List OptionItem) → AreOptions b xs → chosen r ≡ Some xs
+chosen-is (inl p) xs h = ap (λ (ys : List OptionItem). let o : Option (List OptionItem) = Some ys in o) (one_list _ p.0 xs p.1 h)
+chosen-is (inr never) xs h = absurd (never xs h)
+
+chosen-none : {b : List ℕ} (r : ((xs : List OptionItem) × AreOptions b xs) ⊎ ((xs : List OptionItem) → AreOptions b xs → ⊥)) → ((xs : List OptionItem) → AreOptions b xs → ⊥) → chosen r ≡ None
+chosen-none (inl p) never = absurd (never p.0 p.1)
+chosen-none (inr other) never = refl
+
+chosen-holds : {b : List ℕ} (r : ((xs : List OptionItem) × AreOptions b xs) ⊎ ((xs : List OptionItem) → AreOptions b xs → ⊥)) (xs : List OptionItem) → chosen r ≡ Some xs → AreOptions b xs
+chosen-holds {b = b} (inl p) xs e = let same : p.0 ≡ xs = cc in subst (λ (ys : List OptionItem). AreOptions b ys) same p.1
+chosen-holds (inr other) xs e = absurd (cc)
+
+pub options_of-is : (b : List ℕ) (xs : List OptionItem) → AreOptions b xs → options_of b ≡ Some xs
+unfolding options_of
+options_of-is b xs h = chosen-is (one_or_none b) xs h
+
+pub options_of-none : (b : List ℕ) → ((xs : List OptionItem) → AreOptions b xs → ⊥) → options_of b ≡ None
+unfolding options_of
+options_of-none b never = chosen-none (one_or_none b) never
+
+pub options_of-holds : (b : List ℕ) (xs : List OptionItem) → options_of b ≡ Some xs → AreOptions b xs
+unfolding options_of
+options_of-holds b xs e = chosen-holds (one_or_none b) xs e
+
+-- no octets are no options
+pub options_of-nil : options_of [] ≡ Some []
+options_of-nil = options_of-is [] [] refl
+
+-- an option before options
+pub options_of-cons : (x : OptionItem) (b behind : List ℕ) (xs : List OptionItem) → OptionBegins x b behind → options_of behind ≡ Some xs → options_of b ≡ Some (x ∷ xs)
+options_of-cons x b behind xs begins e = options_of-is b (x ∷ xs) (behind, begins, options_of-holds behind xs e)
+
+some_of : (b : List ℕ) (o : Option (List OptionItem)) → options_of b ≡ o → IsSome o → (xs : List OptionItem) × AreOptions b xs
+some_of b (Some xs) e h = (xs, options_of-holds b xs e)
+some_of b None e h = absurd (cc)
+
+-- what is behind an option is a list where all of it is, and the other way about
+behind_list : (x : OptionItem) (b behind : List ℕ) (xs : List OptionItem) → OptionBegins x b behind → AreOptions b xs → (ys : List OptionItem) × (xs ≡ x ∷ ys) × AreOptions behind ys
+behind_list x b behind [] begins h = let there = begins.there in let e = ap length h in absurd (omega (arith, e))
+behind_list x b behind (y ∷ ys) begins h =
+    let p = one_first x b behind begins in
+    let q = one_first y b h.0 h.1 in
+    (ys, (λ i. (q.0 ∙ sym p.0) i ∷ ys), subst (λ (o : List ℕ). AreOptions o ys) (q.1 ∙ sym p.1) h.2)
+
+pub given_first : (x : OptionItem) (b behind : List ℕ) → OptionBegins x b behind → IsSome (options_of b) → IsSome (options_of behind) × (options_in b ≡ x ∷ options_in behind)
+given_first x b behind begins some =
+    let all = some_of b (options_of b) refl some in
+    let rest = behind_list x b behind all.0 begins all.1 in
+    let e : options_of behind ≡ Some rest.0 = options_of-is behind rest.0 rest.2 in
+    let f : options_of b ≡ Some (x ∷ rest.0) = options_of-is b all.0 all.1 ∙ ap (λ (xs : List OptionItem). let o : Option (List OptionItem) = Some xs in o) rest.1 in (
+      rw e refl,
+      ap (λ (o : Option (List OptionItem)). option_map_or (λ (xs : List OptionItem). xs) o []) f
+          ∙ sym (ap (λ (o : Option (List OptionItem)). x ∷ option_map_or (λ (xs : List OptionItem). xs) o []) e),
+    )
+
+no_options : (b : List ℕ) → ((x : OptionItem) (behind : List ℕ) → OptionBegins x b behind → ⊥) → (xs : List OptionItem) → AreOptions b xs → options_in b ≡ []
+no_options b never [] h = ap (λ (o : Option (List OptionItem)). option_map_or (λ (xs : List OptionItem). xs) o []) (options_of-is b [] h)
+no_options b never (x ∷ xs) h = absurd (never x h.0 h.1)
+
+pub given_none : (b : List ℕ) → ((x : OptionItem) (behind : List ℕ) → OptionBegins x b behind → ⊥) → IsSome (options_of b) → options_in b ≡ []
+given_none b never some = let all = some_of b (options_of b) refl some in no_options b never all.0 all.1
+
+-- whether octets are options hangs on what is behind the first
+told : (x : OptionItem) (b behind : List ℕ) → OptionBegins x b behind → ((ys : List OptionItem) × AreOptions behind ys) ⊎ ((ys : List OptionItem) → AreOptions behind ys → ⊥) → are_options b ≡ are_options behind
+told x b behind begins (inl p) =
+    let e : options_of behind ≡ Some p.0 = options_of-is behind p.0 p.1 in
+    let f : options_of b ≡ Some (x ∷ p.0) = options_of-is b (x ∷ p.0) (behind, begins, p.1) in
+    ap (λ (o : Option (List OptionItem)). is_some o) f ∙ sym (ap (λ (o : Option (List OptionItem)). is_some o) e)
+told x b behind begins (inr never) =
+    let e = options_of-none behind never in
+    let f = options_of-none b (λ xs h. let rest = behind_list x b behind xs begins h in never rest.0 rest.2) in
+    ap (λ (o : Option (List OptionItem)). is_some o) f ∙ sym (ap (λ (o : Option (List OptionItem)). is_some o) e)
+
+pub told_behind : (x : OptionItem) (b behind : List ℕ) → OptionBegins x b behind → are_options b ≡ are_options behind
+told_behind x b behind begins = told x b behind begins (one_or_none behind)
+
+-- no octets are options
+pub told_empty : (b : List ℕ) → length b ≡ 0 → are_options b ≡ true
+told_empty [] e = ap (λ (o : Option (List OptionItem)). is_some o) options_of-nil
+told_empty (o ∷ os) e = absurd (omega (arith, e))
+
+no_list : (b : List ℕ) → 0 < length b → ((x : OptionItem) (behind : List ℕ) → OptionBegins x b behind → ⊥) → (xs : List OptionItem) → AreOptions b xs → ⊥
+no_list b there never [] h = let e = ap length h in omega (arith, e)
+no_list b there never (x ∷ xs) h = never x h.0 h.1
+
+-- and octets at whose start no option stands are none
+pub told_none : (b : List ℕ) → 0 < length b → ((x : OptionItem) (behind : List ℕ) → OptionBegins x b behind → ⊥) → are_options b ≡ false
+told_none b there never = ap (λ (o : Option (List OptionItem)). is_some o) (options_of-none b (no_list b there never))
+
+-- an option that is put stands at the start
+put_begins : (x : OptionItem) (behind : List ℕ) → IsOption x → OptionBegins x (put_option x ++ behind) behind
+put_begins x behind h = record {
+  there = omega arith;
+  code = from_be_bytes-to_be_bytes_2 x.code h.code;
+  size = from_be_bytes-to_be_bytes_2 (length x.octets) h.short;
+  octets = refl;
+}
+
+pub options_put : (xs : List OptionItem) → All IsOption xs → AreOptions (put_options xs) xs
+options_put [] each = refl
+options_put (x ∷ xs) each = (put_options xs, put_begins x (put_options xs) (All-head IsOption x xs each), options_put xs (All-tail IsOption x xs each))

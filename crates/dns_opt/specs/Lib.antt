@@ -1,0 +1,7 @@
+pub mod Options
+pub mod OptionsOf
+pub mod Splitting
+pub mod OptionIter
+pub mod OptHeader
+pub mod OptData
+pub mod Laws

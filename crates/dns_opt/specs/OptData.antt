@@ -1,0 +1,14 @@
+-- An option as a code and octets that are held. RFC 6891 section 6.1.2.
+use Rattle.std.specs.Prelude.{ℕ, List}
+use Rattle.dns_octets.specs.declared.octets.Octets.{Ghosts}
+use Rattle.dns_opt.specs.Options.{OptionItem}
+use Rattle.dns_opt.specs.declared.option.UnknownOptData.{UnknownOptData}
+
+module _ {X : Type 0} {holds : Ghosts X} where
+  -- the holder of the octets
+  abbrev pub holder_of : UnknownOptData X holds → X
+  holder_of unknown = unknown.octets
+
+  -- the option
+  abbrev pub option_of : UnknownOptData X holds → OptionItem
+  option_of unknown = record { code = unknown.code; octets = holds.octets (holder_of unknown) }

@@ -1,0 +1,32 @@
+-- The header of an OPT record: what its class and its TTL say. RFC 6891 sections 6.1.2 and 6.1.3.
+use Rattle.std.specs.Prelude.{ℕ, Bool, ◌/◌, ◌%◌, ◌==◌}
+use Rattle.dns_opt.specs.declared.header.OptHeader.{OptHeader}
+
+-- what it says: the UDP payload size in octets, the eight higher bits of the rcode, the version, DO, and the 15 bits Z
+pub record OptFields : Type 0 where
+  pub udp_payload_size : ℕ
+  pub ext : ℕ
+  pub version : ℕ
+  pub dnssec_ok : Bool
+  pub z : ℕ
+
+-- Where the fields stand: the payload size is the class, and the TTL has 8, 8, 1 and 15 bits.
+abbrev pub fields_in : ℕ → ℕ → OptFields
+fields_in class ttl = record {
+  udp_payload_size = class;
+  ext = ttl / 16777216;
+  version = ttl / 65536 % 256;
+  dnssec_ok = ttl / 32768 % 2 == 1;
+  z = ttl % 32768;
+}
+
+-- the class and the TTL of a header
+abbrev pub class_of : OptHeader → ℕ
+class_of header = header.udp_payload_size
+
+abbrev pub ttl_of : OptHeader → ℕ
+ttl_of header = header.ttl
+
+-- the fields of a header
+abbrev pub fields : OptHeader → OptFields
+fields header = fields_in (class_of header) (ttl_of header)

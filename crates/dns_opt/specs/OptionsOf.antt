@@ -1,0 +1,101 @@
+-- The one list of options that octets are. RFC 6891 section 6.1.2. It is taken from the proof, which stands here too, that octets are one list of options or none.
+use Rattle.std.proofs.Common.{◌≡◌, ◌∙◌, ap, sym, refl, subst, ℕ, zero, suc, ◌+◌, ◌<◌, ◌≤◌, ◌⊎◌, inl, inr, List, [], ◌∷◌, ◌++◌, length, length-append, take, drop, arith}
+use Rattle.std.proofs.lemmas.Bool.{cases_lt}
+use Rattle.std.proofs.lemmas.List.{take_at, drop_at, take-append-drop, length-take-le, length-drop}
+use Rattle.std.specs.Option.{option_map_or}
+use Rattle.std.specs.Prelude.{Bool, Option, Some, None, is_some}
+use Rattle.dns_code.specs.Bits.{number_in}
+use Rattle.dns_opt.specs.Options.{OptionItem, OptionBegins, AreOptions}
+
+-- the option that stands at the start where one does, and what is behind it
+abbrev pub first_option : List ℕ → OptionItem
+first_option b = record { code = number_in b 0; octets = take (number_in b 2) (drop 4 b) }
+
+abbrev pub behind_first : List ℕ → List ℕ
+behind_first b = drop (number_in b 2) (drop 4 b)
+
+pub one_first : (x : OptionItem) (b behind : List ℕ) → OptionBegins x b behind → (x ≡ first_option b) × (behind ≡ behind_first b)
+one_first x b behind h =
+    let octets = sym (ap (take (number_in b 2)) h.octets ∙ take_at x.octets behind (number_in b 2) (sym h.size)) in
+    let rest = sym (ap (drop (number_in b 2)) h.octets ∙ drop_at x.octets behind (number_in b 2) (sym h.size)) in
+    ((λ i. record { code = sym h.code i; octets = octets i }), rest)
+
+pub first_begins : (b : List ℕ) → 4 ≤ length b → number_in b 2 ≤ length (drop 4 b) → OptionBegins (first_option b) b (behind_first b)
+first_begins b there fits = record {
+  there = there;
+  code = refl;
+  size = sym (length-take-le (number_in b 2) (drop 4 b) fits);
+  octets = sym (take-append-drop (number_in b 2) (drop 4 b));
+}
+
+-- it takes four octets at least
+less_behind : (b : List ℕ) → 4 ≤ length b → length (behind_first b) < length b
+less_behind b there = let e = length-drop (number_in b 2) (drop 4 b) in let f = length-drop 4 b in omega (arith, e, f)
+
+-- octets that are options, or none
+abbrev IsOneOrNone : List ℕ → Type 0
+IsOneOrNone b = ((xs : List OptionItem) × AreOptions b xs) ⊎ ((xs : List OptionItem) → AreOptions b xs → ⊥)
+
+-- no option stands in too few octets
+pub none_in_short : (b : List ℕ) → length b < 4 → (x : OptionItem) (behind : List ℕ) → OptionBegins x b behind → ⊥
+none_in_short b short x behind h = let there = h.there in omega arith
+
+-- nor where its own aren't all there
+pub none_in_cut : (b : List ℕ) → length (drop 4 b) < number_in b 2 → (x : OptionItem) (behind : List ℕ) → OptionBegins x b behind → ⊥
+none_in_cut b short x behind h =
+    let size = h.size in
+    let all = ap length h.octets ∙ length-append x.octets behind in
+    omega (arith, size, all)
+
+none_at_all : (b : List ℕ) → 0 < length b → ((x : OptionItem) (behind : List ℕ) → OptionBegins x b behind → ⊥) → (xs : List OptionItem) → AreOptions b xs → ⊥
+none_at_all b there never [] h = let e = ap length h in omega (arith, e)
+none_at_all b there never (x ∷ xs) h = never x h.0 h.1
+
+none_behind : (b : List ℕ) → 0 < length b → ((xs : List OptionItem) → AreOptions (behind_first b) xs → ⊥) → (xs : List OptionItem) → AreOptions b xs → ⊥
+none_behind b there never [] h = let e = ap length h in omega (arith, e)
+none_behind b there never (x ∷ xs) h = never xs (subst (λ (o : List ℕ). AreOptions o xs) (one_first x b h.0 h.1).1 h.2)
+
+read : (n : ℕ) (b : List ℕ) → length b ≤ n → IsOneOrNone b
+read n [] l = inl ([], refl)
+read zero (o ∷ os) l = absurd (omega arith)
+read (suc n) (o ∷ os) l =
+    let b : List ℕ = o ∷ os in
+    elim (cases_lt (length b) 4) [
+      | inl short ↦ inr (none_at_all b (omega arith) (none_in_short b short))
+      | inr there ↦ elim (cases_lt (length (drop 4 b)) (number_in b 2)) [
+        | inl cut ↦ inr (none_at_all b (omega arith) (none_in_cut b cut))
+        | inr fits ↦ let less = less_behind b there in elim (read n (behind_first b) (omega (arith, less))) [
+          | inl p ↦ inl (first_option b ∷ p.0, (behind_first b, first_begins b there fits, p.1))
+          | inr never ↦ inr (none_behind b (omega arith) never)
+        ]
+      ]
+    ]
+
+pub one_list : (b : List ℕ) (xs ys : List OptionItem) → AreOptions b xs → AreOptions b ys → xs ≡ ys
+one_list b [] [] h k = refl
+one_list b [] (y ∷ ys) h k = let there = k.1.there in let e = ap length h in absurd (omega (arith, e))
+one_list b (x ∷ xs) [] h k = let there = h.1.there in let e = ap length k in absurd (omega (arith, e))
+one_list b (x ∷ xs) (y ∷ ys) h k =
+    let p = one_first x b h.0 h.1 in
+    let q = one_first y b k.0 k.1 in
+    let rest = one_list (behind_first b) xs ys (subst (λ (o : List ℕ). AreOptions o xs) p.1 h.2) (subst (λ (o : List ℕ). AreOptions o ys) q.1 k.2) in
+    λ i. (p.0 ∙ sym q.0) i ∷ rest i
+
+-- the list, where octets are one
+abbrev pub chosen : {b : List ℕ} → ((xs : List OptionItem) × AreOptions b xs) ⊎ ((xs : List OptionItem) → AreOptions b xs → ⊥) → Option (List OptionItem)
+chosen (inl p) = Some p.0
+chosen (inr never) = None
+
+pub one_or_none : (b : List ℕ) → ((xs : List OptionItem) × AreOptions b xs) ⊎ ((xs : List OptionItem) → AreOptions b xs → ⊥)
+one_or_none b = read (length b) b (omega arith)
+
+unfoldable pub options_of : List ℕ → Option (List OptionItem)
+options_of b = chosen (one_or_none b)
+
+-- whether octets are a list of options
+abbrev pub are_options : List ℕ → Bool
+are_options b = is_some (options_of b)
+
+-- the options that octets are, or none
+abbrev pub options_in : List ℕ → List OptionItem
+options_in b = option_map_or (λ xs. xs) (options_of b) []

@@ -1,0 +1,10 @@
+-- How options are taken from the start of octets. RFC 6891 section 6.1.2.
+use Rattle.std.specs.Prelude.{◌≡◌, ℕ, List, Option, Some, None}
+use denote.Ref.{Bor}
+use Rattle.dns_number.specs.declared.option_code.OptionCode.{OptionCode}
+use Rattle.dns_opt.specs.Options.{OptionItem, OptionBegins}
+
+-- the first option and what is behind it, or none where no whole one begins
+abbrev pub Splits : List ℕ → Option (ℕ × Bor (List ℕ) × Bor (List ℕ)) → Type 0
+Splits b (Some x) = OptionBegins (record { code = x.0; octets = x.1.now }) b x.2.now
+Splits b None = (x : OptionItem) (behind : List ℕ) → OptionBegins x b behind → ⊥

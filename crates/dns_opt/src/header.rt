@@ -1,0 +1,137 @@
+//! The header of an OPT record (RFC 6891 section 6.1.3).
+ghost use Rattle.std.specs.Prelude.{◌≡◌, ◌+◌, ◌*◌, ◌/◌};
+ghost use Rattle.dns_code.specs.Header.{fields as header_fields};
+ghost use Rattle.dns_opt.specs.OptHeader.{class_of, ttl_of, fields};
+
+use dns_code::{Class, Header, OptRcode};
+
+/// What the class and the TTL of an OPT record say (RFC 6891 section 6.1.3).
+#[derive(Clone, Copy, Debug, Default, PartialEq, Eq)]
+pub struct OptHeader {
+    udp_payload_size: u16,
+    /// From the highest octet on: the higher bits of the rcode, the version, and 16 bits, the first of them DO.
+    ttl: u32,
+}
+
+impl OptHeader {
+    /// The header that a class and a TTL in seconds say.
+    pub fn from_fields(class: Class, ttl: u32) -> Self
+        ensures class { class_of result ≡ class }
+        ensures ttl { ttl_of result ≡ ttl }
+    {
+        OptHeader {
+            udp_payload_size: class.to_int(),
+            ttl,
+        }
+    }
+
+    /// The class of a record with this header.
+    pub fn class(self) -> Class
+        ensures { result ≡ class_of self }
+    {
+        Class::from_int(self.udp_payload_size)
+    }
+
+    /// The TTL of a record with this header, in seconds.
+    pub fn ttl(self) -> u32
+        ensures { result ≡ ttl_of self }
+    {
+        self.ttl
+    }
+
+    /// How many octets of a message the sender can take over UDP.
+    pub fn udp_payload_size(self) -> u16
+        ensures { result ≡ (fields self).udp_payload_size }
+    {
+        self.udp_payload_size
+    }
+
+    /// Changes the UDP payload size.
+    pub fn set_udp_payload_size(&mut self, size: u16)
+        ensures { fields self.new ≡ record (fields self.old) { udp_payload_size = size } }
+    {
+        self.udp_payload_size = size;
+    }
+
+    /// The rcode, of which the lower four bits stand in the header of the message.
+    pub fn rcode(self, header: Header) -> OptRcode
+        ensures { result ≡ (fields self).ext * 16 + (header_fields header).rcode }
+    {
+        OptRcode::from_parts(header.rcode(), (self.ttl / 0x100_0000) as u8)
+    }
+
+    /// Changes the bits of the rcode that don't stand in the header of the message.
+    pub fn set_rcode(&mut self, rcode: OptRcode)
+        ensures { fields self.new ≡ record (fields self.old) { ext = rcode / 16 } }
+    {
+        self.ttl = u32::from(rcode.ext()) * 0x100_0000 + self.ttl % 0x100_0000;
+    }
+
+    /// The version of EDNS.
+    pub fn version(self) -> u8
+        ensures { result ≡ (fields self).version }
+    {
+        (self.ttl / 0x1_0000 % 0x100) as u8
+    }
+
+    /// Changes the version.
+    pub fn set_version(&mut self, version: u8)
+        ensures { fields self.new ≡ record (fields self.old) { version = version } }
+    {
+        let ext = self.ttl / 0x100_0000;
+        self.ttl = ext * 0x100_0000 + u32::from(version) * 0x1_0000 + self.ttl % 0x1_0000;
+    }
+
+    /// Whether the sender can take DNSSEC's records (DO, RFC 3225).
+    pub fn dnssec_ok(self) -> bool
+        ensures { result ≡ (fields self).dnssec_ok }
+    {
+        self.ttl / 0x8000 % 2 == 1
+    }
+
+    /// Changes DO.
+    pub fn set_dnssec_ok(&mut self, set: bool)
+        ensures { fields self.new ≡ record (fields self.old) { dnssec_ok = set } }
+    {
+        let higher = self.ttl / 0x1_0000;
+        self.ttl = higher * 0x1_0000 + u32::from(set) * 0x8000 + self.ttl % 0x8000;
+    }
+}
+
+#[cfg(test)]
+mod tests {
+    use super::*;
+    use dns_code::Rcode;
+    use std::process::Abort;
+
+    #[test]
+    fn reads_the_fields(rt: HostRuntime) {
+        let mut message = Header::new();
+        message.set_rcode(Rcode::NXDOMAIN);
+        let header = OptHeader::from_fields(Class::from_int(1232), 0x0100_8000);
+        assert_eq!(rt; header.udp_payload_size(), 1232);
+        assert_eq!(rt; header.rcode(message).to_int(), 19);
+        assert_eq!(rt; header.version(), 0);
+        assert!(rt; header.dnssec_ok());
+    }
+
+    #[test]
+    fn changes_one_field_each(rt: HostRuntime) {
+        // All bits of Z are set, and stay.
+        let mut header = OptHeader::from_fields(Class::from_int(512), 0x7FFF);
+        header.set_udp_payload_size(1232);
+        if let Some(rcode) = OptRcode::checked_from_int(19) {
+            header.set_rcode(rcode);
+        }
+        header.set_dnssec_ok(true);
+        assert_eq!(rt; header.class().to_int(), 1232);
+        assert_eq!(rt; header.ttl(), 0x0100_FFFF);
+        header.set_version(2);
+        header.set_dnssec_ok(false);
+        assert_eq!(rt; header.ttl(), 0x0102_7FFF);
+        assert_eq!(rt;
+            OptHeader::default(),
+            OptHeader::from_fields(Class::from_int(0), 0)
+        );
+    }
+}

@@ -1,0 +1,72 @@
+//! Options (RFC 6891 section 6.1.2).
+ghost use Rattle.std.specs.Prelude.{◌≡◌, ◌≤◌, length};
+ghost use Rattle.dns_opt.specs.Options.{OptionItem};
+
+use crate::error::LongOptData;
+use dns_code::OptionCode;
+use dns_wire::Octets;
+
+/// One option of an OPT record: a code and octets.
+pub trait ComposeOptData {
+    /// The option.
+    ghost option: { Self → OptionItem };
+
+    /// Its code.
+    fn code(&self) -> OptionCode
+        ensures { result ≡ (option self.now).code };
+
+    /// Its octets, without the code and the length before them.
+    fn octets(&self) -> &[u8]
+        ensures { result.now ≡ (option self.now).octets };
+}
+
+/// An option of any code, as mere octets, at most 65,535.
+#[derive(Debug, Drop)]
+pub struct UnknownOptData<Octs: Octets> {
+    code: u16,
+    octets: Octs,
+    ghost short: { length (Octs.octets octets) ≤ 65535 },
+}
+
+impl<Octs: Octets> UnknownOptData<Octs> {
+    ghost use Rattle.std.specs.Prelude.{◌<◌, ◌↔◌, IfOk, IsErr};
+    ghost use Rattle.dns_opt.specs.OptData.{holder_of, option_of};
+
+    /// The option of this code. More than 65,535 octets are refused.
+    pub fn new(code: OptionCode, octets: Octs) -> Result<Self, LongOptData>
+        ensures code { IfOk result (λ unknown. (option_of unknown).code ≡ code) }
+        ensures octets { IfOk result (λ unknown. holder_of unknown ≡ octets) }
+        ensures long { IsErr result ↔ (65535 < length (Octs.octets octets)) }
+    {
+        if octets.octets().len() > 65535 {
+            return Err(LongOptData);
+        }
+        Ok(UnknownOptData {
+            code: code.to_int(),
+            octets,
+        })
+    }
+}
+
+impl<Octs: Octets> ComposeOptData for UnknownOptData<Octs> {
+    ghost use Rattle.dns_opt.specs.OptData.{option_of};
+
+    ghost option = { option_of };
+
+    fn code(&self) -> OptionCode {
+        OptionCode::from_int(self.code)
+    }
+
+    fn octets(&self) -> &[u8] {
+        self.octets.octets()
+    }
+}
+
+/// An address of the option that tells a client's subnet (RFC 7871 section 6).
+#[derive(Clone, Copy, Debug, PartialEq, Eq)]
+pub enum SubnetAddr {
+    /// Of IPv4.
+    V4([u8; 4]),
+    /// Of IPv6.
+    V6([u8; 16]),
+}

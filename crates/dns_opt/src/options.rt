@@ -1,0 +1,104 @@
+//! Lists of options (RFC 6891 section 6.1.2).
+ghost use Rattle.std.specs.Prelude.{◌≡◌, IsTrue, IfSome, is_some};
+ghost use Rattle.dns_opt.specs.OptionsOf.{are_options};
+
+use crate::split::split_option;
+use dns_code::OptionCode;
+
+/// Whether octets are a list of options, one behind the other.
+#[tactic(auto, using(crate::proofs::OptionsLemmas::told_empty, crate::proofs::OptionsLemmas::told_none))]
+pub fn are_options(octets: &[u8]) -> bool
+    ensures { result ≡ are_options octets.now }
+{
+    let mut left = octets;
+    while !left.is_empty() {
+        match split_option(left) {
+            Some((_, _, behind)) => left = behind,
+            None => return false,
+        }
+    }
+    true
+}
+
+/// The options that octets are, each with its code and its octets.
+#[derive(Clone, Copy, Debug)]
+pub struct OptionIter<'a> {
+    left: &'a [u8],
+    ghost options: { IsTrue (are_options left.now) },
+}
+
+impl<'a> OptionIter<'a> {
+    ghost use Rattle.dns_opt.specs.OptionsOf.{options_in};
+    ghost use Rattle.dns_opt.specs.OptionIter.{options_left};
+
+    /// The options of octets that are a list of them.
+    pub fn new(octets: &'a [u8]) -> Option<Self>
+        ensures list { is_some result ≡ are_options octets.now }
+        ensures options { IfSome result (λ it. options_left it ≡ options_in octets.now) }
+    {
+        if are_options(octets) {
+            Some(OptionIter { left: octets })
+        } else {
+            None
+        }
+    }
+}
+
+impl<'a> Iterator for OptionIter<'a> {
+    ghost use Rattle.std.specs.Iterator.{YieldsFirstBy, item_count};
+    ghost use Rattle.dns_opt.specs.OptionIter.{option_item, options_left};
+
+    type Item = (OptionCode, &'a [u8]);
+
+    ghost next_gives = { YieldsFirstBy option_item options_left };
+
+    ghost remaining = { item_count options_left };
+
+    #[tactic(auto, using(crate::proofs::OptionsLemmas::given_first, crate::proofs::OptionsLemmas::given_none))]
+    fn next(&mut self) -> Option<Self::Item> {
+        let Some((code, octets, left)) = split_option(self.left) else {
+            return None;
+        };
+        self.left = left;
+        Some((code, octets))
+    }
+}
+
+#[cfg(test)]
+mod tests {
+    use super::*;
+    use std::process::Abort;
+
+    /// NSID, the algorithms 8 and 13 of DAU, EXPIRE, and a keepalive of 30 seconds.
+    const OPTIONS: [u8; 20] =
+        *b"\x00\x03\x00\x00\x00\x05\x00\x02\x08\x0D\x00\x09\x00\x00\x00\x0B\x00\x02\x01\x2C";
+
+    #[test]
+    fn gives_each_option(rt: HostRuntime) {
+        let Some(mut options) = OptionIter::new(&OPTIONS) else {
+            panic!(rt; "no options")
+        };
+        let expected: [(u16, &[u8]); 4] = [(3, b""), (5, b"\x08\x0D"), (9, b""), (11, b"\x01\x2C")];
+        for (code, octets) in expected {
+            match options.next() {
+                Some((found, held)) => {
+                    assert_eq!(rt; found.to_int(), code);
+                    assert_eq!(rt; held, octets);
+                }
+                None => panic!(rt; "no option"),
+            }
+        }
+        assert!(rt; options.next().is_none() && options.next().is_none());
+    }
+
+    #[test]
+    fn refuses_a_torn_option(rt: HostRuntime) {
+        // Within a code, behind one, within a length, and within octets.
+        for len in [1, 2, 3, 8, 19] {
+            assert!(rt; !are_options(&OPTIONS[..len]));
+        }
+        for len in [0, 4, 10, 14, 20] {
+            assert!(rt; are_options(&OPTIONS[..len]));
+        }
+    }
+}

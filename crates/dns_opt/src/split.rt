@@ -1,0 +1,17 @@
+//! Taking options apart (RFC 6891 section 6.1.2).
+ghost use Rattle.dns_opt.specs.Splitting.{Splits};
+
+use dns_code::OptionCode;
+
+/// The first option, its code and its octets, and the octets behind it; `None` where no whole option begins.
+pub(crate) fn split_option(octets: &[u8]) -> Option<(OptionCode, &[u8], &[u8])>
+    ensures { Splits octets.now result }
+{
+    let [code_high, code_low, high, low, behind @ ..] = octets else {
+        return None;
+    };
+    let len = usize::from(u16::from_be_bytes([*high, *low]));
+    let (option, behind) = behind.split_at_checked(len)?;
+    let code = OptionCode::from_int(u16::from_be_bytes([*code_high, *code_low]));
+    Some((code, option, behind))
+}
