@@ -7,7 +7,7 @@ use Rattle.std.proofs.lemmas.Nat.{from_be_bytes-to_be_bytes_2}
 use Rattle.std.specs.List.{All}
 use Rattle.dns_opt.specs.Laws.{IsOption}
 use Rattle.dns_opt.specs.Options.{OptionItem, OptionBegins, AreOptions, put_option, put_options}
-use Rattle.dns_opt.specs.OptionsOf.{one_or_none, one_list, chosen, options_of, are_options, options_in, one_first}
+use Rattle.dns_opt.specs.OptionsOf.{one_or_none, one_list, chosen, options_of, are_options, options_in, one_first, none_at_all}
 
 chosen-is : {b : List ℕ} (r : ((xs : List OptionItem) × AreOptions b xs) ⊎ ((xs : List OptionItem) → AreOptions b xs → ⊥)) (xs : List OptionItem) → AreOptions b xs → chosen r ≡ Some xs
 chosen-is (inl p) xs h = ap (λ (ys : List OptionItem). let o : Option (List OptionItem) = Some ys in o) (one_list _ p.0 xs p.1 h)
@@ -33,13 +33,9 @@ pub options_of-holds : (b : List ℕ) (xs : List OptionItem) → options_of b �
 unfolding options_of
 options_of-holds b xs e = chosen-holds (one_or_none b) xs e
 
--- no octets are no options
+-- no octets are the empty list
 pub options_of-nil : options_of [] ≡ Some []
 options_of-nil = options_of-is [] [] refl
-
--- an option before options
-pub options_of-cons : (x : OptionItem) (b behind : List ℕ) (xs : List OptionItem) → OptionBegins x b behind → options_of behind ≡ Some xs → options_of b ≡ Some (x ∷ xs)
-options_of-cons x b behind xs begins e = options_of-is b (x ∷ xs) (behind, begins, options_of-holds behind xs e)
 
 some_of : (b : List ℕ) (o : Option (List OptionItem)) → options_of b ≡ o → IsSome o → (xs : List OptionItem) × AreOptions b xs
 some_of b (Some xs) e h = (xs, options_of-holds b xs e)
@@ -90,13 +86,9 @@ pub told_empty : (b : List ℕ) → length b ≡ 0 → are_options b ≡ true
 told_empty [] e = ap (λ (o : Option (List OptionItem)). is_some o) options_of-nil
 told_empty (o ∷ os) e = absurd (omega (arith, e))
 
-no_list : (b : List ℕ) → 0 < length b → ((x : OptionItem) (behind : List ℕ) → OptionBegins x b behind → ⊥) → (xs : List OptionItem) → AreOptions b xs → ⊥
-no_list b there never [] h = let e = ap length h in omega (arith, e)
-no_list b there never (x ∷ xs) h = never x h.0 h.1
-
 -- and octets at whose start no option stands are none
 pub told_none : (b : List ℕ) → 0 < length b → ((x : OptionItem) (behind : List ℕ) → OptionBegins x b behind → ⊥) → are_options b ≡ false
-told_none b there never = ap (λ (o : Option (List OptionItem)). is_some o) (options_of-none b (no_list b there never))
+told_none b there never = ap (λ (o : Option (List OptionItem)). is_some o) (options_of-none b (none_at_all b there never))
 
 -- an option that is put stands at the start
 put_begins : (x : OptionItem) (behind : List ℕ) → IsOption x → OptionBegins x (put_option x ++ behind) behind

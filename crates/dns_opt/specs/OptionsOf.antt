@@ -47,7 +47,7 @@ none_in_cut b short x behind h =
     let all = ap length h.octets ∙ length-append x.octets behind in
     omega (arith, size, all)
 
-none_at_all : (b : List ℕ) → 0 < length b → ((x : OptionItem) (behind : List ℕ) → OptionBegins x b behind → ⊥) → (xs : List OptionItem) → AreOptions b xs → ⊥
+pub none_at_all : (b : List ℕ) → 0 < length b → ((x : OptionItem) (behind : List ℕ) → OptionBegins x b behind → ⊥) → (xs : List OptionItem) → AreOptions b xs → ⊥
 none_at_all b there never [] h = let e = ap length h in omega (arith, e)
 none_at_all b there never (x ∷ xs) h = never x h.0 h.1
 

@@ -1,7 +1,7 @@
 -- What a data type answers to lists of items that are joined, and how a cursor passes them.
 use Rattle.std.proofs.Common.{◌≡◌, ◌∙◌, ap, refl, ℕ, Bool, true, false, List, [], ◌∷◌, ◌++◌, length, arith}
-use Rattle.std.proofs.lemmas.List.Elements.{filter-append}
-use Rattle.std.specs.List.{filter_map, cons_option}
+use Rattle.std.proofs.lemmas.List.Elements.{filter-append, filter_map-append}
+use Rattle.std.specs.List.{cons_option}
 use Rattle.std.specs.Prelude.{◌==◌, if◌then◌else◌, Option, Some, None, option_to_list, Result, Ok}
 use Rattle.dns_name.specs.Names.{Fault}
 use Rattle.dns_octets.specs.declared.error.ParseError.{ParseError}
@@ -16,14 +16,6 @@ use Rattle.dns_section.specs.Given.Given.{none, more}
 use Rattle.dns_section.specs.Limited.{answer_to_item, limited, is_in_class_in, limited_by}
 use Rattle.dns_section.specs.RecordSection.{records_left, record_answer, GivesNext}
 use Rattle.dns_section.specs.declared.record_section.RecordSection.{RecordSection}
-
-cons_option-append : {X : Type 0} (o : Option X) (xs ys : List X) → cons_option o (xs ++ ys) ≡ cons_option o xs ++ ys
-cons_option-append None xs ys = refl
-cons_option-append (Some x) xs ys = refl
-
-filter_map-append : {X Y : Type 0} (h : X → Option Y) (xs ys : List X) → filter_map h (xs ++ ys) ≡ filter_map h xs ++ filter_map h ys
-filter_map-append h [] ys = refl
-filter_map-append h (x ∷ xs) ys = ap (cons_option (h x)) (filter_map-append h xs ys) ∙ cons_option-append (h x) (filter_map h xs) (filter_map h ys)
 
 pub limited-append : (layouts : ℕ → Option Layout) (xs ys : List (Result StandingRecord Fault)) → limited layouts (xs ++ ys) ≡ limited layouts xs ++ limited layouts ys
 limited-append layouts xs ys = filter_map-append (answer_to_item layouts) xs ys
