@@ -61,6 +61,11 @@ abbrev pub ParsesHeader : Parser → Parser → Result (RecordHeader ParsedName)
 ParsesHeader old new (Ok header) = ReadsHeader (seen old) (place old) (place new) (parsed_header header) × MovesTo old new (place new)
 ParsesHeader old new (Err e) = HeaderFaultAt (seen old) (place old) (fault_of e) × (new ≡ old)
 
+-- The same of a parser that is given back beside the header.
+abbrev pub ReadsAhead : Parser → Result (RecordHeader ParsedName × Parser) ParseError → Type 0
+ReadsAhead parser (Ok (header, behind)) = ParsesHeader parser behind (Ok header)
+ReadsAhead parser (Err e) = HeaderFaultAt (seen parser) (place parser) (fault_of e)
+
 -- The same where the data is passed too: a header is given where a record of its fields can be read, behind which the parser then stands.
 abbrev pub ParsesAndSkips : Parser → Parser → Result (RecordHeader ParsedName) ParseError → Type 0
 ParsesAndSkips old new (Ok header) = ((start : ℕ) × ReadsRecord (seen old) (place old) (place new) (record_at header start)) × MovesTo old new (place new)

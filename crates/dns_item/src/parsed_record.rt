@@ -68,16 +68,11 @@ impl<'a> ParsedRecord<'a> {
     pub fn parse(parser: &mut Parser<'a>) -> Result<Self, ParseError>
         ensures { ParsesRecord parser.old parser.new result }
     {
-        let mut ahead = *parser;
-        match RecordHeader::parse(&mut ahead) {
-            Ok(header) => {
-                let data = ahead;
-                ahead.advance(usize::from(header.rdlen()))?;
-                *parser = ahead;
-                Ok(ParsedRecord { header, data })
-            }
-            Err(error) => Err(error),
-        }
+        let (header, data) = RecordHeader::read(*parser)?;
+        let mut behind = data;
+        behind.advance(usize::from(header.rdlen()))?;
+        *parser = behind;
+        Ok(ParsedRecord { header, data })
     }
 
     /// Passes a record without following a pointer in its owner, and without a look at its data.

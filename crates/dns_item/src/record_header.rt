@@ -3,7 +3,7 @@ ghost use Rattle.std.specs.Prelude.{◌≡◌};
 ghost use Rattle.dns_name.specs.Parsers.{seen, place, Takes};
 ghost use Rattle.dns_wire.specs.Targets.{Composes};
 ghost use Rattle.dns_item.specs.Record.{HasFields};
-ghost use Rattle.dns_item.specs.RecordHeader.{owner_of, rtype_of, class_of, ttl_of, rdlen_of, AreFieldsAt, header_fields, header_item, put_header, ParsesHeader, ParsesAndSkips};
+ghost use Rattle.dns_item.specs.RecordHeader.{owner_of, rtype_of, class_of, ttl_of, rdlen_of, AreFieldsAt, header_fields, header_item, put_header, ParsesHeader, ReadsAhead, ParsesAndSkips};
 
 use crate::record::Record;
 use crate::ttl::Ttl;
@@ -122,11 +122,9 @@ impl<'a> RecordHeader<ParsedName<'a>> {
     pub fn parse(parser: &mut Parser<'a>) -> Result<Self, ParseError>
         ensures { ParsesHeader parser.old parser.new result }
     {
-        let mut ahead = *parser;
-        let owner = ParsedName::parse(&mut ahead)?;
-        let (rtype, class, ttl, rdlen) = read_fields(&mut ahead)?;
-        *parser = ahead;
-        Ok(RecordHeader::new(owner, rtype, class, ttl, rdlen))
+        let (header, behind) = RecordHeader::read(*parser)?;
+        *parser = behind;
+        Ok(header)
     }
 
     /// As `parse`.
@@ -143,15 +141,19 @@ impl<'a> RecordHeader<ParsedName<'a>> {
     pub fn parse_and_skip(parser: &mut Parser<'a>) -> Result<Self, ParseError>
         ensures { ParsesAndSkips parser.old parser.new result }
     {
-        let mut ahead = *parser;
-        match RecordHeader::parse(&mut ahead) {
-            Ok(header) => {
-                ahead.advance(usize::from(header.rdlen))?;
-                *parser = ahead;
-                Ok(header)
-            }
-            Err(error) => Err(error),
-        }
+        let (header, mut behind) = RecordHeader::read(*parser)?;
+        behind.advance(usize::from(header.rdlen))?;
+        *parser = behind;
+        Ok(header)
+    }
+
+    /// The header at the parser's place, and the parser that stands behind it, at the data.
+    pub(crate) fn read(mut parser: Parser<'a>) -> Result<(Self, Parser<'a>), ParseError>
+        ensures { ReadsAhead parser.entry result }
+    {
+        let owner = ParsedName::parse(&mut parser)?;
+        let (rtype, class, ttl, rdlen) = read_fields(&mut parser)?;
+        Ok((RecordHeader::new(owner, rtype, class, ttl, rdlen), parser))
     }
 }
 

@@ -3,17 +3,19 @@ use Rattle.std.proofs.lemmas.Result.{err_from_is_err_and}
 use Rattle.dns_item.proofs.RecordLemmas.{with_data, without_data, without_header}
 use Rattle.dns_item.proofs.parsed_record.ParsedRecord.parse.Goals as goal
 
-pub returns-in_err-advance-in-Ok : goal.returns-in_err-advance-in-Ok
-returns-in_err-advance-in-Ok c =
+pub returns-in_err-header : goal.returns-in_err-header
+returns-in_err-header c =
     let p = err_from_is_err_and c.from_residual.result c.from_residual.ensures.1 in
-    let h = c.in_err-advance-in-Ok.ensures in
-    rw (p.1, p.2) (without_data _ c.parse.new.parser c.in-Ok.header _ _ c.in-Ok.ensures (c.from.ensures ∙ c.rdlen.ensures) h.0 h.1, refl)
+    rw (p.1, p.2) (without_header _ _ _ c.in_err-header.ensures, refl)
 
-pub returns-in_ok-advance-in-Ok : goal.returns-in_ok-advance-in-Ok
-returns-in_ok-advance-in-Ok c =
-    let h = c.in_ok-advance-in-Ok.ensures in
-    let r = with_data c.args.parser.now c.parse.new.parser c.advance.new.self c.in-Ok.header _ c.in-Ok.ensures (c.from.ensures ∙ c.rdlen.ensures) h.0 h.1 in
-    (r.0, r.1, c.in-Ok.ensures.1)
+pub returns-in_err-advance : goal.returns-in_err-advance
+returns-in_err-advance c =
+    let p = err_from_is_err_and c.from_residual-in_err-advance.result c.from_residual-in_err-advance.ensures.1 in
+    let h = c.in_err-advance.ensures in
+    rw (p.1, p.2) (without_data _ c.in_ok-header.data c.in_ok-header.header _ _ c.in_ok-header.ensures (c.from.ensures ∙ c.rdlen.ensures) h.0 h.1, refl)
 
-pub returns-in-Err : goal.returns-in-Err
-returns-in-Err c = (without_header _ _ _ c.in-Err.ensures.0, refl)
+pub returns : goal.returns
+returns c =
+    let h = c.in_ok-advance.ensures in
+    let r = with_data c.args.parser.now c.in_ok-header.data c.advance.new.self c.in_ok-header.header _ c.in_ok-header.ensures (c.from.ensures ∙ c.rdlen.ensures) h.0 h.1 in
+    (r.0, r.1, c.in_ok-header.ensures.1)
