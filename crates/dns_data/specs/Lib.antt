@@ -4,5 +4,6 @@ pub mod A
 pub mod NameData
 pub mod Soa
 pub mod UnknownData
+pub mod Opt
 pub mod Printing
 pub mod Laws

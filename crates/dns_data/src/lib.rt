@@ -1,4 +1,4 @@
-//! The data of DNS records: what data is, A, NS, CNAME, SOA and opaque data, and data behind its length.
+//! The data of DNS records: what data is, A, NS, CNAME, SOA, OPT and opaque data, and data behind its length.
 //!
 //! It promises that a datum is one fixed list of parts of at most 65,535 octets, which is what it appends, under every rule
 //! of compression, and in canonical form with its names lowercased. A value is read exactly where its parts stand, and the
@@ -12,15 +12,18 @@ pub mod laws;
 mod length;
 mod name_data;
 mod octets;
+mod opt;
 mod print;
 pub mod record_data;
 mod soa;
 mod unknown;
 
 pub use a::A;
+pub use dns_opt::{ComposeOptData, LongOptData, OptHeader, OptionIter, SubnetAddr, UnknownOptData};
 pub use error::LongRecordData;
 pub use length::{compose_canonical_len_rdata, compose_len_rdata};
 pub use name_data::{Cname, Ns};
+pub use opt::Opt;
 pub use record_data::{ComposeRecordData, ParseAnyRecordData, ParseRecordData, RecordData};
 pub use soa::Soa;
 pub use unknown::UnknownRecordData;

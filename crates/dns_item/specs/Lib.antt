@@ -3,6 +3,7 @@ pub mod Items
 pub mod RecordHeader
 pub mod ParsedRecord
 pub mod Record
+pub mod OptRecord
 pub mod RecordReading
 pub mod DataAnswer
 pub mod TypedRecords

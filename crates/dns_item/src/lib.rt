@@ -1,4 +1,4 @@
-//! Records of DNS messages and the TTL, with the questions of `dns_question`.
+//! Records of DNS messages, OPT records and the TTL, with the questions of `dns_question`.
 //!
 //! It promises that a question or record is read exactly where one stands (RFC 1035 sections 4.1.2 and 4.1.3) and is composed
 //! as one piece under every rule of compression, that what is put is read back, that the data of a record is read to its end
@@ -7,6 +7,7 @@
 #![tactic(auto)]
 
 pub mod laws;
+mod opt_record;
 mod parsed_record;
 pub mod record;
 mod record_error;
@@ -16,6 +17,7 @@ mod record_reading;
 mod ttl;
 
 pub use dns_question::{ComposeQuestion, Question, question};
+pub use opt_record::OptRecord;
 pub use parsed_record::ParsedRecord;
 pub use record::{ComposeRecord, Record};
 pub use record_header::RecordHeader;

@@ -48,14 +48,15 @@ pub mod record {
     pub use dns_item::record::{
         ComposeRecord, ParsedRecord, Record, RecordHeader, RecordParseError,
     };
-    pub use dns_item::{Ttl, laws};
+    pub use dns_item::{OptRecord, Ttl, laws};
 }
 
 pub mod data {
     //! The data of records, and the theorems that a data type of a user's own rests on.
     pub use dns_data::{
-        A, Cname, ComposeRecordData, LongRecordData, Ns, ParseAnyRecordData, ParseRecordData,
-        RecordData, Soa, UnknownRecordData, compose_canonical_len_rdata, compose_len_rdata, laws,
+        A, Cname, ComposeOptData, ComposeRecordData, LongOptData, LongRecordData, Ns, Opt,
+        OptHeader, OptionIter, ParseAnyRecordData, ParseRecordData, RecordData, Soa, SubnetAddr,
+        UnknownOptData, UnknownRecordData, compose_canonical_len_rdata, compose_len_rdata, laws,
     };
 }
 

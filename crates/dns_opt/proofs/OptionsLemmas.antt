@@ -1,5 +1,5 @@
 -- What the list of options is that octets are.
-use Rattle.std.proofs.Common.{◌≡◌, ◌∙◌, ap, sym, refl, subst, ℕ, ◌<◌, ◌⊎◌, inl, inr, Bool, true, false, List, [], ◌∷◌, ◌++◌, length, arith}
+use Rattle.std.proofs.Common.{◌≡◌, ◌∙◌, ap, sym, refl, subst, ℕ, ◌<◌, ◌⊎◌, inl, inr, Bool, true, false, List, [], ◌∷◌, ◌++◌, append_assoc, append-nil, length, arith}
 use Rattle.std.specs.Option.{option_map_or}
 use Rattle.std.specs.Prelude.{Option, Some, None, is_some, IsSome}
 use Rattle.std.proofs.lemmas.List.Elements.{All-head, All-tail}
@@ -102,3 +102,34 @@ put_begins x behind h = record {
 pub options_put : (xs : List OptionItem) → All IsOption xs → AreOptions (put_options xs) xs
 options_put [] each = refl
 options_put (x ∷ xs) each = (put_options xs, put_begins x (put_options xs) (All-head IsOption x xs each), options_put xs (All-tail IsOption x xs each))
+
+-- an option at the start of octets is one at the start of longer ones
+begins_longer : (x : OptionItem) (b behind c : List ℕ) → OptionBegins x b behind → OptionBegins x (b ++ c) (behind ++ c)
+begins_longer x (o ∷ p ∷ q ∷ r ∷ os) behind c h = record {
+  there = omega arith;
+  code = h.code;
+  size = h.size;
+  octets = ap (λ (ys : List ℕ). ys ++ c) h.octets ∙ append_assoc x.octets behind c;
+}
+begins_longer x [] behind c h = absurd (let there = h.there in omega arith)
+begins_longer x (o ∷ []) behind c h = absurd (let there = h.there in omega arith)
+begins_longer x (o ∷ p ∷ []) behind c h = absurd (let there = h.there in omega arith)
+begins_longer x (o ∷ p ∷ q ∷ []) behind c h = absurd (let there = h.there in omega arith)
+
+-- two lists, one behind the other, are one
+pub options_joined : (b c : List ℕ) (xs ys : List OptionItem) → AreOptions b xs → AreOptions c ys → AreOptions (b ++ c) (xs ++ ys)
+options_joined b c [] ys h k = subst (λ (d : List ℕ). AreOptions (d ++ c) ys) (sym h) k
+options_joined b c (x ∷ xs) ys h k = (h.0 ++ c, begins_longer x b h.0 c h.1, options_joined h.0 c xs ys h.2 k)
+
+-- octets that are a list are that of the options in them
+pub listed_are : (b : List ℕ) → IsSome (options_of b) → AreOptions b (options_in b)
+listed_are b some =
+    let all = some_of b (options_of b) refl some in
+    let e = ap (λ (o : Option (List OptionItem)). option_map_or (λ (xs : List OptionItem). xs) o []) (options_of-is b all.0 all.1) in
+    subst (λ (xs : List OptionItem). AreOptions b xs) (sym e) all.1
+
+-- an option that is put behind a list is the last of it
+pub one_more : (b : List ℕ) (x : OptionItem) → IsSome (options_of b) → IsOption x → options_of (b ++ put_option x) ≡ Some (options_in b ++ x ∷ [])
+one_more b x some is =
+    let one : AreOptions (put_option x) (x ∷ []) = subst (λ (c : List ℕ). AreOptions c (x ∷ [])) (append-nil (put_option x)) ([], put_begins x [] is, refl) in
+    options_of-is (b ++ put_option x) (options_in b ++ x ∷ []) (options_joined b (put_option x) (options_in b) (x ∷ []) (listed_are b some) one)

@@ -1,5 +1,4 @@
 -- An option as a code and octets that are held. RFC 6891 section 6.1.2.
-use Rattle.std.specs.Prelude.{ℕ, List}
 use Rattle.dns_octets.specs.declared.octets.Octets.{Ghosts}
 use Rattle.dns_opt.specs.Options.{OptionItem}
 use Rattle.dns_opt.specs.declared.option.UnknownOptData.{UnknownOptData}

@@ -1,5 +1,5 @@
 -- The header of an OPT record: what its class and its TTL say. RFC 6891 sections 6.1.2 and 6.1.3.
-use Rattle.std.specs.Prelude.{ℕ, Bool, ◌/◌, ◌%◌, ◌==◌}
+use Rattle.std.specs.Prelude.{ℕ, Bool, ◌+◌, ◌*◌, ◌/◌, ◌%◌, ◌==◌, if◌then◌else◌}
 use Rattle.dns_opt.specs.declared.header.OptHeader.{OptHeader}
 
 -- what it says: the UDP payload size in octets, the eight higher bits of the rcode, the version, DO, and the 15 bits Z
@@ -19,6 +19,10 @@ fields_in class ttl = record {
   dnssec_ok = ttl / 32768 % 2 == 1;
   z = ttl % 32768;
 }
+
+-- the TTL that has these fields
+abbrev pub ttl_in : OptFields → ℕ
+ttl_in f = f.ext * 16777216 + f.version * 65536 + (if f.dnssec_ok then 32768 else 0) + f.z
 
 -- the class and the TTL of a header
 abbrev pub class_of : OptHeader → ℕ

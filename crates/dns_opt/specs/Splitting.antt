@@ -1,7 +1,6 @@
 -- How options are taken from the start of octets. RFC 6891 section 6.1.2.
-use Rattle.std.specs.Prelude.{◌≡◌, ℕ, List, Option, Some, None}
+use Rattle.std.specs.Prelude.{ℕ, List, Option, Some, None}
 use denote.Ref.{Bor}
-use Rattle.dns_number.specs.declared.option_code.OptionCode.{OptionCode}
 use Rattle.dns_opt.specs.Options.{OptionItem, OptionBegins}
 
 -- the first option and what is behind it, or none where no whole one begins

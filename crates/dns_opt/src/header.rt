@@ -1,7 +1,7 @@
 //! The header of an OPT record (RFC 6891 section 6.1.3).
 ghost use Rattle.std.specs.Prelude.{◌≡◌, ◌+◌, ◌*◌, ◌/◌};
 ghost use Rattle.dns_code.specs.Header.{fields as header_fields};
-ghost use Rattle.dns_opt.specs.OptHeader.{class_of, ttl_of, fields};
+ghost use Rattle.dns_opt.specs.OptHeader.{class_of, ttl_of, ttl_in, fields};
 
 use dns_code::{Class, Header, OptRcode};
 
@@ -34,7 +34,8 @@ impl OptHeader {
 
     /// The TTL of a record with this header, in seconds.
     pub fn ttl(self) -> u32
-        ensures { result ≡ ttl_of self }
+        ensures ttl { result ≡ ttl_of self }
+        ensures fields { result ≡ ttl_in (fields self) }
     {
         self.ttl
     }
@@ -95,43 +96,5 @@ impl OptHeader {
     {
         let higher = self.ttl / 0x1_0000;
         self.ttl = higher * 0x1_0000 + u32::from(set) * 0x8000 + self.ttl % 0x8000;
-    }
-}
-
-#[cfg(test)]
-mod tests {
-    use super::*;
-    use dns_code::Rcode;
-    use std::process::Abort;
-
-    #[test]
-    fn reads_the_fields(rt: HostRuntime) {
-        let mut message = Header::new();
-        message.set_rcode(Rcode::NXDOMAIN);
-        let header = OptHeader::from_fields(Class::from_int(1232), 0x0100_8000);
-        assert_eq!(rt; header.udp_payload_size(), 1232);
-        assert_eq!(rt; header.rcode(message).to_int(), 19);
-        assert_eq!(rt; header.version(), 0);
-        assert!(rt; header.dnssec_ok());
-    }
-
-    #[test]
-    fn changes_one_field_each(rt: HostRuntime) {
-        // All bits of Z are set, and stay.
-        let mut header = OptHeader::from_fields(Class::from_int(512), 0x7FFF);
-        header.set_udp_payload_size(1232);
-        if let Some(rcode) = OptRcode::checked_from_int(19) {
-            header.set_rcode(rcode);
-        }
-        header.set_dnssec_ok(true);
-        assert_eq!(rt; header.class().to_int(), 1232);
-        assert_eq!(rt; header.ttl(), 0x0100_FFFF);
-        header.set_version(2);
-        header.set_dnssec_ok(false);
-        assert_eq!(rt; header.ttl(), 0x0102_7FFF);
-        assert_eq!(rt;
-            OptHeader::default(),
-            OptHeader::from_fields(Class::from_int(0), 0)
-        );
     }
 }

@@ -3,3 +3,4 @@ pub mod Searches
 pub mod SectionStarts
 pub mod MessageIter
 pub mod RecordSearches
+pub mod OptSearches

@@ -9,6 +9,7 @@ mod error;
 mod holders;
 mod message;
 mod message_iter;
+mod opt_searches;
 mod record_searches;
 pub mod search_laws;
 mod searches;

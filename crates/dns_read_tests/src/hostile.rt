@@ -65,6 +65,7 @@ fn answers_the_fault_of_the_start(rt: HostRuntime) -> Result<(), Fail> {
         assert!(rt; message.canonical_name().is_none());
         assert!(rt; !message.contains_answer::<A>());
         assert!(rt; message.get_last_additional::<A>().is_none());
+        assert!(rt; message.opt().is_none());
     }
     Ok(())
 }

@@ -10,6 +10,8 @@ mod iterators;
 #[cfg(test)]
 mod messages;
 #[cfg(test)]
+mod opt_searches;
+#[cfg(test)]
 mod record_searches;
 #[cfg(test)]
 mod searches;

@@ -1,0 +1,115 @@
+//! The options of an OPT record (RFC 6891 section 6.1.2).
+ghost use Rattle.std.proofs.Common.{rules};
+ghost use Rattle.std.specs.Prelude.{◌≤◌, IsTrue, length, refl};
+ghost use Rattle.dns_opt.specs.OptionsOf.{are_options};
+
+use crate::record_data::{ComposeRecordData, ParseRecordData, RecordData};
+use dns_code::Rtype;
+use dns_opt::{OptionIter, are_options};
+use dns_wire::{AppendError, Composer, Octets, ParseError, Parser};
+use std::alloc::AllocError;
+
+/// The options of an OPT record, one behind the other, at most 65,535 octets (RFC 6891 section 6.1.2).
+#[derive(Debug, Drop)]
+pub struct Opt<Octs: Octets> {
+    octets: Octs,
+    ghost options: { IsTrue (are_options (Octs.octets octets)) },
+    ghost short: { length (Octs.octets octets) ≤ 65535 },
+}
+
+impl<Octs: Octets> Opt<Octs> {
+    ghost use Rattle.std.specs.Prelude.{◌≡◌, ◌↔◌, IfOk, IfErr, IsOk};
+    ghost use Rattle.dns_name.specs.Names.{fault_of};
+    ghost use Rattle.dns_name.specs.Names.Fault.{ShortInput};
+    ghost use Rattle.dns_opt.specs.OptionIter.{options_left};
+    ghost use Rattle.dns_data.specs.Opt.{opt_holder_of, opt_options, is_opt_data};
+
+    /// The data that the octets are. Octets that aren't a list of options, or too many, are `ShortInput`.
+    pub fn from_octets(octets: Octs) -> Result<Self, ParseError>
+        ensures octets { IfOk result (λ opt. opt_holder_of opt ≡ octets) }
+        ensures accepted { IsOk result ↔ IsTrue (is_opt_data (Octs.octets octets)) }
+        ensures fault { IfErr result (λ e. fault_of e ≡ ShortInput) }
+    {
+        let slice = octets.octets();
+        if slice.len() > 65535 || !are_options(slice) {
+            return Err(ParseError::ShortInput);
+        }
+        Ok(Opt { octets })
+    }
+
+    /// The holder of the octets.
+    pub fn data(&self) -> &Octs
+        ensures { result.now ≡ opt_holder_of self.now }
+    {
+        &self.octets
+    }
+
+    /// The options, each as its code and its octets.
+    pub fn iter(&self) -> OptionIter<'_>
+        ensures { options_left result ≡ opt_options self.now }
+    {
+        OptionIter::of_options(self.octets.octets())
+    }
+}
+
+impl<Octs: Octets> RecordData for Opt<Octs> {
+    ghost use Rattle.std.specs.Prelude.{[], ◌∷◌};
+    ghost use Rattle.dns_wire.specs.Parts.{Octets};
+    ghost use Rattle.dns_data.specs.Opt.{opt_octets};
+
+    ghost rtype_of = { λ _. 41 };
+
+    ghost parts = { λ opt. Octets (opt_octets opt) ∷ [] };
+
+    fn rtype(&self) -> Rtype {
+        Rtype::OPT
+    }
+}
+
+impl<Octs: Octets> ComposeRecordData for Opt<Octs> {
+    fn compose_rdata<T: Composer>(&self, target: &mut T) -> Result<(), AppendError> {
+        target.append_slice(self.octets.octets())
+    }
+
+    fn compose_canonical_rdata<T: Composer>(&self, target: &mut T) -> Result<(), AppendError> {
+        self.compose_rdata(target)
+    }
+}
+
+/// All octets up to the parser's end. Octets that `Opt::from_octets` refuses are `ShortInput`.
+impl<'a> ParseRecordData<'a> for Opt<&'a [u8]> {
+    ghost use Rattle.dns_data.specs.Opt.{opt_layout};
+    ghost use Rattle.dns_data.specs.RecordData.{only};
+
+    ghost layout = { only 41 opt_layout };
+
+    fn parse_rdata(rtype: Rtype, parser: &mut Parser<'a>) -> Result<Option<Self>, ParseError> {
+        if rtype != Rtype::OPT {
+            return Ok(None);
+        }
+        let octets = parser.peek(parser.remaining())?;
+        let opt = Opt::from_octets(octets)?;
+        parser.advance(octets.len())?;
+        Ok(Some(opt))
+    }
+
+    ghost laid_out = { λ opt. (_, refl, Prim.search rules) };
+}
+
+/// A clone of the holder. One that doesn't hold the same octets is answered by `AllocError`.
+impl<Octs: Octets + Clone> Clone for Opt<Octs> {
+    ghost use Rattle.std.specs.Prelude.{◌≡◌};
+    ghost use Rattle.dns_data.specs.Opt.{opt_octets};
+
+    ghost is_clone = { λ opt clone. opt_octets clone ≡ opt_octets opt };
+
+    fn clone(&self) -> Result<Self, AllocError> {
+        let octets = self.octets.clone()?;
+        if octets.octets() != self.octets.octets() {
+            return Err(AllocError);
+        }
+        Ok(Opt { octets })
+    }
+}
+
+impl<Octs: Octets + Copy> Copy for Opt<Octs> {}

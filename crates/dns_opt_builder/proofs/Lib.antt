@@ -1,0 +1,2 @@
+pub mod OptionListLemmas
+pub mod OptBuilderLemmas

@@ -1,0 +1,76 @@
+-- What a builder keeps true while its options grow.
+use Rattle.std.proofs.Common.{◌≡◌, ◌∙◌, ap, sym, subst, ℕ, ◌+◌, ◌<◌, ◌≤◌, List, [], ◌∷◌, ◌++◌, length, length-append, append-nil, arith, Vec, Global}
+use Rattle.std.proofs.lemmas.Grind.{flat_map-append}
+use Rattle.std.specs.Option.{option_map_or}
+use Rattle.std.specs.Prelude.{Option, Result, Ok, Err, is_some, IsTrue}
+use Rattle.dns_octets.specs.declared.error.AppendError.{AppendError}
+use Rattle.dns_octets.specs.declared.error.AppendError.TheVariants.{ShortBuf, OutOfMemory}
+use Rattle.dns_opt.specs.Options.{OptionItem, put_option, put_options}
+use Rattle.dns_opt.specs.OptionsOf.{options_of, are_options, options_in}
+use Rattle.dns_opt.proofs.OptionsLemmas.{one_more}
+use Rattle.dns_opt_builder.specs.declared.builder.OptBuilder.{OptBuilder}
+use Rattle.dns_opt_builder.specs.OptionLists.{AppendsOption}
+use Rattle.dns_opt_builder.specs.Gathered.{Gathered, gathered, option_octets}
+use Rattle.dns_opt_builder.specs.Additions.{Adds}
+
+-- what a builder keeps true of the octets of its options
+pub record AreKept (b : List ℕ) : Type 0 where
+  pub listed : IsTrue (are_options b)
+  pub whole : put_options (options_in b) ≡ b
+  pub short : length b ≤ 65535
+
+-- the second octets are kept, and have one option more than the first
+record Grown (x : OptionItem) (b c : List ℕ) : Type 0 where
+  kept : AreKept c
+  options : options_in c ≡ options_in b ++ x ∷ []
+
+grown : (x : OptionItem) (b c : List ℕ) → AreKept b → x.code < 65536 → length b + 4 + length x.octets ≤ 65535 → c ≡ b ++ put_option x → Grown x b c
+grown x b c h code fits is =
+    let long = ap length is ∙ length-append b (put_option x) in
+    let e = ap options_of is ∙ one_more b x h.listed (record { code = code; short = omega (arith, fits) }) in
+    let options : options_in c ≡ options_in b ++ x ∷ [] =
+    ap (λ (o : Option (List OptionItem)). option_map_or (λ (xs : List OptionItem). xs) o []) e in
+    let put : put_options (options_in b ++ x ∷ []) ≡ b ++ put_option x =
+    flat_map-append put_option (options_in b) (x ∷ [])
+    ∙ ap (λ (ys : List ℕ). put_options (options_in b) ++ ys) (append-nil (put_option x))
+    ∙ ap (λ (ys : List ℕ). ys ++ put_option x) h.whole in
+    record {
+      kept = record {
+        listed = ap (λ (o : Option (List OptionItem)). is_some o) e;
+        whole = ap put_options options ∙ put ∙ sym is;
+        short = omega (arith, long, fits);
+      };
+      options = options;
+    }
+
+of_builder : (builder : OptBuilder) → AreKept (option_octets builder)
+of_builder builder = record { listed = builder.listed; whole = builder.whole; short = builder.short }
+
+-- an append keeps what is true, whatever it answers
+pub kept : (x : OptionItem) (old : OptBuilder) (c : List ℕ) (r : Result (Unit {0}) AppendError) → x.code < 65536 → AppendsOption x (option_octets old) c r → AreKept c
+kept x old c (Ok _) code a = (grown x (option_octets old) c (of_builder old) code a.answer a.ok).kept
+kept x old c (Err e) code a = subst (λ (d : List ℕ). AreKept d) (sym a.err) (of_builder old)
+
+-- the builder with other octets
+abbrev pub holding : (old : OptBuilder) (list : Vec ℕ Global) → AreKept list.items → OptBuilder
+holding old list h = record {
+  header = old.header;
+  opt_header = old.opt_header;
+  octets = list;
+  listed = h.listed;
+  whole = h.whole;
+  short = h.short;
+}
+
+-- an append to the octets is one to the options
+pub adds : (x : OptionItem) (old : OptBuilder) (list : Vec ℕ Global) (r : Result (Unit {0}) AppendError) (code : x.code < 65536)
+    (a : AppendsOption x (option_octets old) list.items r) → Adds x old (holding old list (kept x old list.items r code a)) r
+adds x old list (Ok _) code a =
+    let g : List OptionItem → Gathered = λ xs. record (gathered old) { options = xs } in
+    (ap g (grown x (option_octets old) list.items (of_builder old) code a.answer a.ok).options, omega (arith, ap length old.whole, a.answer))
+adds x old list (Err ShortBuf) code a =
+    let g : List ℕ → Gathered = λ c. record (gathered old) { options = options_in c } in
+    (omega (arith, ap length old.whole, a.answer), ap g a.err)
+adds x old list (Err OutOfMemory) code a =
+    let g : List ℕ → Gathered = λ c. record (gathered old) { options = options_in c } in
+    (omega (arith, ap length old.whole, a.answer.0), ap g a.err)

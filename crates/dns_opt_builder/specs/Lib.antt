@@ -1,0 +1,4 @@
+pub mod OptionLists
+pub mod Gathered
+pub mod Additions
+pub mod KnownOptions

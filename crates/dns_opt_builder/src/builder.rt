@@ -1,0 +1,191 @@
+//! What is gathered for an OPT record (RFC 6891 section 6.1).
+ghost use Rattle.std.specs.Prelude.{◌≡◌, ◌≤◌, length, IsTrue};
+ghost use Rattle.dns_opt.specs.Options.{put_options};
+ghost use Rattle.dns_opt.specs.OptionsOf.{are_options, options_in};
+
+use crate::options::{
+    append_joined_option, append_numbers_option, append_option, append_zeros_option,
+};
+use dns_code::{Header, OptRcode, OptionCode};
+use dns_opt::{ComposeOptData, OptHeader};
+use dns_wire::AppendError;
+use std::alloc::Global;
+
+/// The fields and the options of an OPT record, and a copy of its message's header, for the lower bits of the rcode.
+///
+/// An option that is refused changes nothing. It is `ShortBuf` where the options would take more than 65,535 octets, and
+/// else `OutOfMemory`.
+#[derive(Debug, Drop)]
+pub struct OptBuilder {
+    header: Header,
+    opt_header: OptHeader,
+    octets: Vec<u8>,
+    ghost listed: { IsTrue (are_options octets.items) },
+    ghost whole: { put_options (options_in octets.items) ≡ octets.items },
+    ghost short: { length octets.items ≤ 65535 },
+}
+
+impl OptBuilder {
+    ghost use Rattle.std.specs.Prelude.{◌+◌, ◌*◌, ◌/◌, ◌%◌, [], ◌++◌, false, replicate};
+    ghost use Rattle.std.specs.Int.{to_be_bytes, w16};
+    ghost use Rattle.std.specs.List.{flat_map};
+    ghost use Rattle.dns_code.specs.Header.{fields as header_fields};
+    ghost use Rattle.dns_opt.specs.OptHeader.{fields as opt_fields};
+    ghost use Rattle.dns_opt_builder.specs.Gathered.{gathered, option_octets};
+    ghost use Rattle.dns_opt_builder.specs.Additions.{Adds};
+
+    /// A builder with the header of the message, whose other fields are 0 or false, and with no options.
+    pub fn new(alloc: Global, header: Header) -> Self
+        ensures header { (gathered result).header ≡ header_fields header }
+        ensures fields { (gathered result).fields ≡ record {
+          udp_payload_size = 0;
+          ext = 0;
+          version = 0;
+          dnssec_ok = false;
+          z = 0;
+        } }
+        ensures options { (gathered result).options ≡ [] }
+    {
+        OptBuilder {
+            header,
+            opt_header: OptHeader::default(),
+            octets: Vec::new(alloc),
+        }
+    }
+
+    /// The copy of the message's header, with the lower bits of the rcode.
+    pub fn header(&self) -> Header
+        ensures { header_fields result ≡ (gathered self.now).header }
+    {
+        self.header
+    }
+
+    /// What the class and the TTL of the record say.
+    pub fn opt_header(&self) -> OptHeader
+        ensures { opt_fields result ≡ (gathered self.now).fields }
+    {
+        self.opt_header
+    }
+
+    /// The octets of the options, one behind the other: the data of the record.
+    pub fn option_octets(&self) -> &[u8]
+        ensures octets { result.now ≡ option_octets self.now }
+        ensures options { result.now ≡ put_options (gathered self.now).options }
+        ensures short { length result.now ≤ 65535 }
+    {
+        self.octets.as_slice()
+    }
+
+    /// How many octets of a message the sender can take over UDP.
+    pub fn udp_payload_size(&self) -> u16
+        ensures { result ≡ (gathered self.now).fields.udp_payload_size }
+    {
+        self.opt_header.udp_payload_size()
+    }
+
+    /// Changes the UDP payload size.
+    pub fn set_udp_payload_size(&mut self, size: u16)
+        ensures { let old = gathered self.old in gathered self.new ≡
+            record old { fields = record old.fields { udp_payload_size = size } } }
+    {
+        self.opt_header.set_udp_payload_size(size);
+    }
+
+    /// The rcode, of which the lower four bits stand in the header.
+    pub fn rcode(&self) -> OptRcode
+        ensures { let all = gathered self.now in result ≡ all.fields.ext * 16 + all.header.rcode }
+    {
+        self.opt_header.rcode(self.header)
+    }
+
+    /// Changes the rcode, in the header and in the record.
+    pub fn set_rcode(&mut self, rcode: OptRcode)
+        ensures { let old = gathered self.old in gathered self.new ≡ record old {
+          header = record old.header { rcode = rcode % 16 };
+          fields = record old.fields { ext = rcode / 16 };
+        } }
+    {
+        self.header.set_rcode(rcode.rcode());
+        self.opt_header.set_rcode(rcode);
+    }
+
+    /// The version of EDNS.
+    pub fn version(&self) -> u8
+        ensures { result ≡ (gathered self.now).fields.version }
+    {
+        self.opt_header.version()
+    }
+
+    /// Changes the version.
+    pub fn set_version(&mut self, version: u8)
+        ensures { let old = gathered self.old in gathered self.new ≡
+            record old { fields = record old.fields { version = version } } }
+    {
+        self.opt_header.set_version(version);
+    }
+
+    /// Whether the sender can take DNSSEC's records (DO, RFC 3225).
+    pub fn dnssec_ok(&self) -> bool
+        ensures { result ≡ (gathered self.now).fields.dnssec_ok }
+    {
+        self.opt_header.dnssec_ok()
+    }
+
+    /// Changes DO.
+    pub fn set_dnssec_ok(&mut self, set: bool)
+        ensures { let old = gathered self.old in gathered self.new ≡
+            record old { fields = record old.fields { dnssec_ok = set } } }
+    {
+        self.opt_header.set_dnssec_ok(set);
+    }
+
+    /// Adds an option.
+    pub fn push<D: ComposeOptData>(&mut self, option: &D) -> Result<(), AppendError>
+        ensures { Adds (D.option option.now) self.old self.new result }
+    {
+        self.append(option.code().to_int(), option.octets())
+    }
+
+    /// Adds the option of this code with these octets.
+    pub fn push_raw_option(&mut self, code: OptionCode, octets: &[u8]) -> Result<(), AppendError>
+        ensures { Adds (record { code = code; octets = octets.now }) self.old self.new result }
+    {
+        self.append(code.to_int(), octets)
+    }
+
+    /// Adds the option of a code with these octets.
+    pub(crate) fn append(&mut self, code: u16, octets: &[u8]) -> Result<(), AppendError>
+        ensures { Adds (record { code = code; octets = octets.now }) self.old self.new result }
+    {
+        append_option(&mut self.octets, code, octets)
+    }
+
+    /// Adds the option of a code with the octets of both.
+    pub(crate) fn append_joined(
+        &mut self,
+        code: u16,
+        first: &[u8],
+        rest: &[u8],
+    ) -> Result<(), AppendError>
+        ensures { Adds (record { code = code; octets = first.now ++ rest.now })
+            self.old self.new result }
+    {
+        append_joined_option(&mut self.octets, code, first, rest)
+    }
+
+    /// Adds the option of a code with so many octets that are zero.
+    pub(crate) fn append_zeros(&mut self, code: u16, count: u16) -> Result<(), AppendError>
+        ensures { Adds (record { code = code; octets = replicate count 0 })
+            self.old self.new result }
+    {
+        append_zeros_option(&mut self.octets, code, count)
+    }
+
+    /// Adds the option of a code with numbers of two octets each.
+    pub(crate) fn append_numbers(&mut self, code: u16, numbers: &[u16]) -> Result<(), AppendError>
+        ensures { Adds (record { code = code; octets = flat_map (to_be_bytes w16) numbers.now })
+            self.old self.new result }
+    {
+        append_numbers_option(&mut self.octets, code, numbers)
+    }
+}

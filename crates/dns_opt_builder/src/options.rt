@@ -1,0 +1,106 @@
+//! Lists of options that grow (RFC 6891 section 6.1.2). What is refused changes nothing.
+ghost use Rattle.std.specs.Prelude.{◌≡◌, ◌+◌, ◌≤◌, ◌++◌, length, vec_len, vec_capacity, OnOk, OnErr, Some, true, replicate};
+ghost use Rattle.std.specs.Int.{to_be_bytes, w16};
+ghost use Rattle.std.specs.List.{flat_map};
+ghost use Rattle.dns_wire.specs.Targets.{Answers};
+ghost use Rattle.dns_opt_builder.specs.OptionLists.{AppendsOption};
+
+use dns_wire::AppendError;
+
+/// The most octets that a list of options can have: they are the data of one record.
+const MOST_OCTETS: usize = 65_535;
+
+/// How many octets stand before those of an option: its code and its length.
+const HEAD_LEN: usize = 4;
+
+/// Appends an option.
+pub(crate) fn append_option(list: &mut Vec<u8>, code: u16, octets: &[u8]) -> Result<(), AppendError>
+    requires { length list.old.items ≤ 65535 }
+    ensures { AppendsOption (record { code = code; octets = octets.now })
+        list.old.items list.new.items result }
+{
+    begin_option(list, code, octets.len())?;
+    append_reserved(list, octets);
+    Ok(())
+}
+
+/// Appends an option with the octets of both.
+pub(crate) fn append_joined_option(
+    list: &mut Vec<u8>,
+    code: u16,
+    first: &[u8],
+    rest: &[u8],
+) -> Result<(), AppendError>
+    requires { length list.old.items ≤ 65535 }
+    ensures { AppendsOption (record { code = code; octets = first.now ++ rest.now })
+        list.old.items list.new.items result }
+{
+    begin_option(list, code, first.len() + rest.len())?;
+    append_reserved(list, first);
+    append_reserved(list, rest);
+    Ok(())
+}
+
+/// Appends an option with so many octets that are zero.
+pub(crate) fn append_zeros_option(
+    list: &mut Vec<u8>,
+    code: u16,
+    count: u16,
+) -> Result<(), AppendError>
+    requires { length list.old.items ≤ 65535 }
+    ensures { AppendsOption (record { code = code; octets = replicate count 0 })
+        list.old.items list.new.items result }
+{
+    let count = usize::from(count);
+    begin_option(list, code, count)?;
+    list.resize(list.len() + count, 0).unwrap();
+    Ok(())
+}
+
+/// Appends an option with numbers of two octets each.
+#[tactic(auto, using(crate::proofs::OptionListLemmas::numbers_length))]
+pub(crate) fn append_numbers_option(
+    list: &mut Vec<u8>,
+    code: u16,
+    numbers: &[u16],
+) -> Result<(), AppendError>
+    requires { length list.old.items ≤ 65535 }
+    ensures { AppendsOption
+        (record { code = code; octets = flat_map (to_be_bytes w16) numbers.now })
+        list.old.items list.new.items result }
+{
+    begin_option(list, code, numbers.len() * 2)?;
+    for number in numbers {
+        append_reserved(list, &number.to_be_bytes());
+    }
+    Ok(())
+}
+
+/// Appends the code and the length of an option of so many octets, with memory for these.
+fn begin_option(list: &mut Vec<u8>, code: u16, len: usize) -> Result<(), AppendError>
+    requires { length list.old.items ≤ 65535 }
+    ensures head { OnOk result (list.new.items ≡
+        list.old.items ++ (to_be_bytes w16 code ++ to_be_bytes w16 len)) }
+    ensures reserved { OnOk result (vec_len list.new + len ≤ vec_capacity list.new) }
+    ensures err { OnErr result (list.new.items ≡ list.old.items) }
+    ensures answer { Answers (Some 65535) true (length list.old.items + 4 + len) result }
+{
+    let room = MOST_OCTETS - list.len();
+    if room < HEAD_LEN || len > room - HEAD_LEN {
+        return Err(AppendError::ShortBuf);
+    }
+    list.reserve(HEAD_LEN + len)?;
+    append_reserved(list, &code.to_be_bytes());
+    append_reserved(list, &(len as u16).to_be_bytes());
+    Ok(())
+}
+
+/// Appends octets for which there is memory.
+fn append_reserved(list: &mut Vec<u8>, octets: &[u8])
+    requires { vec_len list.old + length octets.now ≤ vec_capacity list.old }
+    ensures items { list.new.items ≡ list.old.items ++ octets.now }
+    ensures len { vec_len list.new ≡ vec_len list.old + length octets.now }
+    ensures capacity { vec_capacity list.old ≤ vec_capacity list.new }
+{
+    list.extend_from_slice(octets).unwrap();
+}

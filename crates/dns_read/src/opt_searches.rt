@@ -1,0 +1,48 @@
+//! What the OPT record of a message says (RFC 6891 section 6.1).
+ghost use Rattle.std.specs.Prelude.{◌≡◌, option_map, option_and_then};
+ghost use Rattle.dns_item.specs.OptRecord.{opt_item};
+ghost use Rattle.dns_section.specs.RecordSection.{records_left};
+ghost use Rattle.dns_read.specs.Message.{message_octets};
+ghost use Rattle.dns_read.specs.OptSearches.{first_opt_in, opt_said, opt_of, opt_rcode_of};
+
+use crate::message::Message;
+use dns_code::OptRcode;
+use dns_data::Opt;
+use dns_item::OptRecord;
+use dns_section::RecordSection;
+use dns_wire::Octets;
+
+impl<Octs: Octets> Message<Octs> {
+    /// The first OPT record of the additional section. There is none where its data is faulty, or an entry before it can't be
+    /// read.
+    pub fn opt(&self) -> Option<OptRecord<&[u8]>>
+        ensures { option_map opt_item result ≡ opt_of (message_octets self.now) }
+    {
+        match self.additional() {
+            Ok(section) => first_opt(section),
+            Err(_) => None,
+        }
+    }
+
+    /// The rcode: its lower four bits stand in the header, the higher eight in the record that `opt` gives. They are zero
+    /// where there is none.
+    pub fn opt_rcode(&self) -> OptRcode
+        ensures { result ≡ opt_rcode_of (message_octets self.now) }
+    {
+        match self.opt() {
+            Some(opt) => opt.rcode(self.header()),
+            None => OptRcode::from(self.header().rcode()),
+        }
+    }
+}
+
+/// The first OPT record of a section, if it is before each fault.
+fn first_opt<'a>(section: RecordSection<'a>) -> Option<OptRecord<&'a [u8]>>
+    ensures { option_map opt_item result
+        ≡ option_and_then opt_said (first_opt_in (records_left section.entry)) }
+{
+    match section.limit_to::<Opt<&[u8]>>().next() {
+        Some(Ok(record)) => Some(OptRecord::from(record)),
+        Some(Err(_)) | None => None,
+    }
+}
