@@ -4,3 +4,5 @@ pub mod Sections
 pub mod FoldReading
 pub mod Moves
 pub mod Steps
+pub mod OptLemmas
+pub mod OptReading

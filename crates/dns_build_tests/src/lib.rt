@@ -12,4 +12,6 @@ mod building;
 #[cfg(test)]
 mod compressors;
 #[cfg(test)]
+mod opts;
+#[cfg(test)]
 mod stream;

@@ -11,12 +11,12 @@ use Rattle.dns_item.specs.declared.opt_record.OptRecord.{OptRecord}
 
 -- what an OPT record says: the fields of its class and its TTL, and its options
 pub record OptItem : Type 0 where
-  pub header : OptFields
+  pub fields : OptFields
   pub options : List OptionItem
 
 -- what a class, a TTL and the octets of data say
 abbrev pub opt_item_in : ℕ → ℕ → List ℕ → OptItem
-opt_item_in class ttl octets = record { header = fields_in class ttl; options = options_in octets }
+opt_item_in class ttl octets = record { fields = fields_in class ttl; options = options_in octets }
 
 module _ {X : Type 0} {holds : Ghosts X} where
   -- the class, the TTL and the data

@@ -21,28 +21,28 @@ pub struct OptRecord<Octs: Octets> {
 impl<Octs: Octets> OptRecord<Octs> {
     /// How many octets of a message the sender can take over UDP.
     pub fn udp_payload_size(&self) -> u16
-        ensures { result ≡ (opt_item self.now).header.udp_payload_size }
+        ensures { result ≡ (opt_item self.now).fields.udp_payload_size }
     {
         self.header.udp_payload_size()
     }
 
     /// The rcode, of which the lower four bits stand in the header of the message.
     pub fn rcode(&self, header: Header) -> OptRcode
-        ensures { result ≡ (opt_item self.now).header.ext * 16 + (header_fields header).rcode }
+        ensures { result ≡ (opt_item self.now).fields.ext * 16 + (header_fields header).rcode }
     {
         self.header.rcode(header)
     }
 
     /// The version of EDNS.
     pub fn version(&self) -> u8
-        ensures { result ≡ (opt_item self.now).header.version }
+        ensures { result ≡ (opt_item self.now).fields.version }
     {
         self.header.version()
     }
 
     /// Whether the sender can take DNSSEC's records (DO, RFC 3225).
     pub fn dnssec_ok(&self) -> bool
-        ensures { result ≡ (opt_item self.now).header.dnssec_ok }
+        ensures { result ≡ (opt_item self.now).fields.dnssec_ok }
     {
         self.header.dnssec_ok()
     }

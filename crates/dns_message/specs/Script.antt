@@ -1,16 +1,21 @@
 -- What a list of calls makes of a builder, by the replies to them. RFC 1035 section 4.1.
-use Rattle.std.specs.Prelude.{◌≡◌, ℕ, Bool, true, false, Option, Ok, Err, List, [], ◌∷◌, ◌++◌, length, ⊤}
+use Rattle.std.specs.Prelude.{◌≡◌, ℕ, Bool, true, false, Option, Result, Ok, Err, List, [], ◌∷◌, ◌++◌, length, ⊤}
+use Rattle.dns_octets.specs.declared.error.AppendError.{AppendError}
 use Rattle.dns_wire.specs.Pieces.{Rule}
+use Rattle.dns_opt_builder.specs.Gathered.{Gathered, IsGathered}
 use Rattle.dns_question.specs.Questions.{QuestionItem}
 use Rattle.dns_item.specs.Items.{RecordItem}
 use Rattle.dns_build.specs.Standing.{Built, PushAnswers, StandsFor}
 use Rattle.dns_build.specs.State.{fold, State, InBuilder, InQuestion, InAnswer, InAuthority, InAdditional, with_question, with_record, records_at, with_header, with_limit, no_limit, rewound, tc_rewound, move_to}
 use Rattle.dns_build.specs.MessageOf.{IsMessageOf}
+use Rattle.dns_build.specs.Opt.{opt_record, with_opt, OptAnswers}
+use Rattle.dns_build.specs.declared.push_error.PushError.{PushError}
 use Rattle.dns_build.specs.State as state
+use Rattle.dns_message.specs.OptPlans.{planned_beside, AddsAll}
 use Rattle.dns_message.specs.declared.script.Stage.{Stage}
 use Rattle.dns_message.specs.declared.script.Stage.TheVariants.{Builder, Question, Answer, Authority, Additional}
 use Rattle.dns_message.specs.declared.script.Call.{Call}
-use Rattle.dns_message.specs.declared.script.Call.TheVariants.{PushQuestion, PushRecord, Rewind, TcRewind, ToBuilder, ToQuestion, ToAnswer, ToAuthority, ToAdditional, SetHeader, SetLimit, ClearLimit}
+use Rattle.dns_message.specs.declared.script.Call.TheVariants.{PushQuestion, PushRecord, PushOpt, Rewind, TcRewind, ToBuilder, ToQuestion, ToAnswer, ToAuthority, ToAdditional, SetHeader, SetLimit, ClearLimit}
 use Rattle.dns_message.specs.declared.script.Reply.{Reply}
 use Rattle.dns_message.specs.declared.script.Reply.TheVariants.{Done, Refused, Misplaced}
 
@@ -46,6 +51,11 @@ lacks InQuestion (PushRecord x) = true
 lacks InAnswer (PushRecord x) = false
 lacks InAuthority (PushRecord x) = false
 lacks InAdditional (PushRecord x) = false
+lacks InBuilder (PushOpt plan) = true
+lacks InQuestion (PushOpt plan) = true
+lacks InAnswer (PushOpt plan) = true
+lacks InAuthority (PushOpt plan) = true
+lacks InAdditional (PushOpt plan) = false
 lacks InBuilder Rewind = true
 lacks InQuestion Rewind = false
 lacks InAnswer Rewind = false
@@ -69,6 +79,7 @@ lacks stage ClearLimit = false
 abbrev pub is_move : {Q R : Type 0} → Call Q R → Bool
 is_move (PushQuestion x) = false
 is_move (PushRecord x) = false
+is_move (PushOpt plan) = false
 is_move Rewind = false
 is_move TcRewind = false
 is_move ToBuilder = true
@@ -80,10 +91,35 @@ is_move (SetHeader header) = false
 is_move (SetLimit limit) = false
 is_move ClearLimit = false
 
+-- Whether a call pushes an OPT record.
+abbrev pub is_opt : {Q R : Type 0} → Call Q R → Bool
+is_opt (PushQuestion x) = false
+is_opt (PushRecord x) = false
+is_opt (PushOpt plan) = true
+is_opt Rewind = false
+is_opt TcRewind = false
+is_opt ToBuilder = false
+is_opt ToQuestion = false
+is_opt ToAnswer = false
+is_opt ToAuthority = false
+is_opt ToAdditional = false
+is_opt (SetHeader header) = false
+is_opt (SetLimit limit) = false
+is_opt ClearLimit = false
+
+-- Whether it does so where OPT records are pushed: at the additional section.
+abbrev pub has_opt : {Q R : Type 0} → state.Stage → Call Q R → Bool
+has_opt InBuilder call = false
+has_opt InQuestion call = false
+has_opt InAnswer call = false
+has_opt InAuthority call = false
+has_opt InAdditional call = is_opt call
+
 -- Whether a call changes the header or the limit, and nothing else.
 abbrev pub is_setting : {Q R : Type 0} → Call Q R → Bool
 is_setting (PushQuestion x) = false
 is_setting (PushRecord x) = false
+is_setting (PushOpt plan) = false
 is_setting Rewind = false
 is_setting TcRewind = false
 is_setting ToBuilder = false
@@ -100,6 +136,7 @@ module _ {Q R : Type 0} (question : Q → QuestionItem) (item : R → RecordItem
   abbrev pub after : State → Call Q R → Reply → State
   after s (PushQuestion x) Done = with_question (question x) s
   after s (PushRecord x) Done = with_record s.stage (item x) s
+  after s (PushOpt plan) Done = with_opt (planned_beside s.header plan) s
   after s Rewind Done = rewound s.stage s
   after s TcRewind Done = tc_rewound s.stage s
   after s ToBuilder Done = move_to InBuilder s
@@ -120,17 +157,29 @@ module _ {Q R : Type 0} (question : Q → QuestionItem) (item : R → RecordItem
   after_all s (call ∷ calls) (reply ∷ replies) = after_all (after s call reply) calls replies
 
 module _ (room : Option ℕ) (grows : Bool) where
+  -- the reply to a push whose result is this
+  abbrev pub IsReplyBy : (Result (Unit {0}) PushError → Type 0) → Reply → Type 0
+  IsReplyBy Answers Done = Answers (Ok tt)
+  IsReplyBy Answers (Refused error) = Answers (Err error)
+  IsReplyBy Answers Misplaced = ⊥
+
   -- the reply to a push, after which the message would have n octets, where so many entries are counted
   abbrev pub IsPushReply : ℕ → ℕ → ℕ → Reply → Type 0
-  IsPushReply limit n count Done = PushAnswers room grows limit n count (Ok tt)
-  IsPushReply limit n count (Refused error) = PushAnswers room grows limit n count (Err error)
-  IsPushReply limit n count Misplaced = ⊥
+  IsPushReply limit n count = IsReplyBy (PushAnswers room grows limit n count)
+
+  -- the reply to a push of an OPT record: that of gathering its options where this is refused, else that of a push
+  pub record IsOptReply (g : Gathered) (limit n count : ℕ) (reply : Reply) : Type 0 where
+    pub gathering : Result (Unit {0}) AppendError
+    pub adds : AddsAll 0 g.options gathering
+    pub answers : IsReplyBy (OptAnswers room grows limit n count gathering) reply
+    pub is_gathered : reply ≡ Done → IsGathered g
 
   module _ {Q R : Type 0} (question : Q → QuestionItem) (item : R → RecordItem) (rule : Rule) where
     -- the reply to a call that the stage has
     abbrev pub IsAnswer : State → Call Q R → Reply → Type 0
     IsAnswer s (PushQuestion x) reply = IsPushReply s.limit (length (fold rule (with_question (question x) s)).octets) (length s.questions) reply
     IsAnswer s (PushRecord x) reply = IsPushReply s.limit (length (fold rule (with_record s.stage (item x) s)).octets) (length (records_at s.stage s)) reply
+    IsAnswer s (PushOpt plan) reply = let g = planned_beside s.header plan in IsOptReply g s.limit (length (fold rule (with_record InAdditional (opt_record g) s)).octets) (length s.additionals) reply
     IsAnswer s Rewind reply = reply ≡ Done
     IsAnswer s TcRewind reply = reply ≡ Done
     IsAnswer s ToBuilder reply = reply ≡ Done

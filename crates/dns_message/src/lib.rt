@@ -12,7 +12,7 @@ pub mod builder {
     //! Builders of messages, and theorems on what they build.
     pub use dns_build::{
         AdditionalBuilder, AnswerBuilder, AtAdditional, AtAnswer, AtAuthority, AtBuilder,
-        AtQuestion, AuthorityBuilder, Builder, BuilderStage, MessageBuilder, PushError,
+        AtQuestion, AuthorityBuilder, Builder, BuilderStage, MessageBuilder, OptBuilder, PushError,
         QuestionBuilder, RecordSectionBuilder, RecordStage, laws,
     };
 }
@@ -63,6 +63,8 @@ pub mod data {
 mod fault;
 mod hex;
 mod line;
+mod opt_line;
+mod opt_plan;
 mod output;
 mod program;
 mod record_line;

@@ -6,9 +6,9 @@ ghost use Rattle.std.specs.Str.Parse.{IsNumeral, digits_value};
 ghost use Rattle.dns_code.specs.Header.{fields};
 ghost use Rattle.dns_message.specs.Lines.{IsPassedOver, changed};
 
-use crate::record_line;
 use crate::record_line::ScriptRecord;
 use crate::script::{Call, Stage};
+use crate::{opt_line, record_line};
 use dns_code::{Flags, Header, Opcode, Rcode};
 use dns_item::Question;
 use dns_item::question::FromStrError;
@@ -18,7 +18,7 @@ use std::str;
 use std::str::FromStr;
 
 /// The characters between the words of a line.
-pub(crate) const BLANKS: [char; 2] = [' ', '\t'];
+const BLANKS: [char; 2] = [' ', '\t'];
 
 /// A call of a script.
 pub(crate) type ScriptCall = Call<Question<Name<Vec<u8>>>, ScriptRecord>;
@@ -78,6 +78,7 @@ fn call_of_text<T: Composer>(
     let (word, rest) = first_word(text);
     match word {
         "push" => push_of(alloc, stage, rest),
+        "opt" => Ok(opt_line::plan(alloc, rest)?.map(Call::PushOpt)),
         "limit" => Ok(number(rest, usize::MAX).map(Call::SetLimit)),
         "flags" => Ok(header_call(stage, flags_change(alloc, rest)?)),
         "id" | "opcode" | "rcode" => Ok(header_call(stage, number_change(word, rest))),
@@ -161,6 +162,13 @@ fn push_of_question(alloc: Global, question: &str) -> Result<Option<ScriptCall>,
         Err(FromStrError::OutOfMemory) => Err(AllocError),
         Err(_) => Ok(None),
     }
+}
+
+/// The words of a text.
+pub(crate) fn words(alloc: Global, text: &str) -> Result<Vec<&str>, AllocError> {
+    text.split(BLANKS)
+        .filter(|word| !word.is_empty())
+        .collect(alloc)
 }
 
 /// The number that decimal digits write, `None` above `most` and for any other text.

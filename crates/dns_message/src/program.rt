@@ -208,7 +208,7 @@ fn follow<T: Composer, W: Write>(
     let Some(call) = line::call_of(alloc, &stage, line)? else {
         return Err(Fault::BadLine(number));
     };
-    let (stage, reply) = make(stage, call, replies)?;
+    let (stage, reply) = make(alloc, stage, call, replies)?;
     let len = stage.as_slice().len();
     match reply {
         Reply::Done => output::print_done(writer, len)?,
@@ -220,12 +220,13 @@ fn follow<T: Composer, W: Write>(
 
 /// Makes one call, and gives the reply, which is the only one in `replies` then.
 fn make<T: Composer>(
+    alloc: Global,
     stage: Stage<T>,
     call: ScriptCall,
     replies: &mut Vec<Reply>,
 ) -> Result<(Stage<T>, Reply), AllocError> {
     replies.clear();
-    match run(stage, &[call], replies) {
+    match run(alloc, stage, &[call], replies) {
         Ok(stage) => Ok((stage, replies[0])),
         Err(_) => Err(AllocError),
     }

@@ -1,6 +1,6 @@
 //! Records in the lines of a script.
 use crate::hex;
-use crate::line::{BLANKS, number};
+use crate::line::{number, words};
 use crate::script_data::ScriptData;
 use dns_code::{Class, Rtype};
 use dns_data::{A, Cname, Ns, Soa, UnknownRecordData};
@@ -15,10 +15,7 @@ pub(crate) type ScriptRecord = Record<Name<Vec<u8>>, ScriptData>;
 
 /// The record whose owner, TTL, class, type and data are the words of a text, `None` where they are no record.
 pub(crate) fn record(alloc: Global, text: &str) -> Result<Option<ScriptRecord>, AllocError> {
-    let words: Vec<&str> = text
-        .split(BLANKS)
-        .filter(|word| !word.is_empty())
-        .collect(alloc)?;
+    let words = words(alloc, text)?;
     let [owner, ttl, class, rtype, data @ ..] = words.as_slice() else {
         return Ok(None);
     };

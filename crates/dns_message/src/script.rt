@@ -1,8 +1,9 @@
 //! Lists of calls on the builders of a message.
 ghost use Rattle.std.specs.Prelude.{◌≡◌, true, false, IfOk, IfErr, OnErr, MatchResult};
-ghost use Rattle.dns_build.specs.State.{InQuestion};
-ghost use Rattle.dns_message.specs.Script.{Steps, StepsFrom, Stays, is_move, is_setting, RunsAll, octets_of};
+ghost use Rattle.dns_build.specs.State.{InQuestion, InAdditional};
+ghost use Rattle.dns_message.specs.Script.{Steps, StepsFrom, Stays, is_move, is_setting, has_opt, RunsAll, octets_of};
 
+pub use crate::opt_plan::OptPlan;
 use dns_build::laws::folds_are_messages;
 use dns_build::{
     AdditionalBuilder, AnswerBuilder, AuthorityBuilder, Builder, BuilderStage, MessageBuilder,
@@ -11,6 +12,7 @@ use dns_build::{
 use dns_code::Header;
 use dns_item::{ComposeQuestion, ComposeRecord};
 use dns_wire::Composer;
+use std::alloc::Global;
 
 /// A builder at one of its stages.
 #[derive(Debug, Drop)]
@@ -28,12 +30,14 @@ pub enum Stage<T: Composer> {
 }
 
 /// A call on a builder.
-#[derive(Clone, Copy, Debug, Drop)]
+#[derive(Debug, Drop)]
 pub enum Call<Q, R> {
     /// Pushes a question.
     PushQuestion(Q),
     /// Pushes a record into the section.
     PushRecord(R),
+    /// Pushes an OPT record into the additional section.
+    PushOpt(OptPlan),
     /// Takes out all items of the section.
     Rewind,
     /// Takes out all records of the section, and sets TC.
@@ -149,12 +153,13 @@ fn stay_in_questions<T: Composer, Q: ComposeQuestion, R: ComposeRecord>(
     }
 }
 
-/// A call that is no move on the builder of a record section, and the reply.
+/// A call that is no move on the builder of a record section, and the reply. That of an OPT record is made elsewhere.
 fn stay_in_records<T: Composer, S: RecordStage, Q: ComposeQuestion, R: ComposeRecord>(
     mut builder: Builder<T, S>,
     call: &Call<Q, R>,
 ) -> (Builder<T, S>, Reply)
-    ensures { is_move call.now ≡ false → Stays T.room T.grows Q.question R.item T.rule
+    ensures { is_move call.now ≡ false → has_opt S.stage call.now ≡ false
+        → Stays T.room T.grows Q.question R.item T.rule
         S.stage builder call.now result.1 result.0 }
 {
     match call {
@@ -168,6 +173,24 @@ fn stay_in_records<T: Composer, S: RecordStage, Q: ComposeQuestion, R: ComposeRe
             let reply = set(&mut builder, call);
             (builder, reply)
         }
+    }
+}
+
+/// A call that is no move on the builder of the additional section, and the reply.
+fn stay_in_additional<T: Composer, Q: ComposeQuestion, R: ComposeRecord>(
+    alloc: Global,
+    mut builder: AdditionalBuilder<T>,
+    call: &Call<Q, R>,
+) -> (AdditionalBuilder<T>, Reply)
+    ensures { is_move call.now ≡ false → Stays T.room T.grows Q.question R.item T.rule
+        InAdditional builder call.now result.1 result.0 }
+{
+    match call {
+        Call::PushOpt(plan) => {
+            let reply = reply_of(builder.opt(alloc, |gathered| plan.gather(gathered)));
+            (builder, reply)
+        }
+        _ => stay_in_records(builder, call),
     }
 }
 
@@ -192,6 +215,7 @@ fn go<T: Composer, Q: ComposeQuestion, R: ComposeRecord>(
 
 /// A call that is no move on a stage, and the reply.
 fn stay<T: Composer, Q: ComposeQuestion, R: ComposeRecord>(
+    alloc: Global,
     stage: Stage<T>,
     call: &Call<Q, R>,
 ) -> (Stage<T>, Reply)
@@ -216,7 +240,7 @@ fn stay<T: Composer, Q: ComposeQuestion, R: ComposeRecord>(
             (Stage::Authority(builder), reply)
         }
         Stage::Additional(builder) => {
-            let (builder, reply) = stay_in_records(builder, call);
+            let (builder, reply) = stay_in_additional(alloc, builder, call);
             (Stage::Additional(builder), reply)
         }
     }
@@ -224,6 +248,7 @@ fn stay<T: Composer, Q: ComposeQuestion, R: ComposeRecord>(
 
 /// A call on a stage, and the reply.
 fn step<T: Composer, Q: ComposeQuestion, R: ComposeRecord>(
+    alloc: Global,
     stage: Stage<T>,
     call: &Call<Q, R>,
 ) -> (Stage<T>, Reply)
@@ -232,7 +257,7 @@ fn step<T: Composer, Q: ComposeQuestion, R: ComposeRecord>(
 {
     match go(stage, call) {
         Ok(next) => (next, Reply::Done),
-        Err(same) => stay(same, call),
+        Err(same) => stay(alloc, same, call),
     }
 }
 
@@ -240,6 +265,7 @@ fn step<T: Composer, Q: ComposeQuestion, R: ComposeRecord>(
 ///
 /// Room for the replies is taken first. Where that is refused the stage is given back unchanged, with no reply.
 pub fn run<T: Composer, Q: ComposeQuestion, R: ComposeRecord>(
+    alloc: Global,
     stage: Stage<T>,
     calls: &[Call<Q, R>],
     replies: &mut Vec<Reply>,
@@ -255,7 +281,7 @@ pub fn run<T: Composer, Q: ComposeQuestion, R: ComposeRecord>(
     }
     let mut stage = stage;
     for call in calls {
-        let (next, reply) = step(stage, call);
+        let (next, reply) = step(alloc, stage, call);
         stage = next;
         replies.push_reserved(reply);
     }

@@ -1,5 +1,5 @@
 -- What the list of options is that octets are.
-use Rattle.std.proofs.Common.{◌≡◌, ◌∙◌, ap, sym, refl, subst, ℕ, ◌<◌, ◌⊎◌, inl, inr, Bool, true, false, List, [], ◌∷◌, ◌++◌, append_assoc, append-nil, length, arith}
+use Rattle.std.proofs.Common.{◌≡◌, ◌∙◌, ap, sym, refl, subst, ℕ, ◌<◌, ◌⊎◌, inl, inr, true, false, List, [], ◌∷◌, ◌++◌, append_assoc, append-nil, length, length-append, length-drop, arith}
 use Rattle.std.specs.Option.{option_map_or}
 use Rattle.std.specs.Prelude.{Option, Some, None, is_some, IsSome}
 use Rattle.std.proofs.lemmas.List.Elements.{All-head, All-tail}
@@ -133,3 +133,16 @@ pub one_more : (b : List ℕ) (x : OptionItem) → IsSome (options_of b) → IsO
 one_more b x some is =
     let one : AreOptions (put_option x) (x ∷ []) = subst (λ (c : List ℕ). AreOptions c (x ∷ [])) (append-nil (put_option x)) ([], put_begins x [] is, refl) in
     options_of-is (b ++ put_option x) (options_in b ++ x ∷ []) (options_joined b (put_option x) (options_in b) (x ∷ []) (listed_are b some) one)
+
+-- options that are put have as many octets as those that they are read from
+put_length : (b : List ℕ) (xs : List OptionItem) → AreOptions b xs → length (put_options xs) ≡ length b
+put_length b [] h = sym (ap length h)
+put_length b (x ∷ xs) h =
+    let rest = put_length h.0 xs h.2 in
+    let there = h.1.there in
+    let behind = ap length h.1.octets ∙ length-append x.octets h.0 in
+    omega (arith, rest, there, behind, length-drop 4 b, length-append (put_option x) (put_options xs))
+
+-- the same of octets that are a list of options, and of the options in them
+pub options_length : (b : List ℕ) → IsSome (options_of b) → length (put_options (options_in b)) ≡ length b
+options_length b some = put_length b (options_in b) (listed_are b some)

@@ -1,16 +1,19 @@
 -- What a builder keeps true while its options grow.
-use Rattle.std.proofs.Common.{◌≡◌, ◌∙◌, ap, sym, subst, ℕ, ◌+◌, ◌<◌, ◌≤◌, List, [], ◌∷◌, ◌++◌, length, length-append, append-nil, arith, Vec, Global}
+use Rattle.std.proofs.Common.{◌≡◌, ◌∙◌, ap, sym, refl, subst, ℕ, ◌+◌, ◌<◌, ◌≤◌, List, [], ◌∷◌, ◌++◌, length, length-append, append_assoc, append-nil, arith, Vec, Global}
 use Rattle.std.proofs.lemmas.Grind.{flat_map-append}
 use Rattle.std.specs.Option.{option_map_or}
 use Rattle.std.specs.Prelude.{Option, Result, Ok, Err, is_some, IsTrue}
+use Rattle.dns_code.specs.Header.{fields as header_fields}
+use Rattle.dns_code.specs.declared.header.Header.{Header}
 use Rattle.dns_octets.specs.declared.error.AppendError.{AppendError}
 use Rattle.dns_octets.specs.declared.error.AppendError.TheVariants.{ShortBuf, OutOfMemory}
 use Rattle.dns_opt.specs.Options.{OptionItem, put_option, put_options}
 use Rattle.dns_opt.specs.OptionsOf.{options_of, are_options, options_in}
-use Rattle.dns_opt.proofs.OptionsLemmas.{one_more}
+use Rattle.dns_opt.specs.OptHeader.{fields_in}
+use Rattle.dns_opt.proofs.OptionsLemmas.{one_more, options_of-nil}
 use Rattle.dns_opt_builder.specs.declared.builder.OptBuilder.{OptBuilder}
 use Rattle.dns_opt_builder.specs.OptionLists.{AppendsOption}
-use Rattle.dns_opt_builder.specs.Gathered.{Gathered, gathered, option_octets}
+use Rattle.dns_opt_builder.specs.Gathered.{Gathered, gathered, nothing_gathered, option_octets}
 use Rattle.dns_opt_builder.specs.Additions.{Adds}
 
 -- what a builder keeps true of the octets of its options
@@ -74,3 +77,46 @@ adds x old list (Err ShortBuf) code a =
 adds x old list (Err OutOfMemory) code a =
     let g : List ℕ → Gathered = λ c. record (gathered old) { options = options_in c } in
     (omega (arith, ap length old.whole, a.answer.0), ap g a.err)
+
+-- what a builder has gathered, and behind its options those that are left
+abbrev pub with_left : OptBuilder → List OptionItem → Gathered
+with_left builder left = record (gathered builder) { options = (gathered builder).options ++ left }
+
+-- an option that is added was the first of those left
+pub one_added : (x : OptionItem) (old new : OptBuilder) (left behind : List OptionItem) → gathered new ≡ record (gathered old) { options = (gathered old).options ++ x ∷ [] }
+    → left ≡ x ∷ behind → with_left new behind ≡ with_left old left
+one_added x old new left behind added first =
+    let g : List OptionItem → Gathered = λ xs. record (gathered old) { options = xs } in
+    ap (λ (all : Gathered). record all { options = all.options ++ behind }) added
+    ∙ ap g (append_assoc (gathered old).options (x ∷ []) behind) ∙ ap (with_left old) (sym first)
+
+-- no options are left
+pub none_left : (builder : OptBuilder) (left : List OptionItem) → left ≡ [] → with_left builder left ≡ gathered builder
+none_left builder left none =
+    let g : List OptionItem → Gathered = λ xs. record (gathered builder) { options = xs } in
+    ap (with_left builder) none ∙ ap g (append-nil (gathered builder).options)
+
+-- where there is no room for the first of the options left, there is none for all of them
+pub too_many : (x : OptionItem) (old new : OptBuilder) (left behind : List OptionItem) (r : Result (Unit {0}) AppendError) → Adds x old new r → r ≡ Err ShortBuf → left ≡ x ∷ behind
+    → 65535 < length (put_options (with_left old left).options)
+too_many x old new left behind (Err ShortBuf) h e first =
+    let all = ap (λ (xs : List OptionItem). length (put_options ((gathered old).options ++ xs))) first in
+    let parts = ap length (flat_map-append put_option (gathered old).options (x ∷ behind)) in
+    let sums = length-append (put_options (gathered old).options) (put_options (x ∷ behind)) in
+    let more = length-append (put_option x) (put_options behind) in
+    omega (arith, h.0, all, parts, sums, more)
+too_many x old new left behind (Ok _) h e first = absurd (cc)
+too_many x old new left behind (Err OutOfMemory) h e first = absurd (cc)
+
+-- what isn't refused for want of room is refused for want of memory
+pub of_memory : (e : AppendError) → (e ≡ ShortBuf → ⊥) → e ≡ OutOfMemory
+of_memory ShortBuf never = absurd (never refl)
+of_memory OutOfMemory never = refl
+
+-- a class and a TTL of 0, and no octets, are nothing gathered
+pub nothing_yet : (header : Header) (class ttl : ℕ) (b : List ℕ) → class ≡ 0 → ttl ≡ 0 → b ≡ []
+    → (let all : Gathered = record { header = header_fields header; fields = fields_in class ttl; options = options_in b } in all ≡ nothing_gathered header)
+nothing_yet header class ttl b same_class same_ttl empty =
+    let e = ap options_of empty ∙ options_of-nil in
+    let none = ap (λ (o : Option (List OptionItem)). option_map_or (λ (xs : List OptionItem). xs) o []) e in
+    λ i. record { header = header_fields header; fields = fields_in (same_class i) (same_ttl i); options = none i }

@@ -1,8 +1,9 @@
 -- What an OPT builder has gathered. RFC 6891 section 6.1.
-use Rattle.std.specs.Prelude.{ℕ, List}
+use Rattle.std.specs.Prelude.{ℕ, ◌/◌, ◌%◌, ◌<◌, ◌≤◌, List, [], length, false}
 use Rattle.dns_code.specs.Header.{HeaderFields, fields as header_fields}
+use Rattle.dns_code.specs.declared.header.Header.{Header}
 use Rattle.dns_opt.specs.OptHeader.{OptFields, fields as opt_fields}
-use Rattle.dns_opt.specs.Options.{OptionItem}
+use Rattle.dns_opt.specs.Options.{OptionItem, AreOptions, put_options}
 use Rattle.dns_opt.specs.OptionsOf.{options_in}
 use Rattle.dns_opt_builder.specs.declared.builder.OptBuilder.{OptBuilder}
 
@@ -23,3 +24,24 @@ gathered builder = record {
   fields = opt_fields builder.opt_header;
   options = options_in (option_octets builder);
 }
+
+-- what a fresh builder has gathered beside a header: its fields are 0 or false, and it has no options
+abbrev pub nothing_gathered : Header → Gathered
+nothing_gathered header = record {
+  header = header_fields header;
+  fields = record { udp_payload_size = 0; ext = 0; version = 0; dnssec_ok = false; z = 0 };
+  options = [];
+}
+
+-- with another rcode: its lower four bits stand in the header, the others in the record (RFC 6891 section 6.1.3)
+abbrev pub with_rcode : ℕ → Gathered → Gathered
+with_rcode rcode g = record g { header = record g.header { rcode = rcode % 16 }; fields = record g.fields { ext = rcode / 16 } }
+
+-- What can be gathered: fields of 4, 8, 8 and 15 bits, and options of which their octets, 65,535 at most, are the list.
+pub record IsGathered (g : Gathered) : Type 0 where
+  pub rcode : g.header.rcode < 16
+  pub ext : g.fields.ext < 256
+  pub version : g.fields.version < 256
+  pub z : g.fields.z < 32768
+  pub listed : AreOptions (put_options g.options) g.options
+  pub short : length (put_options g.options) ≤ 65535

@@ -7,8 +7,9 @@ use crate::options::{
     append_joined_option, append_numbers_option, append_option, append_zeros_option,
 };
 use dns_code::{Header, OptRcode, OptionCode};
-use dns_opt::{ComposeOptData, OptHeader};
-use dns_wire::AppendError;
+use dns_item::OptRecord;
+use dns_opt::{ComposeOptData, OptHeader, OptionIter};
+use dns_wire::{AppendError, Octets};
 use std::alloc::Global;
 
 /// The fields and the options of an OPT record, and a copy of its message's header, for the lower bits of the rcode.
@@ -26,25 +27,19 @@ pub struct OptBuilder {
 }
 
 impl OptBuilder {
-    ghost use Rattle.std.specs.Prelude.{◌+◌, ◌*◌, ◌/◌, ◌%◌, [], ◌++◌, false, replicate};
+    ghost use Rattle.std.specs.Prelude.{◌+◌, ◌*◌, ◌<◌, ◌++◌, replicate, OnOk, OnErr, IfErr};
     ghost use Rattle.std.specs.Int.{to_be_bytes, w16};
     ghost use Rattle.std.specs.List.{flat_map};
     ghost use Rattle.dns_code.specs.Header.{fields as header_fields};
     ghost use Rattle.dns_opt.specs.OptHeader.{fields as opt_fields};
-    ghost use Rattle.dns_opt_builder.specs.Gathered.{gathered, option_octets};
+    ghost use Rattle.dns_opt.specs.OptionIter.{options_left};
+    ghost use Rattle.dns_opt_builder.specs.Gathered.{gathered, nothing_gathered, option_octets, with_rcode};
     ghost use Rattle.dns_opt_builder.specs.Additions.{Adds};
+    ghost use Rattle.dns_item.specs.OptRecord.{opt_item};
 
     /// A builder with the header of the message, whose other fields are 0 or false, and with no options.
     pub fn new(alloc: Global, header: Header) -> Self
-        ensures header { (gathered result).header ≡ header_fields header }
-        ensures fields { (gathered result).fields ≡ record {
-          udp_payload_size = 0;
-          ext = 0;
-          version = 0;
-          dnssec_ok = false;
-          z = 0;
-        } }
-        ensures options { (gathered result).options ≡ [] }
+        ensures { gathered result ≡ nothing_gathered header }
     {
         OptBuilder {
             header,
@@ -100,10 +95,7 @@ impl OptBuilder {
 
     /// Changes the rcode, in the header and in the record.
     pub fn set_rcode(&mut self, rcode: OptRcode)
-        ensures { let old = gathered self.old in gathered self.new ≡ record old {
-          header = record old.header { rcode = rcode % 16 };
-          fields = record old.fields { ext = rcode / 16 };
-        } }
+        ensures { gathered self.new ≡ with_rcode rcode (gathered self.old) }
     {
         self.header.set_rcode(rcode.rcode());
         self.opt_header.set_rcode(rcode);
@@ -137,6 +129,39 @@ impl OptBuilder {
             record old { fields = record old.fields { dnssec_ok = set } } }
     {
         self.opt_header.set_dnssec_ok(set);
+    }
+
+    /// Replaces the fields and the options by those of an OPT record. The copy of the header stays.
+    ///
+    /// Where memory is refused nothing changes.
+    pub fn clone_from<Octs: Octets>(&mut self, opt: &OptRecord<Octs>) -> Result<(), AppendError>
+        ensures cloned { OnOk result (gathered self.new ≡ record (gathered self.old) {
+          fields = (opt_item opt.now).fields;
+          options = (opt_item opt.now).options;
+        }) }
+        ensures refused { OnErr result (gathered self.new ≡ gathered self.old) }
+        ensures memory { IfErr result (λ error. error ≡ AppendError.OutOfMemory) }
+    {
+        let record = opt.as_record();
+        let mut cloned = OptBuilder::new(*self.octets.allocator(), self.header);
+        cloned.opt_header = OptHeader::from_fields(record.class(), record.ttl().as_secs());
+        cloned.append_all(opt.opt().iter())?;
+        *self = cloned;
+        Ok(())
+    }
+
+    /// Adds the options that an iterator gives, up to the first that is refused.
+    fn append_all(&mut self, options: OptionIter) -> Result<(), AppendError>
+        ensures added { OnOk result (gathered self.new ≡ record (gathered self.old) {
+          options = (gathered self.old).options ++ options_left options.entry;
+        }) }
+        ensures short { result ≡ Err AppendError.ShortBuf → 65535 < length (put_options
+            ((gathered self.old).options ++ options_left options.entry)) }
+    {
+        for (code, octets) in options {
+            self.push_raw_option(code, octets)?;
+        }
+        Ok(())
     }
 
     /// Adds an option.

@@ -3,6 +3,7 @@ use dns_code::Rtype;
 use dns_data::{Opt, ParseRecordData};
 use dns_wire::{ParseError, Parser};
 use std::process::Abort;
+use std::test::Fail;
 
 /// NSID without octets, and a keepalive of 30 seconds.
 const OPTIONS: [u8; 10] = *b"\x00\x03\x00\x00\x00\x0B\x00\x02\x01\x2C";
@@ -41,4 +42,16 @@ fn refuses_a_torn_option_and_another_type(rt: HostRuntime) {
     let mut parser = Parser::new(&OPTIONS);
     assert!(rt; matches!(Opt::parse_rdata(Rtype::A, &mut parser), Ok(None)));
     assert_eq!(rt; parser.remaining(), 10);
+}
+
+#[test]
+fn clones(rt: HostRuntime) -> Result<(), Fail> {
+    let mut octets = Vec::new(rt.alloc());
+    octets.extend_from_slice(&OPTIONS)?;
+    let Ok(opt) = Opt::from_octets(octets) else {
+        panic!(rt; "no data")
+    };
+    let clone = opt.clone()?;
+    assert_eq!(rt; clone.data().as_slice(), OPTIONS.as_slice());
+    Ok(())
 }

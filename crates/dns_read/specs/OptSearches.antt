@@ -42,7 +42,7 @@ opt_of b = option_and_then opt_said (first_opt b)
 -- an rcode of a header, below the eight higher bits of an OPT record, if there is one: RFC 6891 section 6.1.3
 abbrev pub extended_rcode : Option OptItem → ℕ → ℕ
 extended_rcode None rcode = rcode
-extended_rcode (Some opt) rcode = opt.header.ext * 16 + rcode
+extended_rcode (Some opt) rcode = opt.fields.ext * 16 + rcode
 
 -- the rcode of a message
 abbrev pub opt_rcode_of : List ℕ → ℕ

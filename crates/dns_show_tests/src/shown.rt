@@ -1,4 +1,5 @@
 //! What `dnsmsg show` prints.
+use dns_message::message::Message;
 use dns_message::tool;
 use std::alloc::Global;
 use std::process::Abort;
@@ -41,6 +42,48 @@ pub(crate) fn assert_captures(
 ) -> Result<(), Fail> {
     for (digits, lines) in captures {
         assert_shows(rt, alloc, digits.as_bytes(), lines, 0)?;
+        assert_opt(rt, alloc, digits, lines)?;
     }
+    Ok(())
+}
+
+/// The octets that hexadecimal digits write.
+fn octets_of(alloc: Global, digits: &str) -> Result<Vec<u8>, Fail> {
+    let mut octets = Vec::new(alloc);
+    let mut digits = digits.as_bytes();
+    while let [high, low, rest @ ..] = digits {
+        let high = char::from(*high).to_digit(16).ok_or("no digit")? as u8;
+        let low = char::from(*low).to_digit(16).ok_or("no digit")? as u8;
+        octets.push(high * 16 + low)?;
+        digits = rest;
+    }
+    Ok(octets)
+}
+
+/// The line of the OPT record that `Message::opt` gives.
+fn opt_line(alloc: Global, message: &Message<Vec<u8>>) -> Result<Option<String>, Fail> {
+    let Some(opt) = message.opt() else {
+        return Ok(None);
+    };
+    let data = opt.opt().data();
+    let ttl = opt.as_record().ttl().as_secs();
+    let mut line = format!(in alloc;
+        "additional . {ttl} CLASS{} OPT \\# {}",
+        opt.udp_payload_size(),
+        data.len()
+    )?;
+    for (place, octet) in data.iter().enumerate() {
+        let space = if place == 0 { " " } else { "" };
+        line.push_str(&format!(in alloc; "{space}{octet:02x}")?)?;
+    }
+    Ok(Some(line))
+}
+
+/// `Message::opt` gives the record that is printed, where one is.
+fn assert_opt(rt: &impl Abort, alloc: Global, digits: &str, lines: &[&str]) -> Result<(), Fail> {
+    let message = Message::from_octets(octets_of(alloc, digits)?)?;
+    let read = opt_line(alloc, &message)?;
+    let printed = lines.iter().find(|line| line.contains(" OPT "));
+    assert_eq!(rt; read.as_deref(), printed.copied());
     Ok(())
 }

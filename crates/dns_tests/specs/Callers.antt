@@ -1,10 +1,13 @@
 -- What the proved callers say.
-use Rattle.std.specs.Prelude.{◌≡◌, ◌≤◌, ℕ, List, length, map, Option, Some, None, Result, Ok, Err}
+use Rattle.std.specs.Prelude.{◌≡◌, ◌≤◌, ◌+◌, ◌*◌, ℕ, List, length, map, Option, Some, None, Result, Ok, Err}
 use Rattle.std.specs.List.{filter_map}
+use Rattle.dns_octets.specs.declared.error.AppendError.{AppendError}
 use Rattle.dns_name.specs.Names.{Fault}
 use Rattle.dns_name.specs.declared.parsed_name.ParsedName.{ParsedName}
 use Rattle.dns_wire.specs.Parts.{Part}
 use Rattle.dns_data.specs.Layout.{Layout}
+use Rattle.dns_opt_builder.specs.Gathered.{Gathered}
+use Rattle.dns_opt_builder.specs.declared.builder.OptBuilder.{OptBuilder}
 use Rattle.dns_item.specs.Items.{RecordEntry, ReadsRecord, RecordItem}
 use Rattle.dns_item.specs.RecordReading.{GivesTaken}
 use Rattle.dns_item.specs.declared.record.Record.{Record}
@@ -13,6 +16,10 @@ use Rattle.dns_section.specs.RecordsFrom.{records_in}
 use Rattle.dns_section.specs.Sections.{AnswersStart, answer_count}
 use Rattle.dns_section.specs.declared.section.Section.{Section}
 use Rattle.dns_read.specs.MessageIter.{Item}
+use Rattle.dns_read.specs.OptSearches.{opt_of, opt_rcode_of}
+use Rattle.dns_build.specs.Opt.{Gathers}
+use Rattle.dns_build.specs.OptReading.{said}
+use Rattle.dns_build.specs.Standing.{fresh}
 use Rattle.dns_build.specs.MessageOf.{ReadsBack, PointsToLabels, IsShortestOf}
 use Rattle.dns_build.specs.State.{State}
 
@@ -54,3 +61,10 @@ section_of_item (Err f) = None
 -- the sections of the records among items, in order
 abbrev pub sections_among : List Item → List Section
 sections_among = filter_map section_of_item
+
+-- A message says of its OPT record what a closure gathered for it on a fresh OPT builder, beside the header of a fresh message.
+pub record SaysWhatIsGathered (call : OptBuilder → Result (Unit {0}) AppendError → OptBuilder → Type 0) (b : List ℕ) : Type 0 where
+  pub g : Gathered
+  pub gathers : Gathers call fresh.header (Ok tt) g
+  pub opt : opt_of b ≡ Some (said g)
+  pub rcode : opt_rcode_of b ≡ g.fields.ext * 16 + g.header.rcode

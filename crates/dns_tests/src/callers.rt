@@ -1,5 +1,6 @@
 //! Proved callers: examples of the pages that say how the crates are called.
 ghost use Rattle.std.specs.Prelude.{◌≡◌, ◌≤◌, ◌↔◌, List, length, map, max, min, true, IfOk, IfSome, IsSome, IsTrue};
+ghost use Rattle.std.specs.Fn.{FnOnceReturnsAtMut};
 ghost use Rattle.dns_code.specs.Header.{fields};
 ghost use Rattle.dns_data.specs.Layout.{End, Fixed};
 ghost use Rattle.dns_data.specs.RecordData.{only};
@@ -12,10 +13,11 @@ ghost use Rattle.dns_read.specs.MessageIter.{message_items};
 ghost use Rattle.dns_read.specs.RecordSearches.{HasAnswer};
 ghost use Rattle.dns_section.specs.RecordIter.{typed_left};
 ghost use Rattle.dns_section.specs.Sections.{AnswersStart};
-ghost use Rattle.dns_tests.specs.Callers.{IsShortMessage, StandsFirst, AreAnswers, data_among, sections_among};
+ghost use Rattle.dns_tests.specs.Callers.{IsShortMessage, StandsFirst, AreAnswers, data_among, sections_among, SaysWhatIsGathered};
 
-use dns_message::builder::MessageBuilder;
-use dns_message::code::{Class, Rtype};
+use dns_message::builder::laws::{opts_read_back, rcode_is_set};
+use dns_message::builder::{MessageBuilder, OptBuilder, PushError};
+use dns_message::code::{Class, OptRcode, OptionCode, Rtype};
 use dns_message::data::{A, ParseRecordData, UnknownRecordData};
 use dns_message::header::Header;
 use dns_message::message::{Message, RecordIter, Section};
@@ -24,7 +26,7 @@ use dns_message::question::ComposeQuestion;
 use dns_message::record::{ComposeRecord, Record, Ttl};
 use dns_message::script::{Call, Stage, run};
 use dns_message::target::HashCompressor;
-use dns_message::wire::Octets;
+use dns_message::wire::{AppendError, Octets};
 use std::alloc::{AllocError, Global};
 use std::test::Fail;
 
@@ -216,7 +218,7 @@ fn compressed<Q: ComposeQuestion, R: ComposeRecord>(
     let Ok(builder) = MessageBuilder::from_target(target) else {
         return None;
     };
-    match run(Stage::Builder(builder), calls, &mut Vec::new(alloc)) {
+    match run(alloc, Stage::Builder(builder), calls, &mut Vec::new(alloc)) {
         Ok(stage) => Some(stage),
         Err(_) => None,
     }
@@ -239,5 +241,39 @@ fn spells_a_name_once(rt: HostRuntime) -> Result<(), Fail> {
     ];
     let stage = compressed(rt.alloc(), &calls).ok_or("memory")?;
     assert_eq!(rt; stage.as_slice().len(), 12 + 13 + 4 + 2 + 10);
+    Ok(())
+}
+
+/// The message of one OPT record, which a closure gathers.
+fn opt_message<F: FnOnce(&mut OptBuilder) -> Result<(), AppendError>>(
+    alloc: Global,
+    gather: F,
+) -> Result<Message<Vec<u8>>, PushError>
+    requires { F.IsAlwaysCallable gather }
+    ensures { IfOk result (λ message. SaysWhatIsGathered (FnOnceReturnsAtMut F.FnOnce gather)
+        (message_octets message)) }
+{
+    let mut builder = MessageBuilder::new_vec(alloc)?.additional();
+    builder.opt(alloc, gather)?;
+    opts_read_back();
+    rcode_is_set();
+    Ok(builder.into_message())
+}
+
+#[test]
+fn reads_what_was_gathered(rt: HostRuntime) -> Result<(), Fail> {
+    let rcode = OptRcode::checked_from_int(23).ok_or("no rcode")?;
+    let message = opt_message(rt.alloc(), |opt| {
+        opt.set_udp_payload_size(1232);
+        opt.set_rcode(rcode);
+        opt.set_dnssec_ok(true);
+        opt.push_raw_option(OptionCode::from_int(3), b"")
+    })?;
+    let opt = message.opt().ok_or("no record")?;
+    assert_eq!(rt; opt.udp_payload_size(), 1232);
+    assert_eq!(rt; message.opt_rcode().to_int(), 23);
+    assert_eq!(rt; opt.version(), 0);
+    assert!(rt; opt.dnssec_ok());
+    assert_eq!(rt; opt.opt().iter().count(), 1);
     Ok(())
 }

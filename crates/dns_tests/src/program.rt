@@ -169,6 +169,97 @@ fn numbers_bad_lines(rt: HostRuntime) -> Result<(), Fail> {
 }
 
 #[test]
+fn pushes_opt_records(rt: HostRuntime) -> Result<(), Fail> {
+    let stream: &[&str] = &["build", "stream"];
+    let runs: [Run<'_>; 6] = [
+        (
+            stream,
+            b"additional\nopt 1232 19 0 1\n",
+            "ok 12\nok 23\n001700000003000000000000000100002904d0010080000000\n",
+            0,
+        ),
+        (
+            stream,
+            b"additional\nlimit 23\nopt 1232 19 0 1\n",
+            "ok 12\nok 12\nok 23\n001700000003000000000000000100002904d0010080000000\n",
+            0,
+        ),
+        (
+            stream,
+            b"additional\nlimit 22\nopt 1232 19 0 1\n",
+            "ok 12\nok 12\nrefused limit 12\n000c000000000000000000000000\n",
+            0,
+        ),
+        // options, and the rcode of the header stays
+        (
+            PLAIN,
+            b"rcode 3\nadditional\nopt\t4096 - 2 00 3:6578616d706c65 10:\n",
+            "ok 12\nok 12\nok 38\n000000030000000000000001000029100000020000000f000300076578616d706c65000a0000\n",
+            0,
+        ),
+        // the greatest numbers, over a compressor
+        (
+            &["build", "tree"],
+            b"additional\nopt 65535 4095 255 01 65535:FF\n",
+            "ok 12\nok 28\n0000000f0000000000000001000029ffffffff80000005ffff0001ff\n",
+            0,
+        ),
+        // at another section
+        (PLAIN, b"answer\nopt 1232 0 0 0\n", "ok 12\nbad line 2\n", 1),
+    ];
+    assert_runs(&rt, rt.alloc(), &runs)
+}
+
+#[test]
+fn refuses_bad_opt_lines(rt: HostRuntime) -> Result<(), Fail> {
+    let lines: [&[u8]; 14] = [
+        b"additional\nopt",
+        b"additional\nopt 1232 0 0",
+        b"additional\nopt 65536 0 0 0",
+        b"additional\nopt - 0 0 0",
+        b"additional\nopt 1232 4096 0 0",
+        b"additional\nopt 1232 0 256 0",
+        b"additional\nopt 1232 0 0 2",
+        b"additional\nopt 1232 0 0 0 3",
+        b"additional\nopt 1232 0 0 0 :",
+        b"additional\nopt 1232 0 0 0 3:a",
+        b"additional\nopt 1232 0 0 0 3:xx",
+        b"additional\nopt 1232 0 0 0 +3:",
+        b"additional\nopt 1232 0 0 0 65536:",
+        b"additional\nopt 1232 0 0 0 3: 4",
+    ];
+    for line in lines {
+        assert_runs(&rt, rt.alloc(), &[(PLAIN, line, "ok 12\nbad line 2\n", 1)])?;
+    }
+    Ok(())
+}
+
+/// What is printed for an array and one `opt` of options that have so many octets each, without the octets at the end.
+fn refused_opt(alloc: Global, lengths: &[usize]) -> Result<Vec<u8>, Fail> {
+    let mut script = String::from_str(alloc, "additional\nopt 1232 0 0 0")?;
+    for len in lengths {
+        script.push_str(" 3:")?;
+        for _ in 0..*len {
+            script.push_str("00")?;
+        }
+    }
+    let mut output = Vec::new(alloc);
+    let words = strings(alloc, &["build", "fixed"])?;
+    tool(alloc, &words, script.as_bytes(), &mut output);
+    Ok(output)
+}
+
+#[test]
+fn refuses_long_options(rt: HostRuntime) -> Result<(), Fail> {
+    let refused = refused_opt(rt.alloc(), &[65_531, 0])?;
+    assert!(rt; refused.starts_with(b"ok 12\nrefused short 12\n"));
+    // no option at all
+    let bad = refused_opt(rt.alloc(), &[65_536])?;
+    assert_eq!(rt; bad.as_slice(), b"ok 12\nbad line 2\n".as_slice());
+    Ok(())
+}
+
+#[test]
 fn tells_refusals_by_the_limit(rt: HostRuntime) -> Result<(), Fail> {
     let runs: [Run<'_>; 2] = [
         (

@@ -1,9 +1,10 @@
-use Rattle.std.proofs.Common.{◌∙◌, ap, sym, [], List, length, arith, sym}
+use Rattle.std.proofs.Common.{◌∙◌, ap, sym, [], List, length, arith}
 use Rattle.std.specs.Option.{option_map_or}
 use Rattle.std.specs.Prelude.{Option, is_some}
 use Rattle.dns_opt.specs.Options.{OptionItem, put_options}
 use Rattle.dns_opt.specs.OptionsOf.{options_of}
 use Rattle.dns_opt.proofs.OptionsLemmas.{options_of-nil}
+use Rattle.dns_opt_builder.proofs.OptBuilderLemmas.{nothing_yet}
 use Rattle.dns_opt_builder.proofs.builder.OptBuilder.new.Goals as goal
 
 pub invariant_of-result : goal.invariant_of-result
@@ -15,7 +16,5 @@ invariant_of-result c =
       short = omega (arith, ap length c.new.ensures.items);
     }
 
-pub returns-clause-options : goal.returns-clause-options
-returns-clause-options c =
-    let e = ap options_of c.new.ensures.items ∙ options_of-nil in
-    ap (λ (o : Option (List OptionItem)). option_map_or (λ (xs : List OptionItem). xs) o []) e
+pub returns : goal.returns
+returns c = nothing_yet c.args.header _ _ _ (omega arith) (omega arith) c.new.ensures.items

@@ -1,0 +1,53 @@
+-- What is gathered for an OPT record is pushed.
+use Rattle.std.proofs.Common.{◌≡◌, ap, sym, refl, subst, ℕ, ◌<◌, ◌≤◌, Bool, List, [], ◌∷◌, length, arith}
+use Rattle.std.specs.Option.{option_map_or}
+use Rattle.std.specs.Prelude.{Option, Some, None, is_some, Result, Ok, Err, IsTrue}
+use Rattle.dns_octets.specs.declared.error.AppendError.{AppendError}
+use Rattle.dns_wire.specs.Parts.Part.{Octets}
+use Rattle.dns_wire.specs.Targets.{Fits, Passes}
+use Rattle.dns_opt.specs.OptHeader.{ttl_in}
+use Rattle.dns_opt.specs.Options.{OptionItem, AreOptions, put_options}
+use Rattle.dns_opt.specs.OptionsOf.{options_of}
+use Rattle.dns_opt.proofs.OptionsLemmas.{options_of-holds}
+use Rattle.dns_opt_builder.specs.Gathered.{Gathered, IsGathered, gathered, option_octets}
+use Rattle.dns_opt_builder.specs.declared.builder.OptBuilder.{OptBuilder}
+use Rattle.dns_item.specs.Items.{RecordItem}
+use Rattle.dns_build.specs.Opt.{opt_record, OptAnswers}
+use Rattle.dns_build.specs.State.{most_entries}
+use Rattle.dns_build.specs.Standing.{PushAnswers, push_error}
+use Rattle.dns_build.specs.declared.push_error.PushError.{PushError}
+use Rattle.dns_build.specs.declared.push_error.PushError.TheVariants.{CountOverflow, LimitExceeded, ShortBuf, OutOfMemory}
+
+-- an item with the fields of the OPT record of what was gathered
+pub same_item : (x : RecordItem) (g : Gathered) → x.owner ≡ [] → x.rtype ≡ 41 → x.class ≡ g.fields.udp_payload_size → x.ttl ≡ ttl_in g.fields → x.parts ≡ Octets (put_options g.options) ∷ [] → x ≡ opt_record g
+same_item x g o r c t p = λ i. record { owner = o i; rtype = r i; class = c i; ttl = t i; parts = p i }
+
+-- the causes of a refused push, one by one
+pub refused_answers : (room : Option ℕ) (grows : Bool) (limit n count : ℕ) (e : PushError) → (e ≡ ShortBuf → Passes room n) → (e ≡ OutOfMemory → IsTrue grows) → (e ≡ LimitExceeded → Fits room n × (limit < n)) → (e ≡ CountOverflow → Fits room n × (n ≤ limit) × (count ≡ most_entries)) → PushAnswers room grows limit n count (Err e)
+refused_answers room grows limit n count CountOverflow s m l c = c refl
+refused_answers room grows limit n count LimitExceeded s m l c = l refl
+refused_answers room grows limit n count ShortBuf s m l c = s refl
+refused_answers room grows limit n count OutOfMemory s m l c = m refl
+
+-- the answer where the closure refused, and where it didn't
+pub closure_refused : (room : Option ℕ) (grows : Bool) (limit n count : ℕ) (e : AppendError) (r : Result (Unit {0}) AppendError) → r ≡ Err e → OptAnswers room grows limit n count r (Err (push_error e))
+closure_refused room grows limit n count e r is = subst (λ (x : Result (Unit {0}) AppendError). OptAnswers room grows limit n count x (Err (push_error e))) (sym is) refl
+
+pub closure_done : (room : Option ℕ) (grows : Bool) (limit n count : ℕ) (r : Result (Unit {0}) AppendError) (result : Result (Unit {0}) PushError) → r ≡ Ok tt → PushAnswers room grows limit n count result → OptAnswers room grows limit n count r result
+closure_done room grows limit n count r result is told = subst (λ (x : Result (Unit {0}) AppendError). OptAnswers room grows limit n count x result) (sym is) told
+
+-- the list that octets are, by the answer that they are one
+list_in : (b : List ℕ) (o : Option (List OptionItem)) → options_of b ≡ o → IsTrue (is_some o) → AreOptions b (option_map_or (λ (xs : List OptionItem). xs) o [])
+list_in b (Some xs) e h = options_of-holds b xs e
+list_in b None e h = absurd (cc)
+
+-- what a builder has gathered can be gathered, since its TTL is a number of 32 bits
+pub is_gathered : (b : OptBuilder) → (gathered b).fields.ext < 256 → IsGathered (gathered b)
+is_gathered b ext = record {
+  rcode = omega arith;
+  ext = ext;
+  version = omega arith;
+  z = omega arith;
+  listed = subst (λ (os : List ℕ). AreOptions os (gathered b).options) (sym b.whole) (list_in (option_octets b) _ refl b.listed);
+  short = omega (arith, ap length b.whole, b.short);
+}

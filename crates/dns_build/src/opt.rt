@@ -1,0 +1,71 @@
+//! OPT records, pushed (RFC 6891 section 6.1).
+ghost use Rattle.std.specs.Prelude.{◌≡◌, [], OnErr};
+ghost use Rattle.std.specs.Fn.{FnOnceReturnsAtMut};
+ghost use Rattle.dns_name.specs.NameReading.{name_labels};
+ghost use Rattle.dns_opt.specs.OptHeader.{ttl_in};
+ghost use Rattle.dns_opt.specs.Options.{put_options};
+ghost use Rattle.dns_data.specs.Opt.{opt_octets};
+ghost use Rattle.dns_opt_builder.specs.Gathered.{IsGathered, gathered};
+ghost use Rattle.dns_item.specs.Record.{owner_of, class_of, ttl_of, data_of};
+ghost use Rattle.dns_build.specs.State.{InAdditional};
+ghost use Rattle.dns_build.specs.Standing.{InEach};
+ghost use Rattle.dns_build.specs.Opt.{with_rcode, PushesOpt};
+
+use crate::builder::Builder;
+use crate::push_error::PushError;
+use crate::stage::AtAdditional;
+use dns_code::{Header, Rcode};
+use dns_data::Opt;
+use dns_item::{Record, Ttl};
+use dns_opt_builder::OptBuilder;
+use dns_wire::{AppendError, Composer, Name};
+use std::alloc::Global;
+
+impl<T: Composer> Builder<T, AtAdditional> {
+    /// Appends the OPT record whose fields and options a closure sets on a fresh `OptBuilder`, which has a copy of the
+    /// header (RFC 6891 section 6.1.1). Where it is accepted, the header takes the rcode of that copy.
+    ///
+    /// An error of the closure is answered first. Else the record is refused as by `push`. Then nothing changes.
+    pub fn opt<F: FnOnce(&mut OptBuilder) -> Result<(), AppendError>>(
+        &mut self,
+        alloc: Global,
+        gather: F,
+    ) -> Result<(), PushError>
+        requires { F.IsAlwaysCallable gather }
+        ensures pushes { InEach InAdditional T.rule self.old (λ s.
+            PushesOpt T.room T.grows T.rule (FnOnceReturnsAtMut F.FnOnce gather) s self.new
+            result) }
+        ensures refused { OnErr result (self.new ≡ self.old) }
+    {
+        let mut gathered = OptBuilder::new(alloc, self.header());
+        gather(&mut gathered)?;
+        self.push(record_of(&gathered))?;
+        self.set_header(with_rcode(self.header(), gathered.header().rcode()));
+        Ok(())
+    }
+}
+
+/// The OPT record of what was gathered.
+fn record_of(builder: &OptBuilder) -> Record<Name<&'static [u8]>, Opt<&[u8]>>
+    ensures owner { name_labels (owner_of result) ≡ [] }
+    ensures class { class_of result ≡ (gathered builder.now).fields.udp_payload_size }
+    ensures ttl { ttl_of result ≡ ttl_in (gathered builder.now).fields }
+    ensures options { opt_octets (data_of result) ≡ put_options (gathered builder.now).options }
+    ensures is_gathered { IsGathered (gathered builder.now) }
+{
+    let header = builder.opt_header();
+    let ttl = Ttl::from_secs(header.ttl());
+    let data = Opt::from_octets(builder.option_octets()).unwrap();
+    Record::new(Name::root_slice(), header.class(), ttl, data)
+}
+
+/// A header with another rcode, and nothing else changed. The contract is on its octets; that of `set_rcode` is on its
+/// fields.
+fn with_rcode(header: Header, rcode: Rcode) -> Header
+    ensures { result ≡ with_rcode rcode header }
+{
+    let mut octets = [0; 4];
+    octets.copy_from_slice(header.as_slice());
+    octets[3] = octets[3] & 0xf0 | rcode.to_int();
+    Header::for_message_slice(&octets)
+}

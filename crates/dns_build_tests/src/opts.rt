@@ -1,0 +1,150 @@
+//! OPT records that are pushed (RFC 6891 section 6.1).
+use dns_build::{AdditionalBuilder, MessageBuilder, OptBuilder, PushError};
+use dns_code::{Class, OptRcode, OptionCode, Rcode};
+use dns_data::{Opt, UnknownOptData};
+use dns_item::{OptRecord, Record, Ttl};
+use dns_target::StreamTarget;
+use dns_wire::{AppendError, Name};
+use std::alloc::Global;
+use std::process::Abort;
+use std::test::Fail;
+
+fn additional(alloc: Global) -> Result<AdditionalBuilder<Vec<u8>>, AppendError> {
+    Ok(MessageBuilder::new_vec(alloc)?.additional())
+}
+
+/// The root, type 41, class 4096, TTL 0, and one option of code 3.
+const ONE_OPTION: &[u8] = b"\x00\x00\x29\x10\x00\x00\x00\x00\x00\x00\x0b\x00\x03\x00\x07example";
+
+#[test]
+fn pushes_one_option(rt: HostRuntime) -> Result<(), Fail> {
+    let code = OptionCode::from_int(3);
+    let mut raw = additional(rt.alloc())?;
+    raw.opt(rt.alloc(), |opt| {
+        opt.set_udp_payload_size(4096);
+        opt.push_raw_option(code, b"example")
+    })?;
+    assert_eq!(rt; &raw.as_slice()[12..], ONE_OPTION);
+    let option = UnknownOptData::new(code, b"example".as_slice())?;
+    let mut typed = additional(rt.alloc())?;
+    typed.opt(rt.alloc(), |opt| {
+        opt.set_udp_payload_size(4096);
+        opt.push(&option)
+    })?;
+    assert_eq!(rt; typed.as_slice().len(), 34);
+    assert_eq!(rt; &typed.as_slice()[12..], ONE_OPTION);
+    Ok(())
+}
+
+#[test]
+fn answers_what_the_closure_answers(rt: HostRuntime) -> Result<(), Fail> {
+    let mut builder = additional(rt.alloc())?;
+    let refused = builder.opt(rt.alloc(), |opt| {
+        opt.set_rcode(OptRcode::from(Rcode::NXDOMAIN));
+        Err(AppendError::ShortBuf)
+    });
+    assert!(rt; matches!(refused, Err(PushError::ShortBuf)));
+    assert_eq!(rt; builder.as_slice(), [0; 12].as_slice());
+    Ok(())
+}
+
+/// Options of 65,535 octets, and one more, whose refusal is dropped.
+fn fill(opt: &mut OptBuilder, octets: &[u8]) -> Result<(), AppendError> {
+    opt.push_raw_option(OptionCode::from_int(65_001), octets)?;
+    match opt.push_raw_option(OptionCode::from_int(65_001), b"") {
+        Err(AppendError::ShortBuf) => Ok(()),
+        _ => Err(AppendError::OutOfMemory),
+    }
+}
+
+#[test]
+fn pushes_the_most_options(rt: HostRuntime) -> Result<(), Fail> {
+    let mut octets = Vec::new(rt.alloc());
+    octets.resize(65_531, 0)?;
+    let mut builder = additional(rt.alloc())?;
+    builder.opt(rt.alloc(), |opt| fill(opt, &octets))?;
+    assert_eq!(rt; builder.as_slice().len(), 65_558);
+    let message = builder.as_message();
+    let opt = message.opt().ok_or("no record")?;
+    assert_eq!(rt; opt.opt().iter().count(), 1);
+    let mut stream = MessageBuilder::new_stream_vec(rt.alloc())?.additional();
+    let refused = stream.opt(rt.alloc(), |opt| fill(opt, &octets));
+    assert!(rt; matches!(refused, Err(PushError::ShortBuf)));
+    let target: StreamTarget<Vec<u8>> = stream.finish();
+    assert_eq!(rt;
+        target.as_stream_slice(),
+        b"\x00\x0c\x00\x00\x00\x00\x00\x00\x00\x00\x00\x00\x00\x00".as_slice()
+    );
+    Ok(())
+}
+
+#[test]
+fn takes_the_fields_of_a_record(rt: HostRuntime) -> Result<(), Fail> {
+    let Ok(data) = Opt::from_octets(b"\x00\x03\x00\x01a".as_slice()) else {
+        panic!(rt; "no data")
+    };
+    let record = OptRecord::from(Record::new(
+        Name::root_slice(),
+        Class::from_int(512),
+        Ttl::from_secs(0x8001),
+        data,
+    ));
+    let rcode = OptRcode::checked_from_int(19).ok_or("no rcode")?;
+    let mut builder = additional(rt.alloc())?;
+    builder.opt(rt.alloc(), |opt| {
+        opt.set_rcode(rcode);
+        opt.push_raw_option(OptionCode::from_int(10), b"dropped")?;
+        opt.clone_from(&record)
+    })?;
+    assert_eq!(rt; builder.header().rcode(), Rcode::NXDOMAIN);
+    assert_eq!(rt;
+        &builder.as_slice()[12..],
+        b"\x00\x00\x29\x02\x00\x00\x00\x80\x01\x00\x05\x00\x03\x00\x01a".as_slice()
+    );
+    Ok(())
+}
+
+#[test]
+fn pushes_known_options(rt: HostRuntime) -> Result<(), Fail> {
+    let mut builder = additional(rt.alloc())?;
+    builder.opt(rt.alloc(), |opt| {
+        opt.client_nsid()?;
+        opt.dau(&[8, 13])?;
+        opt.expire(None)?;
+        opt.tcp_keepalive(Some(300))
+    })?;
+    assert_eq!(rt; builder.as_slice().len(), 43);
+    assert_eq!(rt;
+        &builder.as_slice()[23..],
+        b"\x00\x03\x00\x00\x00\x05\x00\x02\x08\x0d\x00\x09\x00\x00\x00\x0b\x00\x02\x01\x2c".as_slice()
+    );
+    Ok(())
+}
+
+#[test]
+fn has_the_rcode_of_both_places(rt: HostRuntime) -> Result<(), Fail> {
+    let rcode = OptRcode::checked_from_int(19).ok_or("no rcode")?;
+    let mut builder = additional(rt.alloc())?;
+    builder.set_push_limit(22);
+    for limit in 22..24 {
+        builder.set_push_limit(limit);
+        let answer = builder.opt(rt.alloc(), |opt| {
+            opt.set_udp_payload_size(1232);
+            opt.set_dnssec_ok(true);
+            opt.set_rcode(rcode);
+            Ok(())
+        });
+        if limit == 22 {
+            assert!(rt; matches!(answer, Err(PushError::LimitExceeded)));
+            assert_eq!(rt; builder.as_slice(), [0; 12].as_slice());
+        } else {
+            answer?;
+        }
+    }
+    assert_eq!(rt;
+        builder.as_slice(),
+        b"\x00\x00\x00\x03\x00\x00\x00\x00\x00\x00\x00\x01\x00\x00\x29\x04\xd0\x01\x00\x80\x00\x00\x00".as_slice()
+    );
+    assert_eq!(rt; builder.as_message().opt_rcode().to_int(), 19);
+    Ok(())
+}

@@ -1,0 +1,114 @@
+-- What the reply to a push of an OPT record says.
+use Rattle.std.proofs.Common.{◌≡◌, ◌∙◌, ap, sym, refl, subst, inl, inr, ℕ, ◌+◌, Bool, false, List, [], ◌∷◌, ◌++◌, length, length-append, append-nil, arith}
+use Rattle.std.proofs.lemmas.Grind.{flat_map-append}
+use Rattle.std.specs.Prelude.{Option, Some, None, Result, Ok, Err, OnOk, OnErr, MatchResult}
+use Rattle.dns_octets.specs.declared.error.AppendError.{AppendError}
+use Rattle.dns_octets.specs.declared.error.AppendError.TheVariants.{ShortBuf, OutOfMemory}
+use Rattle.dns_wire.specs.Pieces.{Rule}
+use Rattle.dns_question.specs.Questions.{QuestionItem}
+use Rattle.dns_opt.specs.Options.{OptionItem, put_option, put_options}
+use Rattle.dns_opt_builder.specs.Additions.{Adds}
+use Rattle.dns_opt_builder.specs.Gathered.{Gathered, IsGathered, gathered, nothing_gathered}
+use Rattle.dns_opt_builder.specs.declared.builder.OptBuilder.{OptBuilder}
+use Rattle.dns_item.specs.Items.{RecordItem}
+use Rattle.dns_build.specs.Opt.{opt_record, with_opt, OptAnswers, PushesOpt}
+use Rattle.dns_build.specs.Standing.{Built, StandsFor, InEach, size_after}
+use Rattle.dns_build.specs.State.{State, InAdditional, with_record}
+use Rattle.dns_build.specs.declared.push_error.PushError.{PushError}
+use Rattle.dns_message.specs.OptPlans.{with_any_rcode, planned, planned_options, planned_beside, gathered_size, AddsAll, CarriesOut}
+use Rattle.dns_message.specs.declared.opt_plan.OptPlan.{OptPlan}
+use Rattle.dns_message.specs.declared.script.Call.{Call}
+use Rattle.dns_message.specs.declared.script.Call.TheVariants.{PushOpt}
+use Rattle.dns_message.specs.declared.script.Reply.{Reply}
+use Rattle.dns_message.specs.declared.script.Reply.TheVariants.{Done, Refused}
+use Rattle.dns_message.specs.Script.{lacks, Stays}
+
+-- the first option is added, and the others are answered behind it
+pub added_first : (x : OptionItem) (old new : OptBuilder) (xs : List OptionItem) (answer : Result (Unit {0}) AppendError) → Adds x old new (Ok tt)
+    → AddsAll (gathered_size (gathered new)) xs answer → AddsAll (gathered_size (gathered old)) (x ∷ xs) answer
+added_first x old new xs answer h rest =
+    let put = ap length (flat_map-append put_option (gathered old).options (x ∷ [])) in
+    let sum = length-append (put_options (gathered old).options) (put_options (x ∷ [])) in
+    let one = ap length (append-nil (put_option x)) in
+    let size : gathered_size (gathered new) ≡ gathered_size (gathered old) + 4 + length x.octets = omega (arith, ap gathered_size h.0, put, sum, one) in
+    inr (h.1, inr (subst (λ (n : ℕ). AddsAll n xs answer) size rest))
+
+-- the first option is refused
+pub refused_first : (x : OptionItem) (old new : OptBuilder) (xs : List OptionItem) (e : AppendError) → Adds x old new (Err e) → AddsAll (gathered_size (gathered old)) (x ∷ xs) (Err e)
+refused_first x old new xs ShortBuf h = inl (h.0, refl)
+refused_first x old new xs OutOfMemory h = inr (h.0, inl refl)
+
+-- an rcode leaves the options as they are
+options_stay : (rcode : Option ℕ) (g : Gathered) → (with_any_rcode rcode g).options ≡ g.options
+options_stay None g = refl
+options_stay (Some rcode) g = refl
+
+module _ (room : Option ℕ) (grows : Bool) (rule : Rule) (plan : OptPlan) (s : State) where
+  -- what a plan gathers beside the state's header
+  abbrev pub asked : Gathered
+  asked = planned_beside s.header plan
+
+  -- how long the message is with the OPT record of what is gathered
+  abbrev pub size : Gathered → ℕ
+  size g = size_after rule (with_record InAdditional (opt_record g)) s
+
+  -- the answer, where a success gathers what is asked
+  answers_asked : (g : Gathered) (a : Result (Unit {0}) AppendError) (r : Result (Unit {0}) PushError) → OnOk a (g ≡ asked)
+      → OptAnswers room grows s.limit (size g) (length s.additionals) a r → OptAnswers room grows s.limit (size asked) (length s.additionals) a r
+  answers_asked g (Ok u) r same h = subst (λ (x : Gathered). OptAnswers room grows s.limit (size x) (length s.additionals) (Ok u) r) same h
+  answers_asked g (Err e) r same h = h
+
+  -- where the record is accepted nothing was refused before
+  accepted_asked : (g : Gathered) (n : ℕ) (a : Result (Unit {0}) AppendError) (v : Unit {0}) → OnOk a (g ≡ asked) → OptAnswers room grows s.limit n (length s.additionals) a (Ok v) → g ≡ asked
+  accepted_asked g n (Ok u) v same h = same
+  accepted_asked g n (Err e) v same h = absurd (cc)
+
+  -- a plan that is carried out in a call of `opt`, for the state
+  module _ (call : OptBuilder → Result (Unit {0}) AppendError → OptBuilder → Type 0) (carries : (b : OptBuilder) (a : Result (Unit {0}) AppendError) (b' : OptBuilder) → call b a b' → CarriesOut plan b b' a)
+      (new : Built) (r : Result (Unit {0}) PushError) (p : PushesOpt room grows rule call s new r) where
+    done_asked : (a : Result (Unit {0}) AppendError) → OnOk a (gathered p.gathers.after ≡ planned plan (gathered p.gathers.before)) → OnOk a (p.g ≡ asked)
+    done_asked (Ok u) done = sym p.gathers.left ∙ done ∙ ap (planned plan) p.gathers.fresh
+    done_asked (Err e) done = tt
+
+    pub gathers_asked : OnOk p.answer (p.g ≡ asked)
+    gathers_asked = done_asked p.answer (carries _ _ _ p.gathers.called).done
+
+    pub adds_asked : AddsAll 0 asked.options p.answer
+    adds_asked =
+        subst (λ (xs : List OptionItem). AddsAll 0 (xs ++ planned_options plan) p.answer) (sym (options_stay plan.rcode (nothing_gathered s.header)))
+        (subst (λ (g : Gathered). AddsAll (gathered_size g) (planned_options plan) p.answer) p.gathers.fresh (carries _ _ _ p.gathers.called).adds)
+
+module _ (room : Option ℕ) (grows : Bool) {Q R : Type 0} (question : Q → QuestionItem) (item : R → RecordItem) (rule : Rule) (plan : OptPlan) (old new : Built) where
+  -- a push of an OPT record steps as its contract says
+  pub opt_stays : (gathers : OptBuilder → Result (Unit {0}) AppendError → OptBuilder → Type 0) (call : Call Q R) (r : Result (Unit {0}) PushError) (reply : Reply)
+      → call ≡ PushOpt plan → MatchResult r (λ _. reply ≡ Done) (λ error. reply ≡ Refused error)
+      → ((b : OptBuilder) (a : Result (Unit {0}) AppendError) (b' : OptBuilder) → gathers b a b' → CarriesOut plan b b' a)
+      → OnErr r (new ≡ old) → InEach InAdditional rule old (λ s. PushesOpt room grows rule gathers s new r)
+      → Stays room grows question item rule InAdditional old call reply new
+  opt_stays gathers call (Ok v) reply is m carries same pushes s h =
+      let has : lacks {Q = Q} {R = R} s.stage (PushOpt plan) ≡ false = ap (λ here. lacks {Q = Q} {R = R} here (PushOpt plan)) h.here in
+      let p = pushes s h in
+      let done = gathers_asked room grows rule plan s gathers carries new (Ok v) p in
+      let all = accepted_asked room grows rule plan s p.g _ p.answer v done p.answers in
+      rw (is, m, has) (
+        record {
+          gathering = p.answer;
+          adds = adds_asked room grows rule plan s gathers carries new (Ok v) p;
+          answers = answers_asked room grows rule plan s p.g p.answer (Ok v) done p.answers;
+          is_gathered = λ _. subst IsGathered all p.is_gathered;
+        },
+        subst (λ (g : Gathered). StandsFor InAdditional rule (with_opt g s) new) all p.accepted,
+      )
+  opt_stays gathers call (Err e) reply is m carries same pushes s h =
+      let has : lacks {Q = Q} {R = R} s.stage (PushOpt plan) ≡ false = ap (λ here. lacks {Q = Q} {R = R} here (PushOpt plan)) h.here in
+      let p = pushes s h in
+      let done = gathers_asked room grows rule plan s gathers carries new (Err e) p in
+      rw (is, m, has) (
+        record {
+          gathering = p.answer;
+          adds = adds_asked room grows rule plan s gathers carries new (Err e) p;
+          answers = answers_asked room grows rule plan s p.g p.answer (Err e) done p.answers;
+          is_gathered = λ told. absurd (cc);
+        },
+        subst (λ b. StandsFor InAdditional rule s b) (sym same) h,
+      )

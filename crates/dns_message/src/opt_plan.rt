@@ -1,0 +1,60 @@
+//! What a call of a script sets and pushes on an OPT builder.
+ghost use Rattle.std.specs.Prelude.{◌≡◌, OnOk, map};
+ghost use Rattle.dns_opt.specs.OptData.{option_of};
+ghost use Rattle.dns_opt_builder.specs.Gathered.{gathered};
+ghost use Rattle.dns_message.specs.OptPlans.{with_fields, with_options, gathered_size, AddsAll, CarriesOut};
+
+use dns_build::OptBuilder;
+use dns_code::OptRcode;
+use dns_data::UnknownOptData;
+use dns_wire::AppendError;
+
+/// What an OPT record of a list of calls says (RFC 6891 section 6.1).
+#[derive(Debug, Drop)]
+pub struct OptPlan {
+    /// How many octets of a message the sender can take over UDP.
+    pub udp_payload_size: u16,
+    /// The rcode; with `None` that of the header stays.
+    pub rcode: Option<OptRcode>,
+    /// The version of EDNS.
+    pub version: u8,
+    /// Whether the sender can take DNSSEC's records (DO, RFC 3225).
+    pub dnssec_ok: bool,
+    /// The options, in order.
+    pub options: Vec<UnknownOptData<Vec<u8>>>,
+}
+
+impl OptPlan {
+    /// Sets the fields of an OPT builder, and adds the options, as far as none is refused.
+    pub(crate) fn gather(&self, builder: &mut OptBuilder) -> Result<(), AppendError>
+        ensures { CarriesOut self.now builder.old builder.new result }
+    {
+        self.set_fields(builder);
+        push_options(&self.options, builder)
+    }
+
+    fn set_fields(&self, builder: &mut OptBuilder)
+        ensures { gathered builder.new ≡ with_fields self.now (gathered builder.old) }
+    {
+        builder.set_udp_payload_size(self.udp_payload_size);
+        if let Some(rcode) = self.rcode {
+            builder.set_rcode(rcode);
+        }
+        builder.set_version(self.version);
+        builder.set_dnssec_ok(self.dnssec_ok);
+    }
+}
+
+fn push_options(
+    options: &[UnknownOptData<Vec<u8>>],
+    builder: &mut OptBuilder,
+) -> Result<(), AppendError>
+    ensures done { OnOk result (gathered builder.new
+        ≡ with_options (map option_of options.now) (gathered builder.old)) }
+    ensures adds { AddsAll (gathered_size (gathered builder.old)) (map option_of options.now) result }
+{
+    for option in options {
+        builder.push(option)?;
+    }
+    Ok(())
+}
