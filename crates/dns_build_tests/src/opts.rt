@@ -66,7 +66,9 @@ fn pushes_the_most_options(rt: HostRuntime) -> Result<(), Fail> {
     assert_eq!(rt; builder.as_slice().len(), 65_558);
     let message = builder.as_message();
     let opt = message.opt().ok_or("no record")?;
-    assert_eq!(rt; opt.opt().iter().count(), 1);
+    let mut options = opt.opt().iter();
+    assert!(rt; options.next().is_some());
+    assert!(rt; options.next().is_none());
     let mut stream = MessageBuilder::new_stream_vec(rt.alloc())?.additional();
     let refused = stream.opt(rt.alloc(), |opt| fill(opt, &octets));
     assert!(rt; matches!(refused, Err(PushError::ShortBuf)));

@@ -41,95 +41,44 @@ octets_of stage = (built_of stage).written.octets
 
 -- Whether a stage lacks a call: a push outside its sections, a rewind where there is no section, and one that sets TC where there is no record section. No stage lacks any other.
 abbrev pub lacks : {Q R : Type 0} → state.Stage → Call Q R → Bool
-lacks InBuilder (PushQuestion x) = true
 lacks InQuestion (PushQuestion x) = false
-lacks InAnswer (PushQuestion x) = true
-lacks InAuthority (PushQuestion x) = true
-lacks InAdditional (PushQuestion x) = true
-lacks InBuilder (PushRecord x) = true
-lacks InQuestion (PushRecord x) = true
+lacks _ (PushQuestion x) = true
 lacks InAnswer (PushRecord x) = false
 lacks InAuthority (PushRecord x) = false
 lacks InAdditional (PushRecord x) = false
-lacks InBuilder (PushOpt plan) = true
-lacks InQuestion (PushOpt plan) = true
-lacks InAnswer (PushOpt plan) = true
-lacks InAuthority (PushOpt plan) = true
+lacks _ (PushRecord x) = true
 lacks InAdditional (PushOpt plan) = false
+lacks _ (PushOpt plan) = true
 lacks InBuilder Rewind = true
-lacks InQuestion Rewind = false
-lacks InAnswer Rewind = false
-lacks InAuthority Rewind = false
-lacks InAdditional Rewind = false
 lacks InBuilder TcRewind = true
 lacks InQuestion TcRewind = true
-lacks InAnswer TcRewind = false
-lacks InAuthority TcRewind = false
-lacks InAdditional TcRewind = false
-lacks stage ToBuilder = false
-lacks stage ToQuestion = false
-lacks stage ToAnswer = false
-lacks stage ToAuthority = false
-lacks stage ToAdditional = false
-lacks stage (SetHeader header) = false
-lacks stage (SetLimit limit) = false
-lacks stage ClearLimit = false
+lacks stage call = false
 
 -- Whether a call is a move.
 abbrev pub is_move : {Q R : Type 0} → Call Q R → Bool
-is_move (PushQuestion x) = false
-is_move (PushRecord x) = false
-is_move (PushOpt plan) = false
-is_move Rewind = false
-is_move TcRewind = false
 is_move ToBuilder = true
 is_move ToQuestion = true
 is_move ToAnswer = true
 is_move ToAuthority = true
 is_move ToAdditional = true
-is_move (SetHeader header) = false
-is_move (SetLimit limit) = false
-is_move ClearLimit = false
+is_move _ = false
 
 -- Whether a call pushes an OPT record.
 abbrev pub is_opt : {Q R : Type 0} → Call Q R → Bool
-is_opt (PushQuestion x) = false
-is_opt (PushRecord x) = false
 is_opt (PushOpt plan) = true
-is_opt Rewind = false
-is_opt TcRewind = false
-is_opt ToBuilder = false
-is_opt ToQuestion = false
-is_opt ToAnswer = false
-is_opt ToAuthority = false
-is_opt ToAdditional = false
-is_opt (SetHeader header) = false
-is_opt (SetLimit limit) = false
-is_opt ClearLimit = false
+is_opt _ = false
 
 -- Whether it does so where OPT records are pushed: at the additional section.
 abbrev pub has_opt : {Q R : Type 0} → state.Stage → Call Q R → Bool
-has_opt InBuilder call = false
-has_opt InQuestion call = false
-has_opt InAnswer call = false
-has_opt InAuthority call = false
 has_opt InAdditional call = is_opt call
+has_opt _ call = false
 
 -- Whether a call changes the header or the limit, and nothing else.
 abbrev pub is_setting : {Q R : Type 0} → Call Q R → Bool
-is_setting (PushQuestion x) = false
-is_setting (PushRecord x) = false
-is_setting (PushOpt plan) = false
-is_setting Rewind = false
-is_setting TcRewind = false
-is_setting ToBuilder = false
-is_setting ToQuestion = false
-is_setting ToAnswer = false
-is_setting ToAuthority = false
-is_setting ToAdditional = false
 is_setting (SetHeader header) = true
 is_setting (SetLimit limit) = true
 is_setting ClearLimit = true
+is_setting _ = false
 
 module _ {Q R : Type 0} (question : Q → QuestionItem) (item : R → RecordItem) where
   -- the state after a call, by the reply to it
@@ -180,16 +129,7 @@ module _ (room : Option ℕ) (grows : Bool) where
     IsAnswer s (PushQuestion x) reply = IsPushReply s.limit (length (fold rule (with_question (question x) s)).octets) (length s.questions) reply
     IsAnswer s (PushRecord x) reply = IsPushReply s.limit (length (fold rule (with_record s.stage (item x) s)).octets) (length (records_at s.stage s)) reply
     IsAnswer s (PushOpt plan) reply = let g = planned_beside s.header plan in IsOptReply g s.limit (length (fold rule (with_record InAdditional (opt_record g) s)).octets) (length s.additionals) reply
-    IsAnswer s Rewind reply = reply ≡ Done
-    IsAnswer s TcRewind reply = reply ≡ Done
-    IsAnswer s ToBuilder reply = reply ≡ Done
-    IsAnswer s ToQuestion reply = reply ≡ Done
-    IsAnswer s ToAnswer reply = reply ≡ Done
-    IsAnswer s ToAuthority reply = reply ≡ Done
-    IsAnswer s ToAdditional reply = reply ≡ Done
-    IsAnswer s (SetHeader header) reply = reply ≡ Done
-    IsAnswer s (SetLimit limit) reply = reply ≡ Done
-    IsAnswer s ClearLimit reply = reply ≡ Done
+    IsAnswer s call reply = reply ≡ Done
 
     -- the reply to a call: `Misplaced` exactly where the stage lacks it
     abbrev pub IsReplyWhere : Bool → State → Call Q R → Reply → Type 0

@@ -54,7 +54,7 @@ fn octets_of(alloc: Global, digits: &str) -> Result<Vec<u8>, Fail> {
     while let [high, low, rest @ ..] = digits {
         let high = char::from(*high).to_digit(16).ok_or("no digit")? as u8;
         let low = char::from(*low).to_digit(16).ok_or("no digit")? as u8;
-        octets.push(high * 16 + low)?;
+        octets.push(high << 4 | low)?;
         digits = rest;
     }
     Ok(octets)
@@ -72,9 +72,10 @@ fn opt_line(alloc: Global, message: &Message<Vec<u8>>) -> Result<Option<String>,
         opt.udp_payload_size(),
         data.len()
     )?;
-    for (place, octet) in data.iter().enumerate() {
-        let space = if place == 0 { " " } else { "" };
+    let mut space = " ";
+    for octet in data.iter() {
         line.push_str(&format!(in alloc; "{space}{octet:02x}")?)?;
+        space = "";
     }
     Ok(Some(line))
 }

@@ -274,6 +274,8 @@ fn reads_what_was_gathered(rt: HostRuntime) -> Result<(), Fail> {
     assert_eq!(rt; message.opt_rcode().to_int(), 23);
     assert_eq!(rt; opt.version(), 0);
     assert!(rt; opt.dnssec_ok());
-    assert_eq!(rt; opt.opt().iter().count(), 1);
+    let mut options = opt.opt().iter();
+    assert!(rt; options.next().is_some());
+    assert!(rt; options.next().is_none());
     Ok(())
 }
