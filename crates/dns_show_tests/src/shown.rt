@@ -50,12 +50,12 @@ pub(crate) fn assert_captures(
 /// The octets that hexadecimal digits write.
 fn octets_of(alloc: Global, digits: &str) -> Result<Vec<u8>, Fail> {
     let mut octets = Vec::new(alloc);
-    let mut digits = digits.as_bytes();
-    while let [high, low, rest @ ..] = digits {
-        let high = char::from(*high).to_digit(16).ok_or("no digit")? as u8;
-        let low = char::from(*low).to_digit(16).ok_or("no digit")? as u8;
-        octets.push(high << 4 | low)?;
-        digits = rest;
+    for pair in digits.as_bytes().chunks_exact(2) {
+        if let [high, low] = pair {
+            let high = char::from(*high).to_digit(16).ok_or("no digit")? as u8;
+            let low = char::from(*low).to_digit(16).ok_or("no digit")? as u8;
+            octets.push(high << 4 | low)?;
+        }
     }
     Ok(octets)
 }
