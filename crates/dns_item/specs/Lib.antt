@@ -3,6 +3,8 @@ pub mod Items
 pub mod RecordHeader
 pub mod ParsedRecord
 pub mod Record
+pub mod RecordOrders
+pub mod Canonical
 pub mod OptRecord
 pub mod RecordReading
 pub mod DataAnswer

@@ -6,12 +6,14 @@
 //! the number that its call names.
 #![tactic(auto)]
 
+mod canonical;
 pub mod laws;
 mod opt_record;
 mod parsed_record;
 pub mod record;
 mod record_error;
 mod record_header;
+mod record_order;
 mod record_print;
 mod record_reading;
 mod ttl;

@@ -190,7 +190,7 @@ impl<N: ToName, D: ComposeRecordData> Record<N, D> {
 }
 
 /// The octets of a type, a class and a TTL.
-fn field_octets(rtype: Rtype, class: Class, ttl: Ttl) -> [u8; 8]
+pub(crate) fn field_octets(rtype: Rtype, class: Class, ttl: Ttl) -> [u8; 8]
     ensures { result ≡ to_be_bytes w16 rtype ++ to_be_bytes w16 class ++ to_be_bytes w32 ttl }
 {
     let [a, b] = rtype.to_int().to_be_bytes();

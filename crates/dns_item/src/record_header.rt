@@ -102,7 +102,7 @@ impl<N: ToName> RecordHeader<N> {
 
 impl<N> RecordHeader<N> {
     /// The octets behind the owner.
-    fn field_octets(&self) -> [u8; 10]
+    pub(crate) fn field_octets(&self) -> [u8; 10]
         ensures { result ≡ header_fields (rtype_of self.now) (class_of self.now) (ttl_of self.now)
             (rdlen_of self.now) }
     {

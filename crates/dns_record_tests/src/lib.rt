@@ -5,6 +5,8 @@
 
 mod char_str;
 #[cfg(test)]
+mod comparisons;
+#[cfg(test)]
 mod data;
 mod fields;
 mod hinfo;

@@ -1,0 +1,20 @@
+-- How records compare: by owner, class and data, never by the TTL. RFC 2136 section 1.1.1.
+use Rattle.std.specs.Prelude.{ℕ, Bool, ◌++◌, ◌==◌}
+use Rattle.std.specs.Hash.{HashWrites, u16}
+use Rattle.std.specs.Ordering.{on, nat_cmp, then_cmp, eq_of_both}
+use Rattle.std.specs.declared.cmp.Ordering.{Ordering}
+use Rattle.dns_item.specs.Record.{owner_of, class_of, data_of}
+use Rattle.dns_item.specs.declared.record.Record.{Record}
+
+module _ {N D : Type 0} where
+  -- records are equal where their owners, classes and data are
+  abbrev pub records_equal : (N → N → Bool) → (D → D → Bool) → Record N D → Record N D → Bool
+  records_equal same_name same_data = eq_of_both (on owner_of same_name) (eq_of_both (on class_of ◌==◌) (on data_of same_data))
+
+  -- their order: that of their owners, else of their classes, else of their data
+  abbrev pub record_order : (N → N → Ordering) → (D → D → Ordering) → Record N D → Record N D → Ordering
+  record_order name_order data_order = then_cmp (on owner_of name_order) (then_cmp (on class_of nat_cmp) (on data_of data_order))
+
+  -- what a record feeds a hasher
+  abbrev pub record_hash_input : (N → HashWrites) → (D → HashWrites) → Record N D → HashWrites
+  record_hash_input of_name of_data r = of_name (owner_of r) ++ (u16 (class_of r) ++ of_data (data_of r))

@@ -1,0 +1,44 @@
+//! Records and their headers in canonical form (RFC 4034 section 6.2).
+ghost use Rattle.dns_wire.specs.Targets.{Composes};
+ghost use Rattle.dns_item.specs.Canonical.{put_canonical_record, put_canonical_header};
+ghost use Rattle.dns_item.specs.Record.{record_item};
+ghost use Rattle.dns_item.specs.RecordHeader.{header_item};
+
+use crate::record::{Record, field_octets};
+use crate::record_header::RecordHeader;
+use dns_data::{ComposeRecordData, compose_canonical_len_rdata};
+use dns_wire::{AppendError, Composer, ToName, ToNameExt};
+
+impl<N: ToName, D: ComposeRecordData> Record<N, D> {
+    /// Appends the record in canonical form: all its names lowercased and uncompressed, in the owner and in the data.
+    ///
+    /// Where it is refused the content still begins with the old one, and a `truncate` to the old length gives the old
+    /// target back.
+    pub fn compose_canonical<T: Composer>(&self, target: &mut T) -> Result<(), AppendError>
+        ensures { Composes T.room T.grows
+            (put_canonical_record T.rule (record_item N.name D.rtype_of D.parts self.now))
+            (T.written target.old) (T.written target.new) result }
+    {
+        let fields = field_octets(self.rtype(), self.class(), self.ttl());
+        self.owner().compose_canonical(target)?;
+        target.append_slice(&fields)?;
+        compose_canonical_len_rdata(self.data(), target)
+    }
+}
+
+impl<N: ToName> RecordHeader<N> {
+    /// Appends the header with its owner lowercased and uncompressed; the length of the data is the given one.
+    ///
+    /// Where it is refused the content still begins with the old one, and a `truncate` to the old length gives the old
+    /// target back.
+    pub fn compose_canonical<T: Composer>(&self, target: &mut T) -> Result<(), AppendError>
+        ensures { Composes T.room T.grows
+            (put_canonical_header (header_item N.name self.now)) (T.written target.old)
+            (T.written target.new) result }
+    {
+        let name = self.owner();
+        let octets = self.field_octets();
+        name.compose_canonical(target)?;
+        target.append_slice(&octets)
+    }
+}
