@@ -1,9 +1,8 @@
 //! Authority records over compressors: which name becomes a pointer, and what a rewind forgets.
-use crate::compressors::{over_each, push_address};
+use crate::compressors::{Step, after, over_each};
 use dns_build::{AuthorityBuilder, MessageBuilder};
-use dns_code::{Flags, Rcode, Rtype};
-use dns_data::{Soa, UnknownRecordData};
-use dns_item::Ttl;
+use dns_code::{Flags, Header, Rcode, Rtype};
+use dns_data::Soa;
 use dns_target::{HashCompressor, StaticCompressor, TreeCompressor};
 use dns_wire::{Composer, Name};
 use std::alloc::Global;
@@ -14,22 +13,27 @@ use std::test::Fail;
 const NEGATIVE_RESPONSE: &[u8; 100] =
     b"\x00\x00\x81\x83\x00\x01\x00\x00\x00\x01\x00\x00\x07example\x00\x00\x02\x00\x01\x00\x00\x06\x00\x01\x00\x01\x51\x76\x00\x40\x01a\x0Croot-servers\x03net\x00\x05nstld\x0Cverisign-grs\x03com\x00\x78\x68\x00\x25\x00\x00\x07\x08\x00\x00\x03\x84\x00\x09\x3A\x80\x00\x01\x51\x80";
 
-/// The message of `NEGATIVE_RESPONSE`.
-fn build_response<T: Composer>(target: T) -> Result<AuthorityBuilder<T>, Fail> {
-    let mut builder = MessageBuilder::from_target(target)?.question();
-    let mut header = builder.header();
+/// The header of `NEGATIVE_RESPONSE`.
+fn no_such_domain() -> Header {
     let mut flags = Flags::new();
     flags.qr = true;
     flags.rd = true;
     flags.ra = true;
+    let mut header = Header::new();
     header.set_flags(flags);
     header.set_rcode(Rcode::NXDOMAIN);
-    builder.set_header(header);
-    builder.push((Name::from_octets(*b"\x07example\x00")?, Rtype::NS))?;
-    let mut builder = builder.authority();
+    header
+}
+
+/// The message of `NEGATIVE_RESPONSE`.
+fn build_response<T: Composer>(target: T) -> Result<AuthorityBuilder<T>, Fail> {
     let mname = Name::from_octets(b"\x01a\x0Croot-servers\x03net\x00".as_slice())?;
     let rname = Name::from_octets(b"\x05nstld\x0Cverisign-grs\x03com\x00".as_slice())?;
     let soa = Soa::new(&mname, &rname, 2_020_081_701, 1_800, 900, 604_800, 86_400);
+    let mut builder = MessageBuilder::from_target(target)?.question();
+    builder.set_header(no_such_domain());
+    builder.push((Name::from_octets(*b"\x07example\x00")?, Rtype::NS))?;
+    let mut builder = builder.authority();
     builder.push((Name::from_octets([0])?, 86_390, &soa))?;
     Ok(builder)
 }
@@ -52,22 +56,15 @@ fn assert_rewind_across_the_bound<T: Composer>(
     alloc: Global,
     target: T,
 ) -> Result<(), Fail> {
-    let mut octets = Vec::new(alloc);
-    octets.resize(16_359, 0)?;
-    let padding = UnknownRecordData::from_octets(Rtype::TXT, octets)?;
-    let mut answers = MessageBuilder::from_target(target)?.answer();
-    answers.push((Name::from_octets([0])?, Ttl::HOUR, padding))?;
-    assert_eq!(rt; answers.as_slice().len(), 16_382);
-    let mut builder = answers.authority();
-    assert_eq!(rt; push_address(&mut builder, *b"\x01a\x01b\x00")?, 16_401);
-    builder.rewind();
-    assert_eq!(rt; builder.as_slice().len(), 16_382);
-    assert_eq!(rt; push_address(&mut builder, *b"\x01a\x00")?, 16_399);
-    assert_eq!(rt; push_address(&mut builder, *b"\x01a\x00")?, 16_415);
-    assert_eq!(rt;
-        builder.as_slice().get(16_399..16_401),
-        Some(b"\xFF\xFE".as_slice())
-    );
+    let answers = MessageBuilder::from_target(target)?.answer();
+    let answers = after(rt, alloc, answers, &[Step::Opaque(b"\x00", 16_359, 16_382)])?;
+    let steps = [
+        Step::Address(b"\x01a\x01b\x00", 16_401, b"\x01a\x01b\x00"),
+        Step::Rewind(16_382),
+        Step::Address(b"\x01a\x00", 16_399, b"\x01a\x00"),
+        Step::Address(b"\x01a\x00", 16_415, b"\xFF\xFE"),
+    ];
+    let builder = after(rt, alloc, answers.authority(), &steps)?;
     assert_eq!(rt; builder.counts().nscount(), 2);
     Ok(())
 }

@@ -1,10 +1,14 @@
 //! Builders: what their octets are, and how a push is refused.
+use crate::compressors::over_each;
 use arrayvec::ArrayVec;
 use dns_build::{MessageBuilder, PushError, QuestionBuilder};
 use dns_code::{Class, Header, Opcode, Rcode, Rtype};
+use dns_item::Question;
 use dns_read::Message;
 use dns_target::{HashCompressor, StaticCompressor, TreeCompressor};
-use dns_wire::{AppendError, Composer, FreezeBuilder, Name, Octets, ToNameExt};
+use dns_wire::{
+    AppendError, Composer, FreezeBuilder, Name, Octets, ParseError, ParsedName, ToNameExt,
+};
 use std::alloc::Global;
 use std::process::Abort;
 use std::test::Fail;
@@ -36,7 +40,32 @@ fn assert_refused<T: Composer>(
     Ok(())
 }
 
-/// The message has so many questions in the class IN for A records, and no fault.
+/// Pushes a question of the root. The message has so many octets then.
+fn assert_pushed<T: Composer>(
+    rt: &impl Abort,
+    builder: &mut QuestionBuilder<T>,
+    len: usize,
+) -> Result<(), Fail> {
+    builder.push((Name::from_octets([0])?, Rtype::A))?;
+    assert_eq!(rt; builder.as_slice().len(), len);
+    Ok(())
+}
+
+/// The question asks for A records of this name in the class IN.
+fn assert_asks(
+    rt: &impl Abort,
+    question: Option<Result<Question<ParsedName<'_>>, ParseError>>,
+    name: &[u8],
+) -> Result<(), Fail> {
+    let Some(Ok(question)) = question else {
+        panic!(rt; "no question");
+    };
+    assert!(rt; question.qname().octets_eq(&Name::from_octets(name)?));
+    assert!(rt; question.qtype() == Rtype::A && question.qclass() == Class::IN);
+    Ok(())
+}
+
+/// The message has these questions in the class IN for A records, and no fault.
 fn assert_questions<Octs: Octets>(
     rt: &impl Abort,
     message: &Message<Octs>,
@@ -45,11 +74,7 @@ fn assert_questions<Octs: Octets>(
     assert_eq!(rt; usize::from(message.header_counts().qdcount()), names.len());
     let mut questions = message.question();
     for name in names {
-        let Some(Ok(question)) = questions.next() else {
-            panic!(rt; "no question");
-        };
-        assert!(rt; question.qname().octets_eq(&Name::from_octets(*name)?));
-        assert!(rt; question.qtype() == Rtype::A && question.qclass() == Class::IN);
+        assert_asks(rt, questions.next(), name)?;
     }
     assert!(rt; questions.next().is_none());
     Ok(())
@@ -94,21 +119,21 @@ fn a_limit_is_inclusive(rt: HostRuntime) -> Result<(), Fail> {
     builder.set_push_limit(16);
     assert_refused(&rt, &mut builder, PushError::LimitExceeded)?;
     builder.set_push_limit(17);
-    builder.push((Name::from_octets([0])?, Rtype::A))?;
-    assert_eq!(rt; builder.as_slice().len(), 17);
+    assert_pushed(&rt, &mut builder, 17)?;
     assert_eq!(rt; builder.push_limit(), Some(17));
     builder.set_push_limit(usize::MAX);
     assert!(rt; builder.push_limit().is_none());
+    Ok(())
+}
 
+#[test]
+fn a_limit_is_cleared(rt: HostRuntime) -> Result<(), Fail> {
     let mut builder = questions_in_vec(rt.alloc())?;
     builder.set_push_limit(18);
-    builder.push((Name::from_octets([0])?, Rtype::A))?;
-    assert_eq!(rt; builder.as_slice().len(), 17);
+    assert_pushed(&rt, &mut builder, 17)?;
     assert_refused(&rt, &mut builder, PushError::LimitExceeded)?;
     builder.clear_push_limit();
-    builder.push((Name::from_octets([0])?, Rtype::A))?;
-    assert_eq!(rt; builder.as_slice().len(), 22);
-    Ok(())
+    assert_pushed(&rt, &mut builder, 22)
 }
 
 #[test]
@@ -131,79 +156,61 @@ fn a_section_has_at_most_65535_questions(rt: HostRuntime) -> Result<(), Fail> {
 #[test]
 fn room_is_tested_before_the_limit(rt: HostRuntime) -> Result<(), Fail> {
     let mut builder = MessageBuilder::from_target(ArrayVec::<u8, 17>::new())?.question();
-    builder.push((Name::from_octets([0])?, Rtype::A))?;
+    assert_pushed(&rt, &mut builder, 17)?;
     builder.set_push_limit(17);
-    assert_refused(&rt, &mut builder, PushError::ShortBuf)?;
-    assert_eq!(rt; builder.as_slice().len(), 17);
-    Ok(())
+    assert_refused(&rt, &mut builder, PushError::ShortBuf)
 }
 
-#[test]
-fn moves_and_rewinds_take_questions_out(rt: HostRuntime) -> Result<(), Fail> {
+/// The header of a response that refuses a NOTIFY.
+fn refused_notify() -> Header {
     let mut header = Header::new();
     header.set_id(0x1234);
     header.set_qr(true);
     header.set_opcode(Opcode::NOTIFY);
     header.set_rcode(Rcode::REFUSED);
+    header
+}
+
+/// The message of this header and no items.
+const REFUSED_NOTIFY: &[u8; 12] = b"\x12\x34\xA0\x05\x00\x00\x00\x00\x00\x00\x00\x00";
+
+#[test]
+fn a_rewind_takes_questions_out(rt: HostRuntime) -> Result<(), Fail> {
     let mut builder = questions_in_vec(rt.alloc())?;
-    builder.set_header(header);
-    builder.set_push_limit(100);
-    builder.push((Name::from_octets([0])?, Rtype::A))?;
+    builder.set_header(refused_notify());
+    assert_pushed(&rt, &mut builder, 17)?;
     builder.rewind();
-    assert_eq!(rt;
-        builder.as_slice(),
-        b"\x12\x34\xA0\x05\x00\x00\x00\x00\x00\x00\x00\x00".as_slice()
-    );
-    builder.push((Name::from_octets([0])?, Rtype::A))?;
+    assert_eq!(rt; builder.as_slice(), REFUSED_NOTIFY.as_slice());
+    assert_pushed(&rt, &mut builder, 17)
+}
+
+#[test]
+fn moves_take_questions_out(rt: HostRuntime) -> Result<(), Fail> {
+    let mut builder = questions_in_vec(rt.alloc())?;
+    builder.set_header(refused_notify());
+    builder.set_push_limit(100);
+    assert_pushed(&rt, &mut builder, 17)?;
     let builder = builder.question();
     assert_eq!(rt; builder.as_slice().len(), 17);
-    let mut builder = builder.builder();
-    assert_eq!(rt; builder.as_slice().len(), 12);
-    assert!(rt; builder.header() == header);
+    let builder = builder.builder();
+    assert_eq!(rt; builder.as_slice(), REFUSED_NOTIFY.as_slice());
     assert_eq!(rt; builder.push_limit(), Some(100));
-    assert_eq!(rt; builder.counts().qdcount(), 0);
-    builder.set_header(Header::new());
-    assert_eq!(rt; builder.builder().as_slice(), [0; 12].as_slice());
     Ok(())
 }
 
 #[test]
 fn clones_go_on_by_themselves(rt: HostRuntime) -> Result<(), Fail> {
-    let name = Name::from_octets(*b"\x01a\x00")?;
     let mut builder = questions_in_vec(rt.alloc())?;
-    builder.push((name, Rtype::A))?;
+    assert_pushed(&rt, &mut builder, 17)?;
     let mut clone = builder.clone()?;
-    clone.push((name, Rtype::A))?;
-    assert_eq!(rt; clone.as_slice().len(), 26);
-    assert_eq!(rt; builder.as_slice().len(), 19);
+    assert_pushed(&rt, &mut clone, 22)?;
+    assert_eq!(rt; builder.as_slice().len(), 17);
     Ok(())
 }
 
-/// Pushes four questions whose names share endings, and answers the length after each.
-fn lengths_of_shared_endings<T: Composer>(
-    builder: &mut QuestionBuilder<T>,
-) -> Result<[usize; 4], Fail> {
-    builder.push((Name::from_octets(*b"\x01a\x01b\x01c\x00")?, Rtype::A))?;
-    let first = builder.as_slice().len();
-    builder.push((Name::from_octets(*b"\x01b\x01c\x00")?, Rtype::A))?;
-    let second = builder.as_slice().len();
-    builder.push((Name::from_octets(*b"\x01x\x01b\x01c\x00")?, Rtype::A))?;
-    let third = builder.as_slice().len();
-    builder.push((Name::from_octets(*b"\x01c\x00")?, Rtype::A))?;
-    Ok([first, second, third, builder.as_slice().len()])
-}
+/// Names that share endings, as they are read and as octets.
+const SHARED_TEXTS: [&str; 4] = ["a.b.c", "b.c", "x.b.c", "c"];
 
-/// Pushes the four questions, takes them out and pushes them again, over a target that compresses.
-fn assert_shares_endings<T: Composer>(rt: &impl Abort, target: T) -> Result<(), Fail> {
-    let mut builder = MessageBuilder::from_target(target)?.question();
-    assert_eq!(rt; lengths_of_shared_endings(&mut builder)?, [23, 29, 37, 43]);
-    assert_questions(rt, &builder.as_message(), &SHARED_ENDINGS)?;
-    builder.rewind();
-    assert_eq!(rt; lengths_of_shared_endings(&mut builder)?, [23, 29, 37, 43]);
-    Ok(())
-}
-
-/// The names of the four questions.
 const SHARED_ENDINGS: [&[u8]; 4] = [
     b"\x01a\x01b\x01c\x00",
     b"\x01b\x01c\x00",
@@ -211,44 +218,61 @@ const SHARED_ENDINGS: [&[u8]; 4] = [
     b"\x01c\x00",
 ];
 
-#[test]
-fn compresses_suffixes_of_suffixes(rt: HostRuntime) -> Result<(), Fail> {
-    let mut plain = questions_in_vec(rt.alloc())?;
-    assert_eq!(rt; lengths_of_shared_endings(&mut plain)?, [23, 32, 43, 50]);
-    assert_questions(&rt, &plain.as_message(), &SHARED_ENDINGS)?;
-    assert_shares_endings(&rt, StaticCompressor::new(Vec::new(rt.alloc())))?;
-    assert_shares_endings(&rt, TreeCompressor::new(rt.alloc(), Vec::new(rt.alloc())))?;
-    assert_shares_endings(&rt, HashCompressor::new(rt.alloc(), Vec::new(rt.alloc())))
+/// Pushes questions for the names. The message has so many octets behind each.
+fn push_shared_endings<T: Composer>(
+    rt: &impl Abort,
+    alloc: Global,
+    builder: &mut QuestionBuilder<T>,
+    lens: [usize; 4],
+) -> Result<(), Fail> {
+    for (text, len) in SHARED_TEXTS.iter().zip(&lens) {
+        let name = Name::vec_from_str(alloc, text)?;
+        builder.push((&name, Rtype::A))?;
+        assert_eq!(rt; builder.as_slice().len(), *len);
+    }
+    Ok(())
 }
 
-/// Pushes the questions a. to x., and y. twice; the message then has so many octets.
+/// Pushes the questions, takes them out and pushes them again.
+fn assert_shares_endings<T: Composer>(
+    rt: &impl Abort,
+    alloc: Global,
+    target: T,
+    lens: [usize; 4],
+) -> Result<(), Fail> {
+    let mut builder = MessageBuilder::from_target(target)?.question();
+    push_shared_endings(rt, alloc, &mut builder, lens)?;
+    assert_questions(rt, &builder.as_message(), &SHARED_ENDINGS)?;
+    builder.rewind();
+    push_shared_endings(rt, alloc, &mut builder, lens)
+}
+
+#[test]
+fn compresses_suffixes_of_suffixes(rt: HostRuntime) -> Result<(), Fail> {
+    let alloc = rt.alloc();
+    assert_shares_endings(&rt, alloc, Vec::new(alloc), [23, 32, 43, 50])?;
+    let lens = [23, 29, 37, 43];
+    over_each!(alloc, target => assert_shares_endings(&rt, alloc, target, lens))
+}
+
+/// Pushes the questions a. to y., and y. once more; the message then has so many octets.
 fn assert_25_names<T: Composer>(rt: &impl Abort, target: T, len: usize) -> Result<(), Fail> {
     let mut builder = MessageBuilder::from_target(target)?.question();
-    for letter in b'a'..=b'x' {
+    for letter in b'a'..=b'y' {
         builder.push((Name::from_octets([1, letter, 0])?, Rtype::A))?;
     }
-    assert_eq!(rt; builder.as_slice().len(), 180);
-    let last = Name::from_octets(*b"\x01y\x00")?;
-    builder.push((last, Rtype::A))?;
     assert_eq!(rt; builder.as_slice().len(), 187);
-    builder.push((last, Rtype::A))?;
+    builder.push((Name::from_octets(*b"\x01y\x00")?, Rtype::A))?;
     assert_eq!(rt; builder.as_slice().len(), len);
     Ok(())
 }
 
 #[test]
 fn a_static_compressor_holds_24_suffixes(rt: HostRuntime) -> Result<(), Fail> {
-    assert_25_names(&rt, StaticCompressor::new(Vec::new(rt.alloc())), 194)?;
-    assert_25_names(
-        &rt,
-        TreeCompressor::new(rt.alloc(), Vec::new(rt.alloc())),
-        193,
-    )?;
-    assert_25_names(
-        &rt,
-        HashCompressor::new(rt.alloc(), Vec::new(rt.alloc())),
-        193,
-    )
+    let alloc = rt.alloc();
+    assert_25_names(&rt, StaticCompressor::new(Vec::new(alloc)), 194)?;
+    assert_25_names(&rt, TreeCompressor::new(alloc, Vec::new(alloc)), 193)?;
+    assert_25_names(&rt, HashCompressor::new(alloc, Vec::new(alloc)), 193)
 }
 
 /// An empty message over a target is twelve zero octets.
@@ -260,7 +284,5 @@ fn assert_frozen_empty<T: FreezeBuilder>(rt: &impl Abort, target: T) -> Result<(
 
 #[test]
 fn compressors_give_their_message(rt: HostRuntime) -> Result<(), Fail> {
-    assert_frozen_empty(&rt, StaticCompressor::new(Vec::new(rt.alloc())))?;
-    assert_frozen_empty(&rt, TreeCompressor::new(rt.alloc(), Vec::new(rt.alloc())))?;
-    assert_frozen_empty(&rt, HashCompressor::new(rt.alloc(), Vec::new(rt.alloc())))
+    over_each!(rt.alloc(), target => assert_frozen_empty(&rt, target))
 }

@@ -1,108 +1,107 @@
 //! Answers that are pushed, refused and taken out again.
+use crate::compressors::{Step, after, push_address, push_opaque};
 use arrayvec::ArrayVec;
 use dns_build::{AnswerBuilder, MessageBuilder, PushError};
 use dns_code::{Class, Rtype};
-use dns_data::{A, UnknownRecordData};
-use dns_item::Ttl;
+use dns_data::A;
 use dns_read::Message;
-use dns_wire::{Composer, Name, ToNameExt};
+use dns_wire::{Name, Octets, ToNameExt};
 use std::alloc::Global;
+use std::process::Abort;
 use std::test::Fail;
 
-/// Pushes a record with the root as owner and so many octets of data.
-fn push_opaque<T: Composer>(
-    alloc: Global,
-    builder: &mut AnswerBuilder<T>,
-    len: usize,
-) -> Result<Result<(), PushError>, Fail> {
-    let mut octets = Vec::new(alloc);
-    octets.resize(len, 0)?;
-    let data = UnknownRecordData::from_octets(Rtype::TXT, octets)?;
-    Ok(builder.push((Name::from_octets([0])?, Ttl::HOUR, data)))
-}
+const EXAMPLE_COM: &[u8; 13] = b"\x07example\x03com\x00";
 
-#[test]
-fn builds_an_answer(rt: HostRuntime) -> Result<(), Fail> {
-    let name = Name::from_octets(*b"\x07example\x03com\x00")?;
-    let mut builder = MessageBuilder::new_vec(rt.alloc())?.answer();
-    assert_eq!(rt; builder.as_slice().len(), 12);
-    builder.push((&name, Class::IN, 3600, A::from_octets(203, 0, 113, 1)))?;
-    assert_eq!(rt;
-        builder.as_slice(),
-        b"\x00\x00\x00\x00\x00\x00\x00\x01\x00\x00\x00\x00\x07example\x03com\x00\x00\x01\x00\x01\x00\x00\x0E\x10\x00\x04\xCB\x00\x71\x01".as_slice()
-    );
-    let message = builder.into_message();
-    let Some(Ok(answer)) = message.answer()?.next() else {
-        panic!(rt; "no record")
-    };
-    let Ok(Some(record)) = answer.to_record::<A>() else {
+/// The message has one answer, the address 203.0.113.1 of example.com.
+fn assert_answer<Octs: Octets>(rt: &impl Abort, message: &Message<Octs>) -> Result<(), Fail> {
+    let Some(Ok(record)) = message.answer()?.limit_to::<A>().next() else {
         panic!(rt; "no address")
     };
-    assert!(rt; record.owner().octets_eq(&name));
+    assert!(rt; record.owner().octets_eq(&Name::from_octets(*EXAMPLE_COM)?));
     assert_eq!(rt; record.data().octets(), [203, 0, 113, 1]);
     Ok(())
 }
 
 #[test]
+fn builds_an_answer(rt: HostRuntime) -> Result<(), Fail> {
+    let name = Name::from_octets(*EXAMPLE_COM)?;
+    let mut builder = MessageBuilder::new_vec(rt.alloc())?.answer();
+    builder.push((&name, Class::IN, 3600, A::from_octets(203, 0, 113, 1)))?;
+    let message = builder.into_message();
+    assert_eq!(rt;
+        message.as_slice(),
+        b"\x00\x00\x00\x00\x00\x00\x00\x01\x00\x00\x00\x00\x07example\x03com\x00\x00\x01\x00\x01\x00\x00\x0E\x10\x00\x04\xCB\x00\x71\x01".as_slice()
+    );
+    assert_answer(&rt, &message)
+}
+
+/// A builder of answers behind a question for example.com.
+fn asked(alloc: Global) -> Result<AnswerBuilder<Vec<u8>>, Fail> {
+    let mut builder = MessageBuilder::new_vec(alloc)?.question();
+    builder.push((Name::from_octets(*EXAMPLE_COM)?, Rtype::A))?;
+    Ok(builder.answer())
+}
+
+#[test]
 fn builds_a_question_and_an_answer(rt: HostRuntime) -> Result<(), Fail> {
-    let name = Name::from_octets(*b"\x07example\x03com\x00")?;
-    let mut builder = MessageBuilder::new_vec(rt.alloc())?.question();
-    builder.push((&name, Rtype::A))?;
-    let mut builder = builder.answer();
+    let mut builder = asked(rt.alloc())?;
+    let name = Name::from_octets(*EXAMPLE_COM)?;
     builder.push_ref(&(&name, 3600, A::from_octets(203, 0, 113, 1)))?;
     assert_eq!(rt; builder.as_slice().len(), 56);
-    assert_eq!(rt; builder.counts().qdcount(), 1);
-    assert_eq!(rt; builder.counts().ancount(), 1);
+    let counts = builder.counts();
+    assert_eq!(rt; (counts.qdcount(), counts.ancount()), (1, 1));
     Ok(())
 }
 
 #[test]
-fn refuses_above_the_limit_and_the_room(rt: HostRuntime) -> Result<(), Fail> {
+fn refuses_above_the_limit(rt: HostRuntime) -> Result<(), Fail> {
     let mut builder = MessageBuilder::from_target(ArrayVec::<u8, 100>::new())?.answer();
-    push_opaque(rt.alloc(), &mut builder, 39)??;
-    assert_eq!(rt; builder.as_slice().len(), 62);
+    push_opaque(rt.alloc(), &mut builder, b"\x00", 39)??;
     builder.set_push_limit(25);
-    assert!(rt;
-        matches!(
-            push_opaque(rt.alloc(), &mut builder, 0)?,
-            Err(PushError::LimitExceeded)
-        )
-    );
+    let refused = push_opaque(rt.alloc(), &mut builder, b"\x00", 0)?;
+    assert!(rt; matches!(refused, Err(PushError::LimitExceeded)));
     assert_eq!(rt; builder.as_slice().len(), 62);
     builder.clear_push_limit();
-    push_opaque(rt.alloc(), &mut builder, 27)??;
-    assert_eq!(rt; builder.as_slice().len(), 100);
-    assert!(rt;
-        matches!(
-            push_opaque(rt.alloc(), &mut builder, 0)?,
-            Err(PushError::ShortBuf)
-        )
-    );
-    assert_eq!(rt; builder.as_slice().len(), 100);
+    assert!(rt; push_opaque(rt.alloc(), &mut builder, b"\x00", 0)?.is_ok());
+    Ok(())
+}
+
+#[test]
+fn refuses_above_the_room(rt: HostRuntime) -> Result<(), Fail> {
+    let steps = [
+        Step::Opaque(b"\x00", 39, 62),
+        Step::Opaque(b"\x00", 27, 100),
+        Step::Refused(b"\x00", 0, 100),
+    ];
+    let builder = MessageBuilder::from_target(ArrayVec::<u8, 100>::new())?.answer();
+    let builder = after(&rt, rt.alloc(), builder, &steps)?;
     assert_eq!(rt; builder.counts().ancount(), 2);
     Ok(())
 }
 
 #[test]
-fn takes_answers_out(rt: HostRuntime) -> Result<(), Fail> {
-    let name = Name::from_octets(*b"\x07example\x03com\x00")?;
-    let mut builder = MessageBuilder::new_vec(rt.alloc())?.question();
-    builder.push((&name, Rtype::A))?;
-    let mut builder = builder.answer();
-    builder.push((&name, 3600, A::from_octets(203, 0, 113, 1)))?;
+fn a_rewind_takes_answers_out(rt: HostRuntime) -> Result<(), Fail> {
+    let mut builder = asked(rt.alloc())?;
+    push_address(&mut builder, EXAMPLE_COM)??;
+    assert_eq!(rt; builder.as_slice().len(), 56);
     builder.rewind();
     assert_eq!(rt; builder.as_slice().len(), 29);
     assert_eq!(rt; builder.counts().ancount(), 0);
-    builder.push((&name, 3600, A::from_octets(203, 0, 113, 1)))?;
+    Ok(())
+}
+
+#[test]
+fn takes_answers_out_into_another_section(rt: HostRuntime) -> Result<(), Fail> {
+    let mut builder = asked(rt.alloc())?;
+    push_address(&mut builder, EXAMPLE_COM)??;
     let mut builder = builder.tc_rewind_into();
     assert_eq!(rt; builder.as_slice().len(), 29);
     assert!(rt; builder.header().tc());
-    builder.push((&name, 3600, A::from_octets(203, 0, 113, 1)))?;
+    push_address(&mut builder, EXAMPLE_COM)??;
     let builder = builder.rewind_into();
     assert_eq!(rt; builder.as_slice().len(), 29);
-    let builder = builder.builder();
     assert_eq!(rt;
-        builder.as_slice(),
+        builder.builder().as_slice(),
         b"\x00\x00\x02\x00\x00\x00\x00\x00\x00\x00\x00\x00".as_slice()
     );
     Ok(())

@@ -1,7 +1,7 @@
 //! Answers and questions over compressors: which name becomes a pointer.
 use arrayvec::ArrayVec;
 use dns_build::{AnswerBuilder, Builder, MessageBuilder, PushError, QuestionBuilder, RecordStage};
-use dns_code::{Flags, Rtype};
+use dns_code::{Flags, Header, Rtype};
 use dns_data::{A, Ns, UnknownRecordData};
 use dns_item::Ttl;
 use dns_target::{HashCompressor, StaticCompressor, TreeCompressor};
@@ -28,35 +28,147 @@ pub(crate) use over_each;
 const POSITIVE_RESPONSE: &[u8; 45] =
     b"\x00\x00\x81\xA0\x00\x01\x00\x01\x00\x00\x00\x00\x07example\x03com\x00\x00\x01\x00\x01\xC0\x0C\x00\x01\x00\x01\x00\x00\x0E\x10\x00\x04\xCB\x00\x71\x01";
 
-const EXAMPLE_COM: &[u8] = b"\x07example\x03com\x00";
+const EXAMPLE_COM: &[u8; 13] = b"\x07example\x03com\x00";
 
-/// A builder of the answer section over a target.
+/// A builder of answers over a target.
 fn answers_over<T: Composer>(target: T) -> Result<AnswerBuilder<T>, Fail> {
     Ok(MessageBuilder::from_target(target)?.answer())
 }
 
-/// Pushes an address of a name, and gives the length of the message.
-pub(crate) fn push_address<T: Composer, S: RecordStage, const N: usize>(
+/// A builder of answers behind a question for this name.
+fn answers_behind<T: Composer, const N: usize>(
+    target: T,
+    qname: [u8; N],
+) -> Result<AnswerBuilder<T>, Fail> {
+    let mut builder = MessageBuilder::from_target(target)?.question();
+    builder.push((Name::from_octets(qname)?, Rtype::A))?;
+    Ok(builder.answer())
+}
+
+/// Pushes an address of a name, and gives the answer.
+pub(crate) fn push_address<T: Composer, S: RecordStage>(
     builder: &mut Builder<T, S>,
-    owner: [u8; N],
-) -> Result<usize, Fail> {
+    owner: &[u8],
+) -> Result<Result<(), PushError>, Fail> {
     let address = A::from_octets(203, 0, 113, 1);
-    builder.push((Name::from_octets(owner)?, 3600, address))?;
-    Ok(builder.as_slice().len())
+    Ok(builder.push((Name::from_octets(owner)?, 3600, address)))
+}
+
+/// Pushes a record of so many octets of opaque data, and gives the answer.
+pub(crate) fn push_opaque<T: Composer, S: RecordStage>(
+    alloc: Global,
+    builder: &mut Builder<T, S>,
+    owner: &[u8],
+    count: usize,
+) -> Result<Result<(), PushError>, Fail> {
+    let mut octets = Vec::new(alloc);
+    octets.resize(count, 0)?;
+    let data = UnknownRecordData::from_octets(Rtype::TXT, octets)?;
+    Ok(builder.push((Name::from_octets(owner)?, Ttl::HOUR, data)))
+}
+
+/// A step on a builder of records, with the length of the message behind it.
+#[derive(Clone, Copy)]
+pub(crate) enum Step {
+    /// An address of a name is pushed, and its owner is written so.
+    Address(&'static [u8], usize, &'static [u8]),
+    /// A record with so many octets of opaque data is pushed.
+    Opaque(&'static [u8], usize, usize),
+    /// Such a record is refused for room.
+    Refused(&'static [u8], usize, usize),
+    /// The records are taken out.
+    Rewind(usize),
+}
+
+/// The octets of the last record that has an address, whose owner takes so many.
+fn last_owner(octets: &[u8], len: usize) -> &[u8] {
+    let end = octets.len().saturating_sub(14);
+    &octets[end.saturating_sub(len)..end]
+}
+
+/// Takes a step, and gives the length that the message is to have then.
+fn take<T: Composer, S: RecordStage>(
+    rt: &impl Abort,
+    alloc: Global,
+    builder: &mut Builder<T, S>,
+    step: Step,
+) -> Result<usize, Fail> {
+    match step {
+        Step::Address(name, len, owner) => {
+            push_address(builder, name)??;
+            assert_eq!(rt; last_owner(builder.as_slice(), owner.len()), owner);
+            Ok(len)
+        }
+        Step::Opaque(name, count, len) => {
+            push_opaque(alloc, builder, name, count)??;
+            Ok(len)
+        }
+        Step::Refused(name, count, len) => {
+            let answer = push_opaque(alloc, builder, name, count)?;
+            assert!(rt; matches!(answer, Err(PushError::ShortBuf)));
+            Ok(len)
+        }
+        Step::Rewind(len) => {
+            builder.rewind();
+            Ok(len)
+        }
+    }
+}
+
+/// The builder behind the steps.
+pub(crate) fn after<T: Composer, S: RecordStage>(
+    rt: &impl Abort,
+    alloc: Global,
+    mut builder: Builder<T, S>,
+    steps: &[Step],
+) -> Result<Builder<T, S>, Fail> {
+    for step in steps {
+        let len = take(rt, alloc, &mut builder, *step)?;
+        assert_eq!(rt; builder.as_slice().len(), len);
+    }
+    Ok(builder)
+}
+
+/// Takes the steps on an empty message over a target.
+fn assert_row<T: Composer>(
+    rt: &impl Abort,
+    alloc: Global,
+    target: T,
+    steps: &[Step],
+) -> Result<(), Fail> {
+    after(rt, alloc, answers_over(target)?, steps)?;
+    Ok(())
+}
+
+/// Takes the steps on a message with a question for this name.
+fn assert_row_behind<T: Composer, const N: usize>(
+    rt: &impl Abort,
+    alloc: Global,
+    target: T,
+    qname: [u8; N],
+    steps: &[Step],
+) -> Result<(), Fail> {
+    after(rt, alloc, answers_behind(target, qname)?, steps)?;
+    Ok(())
+}
+
+/// The header of `POSITIVE_RESPONSE`.
+fn response() -> Header {
+    let mut flags = Flags::new();
+    flags.qr = true;
+    flags.rd = true;
+    flags.ra = true;
+    flags.ad = true;
+    let mut header = Header::new();
+    header.set_flags(flags);
+    header
 }
 
 /// A message of the question and the answer of `POSITIVE_RESPONSE`.
 fn build_response<T: Composer>(target: T) -> Result<AnswerBuilder<T>, Fail> {
     let name = Name::from_octets(*b"\x07example\x03com\x00")?;
     let mut builder = MessageBuilder::from_target(target)?.question();
-    let mut header = builder.header();
-    let mut flags = Flags::new();
-    flags.qr = true;
-    flags.rd = true;
-    flags.ra = true;
-    flags.ad = true;
-    header.set_flags(flags);
-    builder.set_header(header);
+    builder.set_header(response());
     builder.push((&name, Rtype::A))?;
     let mut builder = builder.answer();
     builder.push((&name, 3600, A::from_octets(203, 0, 113, 1)))?;
@@ -77,74 +189,44 @@ fn compresses_a_positive_response(rt: HostRuntime) -> Result<(), Fail> {
     assert_response(&rt, StaticCompressor::new(ArrayVec::<u8, 45>::new()))
 }
 
-/// Pushes a record of opaque data, of so many octets, and gives the length of the message.
-fn push_opaque<T: Composer, const N: usize>(
-    alloc: Global,
-    builder: &mut AnswerBuilder<T>,
-    owner: [u8; N],
-    len: usize,
-) -> Result<usize, Fail> {
-    let mut octets = Vec::new(alloc);
-    octets.resize(len, 0)?;
-    let data = UnknownRecordData::from_octets(Rtype::TXT, octets)?;
-    builder.push((Name::from_octets(owner)?, Ttl::HOUR, data))?;
-    Ok(builder.as_slice().len())
-}
+const ROOT: &[u8] = b"\x00";
 
-/// The octets of the last record that has an address, whose owner takes so many.
-fn last_owner<T: Composer>(builder: &AnswerBuilder<T>, len: usize) -> &[u8] {
-    let octets = builder.as_slice();
-    let end = octets.len().saturating_sub(14);
-    &octets[end.saturating_sub(len)..end]
-}
+const LETTER_A: &[u8] = b"\x01a\x00";
 
-/// Pushes an address of a name: the length of the message then, and the octets of the owner.
-fn assert_pushed<T: Composer, const N: usize>(
-    rt: &impl Abort,
-    builder: &mut AnswerBuilder<T>,
-    name: [u8; N],
-    len: usize,
-    owner: &[u8],
-) -> Result<(), Fail> {
-    assert_eq!(rt; push_address(builder, name)?, len);
-    assert_eq!(rt; last_owner(builder, owner.len()), owner);
-    Ok(())
-}
+const A_B: &[u8] = b"\x01a\x01b\x00";
 
-/// A rewind forgets the names that were taken out.
-fn assert_rewind_forgets<T: Composer>(rt: &impl Abort, target: T) -> Result<(), Fail> {
-    let name = *b"\x07example\x03com\x00";
-    let mut builder = answers_over(target)?;
-    assert_eq!(rt; push_address(&mut builder, name)?, 39);
-    builder.rewind();
-    assert_eq!(rt; builder.as_slice().len(), 12);
-    assert_pushed(rt, &mut builder, name, 39, EXAMPLE_COM)?;
-    assert_pushed(rt, &mut builder, name, 55, b"\xC0\x0C")
+const A_B_C: &[u8] = b"\x01a\x01b\x01c\x00";
+
+#[test]
+fn a_rewind_forgets(rt: HostRuntime) -> Result<(), Fail> {
+    let alloc = rt.alloc();
+    let steps = [
+        Step::Address(EXAMPLE_COM, 39, EXAMPLE_COM),
+        Step::Rewind(12),
+        Step::Address(EXAMPLE_COM, 39, EXAMPLE_COM),
+        Step::Address(EXAMPLE_COM, 55, b"\xC0\x0C"),
+    ];
+    over_each!(alloc, target => assert_row(&rt, alloc, target, &steps))
 }
 
 /// A suffix is known only in its own letter case.
-fn assert_letter_case<T: Composer, const N: usize>(
-    rt: &impl Abort,
-    target: T,
-    qname: [u8; N],
-    len: usize,
-    owner: &[u8],
-) -> Result<(), Fail> {
-    let mut builder = MessageBuilder::from_target(target)?.question();
-    builder.push((Name::from_octets(qname)?, Rtype::A))?;
-    let mut builder = builder.answer();
-    let name = *b"\x07example\x03com\x00";
-    assert_pushed(rt, &mut builder, name, len, owner)
+#[test]
+fn keeps_the_letter_case(rt: HostRuntime) -> Result<(), Fail> {
+    let alloc = rt.alloc();
+    let full = *b"\x07Example\x03COM\x00";
+    let steps = [Step::Address(EXAMPLE_COM, 56, EXAMPLE_COM)];
+    over_each!(alloc, target => assert_row_behind(&rt, alloc, target, full, &steps))?;
+    let one = *b"\x07Example\x03com\x00";
+    let steps = [Step::Address(EXAMPLE_COM, 53, b"\x07example\xC0\x14")];
+    over_each!(alloc, target => assert_row_behind(&rt, alloc, target, one, &steps))
 }
 
 /// A name in data becomes a pointer too.
 fn assert_name_in_data<T: Composer>(rt: &impl Abort, target: T) -> Result<(), Fail> {
-    let owner = Name::from_octets(*b"\x07example\x03com\x00")?;
+    let owner = Name::from_octets(*EXAMPLE_COM)?;
     let server = Name::from_octets(*b"\x02ns\x07example\x03com\x00")?;
-    let mut builder = MessageBuilder::from_target(target)?.question();
-    builder.push((&owner, Rtype::NS))?;
-    let mut builder = builder.answer();
-    builder.push((&owner, 60, Ns::new(&server)))?;
+    let mut builder = answers_behind(target, *EXAMPLE_COM)?;
+    builder.push((owner, 60, Ns::new(&server)))?;
     assert_eq!(rt; builder.as_slice().len(), 46);
     assert_eq!(rt;
         builder.as_slice().get(29..),
@@ -153,183 +235,128 @@ fn assert_name_in_data<T: Composer>(rt: &impl Abort, target: T) -> Result<(), Fa
     Ok(())
 }
 
-/// No name is remembered past the bound of 16,384 octets.
-fn assert_names_past_the_bound<T: Composer>(
-    rt: &impl Abort,
-    alloc: Global,
-    target: T,
-) -> Result<(), Fail> {
-    let mut builder = answers_over(target)?;
-    let len = push_opaque(
-        alloc,
-        &mut builder,
-        *b"\x03pad\x07example\x03com\x00",
-        16_400,
-    )?;
-    assert_eq!(rt; len, 16_439);
-    let name = *b"\x01a\x01b\x01c\x00";
-    assert_eq!(rt; push_address(&mut builder, name)?, 16_460);
-    assert_pushed(rt, &mut builder, name, 16_481, &name)
-}
-
-/// The last place that is remembered, and the first that isn't, with the length behind each push.
-fn assert_bound<T: Composer>(
-    rt: &impl Abort,
-    alloc: Global,
-    target: T,
-    padding: usize,
-    lens: [usize; 3],
-    owner: &[u8],
-) -> Result<(), Fail> {
-    let mut builder = answers_over(target)?;
-    assert_eq!(rt; push_opaque(alloc, &mut builder, [0], padding)?, lens[0]);
-    assert_eq!(rt; push_address(&mut builder, *b"\x01a\x00")?, lens[1]);
-    assert_pushed(rt, &mut builder, *b"\x01a\x00", lens[2], owner)
-}
-
-/// A name whose second label stands past the bound.
-fn assert_second_label_past_the_bound<T: Composer>(
-    rt: &impl Abort,
-    alloc: Global,
-    target: T,
-    len: usize,
-    owner: &[u8],
-) -> Result<(), Fail> {
-    let mut builder = answers_over(target)?;
-    assert_eq!(rt; push_opaque(alloc, &mut builder, [0], 16_359)?, 16_382);
-    assert_eq!(rt; push_address(&mut builder, *b"\x01a\x01b\x00")?, 16_401);
-    assert_pushed(rt, &mut builder, *b"\x01a\x01b\x00", len, owner)
-}
-
-/// A known suffix behind labels that stand past the bound.
-fn assert_known_suffix_past_the_bound<T: Composer>(
-    rt: &impl Abort,
-    alloc: Global,
-    target: T,
-    len: usize,
-    owner: &[u8],
-) -> Result<(), Fail> {
-    let mut builder = MessageBuilder::from_target(target)?.question();
-    builder.push((Name::from_octets(*b"\x01c\x00")?, Rtype::A))?;
-    let mut builder = builder.answer();
-    assert_eq!(rt; builder.as_slice().len(), 19);
-    assert_eq!(rt; push_opaque(alloc, &mut builder, [0], 16_354)?, 16_384);
-    assert_pushed(rt, &mut builder, *b"\x01a\x01b\x01c\x00", len, owner)
-}
-
-#[test]
-fn a_rewind_forgets(rt: HostRuntime) -> Result<(), Fail> {
-    over_each!(rt.alloc(), target => assert_rewind_forgets(&rt, target))
-}
-
-#[test]
-fn keeps_the_letter_case(rt: HostRuntime) -> Result<(), Fail> {
-    let alloc = rt.alloc();
-    let full = *b"\x07Example\x03COM\x00";
-    over_each!(alloc, target => assert_letter_case(&rt, target, full, 56, EXAMPLE_COM))?;
-    let one = *b"\x07Example\x03com\x00";
-    let owner = b"\x07example\xC0\x14";
-    over_each!(alloc, target => assert_letter_case(&rt, target, one, 53, owner))
-}
-
 #[test]
 fn compresses_a_name_in_data(rt: HostRuntime) -> Result<(), Fail> {
     over_each!(rt.alloc(), target => assert_name_in_data(&rt, target))
 }
 
+/// No name is remembered past the bound of 16,384 octets.
 #[test]
 fn remembers_nothing_past_the_bound(rt: HostRuntime) -> Result<(), Fail> {
     let alloc = rt.alloc();
-    over_each!(alloc, target => assert_names_past_the_bound(&rt, alloc, target))
+    let steps = [
+        Step::Opaque(b"\x03pad\x07example\x03com\x00", 16_400, 16_439),
+        Step::Address(A_B_C, 16_460, A_B_C),
+        Step::Address(A_B_C, 16_481, A_B_C),
+    ];
+    over_each!(alloc, target => assert_row(&rt, alloc, target, &steps))
 }
 
 #[test]
 fn remembers_the_last_place_below_the_bound(rt: HostRuntime) -> Result<(), Fail> {
     let alloc = rt.alloc();
-    let lens = [16_383, 16_400, 16_416];
-    let place = b"\xFF\xFF";
-    over_each!(alloc, target => assert_bound(&rt, alloc, target, 16_360, lens, place))
+    let steps = [
+        Step::Opaque(ROOT, 16_360, 16_383),
+        Step::Address(LETTER_A, 16_400, LETTER_A),
+        Step::Address(LETTER_A, 16_416, b"\xFF\xFF"),
+    ];
+    over_each!(alloc, target => assert_row(&rt, alloc, target, &steps))
 }
 
 #[test]
 fn remembers_no_place_at_the_bound(rt: HostRuntime) -> Result<(), Fail> {
     let alloc = rt.alloc();
-    let lens = [16_384, 16_401, 16_418];
-    let full = b"\x01a\x00";
-    over_each!(alloc, target => assert_bound(&rt, alloc, target, 16_361, lens, full))
+    let steps = [
+        Step::Opaque(ROOT, 16_361, 16_384),
+        Step::Address(LETTER_A, 16_401, LETTER_A),
+        Step::Address(LETTER_A, 16_418, LETTER_A),
+    ];
+    over_each!(alloc, target => assert_row(&rt, alloc, target, &steps))
+}
+
+/// A name whose second label stands past the bound, pushed again.
+const fn second_label_past_the_bound(len: usize, again: &'static [u8]) -> [Step; 3] {
+    [
+        Step::Opaque(ROOT, 16_359, 16_382),
+        Step::Address(A_B, 16_401, A_B),
+        Step::Address(A_B, len, again),
+    ]
 }
 
 #[test]
 fn writes_names_across_the_bound(rt: HostRuntime) -> Result<(), Fail> {
     let alloc = rt.alloc();
-    let place = b"\xFF\xFE";
-    let full = b"\x01a\x01b\x00";
-    let over_static = StaticCompressor::new(Vec::new(alloc));
-    assert_second_label_past_the_bound(&rt, alloc, over_static, 16_417, place)?;
-    let over_tree = TreeCompressor::new(alloc, Vec::new(alloc));
-    assert_second_label_past_the_bound(&rt, alloc, over_tree, 16_417, place)?;
-    let over_hash = HashCompressor::new(alloc, Vec::new(alloc));
-    assert_second_label_past_the_bound(&rt, alloc, over_hash, 16_420, full)
+    let known = second_label_past_the_bound(16_417, b"\xFF\xFE");
+    assert_row(&rt, alloc, StaticCompressor::new(Vec::new(alloc)), &known)?;
+    let target = TreeCompressor::new(alloc, Vec::new(alloc));
+    assert_row(&rt, alloc, target, &known)?;
+    let unknown = second_label_past_the_bound(16_420, A_B);
+    let target = HashCompressor::new(alloc, Vec::new(alloc));
+    assert_row(&rt, alloc, target, &unknown)
+}
+
+/// A known suffix behind labels that stand past the bound.
+const fn suffix_past_the_bound(len: usize, owner: &'static [u8]) -> [Step; 2] {
+    [
+        Step::Opaque(ROOT, 16_354, 16_384),
+        Step::Address(A_B_C, len, owner),
+    ]
 }
 
 #[test]
 fn writes_a_known_suffix_across_the_bound(rt: HostRuntime) -> Result<(), Fail> {
     let alloc = rt.alloc();
-    let full = b"\x01a\x01b\x01c\x00";
-    let over_static = StaticCompressor::new(Vec::new(alloc));
-    assert_known_suffix_past_the_bound(&rt, alloc, over_static, 16_405, full)?;
-    let over_tree = TreeCompressor::new(alloc, Vec::new(alloc));
-    assert_known_suffix_past_the_bound(&rt, alloc, over_tree, 16_405, full)?;
-    let over_hash = HashCompressor::new(alloc, Vec::new(alloc));
-    assert_known_suffix_past_the_bound(&rt, alloc, over_hash, 16_404, b"\x01a\x01b\xC0\x0C")
+    let c = *b"\x01c\x00";
+    let full = suffix_past_the_bound(16_405, A_B_C);
+    let target = StaticCompressor::new(Vec::new(alloc));
+    assert_row_behind(&rt, alloc, target, c, &full)?;
+    let target = TreeCompressor::new(alloc, Vec::new(alloc));
+    assert_row_behind(&rt, alloc, target, c, &full)?;
+    let pointed = suffix_past_the_bound(16_404, b"\x01a\x01b\xC0\x0C");
+    let target = HashCompressor::new(alloc, Vec::new(alloc));
+    assert_row_behind(&rt, alloc, target, c, &pointed)
 }
 
 /// The pushes of `POSITIVE_RESPONSE`: whether each was taken, and the length behind it.
 fn push_both<T: Composer>(target: T) -> Result<[(bool, usize); 2], Fail> {
-    let name = Name::from_octets(*b"\x07example\x03com\x00")?;
     let mut builder = MessageBuilder::from_target(target)?.question();
-    let question = builder.push((&name, Rtype::A)).is_ok();
+    let question = builder.push((Name::from_octets(*EXAMPLE_COM)?, Rtype::A));
     let question_end = builder.as_slice().len();
     let mut builder = builder.answer();
-    let answer = builder
-        .push((&name, 3600, A::from_octets(203, 0, 113, 1)))
-        .is_ok();
-    Ok([(question, question_end), (answer, builder.as_slice().len())])
+    let answer = push_address(&mut builder, EXAMPLE_COM)?;
+    let answer_end = builder.as_slice().len();
+    Ok([
+        (question.is_ok(), question_end),
+        (answer.is_ok(), answer_end),
+    ])
 }
 
 #[test]
-fn refuses_what_has_no_room(rt: HostRuntime) -> Result<(), Fail> {
+fn refuses_a_question_that_has_no_room(rt: HostRuntime) -> Result<(), Fail> {
     // for the header
     let small = StaticCompressor::new(ArrayVec::<u8, 11>::new());
     assert!(rt; MessageBuilder::from_target(small).is_err());
-    // for the question
     let none = [(false, 12), (false, 12)];
-    assert_eq!(rt;
-        push_both(StaticCompressor::new(ArrayVec::<u8, 12>::new()))?,
-        none
-    );
-    assert_eq!(rt;
-        push_both(StaticCompressor::new(ArrayVec::<u8, 28>::new()))?,
-        none
-    );
-    // for the answer
-    let one = [(true, 29), (false, 29)];
-    assert_eq!(rt;
-        push_both(StaticCompressor::new(ArrayVec::<u8, 29>::new()))?,
-        one
-    );
-    assert_eq!(rt;
-        push_both(StaticCompressor::new(ArrayVec::<u8, 44>::new()))?,
-        one
-    );
-    // for nothing
-    let both = [(true, 29), (true, 45)];
-    assert_eq!(rt;
-        push_both(StaticCompressor::new(ArrayVec::<u8, 45>::new()))?,
-        both
-    );
+    let pushed = push_both(StaticCompressor::new(ArrayVec::<u8, 12>::new()))?;
+    assert_eq!(rt; pushed, none);
+    let pushed = push_both(StaticCompressor::new(ArrayVec::<u8, 28>::new()))?;
+    assert_eq!(rt; pushed, none);
     Ok(())
 }
+
+#[test]
+fn refuses_an_answer_that_has_no_room(rt: HostRuntime) -> Result<(), Fail> {
+    let one = [(true, 29), (false, 29)];
+    let pushed = push_both(StaticCompressor::new(ArrayVec::<u8, 29>::new()))?;
+    assert_eq!(rt; pushed, one);
+    let pushed = push_both(StaticCompressor::new(ArrayVec::<u8, 44>::new()))?;
+    assert_eq!(rt; pushed, one);
+    let pushed = push_both(StaticCompressor::new(ArrayVec::<u8, 45>::new()))?;
+    assert_eq!(rt; pushed, [(true, 29), (true, 45)]);
+    Ok(())
+}
+
+const WWW: &[u8] = b"\x03www\x07example\x03com\x00";
 
 /// Into a target of 60 octets: a refused record leaves nothing, and the names before it stay known.
 fn assert_refused_alone<T: Composer>(
@@ -337,16 +364,12 @@ fn assert_refused_alone<T: Composer>(
     alloc: Global,
     target: T,
 ) -> Result<(), Fail> {
-    let mut builder = MessageBuilder::from_target(target)?.question();
-    builder.push((Name::from_octets(*b"\x07example\x03com\x00")?, Rtype::A))?;
-    let mut builder = builder.answer();
-    let owner = *b"\x03www\x07example\x03com\x00";
-    let data = UnknownRecordData::from_octets(Rtype::TXT, [0; 30])?;
-    let refused = builder.push((Name::from_octets(owner)?, Ttl::HOUR, data));
-    assert!(rt; matches!(refused, Err(PushError::ShortBuf)));
-    assert_eq!(rt; builder.as_slice().len(), 29);
-    assert_eq!(rt; push_opaque(alloc, &mut builder, [0], 0)?, 40);
-    assert_eq!(rt; push_opaque(alloc, &mut builder, owner, 0)?, 56);
+    let steps = [
+        Step::Refused(WWW, 30, 29),
+        Step::Opaque(ROOT, 0, 40),
+        Step::Opaque(WWW, 0, 56),
+    ];
+    let builder = after(rt, alloc, answers_behind(target, *EXAMPLE_COM)?, &steps)?;
     assert_eq!(rt;
         builder.as_slice().get(40..46),
         Some(b"\x03www\xC0\x0C".as_slice())

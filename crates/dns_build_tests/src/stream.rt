@@ -1,9 +1,12 @@
 //! Messages that are built behind their length, as they go over a stream.
+use crate::compressors::push_opaque;
 use arrayvec::ArrayVec;
-use dns_build::{AdditionalBuilder, AnswerBuilder, MessageBuilder, PushError};
-use dns_code::{Flags, Rtype};
-use dns_data::{A, Ns, UnknownRecordData};
-use dns_item::Ttl;
+use dns_build::{
+    AdditionalBuilder, AnswerBuilder, Builder, MessageBuilder, PushError, QuestionBuilder,
+    RecordStage,
+};
+use dns_code::Rtype;
+use dns_data::{A, ComposeRecordData, Ns};
 use dns_read::{Message, RecordIter};
 use dns_target::{StaticCompressor, StreamTarget};
 use dns_wire::{AppendError, Name, ToNameExt};
@@ -40,18 +43,15 @@ fn fills_an_array(rt: HostRuntime) -> Result<(), Fail> {
     Ok(())
 }
 
-/// Pushes a record with the root as owner and so many octets of data, and gives the length before the message.
-fn push_opaque(
+/// Pushes opaque data, and gives whether it was taken, and the length before the message.
+fn push_before(
     alloc: Global,
     builder: &mut AnswerBuilder<StreamTarget<Vec<u8>>>,
-    len: usize,
-) -> Result<(Result<(), PushError>, Option<[u8; 2]>), Fail> {
-    let mut octets = Vec::new(alloc);
-    octets.resize(len, 0)?;
-    let data = UnknownRecordData::from_octets(Rtype::TXT, octets)?;
-    let pushed = builder.push((Name::from_octets([0])?, Ttl::HOUR, data));
+    count: usize,
+) -> Result<(bool, Option<[u8; 2]>), Fail> {
+    let taken = push_opaque(alloc, builder, b"\x00", count)?.is_ok();
     let prefix = builder.as_target().as_stream_slice().first_chunk::<2>();
-    Ok((pushed, prefix.copied()))
+    Ok((taken, prefix.copied()))
 }
 
 /// A message has at most 65,535 octets.
@@ -61,13 +61,11 @@ fn assert_full(
     builder: MessageBuilder<StreamTarget<Vec<u8>>>,
 ) -> Result<(), Fail> {
     let mut builder = builder.answer();
-    let (pushed, prefix) = push_opaque(alloc, &mut builder, 65_513)?;
-    assert!(rt; matches!(pushed, Err(PushError::ShortBuf)));
-    assert_eq!(rt; prefix, Some([0, 12]));
-    let (pushed, prefix) = push_opaque(alloc, &mut builder, 65_512)?;
-    assert!(rt; pushed.is_ok());
+    let refused = push_before(alloc, &mut builder, 65_513)?;
+    assert_eq!(rt; refused, (false, Some([0, 12])));
+    let taken = push_before(alloc, &mut builder, 65_512)?;
+    assert_eq!(rt; taken, (true, Some([0xFF, 0xFF])));
     assert_eq!(rt; builder.as_slice().len(), 65_535);
-    assert_eq!(rt; prefix, Some([0xFF, 0xFF]));
     Ok(())
 }
 
@@ -80,75 +78,96 @@ fn fills_a_message(rt: HostRuntime) -> Result<(), Fail> {
 }
 
 /// A message of example.com with a record in each section, over a static compressor over a stream.
-const MESSAGE: &[u8; 93] =
-    b"\x00\x5B\x00\x00\x01\x00\x00\x01\x00\x02\x00\x01\x00\x01\x07example\x03com\x00\x00\x01\x00\x01\xC0\x0C\x00\x01\x00\x01\x00\x01\x51\x80\x00\x04\xC0\x00\x02\x01\xC0\x0C\x00\x01\x00\x01\x00\x01\x51\x80\x00\x04\xC0\x00\x02\x02\xC0\x0C\x00\x02\x00\x01\x00\x00\x00\x00\x00\x02\xC0\x0C\xC0\x0C\x00\x01\x00\x01\x00\x01\x51\x80\x00\x04\xC0\x00\x02\x01";
+const MESSAGE: &[u8; 91] =
+    b"\x00\x00\x01\x00\x00\x01\x00\x02\x00\x01\x00\x01\x07example\x03com\x00\x00\x01\x00\x01\xC0\x0C\x00\x01\x00\x01\x00\x01\x51\x80\x00\x04\xC0\x00\x02\x01\xC0\x0C\x00\x01\x00\x01\x00\x01\x51\x80\x00\x04\xC0\x00\x02\x02\xC0\x0C\x00\x02\x00\x01\x00\x00\x00\x00\x00\x02\xC0\x0C\xC0\x0C\x00\x01\x00\x01\x00\x01\x51\x80\x00\x04\xC0\x00\x02\x01";
 
 type Compressed = StaticCompressor<StreamTarget<Vec<u8>>>;
+
+/// Pushes a record of example.com. The message has so many octets then.
+fn assert_pushed<S: RecordStage, D: ComposeRecordData + Drop>(
+    rt: &impl Abort,
+    builder: &mut Builder<Compressed, S>,
+    seconds: u32,
+    data: D,
+    len: usize,
+) -> Result<(), Fail> {
+    let name = Name::from_octets(*b"\x07example\x03com\x00")?;
+    builder.push((name, seconds, data))?;
+    assert_eq!(rt; builder.as_slice().len(), len);
+    Ok(())
+}
+
+/// The first part of `MESSAGE`: a header with RD, and the question.
+fn asked(alloc: Global) -> Result<QuestionBuilder<Compressed>, Fail> {
+    let target = StaticCompressor::new(StreamTarget::new_vec(alloc)?);
+    let mut builder = MessageBuilder::from_target(target)?.question();
+    let mut header = builder.header();
+    header.set_rd(true);
+    builder.set_header(header);
+    builder.push((Name::from_octets(*b"\x07example\x03com\x00")?, Rtype::A))?;
+    Ok(builder)
+}
 
 /// Builds `MESSAGE`, and tests the length behind each push.
 fn build_message(rt: &impl Abort, alloc: Global) -> Result<AdditionalBuilder<Compressed>, Fail> {
     let name = Name::from_octets(*b"\x07example\x03com\x00")?;
-    let target = StaticCompressor::new(StreamTarget::new_vec(alloc)?);
-    let mut builder = MessageBuilder::from_target(target)?.question();
-    let mut header = builder.header();
-    let mut flags = Flags::new();
-    flags.rd = true;
-    header.set_flags(flags);
-    builder.set_header(header);
-    builder.push((&name, Rtype::A))?;
+    let address = A::from_octets(192, 0, 2, 1);
+    let mut builder = asked(alloc)?.answer();
     assert_eq!(rt; builder.as_slice().len(), 29);
-    let mut builder = builder.answer();
-    builder.push((&name, 86_400, A::from_octets(192, 0, 2, 1)))?;
-    assert_eq!(rt; builder.as_slice().len(), 45);
-    builder.push((&name, 86_400, A::from_octets(192, 0, 2, 2)))?;
-    assert_eq!(rt; builder.as_slice().len(), 61);
+    assert_pushed(rt, &mut builder, 86_400, address, 45)?;
+    assert_pushed(rt, &mut builder, 86_400, A::from_octets(192, 0, 2, 2), 61)?;
     let mut builder = builder.authority();
-    builder.push((&name, 0, Ns::new(&name)))?;
-    assert_eq!(rt; builder.as_slice().len(), 75);
+    assert_pushed(rt, &mut builder, 0, Ns::new(name), 75)?;
     let mut builder = builder.additional();
-    builder.push((&name, 86_400, A::from_octets(192, 0, 2, 1)))?;
-    assert_eq!(rt; builder.as_slice().len(), 91);
+    assert_pushed(rt, &mut builder, 86_400, address, 91)?;
     Ok(builder)
-}
-
-/// The iterator gives this address of example.com next.
-fn assert_address<'a>(
-    rt: &impl Abort,
-    records: &mut RecordIter<'a, A>,
-    address: [u8; 4],
-) -> Result<(), Fail> {
-    let record = records.next().ok_or("record")??;
-    assert!(rt;
-        record
-            .owner()
-            .octets_eq(&Name::from_octets(*b"\x07example\x03com\x00")?)
-    );
-    assert_eq!(rt; record.ttl().as_secs(), 86_400);
-    assert_eq!(rt; record.data().octets(), address);
-    Ok(())
 }
 
 #[test]
 fn compresses_behind_the_length(rt: HostRuntime) -> Result<(), Fail> {
     let target = build_message(&rt, rt.alloc())?.finish().into_target();
-    assert_eq!(rt; target.as_stream_slice(), MESSAGE.as_slice());
-    let message = Message::from_octets(target.as_dgram_slice())?;
+    assert_eq!(rt; target.as_dgram_slice(), MESSAGE.as_slice());
+    assert!(rt; target.as_stream_slice().starts_with(b"\x00\x5B"));
+    assert_eq!(rt; target.as_stream_slice().len(), 93);
+    Ok(())
+}
+
+/// The iterator gives these addresses of example.com, which may be kept for a day.
+fn assert_addresses(
+    rt: &impl Abort,
+    mut records: RecordIter<'_, A>,
+    addresses: &[[u8; 4]],
+) -> Result<(), Fail> {
+    let name = Name::from_octets(*b"\x07example\x03com\x00")?;
+    for address in addresses {
+        let record = records.next().ok_or("record")??;
+        assert!(rt; record.owner().octets_eq(&name));
+        assert_eq!(rt; record.ttl().as_secs(), 86_400);
+        assert_eq!(rt; record.data().octets(), *address);
+    }
+    assert!(rt; records.next().is_none());
+    Ok(())
+}
+
+#[test]
+fn reads_the_addresses_back(rt: HostRuntime) -> Result<(), Fail> {
+    let message = Message::from_octets(*MESSAGE)?;
+    let addresses = [[192, 0, 2, 1], [192, 0, 2, 2]];
+    assert_addresses(&rt, message.answer()?.limit_to(), &addresses)?;
+    assert_addresses(&rt, message.additional()?.limit_to(), &addresses[..1])
+}
+
+#[test]
+fn reads_the_question_and_the_server_back(rt: HostRuntime) -> Result<(), Fail> {
+    let message = Message::from_octets(*MESSAGE)?;
     let name = Name::from_octets(*b"\x07example\x03com\x00")?;
     let question = message.first_question().ok_or("question")?;
     assert!(rt; question.qname().octets_eq(&name));
     assert_eq!(rt; question.qtype(), Rtype::A);
-    let mut answers = message.answer()?.limit_to::<A>();
-    assert_address(&rt, &mut answers, [192, 0, 2, 1])?;
-    assert_address(&rt, &mut answers, [192, 0, 2, 2])?;
-    assert!(rt; answers.next().is_none());
     let mut servers = message.authority()?.limit_to::<Ns<_>>();
     let server = servers.next().ok_or("server")??;
     assert!(rt; server.owner().octets_eq(&name));
     assert_eq!(rt; server.ttl().as_secs(), 0);
     assert!(rt; server.data().nsdname().octets_eq(&name));
-    assert!(rt; servers.next().is_none());
-    let mut additionals = message.additional()?.limit_to::<A>();
-    assert_address(&rt, &mut additionals, [192, 0, 2, 1])?;
-    assert!(rt; additionals.next().is_none());
     Ok(())
 }

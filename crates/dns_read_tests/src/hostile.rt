@@ -16,8 +16,7 @@ fn assert_short(rt: &impl Abort, records: &mut RecordSection<'_>) {
 }
 
 #[test]
-fn reads_messages_that_are_cut(rt: HostRuntime) -> Result<(), Fail> {
-    // in the question
+fn reads_messages_that_are_cut_in_the_question(rt: HostRuntime) -> Result<(), Fail> {
     for n in 12..29 {
         let message = Message::from_octets(&POSITIVE_RESPONSE[..n])?;
         let mut questions = message.question();
@@ -25,7 +24,11 @@ fn reads_messages_that_are_cut(rt: HostRuntime) -> Result<(), Fail> {
         assert!(rt; questions.next().is_none());
         assert!(rt; matches!(message.answer(), Err(ParseError::ShortInput)));
     }
-    // in the answer
+    Ok(())
+}
+
+#[test]
+fn reads_messages_that_are_cut_in_the_answer(rt: HostRuntime) -> Result<(), Fail> {
     for n in 29..45 {
         let message = Message::from_octets(&POSITIVE_RESPONSE[..n])?;
         assert!(rt; matches!(message.question().next(), Some(Ok(_))));
@@ -34,6 +37,21 @@ fn reads_messages_that_are_cut(rt: HostRuntime) -> Result<(), Fail> {
         assert_short(&rt, &mut answers);
         assert!(rt; matches!(message.authority(), Err(ParseError::ShortInput)));
     }
+    Ok(())
+}
+
+/// No section starts, for this cause, and nothing is found.
+fn assert_no_start(rt: &impl Abort, octets: &[u8], fault: ParseError) -> Result<(), Fail> {
+    let message = Message::from_octets(octets)?;
+    assert_eq!(rt; message.answer().err(), Some(fault));
+    assert_eq!(rt; message.authority().err(), Some(fault));
+    assert_eq!(rt; message.additional().err(), Some(fault));
+    assert_eq!(rt; message.sections().err(), Some(fault));
+    assert!(rt; message.iter().next().is_none());
+    assert!(rt; message.canonical_name().is_none());
+    assert!(rt; !message.contains_answer::<A>());
+    assert!(rt; message.get_last_additional::<A>().is_none());
+    assert!(rt; message.opt().is_none());
     Ok(())
 }
 
@@ -56,16 +74,7 @@ fn answers_the_fault_of_the_start(rt: HostRuntime) -> Result<(), Fail> {
         ),
     ];
     for (octets, fault) in faults {
-        let message = Message::from_octets(octets)?;
-        assert!(rt; matches!(message.answer(), Err(error) if error == fault));
-        assert!(rt; matches!(message.authority(), Err(error) if error == fault));
-        assert!(rt; matches!(message.additional(), Err(error) if error == fault));
-        assert!(rt; matches!(message.sections(), Err(error) if error == fault));
-        assert!(rt; message.iter().next().is_none());
-        assert!(rt; message.canonical_name().is_none());
-        assert!(rt; !message.contains_answer::<A>());
-        assert!(rt; message.get_last_additional::<A>().is_none());
-        assert!(rt; message.opt().is_none());
+        assert_no_start(&rt, octets, fault)?;
     }
     Ok(())
 }
@@ -97,11 +106,15 @@ fn starts_behind_the_longest_name(rt: HostRuntime) -> Result<(), Fail> {
     let message = Message::from_octets(long_question(61))?;
     assert!(rt; matches!(message.question().next(), Some(Ok(_))));
     assert_eq!(rt; message.answer()?.pos(), 271);
-    // one octet too long
+    Ok(())
+}
+
+#[test]
+fn reads_no_name_of_an_octet_more(rt: HostRuntime) -> Result<(), Fail> {
     let message = Message::from_octets(long_question(62))?;
     let fault = ParseError::Form(FormError::LONG_NAME);
     assert!(rt; matches!(message.question().next(), Some(Err(error)) if error == fault));
-    assert!(rt; matches!(message.answer(), Err(error) if error == fault));
+    assert_eq!(rt; message.answer().err(), Some(fault));
     Ok(())
 }
 

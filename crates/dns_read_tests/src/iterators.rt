@@ -1,7 +1,7 @@
 //! Records of a section, read with their data.
-use dns_code::Class;
-use dns_data::{A, Cname, Ns, ParseRecordData, UnknownRecordData};
-use dns_read::{Message, RecordIter};
+use dns_code::{Class, Rtype};
+use dns_data::{A, Cname, Ns, UnknownRecordData};
+use dns_read::{AnyRecordIter, Message, RecordIter, RecordSection};
 use dns_wire::{FormError, Name, ParseError, ParsedName, ToNameExt};
 use std::process::Abort;
 use std::test::Fail;
@@ -21,42 +21,41 @@ const FIVE_OCTETS_IN_CH: [u8; 28] =
 const ADDRESS_BETWEEN: [u8; 51] =
     *b"\x00\x00\x00\x00\x00\x00\x00\x03\x00\x00\x00\x00\x00\x00\x05\x00\x01\x00\x00\x00\x00\x00\x01\x00\x00\x00\x01\x00\x01\x00\x00\x00\x00\x00\x04\x01\x02\x03\x04\x00\x00\x05\x00\x01\x00\x00\x00\x00\x00\x01\x00";
 
-/// The iterator gives this error, and then nothing again and again.
-fn assert_one_fault<'a, D: ParseRecordData<'a> + Drop>(
-    rt: &impl Abort,
-    records: &mut RecordIter<'a, D>,
-    fault: ParseError,
-) {
-    match records.next() {
-        Some(Err(error)) => assert_eq!(rt; error, fault),
-        _ => panic!(rt; "no error"),
+/// What is given next of an iterator over addresses.
+fn next_address(addresses: &mut RecordIter<'_, A>) -> Option<Result<[u8; 4], ParseError>> {
+    match addresses.next()? {
+        Ok(record) => Some(Ok(record.data().octets())),
+        Err(error) => Some(Err(error)),
     }
-    assert!(rt; records.next().is_none() && records.next().is_none());
 }
 
-/// The iterator gives this address next.
-fn assert_address<'a>(rt: &impl Abort, records: &mut RecordIter<'a, A>, address: [u8; 4]) {
-    match records.next() {
-        Some(Ok(record)) => assert_eq!(rt; record.data().octets(), address),
-        _ => panic!(rt; "no address"),
+/// The iterator gives these, and then nothing again and again. The cursor that it gives back stands here.
+fn assert_addresses(
+    rt: &impl Abort,
+    mut addresses: RecordIter<'_, A>,
+    expected: &[Result<[u8; 4], ParseError>],
+    end: usize,
+) {
+    for item in expected {
+        assert_eq!(rt; next_address(&mut addresses), Some(*item));
     }
+    assert!(rt; addresses.next().is_none() && addresses.next().is_none());
+    assert_eq!(rt; addresses.unwrap().pos(), end);
 }
 
 #[test]
 fn gives_an_error_where_octets_are_left_over(rt: HostRuntime) -> Result<(), Fail> {
     let message = Message::from_octets(FIVE_OCTETS)?;
-    assert_one_fault(&rt, &mut message.answer()?.limit_to::<A>(), LEFT_OVER);
-    assert_one_fault(&rt, &mut message.answer()?.limit_to_in::<A>(), LEFT_OVER);
+    assert_addresses(&rt, message.answer()?.limit_to(), &[Err(LEFT_OVER)], 28);
+    assert_addresses(&rt, message.answer()?.limit_to_in(), &[Err(LEFT_OVER)], 28);
     Ok(())
 }
 
 #[test]
 fn passes_other_classes_over_unread(rt: HostRuntime) -> Result<(), Fail> {
     let message = Message::from_octets(FIVE_OCTETS_IN_CH)?;
-    assert_one_fault(&rt, &mut message.answer()?.limit_to::<A>(), LEFT_OVER);
-    let mut addresses = message.answer()?.limit_to_in::<A>();
-    assert!(rt; addresses.next().is_none());
-    assert_eq!(rt; addresses.unwrap().pos(), 28);
+    assert_addresses(&rt, message.answer()?.limit_to(), &[Err(LEFT_OVER)], 28);
+    assert_addresses(&rt, message.answer()?.limit_to_in(), &[], 28);
     Ok(())
 }
 
@@ -66,18 +65,15 @@ fn reads_no_name_past_the_end_of_data(rt: HostRuntime) -> Result<(), Fail> {
         *b"\x00\x00\x00\x00\x00\x00\x00\x01\x00\x00\x00\x00\x00\x00\x05\x00\x01\x00\x00\x00\x00\x00\x01\xC0\x0C";
     let message = Message::from_octets(octets)?;
     let mut aliases = message.answer()?.limit_to::<Cname<ParsedName<'_>>>();
-    assert_one_fault(&rt, &mut aliases, ParseError::ShortInput);
+    assert!(rt; matches!(aliases.next(), Some(Err(ParseError::ShortInput))));
+    assert!(rt; aliases.next().is_none() && aliases.next().is_none());
     Ok(())
 }
 
 #[test]
 fn passes_other_types_over(rt: HostRuntime) -> Result<(), Fail> {
     let message = Message::from_octets(ADDRESS_BETWEEN)?;
-    let mut addresses = message.answer()?.limit_to::<A>();
-    assert_address(&rt, &mut addresses, [1, 2, 3, 4]);
-    assert_eq!(rt; addresses.clone()?.unwrap().pos(), 39);
-    assert!(rt; addresses.next().is_none() && addresses.next().is_none());
-    assert_eq!(rt; addresses.unwrap().pos(), 51);
+    assert_addresses(&rt, message.answer()?.limit_to(), &[Ok([1, 2, 3, 4])], 51);
     Ok(())
 }
 
@@ -85,14 +81,20 @@ fn passes_other_types_over(rt: HostRuntime) -> Result<(), Fail> {
 fn gives_the_cursor_back_behind_the_last_record(rt: HostRuntime) -> Result<(), Fail> {
     let message = Message::from_octets(ADDRESS_BETWEEN)?;
     let mut addresses = message.answer()?.limit_to::<A>();
-    assert_address(&rt, &mut addresses, [1, 2, 3, 4]);
-    let mut answers = addresses.unwrap();
-    match answers.next() {
-        Some(Ok(record)) => assert_eq!(rt; record.rtype().to_int(), 5),
-        _ => panic!(rt; "no record"),
-    }
+    assert_eq!(rt; next_address(&mut addresses), Some(Ok([1, 2, 3, 4])));
+    let mut answers = addresses.clone()?.unwrap();
+    assert_eq!(rt; answers.pos(), 39);
+    assert!(rt; matches!(answers.next(), Some(Ok(record)) if record.rtype() == Rtype::CNAME));
     assert!(rt; answers.next().is_none());
     Ok(())
+}
+
+/// The data that is given next of an iterator over opaque data.
+fn next_data<'a>(records: &mut AnyRecordIter<'a, UnknownRecordData<&'a [u8]>>) -> Option<&'a [u8]> {
+    match records.next()? {
+        Ok(record) => Some(*record.data().data()),
+        Err(_) => None,
+    }
 }
 
 #[test]
@@ -101,30 +103,33 @@ fn reads_every_record(rt: HostRuntime) -> Result<(), Fail> {
     let mut records = message.answer()?.into_records::<UnknownRecordData<&[u8]>>();
     let expected: [&[u8]; 3] = [b"\x00", b"\x01\x02\x03\x04", b"\x00"];
     for data in expected {
-        match records.next() {
-            Some(Ok(record)) => assert_eq!(rt; *record.data().data(), data),
-            _ => panic!(rt; "no record"),
-        }
+        assert_eq!(rt; next_data(&mut records), Some(data));
     }
     assert!(rt; records.next().is_none() && records.next().is_none());
     assert_eq!(rt; records.unwrap().pos(), 51);
     Ok(())
 }
 
+/// The section that an iterator moves on to begins here.
+fn assert_next_section(
+    rt: &impl Abort,
+    section: Result<Option<RecordSection<'_>>, ParseError>,
+    place: usize,
+) {
+    match section {
+        Ok(Some(records)) => assert_eq!(rt; records.pos(), place),
+        _ => panic!(rt; "no section"),
+    }
+}
+
 #[test]
 fn moves_on_behind_the_records_that_are_left(rt: HostRuntime) -> Result<(), Fail> {
     let message = Message::from_octets(ADDRESS_BETWEEN)?;
     let mut addresses = message.answer()?.limit_to::<A>();
-    assert_address(&rt, &mut addresses, [1, 2, 3, 4]);
-    let Ok(Some(authorities)) = addresses.next_section() else {
-        panic!(rt; "no section")
-    };
-    assert_eq!(rt; authorities.pos(), 51);
+    assert_eq!(rt; next_address(&mut addresses), Some(Ok([1, 2, 3, 4])));
+    assert_next_section(&rt, addresses.next_section(), 51);
     let records = message.answer()?.into_records::<UnknownRecordData<&[u8]>>();
-    let Ok(Some(authorities)) = records.next_section() else {
-        panic!(rt; "no section")
-    };
-    assert_eq!(rt; authorities.pos(), 51);
+    assert_next_section(&rt, records.next_section(), 51);
     Ok(())
 }
 
@@ -137,25 +142,40 @@ fn unreadable(answers: u8, additionals: u8) -> [u8; 24] {
     octets
 }
 
-#[test]
-fn ends_at_a_record_that_cant_be_read(rt: HostRuntime) -> Result<(), Fail> {
-    let fault = ParseError::Form(FormError::BAD_POINTER);
-    let message = Message::from_octets(unreadable(1, 0))?;
-    let mut addresses = message.answer()?.limit_to::<A>();
-    assert_one_fault(&rt, &mut addresses, fault);
-    assert!(rt; matches!(addresses.next_section(), Err(error) if error == fault));
-    let mut addresses = message.answer()?.limit_to_in::<A>();
-    assert_one_fault(&rt, &mut addresses, fault);
-    assert!(rt; matches!(addresses.next_section(), Err(error) if error == fault));
-    let mut records = message.answer()?.into_records::<UnknownRecordData<&[u8]>>();
-    assert!(rt; matches!(records.next(), Some(Err(error)) if error == fault));
-    assert!(rt; records.next().is_none() && records.next().is_none());
-    assert!(rt; matches!(records.next_section(), Err(error) if error == fault));
-    assert_eq!(rt; message.authority()?.pos(), 24);
+const BAD_POINTER: ParseError = ParseError::Form(FormError::BAD_POINTER);
 
+/// The iterator gives the fault of its first record, and then nothing. No section can be moved on to.
+fn assert_unreadable(rt: &impl Abort, mut addresses: RecordIter<'_, A>) {
+    assert_eq!(rt; next_address(&mut addresses), Some(Err(BAD_POINTER)));
+    assert!(rt; addresses.next().is_none() && addresses.next().is_none());
+    assert_eq!(rt; addresses.next_section().err(), Some(BAD_POINTER));
+}
+
+#[test]
+fn ends_at_an_answer_that_cant_be_read(rt: HostRuntime) -> Result<(), Fail> {
+    let message = Message::from_octets(unreadable(1, 0))?;
+    assert_unreadable(&rt, message.answer()?.limit_to());
+    assert_unreadable(&rt, message.answer()?.limit_to_in());
+    assert_eq!(rt; message.authority()?.pos(), 24);
+    Ok(())
+}
+
+#[test]
+fn ends_at_opaque_data_that_cant_be_read(rt: HostRuntime) -> Result<(), Fail> {
+    let message = Message::from_octets(unreadable(1, 0))?;
+    let mut records = message.answer()?.into_records::<UnknownRecordData<&[u8]>>();
+    assert!(rt; matches!(records.next(), Some(Err(BAD_POINTER))));
+    assert!(rt; records.next().is_none() && records.next().is_none());
+    assert_eq!(rt; records.next_section().err(), Some(BAD_POINTER));
+    Ok(())
+}
+
+#[test]
+fn no_section_is_behind_the_additional_records(rt: HostRuntime) -> Result<(), Fail> {
     let message = Message::from_octets(unreadable(0, 1))?;
     let mut addresses = message.additional()?.limit_to::<A>();
-    assert_one_fault(&rt, &mut addresses, fault);
+    assert_eq!(rt; next_address(&mut addresses), Some(Err(BAD_POINTER)));
+    assert!(rt; addresses.next().is_none());
     assert!(rt; matches!(addresses.next_section(), Ok(None)));
     Ok(())
 }
@@ -165,13 +185,17 @@ const ALL_SECTIONS: [u8; 91] =
     *b"\x00\x00\x01\x00\x00\x01\x00\x02\x00\x01\x00\x01\x07example\x03com\x00\x00\x01\x00\x01\xC0\x0C\x00\x01\x00\x01\x00\x01\x51\x80\x00\x04\xC0\x00\x02\x01\xC0\x0C\x00\x01\x00\x01\x00\x01\x51\x80\x00\x04\xC0\x00\x02\x02\xC0\x0C\x00\x02\x00\x01\x00\x00\x00\x00\x00\x02\xC0\x0C\xC0\x0C\x00\x01\x00\x01\x00\x01\x51\x80\x00\x04\xC0\x00\x02\x01";
 
 #[test]
-fn reads_the_data_of_all_sections(rt: HostRuntime) -> Result<(), Fail> {
+fn reads_the_addresses_of_two_sections(rt: HostRuntime) -> Result<(), Fail> {
     let message = Message::from_octets(ALL_SECTIONS)?;
-    let mut answers = message.answer()?.limit_to::<A>();
-    assert_address(&rt, &mut answers, [192, 0, 2, 1]);
-    assert_address(&rt, &mut answers, [192, 0, 2, 2]);
-    assert!(rt; answers.next().is_none());
+    let expected = [Ok([192, 0, 2, 1]), Ok([192, 0, 2, 2])];
+    assert_addresses(&rt, message.answer()?.limit_to(), &expected, 61);
+    assert_addresses(&rt, message.additional()?.limit_to_in(), &expected[..1], 91);
+    Ok(())
+}
 
+#[test]
+fn reads_the_name_server(rt: HostRuntime) -> Result<(), Fail> {
+    let message = Message::from_octets(ALL_SECTIONS)?;
     let name = Name::from_octets(*b"\x07example\x03com\x00")?;
     let mut servers = message.authority()?.limit_to::<Ns<ParsedName<'_>>>();
     let Some(Ok(server)) = servers.next() else {
@@ -181,9 +205,5 @@ fn reads_the_data_of_all_sections(rt: HostRuntime) -> Result<(), Fail> {
     assert!(rt; server.data().nsdname().octets_eq(&name));
     assert_eq!(rt; server.class(), Class::IN);
     assert!(rt; servers.next().is_none());
-
-    let mut additionals = message.additional()?.limit_to_in::<A>();
-    assert_address(&rt, &mut additionals, [192, 0, 2, 1]);
-    assert!(rt; additionals.next().is_none());
     Ok(())
 }

@@ -2,7 +2,7 @@
 use arrayvec::ArrayVec;
 use dns_code::{Class, Header, Rcode, Rtype};
 use dns_item::Question;
-use dns_read::{Message, ShortMessage};
+use dns_read::{Message, QuestionSection, ShortMessage};
 use dns_wire::{AppendError, FormError, Name, OctetsFrom, ParseError, ToName, ToNameExt};
 use std::process::Abort;
 use std::test::Fail;
@@ -55,18 +55,32 @@ const FAULTY: [(&[u8], ParseError); 7] = [
     ),
 ];
 
-/// The question section gives one error, and then nothing again and again; it stays at its place.
+/// The cursor gives nothing again and again, and stays at this place.
+fn assert_ended(rt: &impl Abort, mut questions: QuestionSection<'_>, place: usize) {
+    assert!(rt; questions.next().is_none() && questions.next().is_none());
+    assert_eq!(rt; questions.pos(), place);
+}
+
+/// The question section gives one error, and then nothing; it stays at its place.
 fn assert_one_fault(rt: &impl Abort, octets: &[u8], fault: ParseError) -> Result<(), Fail> {
     let message = Message::from_octets(octets)?;
     let mut questions = message.question();
-    assert_eq!(rt; questions.pos(), 12);
     match questions.next() {
         Some(Err(error)) => assert_eq!(rt; error, fault),
         _ => panic!(rt; "no error"),
     }
-    assert!(rt; questions.next().is_none() && questions.next().is_none());
-    assert_eq!(rt; questions.pos(), 12);
+    assert_ended(rt, questions, 12);
     Ok(())
+}
+
+fn assert_same<M: ToName, N: ToName>(
+    rt: &impl Abort,
+    question: &Question<M>,
+    expected: &Question<N>,
+) {
+    assert!(rt; question.qname().octets_eq(expected.qname()));
+    assert_eq!(rt; question.qtype(), expected.qtype());
+    assert_eq!(rt; question.qclass(), expected.qclass());
 }
 
 /// The question section has one question, which takes the octets from 12 to `end`.
@@ -78,25 +92,26 @@ fn assert_one_question<N: ToName>(
 ) -> Result<(), Fail> {
     let message = Message::from_octets(octets)?;
     let mut questions = message.question();
-    let Some(Ok(question)) = questions.next() else {
-        panic!(rt; "no question")
-    };
-    assert!(rt; question.qname().octets_eq(expected.qname()));
-    assert_eq!(rt; question.qtype(), expected.qtype());
-    assert_eq!(rt; question.qclass(), expected.qclass());
-    assert_eq!(rt; questions.pos(), end);
-    assert!(rt; questions.next().is_none() && questions.next().is_none());
-    assert_eq!(rt; questions.pos(), end);
+    match questions.next() {
+        Some(Ok(question)) => assert_same(rt, &question, expected),
+        _ => panic!(rt; "no question"),
+    }
+    assert_ended(rt, questions, end);
     Ok(())
 }
 
 #[test]
 fn takes_twelve_octets(rt: HostRuntime) -> Result<(), Fail> {
-    assert!(rt; Message::from_octets([0; 11]).is_err());
     let message = Message::from_octets([0; 12])?;
     assert_eq!(rt; message.as_slice(), [0; 12].as_slice());
-    assert!(rt; Message::from_slice(&[0; 11]).is_err());
     assert!(rt; Message::from_slice(&[0; 12]).is_ok());
+    Ok(())
+}
+
+#[test]
+fn refuses_eleven_octets(rt: HostRuntime) -> Result<(), Fail> {
+    assert!(rt; Message::from_octets([0; 11]).is_err());
+    assert!(rt; Message::from_slice(&[0; 11]).is_err());
     let Err(refused) = Message::try_from_octets([1; 11]) else {
         panic!(rt; "taken")
     };
@@ -105,16 +120,19 @@ fn takes_twelve_octets(rt: HostRuntime) -> Result<(), Fail> {
         format!(in rt.alloc(); "{ShortMessage}")?.as_str(),
         "short message"
     );
-    // cut in the header
-    for n in 0..12 {
-        assert!(rt; Message::from_octets(&POSITIVE_RESPONSE[..n]).is_err());
-    }
     Ok(())
 }
 
 #[test]
+fn refuses_messages_that_are_cut_in_the_header(rt: HostRuntime) {
+    for n in 0..12 {
+        assert!(rt; Message::from_octets(&POSITIVE_RESPONSE[..n]).is_err());
+    }
+}
+
+#[test]
 fn has_a_header(rt: HostRuntime) -> Result<(), Fail> {
-    let mut message = Message::from_octets(*POSITIVE_RESPONSE)?;
+    let message = Message::from_octets(*POSITIVE_RESPONSE)?;
     assert_eq!(rt; message.header().as_slice(), b"\x00\x00\x81\xA0".as_slice());
     assert_eq!(rt;
         message.header_section().as_slice(),
@@ -124,6 +142,12 @@ fn has_a_header(rt: HostRuntime) -> Result<(), Fail> {
     assert_eq!(rt; (counts.qdcount(), counts.ancount()), (1, 1));
     assert_eq!(rt; (counts.nscount(), counts.arcount()), (0, 0));
     assert!(rt; message.no_error() && !message.is_error());
+    Ok(())
+}
+
+#[test]
+fn takes_another_header(rt: HostRuntime) -> Result<(), Fail> {
+    let mut message = Message::from_octets(*POSITIVE_RESPONSE)?;
     let first = message.header();
     let mut header = Header::new();
     header.set_id(0x1234);
@@ -133,10 +157,8 @@ fn has_a_header(rt: HostRuntime) -> Result<(), Fail> {
     assert_eq!(rt; message.header().as_slice(), b"\x12\x34\x00\x03".as_slice());
     // the other octets stayed
     message.set_header(first);
-    assert_eq!(rt;
-        message.into_octets().as_slice(),
-        POSITIVE_RESPONSE.as_slice()
-    );
+    let octets = message.into_octets();
+    assert_eq!(rt; octets.as_slice(), POSITIVE_RESPONSE.as_slice());
     Ok(())
 }
 
@@ -207,21 +229,29 @@ fn asks_for<N: ToName>(message: &Message<&[u8]>, name: &N) -> Result<bool, Parse
     Ok(false)
 }
 
+/// Questions for a. and b., and one that can't be read.
+const QUESTIONS: &[u8; 32] =
+    b"\x00\x00\x00\x00\x00\x03\x00\x00\x00\x00\x00\x00\x01a\x00\x00\x01\x00\x01\x01b\x00\x00\x01\x00\x01\xC0\x1A\x00\x01\x00\x01";
+
 #[test]
 fn goes_over_questions(rt: HostRuntime) -> Result<(), Fail> {
-    // questions for a. and b., and one that can't be read
-    let octets =
-        b"\x00\x00\x00\x00\x00\x03\x00\x00\x00\x00\x00\x00\x01a\x00\x00\x01\x00\x01\x01b\x00\x00\x01\x00\x01\xC0\x1A\x00\x01\x00\x01";
-    let message = Message::from_slice(octets)?;
+    let message = Message::from_slice(QUESTIONS)?;
     assert!(rt; asks_for(&message, &Name::from_octets(*b"\x01B\x00")?)?);
     let other = Name::from_octets(*b"\x01c\x00")?;
     assert_eq!(rt; asks_for(&message, &other), Err(BAD_POINTER));
+    Ok(())
+}
+
+#[test]
+fn goes_over_questions_from_a_copy(rt: HostRuntime) -> Result<(), Fail> {
+    let message = Message::from_slice(QUESTIONS)?;
     let mut questions = message.question();
     assert!(rt; questions.next().is_some());
     assert_eq!(rt; questions.pos(), 19);
     let mut copy = questions;
-    assert!(rt; copy.next().is_some() && copy.next().is_some() && copy.next().is_none());
-    assert_eq!(rt; (questions.pos(), copy.pos()), (19, 26));
+    assert!(rt; copy.next().is_some() && copy.next().is_some());
+    assert_ended(&rt, copy, 26);
+    assert_eq!(rt; questions.pos(), 19);
     Ok(())
 }
 
@@ -232,14 +262,17 @@ fn changes_holders(rt: HostRuntime) -> Result<(), Fail> {
     assert_eq!(rt; owned.as_slice(), POSITIVE_RESPONSE.as_slice());
     assert_eq!(rt; owned.clone()?.as_slice(), POSITIVE_RESPONSE.as_slice());
     assert_eq!(rt; owned.for_slice().as_slice(), POSITIVE_RESPONSE.as_slice());
-    let kept = Message::<ArrayVec<u8, 45>>::try_octets_from(rt.alloc(), &owned)?;
-    assert_eq!(rt; kept.as_slice(), POSITIVE_RESPONSE.as_slice());
-    let refused = Message::<ArrayVec<u8, 44>>::try_octets_from(rt.alloc(), &owned);
-    match refused {
-        Err(error) => assert_eq!(rt; error, AppendError::ShortBuf),
-        Ok(_) => panic!(rt; "taken"),
-    }
     let lent = Message::<&[u8]>::try_octets_from(rt.alloc(), &owned)?;
     assert_eq!(rt; lent.as_slice(), POSITIVE_RESPONSE.as_slice());
+    Ok(())
+}
+
+#[test]
+fn changes_into_an_array(rt: HostRuntime) -> Result<(), Fail> {
+    let message = Message::from_slice(POSITIVE_RESPONSE)?;
+    let kept = Message::<ArrayVec<u8, 45>>::try_octets_from(rt.alloc(), message)?;
+    assert_eq!(rt; kept.as_slice(), POSITIVE_RESPONSE.as_slice());
+    let refused = Message::<ArrayVec<u8, 44>>::try_octets_from(rt.alloc(), message);
+    assert_eq!(rt; refused.err(), Some(AppendError::ShortBuf));
     Ok(())
 }

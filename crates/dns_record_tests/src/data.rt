@@ -7,6 +7,8 @@ use dns_data::{
 use dns_item::record::RecordParseError;
 use dns_item::{Record, RecordHeader, Ttl};
 use dns_wire::{Name, ParseError, ParsedName, Parser, ShortBuf};
+use std::alloc::Global;
+use std::fmt::Display;
 use std::process::Abort;
 use std::test::Fail;
 
@@ -85,35 +87,36 @@ fn composes_headers(rt: HostRuntime) -> Result<(), Fail> {
     Ok(())
 }
 
+/// The value is printed so.
+pub(crate) fn assert_printed<T: Display>(
+    rt: &impl Abort,
+    alloc: Global,
+    value: &T,
+    text: &str,
+) -> Result<(), Fail> {
+    assert_eq!(rt; value.to_string(alloc)?.as_str(), text);
+    Ok(())
+}
+
 #[test]
 fn prints_records(rt: HostRuntime) -> Result<(), Fail> {
     let alloc = rt.alloc();
     let owner = Name::from_octets(*b"\x07example\x03com\x00")?;
     let address = Record::new(&owner, Class::IN, Ttl::HOUR, A::from_octets(203, 0, 113, 1));
-    assert_eq!(rt;
-        format!(in alloc; "{address}")?.as_str(),
-        "example.com. 3600 IN A 203.0.113.1"
-    );
-    let root = Name::from_octets([0])?;
-    let server = Record::new(&root, Class::CH, Ttl::ZERO, Ns::new(&owner));
-    assert_eq!(rt;
-        format!(in alloc; "{server}")?.as_str(),
-        ". 0 CH NS example.com."
-    );
+    assert_printed(&rt, alloc, &address, "example.com. 3600 IN A 203.0.113.1")?;
+    let server = Record::new(Name::root_slice(), Class::CH, Ttl::ZERO, Ns::new(&owner));
+    assert_printed(&rt, alloc, &server, ". 0 CH NS example.com.")?;
     let soa = Soa::new(&owner, &owner, 1, 2, 3, 4, 5);
-    assert_eq!(rt;
-        format!(in alloc; "{soa}")?.as_str(),
-        "example.com. example.com. 1 2 3 4 5"
-    );
+    assert_printed(&rt, alloc, &soa, "example.com. example.com. 1 2 3 4 5")
+}
+
+#[test]
+fn prints_opaque_data(rt: HostRuntime) -> Result<(), Fail> {
     let opaque = UnknownRecordData::from_octets(Rtype::A, [1, 2, 3, 4, 171])?;
-    let opaque = Record::new(&root, Class::IN, Ttl::ZERO, opaque);
-    assert_eq!(rt;
-        format!(in alloc; "{opaque}")?.as_str(),
-        ". 0 IN A \\# 5 01020304ab"
-    );
+    let record = Record::new(Name::root_slice(), Class::IN, Ttl::ZERO, opaque);
+    assert_printed(&rt, rt.alloc(), &record, ". 0 IN A \\# 5 01020304ab")?;
     let empty = UnknownRecordData::from_octets(Rtype::TXT, [0; 0])?;
-    assert_eq!(rt; format!(in alloc; "{empty}")?.as_str(), "\\# 0");
-    Ok(())
+    assert_printed(&rt, rt.alloc(), &empty, "\\# 0")
 }
 
 #[test]
@@ -123,34 +126,17 @@ fn changes_fields(rt: HostRuntime) -> Result<(), Fail> {
     record.set_class(Class::CH);
     record.set_ttl(Ttl::MINUTE);
     *record.data_mut() = A::from_octets(192, 0, 2, 2);
-    assert_eq!(rt;
-        format!(in rt.alloc(); "{record}")?.as_str(),
-        "a. 60 CH A 192.0.2.2"
-    );
-    Ok(())
+    assert_printed(&rt, rt.alloc(), &record, "a. 60 CH A 192.0.2.2")
 }
 
 #[test]
 fn tells_errors(rt: HostRuntime) -> Result<(), Fail> {
     let alloc = rt.alloc();
-    assert_eq!(rt;
-        format!(in alloc; "{LongRecordData}")?.as_str(),
-        "record data too long"
-    );
+    assert_printed(&rt, alloc, &LongRecordData, "record data too long")?;
     let name = RecordParseError::<ParseError, LongRecordData>::Name(ParseError::ShortInput);
-    assert_eq!(rt;
-        format!(in alloc; "{name}")?.as_str(),
-        "unexpected end of input"
-    );
+    assert_printed(&rt, alloc, &name, "unexpected end of input")?;
     let data = RecordParseError::<ParseError, LongRecordData>::Data(LongRecordData);
-    assert_eq!(rt;
-        format!(in alloc; "{data}")?.as_str(),
-        "record data too long"
-    );
+    assert_printed(&rt, alloc, &data, "record data too long")?;
     let short: RecordParseError<ParseError, LongRecordData> = ShortBuf.into();
-    assert_eq!(rt;
-        format!(in alloc; "{short}")?.as_str(),
-        "unexpected end of buffer"
-    );
-    Ok(())
+    assert_printed(&rt, alloc, &short, "unexpected end of buffer")
 }

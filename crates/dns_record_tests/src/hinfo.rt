@@ -62,9 +62,10 @@ mod tests {
     use super::*;
     use dns_message::builder::MessageBuilder;
     use dns_message::code::Class;
+    use dns_message::message::Message;
     use dns_message::name::Name;
     use dns_message::record::{Record, Ttl};
-    use dns_message::target::StaticCompressor;
+    use std::alloc::Global;
     use std::process::Abort;
     use std::test::Fail;
 
@@ -104,15 +105,19 @@ mod tests {
         assert!(rt; !is_short(&OCTETS));
     }
 
-    #[test]
-    fn reads_its_own_data_back(rt: HostRuntime) -> Result<(), Fail> {
+    /// A message with an answer of this host for host.example.
+    fn message(alloc: Global) -> Result<Message<Vec<u8>>, Fail> {
         let name = Name::from_octets(*b"\x04host\x07example\x00")?;
-        let target = StaticCompressor::new(Vec::new(rt.alloc()));
-        let mut builder = MessageBuilder::from_target(target)?.answer();
         let cpu = CharStr::from_octets(b"\x08DEC-2060").ok_or("cpu")?;
         let os = CharStr::from_octets(b"\x06TOPS20").ok_or("os")?;
-        builder.push(Record::new(&name, Class::IN, Ttl::HOUR, Hinfo { cpu, os }))?;
-        let message = builder.into_message();
+        let mut builder = MessageBuilder::new_vec(alloc)?.answer();
+        builder.push(Record::new(name, Class::IN, Ttl::HOUR, Hinfo { cpu, os }))?;
+        Ok(builder.into_message())
+    }
+
+    #[test]
+    fn reads_its_own_data_back(rt: HostRuntime) -> Result<(), Fail> {
+        let message = message(rt.alloc())?;
         let Some(Ok(answer)) = message.answer()?.next() else {
             panic!(rt; "no record")
         };

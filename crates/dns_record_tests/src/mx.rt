@@ -10,6 +10,7 @@ use dns_message::builder::MessageBuilder;
 use dns_message::code::{Class, Rtype};
 use dns_message::data::laws::{names_are_short, parts_compose};
 use dns_message::data::{ComposeRecordData, ParseRecordData, RecordData};
+use dns_message::message::Message;
 use dns_message::name::{Name, ParsedName, ToName, ToNameExt};
 use dns_message::record::{Record, Ttl};
 use dns_message::target::{Composer, StaticCompressor};
@@ -79,21 +80,27 @@ impl<'a> ParseRecordData<'a> for Mx<ParsedName<'a>> {
     ghost laid_out = { Prim.search rules };
 }
 
+/// An answer with the mail exchanger of mail.example., which is itself.
+const MESSAGE: &[u8; 40] =
+    b"\x00\x00\x00\x00\x00\x00\x00\x01\x00\x00\x00\x00\x04mail\x07example\x00\x00\x0F\x00\x01\x00\x00\x0E\x10\x00\x04\x00\x0A\xC0\x0C";
+
 #[test]
-fn reads_its_own_data_back(rt: HostRuntime) -> Result<(), Fail> {
+fn compresses_its_exchange(rt: HostRuntime) -> Result<(), Fail> {
     let name = Name::from_octets(*b"\x04mail\x07example\x00")?;
-    let target = StaticCompressor::new(Vec::new(rt.alloc()));
-    let mut builder = MessageBuilder::from_target(target)?.answer();
     let mx = Mx {
         preference: 10,
         exchange: &name,
     };
+    let target = StaticCompressor::new(Vec::new(rt.alloc()));
+    let mut builder = MessageBuilder::from_target(target)?.answer();
     builder.push(Record::new(&name, Class::IN, Ttl::HOUR, mx))?;
-    assert_eq!(rt;
-        builder.as_slice(),
-        b"\x00\x00\x00\x00\x00\x00\x00\x01\x00\x00\x00\x00\x04mail\x07example\x00\x00\x0F\x00\x01\x00\x00\x0E\x10\x00\x04\x00\x0A\xC0\x0C".as_slice()
-    );
-    let message = builder.into_message();
+    assert_eq!(rt; builder.as_slice(), MESSAGE.as_slice());
+    Ok(())
+}
+
+#[test]
+fn reads_its_own_data_back(rt: HostRuntime) -> Result<(), Fail> {
+    let message = Message::from_octets(*MESSAGE)?;
     let Some(Ok(answer)) = message.answer()?.next() else {
         panic!(rt; "no record")
     };
@@ -101,6 +108,7 @@ fn reads_its_own_data_back(rt: HostRuntime) -> Result<(), Fail> {
         panic!(rt; "no mail exchanger")
     };
     assert_eq!(rt; record.data().preference, 10);
-    assert!(rt; record.data().exchange.octets_eq(&name));
+    let exchange = Name::from_octets(*b"\x04mail\x07example\x00")?;
+    assert!(rt; record.data().exchange.octets_eq(&exchange));
     Ok(())
 }

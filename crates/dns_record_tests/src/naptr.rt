@@ -118,6 +118,7 @@ mod tests {
     use super::*;
     use dns_message::builder::MessageBuilder;
     use dns_message::code::Class;
+    use dns_message::message::Message;
     use dns_message::name::ToNameExt;
     use dns_message::record::{Record, Ttl};
     use dns_message::target::StaticCompressor;
@@ -166,38 +167,51 @@ mod tests {
         assert!(rt; matches!(read(&octets), Err(ParseError::Form(_))));
     }
 
-    #[test]
-    fn reads_its_own_data_back(rt: HostRuntime) -> Result<(), Fail> {
-        let name = Name::from_octets(*b"\x07example\x00")?;
-        let target = StaticCompressor::new(Vec::new(rt.alloc()));
-        let mut builder = MessageBuilder::from_target(target)?.answer();
-        let naptr = Naptr {
+    /// An answer with the pointer for example., without compression.
+    const MESSAGE: &[u8; 67] =
+        b"\x00\x00\x00\x00\x00\x00\x00\x01\x00\x00\x00\x00\x07example\x00\x00\x23\x00\x01\x00\x00\x0E\x10\x00\x24\x00\x64\x00\x32\x01s\x0Dz3950+N2L+N2C\x00\x05z3950\x07example\x00";
+
+    const REPLACEMENT: &[u8] = b"\x05z3950\x07example\x00";
+
+    fn pointer() -> Result<Naptr<'static, Name<&'static [u8]>>, Fail> {
+        Ok(Naptr {
             order: 100,
             preference: 50,
             flags: CharStr::from_octets(b"\x01s").ok_or("flags")?,
             services: CharStr::from_octets(b"\x0Dz3950+N2L+N2C").ok_or("services")?,
             regexp: CharStr::from_octets(b"\x00").ok_or("regexp")?,
-            replacement: Name::from_octets(*b"\x05z3950\x07example\x00")?,
-        };
-        builder.push(Record::new(&name, Class::IN, Ttl::HOUR, naptr))?;
-        assert_eq!(rt;
-            builder.as_slice(),
-            b"\x00\x00\x00\x00\x00\x00\x00\x01\x00\x00\x00\x00\x07example\x00\x00\x23\x00\x01\x00\x00\x0E\x10\x00\x24\x00\x64\x00\x32\x01s\x0Dz3950+N2L+N2C\x00\x05z3950\x07example\x00".as_slice()
-        );
-        let message = builder.into_message();
+            replacement: Name::from_octets(REPLACEMENT)?,
+        })
+    }
+
+    #[test]
+    fn never_compresses_its_replacement(rt: HostRuntime) -> Result<(), Fail> {
+        let name = Name::from_octets(*b"\x07example\x00")?;
+        let naptr = pointer()?;
+        let target = StaticCompressor::new(Vec::new(rt.alloc()));
+        let mut builder = MessageBuilder::from_target(target)?.answer();
+        builder.push(Record::new(name, Class::IN, Ttl::HOUR, naptr))?;
+        assert_eq!(rt; builder.as_slice(), MESSAGE.as_slice());
+        Ok(())
+    }
+
+    #[test]
+    fn reads_its_own_data_back(rt: HostRuntime) -> Result<(), Fail> {
+        let message = Message::from_octets(*MESSAGE)?;
         let Some(Ok(answer)) = message.answer()?.next() else {
             panic!(rt; "no record")
         };
         let Ok(Some(record)) = answer.to_record::<Naptr<'_, ParsedName<'_>>>() else {
             panic!(rt; "no pointer")
         };
-        assert_eq!(rt; record.data().order, 100);
-        assert_eq!(rt;
-            record.data().services.as_slice(),
-            b"\x0Dz3950+N2L+N2C".as_slice()
+        let naptr = record.data();
+        assert_eq!(rt; naptr.order, 100);
+        assert_eq!(rt; naptr.services.as_slice(), b"\x0Dz3950+N2L+N2C".as_slice());
+        assert!(rt;
+            naptr
+                .replacement
+                .octets_eq(&Name::from_octets(REPLACEMENT)?)
         );
-        let replacement = Name::from_octets(*b"\x05z3950\x07example\x00")?;
-        assert!(rt; record.data().replacement.octets_eq(&replacement));
         Ok(())
     }
 }

@@ -1,4 +1,5 @@
 //! Questions: read from texts and from octets, printed, and composed.
+use crate::data::assert_printed;
 use arrayvec::ArrayVec;
 use dns_code::{Class, Rtype};
 use dns_item::question::{FromStrError, PresentationError, PresentationErrorEnum};
@@ -129,22 +130,29 @@ fn assert_faulty(
         panic!(rt; "{}", case.text);
     };
     assert!(rt; error.kind() == case.kind, "{}", case.text);
-    assert_eq!(rt; error.to_string(alloc)?.as_str(), case.printed);
-    assert_eq!(rt; case.kind.to_string(alloc)?.as_str(), case.printed);
-    let error = FromStrError::Presentation(error);
-    assert_eq!(rt; error.to_string(alloc)?.as_str(), case.printed);
+    assert_printed(rt, alloc, &error, case.printed)?;
+    assert_printed(rt, alloc, &case.kind, case.printed)?;
+    assert_printed(rt, alloc, &FromStrError::Presentation(error), case.printed)
+}
+
+/// Both readings of the text are the question example.com. A IN.
+fn assert_spelled(rt: &impl Abort, alloc: Global, text: &str) -> Result<(), Fail> {
+    let question = Question::vec_from_str(alloc, text)?;
+    assert!(rt;
+        question == Question::vec_from_str(alloc, "example.com A")?,
+        "{text}"
+    );
+    assert_eq!(rt; composed(alloc, &question)?.as_slice(), EXAMPLE);
+    let question = buffered(text)?;
+    assert!(rt; question == buffered("example.com A")?, "{text}");
+    assert_eq!(rt; composed(alloc, &question)?.as_slice(), EXAMPLE);
     Ok(())
 }
 
 #[test]
 fn reads_spellings(rt: HostRuntime) -> Result<(), Fail> {
-    let first = Question::vec_from_str(rt.alloc(), "example.com A")?;
     for text in SPELLINGS {
-        let question = Question::vec_from_str(rt.alloc(), text)?;
-        assert!(rt; question == first, "{text}");
-        assert!(rt; buffered(text)? == buffered("example.com A")?, "{text}");
-        assert_eq!(rt; composed(rt.alloc(), &question)?.as_slice(), EXAMPLE);
-        assert_eq!(rt; composed(rt.alloc(), &buffered(text)?)?.as_slice(), EXAMPLE);
+        assert_spelled(&rt, rt.alloc(), text)?;
     }
     assert!(rt; buffered("example.com CH ANY")? != buffered("example.com ANY")?);
     Ok(())
@@ -168,28 +176,17 @@ fn converts_errors(rt: HostRuntime) -> Result<(), Fail> {
     let presentation = name::FromStrError::Presentation(fault);
     assert!(rt; FromStrError::from(presentation) == FromStrError::Presentation(error));
     let short = FromStrError::from(name::FromStrError::ShortBuf);
-    assert_eq!(rt;
-        short.to_string(rt.alloc())?.as_str(),
-        "buffer size exceeded"
-    );
+    assert_printed(&rt, rt.alloc(), &short, "buffer size exceeded")?;
     let memory = FromStrError::from(name::FromStrError::OutOfMemory);
-    assert_eq!(rt; memory.to_string(rt.alloc())?.as_str(), "out of memory");
-    Ok(())
+    assert_printed(&rt, rt.alloc(), &memory, "out of memory")
 }
 
 #[test]
 fn prints(rt: HostRuntime) -> Result<(), Fail> {
     let question = buffered("Example.COM aaaa")?;
-    assert_eq!(rt;
-        question.to_string(rt.alloc())?.as_str(),
-        "Example.COM.\tAAAA\tIN"
-    );
+    assert_printed(&rt, rt.alloc(), &question, "Example.COM.\tAAAA\tIN")?;
     let question = Question::vec_from_str(rt.alloc(), ". CLASS254 TYPE65280")?;
-    assert_eq!(rt;
-        question.to_string(rt.alloc())?.as_str(),
-        ".\tTYPE65280\tCLASS254"
-    );
-    Ok(())
+    assert_printed(&rt, rt.alloc(), &question, ".\tTYPE65280\tCLASS254")
 }
 
 #[test]

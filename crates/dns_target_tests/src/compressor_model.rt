@@ -164,14 +164,14 @@ fn take<T: Composer>(alloc: Global, target: &mut T, step: Step) -> Result<(), Fa
 fn assert_steps<T: Composer>(
     rt: &impl Abort,
     alloc: Global,
-    target: &mut T,
+    mut target: T,
     rule: Rule,
     steps: &[Step],
 ) -> Result<(), Fail> {
     let mut model = Model::new(alloc, rule);
     for step in steps {
         let len = model.content.len();
-        take(alloc, target, *step)?;
+        take(alloc, &mut target, *step)?;
         model.take(alloc, *step)?;
         assert_eq!(rt; target.as_slice().len(), model.content.len());
         assert_eq!(rt; target.as_slice().get(len..), model.content.get(len..));
@@ -182,14 +182,14 @@ fn assert_steps<T: Composer>(
 
 /// Takes the steps on each of the four compressors.
 fn assert_each(rt: &impl Abort, alloc: Global, steps: &[Step]) -> Result<(), Fail> {
-    let mut places = StaticCompressor::new(Vec::new(alloc));
-    assert_steps(rt, alloc, &mut places, Rule::Static, steps)?;
-    let mut tree = TreeCompressor::new(alloc, Vec::new(alloc));
-    assert_steps(rt, alloc, &mut tree, Rule::Tree, steps)?;
-    let mut hash = HashCompressor::new(alloc, Vec::new(alloc));
-    assert_steps(rt, alloc, &mut hash, Rule::Hash, steps)?;
-    let mut index = IndexCompressor::new(alloc, Vec::new(alloc));
-    assert_steps(rt, alloc, &mut index, Rule::Tree, steps)
+    let places = StaticCompressor::new(Vec::new(alloc));
+    assert_steps(rt, alloc, places, Rule::Static, steps)?;
+    let tree = TreeCompressor::new(alloc, Vec::new(alloc));
+    assert_steps(rt, alloc, tree, Rule::Tree, steps)?;
+    let hash = HashCompressor::new(alloc, Vec::new(alloc));
+    assert_steps(rt, alloc, hash, Rule::Hash, steps)?;
+    let index = IndexCompressor::new(alloc, Vec::new(alloc));
+    assert_steps(rt, alloc, index, Rule::Tree, steps)
 }
 
 /// The length of the content behind the steps.

@@ -1,6 +1,7 @@
 //! What was appended and cut away again leaves a target as if it had never been there.
 ghost use Rattle.std.specs.Prelude.{◌≡◌};
 
+use crate::steps::{Step, after, take};
 use arrayvec::ArrayVec;
 use dns_target::{HashCompressor, IndexCompressor, StaticCompressor, TreeCompressor};
 use dns_wire::{Composer, Name, ToName};
@@ -20,32 +21,27 @@ fn append_and_cut<T: Composer, N: ToName>(target: &mut T, names: &[N], octets: &
 }
 
 /// A name is written in the same octets before and behind such a history.
-fn assert_forgets_history<T: Composer>(rt: &impl Abort, target: &mut T) -> Result<(), Fail> {
+fn assert_forgets_history<T: Composer>(rt: &impl Abort, target: T) -> Result<(), Fail> {
     let names = [
-        Name::from_octets(*b"\x01a\x02bc\x02de\x00")?,
-        Name::from_octets(*b"\x01x\x02bc\x02de\x00")?,
+        Name::from_octets(b"\x01a\x02bc\x02de\x00".as_slice())?,
+        Name::from_octets(b"\x01x\x02bc\x02de\x00".as_slice())?,
     ];
-    target.append_compressed_name(&Name::from_octets(*b"\x02de\x00")?)?;
-    append_and_cut(target, &names, b"\xC0\x00");
+    let first = Step::Name(b"\x02de\x00", Ok(b"\x02de\x00"));
+    let mut target = after(rt, target, &[first])?;
+    append_and_cut(&mut target, &names, b"\xC0\x00");
     assert_eq!(rt; target.as_slice(), b"\x02de\x00".as_slice());
-    target.append_compressed_name(&Name::from_octets(*b"\x02bc\x02de\x00")?)?;
-    assert_eq!(rt; target.as_slice(), b"\x02de\x00\x02bc\xC0\x00".as_slice());
-    Ok(())
+    take(
+        rt,
+        &mut target,
+        Step::Name(b"\x02bc\x02de\x00", Ok(b"\x02bc\xC0\x00")),
+    )
 }
 
 #[test]
 fn what_is_cut_away_is_forgotten(rt: HostRuntime) -> Result<(), Fail> {
-    assert_forgets_history(&rt, &mut StaticCompressor::new(ArrayVec::<u8, 12>::new()))?;
-    assert_forgets_history(
-        &rt,
-        &mut TreeCompressor::new(rt.alloc(), Vec::new(rt.alloc())),
-    )?;
-    assert_forgets_history(
-        &rt,
-        &mut HashCompressor::new(rt.alloc(), Vec::new(rt.alloc())),
-    )?;
-    assert_forgets_history(
-        &rt,
-        &mut IndexCompressor::new(rt.alloc(), Vec::new(rt.alloc())),
-    )
+    let alloc = rt.alloc();
+    assert_forgets_history(&rt, StaticCompressor::new(ArrayVec::<u8, 12>::new()))?;
+    assert_forgets_history(&rt, TreeCompressor::new(alloc, Vec::new(alloc)))?;
+    assert_forgets_history(&rt, HashCompressor::new(alloc, Vec::new(alloc)))?;
+    assert_forgets_history(&rt, IndexCompressor::new(alloc, Vec::new(alloc)))
 }

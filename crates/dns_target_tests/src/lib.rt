@@ -12,6 +12,8 @@ mod history;
 #[cfg(test)]
 mod spellings;
 #[cfg(test)]
+mod steps;
+#[cfg(test)]
 mod stream;
 #[cfg(test)]
 mod targets;

@@ -149,7 +149,7 @@ fn name_octets(alloc: Global, labels: &[Label]) -> Result<Vec<u8>, AllocError> {
 /// How many octets the names have, one after another on an empty target.
 fn written_len<T: Composer>(
     alloc: Global,
-    target: &mut T,
+    mut target: T,
     names: &[&[Label]],
 ) -> Result<usize, Fail> {
     for labels in names {
@@ -161,15 +161,11 @@ fn written_len<T: Composer>(
 
 /// How many octets each of the four compressors writes for the names.
 fn written_lens(alloc: Global, names: &[&[Label]]) -> Result<[usize; 4], Fail> {
-    let mut places = StaticCompressor::new(Vec::new(alloc));
-    let mut tree = TreeCompressor::new(alloc, Vec::new(alloc));
-    let mut hash = HashCompressor::new(alloc, Vec::new(alloc));
-    let mut index = IndexCompressor::new(alloc, Vec::new(alloc));
     Ok([
-        written_len(alloc, &mut places, names)?,
-        written_len(alloc, &mut tree, names)?,
-        written_len(alloc, &mut hash, names)?,
-        written_len(alloc, &mut index, names)?,
+        written_len(alloc, StaticCompressor::new(Vec::new(alloc)), names)?,
+        written_len(alloc, TreeCompressor::new(alloc, Vec::new(alloc)), names)?,
+        written_len(alloc, HashCompressor::new(alloc, Vec::new(alloc)), names)?,
+        written_len(alloc, IndexCompressor::new(alloc, Vec::new(alloc)), names)?,
     ])
 }
 

@@ -2,36 +2,31 @@
 ghost use Rattle.std.specs.Prelude.{◌≤◌, length};
 ghost use Rattle.dns_wire.specs.Pieces.{IsClear};
 
+use crate::steps::{Step, after};
 use arrayvec::ArrayVec;
 use dns_target::TreeCompressor;
-use dns_wire::{
-    AppendError, CloneTarget, Composer, FreezeBuilder, Name, Octets, ToName, ToNameExt,
-};
+use dns_wire::{AppendError, CloneTarget, Composer, FreezeBuilder, Name, Octets, ToName};
 use std::process::Abort;
 use std::test::Fail;
 
-/// Appends octets and a name to an empty target, and cuts it back.
-fn assert_writes<T: Composer>(rt: &impl Abort, target: &mut T) -> Result<(), Fail> {
-    target.append_slice(b"\x00\x01")?;
-    target.append_compressed_name(&Name::from_octets(*b"\x02Ab\x00")?)?;
-    assert_eq!(rt; target.as_slice(), b"\x00\x01\x02Ab\x00".as_slice());
+const AB: &[u8] = b"\x02Ab\x00";
+
+/// Octets, a name and a canonical name appended to an empty target, and cuts back to three octets.
+const WRITES: [Step; 5] = [
+    Step::Octets(b"\x00\x01", Ok(b"\x00\x01")),
+    Step::Name(AB, Ok(AB)),
+    Step::Canonical(b"\x01C\x02Ab\x00", Ok(b"\x01c\x02ab\x00")),
+    Step::Cut(12),
+    Step::Cut(3),
+];
+
+/// Takes the steps on an empty target, and freezes a clone of it.
+fn assert_writes<T: CloneTarget + FreezeBuilder>(rt: &impl Abort, target: T) -> Result<(), Fail> {
+    let target = after(rt, target, &WRITES)?;
     assert!(rt; !target.can_compress());
-    Name::from_octets(*b"\x01C\x02Ab\x00")?.compose_canonical(target)?;
-    assert_eq!(rt;
-        target.as_slice(),
-        b"\x00\x01\x02Ab\x00\x01c\x02ab\x00".as_slice()
-    );
-    target.truncate(12);
-    assert_eq!(rt; target.as_slice().len(), 12);
-    target.truncate(3);
+    assert_freezes(rt, target.clone_target()?, b"\x00\x01\x02");
     assert_eq!(rt; target.as_slice(), b"\x00\x01\x02".as_slice());
     Ok(())
-}
-
-fn clone_of<T: CloneTarget>(rt: &impl Abort, target: &T) -> Result<T, Fail> {
-    let clone = target.clone_target()?;
-    assert_eq!(rt; clone.as_slice(), target.as_slice());
-    Ok(clone)
 }
 
 pub(crate) fn assert_freezes<T: FreezeBuilder>(rt: &impl Abort, target: T, octets: &[u8]) {
@@ -41,18 +36,12 @@ pub(crate) fn assert_freezes<T: FreezeBuilder>(rt: &impl Abort, target: T, octet
 
 #[test]
 fn writes_to_a_vec(rt: HostRuntime) -> Result<(), Fail> {
-    let mut target = Vec::new(rt.alloc());
-    assert_writes(&rt, &mut target)?;
-    assert_freezes(&rt, clone_of(&rt, &target)?, b"\x00\x01\x02");
-    Ok(())
+    assert_writes(&rt, Vec::new(rt.alloc()))
 }
 
 #[test]
 fn writes_to_an_array_vec(rt: HostRuntime) -> Result<(), Fail> {
-    let mut target = ArrayVec::<u8, 12>::new();
-    assert_writes(&rt, &mut target)?;
-    assert_freezes(&rt, clone_of(&rt, &target)?, b"\x00\x01\x02");
-    Ok(())
+    assert_writes(&rt, ArrayVec::<u8, 12>::new())
 }
 
 fn assert_written_over<T: Composer>(rt: &impl Abort, target: &mut T)
@@ -84,21 +73,19 @@ fn writes_no_octets_over_a_name(rt: HostRuntime) -> Result<(), Fail> {
 
 #[test]
 fn refuses_what_passes_the_room(rt: HostRuntime) -> Result<(), Fail> {
-    let name = Name::from_octets(*b"\x02Ab\x00")?;
     let short = Err(AppendError::ShortBuf);
-    let mut target = ArrayVec::<u8, 5>::new();
-    target.append_slice(b"\x00\x01")?;
-    assert_eq!(rt; target.append_compressed_name(&name), short);
-    assert_eq!(rt; name.compose_canonical(&mut target), short);
-    assert_eq!(rt; target.append_slice(b"\x02\x03\x04\x05"), short);
-    assert_eq!(rt; target.as_slice(), b"\x00\x01".as_slice());
-    target.append_slice(b"\x02\x03\x04")?;
-    assert_eq!(rt; target.append_slice(b"\x05"), short);
-    assert_eq!(rt; target.as_slice(), b"\x00\x01\x02\x03\x04".as_slice());
-    target.append_slice(b"")?;
-    target.truncate(1);
-    target.append_compressed_name(&name)?;
-    assert_eq!(rt; target.as_slice(), b"\x00\x02Ab\x00".as_slice());
+    let steps = [
+        Step::Octets(b"\x00\x01", Ok(b"\x00\x01")),
+        Step::Name(AB, short),
+        Step::Canonical(AB, short),
+        Step::Octets(b"\x02\x03\x04\x05", short),
+        Step::Octets(b"\x02\x03\x04", Ok(b"\x02\x03\x04")),
+        Step::Octets(b"\x05", short),
+        Step::Octets(b"", Ok(b"")),
+        Step::Cut(1),
+        Step::Name(AB, Ok(AB)),
+    ];
+    after(&rt, ArrayVec::<u8, 5>::new(), &steps)?;
     Ok(())
 }
 
@@ -144,9 +131,11 @@ impl Composer for Refusing {
 
 #[test]
 fn tells_want_of_memory(rt: HostRuntime) -> Result<(), Fail> {
-    let name = Name::from_octets(*b"\x02Ab\x00")?;
-    let refused = Err(AppendError::OutOfMemory);
-    assert_eq!(rt; name.compose_canonical(&mut Refusing), refused);
-    assert_eq!(rt; Refusing.append_compressed_name(&name), refused);
+    let want = Err(AppendError::OutOfMemory);
+    after(
+        &rt,
+        Refusing,
+        &[Step::Name(AB, want), Step::Canonical(AB, want)],
+    )?;
     Ok(())
 }

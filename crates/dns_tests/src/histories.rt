@@ -1,8 +1,7 @@
 //! Ten scripts of the program, over each compressor, that end with the same items standing: their octets are the same.
-use dns_message::tool;
+use crate::runs::run;
 use std::alloc::Global;
 use std::process::Abort;
-use std::str;
 use std::test::Fail;
 
 /// A question, an answer, an authority record and an additional record.
@@ -59,19 +58,20 @@ const ADDITIONS: [(&str, &str); 10] = [
 const OCTETS: &str =
     "000000000001000100010001076578616d706c6503636f6d000001000103777777c00c000100010000003c0004c0000201c00c000200010000003c0005026e73c00cc03d000100010000003c0004c0000202\n";
 
+/// The lines that push the items, between others.
+fn script_of(alloc: Global, before: &str, behind: &str) -> Result<String, Fail> {
+    let mut script = String::from_str(alloc, before)?;
+    script.push_str(ITEMS)?;
+    script.push_str(behind)?;
+    Ok(script)
+}
+
 fn assert_ends_alike(rt: &impl Abort, alloc: Global, target: &str) -> Result<(), Fail> {
-    let mut words = Vec::new(alloc);
-    words.push(String::from_str(alloc, "build")?)?;
-    words.push(String::from_str(alloc, target)?)?;
     for (before, behind) in &ADDITIONS {
-        let mut script = String::from_str(alloc, before)?;
-        script.push_str(ITEMS)?;
-        script.push_str(behind)?;
-        let mut output = Vec::new(alloc);
-        let status = tool(alloc, &words, script.as_bytes(), &mut output);
-        let output = str::from_utf8(&output)?;
-        assert_eq!(rt; status, 0, "after {output}");
-        assert!(rt; output.ends_with(OCTETS), "{output} of {script}");
+        let script = script_of(alloc, before, behind)?;
+        let (output, status) = run(alloc, &["build", target], script.as_bytes())?;
+        assert_eq!(rt; status, 0, "after {script}");
+        assert!(rt; output.ends_with(OCTETS.as_bytes()), "after {script}");
     }
     Ok(())
 }

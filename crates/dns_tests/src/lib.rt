@@ -12,4 +12,6 @@ mod program;
 #[cfg(test)]
 mod record_program;
 #[cfg(test)]
+mod runs;
+#[cfg(test)]
 mod tour;

@@ -1,4 +1,5 @@
 //! The program `dnsmsg`: what it prints, and its status.
+use crate::runs::{assert_run, run, strings};
 use dns_message::tool;
 use std::alloc::Global;
 use std::io::{ErrorKind, Read, Write};
@@ -9,21 +10,9 @@ use std::{io, str};
 /// Words behind the program's name, what is on standard input, and what is printed with which status.
 type Run<'a> = (&'a [&'a str], &'a [u8], &'a str, u8);
 
-fn strings(alloc: Global, words: &[&str]) -> Result<Vec<String>, Fail> {
-    let mut strings = Vec::new(alloc);
-    for word in words {
-        strings.push(String::from_str(alloc, word)?)?;
-    }
-    Ok(strings)
-}
-
 fn assert_runs(rt: &impl Abort, alloc: Global, runs: &[Run<'_>]) -> Result<(), Fail> {
     for (words, input, printed, status) in runs {
-        let mut output = Vec::new(alloc);
-        let ended = tool(alloc, &strings(alloc, words)?, *input, &mut output);
-        let output = str::from_utf8(&output)?;
-        assert_eq!(rt; output, *printed);
-        assert_eq!(rt; ended, *status, "after {output}");
+        assert_run(rt, alloc, words, input, printed, *status)?;
     }
     Ok(())
 }
@@ -243,9 +232,7 @@ fn refused_opt(alloc: Global, lengths: &[usize]) -> Result<Vec<u8>, Fail> {
             script.push_str("00")?;
         }
     }
-    let mut output = Vec::new(alloc);
-    let words = strings(alloc, &["build", "fixed"])?;
-    tool(alloc, &words, script.as_bytes(), &mut output);
+    let (output, _) = run(alloc, &["build", "fixed"], script.as_bytes())?;
     Ok(output)
 }
 
@@ -278,6 +265,15 @@ fn tells_refusals_by_the_limit(rt: HostRuntime) -> Result<(), Fail> {
     assert_runs(&rt, rt.alloc(), &runs)
 }
 
+/// The lines, and then 101 pushes of five octets.
+fn with_pushes(alloc: Global, lines: &str) -> Result<String, Fail> {
+    let mut script = String::from_str(alloc, lines)?;
+    for _ in 0..101 {
+        script.push_str("push . A\n")?;
+    }
+    Ok(script)
+}
+
 /// The line with this place from 0 of what is printed for an array, the lines and then 101 pushes of five octets.
 fn assert_line(
     rt: &impl Abort,
@@ -286,17 +282,8 @@ fn assert_line(
     place: usize,
     printed: &str,
 ) -> Result<(), Fail> {
-    let mut script = String::from_str(alloc, lines)?;
-    for _ in 0..101 {
-        script.push_str("push . A\n")?;
-    }
-    let mut output = Vec::new(alloc);
-    let status = tool(
-        alloc,
-        &strings(alloc, &["build", "fixed"])?,
-        script.as_bytes(),
-        &mut output,
-    );
+    let script = with_pushes(alloc, lines)?;
+    let (output, status) = run(alloc, &["build", "fixed"], script.as_bytes())?;
     assert_eq!(rt; status, 0);
     assert_eq!(rt; str::from_utf8(&output)?.lines().nth(place), Some(printed));
     Ok(())

@@ -1,8 +1,7 @@
 //! The program `dnsmsg` on records.
-use dns_message::tool;
+use crate::runs::assert_run;
 use std::alloc::Global;
 use std::process::Abort;
-use std::str;
 use std::test::Fail;
 
 /// A script, what is printed for it, and the status.
@@ -14,15 +13,8 @@ fn assert_builds(
     target: &str,
     runs: &[Run<'_>],
 ) -> Result<(), Fail> {
-    let mut words = Vec::new(alloc);
-    words.push(String::from_str(alloc, "build")?)?;
-    words.push(String::from_str(alloc, target)?)?;
     for (script, printed, status) in runs {
-        let mut output = Vec::new(alloc);
-        let ended = tool(alloc, &words, *script, &mut output);
-        let output = str::from_utf8(&output)?;
-        assert_eq!(rt; output, *printed);
-        assert_eq!(rt; ended, *status, "after {output}");
+        assert_run(rt, alloc, &["build", target], script, printed, *status)?;
     }
     Ok(())
 }

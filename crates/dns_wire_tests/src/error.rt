@@ -1,4 +1,5 @@
 //! The text of each error.
+use crate::codes::assert_printed;
 use dns_wire::{AppendError, FormError, ParseError, ShortBuf};
 use std::alloc::AllocError;
 use std::test::Fail;
@@ -20,20 +21,19 @@ fn faults_of_octets(rt: HostRuntime) -> Result<(), Fail> {
             "multiple questions",
         ),
     ] {
-        assert_eq!(rt; format!(in rt.alloc(); "{error}")?.as_str(), text);
+        assert_printed(&rt, rt.alloc(), &error, text)?;
     }
     Ok(())
 }
 
 #[test]
 fn want_of_room_or_memory(rt: HostRuntime) -> Result<(), Fail> {
-    let short = format!(in rt.alloc(); "{ShortBuf}")?;
-    assert_eq!(rt; short.as_str(), "buffer size exceeded");
+    assert_printed(&rt, rt.alloc(), &ShortBuf, "buffer size exceeded")?;
     for (error, text) in [
         (AppendError::from(ShortBuf), "buffer size exceeded"),
         (AppendError::from(AllocError), "out of memory"),
     ] {
-        assert_eq!(rt; format!(in rt.alloc(); "{error}")?.as_str(), text);
+        assert_printed(&rt, rt.alloc(), &error, text)?;
     }
     Ok(())
 }

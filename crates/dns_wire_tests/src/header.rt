@@ -1,4 +1,5 @@
 //! Headers, flags and counts of messages.
+use crate::codes::assert_printed;
 use dns_code::{
     CountOverflow, Flags, FlagsFromStrError, Header, HeaderCounts, HeaderSection, Opcode, Rcode,
 };
@@ -23,16 +24,18 @@ fn takes_a_slice_of_a_message(rt: HostRuntime) -> Result<(), Fail> {
 }
 
 #[test]
-fn keeps_each_field_apart(rt: HostRuntime) -> Result<(), Fail> {
-    let mut header = Header::new();
+fn a_new_header_has_no_bit_set(rt: HostRuntime) {
+    let header = Header::new();
     assert_eq!(rt; header.as_slice(), b"\x00\x00\x00\x00".as_slice());
     assert_eq!(rt; (header.id(), header.opcode()), (0, Opcode::QUERY));
-    assert_eq!(rt;
-        (header.rcode(), header.flags()),
-        (Rcode::NOERROR, Flags::new())
-    );
-    assert!(rt; !header.qr() && !header.aa() && !header.tc() && !header.rd());
-    assert!(rt; !header.ra() && !header.z() && !header.ad() && !header.cd());
+    assert_eq!(rt; header.rcode(), Rcode::NOERROR);
+    assert_eq!(rt; header.flags(), Flags::new());
+    assert!(rt; !header.z());
+}
+
+#[test]
+fn keeps_each_field_apart(rt: HostRuntime) {
+    let mut header = Header::new();
     header.set_id(0x1234);
     header.set_opcode(Opcode::NOTIFY);
     header.set_rcode(Rcode::REFUSED);
@@ -43,11 +46,10 @@ fn keeps_each_field_apart(rt: HostRuntime) -> Result<(), Fail> {
     assert_eq!(rt; (header.id(), header.opcode()), (0x1234, Opcode::NOTIFY));
     assert_eq!(rt; header.rcode(), Rcode::REFUSED);
     assert_eq!(rt; header.as_slice(), b"\x12\x34\xA0\x05".as_slice());
-    Ok(())
 }
 
 #[test]
-fn sets_and_clears_each_flag(rt: HostRuntime) -> Result<(), Fail> {
+fn sets_each_flag(rt: HostRuntime) {
     let mut header = Header::new();
     header.set_qr(true);
     header.set_aa(true);
@@ -61,12 +63,16 @@ fn sets_and_clears_each_flag(rt: HostRuntime) -> Result<(), Fail> {
     assert_eq!(rt; header.as_slice(), b"\x00\x00\x87\xF0".as_slice());
     assert!(rt; header.qr() && header.aa() && header.tc() && header.rd());
     assert!(rt; header.ra() && header.z() && header.ad() && header.cd());
+}
+
+#[test]
+fn clears_flags(rt: HostRuntime) {
+    let mut header = Header::for_message_slice(b"\x00\x00\x87\xF0\x00\x00\x00\x00\x00\x00\x00\x00");
     header.set_qr(false);
     header.set_tc(false);
     header.set_ra(false);
     header.set_ad(false);
     assert_eq!(rt; header.as_slice(), b"\x00\x00\x05\x50".as_slice());
-    Ok(())
 }
 
 #[test]
@@ -124,32 +130,47 @@ fn reads_texts_of_flags(rt: HostRuntime) -> Result<(), Fail> {
     ] {
         assert_eq!(rt; text.parse::<Flags>().ok(), flags, "at {text:?}");
     }
-    for (flags, text) in [
-        (all, "QR AA TC RD RA AD CD"),
-        (
-            Flags {
-                rd: true,
-                cd: true,
-                ..none
-            },
-            "RD CD",
-        ),
-        (none, ""),
-    ] {
-        assert_eq!(rt; flags.to_string(rt.alloc())?.as_str(), text);
-    }
     Ok(())
 }
 
 #[test]
-fn counts_up_and_down(rt: HostRuntime) -> Result<(), Fail> {
-    let mut message = [0; 12];
-    message[4..].copy_from_slice(b"\x01\x02\x03\x04\x05\x06\x07\x08");
-    let mut counts = HeaderCounts::for_message_slice(&message);
+fn prints_flags(rt: HostRuntime) -> Result<(), Fail> {
+    let all = Flags {
+        qr: true,
+        aa: true,
+        tc: true,
+        rd: true,
+        ra: true,
+        ad: true,
+        cd: true,
+    };
+    assert_printed(&rt, rt.alloc(), &all, "QR AA TC RD RA AD CD")?;
+    let some = Flags {
+        rd: true,
+        cd: true,
+        ..Flags::new()
+    };
+    assert_printed(&rt, rt.alloc(), &some, "RD CD")?;
+    assert_printed(&rt, rt.alloc(), &Flags::new(), "")
+}
+
+/// Counts of 0x0102, 0x0304, 0x0506 and 0x0708.
+fn some_counts() -> HeaderCounts {
+    HeaderCounts::for_message_slice(b"\x00\x00\x00\x00\x01\x02\x03\x04\x05\x06\x07\x08")
+}
+
+#[test]
+fn has_counts_by_two_names(rt: HostRuntime) {
+    let counts = some_counts();
     assert_eq!(rt; (counts.qdcount(), counts.ancount()), (0x0102, 0x0304));
     assert_eq!(rt; (counts.nscount(), counts.arcount()), (0x0506, 0x0708));
     assert_eq!(rt; (counts.zocount(), counts.prcount()), (0x0102, 0x0304));
     assert_eq!(rt; (counts.upcount(), counts.adcount()), (0x0506, 0x0708));
+}
+
+#[test]
+fn counts_up(rt: HostRuntime) -> Result<(), Fail> {
+    let mut counts = some_counts();
     counts.inc_qdcount()?;
     counts.inc_ancount()?;
     counts.inc_nscount()?;
@@ -158,28 +179,36 @@ fn counts_up_and_down(rt: HostRuntime) -> Result<(), Fail> {
         counts.as_slice(),
         b"\x01\x03\x03\x05\x05\x07\x07\x09".as_slice()
     );
-    for update in [false, true] {
-        let mut counts = HeaderCounts::new();
-        if update {
-            counts.set_zocount(0x0807);
-            counts.set_prcount(0x0605);
-            counts.set_upcount(0x0403);
-            counts.set_adcount(0x0201);
-        } else {
-            counts.set_qdcount(0x0807);
-            counts.set_ancount(0x0605);
-            counts.set_nscount(0x0403);
-            counts.set_arcount(0x0201);
-        }
-        assert_eq!(rt;
-            counts.as_slice(),
-            b"\x08\x07\x06\x05\x04\x03\x02\x01".as_slice()
-        );
-    }
+    Ok(())
+}
+
+#[test]
+fn sets_counts(rt: HostRuntime) {
+    let mut counts = HeaderCounts::new();
+    counts.set_qdcount(0x0807);
+    counts.set_ancount(0x0605);
+    counts.set_nscount(0x0403);
+    counts.set_arcount(0x0201);
+    assert_eq!(rt;
+        counts.as_slice(),
+        b"\x08\x07\x06\x05\x04\x03\x02\x01".as_slice()
+    );
     let mut copy = HeaderCounts::new();
     copy.set(counts);
     assert_eq!(rt; copy, counts);
-    Ok(())
+}
+
+#[test]
+fn sets_counts_of_an_update(rt: HostRuntime) {
+    let mut counts = HeaderCounts::new();
+    counts.set_zocount(0x0807);
+    counts.set_prcount(0x0605);
+    counts.set_upcount(0x0403);
+    counts.set_adcount(0x0201);
+    assert_eq!(rt;
+        counts.as_slice(),
+        b"\x08\x07\x06\x05\x04\x03\x02\x01".as_slice()
+    );
 }
 
 #[test]
@@ -208,15 +237,24 @@ fn parses_a_section(rt: HostRuntime) -> Result<(), Fail> {
     section.set_header(Header::new());
     section.set_counts(HeaderCounts::new());
     assert_eq!(rt; section, HeaderSection::new());
-    let mut target = Vec::new(rt.alloc());
-    HeaderSection::for_message_slice(&SECTION).compose(&mut target)?;
-    assert_eq!(rt; target.as_slice(), SECTION.as_slice());
+    Ok(())
+}
+
+#[test]
+fn parses_no_section_of_eleven_octets(rt: HostRuntime) {
     let mut short = Parser::new(&SECTION[..11]);
     assert_eq!(rt;
         HeaderSection::parse(&mut short),
         Err(ParseError::ShortInput)
     );
     assert_eq!(rt; short.pos(), 0);
+}
+
+#[test]
+fn composes_a_section(rt: HostRuntime) -> Result<(), Fail> {
+    let mut target = Vec::new(rt.alloc());
+    HeaderSection::for_message_slice(&SECTION).compose(&mut target)?;
+    assert_eq!(rt; target.as_slice(), SECTION.as_slice());
     Ok(())
 }
 
@@ -227,12 +265,8 @@ fn tells_what_is_wrong(rt: HostRuntime) -> Result<(), Fail> {
     let overflow: Option<CountOverflow> = counts.inc_qdcount().err();
     let overflow = overflow.ok_or("no overflow")?;
     let text = "increasing a header count lead to an overflow";
-    assert_eq!(rt; format!(in rt.alloc(); "{overflow}")?.as_str(), text);
+    assert_printed(&rt, rt.alloc(), &overflow, text)?;
     let token: Option<FlagsFromStrError> = "XXXX".parse::<Flags>().err();
     let token = token.ok_or("no error")?;
-    assert_eq!(rt;
-        format!(in rt.alloc(); "{token}")?.as_str(),
-        "illegal flags token"
-    );
-    Ok(())
+    assert_printed(&rt, rt.alloc(), &token, "illegal flags token")
 }

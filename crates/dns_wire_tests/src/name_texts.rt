@@ -1,4 +1,5 @@
 //! Names read from texts, and printed.
+use crate::codes::assert_printed;
 use arrayvec::ArrayVec;
 use dns_wire::name::{FromStrError, PresentationError};
 use dns_wire::{Name, ParsedName, Parser, ToNameExt};
@@ -78,30 +79,38 @@ const CASES: [Case; 15] = [
 ];
 
 /// Reads the text into memory and into a buffer, and prints what is read.
-fn assert_case(rt: &impl Abort, alloc: Global, case: Case) -> Result<(), Fail> {
-    let read = Name::vec_from_str(alloc, case.text);
-    let buffered = case.text.parse::<Name<ArrayVec<u8, 255>>>();
-    match case.answer {
-        Ok((octets, printed)) => {
-            let expected = Name::from_octets(octets)?;
-            let name = read?;
-            assert!(rt; name.octets_eq(&expected));
-            assert!(rt; buffered?.octets_eq(&expected));
-            assert_eq!(rt; name.to_string(alloc)?.as_str(), printed);
-        }
-        Err(fault) => {
-            let answer = Some(FromStrError::Presentation(fault));
-            assert_eq!(rt; read.err(), answer);
-            assert_eq!(rt; buffered.err(), answer);
-        }
-    }
+fn assert_name(
+    rt: &impl Abort,
+    alloc: Global,
+    text: &str,
+    octets: &[u8],
+    printed: &str,
+) -> Result<(), Fail> {
+    let expected = Name::from_octets(octets)?;
+    let name = Name::vec_from_str(alloc, text)?;
+    assert!(rt; name.octets_eq(&expected));
+    assert_printed(rt, alloc, &name, printed)?;
+    let buffered = text.parse::<Name<ArrayVec<u8, 255>>>()?;
+    assert!(rt; buffered.octets_eq(&expected));
     Ok(())
+}
+
+/// The text is refused, into memory and into a buffer.
+fn assert_fault(rt: &impl Abort, alloc: Global, text: &str, fault: PresentationError) {
+    let answer = Some(FromStrError::Presentation(fault));
+    assert_eq!(rt; Name::vec_from_str(alloc, text).err(), answer);
+    let buffered = text.parse::<Name<ArrayVec<u8, 255>>>();
+    assert_eq!(rt; buffered.err(), answer);
 }
 
 #[test]
 fn reads_and_prints(rt: HostRuntime) -> Result<(), Fail> {
+    let alloc = rt.alloc();
     for case in CASES {
-        assert_case(&rt, rt.alloc(), case)?;
+        match case.answer {
+            Ok((octets, printed)) => assert_name(&rt, alloc, case.text, octets, printed)?,
+            Err(fault) => assert_fault(&rt, alloc, case.text, fault),
+        }
     }
     Ok(())
 }
@@ -111,8 +120,7 @@ fn prints_a_parsed_name(rt: HostRuntime) -> Result<(), Fail> {
     let mut parser = Parser::new(b"\x03com\x00\x07ex.mple\xC0\x00");
     parser.seek(5)?;
     let name = ParsedName::parse(&mut parser)?;
-    assert_eq!(rt; name.to_string(rt.alloc())?.as_str(), "ex\\.mple.com");
-    Ok(())
+    assert_printed(&rt, rt.alloc(), &name, "ex\\.mple.com")
 }
 
 #[test]
@@ -125,17 +133,14 @@ fn tells_faults(rt: HostRuntime) -> Result<(), Fail> {
         (PresentationError::LongName, "long name"),
     ];
     for (fault, text) in texts {
-        let error = FromStrError::Presentation(fault);
-        assert_eq!(rt; fault.to_string(rt.alloc())?.as_str(), text);
-        assert_eq!(rt; error.to_string(rt.alloc())?.as_str(), text);
+        assert_printed(&rt, rt.alloc(), &fault, text)?;
+        assert_printed(&rt, rt.alloc(), &FromStrError::Presentation(fault), text)?;
     }
-    assert_eq!(rt;
-        FromStrError::OutOfMemory.to_string(rt.alloc())?.as_str(),
-        "out of memory"
-    );
-    assert_eq!(rt;
-        FromStrError::ShortBuf.to_string(rt.alloc())?.as_str(),
-        "buffer size exceeded"
-    );
-    Ok(())
+    assert_printed(&rt, rt.alloc(), &FromStrError::OutOfMemory, "out of memory")?;
+    assert_printed(
+        &rt,
+        rt.alloc(),
+        &FromStrError::ShortBuf,
+        "buffer size exceeded",
+    )
 }

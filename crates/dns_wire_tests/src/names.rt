@@ -101,143 +101,193 @@ const CASES: [Case; 11] = [
     },
 ];
 
+/// Parses the name of these octets, behind which the parser then stands.
+fn assert_parsed(
+    rt: &impl Abort,
+    parser: &mut Parser<'_>,
+    octets: &[u8],
+    end: usize,
+) -> Result<(), Fail> {
+    let name = ParsedName::parse(parser)?;
+    assert!(rt; name.octets_eq(&Name::from_octets(octets)?));
+    assert_eq!(rt; name.compose_len(), octets.len());
+    assert_eq!(rt; name.is_root(), octets.len() == 1);
+    assert_eq!(rt; parser.pos(), end);
+    Ok(())
+}
+
+/// A parser at the place of a case.
+fn parser_at(case: &Case) -> Result<Parser<'static>, Fail> {
+    let mut parser = Parser::new(case.message);
+    parser.seek(case.place)?;
+    Ok(parser)
+}
+
 #[test]
-fn parses_and_skips(rt: HostRuntime) -> Result<(), Fail> {
+fn parses(rt: HostRuntime) -> Result<(), Fail> {
     for case in CASES {
-        let mut parser = Parser::new(case.message);
-        parser.seek(case.place)?;
-        let mut skipper = parser;
+        let mut parser = parser_at(&case)?;
         match case.parsed {
-            Ok((octets, end)) => {
-                let name = ParsedName::parse(&mut parser)?;
-                assert!(rt; name.octets_eq(&Name::from_octets(octets)?));
-                assert_eq!(rt; name.compose_len(), octets.len());
-                assert_eq!(rt; name.is_root(), octets.len() == 1);
-                assert_eq!(rt; parser.pos(), end);
-            }
+            Ok((octets, end)) => assert_parsed(&rt, &mut parser, octets, end)?,
             Err(fault) => {
-                assert_eq!(rt; ParsedName::parse(&mut parser).map(|_| ()), Err(fault));
+                assert_eq!(rt; ParsedName::parse(&mut parser).err(), Some(fault));
                 assert_eq!(rt; parser.pos(), case.place);
             }
         }
-        let skipped = ParsedName::skip(&mut skipper);
-        assert_eq!(rt; skipped.map(|()| skipper.pos()), case.skipped);
-        assert_eq!(rt; skipper.pos(), case.skipped.unwrap_or(case.place));
     }
     Ok(())
 }
 
 #[test]
+fn skips(rt: HostRuntime) -> Result<(), Fail> {
+    for case in CASES {
+        let mut parser = parser_at(&case)?;
+        let skipped = ParsedName::skip(&mut parser);
+        assert_eq!(rt; skipped.map(|()| parser.pos()), case.skipped);
+        assert_eq!(rt; parser.pos(), case.skipped.unwrap_or(case.place));
+    }
+    Ok(())
+}
+
+/// A CNAME record whose data of one octet, at 23, is the first of a pointer.
+const HALF_A_POINTER: &[u8; 25] =
+    b"\x00\x00\x00\x00\x00\x00\x00\x01\x00\x00\x00\x00\x00\x00\x05\x00\x01\x00\x00\x00\x00\x00\x01\xC0\x0C";
+
+#[test]
 fn sees_no_further_than_the_data(rt: HostRuntime) -> Result<(), Fail> {
-    // a CNAME record whose data of one octet is the first of a pointer
-    let message =
-        b"\x00\x00\x00\x00\x00\x00\x00\x01\x00\x00\x00\x00\x00\x00\x05\x00\x01\x00\x00\x00\x00\x00\x01\xC0\x0C";
-    let mut parser = Parser::new(message);
+    let mut parser = Parser::new(HALF_A_POINTER);
     parser.advance(23)?;
     let mut inner = parser.parse_parser(1)?;
-    let short = Err(ParseError::ShortInput);
-    assert_eq!(rt; ParsedName::parse(&mut inner).map(|_| ()), short);
-    assert_eq!(rt; ParsedName::skip(&mut inner), short);
+    assert_eq!(rt;
+        ParsedName::parse(&mut inner).err(),
+        Some(ParseError::ShortInput)
+    );
+    assert_eq!(rt; ParsedName::skip(&mut inner), Err(ParseError::ShortInput));
     assert_eq!(rt; inner.pos(), 23);
-    let mut whole = Parser::new(message);
+    Ok(())
+}
+
+#[test]
+fn sees_the_whole_input(rt: HostRuntime) -> Result<(), Fail> {
+    let mut whole = Parser::new(HALF_A_POINTER);
     whole.seek(23)?;
     assert!(rt; ParsedName::parse(&mut whole)?.is_root());
     Ok(())
 }
 
+/// A name of labels of 63, 63, 63 and 61 octets.
+fn longest_name() -> [u8; 255] {
+    let mut octets = [b'a'; 255];
+    octets[0] = 63;
+    octets[64] = 63;
+    octets[128] = 63;
+    octets[192] = 61;
+    octets[254] = 0;
+    octets
+}
+
+/// The same with a last label of 62 octets.
+fn longer_name() -> [u8; 256] {
+    let mut octets = [b'a'; 256];
+    octets[0] = 63;
+    octets[64] = 63;
+    octets[128] = 63;
+    octets[192] = 62;
+    octets[255] = 0;
+    octets
+}
+
 #[test]
 fn has_at_most_255_octets(rt: HostRuntime) -> Result<(), Fail> {
-    // labels of 63, 63, 63 and 61 octets
-    let mut longest = [b'a'; 255];
-    longest[0] = 63;
-    longest[64] = 63;
-    longest[128] = 63;
-    longest[192] = 61;
-    longest[254] = 0;
+    let longest = longest_name();
     let mut parser = Parser::new(&longest);
     let name = ParsedName::parse(&mut parser)?;
     assert_eq!(rt; name.compose_len(), 255);
     assert_eq!(rt; parser.pos(), 255);
     assert!(rt; Name::from_octets(longest.as_slice())?.octets_eq(&name));
-    // the last of 62
-    let mut longer = [b'a'; 256];
-    longer[0] = 63;
-    longer[64] = 63;
-    longer[128] = 63;
-    longer[192] = 62;
-    longer[255] = 0;
-    let mut parser = Parser::new(&longer);
-    assert_eq!(rt; ParsedName::parse(&mut parser).map(|_| ()), Err(LONG_NAME));
-    assert_eq!(rt; ParsedName::skip(&mut parser), Err(LONG_NAME));
-    assert_eq!(rt; parser.pos(), 0);
-    assert_eq!(rt;
-        Name::from_octets(longer.as_slice()).map(|_| ()),
-        Err(LONG_NAME)
-    );
-    // the size is tested before the octets are asked for
-    let cut = &longer[..200];
-    assert_eq!(rt;
-        ParsedName::parse(&mut Parser::new(cut)).map(|_| ()),
-        Err(LONG_NAME)
-    );
-    assert_eq!(rt; ParsedName::skip(&mut Parser::new(cut)), Err(LONG_NAME));
     Ok(())
 }
 
 #[test]
-fn goes_over_labels_from_both_ends(rt: HostRuntime) -> Result<(), Fail> {
+fn refuses_256_octets(rt: HostRuntime) {
+    let octets = longer_name();
+    assert_eq!(rt; Name::from_octets(octets.as_slice()).err(), Some(LONG_NAME));
+    // the size is tested before the octets are asked for
+    for len in [256, 200] {
+        let mut parser = Parser::new(&octets[..len]);
+        assert_eq!(rt; ParsedName::parse(&mut parser).err(), Some(LONG_NAME));
+        assert_eq!(rt; ParsedName::skip(&mut parser), Err(LONG_NAME));
+        assert_eq!(rt; parser.pos(), 0);
+    }
+}
+
+/// a.example.com., behind two pointers.
+fn example() -> Result<ParsedName<'static>, Fail> {
     let mut parser = Parser::new(b"\x03com\x00\x07example\xC0\x00\x01a\xC0\x05");
     parser.seek(15)?;
-    let name = ParsedName::parse(&mut parser)?;
-    let texts = [b"a".as_slice(), b"example", b"com", b""];
+    Ok(ParsedName::parse(&mut parser)?)
+}
+
+const LABELS: [&[u8]; 4] = [b"a", b"example", b"com", b""];
+
+#[test]
+fn goes_over_labels(rt: HostRuntime) -> Result<(), Fail> {
+    let name = example()?;
     let mut labels = name.iter_labels();
-    for text in texts {
+    for text in LABELS {
         assert_eq!(rt; labels.next().map(|label| label.as_slice()), Some(text));
     }
     assert!(rt; labels.next().is_none() && labels.next_back().is_none());
+    Ok(())
+}
+
+#[test]
+fn goes_over_labels_from_the_back(rt: HostRuntime) -> Result<(), Fail> {
+    let name = example()?;
     let mut labels = name.iter_labels();
-    for text in texts.iter().rev() {
+    for text in LABELS.iter().rev() {
         assert_eq!(rt;
             labels.next_back().map(|label| label.as_slice()),
             Some(*text)
         );
     }
     assert!(rt; labels.next_back().is_none() && labels.next().is_none());
+    Ok(())
+}
+
+#[test]
+fn goes_over_labels_from_both_ends(rt: HostRuntime) -> Result<(), Fail> {
+    let name = example()?;
     let mut labels = name.iter_labels();
     assert_eq!(rt; labels.next().map(|label| label.len()), Some(1));
     assert_eq!(rt; labels.next_back().map(|label| label.is_root()), Some(true));
-    assert_eq!(rt;
-        labels.next_back().map(|label| label.is_root()),
-        Some(false)
-    );
+    assert_eq!(rt; labels.next_back().map(|label| label.len()), Some(3));
     assert_eq!(rt; labels.map(|label| label.len()).max(), Some(7));
     Ok(())
 }
 
 #[test]
-fn takes_whole_octets_alone(rt: HostRuntime) -> Result<(), Fail> {
-    for (octets, answer) in [
-        (b"\x00".as_slice(), Ok(())),
-        (b"\x02Ab\x00", Ok(())),
-        (b"\x02Ab\x00\x00", Err(LONG_NAME)),
-        (b"\x02Ab\xC0\x00", Err(BAD_POINTER)),
-        (b"\x40\x00", Err(BAD_LABEL)),
-        (b"\x80\x00", Err(BAD_LABEL)),
-        (b"\x02Ab", Err(ParseError::ShortInput)),
-        (b"\x02A", Err(ParseError::ShortInput)),
-        (b"\xC0", Err(ParseError::ShortInput)),
-        (b"", Err(ParseError::ShortInput)),
+fn takes_whole_octets_alone(rt: HostRuntime) {
+    for (octets, fault) in [
+        (b"\x00".as_slice(), None),
+        (b"\x02Ab\x00", None),
+        (b"\x02Ab\x00\x00", Some(LONG_NAME)),
+        (b"\x02Ab\xC0\x00", Some(BAD_POINTER)),
+        (b"\x40\x00", Some(BAD_LABEL)),
+        (b"\x80\x00", Some(BAD_LABEL)),
+        (b"\x02Ab", Some(ParseError::ShortInput)),
+        (b"\x02A", Some(ParseError::ShortInput)),
+        (b"\xC0", Some(ParseError::ShortInput)),
+        (b"", Some(ParseError::ShortInput)),
     ] {
-        assert_eq!(rt;
-            Name::from_octets(octets).map(|_| ()),
-            answer,
-            "at {octets:?}"
-        );
+        assert_eq!(rt; Name::from_octets(octets).err(), fault, "at {octets:?}");
     }
-    assert_eq!(rt;
-        Name::from_octets(b"\x02Ab\x00".as_slice())?.as_slice(),
-        b"\x02Ab\x00".as_slice()
-    );
+}
+
+#[test]
+fn holds_its_octets(rt: HostRuntime) -> Result<(), Fail> {
+    let octets = b"\x02Ab\x00".as_slice();
+    assert_eq!(rt; Name::from_octets(octets)?.as_slice(), octets);
     assert_eq!(rt; Name::root_slice().as_slice(), b"\x00".as_slice());
     Ok(())
 }

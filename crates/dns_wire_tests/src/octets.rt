@@ -70,17 +70,25 @@ fn writes_over_octets(rt: HostRuntime) -> Result<(), Fail> {
     Ok(())
 }
 
+/// Converts a holder of `abc` into a vector.
+fn assert_vec<S>(rt: &impl Abort, alloc: Global, source: S) -> Result<(), Fail>
+where
+    Vec<u8>: OctetsFrom<S>,
+{
+    let vec: Vec<u8> = convert(alloc, source)?;
+    assert_abc(rt, &vec);
+    Ok(())
+}
+
 #[test]
 fn converts_into_vec(rt: HostRuntime) -> Result<(), Fail> {
-    let from_array: Vec<u8> = convert(rt.alloc(), *b"abc")?;
-    let from_array_vec: Vec<u8> = convert(rt.alloc(), ArrayVec::<u8, 3>::from(*b"abc"))?;
-    let from_slice: Vec<u8> = convert(rt.alloc(), b"abc".as_slice())?;
-    let from_lent: Vec<u8> = convert(rt.alloc(), &from_array)?;
-    let from_vec: Vec<u8> = convert(rt.alloc(), from_array)?;
-    for vec in [&from_array_vec, &from_slice, &from_lent, &from_vec] {
-        assert_abc(&rt, vec);
-    }
-    Ok(())
+    let alloc = rt.alloc();
+    let vec = Vec::from_slice(alloc, b"abc")?;
+    assert_vec(&rt, alloc, *b"abc")?;
+    assert_vec(&rt, alloc, ArrayVec::<u8, 3>::from(*b"abc"))?;
+    assert_vec(&rt, alloc, b"abc".as_slice())?;
+    assert_vec(&rt, alloc, &vec)?;
+    assert_vec(&rt, alloc, vec)
 }
 
 #[test]
@@ -115,30 +123,40 @@ fn flattens(rt: HostRuntime) -> Result<(), Fail> {
 }
 
 #[test]
-fn converts_names(rt: HostRuntime) -> Result<(), Fail> {
-    let vec: Name<Vec<u8>> = flatten(rt.alloc(), example_com()?)?;
-    let slice: Name<&[u8]> = convert(rt.alloc(), &vec)?;
-    let full: Name<ArrayVec<u8, 13>> = convert(rt.alloc(), slice)?;
-    let full_from_lent: Name<ArrayVec<u8, 13>> = convert(rt.alloc(), &full)?;
-    let short: Result<Name<ArrayVec<u8, 12>>, AppendError> = convert(rt.alloc(), &full);
+fn converts_names_into_memory(rt: HostRuntime) -> Result<(), Fail> {
+    let full: Name<ArrayVec<u8, 13>> = convert(rt.alloc(), Name::from_octets(PLAIN.as_slice())?)?;
     let vec_from_lent: Name<Vec<u8>> = convert(rt.alloc(), &full)?;
-    let vec_from_full: Name<Vec<u8>> = convert(rt.alloc(), full)?;
-    assert_eq!(rt; short.map(|_| ()), Err(AppendError::ShortBuf));
-    assert_plain(&rt, &slice);
-    assert_plain(&rt, &full_from_lent);
     assert_plain(&rt, &vec_from_lent);
+    let vec_from_full: Name<Vec<u8>> = convert(rt.alloc(), full)?;
     assert_plain(&rt, &vec_from_full);
+    let slice: Name<&[u8]> = convert(rt.alloc(), &vec_from_full)?;
+    assert_plain(&rt, &slice);
+    Ok(())
+}
+
+#[test]
+fn converts_names_into_arrays(rt: HostRuntime) -> Result<(), Fail> {
+    let full: Name<ArrayVec<u8, 13>> = convert(rt.alloc(), Name::from_octets(PLAIN.as_slice())?)?;
+    let full_from_lent: Name<ArrayVec<u8, 13>> = convert(rt.alloc(), &full)?;
+    assert_plain(&rt, &full_from_lent);
+    let short: Result<Name<ArrayVec<u8, 12>>, AppendError> = convert(rt.alloc(), &full);
+    assert_eq!(rt; short.map(|_| ()), Err(AppendError::ShortBuf));
+    Ok(())
+}
+
+/// A name of `example.com` keeps its octets in a clone.
+fn assert_clone<T: Octets + Clone>(rt: &impl Abort, name: &Name<T>) -> Result<(), Fail> {
+    assert_plain(rt, &clone_of(name)?);
     Ok(())
 }
 
 #[test]
 fn clones_names(rt: HostRuntime) -> Result<(), Fail> {
     let vec: Name<Vec<u8>> = flatten(rt.alloc(), example_com()?)?;
-    let array_vec: Name<ArrayVec<u8, 255>> = flatten(rt.alloc(), example_com()?)?;
+    assert_clone(&rt, &vec)?;
     let slice: Name<&[u8]> = convert(rt.alloc(), &vec)?;
-    assert_plain(&rt, &clone_of(&vec)?);
-    assert_plain(&rt, &clone_of(&array_vec)?);
-    assert_plain(&rt, &clone_of(&slice)?);
+    assert_clone(&rt, &slice)?;
     assert_plain(&rt, &copy_of(&slice));
-    Ok(())
+    let array_vec: Name<ArrayVec<u8, 255>> = flatten(rt.alloc(), example_com()?)?;
+    assert_clone(&rt, &array_vec)
 }

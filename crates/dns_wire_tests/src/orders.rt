@@ -34,21 +34,35 @@ fn orders_names_from_the_root(rt: HostRuntime) -> Result<(), Fail> {
     Ok(())
 }
 
+/// The name at a place of octets that hold www.dE., a pointer to it, WwW.De. and x.de.
+fn name_at(place: usize) -> Result<ParsedName<'static>, Fail> {
+    let mut parser = Parser::new(b"\x03www\x02dE\x00\xC0\x00\x03WwW\x02De\x00\x01x\x02de\x00");
+    parser.seek(place)?;
+    Ok(ParsedName::parse(&mut parser)?)
+}
+
 #[test]
 fn ignores_letter_case_but_for_octets_eq(rt: HostRuntime) -> Result<(), Fail> {
-    let mut parser = Parser::new(b"\x03www\x02dE\x00\xC0\x00\x03WwW\x02De\x00\x01x\x02de\x00");
-    let name = ParsedName::parse(&mut parser)?;
-    let pointer = ParsedName::parse(&mut parser)?;
-    let upper = ParsedName::parse(&mut parser)?;
-    let short = ParsedName::parse(&mut parser)?;
+    let name = name_at(0)?;
+    let pointer = name_at(8)?;
+    let upper = name_at(10)?;
+    let short = name_at(18)?;
     assert!(rt; name.octets_eq(&pointer) && name.name_eq(&pointer));
     assert!(rt; !name.octets_eq(&upper) && name.name_eq(&upper));
     assert!(rt; !name.octets_eq(&short) && !name.name_eq(&short));
     assert!(rt; name == upper && name != short);
-    assert_eq!(rt; compare(&name, &upper), Ordering::Equal);
     assert_eq!(rt; hash_of(&name), hash_of(&upper));
-    // www after x by the length of the first label, before it by its letters
+    Ok(())
+}
+
+#[test]
+fn orders_names_in_two_ways(rt: HostRuntime) -> Result<(), Fail> {
+    let name = name_at(0)?;
+    let upper = name_at(10)?;
+    assert_eq!(rt; compare(&name, &upper), Ordering::Equal);
     assert_eq!(rt; name.lowercase_composed_cmp(&upper), Ordering::Equal);
+    // www after x by the length of the first label, before it by its letters
+    let short = name_at(18)?;
     assert_eq!(rt; name.lowercase_composed_cmp(&short), Ordering::Greater);
     assert_eq!(rt; name.name_cmp(&short), Ordering::Less);
     Ok(())
@@ -78,13 +92,17 @@ fn first_label(octets: &[u8]) -> Result<Label<'_>, Fail> {
 fn compares_labels_lowercased(rt: HostRuntime) -> Result<(), Fail> {
     let label = first_label(b"\x02aB\x00")?;
     let same = first_label(b"\x02Ab\x00")?;
-    let longer = first_label(b"\x03abc\x00")?;
-    let bracket = first_label(b"\x02a[\x00")?;
     assert_eq!(rt; label, same);
     assert_eq!(rt; hash_of(&label), hash_of(&same));
     assert_eq!(rt; compare(&label, &same), Ordering::Equal);
-    assert!(rt; label < longer);
+    Ok(())
+}
+
+#[test]
+fn orders_labels_lowercased(rt: HostRuntime) -> Result<(), Fail> {
+    let label = first_label(b"\x02aB\x00")?;
+    assert!(rt; label < first_label(b"\x03abc\x00")?);
     // the bracket stands between the upper and the lower case
-    assert!(rt; bracket < label);
+    assert!(rt; first_label(b"\x02a[\x00")? < label);
     Ok(())
 }
