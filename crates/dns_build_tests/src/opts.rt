@@ -95,7 +95,7 @@ fn refuses_the_most_options_in_a_stream(rt: HostRuntime) -> Result<(), Fail> {
     Ok(())
 }
 
-/// An OPT record of 512 octets, extended rcode 0, DO and one bit of Z, with one option.
+/// An OPT record for payloads of 512 octets, with DO, one bit of Z and one option.
 fn opt_record() -> Result<OptRecord<&'static [u8]>, Fail> {
     let data = Opt::from_octets(b"\x00\x03\x00\x01a".as_slice())?;
     let ttl = Ttl::from_secs(0x8001);

@@ -10,7 +10,8 @@ use dns_data::{ComposeRecordData, compose_canonical_len_rdata};
 use dns_wire::{AppendError, Composer, ToName, ToNameExt};
 
 impl<N: ToName, D: ComposeRecordData> Record<N, D> {
-    /// Appends the record in canonical form: all its names lowercased and uncompressed, in the owner and in the data.
+    /// Appends the record in canonical form (RFC 4034 section 6.2): all its names lowercased and uncompressed, in the owner
+    /// and in the data.
     ///
     /// Where it is refused the content still begins with the old one, and a `truncate` to the old length gives the old
     /// target back.
@@ -27,7 +28,8 @@ impl<N: ToName, D: ComposeRecordData> Record<N, D> {
 }
 
 impl<N: ToName> RecordHeader<N> {
-    /// Appends the header with its owner lowercased and uncompressed; the length of the data is the given one.
+    /// Appends the header with its owner lowercased and uncompressed (RFC 4034 section 6.2); the length of the data, in
+    /// octets, is the given one.
     ///
     /// Where it is refused the content still begins with the old one, and a `truncate` to the old length gives the old
     /// target back.

@@ -7,7 +7,7 @@ use crate::record::Record;
 use std::cmp::Ordering;
 use std::hash::{Hash, Hasher};
 
-/// By owner, class and data.
+/// By owner, class and data (RFC 2136 section 1.1.1).
 impl<N: PartialEq, D: PartialEq> PartialEq for Record<N, D> {
     ghost eq = { records_equal N.eq D.eq };
 

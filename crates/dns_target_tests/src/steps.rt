@@ -42,7 +42,7 @@ fn append_canonical<T: Composer>(
     Ok(Name::from_octets(name)?.compose_canonical(target))
 }
 
-/// What was written behind so many octets is what an append answered so was to write.
+/// An append gave this answer, and wrote these octets behind the first `len`, or none with an error.
 fn assert_written<T: Composer>(
     rt: &impl Abort,
     target: &T,
