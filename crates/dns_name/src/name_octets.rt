@@ -87,3 +87,15 @@ impl<'a, S: Octets> OctetsFrom<&'a Name<S>> for Name<&'a [u8]> {
         Ok(Name::of_whole(source.as_slice()))
     }
 }
+
+impl<'a> OctetsFrom<Name<&'a [u8]>> for Name<&'a [u8]> {
+    ghost keeps = { λ source name. name_labels name ≡ name_labels source };
+
+    ghost too_long = { λ _. ⊥ };
+
+    ghost takes_memory = { ⊥ };
+
+    fn try_octets_from(_alloc: Global, source: Name<&'a [u8]>) -> Result<Self, AppendError> {
+        Ok(source)
+    }
+}

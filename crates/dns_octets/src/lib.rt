@@ -4,7 +4,9 @@
 #![tactic(auto)]
 
 mod error;
+mod join;
 mod octets;
 
 pub use error::{AppendError, FormError, ParseError, ShortBuf};
-pub use octets::{Octets, OctetsFrom, OctetsMut};
+pub use join::join_conversions;
+pub use octets::{HolderFrom, Octets, OctetsFrom, OctetsMut};

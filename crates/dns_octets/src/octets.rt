@@ -40,6 +40,13 @@ pub trait OctetsFrom<Source>: Sized {
         ensures { Converts result (keeps source) (too_long source) takes_memory };
 }
 
+/// A holder that is converted from another holder, whose octets it then holds.
+pub trait HolderFrom<Source: Octets>: Octets + OctetsFrom<Source> {
+    /// What is kept is the octets.
+    ghost same_octets: { (source : Source) (value : Self) → Self.keeps source value
+        → Self.octets value ≡ Source.octets source };
+}
+
 impl Octets for &[u8] {
     ghost octets = { λ s. s.now };
 
@@ -152,4 +159,20 @@ impl<'a> OctetsFrom<&'a [u8]> for &'a [u8] {
     fn try_octets_from(_alloc: Global, source: &'a [u8]) -> Result<Self, AppendError> {
         Ok(source)
     }
+}
+
+impl<S: Octets> HolderFrom<S> for Vec<u8> {
+    ghost same_octets = { λ source value same. same };
+}
+
+impl<S: Octets, const N: usize> HolderFrom<S> for ArrayVec<u8, N> {
+    ghost same_octets = { λ source value same. same };
+}
+
+impl<'a, S: Octets> HolderFrom<&'a S> for &'a [u8] {
+    ghost same_octets = { λ source value same. same };
+}
+
+impl<'a> HolderFrom<&'a [u8]> for &'a [u8] {
+    ghost same_octets = { λ source value same. same };
 }

@@ -4,11 +4,15 @@
 //! It promises that what is put into a target is read back, under every rule of compression (RFC 1035 section 4.1.4).
 #![tactic(auto)]
 
+mod canonical_ord;
 mod composer;
 pub mod target_laws;
 mod to_name;
 
+pub use canonical_ord::CanonicalOrd;
 pub use composer::{CloneTarget, Composer, FreezeBuilder};
 pub use dns_name::{FlattenInto, Label, LabelIter, Name, ParsedName, Parser, ToName, laws, name};
-pub use dns_octets::{AppendError, FormError, Octets, OctetsFrom, OctetsMut, ParseError, ShortBuf};
+pub use dns_octets::{
+    AppendError, FormError, HolderFrom, Octets, OctetsFrom, OctetsMut, ParseError, ShortBuf,
+};
 pub use to_name::ToNameExt;

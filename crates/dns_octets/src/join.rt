@@ -1,0 +1,26 @@
+//! Conversions of values with two parts.
+ghost use Rattle.std.specs.Prelude.{◌≡◌};
+ghost use Rattle.dns_octets.specs.Converts.{joined};
+
+use crate::error::AppendError;
+
+/// The answer of two conversions that were both made: their values. Else it is `ShortBuf` where one of them is, and
+/// otherwise `OutOfMemory`.
+pub fn join_conversions<A: Drop, B: Drop>(
+    first: Result<A, AppendError>,
+    second: Result<B, AppendError>,
+) -> Result<(A, B), AppendError>
+    ensures { result ≡ joined first second }
+{
+    match first {
+        Ok(first) => match second {
+            Ok(second) => Ok((first, second)),
+            Err(error) => Err(error),
+        },
+        Err(AppendError::ShortBuf) => Err(AppendError::ShortBuf),
+        Err(AppendError::OutOfMemory) => match second {
+            Ok(_) => Err(AppendError::OutOfMemory),
+            Err(error) => Err(error),
+        },
+    }
+}
