@@ -13,9 +13,20 @@ use Rattle.std.specs.declared.iter.Rev.{Rev}
 use Rattle.std.proofs.lemmas.Cmp.{ranked}
 use Rattle.std.proofs.lemmas.Iterator.{YieldsList}
 use Rattle.std.proofs.lemmas.Iterator.Consumers.{YieldsList-from_shown}
-use Rattle.std.proofs.lemmas.List.{reverse-append, map-append}
-use Rattle.dns_name.specs.Names.{Labels, with_root, lowered, framed}
+use Rattle.std.proofs.lemmas.List.{reverse-append, map-append, length-map}
+use Rattle.dns_name.specs.Names.{Labels, with_root, lowered, framed, name_size, uncompressed}
 use Rattle.dns_name.specs.NameOrders.{framed_order, label_order, name_order, composed_order}
+use Rattle.dns_name.proofs.theory.LabelsLemmas.{length-uncompressed}
+
+-- lowercasing changes no size
+name_size-lowered : (name : Labels) → name_size (lowered name) ≡ name_size name
+name_size-lowered [] = refl
+name_size-lowered (label ∷ name) = rw (length-map label to_ascii_lowercase, name_size-lowered name) refl
+
+-- so names with the same lowercased labels have one size
+pub same_size : (m n : Labels) → lowered m ≡ lowered n → length (uncompressed m) ≡ length (uncompressed n)
+same_size m n e =
+    omega (arith, length-uncompressed m, length-uncompressed n, name_size-lowered m, name_size-lowered n, ap name_size e)
 
 -- what an iterator gives that is turned round
 pub YieldsList-from_last : {S A B : Type 0} (view : A → B) (rest : S → List B) {s : Rev S} (xs : List B) → rest (rev_source s) ≡ xs

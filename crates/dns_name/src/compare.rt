@@ -9,9 +9,13 @@ use std::cmp::Ordering;
 use std::hash::{Hash, Hasher};
 
 /// Whether the labels are the same but for the case of ASCII letters (RFC 1035 section 2.3.3).
+#[tactic(auto, using(crate::proofs::Orders::same_size))]
 pub fn same_labels(name: &ParsedName<'_>, other: &ParsedName<'_>) -> bool
     ensures { IsTrue result ↔ (lowered (labels name.now) ≡ lowered (labels other.now)) }
 {
+    if name.compose_len() != other.compose_len() {
+        return false;
+    }
     let mut others = other.iter_labels();
     for label in name.iter_labels() {
         let Some(other_label) = others.next() else {
@@ -28,6 +32,9 @@ pub fn same_labels(name: &ParsedName<'_>, other: &ParsedName<'_>) -> bool
 pub fn same_octets(name: &ParsedName<'_>, other: &ParsedName<'_>) -> bool
     ensures { IsTrue result ↔ (labels name.now ≡ labels other.now) }
 {
+    if name.compose_len() != other.compose_len() {
+        return false;
+    }
     let mut rest = other.iter_labels();
     for label in name.iter_labels() {
         let Some(other_label) = rest.next() else {
