@@ -2,6 +2,7 @@ pub mod theory
 pub mod ParserLemmas
 pub mod NameOrderLemmas
 pub mod Orders
+pub mod RootOrders
 pub mod NameTextLemmas
 pub mod OctetTexts
 pub mod NameTextReading

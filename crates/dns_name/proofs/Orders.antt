@@ -1,18 +1,13 @@
 -- The orders of names, label by label.
-use Rattle.std.proofs.Common.{◌≡◌, ℕ, List, [], ◌∷◌, ◌++◌, length, arith, ap, ◌∙◌, refl, subst}
+use Rattle.std.proofs.Common.{◌≡◌, ℕ, List, [], ◌∷◌, ◌++◌, length, arith, ap, ◌∙◌, refl}
 use Rattle.std.specs.Prelude.{map, reverse}
 use Rattle.std.specs.Char.{to_ascii_lowercase}
 use Rattle.std.specs.Cmp.Lexicographic.{slice_cmp}
-use Rattle.std.specs.Iterator.{YieldsLastBy}
-use Rattle.std.specs.Iterator.Adapters.{rev_source, rev_steps}
 use Rattle.std.specs.List.{flat_map}
 use Rattle.std.specs.Ordering.{nat_cmp, ordering_then}
 use Rattle.std.specs.declared.cmp.Ordering.{Ordering}
 use Rattle.std.specs.declared.cmp.Ordering.TheVariants.{Less, Equal, Greater}
-use Rattle.std.specs.declared.iter.Rev.{Rev}
 use Rattle.std.proofs.lemmas.Cmp.{ranked}
-use Rattle.std.proofs.lemmas.Iterator.{YieldsList}
-use Rattle.std.proofs.lemmas.Iterator.Consumers.{YieldsList-from_shown}
 use Rattle.std.proofs.lemmas.List.{reverse-append, map-append, length-map}
 use Rattle.dns_name.specs.Names.{Labels, with_root, lowered, framed, name_size, uncompressed}
 use Rattle.dns_name.specs.NameOrders.{framed_order, label_order, name_order, composed_order}
@@ -28,40 +23,31 @@ pub same_size : (m n : Labels) → lowered m ≡ lowered n → length (uncompres
 same_size m n e =
     omega (arith, length-uncompressed m, length-uncompressed n, name_size-lowered m, name_size-lowered n, ap name_size e)
 
--- what an iterator gives that is turned round
-pub YieldsList-from_last : {S A B : Type 0} (view : A → B) (rest : S → List B) {s : Rev S} (xs : List B) → rest (rev_source s) ≡ xs
-    → YieldsList (rev_steps (YieldsLastBy view rest)) view s (reverse xs)
-YieldsList-from_last view rest {s = s} xs e =
-    subst (λ ys. YieldsList (rev_steps (YieldsLastBy view rest)) view s (reverse ys)) e
-    (YieldsList-from_shown (rev_steps (YieldsLastBy view rest)) view (λ u. reverse (rest (rev_source u)))
-    (λ u t p. ap (λ ys. length (reverse ys)) p.0)
-    (λ u x t p. ap reverse p ∙ reverse-append (rest (rev_source t)) (view x ∷ [])) s)
-
 -- the root label, which ends both names, changes nothing in their order
 pub name_order-with_root : (m n : Labels) → slice_cmp label_order (reverse (with_root m)) (reverse (with_root n)) ≡ name_order m n
 name_order-with_root m n = rw (reverse-append m ([] ∷ []), reverse-append n ([] ∷ [])) refl
 
 -- three comparisons in a row, in either grouping
-then_assoc : (p q r : Ordering) → ordering_then p (ordering_then q r) ≡ ordering_then (ordering_then p q) r
+pub then_assoc : (p q r : Ordering) → ordering_then p (ordering_then q r) ≡ ordering_then (ordering_then p q) r
 then_assoc Less q r = refl
 then_assoc Equal q r = refl
 then_assoc Greater q r = refl
 
--- of lists that begin with lists of one length
-slice_cmp-append : (xs ys us vs : List ℕ) → length xs ≡ length ys
-    → slice_cmp nat_cmp (xs ++ us) (ys ++ vs) ≡ ordering_then (slice_cmp nat_cmp xs ys) (slice_cmp nat_cmp us vs)
-slice_cmp-append [] [] us vs e = refl
-slice_cmp-append [] (y ∷ ys) us vs e = absurd (omega arith)
-slice_cmp-append (x ∷ xs) [] us vs e = absurd (omega arith)
-slice_cmp-append (x ∷ xs) (y ∷ ys) us vs e =
-    ap (λ o. ordering_then (nat_cmp x y) o) (slice_cmp-append xs ys us vs (omega arith))
-    ∙ then_assoc (nat_cmp x y) (slice_cmp nat_cmp xs ys) (slice_cmp nat_cmp us vs)
+-- of lists that begin with lists of one length, these decide unless they are equal
+pub slice_cmp-append : {A : Type 0} (R : A → A → Ordering) (xs ys us vs : List A) → length xs ≡ length ys
+    → slice_cmp R (xs ++ us) (ys ++ vs) ≡ ordering_then (slice_cmp R xs ys) (slice_cmp R us vs)
+slice_cmp-append R [] [] us vs e = refl
+slice_cmp-append R [] (y ∷ ys) us vs e = absurd (omega arith)
+slice_cmp-append R (x ∷ xs) [] us vs e = absurd (omega arith)
+slice_cmp-append R (x ∷ xs) (y ∷ ys) us vs e =
+    ap (λ o. ordering_then (R x y) o) (slice_cmp-append R xs ys us vs (omega arith))
+    ∙ then_assoc (R x y) (slice_cmp R xs ys) (slice_cmp R us vs)
 
 -- the same where the length octets compare to o
 framed_by : (x y us vs : List ℕ) (o : Ordering) → o ≡ nat_cmp (length x) (length y)
     → ordering_then o (slice_cmp nat_cmp (x ++ us) (y ++ vs)) ≡ ordering_then (ordering_then o (slice_cmp nat_cmp x y)) (slice_cmp nat_cmp us vs)
 framed_by x y us vs Less e = refl
-framed_by x y us vs Equal e = slice_cmp-append x y us vs (ranked (length x) (length y) Equal e)
+framed_by x y us vs Equal e = slice_cmp-append nat_cmp x y us vs (ranked (length x) (length y) Equal e)
 framed_by x y us vs Greater e = refl
 
 -- of lists that begin with labels, the labels decide unless they are equal

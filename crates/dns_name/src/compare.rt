@@ -1,9 +1,10 @@
 //! Comparisons of names where they stand, label by label. They take no memory.
-ghost use Rattle.std.specs.Prelude.{◌≡◌, ◌↔◌, IsTrue, fold};
-ghost use Rattle.dns_name.specs.Names.{lowered};
+ghost use Rattle.std.specs.Prelude.{◌≡◌, ◌↔◌, IsTrue, fold, length, drop};
+ghost use Rattle.dns_name.specs.Names.{lowered, with_root};
 ghost use Rattle.dns_name.specs.NameOrders.{name_order, composed_order, name_hash_input};
-ghost use Rattle.dns_name.specs.ParsedName.{labels};
+ghost use Rattle.dns_name.specs.ParsedName.{labels, labels_left};
 
+use crate::label_iter::LabelIter;
 use crate::parsed_name::ParsedName;
 use std::cmp::Ordering;
 use std::hash::{Hash, Hasher};
@@ -48,11 +49,56 @@ pub fn same_octets(name: &ParsedName<'_>, other: &ParsedName<'_>) -> bool
 }
 
 /// Compares the labels from the root leftwards, the case of ASCII letters ignored (RFC 4034 section 6.1).
+///
+/// The names are walked forward, each label twice at most.
+#[tactic(auto, using(crate::proofs::RootOrders::name_order_from_ends))]
 pub fn order_from_root(name: &ParsedName<'_>, other: &ParsedName<'_>) -> Ordering
     ensures { result ≡ name_order (labels name.now) (labels other.now) }
 {
-    let from_root = name.iter_labels().rev();
-    from_root.cmp(other.iter_labels().rev())
+    let count = label_count(name);
+    let other_count = label_count(other);
+    let labels = labels_behind(name, count.saturating_sub(other_count));
+    let others = labels_behind(other, other_count.saturating_sub(count));
+    order_of_as_many(labels, others).then(count.cmp(&other_count))
+}
+
+/// How many labels the name has, the root label among them.
+fn label_count(name: &ParsedName<'_>) -> usize
+    ensures { result ≡ length (with_root (labels name.now)) }
+{
+    let mut count = 0;
+    for _label in name.iter_labels() {
+        count += 1;
+    }
+    count
+}
+
+/// The labels of the name without so many of its first ones.
+#[tactic(auto, using(crate::proofs::RootOrders::drop_steps))]
+fn labels_behind<'a>(name: &ParsedName<'a>, count: usize) -> LabelIter<'a>
+    ensures { labels_left result ≡ drop count (with_root (labels name.now)) }
+{
+    let mut labels = name.iter_labels();
+    for _passed in 0..count {
+        labels.next();
+    }
+    labels
+}
+
+/// Compares as many labels with as many, the last pair first, the case of ASCII letters ignored.
+#[tactic(auto, using(crate::proofs::RootOrders::rest_steps))]
+fn order_of_as_many(labels: LabelIter<'_>, mut others: LabelIter<'_>) -> Ordering
+    requires { length (labels_left labels) ≡ length (labels_left others) }
+    ensures { result ≡ name_order (labels_left labels.entry) (labels_left others.entry) }
+{
+    let mut order = Ordering::Equal;
+    for label in labels {
+        let Some(other_label) = others.next() else {
+            return order;
+        };
+        order = label.cmp(&other_label).then(order);
+    }
+    order
 }
 
 /// Compares the octets of the names without pointers, ASCII letters lowercased (RFC 4034 sections 6.2 and 6.3).

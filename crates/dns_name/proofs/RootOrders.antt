@@ -1,0 +1,120 @@
+-- The order of names from the root, found by walks from the front.
+use Rattle.std.proofs.Common.{◌≡◌, ℕ, ◌+◌, ◌-◌, ◌≤◌, List, [], ◌∷◌, ◌++◌, length, take, drop, arith, ap, sym, ◌∙◌, refl, length-append, length-drop, length-take, take-append-drop, drop-drop}
+use Rattle.std.specs.Prelude.{reverse}
+use Rattle.std.specs.Cmp.{nat_cmp_is}
+use Rattle.std.specs.Cmp.Lexicographic.{slice_cmp}
+use Rattle.std.specs.Ordering.{nat_cmp, ordering_then}
+use Rattle.std.specs.declared.cmp.Ordering.{Ordering}
+use Rattle.std.specs.declared.cmp.Ordering.TheVariants.{Less, Equal, Greater}
+use Rattle.std.proofs.lemmas.List.{reverse-append, length-reverse}
+use Rattle.dns_name.specs.Names.{Labels, with_root, name_size}
+use Rattle.dns_name.specs.ParsedName.{labels}
+use Rattle.dns_name.specs.declared.parsed_name.ParsedName.{ParsedName}
+use Rattle.dns_name.specs.NameOrders.{label_order, name_order}
+use Rattle.dns_name.proofs.theory.AnswerLaws.{standing_short}
+use Rattle.dns_name.proofs.Orders.{name_order-with_root, slice_cmp-append, then_assoc}
+
+-- of names that end with as many labels, those labels decide unless they are equal
+name_order-append : (us vs m n : Labels) → length m ≡ length n
+    → name_order (us ++ m) (vs ++ n) ≡ ordering_then (name_order m n) (name_order us vs)
+name_order-append us vs m n e =
+    rw (reverse-append us m, reverse-append vs n)
+    (slice_cmp-append label_order (reverse m) (reverse n) (reverse us) (reverse vs)
+    (length-reverse m ∙ e ∙ sym (length-reverse n)))
+
+-- nothing behind a comparison
+then_equal : (o : Ordering) → ordering_then o Equal ≡ o
+then_equal Less = refl
+then_equal Equal = refl
+then_equal Greater = refl
+
+-- how as many labels compare with as many, where an earlier answer is known
+unfoldable pub rest_order : Labels → Labels → Ordering → Ordering
+rest_order m n earlier = ordering_then (name_order m n) earlier
+
+-- no labels, which are as many as others only if these are none
+pub rest_order-none : (m n : Labels) (earlier result : Ordering) → m ≡ [] → length m ≡ length n
+    → rest_order m n earlier ≡ result → earlier ≡ result
+unfolding rest_order
+rest_order-none [] [] earlier result d e h = h
+rest_order-none [] (y ∷ n) earlier result d e h = absurd (omega arith)
+rest_order-none (x ∷ m) n earlier result d e h =
+    let none : length (x ∷ m) ≡ length {A = List ℕ} [] = ap length d in
+    absurd (omega arith)
+
+-- no earlier answer
+pub rest_order-all : (m n : Labels) → rest_order m n Equal ≡ name_order m n
+unfolding rest_order
+rest_order-all m n = then_equal (name_order m n)
+
+-- one label more on each side in front
+pub rest_order-cons : (x y : List ℕ) (m n : Labels) (earlier : Ordering) → length m ≡ length n
+    → rest_order (x ∷ m) (y ∷ n) earlier ≡ rest_order m n (ordering_then (label_order x y) earlier)
+unfolding rest_order
+rest_order-cons x y m n earlier e =
+    ap (λ o. ordering_then o earlier) (name_order-append (x ∷ []) (y ∷ []) m n e
+    ∙ ap (ordering_then (name_order m n)) (then_equal (label_order x y)))
+    ∙ sym (then_assoc (name_order m n) (label_order x y) earlier)
+
+-- the steps of a walk over as many labels as others
+pub ruleset rest_steps = (rest_order-all, rest_order-cons)
+
+-- what is left of two names in front of as many last labels
+surplus_order : (i j : ℕ) (us vs : Labels) → length us ≡ i - j → length vs ≡ j - i
+    → slice_cmp label_order us vs ≡ nat_cmp i j
+surplus_order i j [] [] a b = nat_cmp_is i j Equal (omega arith)
+surplus_order i j [] (y ∷ ys) a b = nat_cmp_is i j Less (omega arith)
+surplus_order i j (x ∷ xs) [] a b = nat_cmp_is i j Greater (omega arith)
+surplus_order i j (x ∷ xs) (y ∷ ys) a b = absurd (omega arith)
+
+-- the last labels of a name, as many of them as another has
+abbrev pub last_labels : Labels → Labels → Labels
+last_labels m n = drop (length m - length n) m
+
+-- both have as many
+same_length : (m n : Labels) → length (last_labels m n) ≡ length (last_labels n m)
+same_length m n = omega (arith, length-drop (length m - length n) m, length-drop (length n - length m) n)
+
+-- those decide, and else the name with fewer labels is less
+name_order-split : (m n : Labels)
+    → name_order m n ≡ ordering_then (name_order (last_labels m n) (last_labels n m)) (nat_cmp (length m) (length n))
+name_order-split m n =
+    let i : ℕ = length m - length n in
+    let j : ℕ = length n - length m in
+    let us : Labels = take i m in
+    let vs : Labels = take j n in
+    let a : length us ≡ i = omega (arith, length-take i m) in
+    let b : length vs ≡ j = omega (arith, length-take j n) in
+    ap (λ k. name_order k n) (sym (take-append-drop i m)) ∙ ap (name_order (us ++ drop i m)) (sym (take-append-drop j n))
+    ∙ name_order-append us vs (drop i m) (drop j n) (same_length m n)
+    ∙ ap (ordering_then (name_order (drop i m) (drop j n)))
+    (surplus_order (length m) (length n) (reverse us) (reverse vs) (length-reverse us ∙ a) (length-reverse vs ∙ b))
+
+-- the same with the root labels
+pub name_order_from_ends : (m n : Labels)
+    → name_order m n
+    ≡ ordering_then (name_order (last_labels (with_root m) (with_root n)) (last_labels (with_root n) (with_root m)))
+    (nat_cmp (length (with_root m)) (length (with_root n)))
+name_order_from_ends m n = sym (name_order-with_root m n) ∙ name_order-split (with_root m) (with_root n)
+
+-- each label takes an octet at least
+length_below : (m : Labels) → length m ≤ name_size m
+length_below [] = omega arith
+length_below (label ∷ m) = omega (arith, length_below m)
+
+-- so the labels of a name are 255 at most
+pub few_labels : (name : ParsedName) → length (with_root (labels name)) ≤ 255
+few_labels name =
+    let m : Labels = labels name in
+    omega (arith, length-append m ([] ∷ []), length_below m, standing_short name.name_at.0.1)
+
+-- behind one label more
+pub drop-first : (i : ℕ) (m n : Labels) (label : List ℕ) → drop i m ≡ label ∷ n → drop (i + 1) m ≡ n
+drop-first i m n label e = sym (drop-drop 1 i m) ∙ ap (drop 1) e
+
+-- behind the last label
+pub drop-none : (i : ℕ) (m : Labels) → drop i m ≡ [] → drop (i + 1) m ≡ []
+drop-none i m e = sym (drop-drop 1 i m) ∙ ap (drop 1) e
+
+-- the steps of a walk past labels
+pub ruleset drop_steps = (drop-first, drop-none)
