@@ -67,7 +67,7 @@ surplus_order i j [] (y ∷ ys) a b = nat_cmp_is i j Less (omega arith)
 surplus_order i j (x ∷ xs) [] a b = nat_cmp_is i j Greater (omega arith)
 surplus_order i j (x ∷ xs) (y ∷ ys) a b = absurd (omega arith)
 
--- the last labels of a name, as many of them as another has
+-- the last labels of a name, at most as many as another has
 abbrev pub last_labels : Labels → Labels → Labels
 last_labels m n = drop (length m - length n) m
 
