@@ -10,6 +10,8 @@ mod builders;
 #[cfg(test)]
 mod building;
 #[cfg(test)]
+mod clones;
+#[cfg(test)]
 mod compressors;
 #[cfg(test)]
 mod opts;

@@ -7,11 +7,15 @@ mod char_str;
 #[cfg(test)]
 mod comparisons;
 #[cfg(test)]
+mod conversions;
+#[cfg(test)]
 mod data;
 mod fields;
 mod hinfo;
 #[cfg(test)]
 mod mx;
 mod naptr;
+#[cfg(test)]
+mod orders;
 #[cfg(test)]
 mod questions;

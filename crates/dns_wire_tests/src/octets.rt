@@ -130,7 +130,8 @@ fn converts_names_into_memory(rt: HostRuntime) -> Result<(), Fail> {
     let vec_from_full: Name<Vec<u8>> = convert(rt.alloc(), full)?;
     assert_plain(&rt, &vec_from_full);
     let slice: Name<&[u8]> = convert(rt.alloc(), &vec_from_full)?;
-    assert_plain(&rt, &slice);
+    let slice_from_slice: Name<&[u8]> = convert(rt.alloc(), slice)?;
+    assert_plain(&rt, &slice_from_slice);
     Ok(())
 }
 
