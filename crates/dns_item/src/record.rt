@@ -5,10 +5,11 @@ ghost use Rattle.dns_wire.specs.Targets.{Composes};
 ghost use Rattle.dns_item.specs.Items.{RecordItem, IsRecord, put_record};
 ghost use Rattle.dns_item.specs.Record.{owner_of, class_of, ttl_of, data_of, HasFields, record_item, item_of_fields};
 
+pub use crate::opt_record::OptRecord;
 pub use crate::parsed_record::ParsedRecord;
 pub use crate::record_error::RecordParseError;
 pub use crate::record_header::RecordHeader;
-use crate::ttl::Ttl;
+pub use crate::ttl::Ttl;
 use dns_code::{Class, Rtype};
 use dns_data::{ComposeRecordData, RecordData, compose_len_rdata};
 use dns_wire::{AppendError, Composer, ToName};

@@ -89,3 +89,15 @@ impl<'a, S: Octets> OctetsFrom<&'a Message<S>> for Message<&'a [u8]> {
         Ok(source.for_slice_ref())
     }
 }
+
+impl<'a> OctetsFrom<Message<&'a [u8]>> for Message<&'a [u8]> {
+    ghost keeps = { λ source message. message_octets message ≡ message_octets source };
+
+    ghost too_long = { λ _. ⊥ };
+
+    ghost takes_memory = { ⊥ };
+
+    fn try_octets_from(_alloc: Global, source: Message<&'a [u8]>) -> Result<Self, AppendError> {
+        Ok(source)
+    }
+}

@@ -263,7 +263,8 @@ fn changes_holders(rt: HostRuntime) -> Result<(), Fail> {
     assert_eq!(rt; owned.clone()?.as_slice(), POSITIVE_RESPONSE.as_slice());
     assert_eq!(rt; owned.for_slice().as_slice(), POSITIVE_RESPONSE.as_slice());
     let lent = Message::<&[u8]>::try_octets_from(rt.alloc(), &owned)?;
-    assert_eq!(rt; lent.as_slice(), POSITIVE_RESPONSE.as_slice());
+    let lent_again = Message::<&[u8]>::try_octets_from(rt.alloc(), lent)?;
+    assert_eq!(rt; lent_again.as_slice(), POSITIVE_RESPONSE.as_slice());
     Ok(())
 }
 
