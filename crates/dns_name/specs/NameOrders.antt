@@ -36,9 +36,9 @@ composed_order = on (λ name. uncompressed (lowered name)) (slice_cmp nat_cmp)
 abbrev pub label_hash_input : List ℕ → List (List ℕ)
 label_hash_input label = flat_map fed.u8 (framed (lowered_label label))
 
--- what a name writes into a hasher: its octets without pointers, one by one
+-- what a name writes into a hasher, at once: its octets without pointers
 abbrev pub name_hash_input : Labels → List (List ℕ)
-name_hash_input name = flat_map fed.u8 (uncompressed (lowered name))
+name_hash_input name = uncompressed (lowered name) ∷ []
 
 -- What the comparisons of names cite of the orders of names.
 
@@ -96,4 +96,4 @@ name_order-partial = po name_order-total name_order-ties
 
 -- the same names are hashed alike
 pub name_hash_input-alike : (m n : Labels) → IsTrue (names_equal m n) → name_hash_input m ≡ name_hash_input n
-name_hash_input-alike m n h = ap (λ labels. flat_map fed.u8 (uncompressed labels)) ((names_equal-Decides m n).0 h)
+name_hash_input-alike m n h = ap (λ labels. uncompressed labels ∷ []) ((names_equal-Decides m n).0 h)

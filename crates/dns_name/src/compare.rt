@@ -122,13 +122,11 @@ pub fn order_composed(name: &ParsedName<'_>, other: &ParsedName<'_>) -> Ordering
     }
 }
 
-/// Feeds a hasher the octets of the name without pointers, ASCII letters lowercased.
-pub(crate) fn hash_labels<H: Hasher>(name: &ParsedName<'_>, state: &mut H)
+/// Feeds a hasher the octets of the name without pointers, ASCII letters lowercased, at once.
+pub(crate) fn hash_name<H: Hasher>(name: &ParsedName<'_>, state: &mut H)
     ensures { state.new ≡ fold H.write state.old (name_hash_input (labels name.now)) }
 {
-    for label in name.iter_labels() {
-        label.hash(state);
-    }
+    state.write(name.lowercased().as_slice());
 }
 
 impl PartialEq for ParsedName<'_> {
@@ -194,6 +192,6 @@ impl Hash for ParsedName<'_> {
     ghost respects_eq = { λ x y same. name_hash_input-alike (labels x) (labels y) same };
 
     fn hash<H: Hasher>(&self, state: &mut H) {
-        hash_labels(self, state);
+        hash_name(self, state);
     }
 }

@@ -1,7 +1,7 @@
 ghost use Rattle.std.specs.Prelude.{◌≡◌, ◌+◌, ◌≤◌, ℕ, [], length, OnOk, IfOk, IfErr, IsOk};
 ghost use Rattle.dns_name.specs.Uncompressed.{WholeName, WholeName-prop};
 
-use crate::compare::hash_labels;
+use crate::compare::hash_name;
 use crate::head::Head;
 pub use crate::name_error::{FromStrError, PresentationError};
 use crate::parsed_name::ParsedName;
@@ -192,6 +192,6 @@ impl<Octs: Octets> Hash for Name<Octs> {
     ghost respects_eq = { λ x y same. name_hash_input-alike (name_labels x) (name_labels y) same };
 
     fn hash<H: Hasher>(&self, state: &mut H) {
-        hash_labels(&self.as_parsed(), state);
+        hash_name(&self.as_parsed(), state);
     }
 }

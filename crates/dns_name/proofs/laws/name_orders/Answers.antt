@@ -1,6 +1,5 @@
 use Rattle.std.proofs.Common.{ap}
-use Rattle.std.specs.Hash as fed
-use Rattle.std.specs.List.{flat_map}
+use Rattle.std.specs.Prelude.{◌∷◌, []}
 use Rattle.dns_name.specs.NameOrders.{name_order-total}
 use Rattle.dns_name.specs.Names.{uncompressed}
 use Rattle.dns_name.proofs.NameOrderLemmas.{name_order_agrees, composed_order_total, composed_order_agrees}
@@ -12,5 +11,5 @@ returns c = record {
   composed_order = composed_order_total;
   name_order_agrees = name_order_agrees;
   composed_order_agrees = composed_order_agrees;
-  hash = λ m n h. ap (λ labels. flat_map fed.u8 (uncompressed labels)) h;
+  hash = λ m n h. ap (λ labels. uncompressed labels ∷ []) h;
 }
