@@ -6,3 +6,4 @@ pub mod Moves
 pub mod Steps
 pub mod OptLemmas
 pub mod OptReading
+pub mod AnswerLemmas

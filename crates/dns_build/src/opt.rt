@@ -61,7 +61,7 @@ fn record_of(builder: &OptBuilder) -> Record<Name<&'static [u8]>, Opt<&[u8]>>
 
 /// A header with another rcode, and nothing else changed. The contract is on its octets; that of `set_rcode` is on its
 /// fields.
-fn with_rcode(header: Header, rcode: Rcode) -> Header
+pub(crate) fn with_rcode(header: Header, rcode: Rcode) -> Header
     ensures { result ≡ with_rcode rcode header }
 {
     let mut octets = [0; 4];

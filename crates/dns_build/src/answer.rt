@@ -1,0 +1,112 @@
+//! Answers that are started from a message (RFC 1035 section 4.1).
+ghost use Rattle.std.specs.Prelude.{◌≡◌};
+ghost use Rattle.dns_read.specs.Message.{message_octets};
+ghost use Rattle.dns_build.specs.State.{InBuilder, InQuestion};
+ghost use Rattle.dns_build.specs.Standing.{InEach, MovesState};
+ghost use Rattle.dns_build.specs.Answers.{answer_header, answering, readable_questions, Answers, AsksAll, Starts, StartsOrFails, TriesToStart};
+
+use crate::builder::{AnswerBuilder, Builder, QuestionBuilder};
+use crate::opt::with_rcode;
+use crate::push_error::PushError;
+use crate::stage::AtBuilder;
+use dns_code::{Header, Rcode};
+use dns_read::Message;
+use dns_wire::{Composer, Octets};
+
+impl<T: Composer> Builder<T, AtBuilder> {
+    /// Starts creating an answer for the given message.
+    ///
+    /// The header takes ID, opcode and RD of the message, and the rcode, and is that of a response. The message's questions
+    /// are pushed, up to the first that can't be read, which is no error. The error of a refused push is answered.
+    pub fn start_answer<Octs: Octets>(
+        self,
+        msg: &Message<Octs>,
+        rcode: Rcode,
+    ) -> Result<AnswerBuilder<T>, PushError>
+        ensures { InEach InBuilder T.rule self (λ s.
+            Answers T.room T.grows T.rule rcode (message_octets msg.now) s (Starts T.rule result)) }
+    {
+        let mut builder = self.answering(msg, rcode);
+        match push_questions(&mut builder, msg) {
+            Ok(()) => Ok(builder.answer()),
+            Err(error) => Err(error),
+        }
+    }
+
+    /// As `start_answer`; but where a question is refused, the answer with the questions before it and the rcode SERVFAIL is
+    /// given back, as `Err`.
+    pub fn try_start_answer<Octs: Octets>(
+        self,
+        msg: &Message<Octs>,
+        rcode: Rcode,
+    ) -> Result<AnswerBuilder<T>, AnswerBuilder<T>>
+        ensures { InEach InBuilder T.rule self (λ s.
+            Answers T.room T.grows T.rule rcode (message_octets msg.now) s
+            (TriesToStart T.rule result)) }
+    {
+        let mut builder = self.answering(msg, rcode);
+        match push_questions(&mut builder, msg) {
+            Ok(()) => Ok(builder.answer()),
+            Err(_) => {
+                builder.set_header(with_rcode(builder.header(), Rcode::SERVFAIL));
+                Err(builder.answer())
+            }
+        }
+    }
+
+    /// Starts creating an error for the given message: as `try_start_answer`, with either of its builders.
+    pub fn start_error<Octs: Octets>(self, msg: &Message<Octs>, rcode: Rcode) -> AnswerBuilder<T>
+        ensures { InEach InBuilder T.rule self (λ s.
+            Answers T.room T.grows T.rule rcode (message_octets msg.now) s
+            (StartsOrFails T.rule result)) }
+    {
+        match self.try_start_answer(msg, rcode) {
+            Ok(builder) => builder,
+            Err(builder) => builder,
+        }
+    }
+
+    /// The builder of the questions of an answer, with its header.
+    fn answering<Octs: Octets>(self, msg: &Message<Octs>, rcode: Rcode) -> QuestionBuilder<T>
+        ensures { MovesState InBuilder InQuestion T.rule
+            (answering rcode (message_octets msg.now)) self result }
+    {
+        let mut builder = self;
+        builder.set_header(answer_header(rcode, msg.header(), builder.header()));
+        builder.question()
+    }
+}
+
+/// Pushes the questions of a message, up to the first that can't be read or is refused.
+fn push_questions<T: Composer, Octs: Octets>(
+    builder: &mut QuestionBuilder<T>,
+    msg: &Message<Octs>,
+) -> Result<(), PushError>
+    ensures { InEach InQuestion T.rule builder.old (λ s. AsksAll T.room T.grows T.rule s
+        (readable_questions (message_octets msg.now)) result builder.new) }
+{
+    let mut asked = msg.question();
+    while let Some(question) = asked.next() {
+        let Ok(question) = question else {
+            return Ok(());
+        };
+        if let Err(error) = builder.push(question) {
+            return Err(error);
+        }
+    }
+    Ok(())
+}
+
+/// The header of an answer. The contract is on its octets.
+fn answer_header(rcode: Rcode, asked: Header, own: Header) -> Header
+    ensures { result ≡ answer_header rcode asked own }
+{
+    let asked = asked.as_slice();
+    let own = own.as_slice();
+    Header::for_message_slice(&[
+        asked[0],
+        asked[1],
+        own[2] & 0x06 | asked[2] & 0x79 | 0x80,
+        own[3] & 0xf0 | rcode.to_int(),
+    ])
+}
