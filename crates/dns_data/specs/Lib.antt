@@ -5,5 +5,6 @@ pub mod NameData
 pub mod Soa
 pub mod UnknownData
 pub mod Opt
+pub mod CanonicalOrders
 pub mod Printing
 pub mod Laws

@@ -7,6 +7,7 @@
 #![tactic(auto)]
 
 mod a;
+mod canonical_order;
 mod error;
 pub mod laws;
 mod length;
