@@ -6,5 +6,7 @@ pub mod Soa
 pub mod UnknownData
 pub mod Opt
 pub mod CanonicalOrders
+pub mod DataOrders
+pub mod Conversions
 pub mod Printing
 pub mod Laws

@@ -7,7 +7,6 @@ ghost use Rattle.dns_data.specs.CanonicalOrders.{a_canonical_order, ns_canonical
 use crate::a::A;
 use crate::name_data::{Cname, Ns};
 use crate::opt::Opt;
-use crate::record_data::RecordData;
 use crate::soa::Soa;
 use crate::unknown::UnknownRecordData;
 use dns_wire::{CanonicalOrd, Octets, ToName, ToNameExt};
@@ -77,10 +76,7 @@ impl<Octs: Octets> CanonicalOrd for UnknownRecordData<Octs> {
     ghost canonical_order = { unknown_canonical_order };
 
     fn canonical_cmp(&self, other: &Self) -> Ordering {
-        let rtype = self.rtype().to_int();
-        rtype
-            .cmp(&other.rtype().to_int())
-            .then_with(|| self.data().octets().cmp(other.data().octets()))
+        self.cmp(other)
     }
 
     ghost canonical_total = { Prim.search (comparing, rules) };

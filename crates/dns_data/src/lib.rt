@@ -8,11 +8,13 @@
 
 mod a;
 mod canonical_order;
+mod conversions;
 mod error;
 pub mod laws;
 mod length;
 mod name_data;
 mod octets;
+mod octets_order;
 mod opt;
 mod print;
 pub mod record_data;

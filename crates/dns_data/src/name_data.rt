@@ -53,6 +53,14 @@ impl<N> Ns<N> {
     {
         &self.nsdname
     }
+
+    /// The name server, taken out.
+    pub(crate) fn into_nsdname(self) -> N
+        ensures { result ≡ nsdname_of self }
+    {
+        let Ns { nsdname } = self;
+        nsdname
+    }
 }
 
 impl<N: ToName> RecordData for Ns<N> {

@@ -50,6 +50,23 @@ impl<Octs: Octets> Opt<Octs> {
     {
         OptionIter::of_options(self.octets.octets())
     }
+
+    /// The data of octets that are known to be a list of options, and at most 65,535.
+    pub(crate) fn of_options(octets: Octs) -> Self
+        requires { IsTrue (is_opt_data (Octs.octets octets)) }
+        ensures { opt_holder_of result ≡ octets }
+    {
+        Opt { octets }
+    }
+
+    /// The holder of the octets, taken out.
+    pub(crate) fn into_data(self) -> Octs
+        ensures holder { result ≡ opt_holder_of self }
+        ensures options { IsTrue (is_opt_data (Octs.octets result)) }
+    {
+        let Opt { octets } = self;
+        octets
+    }
 }
 
 impl<Octs: Octets> RecordData for Opt<Octs> {

@@ -3,7 +3,7 @@ ghost use Rattle.std.specs.Prelude.{◌≡◌, ◌+◌, ◌≤◌, length, slice
 ghost use Rattle.std.specs.Int.{to_be_bytes, w32};
 ghost use Rattle.dns_data.specs.Layout.{DomainName, Fixed, End};
 ghost use Rattle.dns_data.specs.RecordData.{only};
-ghost use Rattle.dns_data.specs.Soa.{mname_of, rname_of, serial_of, refresh_of, retry_of, expire_of, minimum_of, number_octets, length-number_octets, soa_parts};
+ghost use Rattle.dns_data.specs.Soa.{mname_of, rname_of, serial_of, refresh_of, retry_of, expire_of, minimum_of, numbers_of, number_octets, length-number_octets, soa_parts};
 
 use crate::octets::take_octets;
 use crate::record_data::{ComposeRecordData, ParseRecordData, RecordData};
@@ -99,6 +99,32 @@ impl<N> Soa<N> {
         ensures { result ≡ minimum_of self.now }
     {
         self.minimum
+    }
+
+    /// The two names, taken out, and the five numbers.
+    pub(crate) fn into_parts(self) -> (N, N, [u32; 5])
+        ensures mname { result.0 ≡ mname_of self }
+        ensures rname { result.1 ≡ rname_of self }
+        ensures numbers { result.2 ≡ numbers_of self }
+    {
+        let numbers = [
+            self.serial,
+            self.refresh,
+            self.retry,
+            self.expire,
+            self.minimum,
+        ];
+        (self.mname, self.rname, numbers)
+    }
+
+    /// The data of two names and the five numbers.
+    pub(crate) fn of_parts(mname: N, rname: N, numbers: [u32; 5]) -> Self
+        ensures mname { mname_of result ≡ mname }
+        ensures rname { rname_of result ≡ rname }
+        ensures numbers { numbers_of result ≡ numbers }
+    {
+        let [serial, refresh, retry, expire, minimum] = numbers;
+        Soa::new(mname, rname, serial, refresh, retry, expire, minimum)
     }
 
     /// The octets of the five numbers.

@@ -29,10 +29,7 @@ impl<Octs: Octets> UnknownRecordData<Octs> {
         if octets.octets().len() > 65535 {
             return Err(LongRecordData);
         }
-        Ok(UnknownRecordData {
-            rtype: rtype.to_int(),
-            octets,
-        })
+        Ok(UnknownRecordData::of_short(rtype, octets))
     }
 
     /// The holder of the octets.
@@ -40,6 +37,28 @@ impl<Octs: Octets> UnknownRecordData<Octs> {
         ensures { result.now ≡ unknown_holder_of self.now }
     {
         &self.octets
+    }
+
+    /// The data of octets that are known to be at most 65,535.
+    pub(crate) fn of_short(rtype: Rtype, octets: Octs) -> Self
+        requires { length (Octs.octets octets) ≤ 65535 }
+        ensures rtype { unknown_rtype_of result ≡ rtype }
+        ensures octets { unknown_holder_of result ≡ octets }
+    {
+        UnknownRecordData {
+            rtype: rtype.to_int(),
+            octets,
+        }
+    }
+
+    /// The type, and the holder of the octets, taken out.
+    pub(crate) fn into_parts(self) -> (Rtype, Octs)
+        ensures rtype { result.0 ≡ unknown_rtype_of self }
+        ensures octets { result.1 ≡ unknown_holder_of self }
+        ensures short { length (Octs.octets result.1) ≤ 65535 }
+    {
+        let UnknownRecordData { rtype, octets } = self;
+        (Rtype::from_int(rtype), octets)
     }
 }
 
