@@ -2,3 +2,4 @@ pub mod BehindNames
 pub mod Questions
 pub mod Question
 pub mod QuestionTexts
+pub mod QuestionOrders

@@ -6,6 +6,7 @@
 
 pub mod question;
 mod question_error;
+mod question_order;
 mod question_print;
 mod question_text;
 
