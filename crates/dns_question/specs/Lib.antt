@@ -3,3 +3,4 @@ pub mod Questions
 pub mod Question
 pub mod QuestionTexts
 pub mod QuestionOrders
+pub mod QuestionConversions
