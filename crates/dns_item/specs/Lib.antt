@@ -10,3 +10,4 @@ pub mod RecordReading
 pub mod DataAnswer
 pub mod TypedRecords
 pub mod RecordPrinting
+pub mod ParsedRecordOrders

@@ -1,8 +1,10 @@
--- How records compare: by owner, class and data, never by the TTL. RFC 2136 section 1.1.1.
+-- How records compare: by owner, class and data, never by the TTL (RFC 2136 section 1.1.1), and in canonical form (RFC 4034 section 6).
 use Rattle.std.specs.Prelude.{ℕ, Bool, ◌++◌, ◌==◌}
 use Rattle.std.specs.Hash.{HashWrites, u16}
 use Rattle.std.specs.Ordering.{on, nat_cmp, then_cmp, eq_of_both}
 use Rattle.std.specs.declared.cmp.Ordering.{Ordering}
+use Rattle.dns_name.specs.Names.{Labels}
+use Rattle.dns_name.specs.NameOrders.{name_order}
 use Rattle.dns_item.specs.Record.{owner_of, class_of, data_of}
 use Rattle.dns_item.specs.declared.record.Record.{Record}
 
@@ -13,8 +15,14 @@ module _ {N D : Type 0} where
 
   -- their order: that of their owners, else of their classes, else of their data
   abbrev pub record_order : (N → N → Ordering) → (D → D → Ordering) → Record N D → Record N D → Ordering
-  record_order name_order data_order = then_cmp (on owner_of name_order) (then_cmp (on class_of nat_cmp) (on data_of data_order))
+  record_order owner_order data_order = then_cmp (on owner_of owner_order) (then_cmp (on class_of nat_cmp) (on data_of data_order))
 
   -- what a record feeds a hasher
   abbrev pub record_hash_input : (N → HashWrites) → (D → HashWrites) → Record N D → HashWrites
   record_hash_input of_name of_data r = of_name (owner_of r) ++ (u16 (class_of r) ++ of_data (data_of r))
+
+  -- The canonical order: by class, else by owner, else by type, else by the canonical order of the data. RFC 4034 sections 6.1 and 6.3.
+  abbrev pub canonical_record_order : (N → Labels) → (D → ℕ) → (D → D → Ordering) → Record N D → Record N D → Ordering
+  canonical_record_order labels_of rtype_of data_order =
+      then_cmp (on class_of nat_cmp)
+      (then_cmp (on (λ r. labels_of (owner_of r)) name_order) (then_cmp (on (λ r. rtype_of (data_of r)) nat_cmp) (on data_of data_order)))

@@ -7,9 +7,11 @@
 #![tactic(auto)]
 
 mod canonical;
+mod canonical_order;
 pub mod laws;
 mod opt_record;
 mod parsed_record;
+mod parsed_record_order;
 pub mod record;
 mod record_error;
 mod record_header;

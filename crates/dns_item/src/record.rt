@@ -142,6 +142,15 @@ impl<N, D: RecordData> Record<N, D> {
     }
 }
 
+/// The record itself.
+impl<N, D> AsRef<Record<N, D>> for Record<N, D> {
+    fn as_ref(&self) -> &Record<N, D>
+        ensures { result.now ≡ self.now }
+    {
+        self
+    }
+}
+
 /// The record of an owner, a class, a TTL and data.
 impl<N, D> From<(N, Class, Ttl, D)> for Record<N, D> {
     ghost from_gives = { λ fields r. HasFields r fields.0 fields.1 fields.2 fields.3 };
