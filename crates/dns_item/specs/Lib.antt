@@ -11,3 +11,4 @@ pub mod DataAnswer
 pub mod TypedRecords
 pub mod RecordPrinting
 pub mod ParsedRecordOrders
+pub mod RecordConversions

@@ -2,12 +2,14 @@
 //!
 //! It promises that a question or record is read exactly where one stands (RFC 1035 sections 4.1.2 and 4.1.3) and is composed
 //! as one piece under every rule of compression, that what is put is read back, that the data of a record is read to its end
-//! as its type is laid out, that a text is read as a question by one table, and that every result of a TTL's arithmetic is
-//! the number that its call names.
+//! as its type is laid out, that a text is read as a question by one table, that questions and records have a canonical order
+//! (RFC 4034 section 6), that a record whose owner and data are converted keeps its class and TTL, and that every result of a
+//! TTL's arithmetic is the number that its call names.
 #![tactic(auto)]
 
 mod canonical;
 mod canonical_order;
+mod conversions;
 pub mod laws;
 mod opt_record;
 mod parsed_record;
