@@ -12,7 +12,7 @@ use Rattle.dns_section.specs.QuestionSection.{questions_left, to_come, position,
 use Rattle.dns_section.specs.QuestionsFrom.{questions_from}
 use Rattle.dns_section.specs.Skipping.{items_left}
 use Rattle.dns_section.specs.declared.question_section.QuestionSection.{QuestionSection}
-use Rattle.dns_build.specs.Answers.{PushesAll, AsksAll, AnswerHeaderIsSet, Answers, StartsOrFails, TriesToStart}
+use Rattle.dns_build.specs.Answers.{PushesAll, AsksAll, AnswerHeaderIsSet, StartsAnswer, IsEither, GivesEither}
 use Rattle.dns_build.specs.Standing.{Built, StandsFor, MovesState, InEach, PushAnswers, size_after}
 use Rattle.dns_build.specs.State.{State, InQuestion, with_question}
 use Rattle.dns_build.specs.declared.push_error.PushError.{PushError}
@@ -71,25 +71,25 @@ readable-fault rest new f e is faulted =
 
 module _ (room : Option ℕ) (grows : Bool) (rule : Rule) (rcode : ℕ) (b : List ℕ) (s : State) (built : Built) where
   -- either builder is taken: that with all questions
-  pub takes-answer : (result : Result Built Built) → result ≡ Ok built → Answers room grows rule rcode b s (TriesToStart rule result) → Answers room grows rule rcode b s (StartsOrFails rule built)
+  pub takes-answer : (result : Result Built Built) → result ≡ Ok built → StartsAnswer room grows rule rcode b s (GivesEither rule result) → StartsAnswer room grows rule rcode b s (IsEither rule built)
   takes-answer result is tries =
-      let started = subst (λ (r : Result Built Built). TriesToStart rule r tries.answer tries.left) is tries.started in
+      let gives = subst (λ (r : Result Built Built). GivesEither rule r tries.answer tries.left) is tries.gives in
       record {
         answer = tries.answer;
         left = tries.left;
         pushes = tries.pushes;
-        started = subst (λ (a : Result (Unit {0}) PushError). StartsOrFails rule built a tries.left) (sym started.0) started.1;
+        gives = subst (λ (a : Result (Unit {0}) PushError). IsEither rule built a tries.left) (sym gives.0) gives.1;
       }
 
   -- or that with those before the refused one
-  pub takes-failure : (result : Result Built Built) → result ≡ Err built → Answers room grows rule rcode b s (TriesToStart rule result) → Answers room grows rule rcode b s (StartsOrFails rule built)
+  pub takes-failure : (result : Result Built Built) → result ≡ Err built → StartsAnswer room grows rule rcode b s (GivesEither rule result) → StartsAnswer room grows rule rcode b s (IsEither rule built)
   takes-failure result is tries =
-      let started = subst (λ (r : Result Built Built). TriesToStart rule r tries.answer tries.left) is tries.started in
+      let gives = subst (λ (r : Result Built Built). GivesEither rule r tries.answer tries.left) is tries.gives in
       record {
         answer = tries.answer;
         left = tries.left;
         pushes = tries.pushes;
-        started = subst (λ (a : Result (Unit {0}) PushError). StartsOrFails rule built a tries.left) (sym started.0.1) started.1;
+        gives = subst (λ (a : Result (Unit {0}) PushError). IsEither rule built a tries.left) (sym gives.0.1) gives.1;
       }
 
 -- a bit of octet 2 of an answer's header

@@ -48,35 +48,35 @@ pub record AsksAll (room : Option ℕ) (grows : Bool) (rule : Rule) (s : State) 
   pub pushes : PushesAll room grows rule s xs answer left
   pub stands : StandsFor InQuestion rule left new
 
--- an answer builder stands for a state at the answer section
-abbrev pub Continues : Rule → State → Built → Type 0
-Continues rule left b = StandsFor InAnswer rule (move_to InAnswer left) b
+-- an answer builder stands for the state, moved to the answer section
+abbrev pub IsAnswer : Rule → State → Built → Type 0
+IsAnswer rule left b = StandsFor InAnswer rule (move_to InAnswer left) b
 
--- so it does with the rcode SERVFAIL
-abbrev pub Fails : Rule → State → Built → Type 0
-Fails rule left b = Continues rule (with_header (with_rcode 2 left.header) left) b
+-- it does so with the rcode SERVFAIL
+abbrev pub IsFailure : Rule → State → Built → Type 0
+IsFailure rule left b = IsAnswer rule (with_header (with_rcode 2 left.header) left) b
 
--- The answer builder with the questions, or the error of the one that was refused.
-abbrev pub Starts : Rule → Result Built PushError → Result (Unit {0}) PushError → State → Type 0
-Starts rule (Ok b) answer left = (answer ≡ Ok tt) × Continues rule left b
-Starts rule (Err e) answer left = answer ≡ Err e
-
--- The answer builder with the questions, or with those before the one that was refused, and SERVFAIL.
-abbrev pub StartsOrFails : Rule → Built → Result (Unit {0}) PushError → State → Type 0
-StartsOrFails rule b (Ok _) left = Continues rule left b
-StartsOrFails rule b (Err _) left = Fails rule left b
-
--- so it is given back, the former as `Ok`
-abbrev pub TriesToStart : Rule → Result Built Built → Result (Unit {0}) PushError → State → Type 0
-TriesToStart rule (Ok b) answer left = (answer ≡ Ok tt) × Continues rule left b
-TriesToStart rule (Err b) answer left = ((e : PushError) × (answer ≡ Err e)) × Fails rule left b
-
--- The readable questions of a message are pushed, for a state; of the answer and of the state then this holds.
-pub record Answers (room : Option ℕ) (grows : Bool) (rule : Rule) (rcode : ℕ) (b : List ℕ) (s : State) (Then : Result (Unit {0}) PushError → State → Type 0) : Type 0 where
+-- An answer to a message is started, for a state: its readable questions are pushed, and of the answer to that and of the state then this holds.
+pub record StartsAnswer (room : Option ℕ) (grows : Bool) (rule : Rule) (rcode : ℕ) (b : List ℕ) (s : State) (Then : Result (Unit {0}) PushError → State → Type 0) : Type 0 where
   pub answer : Result (Unit {0}) PushError
   pub left : State
   pub pushes : PushesAll room grows rule (answering rcode b s) (readable_questions b) answer left
-  pub started : Then answer left
+  pub gives : Then answer left
+
+-- an answer builder with all of the questions, or the error of the one that was refused
+abbrev pub GivesAnswer : Rule → Result Built PushError → Result (Unit {0}) PushError → State → Type 0
+GivesAnswer rule (Ok b) answer left = (answer ≡ Ok tt) × IsAnswer rule left b
+GivesAnswer rule (Err e) answer left = answer ≡ Err e
+
+-- an answer builder with all of the questions, or one with those before the refused one and SERVFAIL
+abbrev pub IsEither : Rule → Built → Result (Unit {0}) PushError → State → Type 0
+IsEither rule b (Ok _) left = IsAnswer rule left b
+IsEither rule b (Err _) left = IsFailure rule left b
+
+-- so too, the former as `Ok` and the latter as `Err`
+abbrev pub GivesEither : Rule → Result Built Built → Result (Unit {0}) PushError → State → Type 0
+GivesEither rule (Ok b) answer left = (answer ≡ Ok tt) × IsAnswer rule left b
+GivesEither rule (Err b) answer left = ((e : PushError) × (answer ≡ Err e)) × IsFailure rule left b
 
 -- The header of an answer has ID, opcode and RD of the asked header, QR, and the rcode, and its own other fields.
 abbrev pub AnswerHeaderIsSet : Type 0

@@ -3,7 +3,7 @@ ghost use Rattle.std.specs.Prelude.{◌≡◌};
 ghost use Rattle.dns_read.specs.Message.{message_octets};
 ghost use Rattle.dns_build.specs.State.{InBuilder, InQuestion};
 ghost use Rattle.dns_build.specs.Standing.{InEach, MovesState};
-ghost use Rattle.dns_build.specs.Answers.{answer_header, answering, readable_questions, Answers, AsksAll, Starts, StartsOrFails, TriesToStart};
+ghost use Rattle.dns_build.specs.Answers.{answer_header, answering, readable_questions, AsksAll, StartsAnswer, GivesAnswer, IsEither, GivesEither};
 
 use crate::builder::{AnswerBuilder, Builder, QuestionBuilder};
 use crate::opt::with_rcode;
@@ -24,7 +24,8 @@ impl<T: Composer> Builder<T, AtBuilder> {
         rcode: Rcode,
     ) -> Result<AnswerBuilder<T>, PushError>
         ensures { InEach InBuilder T.rule self (λ s.
-            Answers T.room T.grows T.rule rcode (message_octets msg.now) s (Starts T.rule result)) }
+            StartsAnswer T.room T.grows T.rule rcode (message_octets msg.now) s
+            (GivesAnswer T.rule result)) }
     {
         let mut builder = self.answering(msg, rcode);
         match push_questions(&mut builder, msg) {
@@ -41,8 +42,8 @@ impl<T: Composer> Builder<T, AtBuilder> {
         rcode: Rcode,
     ) -> Result<AnswerBuilder<T>, AnswerBuilder<T>>
         ensures { InEach InBuilder T.rule self (λ s.
-            Answers T.room T.grows T.rule rcode (message_octets msg.now) s
-            (TriesToStart T.rule result)) }
+            StartsAnswer T.room T.grows T.rule rcode (message_octets msg.now) s
+            (GivesEither T.rule result)) }
     {
         let mut builder = self.answering(msg, rcode);
         match push_questions(&mut builder, msg) {
@@ -57,8 +58,8 @@ impl<T: Composer> Builder<T, AtBuilder> {
     /// Starts creating an error for the given message: as `try_start_answer`, with either of its builders.
     pub fn start_error<Octs: Octets>(self, msg: &Message<Octs>, rcode: Rcode) -> AnswerBuilder<T>
         ensures { InEach InBuilder T.rule self (λ s.
-            Answers T.room T.grows T.rule rcode (message_octets msg.now) s
-            (StartsOrFails T.rule result)) }
+            StartsAnswer T.room T.grows T.rule rcode (message_octets msg.now) s
+            (IsEither T.rule result)) }
     {
         match self.try_start_answer(msg, rcode) {
             Ok(builder) => builder,
