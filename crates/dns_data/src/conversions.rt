@@ -127,6 +127,7 @@ impl<N: Drop, S: FlattenInto<N>> FlattenInto<Soa<N>> for Soa<S> {
     }
 }
 
+/// The holder is converted, and the type stays.
 impl<S: Octets, T: HolderFrom<S>> OctetsFrom<UnknownRecordData<S>> for UnknownRecordData<T> {
     ghost keeps = { keeps_unknown };
 
@@ -141,6 +142,7 @@ impl<S: Octets, T: HolderFrom<S>> OctetsFrom<UnknownRecordData<S>> for UnknownRe
     }
 }
 
+/// As `try_octets_from`.
 impl<S: Octets, T: HolderFrom<S>> FlattenInto<UnknownRecordData<T>> for UnknownRecordData<S> {
     ghost keeps = { keeps_unknown };
 
@@ -153,6 +155,7 @@ impl<S: Octets, T: HolderFrom<S>> FlattenInto<UnknownRecordData<T>> for UnknownR
     }
 }
 
+/// The holder is converted.
 impl<S: Octets, T: HolderFrom<S>> OctetsFrom<Opt<S>> for Opt<T> {
     ghost keeps = { keeps_opt };
 
@@ -166,6 +169,7 @@ impl<S: Octets, T: HolderFrom<S>> OctetsFrom<Opt<S>> for Opt<T> {
     }
 }
 
+/// As `try_octets_from`.
 impl<S: Octets, T: HolderFrom<S>> FlattenInto<Opt<T>> for Opt<S> {
     ghost keeps = { keeps_opt };
 
