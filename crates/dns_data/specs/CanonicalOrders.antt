@@ -37,9 +37,11 @@ module _ {N : Type 0} (name : N → Labels) where
   abbrev pub field_order : {D : Type 0} → (D → N) → D → D → Ordering
   field_order field = on (λ d. name (field d)) composed_order
 
+  -- name servers: by their names
   abbrev pub ns_canonical_order : Ns N → Ns N → Ordering
   ns_canonical_order = field_order nsdname_of
 
+  -- canonical names: by these
   abbrev pub cname_canonical_order : Cname N → Cname N → Ordering
   cname_canonical_order = field_order cname_of
 

@@ -2,9 +2,9 @@
 //!
 //! It promises that a datum is one fixed list of parts of at most 65,535 octets, which is what it appends, under every rule
 //! of compression, and in canonical form with its names lowercased. A value is read exactly where its parts stand, and the
-//! first fault is answered elsewhere (RFC 1035 sections 3.3 and 4.1.3). Canonical data is ordered by its octets (RFC 4034
-//! section 6.3), and a conversion keeps what its source holds. Data types of others keep the same promises by the contracts
-//! of the traits; `laws` has the theorems for their proofs.
+//! first fault is answered elsewhere (RFC 1035 sections 3.3 and 4.1.3). Canonical data is ordered as RFC 4034 section 6.3
+//! says, and a conversion keeps what its source holds. Data types of others keep the same promises by the contracts of the
+//! traits; `laws` has the theorems for their proofs.
 #![tactic(auto)]
 
 mod a;
