@@ -7,3 +7,5 @@ pub mod Steps
 pub mod OptLemmas
 pub mod OptReading
 pub mod AnswerLemmas
+pub mod CopyLemmas
+pub mod CopySections

@@ -1,0 +1,98 @@
+//! Records copied from one message into another.
+ghost use Rattle.std.specs.Prelude.{ℕ, List, OnOk};
+ghost use Rattle.dns_item.specs.ParsedRecord.{standing_record};
+ghost use Rattle.dns_read.specs.Message.{message_octets};
+ghost use Rattle.dns_section.specs.RecordSection.{records_left};
+ghost use Rattle.dns_build.specs.State.{InAnswer};
+ghost use Rattle.dns_build.specs.Standing.{InEach};
+ghost use Rattle.dns_build.specs.CopyRecords.{CopiesRecordTo, CopiesListTo, CopiesMessage};
+
+use crate::builder::{AdditionalBuilder, AnswerBuilder, Builder};
+use crate::copy_records_error::CopyRecordsError;
+use crate::push_error::PushError;
+use crate::stage::RecordStage;
+use dns_item::{ComposeRecord, ParsedRecord};
+use dns_read::Message;
+use dns_section::{RecordSection, following};
+use dns_wire::{Composer, Octets};
+
+/// Copies records of the answer, authority and additional sections of a message into the same sections of a builder
+/// (RFC 1035 section 4.1).
+fn copy_sections<
+    'a,
+    Octs: Octets,
+    T: Composer,
+    R: ComposeRecord + Drop,
+    F: FnMut(ParsedRecord<'a>) -> Option<R>,
+>(
+    message: &'a Message<Octs>,
+    target: AnswerBuilder<T>,
+    op: F,
+) -> Result<AdditionalBuilder<T>, CopyRecordsError>
+    requires { F.IsAlwaysCallable op }
+    ensures { InEach InAnswer T.rule target (λ s. CopiesMessage F.step R.item T.room T.grows
+        T.rule (message_octets message.now) op s result) }
+{
+    let mut op = op;
+    let mut answers = target;
+    let answer = message.answer()?;
+    copy_section(answer, &mut op, &mut answers)?;
+    let mut authorities = answers.authority();
+    let authority = following(answer)?;
+    copy_section(authority, &mut op, &mut authorities)?;
+    let mut additionals = authorities.additional();
+    let additional = following(authority)?;
+    copy_section(additional, &mut op, &mut additionals)?;
+    Ok(additionals)
+}
+
+/// Copies the records that are left in a section.
+fn copy_section<
+    'a,
+    T: Composer,
+    S: RecordStage,
+    R: ComposeRecord + Drop,
+    F: FnMut(ParsedRecord<'a>) -> Option<R>,
+>(
+    section: RecordSection<'a>,
+    op: &mut F,
+    target: &mut Builder<T, S>,
+) -> Result<(), CopyRecordsError>
+    requires { F.IsAlwaysCallable op.old }
+    ensures callable { F.IsAlwaysCallable op.new }
+    ensures copies { InEach S.stage T.rule target.old (λ s. CopiesListTo F.step R.item T.room
+        T.grows T.rule S.stage (records_left section.entry) op.old s result op.new target.new) }
+{
+    let mut section = section;
+    while let Some(item) = section.next() {
+        match item {
+            Ok(shown) => copy_record(shown, op, target)?,
+            Err(error) => return Err(CopyRecordsError::Parse(error)),
+        }
+    }
+    Ok(())
+}
+
+/// Gives a record to the closure, and pushes what it answers.
+fn copy_record<
+    'a,
+    T: Composer,
+    S: RecordStage,
+    R: ComposeRecord + Drop,
+    F: FnMut(ParsedRecord<'a>) -> Option<R>,
+>(
+    shown: ParsedRecord<'a>,
+    op: &mut F,
+    target: &mut Builder<T, S>,
+) -> Result<(), PushError>
+    requires { F.IsAlwaysCallable op.old }
+    ensures callable { F.IsAlwaysCallable op.new }
+    ensures copies { InEach S.stage T.rule target.old (λ s. CopiesRecordTo F.step R.item T.room
+        T.grows T.rule S.stage (standing_record shown.entry) op.old s result op.new
+        target.new) }
+{
+    match op(shown) {
+        Some(kept) => target.push(kept),
+        None => Ok(()),
+    }
+}

@@ -1,0 +1,36 @@
+use crate::push_error::PushError;
+use dns_wire::ParseError;
+use thiserror::Error;
+
+/// Why the records of a message aren't copied.
+#[derive(Clone, Copy, Debug, Error)]
+pub enum CopyRecordsError {
+    /// The message can't be read.
+    #[error("{0}")]
+    Parse(ParseError),
+    /// A record isn't pushed.
+    #[error("{0}")]
+    Push(PushError),
+}
+
+impl From<ParseError> for CopyRecordsError {
+    ghost use Rattle.std.specs.Prelude.{◌≡◌};
+    ghost use Rattle.dns_build.specs.declared.copy_records_error.CopyRecordsError.TheVariants as errors;
+
+    ghost from_gives = { λ e copy. copy ≡ errors.Parse e };
+
+    fn from(error: ParseError) -> Self {
+        CopyRecordsError::Parse(error)
+    }
+}
+
+impl From<PushError> for CopyRecordsError {
+    ghost use Rattle.std.specs.Prelude.{◌≡◌};
+    ghost use Rattle.dns_build.specs.declared.copy_records_error.CopyRecordsError.TheVariants as errors;
+
+    ghost from_gives = { λ e copy. copy ≡ errors.Push e };
+
+    fn from(error: PushError) -> Self {
+        CopyRecordsError::Push(error)
+    }
+}
