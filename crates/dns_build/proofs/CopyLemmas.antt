@@ -1,14 +1,14 @@
 -- How the parts of a copy are put together.
 use Rattle.std.proofs.Common.{◌≡◌, sym, refl, subst, ap, ℕ, ◌<◌, ◌≤◌, Bool, List, [], ◌∷◌, length}
-use Rattle.std.specs.Prelude.{Option, Some, None, option_map, Result, Ok, Err, OnOk, OnErr, IsTrue}
+use Rattle.std.specs.Prelude.{Option, Result, Ok, Err, OnOk, OnErr, IsTrue}
 use Rattle.dns_octets.specs.declared.error.ParseError.{ParseError}
 use Rattle.dns_name.specs.Names.{Fault, fault_of}
 use Rattle.dns_wire.specs.Pieces.{Rule}
 use Rattle.dns_wire.specs.Targets.{Fits, Passes}
 use Rattle.dns_item.specs.Items.{RecordItem}
-use Rattle.dns_item.specs.ParsedRecord.{StandingRecord, standing_record}
+use Rattle.dns_item.specs.ParsedRecord.{StandingRecord}
 use Rattle.dns_item.specs.declared.parsed_record.ParsedRecord.{ParsedRecord}
-use Rattle.dns_build.specs.CopyRecords.{PushesRecord, PushesKept, CopiesRecord, CopiesList, CopiesRecordTo, CopiesListTo}
+use Rattle.dns_build.specs.CopyRecords.{PushesRecord, CopiesList, CopiesRecordTo, CopiesListTo}
 use Rattle.dns_build.specs.CopyRecords.CopiesList.{none, copied, refused, fault}
 use Rattle.dns_build.specs.State.{Stage, State, with_record, records_at, most_entries}
 use Rattle.dns_build.specs.Standing.{Built, StandsFor, MovesState, InEach, size_after}

@@ -20,7 +20,7 @@ use Rattle.dns_build.specs.CopyRecords.CopiesSections.{none, copied, stopped}
 use Rattle.dns_build.specs.State.{Stage, InAnswer, InAdditional, State, stage_of, up_to, move_to}
 use Rattle.dns_build.specs.Standing.{Built, StandsFor, MovesState, InEach}
 use Rattle.dns_build.specs.declared.copy_records_error.CopyRecordsError.{CopyRecordsError}
-use Rattle.dns_build.specs.declared.copy_records_error.CopyRecordsError.TheVariants.{Parse, Push}
+use Rattle.dns_build.specs.declared.copy_records_error.CopyRecordsError.TheVariants.{Parse}
 
 -- a state of the answer section is moved to that section already
 in_answer_already : (s : State) → s.stage ≡ InAnswer → s ≡ up_to InAnswer s → s ≡ move_to InAnswer s

@@ -1,7 +1,8 @@
 //! Records that are copied from one message into another.
 use arrayvec::ArrayVec;
-use dns_build::{AdditionalBuilder, AnswerBuilder, CopyRecords, CopyRecordsError, MessageBuilder};
-use dns_build::PushError;
+use dns_build::{
+    AdditionalBuilder, AnswerBuilder, CopyRecordsError, MessageBuilder, PushError, copy_records,
+};
 use dns_data::{Cname, UnknownRecordData};
 use dns_item::{ParsedRecord, Record};
 use dns_read::Message;
@@ -53,7 +54,7 @@ fn assert_counts<T: Composer>(
 #[test]
 fn copies_the_records_of_one_type(rt: HostRuntime) -> Result<(), Fail> {
     let source = Message::from_slice(SOURCE)?;
-    let copied = source.copy_records(answers(rt.alloc())?, keep_cname)?;
+    let copied = copy_records(&source, answers(rt.alloc())?, keep_cname)?;
     assert_counts(&rt, &copied, 1, 0, 0);
     assert_eq!(rt; &copied.as_slice()[12..], &SOURCE[12..ANSWER_END]);
     Ok(())
@@ -62,7 +63,7 @@ fn copies_the_records_of_one_type(rt: HostRuntime) -> Result<(), Fail> {
 #[test]
 fn copies_the_records_of_all_types(rt: HostRuntime) -> Result<(), Fail> {
     let source = Message::from_slice(SOURCE)?;
-    let copied = source.copy_records(answers(rt.alloc())?, keep_any)?;
+    let copied = copy_records(&source, answers(rt.alloc())?, keep_any)?;
     assert_counts(&rt, &copied, 1, 1, 0);
     assert_eq!(rt; copied.as_slice(), SOURCE.as_slice());
     Ok(())
@@ -71,8 +72,13 @@ fn copies_the_records_of_all_types(rt: HostRuntime) -> Result<(), Fail> {
 #[test]
 fn answers_the_fault_of_a_cut_record(rt: HostRuntime) -> Result<(), Fail> {
     let source = Message::from_slice(&SOURCE[..ANSWER_END - 1])?;
-    let refused = source.copy_records(answers(rt.alloc())?, keep_any);
-    assert!(rt; matches!(refused, Err(CopyRecordsError::Parse(ParseError::ShortInput))));
+    let refused = copy_records(&source, answers(rt.alloc())?, keep_any);
+    assert!(rt;
+        matches!(
+            refused,
+            Err(CopyRecordsError::Parse(ParseError::ShortInput))
+        )
+    );
     Ok(())
 }
 
@@ -80,7 +86,7 @@ fn answers_the_fault_of_a_cut_record(rt: HostRuntime) -> Result<(), Fail> {
 fn answers_the_refusal_of_a_target_without_room(rt: HostRuntime) -> Result<(), Fail> {
     let source = Message::from_slice(SOURCE)?;
     let target = MessageBuilder::from_target(ArrayVec::<u8, 99>::new())?.answer();
-    let refused = source.copy_records(target, keep_any);
+    let refused = copy_records(&source, target, keep_any);
     assert!(rt; matches!(refused, Err(CopyRecordsError::Push(PushError::ShortBuf))));
     Ok(())
 }
@@ -89,7 +95,10 @@ fn answers_the_refusal_of_a_target_without_room(rt: HostRuntime) -> Result<(), F
 fn an_error_has_the_text_of_its_part(rt: HostRuntime) -> Result<(), Fail> {
     let alloc = rt.alloc();
     let parse = CopyRecordsError::from(ParseError::ShortInput);
-    assert_eq!(rt; format!(in alloc; "{parse}")?, format!(in alloc; "{}", ParseError::ShortInput)?);
+    assert_eq!(rt;
+        format!(in alloc; "{parse}")?,
+        format!(in alloc; "{}", ParseError::ShortInput)?
+    );
     let push = CopyRecordsError::from(PushError::LimitExceeded);
     assert_eq!(rt; format!(in alloc; "{push}")?.as_str(), "limit exceeded");
     Ok(())

@@ -3,7 +3,7 @@ use Rattle.dns_section.specs.RecordSection.{records_left}
 use Rattle.dns_build.specs.State.{State}
 use Rattle.dns_build.specs.Standing.{StandsFor}
 use Rattle.dns_build.proofs.CopyLemmas.{SoFar}
-use Rattle.dns_build.proofs.copy_records.copy_section.Given as goal
+use Rattle.dns_build.proofs.copying.copy_section.Given as goal
 
 abbrev pub invariant-loop-item : goal.invariant-loop-item
 invariant-loop-item g l = record {

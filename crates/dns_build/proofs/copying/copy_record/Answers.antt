@@ -1,6 +1,6 @@
 use Rattle.std.proofs.Common.{refl}
 use Rattle.dns_build.proofs.CopyLemmas.{pushes_record}
-use Rattle.dns_build.proofs.copy_records.copy_record.Goals as goal
+use Rattle.dns_build.proofs.copying.copy_record.Goals as goal
 
 pub returns-in-Some-clause-copies : goal.returns-in-Some-clause-copies
 returns-in-Some-clause-copies g c = λ s stands.

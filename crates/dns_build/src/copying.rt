@@ -1,5 +1,4 @@
 //! Records copied from one message into another.
-ghost use Rattle.std.specs.Prelude.{ℕ, List, OnOk};
 ghost use Rattle.dns_item.specs.ParsedRecord.{standing_record};
 ghost use Rattle.dns_read.specs.Message.{message_octets};
 ghost use Rattle.dns_section.specs.RecordSection.{records_left};
@@ -7,7 +6,7 @@ ghost use Rattle.dns_build.specs.State.{InAnswer};
 ghost use Rattle.dns_build.specs.Standing.{InEach};
 ghost use Rattle.dns_build.specs.CopyRecords.{CopiesRecordTo, CopiesListTo, CopiesMessage};
 
-use crate::builder::{AdditionalBuilder, AnswerBuilder, Builder};
+use crate::builder::{AdditionalBuilder, AnswerBuilder, AuthorityBuilder, Builder};
 use crate::copy_records_error::CopyRecordsError;
 use crate::push_error::PushError;
 use crate::stage::RecordStage;
@@ -18,7 +17,11 @@ use dns_wire::{Composer, Octets};
 
 /// Copies records of the answer, authority and additional sections of a message into the same sections of a builder
 /// (RFC 1035 section 4.1).
-fn copy_sections<
+///
+/// The closure is given each record, in the order in which they stand. What it answers is pushed into the section of that
+/// record; for `None` nothing is pushed. The first error, of reading the message or of a push, is answered, and then the
+/// builder is dropped.
+pub fn copy_records<
     'a,
     Octs: Octets,
     T: Composer,
@@ -37,10 +40,10 @@ fn copy_sections<
     let mut answers = target;
     let answer = message.answer()?;
     copy_section(answer, &mut op, &mut answers)?;
-    let mut authorities = answers.authority();
+    let mut authorities: AuthorityBuilder<T> = answers.go_to();
     let authority = following(answer)?;
     copy_section(authority, &mut op, &mut authorities)?;
-    let mut additionals = authorities.additional();
+    let mut additionals: AdditionalBuilder<T> = authorities.go_to();
     let additional = following(authority)?;
     copy_section(additional, &mut op, &mut additionals)?;
     Ok(additionals)
@@ -80,11 +83,7 @@ fn copy_record<
     S: RecordStage,
     R: ComposeRecord + Drop,
     F: FnMut(ParsedRecord<'a>) -> Option<R>,
->(
-    shown: ParsedRecord<'a>,
-    op: &mut F,
-    target: &mut Builder<T, S>,
-) -> Result<(), PushError>
+>(shown: ParsedRecord<'a>, op: &mut F, target: &mut Builder<T, S>) -> Result<(), PushError>
     requires { F.IsAlwaysCallable op.old }
     ensures callable { F.IsAlwaysCallable op.new }
     ensures copies { InEach S.stage T.rule target.old (λ s. CopiesRecordTo F.step R.item T.room

@@ -1,8 +1,8 @@
-use Rattle.std.proofs.Common.{◌∙◌, ◌∷◌, ap, refl}
+use Rattle.std.proofs.Common.{◌∙◌, ◌∷◌, ap}
 use Rattle.std.proofs.lemmas.Result.{err_from_is_err_and}
 use Rattle.dns_section.specs.RecordSection.{record_answer, records_left}
-use Rattle.dns_build.proofs.CopyLemmas.{so_far_none, so_far_more, so_far_all, so_far_fault, so_far_refused}
-use Rattle.dns_build.proofs.copy_records.copy_section.Goals as goal
+use Rattle.dns_build.proofs.CopyLemmas.{so_far_more, so_far_all, so_far_fault, so_far_refused}
+use Rattle.dns_build.proofs.copying.copy_section.Goals as goal
 
 pub loop-item-preserved : goal.loop-item-preserved
 loop-item-preserved g c =
