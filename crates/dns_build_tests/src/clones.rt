@@ -3,9 +3,7 @@ use crate::compressors::over_each;
 use arrayvec::ArrayVec;
 use dns_build::{Builder, BuilderStage, MessageBuilder};
 use dns_code::Rtype;
-use dns_target::{
-    HashCompressor, IndexCompressor, StaticCompressor, StreamTarget, TreeCompressor,
-};
+use dns_target::{HashCompressor, IndexCompressor, StaticCompressor, StreamTarget, TreeCompressor};
 use dns_wire::{CloneTarget, Name};
 use std::process::Abort;
 use std::test::Fail;

@@ -83,8 +83,8 @@ pub mod target {
 pub mod wire {
     //! The parser, holders of octets, the errors of both, canonical order, and theorems on names and targets.
     pub use dns_wire::{
-        AppendError, CanonicalOrd, FlattenInto, FormError, HolderFrom, Octets, OctetsFrom, OctetsMut,
-        ParseError, Parser, ShortBuf, laws, target_laws,
+        AppendError, CanonicalOrd, FlattenInto, FormError, HolderFrom, Octets, OctetsFrom,
+        OctetsMut, ParseError, Parser, ShortBuf, laws, target_laws,
     };
 }
 

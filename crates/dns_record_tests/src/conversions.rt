@@ -40,7 +40,12 @@ fn converts_a_question(rt: HostRuntime) -> Result<(), Fail> {
 
 #[test]
 fn converts_a_record(rt: HostRuntime) -> Result<(), Fail> {
-    let source = Record::new(example_com()?, Class::CH, Ttl::MINUTE, Ns::new(example_com()?));
+    let source = Record::new(
+        example_com()?,
+        Class::CH,
+        Ttl::MINUTE,
+        Ns::new(example_com()?),
+    );
     let record: Record<VecName, Ns<VecName>> = convert(rt.alloc(), source)?;
     assert_eq!(rt; record.owner().as_slice(), EXAMPLE_COM.as_slice());
     assert_eq!(rt; record.data().nsdname().as_slice(), EXAMPLE_COM.as_slice());
@@ -50,7 +55,12 @@ fn converts_a_record(rt: HostRuntime) -> Result<(), Fail> {
 
 #[test]
 fn refuses_a_record_that_is_too_long(rt: HostRuntime) -> Result<(), Fail> {
-    let source = Record::new(example_com()?, Class::IN, Ttl::MINUTE, Ns::new(example_com()?));
+    let source = Record::new(
+        example_com()?,
+        Class::IN,
+        Ttl::MINUTE,
+        Ns::new(example_com()?),
+    );
     let short: Result<Record<VecName, Ns<ShortName>>, AppendError> = convert(rt.alloc(), source);
     assert!(rt; matches!(short, Err(AppendError::ShortBuf)));
     Ok(())

@@ -95,7 +95,10 @@ fn compares_options_by_their_octets(rt: HostRuntime) -> Result<(), Fail> {
     let none = Opt::from_octets(b"".as_slice())?;
     let nsid = Opt::from_octets(b"\x00\x03\x00\x00".as_slice())?;
     assert!(rt; none < nsid && none != nsid);
-    assert_eq!(rt; hash_of(&nsid), hash_of(&Opt::from_octets(b"\x00\x03\x00\x00".as_slice())?));
+    assert_eq!(rt;
+        hash_of(&nsid),
+        hash_of(&Opt::from_octets(b"\x00\x03\x00\x00".as_slice())?)
+    );
     assert_canonical_order(&rt, &none, &nsid);
     Ok(())
 }
