@@ -16,8 +16,9 @@ use dns_wire::{Composer, Octets};
 impl<T: Composer> Builder<T, AtBuilder> {
     /// Starts creating an answer for the given message.
     ///
-    /// The header takes ID, opcode and RD of the message, and the rcode, and is that of a response. The message's questions
-    /// are pushed, up to the first that can't be read, which is no error. The error of a refused push is answered.
+    /// Sets QR and the rcode, and takes ID, opcode and RD from the message; the other fields stay (RFC 1035 section 4.1.1).
+    /// Then pushes the message's questions before the first that can't be read, which is no error. The error of a refused
+    /// push is answered.
     pub fn start_answer<Octs: Octets>(
         self,
         msg: &Message<Octs>,
@@ -34,8 +35,8 @@ impl<T: Composer> Builder<T, AtBuilder> {
         }
     }
 
-    /// As `start_answer`; but where a question is refused, the answer with the questions before it and the rcode SERVFAIL is
-    /// given back, as `Err`.
+    /// As `start_answer`. But where a push is refused, the answer builder with the questions before the refused one is
+    /// given back as `Err`, and its rcode is SERVFAIL.
     pub fn try_start_answer<Octs: Octets>(
         self,
         msg: &Message<Octs>,
@@ -55,7 +56,9 @@ impl<T: Composer> Builder<T, AtBuilder> {
         }
     }
 
-    /// Starts creating an error for the given message: as `try_start_answer`, with either of its builders.
+    /// Starts creating an error for the given message.
+    ///
+    /// It is either builder that `try_start_answer` gives.
     pub fn start_error<Octs: Octets>(self, msg: &Message<Octs>, rcode: Rcode) -> AnswerBuilder<T>
         ensures { InEach InBuilder T.rule self (λ s.
             StartsAnswer T.room T.grows T.rule rcode (message_octets msg.now) s
