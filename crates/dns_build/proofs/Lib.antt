@@ -9,3 +9,4 @@ pub mod OptReading
 pub mod AnswerLemmas
 pub mod CopyLemmas
 pub mod CopySections
+pub mod KeptLemmas

@@ -1,10 +1,12 @@
 //! Records copied from one message into another.
+ghost use Rattle.std.specs.Prelude.{IfOk};
 ghost use Rattle.dns_item.specs.ParsedRecord.{standing_record};
 ghost use Rattle.dns_read.specs.Message.{message_octets};
 ghost use Rattle.dns_section.specs.RecordSection.{records_left};
 ghost use Rattle.dns_build.specs.State.{InAnswer};
 ghost use Rattle.dns_build.specs.Standing.{InEach};
 ghost use Rattle.dns_build.specs.CopyRecords.{CopiesRecordTo, CopiesListTo, CopiesMessage};
+ghost use Rattle.dns_build.specs.KeptRecords.{KeepsAll};
 
 use crate::builder::{AdditionalBuilder, AnswerBuilder, AuthorityBuilder, Builder};
 use crate::copy_records_error::CopyRecordsError;
@@ -33,8 +35,10 @@ pub fn copy_records<
     op: F,
 ) -> Result<AdditionalBuilder<T>, CopyRecordsError>
     requires { F.IsAlwaysCallable op }
-    ensures { InEach InAnswer T.rule target (λ s. CopiesMessage F.step R.item T.room T.grows
+    ensures copies { InEach InAnswer T.rule target (λ s. CopiesMessage F.step R.item T.room T.grows
         T.rule (message_octets message.now) op s result) }
+    ensures kept { IfOk result (λ new. InEach InAnswer T.rule target (λ s.
+        KeepsAll F.step R.item T.rule (message_octets message.now) op s new)) }
 {
     let mut op = op;
     let mut answers = target;

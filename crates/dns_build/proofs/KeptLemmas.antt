@@ -1,0 +1,117 @@
+-- What a copy keeps.
+use Rattle.std.proofs.Common.{◌≡◌, ◌∙◌, ap, sym, refl, subst, append_assoc, ℕ, Bool, List, [], ◌∷◌, ◌++◌}
+use Rattle.std.proofs.lemmas.List.{append-nil}
+use Rattle.std.specs.Prelude.{Option, Some, None, option_map, Result, Ok}
+use Rattle.dns_name.specs.Names.{Fault}
+use Rattle.dns_wire.specs.Pieces.{Rule}
+use Rattle.dns_item.specs.Items.{RecordItem}
+use Rattle.dns_item.specs.ParsedRecord.{StandingRecord, standing_record}
+use Rattle.dns_item.specs.declared.parsed_record.ParsedRecord.{ParsedRecord}
+use Rattle.dns_section.specs.declared.section.Section.{Section}
+use Rattle.dns_section.specs.declared.section.Section.TheVariants.{Answer, Authority, Additional}
+use Rattle.dns_build.specs.CopyRecords.{PushesKept, CopiesList, CopiesSection, CopiesSections, CopiesMessage}
+use Rattle.dns_build.specs.CopyRecords.CopiesList.{none as no_record, copied as record_copied, refused, fault}
+use Rattle.dns_build.specs.CopyRecords.CopiesSection.{started, unstarted}
+use Rattle.dns_build.specs.CopyRecords.CopiesSections.{none as no_section, copied as section_copied, stopped}
+use Rattle.dns_build.specs.KeptRecords.{with_copies, Keeps, KeepsSection, KeepsAll}
+use Rattle.dns_build.specs.KeptRecords.Keeps.{none, dropped, kept}
+use Rattle.dns_build.specs.State.{Stage, InBuilder, InQuestion, InAnswer, InAuthority, InAdditional, State, stage_of, with_record, move_to}
+use Rattle.dns_build.specs.Standing.{Built, StandsFor}
+use Rattle.dns_build.specs.declared.copy_records_error.CopyRecordsError.{CopyRecordsError}
+
+-- with records at the end of a stage's own list
+abbrev with_records : Stage → List RecordItem → State → State
+with_records InBuilder xs s = s
+with_records InQuestion xs s = s
+with_records InAnswer xs s = record s { answers = s.answers ++ xs }
+with_records InAuthority xs s = record s { authorities = s.authorities ++ xs }
+with_records InAdditional xs s = record s { additionals = s.additionals ++ xs }
+
+no_records : (stage : Stage) (s : State) → s ≡ with_records stage [] s
+no_records InBuilder s = refl
+no_records InQuestion s = refl
+no_records InAnswer s = λ i. record s { answers = sym (append-nil s.answers) i }
+no_records InAuthority s = λ i. record s { authorities = sym (append-nil s.authorities) i }
+no_records InAdditional s = λ i. record s { additionals = sym (append-nil s.additionals) i }
+
+one_more : (stage : Stage) (x : RecordItem) (xs : List RecordItem) (s : State) → with_records stage xs (with_record stage x s) ≡ with_records stage (x ∷ xs) s
+one_more InBuilder x xs s = refl
+one_more InQuestion x xs s = refl
+one_more InAnswer x xs s = λ i. record s { answers = append_assoc s.answers (x ∷ []) xs i }
+one_more InAuthority x xs s = λ i. record s { authorities = append_assoc s.authorities (x ∷ []) xs i }
+one_more InAdditional x xs s = λ i. record s { additionals = append_assoc s.additionals (x ∷ []) xs i }
+
+module _ {F R : Type 0} (call : F → ParsedRecord → Option R → F → Type 0) (item : R → RecordItem) (room : Option ℕ) (grows : Bool) (rule : Rule) where
+  -- a reading is kept so, and the state has what is kept
+  record KeepsList (stage : Stage) (xs : List (Result StandingRecord Fault)) (f : F) (s : State) (g : F) (t : State) : Type 0 where
+    items : List RecordItem
+    keeps : Keeps call item xs f items g
+    left : t ≡ with_records stage items s
+
+  keeps_more : (stage : Stage) (shown : ParsedRecord) (answer : Option R) (xs : List (Result StandingRecord Fault)) (f g h : F) (s t u : State)
+      → call f shown answer g → PushesKept room grows rule stage (option_map item answer) s (Ok tt) t → KeepsList stage xs g t h u → KeepsList stage (Ok (standing_record shown) ∷ xs) f s h u
+  keeps_more stage shown None xs f g h s t u called pushed k = record {
+    items = k.items;
+    keeps = dropped shown called k.keeps;
+    left = k.left ∙ ap (with_records stage k.items) pushed.1;
+  }
+  keeps_more stage shown (Some answer) xs f g h s t u called pushed k = record {
+    items = item answer ∷ k.items;
+    keeps = kept shown answer called k.keeps;
+    left = k.left ∙ ap (with_records stage k.items) pushed.1 ∙ one_more stage (item answer) k.items s;
+  }
+
+  keeps_list : (stage : Stage) {xs : List (Result StandingRecord Fault)} {f g : F} {s t : State} {result : Result (Unit {0}) CopyRecordsError} → CopiesList call item room grows rule stage xs f s result g t → result ≡ Ok tt
+      → KeepsList stage xs f s g t
+  keeps_list stage {s = s} no_record e = record { items = []; keeps = none; left = no_records stage s }
+  keeps_list stage {f = f} {g = h} {s = s} {t = u} (record_copied {xs = xs} one rest) e =
+      subst (λ (x : StandingRecord). KeepsList stage (Ok x ∷ xs) f s h u) one.stands
+      (keeps_more stage one.shown one.kept xs f _ h s _ u one.called one.pushed (keeps_list stage rest e))
+  keeps_list stage (refused one) e = absurd (cc)
+  keeps_list stage fault e = absurd (cc)
+
+  -- so of a section
+  record KeepsOf (b : List ℕ) (section : Section) (f : F) (s : State) (g : F) (t : State) : Type 0 where
+    items : List RecordItem
+    keeps : KeepsSection call item b section f items g
+    left : t ≡ with_records (stage_of section) items s
+
+  keeps_section : (b : List ℕ) (section : Section) {f g : F} {s t : State} {result : Result (Unit {0}) CopyRecordsError} → CopiesSection call item room grows rule b section f s result g t → result ≡ Ok tt
+      → KeepsOf b section f s g t
+  keeps_section b section (started p starts copies) e =
+      let k = keeps_list (stage_of section) copies e in
+      record { items = k.items; keeps = record { start = p; starts = starts; keeps = k.keeps }; left = k.left }
+  keeps_section b section (unstarted faulty) e = absurd (cc)
+
+  -- the first of some sections, and those behind it
+  first_of : (b : List ℕ) (which : Section) (sections : List Section) {f h : F} {s u : State} {result : Result (Unit {0}) CopyRecordsError} → CopiesSections call item room grows rule b (which ∷ sections) f s result h u → result ≡ Ok tt
+      → (g : F) × (t : State) × KeepsOf b which f (move_to (stage_of which) s) g t × CopiesSections call item room grows rule b sections g t result h u
+  first_of b which sections (section_copied {g = g} {t = t} one rest) e = (g, t, keeps_section b which one refl, rest)
+  first_of b which sections (stopped one) e = absurd (cc)
+
+  none_left : (b : List ℕ) {f h : F} {s u : State} {result : Result (Unit {0}) CopyRecordsError} → CopiesSections call item room grows rule b [] f s result h u → s ≡ u
+  none_left b no_section = refl
+
+  pub keeps_all : (b : List ℕ) (f : F) (s : State) (new : Built) → CopiesMessage call item room grows rule b f s (Ok new) → KeepsAll call item rule b f s new
+  keeps_all b f s new m =
+      let first = first_of b Answer (Authority ∷ Additional ∷ []) m.2 refl in
+      let second = first_of b Authority (Additional ∷ []) first.3 refl in
+      let third = first_of b Additional [] second.3 refl in
+      let x = first.2 in
+      let y = second.2 in
+      let z = third.2 in
+      let is : m.1 ≡ with_copies x.items y.items z.items s =
+      sym (none_left b third.3) ∙ z.left
+      ∙ ap (λ (t : State). with_records InAdditional z.items (move_to InAdditional t)) (y.left ∙ ap (λ (t : State). with_records InAuthority y.items (move_to InAuthority t)) x.left) in
+      record {
+        answers = x.items;
+        authorities = y.items;
+        additionals = z.items;
+        g = first.0;
+        h = second.0;
+        last = third.0;
+        of_answers = x.keeps;
+        of_authorities = y.keeps;
+        of_additionals = z.keeps;
+        stands = subst (λ (t : State). StandsFor InAdditional rule t new) is m.3;
+      }

@@ -1,0 +1,46 @@
+-- What a copy of the records of a message leaves: the builder's own items, and the records that the closure kept. RFC 1035 section 4.1.
+use Rattle.std.specs.Prelude.{ℕ, List, [], ◌∷◌, ◌++◌, Option, Some, None, Result, Ok}
+use Rattle.dns_name.specs.Names.{Fault}
+use Rattle.dns_wire.specs.Pieces.{Rule}
+use Rattle.dns_item.specs.Items.{RecordItem}
+use Rattle.dns_item.specs.ParsedRecord.{StandingRecord, standing_record}
+use Rattle.dns_item.specs.declared.parsed_record.ParsedRecord.{ParsedRecord}
+use Rattle.dns_section.specs.RecordsFrom.{records_in}
+use Rattle.dns_section.specs.Sections.{StartsAt, record_count}
+use Rattle.dns_section.specs.declared.section.Section.{Section}
+use Rattle.dns_section.specs.declared.section.Section.TheVariants.{Answer, Authority, Additional}
+use Rattle.dns_build.specs.State.{InAdditional, State}
+use Rattle.dns_build.specs.Standing.{Built, StandsFor}
+
+-- at the additional section, with records behind the answers, and with these in the two sections behind
+abbrev pub with_copies : List RecordItem → List RecordItem → List RecordItem → State → State
+with_copies xs ys zs s = record s { stage = InAdditional; answers = s.answers ++ xs; authorities = ys; additionals = zs }
+
+-- `call` are the calls of a closure: from one state of it, on a record, with an answer, to another state. `item` is what an answer is pushed as.
+module _ {F R : Type 0} (call : F → ParsedRecord → Option R → F → Type 0) (item : R → RecordItem) where
+  -- The closure is called on each record of a reading without a fault, in order, and these are what it keeps.
+  pub data Keeps : List (Result StandingRecord Fault) → F → List RecordItem → F → Type 0 where
+    none : {f : F} → Keeps [] f [] f
+    dropped : {xs : List (Result StandingRecord Fault)} {items : List RecordItem} {f g h : F} (shown : ParsedRecord)
+        → call f shown None g → Keeps xs g items h → Keeps (Ok (standing_record shown) ∷ xs) f items h
+    kept : {xs : List (Result StandingRecord Fault)} {items : List RecordItem} {f g h : F} (shown : ParsedRecord) (answer : R)
+        → call f shown (Some answer) g → Keeps xs g items h → Keeps (Ok (standing_record shown) ∷ xs) f (item answer ∷ items) h
+
+  -- so in a section of the message, from its start
+  pub record KeepsSection (b : List ℕ) (section : Section) (f : F) (items : List RecordItem) (g : F) : Type 0 where
+    pub start : ℕ
+    pub starts : StartsAt section b start
+    pub keeps : Keeps (records_in b (record_count section b) start) f items g
+
+  -- What is kept of each of the three sections, one behind the other, stands in that section of the builder.
+  pub record KeepsAll (rule : Rule) (b : List ℕ) (f : F) (s : State) (new : Built) : Type 0 where
+    pub answers : List RecordItem
+    pub authorities : List RecordItem
+    pub additionals : List RecordItem
+    pub g : F
+    pub h : F
+    pub last : F
+    pub of_answers : KeepsSection b Answer f answers g
+    pub of_authorities : KeepsSection b Authority g authorities h
+    pub of_additionals : KeepsSection b Additional h additionals last
+    pub stands : StandsFor InAdditional rule (with_copies answers authorities additionals s) new
