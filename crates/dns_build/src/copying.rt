@@ -1,5 +1,5 @@
 //! Records copied from one message into another.
-ghost use Rattle.std.specs.Prelude.{IfOk};
+ghost use Rattle.std.specs.Prelude.{ℕ, List, IfOk};
 ghost use Rattle.dns_item.specs.ParsedRecord.{standing_record};
 ghost use Rattle.dns_read.specs.Message.{message_octets};
 ghost use Rattle.dns_section.specs.RecordSection.{records_left};
@@ -16,6 +16,38 @@ use dns_item::{ComposeRecord, ParsedRecord};
 use dns_read::Message;
 use dns_section::{RecordSection, following};
 use dns_wire::{Composer, Octets};
+
+/// What records can be copied from.
+pub trait CopyRecords {
+    /// The octets of the message.
+    ghost octets: { Self → List ℕ };
+
+    /// As the function `copy_records`, for a closure whose answer borrows nothing of the record.
+    fn copy_records<T: Composer, R: ComposeRecord + Drop, F: FnMut(ParsedRecord<'_>) -> Option<R>>(
+        &self,
+        target: AnswerBuilder<T>,
+        op: F,
+    ) -> Result<AdditionalBuilder<T>, CopyRecordsError>
+        requires { F.IsAlwaysCallable op }
+        ensures copies { InEach InAnswer T.rule target (λ s. CopiesMessage F.step R.item T.room
+            T.grows T.rule (octets self.now) op s result) }
+        ensures kept { IfOk result (λ new. InEach InAnswer T.rule target (λ s.
+            KeepsAll F.step R.item T.rule (octets self.now) op s new)) };
+}
+
+impl<Octs: Octets> CopyRecords for Message<Octs> {
+    ghost use Rattle.dns_read.specs.Message.{message_octets};
+
+    ghost octets = { λ message. message_octets message };
+
+    fn copy_records<T: Composer, R: ComposeRecord + Drop, F: FnMut(ParsedRecord<'_>) -> Option<R>>(
+        &self,
+        target: AnswerBuilder<T>,
+        op: F,
+    ) -> Result<AdditionalBuilder<T>, CopyRecordsError> {
+        copy_records(self, target, op)
+    }
+}
 
 /// Copies records of the answer, authority and additional sections of a message into the same sections of a builder
 /// (RFC 1035 section 4.1).

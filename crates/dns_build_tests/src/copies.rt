@@ -1,12 +1,13 @@
 //! Records that are copied from one message into another.
 use arrayvec::ArrayVec;
 use dns_build::{
-    AdditionalBuilder, AnswerBuilder, CopyRecordsError, MessageBuilder, PushError, copy_records,
+    AdditionalBuilder, AnswerBuilder, CopyRecords, CopyRecordsError, MessageBuilder, PushError,
+    copy_records,
 };
-use dns_data::{Cname, UnknownRecordData};
+use dns_data::{A, Cname, UnknownRecordData};
 use dns_item::{ParsedRecord, Record};
 use dns_read::Message;
-use dns_wire::{Composer, ParseError, ParsedName};
+use dns_wire::{Composer, Name, ParseError, ParsedName};
 use std::alloc::Global;
 use std::process::Abort;
 use std::test::Fail;
@@ -67,6 +68,17 @@ fn copies_the_records_of_all_types(rt: HostRuntime) -> Result<(), Fail> {
     let copied = copy_records(&source, answers(rt.alloc())?, keep_any)?;
     assert_counts(&rt, &copied, 1, 1, 0);
     assert_eq!(rt; copied.as_slice(), SOURCE.as_slice());
+    Ok(())
+}
+
+#[test]
+fn copies_other_records_in_place_of_those_read(rt: HostRuntime) -> Result<(), Fail> {
+    let source = Message::from_slice(SOURCE)?;
+    let copied = source.copy_records(answers(rt.alloc())?, |_shown| {
+        Some((Name::root_slice(), 3600, A::from_octets(203, 0, 113, 1)))
+    })?;
+    assert_counts(&rt, &copied, 1, 1, 0);
+    assert_eq!(rt; copied.as_slice().len(), 42);
     Ok(())
 }
 
