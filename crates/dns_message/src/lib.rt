@@ -9,11 +9,12 @@
 #![tactic(auto)]
 
 pub mod builder {
-    //! Builders of messages, and theorems on what they build.
+    //! Builders of messages, answers and copies among them, and theorems on what they build.
     pub use dns_build::{
         AdditionalBuilder, AnswerBuilder, AtAdditional, AtAnswer, AtAuthority, AtBuilder,
-        AtQuestion, AuthorityBuilder, Builder, BuilderStage, MessageBuilder, OptBuilder, PushError,
-        QuestionBuilder, RecordSectionBuilder, RecordStage, laws,
+        AtQuestion, AuthorityBuilder, Builder, BuilderStage, CopyRecords, CopyRecordsError,
+        MessageBuilder, OptBuilder, PushError, QuestionBuilder, RecordSectionBuilder, RecordStage,
+        copy_records, laws,
     };
 }
 
