@@ -107,8 +107,8 @@ module _ {F R : Type 0} (call : F → ParsedRecord → Option R → F → Type 0
         answers = x.items;
         authorities = y.items;
         additionals = z.items;
-        g = first.0;
-        h = second.0;
+        after_answers = first.0;
+        after_authorities = second.0;
         last = third.0;
         of_answers = x.keeps;
         of_authorities = y.keeps;

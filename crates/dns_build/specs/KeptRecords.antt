@@ -32,15 +32,15 @@ module _ {F R : Type 0} (call : F → ParsedRecord → Option R → F → Type 0
     pub starts : StartsAt section b start
     pub keeps : Keeps (records_in b (record_count section b) start) f items g
 
-  -- What is kept of each of the three sections, one behind the other, stands in that section of the builder.
+  -- What is kept of each of the three sections, one behind the other, stands in that section of the builder. The closure is called from the state in which the section before left it.
   pub record KeepsAll (rule : Rule) (b : List ℕ) (f : F) (s : State) (new : Built) : Type 0 where
     pub answers : List RecordItem
     pub authorities : List RecordItem
     pub additionals : List RecordItem
-    pub g : F
-    pub h : F
+    pub after_answers : F
+    pub after_authorities : F
     pub last : F
-    pub of_answers : KeepsSection b Answer f answers g
-    pub of_authorities : KeepsSection b Authority g authorities h
-    pub of_additionals : KeepsSection b Additional h additionals last
+    pub of_answers : KeepsSection b Answer f answers after_answers
+    pub of_authorities : KeepsSection b Authority after_answers authorities after_authorities
+    pub of_additionals : KeepsSection b Additional after_authorities additionals last
     pub stands : StandsFor InAdditional rule (with_copies answers authorities additionals s) new
