@@ -9,12 +9,12 @@ use Rattle.dns_item.specs.ParsedRecord.{StandingRecord}
 use Rattle.dns_item.specs.declared.parsed_record.ParsedRecord.{ParsedRecord}
 use Rattle.dns_section.specs.Reading.{StopsPassing}
 use Rattle.dns_section.specs.RecordSection.{octets_of, position, to_come, records_left, BeginsSection}
-use Rattle.dns_section.specs.Sections.{record_count, StartsAt, section_behind}
+use Rattle.dns_section.specs.Sections.{record_count, StartFault, StartsAt, section_behind}
 use Rattle.dns_section.specs.Skipping.{StopsInRest}
 use Rattle.dns_section.specs.declared.record_section.RecordSection.{RecordSection}
 use Rattle.dns_section.specs.declared.section.Section.{Section}
 use Rattle.dns_section.specs.declared.section.Section.TheVariants.{Answer, Authority, Additional}
-use Rattle.dns_build.specs.CopyRecords.{StartFault, record_sections, CopiesList, CopiesSection, CopiesSections, CopiesListTo, CopiesMessage}
+use Rattle.dns_build.specs.CopyRecords.{record_sections, CopiesList, CopiesSection, CopiesSections, CopiesListTo, CopiesMessage}
 use Rattle.dns_build.specs.CopyRecords.CopiesSection.{started, unstarted}
 use Rattle.dns_build.specs.CopyRecords.CopiesSections.{none, copied, stopped}
 use Rattle.dns_build.specs.State.{Stage, InAnswer, InAdditional, State, stage_of, up_to, move_to}

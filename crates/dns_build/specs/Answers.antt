@@ -22,7 +22,7 @@ readable_questions b = filter_map result_ok (questions_from b (question_count b)
 abbrev pub header_in : List ℕ → Header
 header_in b = record { octets = take 4 b }
 
--- The header of an answer: ID, opcode and RD of the asked header, QR set, and an rcode. The other bits are those of its own header. RFC 1035 section 4.1.1.
+-- The header of an answer: ID, opcode and RD of the asked header, QR set, and an rcode. The other bits are those of its own header. Of octet 2, 0x06 is AA and TC, 0x79 is opcode and RD, and 0x80 is QR. RFC 1035 section 4.1.1.
 abbrev pub answer_header : ℕ → Header → Header → Header
 answer_header rcode asked own = record {
   octets = slice_index asked.octets 0 ∷ slice_index asked.octets 1
@@ -42,7 +42,7 @@ PushesAll room grows rule s (x ∷ xs) answer left =
     (PushAnswers room grows s.limit n (length s.questions) (Ok tt) × PushesAll room grows rule (with_question x s) xs answer left)
     ⊎ ((e : PushError) × PushAnswers room grows s.limit n (length s.questions) (Err e) × (answer ≡ Err e) × (left ≡ s))
 
--- a question builder stands for the state then
+-- questions are pushed so, and a question builder stands for the state that is left
 pub record AsksAll (room : Option ℕ) (grows : Bool) (rule : Rule) (s : State) (xs : List QuestionItem) (answer : Result (Unit {0}) PushError) (new : Built) : Type 0 where
   pub left : State
   pub pushes : PushesAll room grows rule s xs answer left

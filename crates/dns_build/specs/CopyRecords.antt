@@ -1,4 +1,4 @@
--- How the records of a message are copied into a builder. RFC 1035 section 4.1.
+-- How the records of a message are copied into a builder, step by step up to the first error. What a copy that succeeds leaves is said without steps in KeptRecords.antt. RFC 1035 section 4.1.
 use Rattle.std.specs.Prelude.{◌≡◌, ℕ, Bool, List, [], ◌∷◌, length, Option, Some, None, option_map, Result, Ok, Err}
 use Rattle.dns_octets.specs.declared.error.ParseError.{ParseError}
 use Rattle.dns_name.specs.Names.{Fault, fault_of}
@@ -7,7 +7,7 @@ use Rattle.dns_item.specs.Items.{RecordItem}
 use Rattle.dns_item.specs.ParsedRecord.{StandingRecord, standing_record}
 use Rattle.dns_item.specs.declared.parsed_record.ParsedRecord.{ParsedRecord}
 use Rattle.dns_section.specs.RecordsFrom.{records_in}
-use Rattle.dns_section.specs.Sections.{AnswersFault, AuthoritiesFault, AdditionalsFault, StartsAt, record_count}
+use Rattle.dns_section.specs.Sections.{StartFault, StartsAt, record_count}
 use Rattle.dns_section.specs.declared.section.Section.{Section}
 use Rattle.dns_section.specs.declared.section.Section.TheVariants.{Answer, Authority, Additional}
 use Rattle.dns_build.specs.State.{Stage, InAdditional, stage_of, State, with_record, records_at, move_to}
@@ -27,12 +27,6 @@ PushesRecord room grows rule stage x s (Err e) after =
 abbrev pub PushesKept : Option ℕ → Bool → Rule → Stage → Option RecordItem → State → Result (Unit {0}) PushError → State → Type 0
 PushesKept room grows rule stage (Some x) s result after = PushesRecord room grows rule stage x s result after
 PushesKept room grows rule stage None s result after = (result ≡ Ok tt) × (after ≡ s)
-
--- why a section has no start
-abbrev pub StartFault : Section → List ℕ → Fault → Type 0
-StartFault Answer b f = AnswersFault b f
-StartFault Authority b f = AuthoritiesFault b f
-StartFault Additional b f = AdditionalsFault b f
 
 -- the record sections of a message, in their order
 abbrev pub record_sections : List Section

@@ -1,4 +1,4 @@
--- What a copy of the records of a message leaves: the builder's own items, and the records that the closure kept. RFC 1035 section 4.1.
+-- What a copy of the records of a message leaves: the builder's own items, and the records that the closure kept. It follows from CopyRecords.antt. RFC 1035 section 4.1.
 use Rattle.std.specs.Prelude.{ℕ, List, [], ◌∷◌, ◌++◌, Option, Some, None, Result, Ok}
 use Rattle.dns_name.specs.Names.{Fault}
 use Rattle.dns_wire.specs.Pieces.{Rule}

@@ -18,7 +18,7 @@ impl<T: Composer> Builder<T, AtBuilder> {
     ///
     /// Sets QR and the rcode, and takes ID, opcode and RD from the message; the other fields stay (RFC 1035 section 4.1.1).
     /// Then pushes the message's questions before the first that can't be read, which is no error. The error of a refused
-    /// push is answered.
+    /// push is answered, and then the builder is dropped.
     pub fn start_answer<Octs: Octets>(
         self,
         msg: &Message<Octs>,
@@ -36,7 +36,7 @@ impl<T: Composer> Builder<T, AtBuilder> {
     }
 
     /// As `start_answer`. But where a push is refused, the answer builder with the questions before the refused one is
-    /// given back as `Err`, and its rcode is SERVFAIL.
+    /// given back as `Err`, and its rcode is SERVFAIL. A growth that is refused is a refused push too.
     pub fn try_start_answer<Octs: Octets>(
         self,
         msg: &Message<Octs>,
@@ -58,7 +58,7 @@ impl<T: Composer> Builder<T, AtBuilder> {
 
     /// Starts creating an error for the given message.
     ///
-    /// It is either builder that `try_start_answer` gives.
+    /// It is either builder that `try_start_answer` gives, so a question without room or memory is told as SERVFAIL.
     pub fn start_error<Octs: Octets>(self, msg: &Message<Octs>, rcode: Rcode) -> AnswerBuilder<T>
         ensures { InEach InBuilder T.rule self (λ s.
             StartsAnswer T.room T.grows T.rule rcode (message_octets msg.now) s

@@ -22,7 +22,7 @@ pub trait CopyRecords {
     /// The octets of the message.
     ghost octets: { Self → List ℕ };
 
-    /// As the function `copy_records`, for a closure whose answer borrows nothing of the record.
+    /// As the function `copy_records`, for a closure whose answer borrows nothing of the record. It asks the same of it.
     fn copy_records<T: Composer, R: ComposeRecord + Drop, F: FnMut(ParsedRecord<'_>) -> Option<R>>(
         &self,
         target: AnswerBuilder<T>,
@@ -55,6 +55,8 @@ impl<Octs: Octets> CopyRecords for Message<Octs> {
 /// The closure is given each record, in the order in which they stand. What it answers is pushed into the section of that
 /// record; for `None` nothing is pushed. The first error, of reading the message or of a push, is answered, and then the
 /// builder is dropped.
+///
+/// It asks that the closure can be called with any record, as one can that asks nothing itself.
 pub fn copy_records<
     'a,
     Octs: Octets,

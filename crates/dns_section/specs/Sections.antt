@@ -58,6 +58,11 @@ StartsAt Answer b p = AnswersStart b p
 StartsAt Authority b p = AuthoritiesStart b p
 StartsAt Additional b p = AdditionalsStart b p
 
+abbrev pub StartFault : Section → List ℕ → Fault → Type 0
+StartFault Answer b f = AnswersFault b f
+StartFault Authority b f = AuthoritiesFault b f
+StartFault Additional b f = AdditionalsFault b f
+
 abbrev pub section_behind : Section → Option Section
 section_behind Answer = Some Authority
 section_behind Authority = Some Additional
