@@ -59,6 +59,7 @@ pub mod data {
         OptHeader, OptionIter, ParseAnyRecordData, ParseRecordData, RecordData, Soa, SubnetAddr,
         UnknownOptData, UnknownRecordData, compose_canonical_len_rdata, compose_len_rdata, laws,
     };
+    pub use dns_opt::laws as option_laws;
 }
 
 mod fault;
@@ -90,4 +91,5 @@ pub mod wire {
 }
 
 pub use dns_item::question;
+pub use dns_show::print_message;
 pub use program::tool;
