@@ -1,7 +1,9 @@
 #!/usr/bin/env bash
-# Builds crates/dns_bench, which proves it and the crates below it, and prints the times and the allocations of names
-# that are written by the four compressors, and the times of a walk over two messages. With COUNT=1 it also prints
-# instructions, by valgrind.
+# Builds crates/dns_bench, which proves it and the crates below it, and prints times and allocations: of whole messages
+# that are walked over and built, of names that are written by the four compressors, and of a walk over two messages.
+# With COUNT=1 it also prints instructions, by valgrind. Another library is put beside this one by
+#   PEER=ARCHIVE.a [PEER_NAME=NAME] [PEER_FLAGS='-lm ..'] ./run.sh
+# where the archive has the calls of peer.h.
 set -eu
 here=$(cd "$(dirname "$0")" && pwd)
 crate=$here/../crates/dns_bench
@@ -19,6 +21,33 @@ compile() {
 compile "$build/times" "$here/driver.c"
 compile "$build/allocations" -DCOUNT_ALLOCATIONS "$here/count.c" "$here/driver.c"
 compile "$build/walk" "$here/walk.c"
+compile "$build/messages" "$here/ours.c" "$here/messages.c"
+compile "$build/messages_allocations" -DCOUNT_ALLOCATIONS "$here/count.c" "$here/ours.c" "$here/messages.c"
+python3 "$here/inputs.py" >"$build/inputs"
+
+peers=(messages)
+if [ "${PEER:-}" ]; then
+  # The driver asks for the names of the ways weakly, which takes nothing from an archive.
+  force=
+  ! nm "$PEER" 2>/dev/null | grep -q ' T peer_variant$' || force=-Wl,-u,peer_variant
+  for output in peer peer_allocations; do
+    count=()
+    [ $output = peer ] || count=(-DCOUNT_ALLOCATIONS "$here/count.c")
+    # shellcheck disable=SC2086
+    "${CC:-cc}" -std=gnu11 -O2 "${count[@]}" "$here/messages.c" $force "$PEER" ${PEER_FLAGS:-} -o "$build/$output"
+  done
+  peers+=(peer)
+fi
+name_of() { [ "$1" = messages ] && echo ours || echo "${PEER_NAME:-peer}"; }
+
+printf '%-12s %-15s %-5s %12s %12s\n' library way work 'ns, median' 'ns, least'
+for _ in $(seq "${ROUNDS:-1}"); do
+  for peer in "${peers[@]}"; do "$build/$peer" "$(name_of "$peer")" "$build/inputs"; done
+done
+echo
+printf '%-12s %-15s %-5s %12s\n' library way work allocations
+for peer in "${peers[@]}"; do "$build/${peer}_allocations" "$(name_of "$peer")" "$build/inputs"; done
+echo
 
 printf '%-14s %-9s %12s %12s\n' compressor workload 'ns, median' 'ns, least'
 "$build/times"
@@ -46,3 +75,18 @@ for message in answer servers; do
   more=$(instructions "$build/walk" "$message" 1100)
   printf '%-14s %-9s %12d\n' walk "$message" $(((more - few) / 1000))
 done
+while read -r way work; do
+  few=$(instructions "$build/messages" ours "$build/inputs" "$work" "$way" 64)
+  more=$(instructions "$build/messages" ours "$build/inputs" "$work" "$way" 192)
+  printf '%-14s %-9s %12d\n' "$way" "$work" $(((more - few) / 128))
+done <<'ROWS'
+walk w1
+walk w2
+walk w5a
+plain w3
+static w3
+index w3
+plain w4
+static w4
+index w4
+ROWS

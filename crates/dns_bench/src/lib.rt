@@ -1,11 +1,12 @@
-//! Names written by the four compressors, message after message, and a walk over a message, for C
-//! code that times both. Each export but the walk writes the same names as one message, so many
-//! times, and hands the last message out.
+//! Names written by the four compressors, whole messages written by the builder, and a walk over a
+//! message, for C code that times them. Each export but the walk writes the same message so many
+//! times, and hands the last one out.
 //!
 //! The last message goes to the beginning of `out`, and its length is answered: 0 where no name
 //! stands, memory is wanting, or `out` is too short.
 #![tactic(auto)]
 
+mod messages;
 mod names;
 mod walk;
 
@@ -13,6 +14,7 @@ ghost use Rattle.dns_bench.specs.Message.{HandsOut};
 
 use dns_target::{HashCompressor, IndexCompressor, StaticCompressor, TreeCompressor};
 use dns_wire::Composer;
+use messages::{Kind, write_with};
 use names::{hand_out, read_names, write_message, write_names};
 use std::alloc::Global;
 use std::convert::AsSlice;
@@ -145,4 +147,34 @@ pub extern "C" fn dns_bench_walk(octets: &[u8]) -> u64 {
         Some(sum) => sum,
         None => u64::MAX,
     }
+}
+
+/// Writes a response with the target of a number: the first name is asked for, and has an address.
+///
+/// Targets 0 to 4 are octets, then static, tree, hash and index compressors over octets, emptied
+/// before each message; 5 to 9 are the same, new for each message.
+#[unsafe(no_mangle)]
+pub extern "C" fn dns_bench_response(
+    alloc: Global,
+    target: u32,
+    work: &Work<'_>,
+    out: &mut [u8],
+) -> usize
+    ensures { HandsOut out.old out.new result }
+{
+    write_with(alloc, Kind::Response, target, work, out)
+}
+
+/// Writes a message of many answers, with a target as that of a response: the first name is asked
+/// for, and each name behind it has an address.
+#[unsafe(no_mangle)]
+pub extern "C" fn dns_bench_zone(
+    alloc: Global,
+    target: u32,
+    work: &Work<'_>,
+    out: &mut [u8],
+) -> usize
+    ensures { HandsOut out.old out.new result }
+{
+    write_with(alloc, Kind::Zone, target, work, out)
 }

@@ -1,0 +1,158 @@
+#!/usr/bin/env python3
+"""Prints the messages of the bench, one a line: its workload, the sum of its walk (peer.h), its octets.
+
+The sum is `-` where the message has to be refused, or `?` where libraries may differ. What is printed is
+always the same.
+"""
+
+import struct
+
+ROOT = b"\0"
+
+
+def name(text):
+    labels = [label for label in text.split(".") if label]
+    return b"".join(bytes([len(x)]) + x.encode() for x in labels) + ROOT
+
+
+def name_sum(text):
+    return len([label for label in text.split(".") if label]) + len(name(text))
+
+
+class Message:
+    """Octets, their sum, and a compressor that knows every suffix."""
+
+    def __init__(self, ident, flags, counts):
+        self.octets = bytearray(struct.pack(">6H", ident, flags, *counts))
+        self.sum = ident + flags + sum(counts)
+        self.places = {}
+
+    def name(self, text):
+        labels = [label for label in text.split(".") if label]
+        out = bytearray()
+        for i in range(len(labels)):
+            suffix = ".".join(labels[i:])
+            if suffix in self.places:
+                self.octets += out + struct.pack(">H", 0xC000 | self.places[suffix])
+                return
+            place = len(self.octets) + len(out)
+            if place < 1 << 14:
+                self.places[suffix] = place
+            out += bytes([len(labels[i])]) + labels[i].encode()
+        self.octets += out + ROOT
+
+    def question(self, text, rtype):
+        self.name(text)
+        self.octets += struct.pack(">HH", rtype, 1)
+        self.sum += name_sum(text) + rtype + 1
+
+    def head(self, text, rtype, ttl):
+        self.name(text)
+        self.octets += struct.pack(">HHI", rtype, 1, ttl)
+        self.sum += name_sum(text) + rtype + 1 + ttl
+
+    def data(self, octets):
+        self.octets += struct.pack(">H", len(octets)) + octets
+
+    def a(self, text, ttl, address):
+        self.head(text, 1, ttl)
+        self.data(bytes(address))
+        self.sum += int.from_bytes(bytes(address), "big")
+
+    def ns(self, text, ttl, target):
+        self.head(text, 2, ttl)
+        place = len(self.octets)
+        self.octets += b"\0\0"
+        self.name(target)
+        struct.pack_into(">H", self.octets, place, len(self.octets) - place - 2)
+        self.sum += name_sum(target)
+
+
+def response():
+    msg = Message(0, 0x81A0, (1, 1, 0, 0))
+    msg.question("example.com", 1)
+    msg.a("example.com", 3600, (203, 0, 113, 1))
+    assert len(msg.octets) == 45
+    return msg
+
+
+def larger():
+    msg = Message(0xBEEF, 0x8580, (1, 20, 4, 8))
+    msg.question("www.example.com", 1)
+    for i in range(20):
+        msg.a("www.example.com", 300, (192, 0, 2, i))
+    for i in range(4):
+        msg.ns("example.com", 86400, f"ns{i}.example.com")
+    for i in range(8):
+        msg.a(f"ns{i // 2}.example.com", 86400, (198, 51, 100, i))
+    return msg
+
+
+def zone():
+    msg = Message(0x1234, 0x8400, (1, 500, 0, 0))
+    msg.question("sub.example.com", 252)
+    for i in range(500):
+        msg.a(f"h{i}.sub.example.com", 3600, (10, 0, i // 256, i % 256))
+    return msg
+
+
+def chain(broken):
+    """32 owners of 127 labels, each but the last two behind a pointer.
+
+    126 pointers a name, which most libraries take. The chain
+    stands in the data of a record of a type that nobody knows.
+    """
+    msg = Message(0xBAD, 0x8180, (1, 33, 0, 1 if broken else 0))
+    msg.question("example.com", 1)
+    msg.head("example.com", 65280, 60)
+    msg.octets += struct.pack(">H", 5 + 4 * 125)
+    top = len(msg.octets)
+    msg.octets += b"\x01a\x01a\0"
+    for _ in range(125):
+        place = len(msg.octets)
+        msg.octets += b"\x01a" + struct.pack(">H", 0xC000 | top)
+        top = place
+    msg.sum += 5 + 4 * 125
+    for i in range(32):
+        msg.octets += struct.pack(">HHHIH4B", 0xC000 | top, 1, 1, 60, 4, 10, 9, 8, i)
+        msg.sum += 127 + 255 + 1 + 1 + 60 + (10 << 24 | 9 << 16 | 8 << 8 | i)
+    if broken:
+        here = len(msg.octets)
+        msg.octets += struct.pack(">HHHIH4B", 0xC000 | here, 1, 1, 60, 4, 1, 2, 3, 4)
+    return msg
+
+
+def garbage(count):
+    """Random octets behind a header of small counts."""
+    seed = 20261122
+
+    def octet():
+        nonlocal seed
+        seed = (seed * 6364136223846793005 + 1442695040888963407) % (1 << 64)
+        return seed >> 56
+
+    for i in range(count):
+        head = struct.pack(">6H", i, 0x8180, 1, i % 4, 0, 0)
+        tail = bytes(octet() for _ in range(60 + octet()))
+        if i % 4:
+            # Three of four start as messages do, with i % 4 records.
+            head += name("example.com") + struct.pack(">HH", 1, 1)
+            for _ in range(1 + octet() % 3):
+                data = bytes(octet() for _ in range(octet() % 64))
+                head += struct.pack(">HHHIH", 0xC00C, 65300, 1, octet(), len(data)) + data
+        yield head + tail
+
+
+def main():
+    def line(label, total, octets):
+        print(label, total, bytes(octets).hex())
+
+    for label, msg in (("w1", response()), ("w2", larger()), ("w3", response()), ("w4", zone())):
+        line(label, msg.sum, msg.octets)
+    line("w5a", chain(False).sum, chain(False).octets)
+    line("w5b", "-", chain(True).octets)
+    for octets in garbage(64):
+        line("w5c", "?", octets)
+
+
+main()

@@ -1,0 +1,178 @@
+//! Whole messages by the builder, one after another: a response, and the answers of a zone transfer.
+ghost use Rattle.dns_bench.specs.Message.{HandsOut};
+
+use crate::Work;
+use crate::names::{hand_out, read_names};
+use dns_build::{MessageBuilder, PushError};
+use dns_code::{Class, Header, Rtype};
+use dns_data::A;
+use dns_item::Ttl;
+use dns_target::{HashCompressor, IndexCompressor, StaticCompressor, TreeCompressor};
+use dns_wire::{Composer, Name};
+use std::alloc::Global;
+
+/// Which message is written of the names.
+#[derive(Clone, Copy)]
+pub(crate) enum Kind {
+    /// The first name is asked for, and has one address.
+    Response,
+
+    /// The first name is asked for, and each name behind it has an address.
+    Zone,
+}
+
+/// The names that stand one behind the other, all without pointers.
+fn flat_names(alloc: Global, octets: &[u8]) -> Option<Vec<Name<&[u8]>>> {
+    let parsed = read_names(alloc, octets)?;
+    let mut names = Vec::with_capacity(alloc, parsed.len()).ok()?;
+    for name in parsed.as_slice() {
+        let name = Name::from_octets(name.as_flat_slice()?).ok()?;
+        names.push(name).ok()?;
+    }
+    Some(names)
+}
+
+fn response<T: Composer>(target: T, names: &[Name<&[u8]>]) -> Result<T, PushError> {
+    let mut builder = MessageBuilder::from_target(target)?;
+    let mut header = Header::new();
+    header.set_qr(true);
+    header.set_rd(true);
+    header.set_ra(true);
+    header.set_ad(true);
+    builder.set_header(header);
+    let mut builder = builder.question();
+    let Some(name) = names.first() else {
+        return Ok(builder.finish());
+    };
+    builder.push((name, Rtype::A))?;
+    let mut builder = builder.answer();
+    builder.push((name, 3600, A::from_octets(203, 0, 113, 1)))?;
+    Ok(builder.finish())
+}
+
+fn zone<T: Composer>(target: T, names: &[Name<&[u8]>]) -> Result<T, PushError> {
+    let mut builder = MessageBuilder::from_target(target)?;
+    let mut header = Header::new();
+    header.set_id(0x1234);
+    header.set_qr(true);
+    header.set_aa(true);
+    builder.set_header(header);
+    let mut builder = builder.question();
+    let Some((first, owners)) = names.split_first() else {
+        return Ok(builder.finish());
+    };
+    builder.push((first, Rtype::AXFR))?;
+    let mut builder = builder.answer();
+    let mut number = 0u16;
+    for owner in owners {
+        let [high, low] = number.to_be_bytes();
+        let data = A::from_octets(10, 0, high, low);
+        builder.push((owner, Class::IN, Ttl::from_secs(3600), data))?;
+        number = number.wrapping_add(1);
+    }
+    Ok(builder.finish())
+}
+
+fn message<T: Composer>(kind: Kind, target: T, names: &[Name<&[u8]>]) -> Result<T, PushError> {
+    match kind {
+        Kind::Response => response(target, names),
+        Kind::Zone => zone(target, names),
+    }
+}
+
+/// Writes all messages with one target, which the builder empties before each.
+fn write_kept<T: Composer>(
+    alloc: Global,
+    kind: Kind,
+    mut target: T,
+    work: &Work<'_>,
+    out: &mut [u8],
+) -> usize
+    ensures { HandsOut out.old out.new result }
+{
+    let Some(names) = flat_names(alloc, work.names) else {
+        return 0;
+    };
+    for _ in 0..work.rounds {
+        target = match message(kind, target, names.as_slice()) {
+            Ok(kept) => kept,
+            Err(_) => return 0,
+        };
+    }
+    hand_out(target.as_slice(), out)
+}
+
+/// Writes each message with a new target.
+fn write_fresh<T: Composer, F: Fn() -> T>(
+    alloc: Global,
+    kind: Kind,
+    new_target: F,
+    work: &Work<'_>,
+    out: &mut [u8],
+) -> usize
+    requires { F.IsAlwaysCallable new_target }
+    ensures { HandsOut out.old out.new result }
+{
+    let Some(names) = flat_names(alloc, work.names) else {
+        return 0;
+    };
+    let mut len = 0;
+    for _ in 0..work.rounds {
+        len = match message(kind, new_target(), names.as_slice()) {
+            Ok(target) => hand_out(target.as_slice(), out),
+            Err(_) => return 0,
+        };
+    }
+    len
+}
+
+/// Writes the messages with the target of a number. The five that are kept come first, then the same five, new for
+/// each message.
+pub(crate) fn write_with(
+    alloc: Global,
+    kind: Kind,
+    target: u32,
+    work: &Work<'_>,
+    out: &mut [u8],
+) -> usize
+    ensures { HandsOut out.old out.new result }
+{
+    let octets = || Vec::new(alloc);
+    match target {
+        0 => write_kept(alloc, kind, octets(), work, out),
+        1 => write_kept(alloc, kind, StaticCompressor::new(octets()), work, out),
+        2 => write_kept(alloc, kind, TreeCompressor::new(alloc, octets()), work, out),
+        3 => write_kept(alloc, kind, HashCompressor::new(alloc, octets()), work, out),
+        4 => write_kept(
+            alloc,
+            kind,
+            IndexCompressor::new(alloc, octets()),
+            work,
+            out,
+        ),
+        5 => write_fresh(alloc, kind, octets, work, out),
+        6 => write_fresh(alloc, kind, || StaticCompressor::new(octets()), work, out),
+        7 => write_fresh(
+            alloc,
+            kind,
+            || TreeCompressor::new(alloc, octets()),
+            work,
+            out,
+        ),
+        8 => write_fresh(
+            alloc,
+            kind,
+            || HashCompressor::new(alloc, octets()),
+            work,
+            out,
+        ),
+        9 => write_fresh(
+            alloc,
+            kind,
+            || IndexCompressor::new(alloc, octets()),
+            work,
+            out,
+        ),
+        _ => 0,
+    }
+}
