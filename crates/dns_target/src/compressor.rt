@@ -1,5 +1,5 @@
 //! A target that compresses names, by an index of the suffixes that it remembers.
-ghost use Rattle.std.specs.Prelude.{◌≡◌, ◌||◌, true, IfOk, OnErr, IsTrue};
+ghost use Rattle.std.specs.Prelude.{◌≡◌, ◌||◌, [], true, ℕ, List, IfOk, OnErr, IsTrue};
 ghost use Rattle.dns_wire.specs.Pieces.{nothing, Plain, put_octets, put_name};
 ghost use Rattle.dns_name.specs.Names.{uncompressed};
 ghost use Rattle.dns_name.specs.ParsedName.{labels};
@@ -62,10 +62,7 @@ impl<Target: Composer> Compressor<Target, Places> {
         requires { Target.rule ≡ Plain }
         ensures { result ≡ record { octets = (Target.written target).octets; memory = nothing } }
     {
-        Compressor {
-            target,
-            index: Places::new(),
-        }
+        Compressor::over(target, Places::new())
     }
 }
 
@@ -77,10 +74,7 @@ impl<Target: Composer> Compressor<Target, Tree> {
         requires { Target.rule ≡ Plain }
         ensures { result ≡ record { octets = (Target.written target).octets; memory = nothing } }
     {
-        Compressor {
-            target,
-            index: Tree::new(alloc),
-        }
+        Compressor::over(target, Tree::new(alloc))
     }
 }
 
@@ -92,10 +86,7 @@ impl<Target: Composer> Compressor<Target, Suffixes> {
         requires { Target.rule ≡ Plain }
         ensures { result ≡ record { octets = (Target.written target).octets; memory = nothing } }
     {
-        Compressor {
-            target,
-            index: Suffixes::new(alloc),
-        }
+        Compressor::over(target, Suffixes::new(alloc))
     }
 }
 
@@ -107,14 +98,21 @@ impl<Target: Composer> Compressor<Target, Hashes> {
         requires { Target.rule ≡ Plain }
         ensures { result ≡ record { octets = (Target.written target).octets; memory = nothing } }
     {
-        Compressor {
-            target,
-            index: Hashes::new(alloc),
-        }
+        Compressor::over(target, Hashes::new(alloc))
     }
 }
 
 impl<Target: Composer, Index: SuffixIndex> Compressor<Target, Index> {
+    /// A compressor over a target that doesn't compress, by an index that holds nothing.
+    fn over(target: Target, index: Index) -> Self
+        requires plain { Target.rule ≡ Plain }
+        requires empty { Index.spots index ≡ [] }
+        requires is_of { (content : List ℕ) → Index.is_of content index }
+        ensures { result ≡ record { octets = (Target.written target).octets; memory = nothing } }
+    {
+        Compressor { target, index }
+    }
+
     /// The target, which holds the content.
     pub fn as_target(&self) -> &Target
         ensures { Target.written result.now
