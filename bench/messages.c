@@ -101,6 +101,20 @@ static void run(const struct task *task, uint64_t times)
                 kept = peer_walk(task->first[i].octets, task->first[i].len);
 }
 
+#ifdef COUNT_ALLOCATIONS
+
+/* The calls for one more message, once those before it have warmed up. */
+static void report(const char *peer, const char *way, const char *workload, const struct task *task)
+{
+    run(task, BATCH);
+    uint64_t before = allocations;
+    run(task, BATCH);
+    printf("%-12s %-15s %-5s %12.2f\n", peer, way, workload,
+           (double)(allocations - before) / BATCH / (double)task->count);
+}
+
+#else
+
 /* What differs from what was asked for, or nothing. */
 static const char *difference(const struct task *task)
 {
@@ -122,20 +136,6 @@ static const char *difference(const struct task *task)
         return taken ? "TAKEN" : "";
     return peer_walk(asked->octets, asked->len) == strtoll(asked->sum, NULL, 10) ? "" : "FAILED";
 }
-
-#ifdef COUNT_ALLOCATIONS
-
-/* The calls for one more message, once those before it have warmed up. */
-static void report(const char *peer, const char *way, const char *workload, const struct task *task)
-{
-    run(task, BATCH);
-    uint64_t before = allocations;
-    run(task, BATCH);
-    printf("%-12s %-15s %-5s %12.2f\n", peer, way, workload,
-           (double)(allocations - before) / BATCH / (double)task->count);
-}
-
-#else
 
 /* The processor's time in nanoseconds, so that other work on the machine counts less. */
 static double now(void)
