@@ -1,13 +1,16 @@
 //! Tests of calls that take memory: their answers where there is enough, and what stands behind one that was refused.
 //!
-//! Each test passes with ample memory, and with any one of its allocations refused: a call that answers `OutOfMemory` has
-//! changed nothing, and the same call made again gives the octets. `campaigns/refused-growths` refuses each in turn.
+//! Each test of `rows` passes with ample memory, and with any one of its allocations refused: a call that answers
+//! `OutOfMemory` has changed nothing, and the same call made again gives the octets. `campaigns/refused-growths` refuses each
+//! in turn.
 //!
 //! Nothing is exported.
 #![tactic(auto)]
 
 #[cfg(test)]
 mod again;
+#[cfg(test)]
+mod ample;
 #[cfg(test)]
 mod copies;
 #[cfg(test)]
