@@ -1,0 +1,50 @@
+//! Records copied, into another builder where the first is refused for memory.
+use crate::fresh::{Fresh, started};
+use dns_message::builder::{AdditionalBuilder, CopyRecordsError, PushError, copy_records};
+use dns_message::data::UnknownRecordData;
+use dns_message::message::Message;
+use dns_message::name::ParsedName;
+use dns_message::record::{ParsedRecord, Record};
+use std::alloc::Global;
+use std::process::Abort;
+use std::test::Fail;
+
+/// One answer, foo.example.com. 86000 IN CNAME baz.example.com., and one authority record,
+/// bar.example.com. 86000 IN NS baz.example.com.
+pub(crate) const SOURCE: &[u8; 100] =
+    b"\x00\x00\x00\x00\x00\x00\x00\x01\x00\x01\x00\x00\x03foo\x07example\x03com\x00\x00\x05\x00\x01\x00\x01\x4F\xF0\x00\x11\x03baz\x07example\x03com\x00\x03bar\x07example\x03com\x00\x00\x02\x00\x01\x00\x01\x4F\xF0\x00\x11\x03baz\x07example\x03com\x00";
+
+type AnyRecord<'a> = Record<ParsedName<'a>, UnknownRecordData<&'a [u8]>>;
+
+/// The record with its data, of any type.
+fn keep_any(shown: ParsedRecord<'_>) -> Option<AnyRecord<'_>> {
+    shown.into_any_record().ok()
+}
+
+/// The records of a message copied into an empty one.
+fn copy<R: Print, T: Fresh>(
+    rt: &R,
+    alloc: Global,
+    source: &Message<&[u8]>,
+) -> Result<Result<AdditionalBuilder<T>, CopyRecordsError>, Fail> {
+    Ok(copy_records(source, started(rt, alloc)?.answer(), keep_any))
+}
+
+/// The copy of all records of `SOURCE` has these octets.
+pub(crate) fn assert_copies<R: Abort + Print, T: Fresh>(
+    rt: &R,
+    alloc: Global,
+    expected: &[u8],
+) -> Result<(), Fail> {
+    let source = Message::from_slice(SOURCE)?;
+    let copied: AdditionalBuilder<T> = match copy(rt, alloc, &source)? {
+        Err(CopyRecordsError::Push(PushError::OutOfMemory)) => {
+            println!(rt; "refused copy")?;
+            assert_eq!(rt; source.as_slice(), SOURCE.as_slice());
+            copy(rt, alloc, &source)??
+        }
+        answer => answer?,
+    };
+    assert_eq!(rt; copied.as_slice(), expected);
+    Ok(())
+}

@@ -1,0 +1,68 @@
+//! The targets that take memory, each made anew.
+use dns_message::builder::MessageBuilder;
+use dns_message::target::{
+    Composer, HashCompressor, IndexCompressor, StaticCompressor, StreamTarget, TreeCompressor,
+};
+use dns_message::wire::AppendError;
+use std::alloc::Global;
+use std::test::Fail;
+
+/// A target that can be made anew.
+pub(crate) trait Fresh: Composer {
+    /// An empty target.
+    fn fresh(alloc: Global) -> Result<Self, AppendError>;
+}
+
+impl Fresh for Vec<u8> {
+    fn fresh(alloc: Global) -> Result<Self, AppendError> {
+        Ok(Vec::new(alloc))
+    }
+}
+
+impl Fresh for StreamTarget<Vec<u8>> {
+    fn fresh(alloc: Global) -> Result<Self, AppendError> {
+        StreamTarget::new_vec(alloc)
+    }
+}
+
+impl Fresh for StaticCompressor<Vec<u8>> {
+    fn fresh(alloc: Global) -> Result<Self, AppendError> {
+        Ok(StaticCompressor::new(Vec::new(alloc)))
+    }
+}
+
+impl Fresh for TreeCompressor<Vec<u8>> {
+    fn fresh(alloc: Global) -> Result<Self, AppendError> {
+        Ok(TreeCompressor::new(alloc, Vec::new(alloc)))
+    }
+}
+
+impl Fresh for HashCompressor<Vec<u8>> {
+    fn fresh(alloc: Global) -> Result<Self, AppendError> {
+        Ok(HashCompressor::new(alloc, Vec::new(alloc)))
+    }
+}
+
+impl Fresh for IndexCompressor<Vec<u8>> {
+    fn fresh(alloc: Global) -> Result<Self, AppendError> {
+        Ok(IndexCompressor::new(alloc, Vec::new(alloc)))
+    }
+}
+
+fn start<T: Fresh>(alloc: Global) -> Result<MessageBuilder<T>, AppendError> {
+    MessageBuilder::from_target(T::fresh(alloc)?)
+}
+
+/// A builder of an empty message, from a second call where the first is refused for memory.
+pub(crate) fn started<R: Print, T: Fresh>(
+    rt: &R,
+    alloc: Global,
+) -> Result<MessageBuilder<T>, Fail> {
+    match start(alloc) {
+        Err(AppendError::OutOfMemory) => {
+            println!(rt; "refused start")?;
+            Ok(start(alloc)?)
+        }
+        answer => Ok(answer?),
+    }
+}

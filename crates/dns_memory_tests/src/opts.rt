@@ -1,0 +1,54 @@
+//! OPT records whose closure pushes an option, and whose closure errs.
+use crate::again::{assert_unchanged, standing_of};
+use crate::fresh::{Fresh, started};
+use dns_message::builder::{AdditionalBuilder, PushError};
+use dns_message::code::{OptRcode, OptionCode, Rcode};
+use dns_message::target::Composer;
+use dns_message::wire::AppendError;
+use std::alloc::Global;
+use std::process::Abort;
+use std::test::Fail;
+
+/// An OPT record with one option.
+const ONE_OPTION: &[u8] =
+    b"\x00\x00\x00\x00\x00\x00\x00\x00\x00\x00\x00\x01\x00\x00\x29\x10\x00\x00\x00\x00\x00\x00\x0B\x00\x03\x00\x07example";
+
+fn push_option<T: Composer>(
+    alloc: Global,
+    builder: &mut AdditionalBuilder<T>,
+) -> Result<(), PushError> {
+    builder.opt(alloc, |opt| {
+        opt.set_udp_payload_size(4096);
+        opt.push_raw_option(OptionCode::from_int(3), b"example")
+    })
+}
+
+/// The message is `ONE_OPTION`.
+pub(crate) fn assert_option<R: Abort + Print, T: Fresh>(rt: &R, alloc: Global) -> Result<(), Fail> {
+    let mut builder: AdditionalBuilder<T> = started(rt, alloc)?.additional();
+    let before = standing_of(&builder)?;
+    match push_option(alloc, &mut builder) {
+        Err(PushError::OutOfMemory) => {
+            println!(rt; "refused option")?;
+            assert_unchanged(rt, &builder, &before);
+            push_option(alloc, &mut builder)?;
+        }
+        answer => answer?,
+    }
+    assert_eq!(rt; builder.as_slice(), ONE_OPTION);
+    Ok(())
+}
+
+/// Nothing changes where the closure errs, and its answer is given.
+pub(crate) fn assert_error<R: Abort + Print, T: Fresh>(rt: &R, alloc: Global) -> Result<(), Fail> {
+    let mut builder: AdditionalBuilder<T> = started(rt, alloc)?.additional();
+    let before = standing_of(&builder)?;
+    let answer = builder.opt(alloc, |opt| {
+        opt.set_rcode(OptRcode::from(Rcode::NXDOMAIN));
+        Err(AppendError::ShortBuf)
+    });
+    assert!(rt; matches!(answer, Err(PushError::ShortBuf)));
+    assert_unchanged(rt, &builder, &before);
+    assert_eq!(rt; builder.as_slice(), [0; 12].as_slice());
+    Ok(())
+}
