@@ -65,7 +65,7 @@ fn reads_data_of_any_type(rt: HostRuntime) -> Result<(), Fail> {
 
 #[test]
 fn takes_a_record_apart(rt: HostRuntime) -> Result<(), Fail> {
-    let owner = letter(b"\x01a\x00")?;
+    let owner = Name::from_octets(*b"\x01a\x00")?;
     let record = Record::from((owner, Class::CH, Ttl::MINUTE, A::from_octets(1, 2, 3, 4)));
     assert!(rt; record.class() == Class::CH && record.ttl() == Ttl::MINUTE);
     assert_eq!(rt; record.into_data().octets(), [1, 2, 3, 4]);
@@ -77,13 +77,13 @@ fn takes_a_record_apart(rt: HostRuntime) -> Result<(), Fail> {
 
 #[test]
 fn makes_a_record_of_fields(rt: HostRuntime) -> Result<(), Fail> {
-    let owner = letter(b"\x01a\x00")?;
+    let owner = Name::from_octets(*b"\x01a\x00")?;
     let data = A::from_octets(1, 2, 3, 4);
     let chaos = Record::from((owner, Class::CH, 60, data));
     assert!(rt; chaos.class() == Class::CH && chaos.ttl() == Ttl::MINUTE);
     let internet = Record::from((owner, 3600, data));
     assert!(rt; internet.class() == Class::IN && internet.ttl() == Ttl::HOUR);
-    let same = Record::<SliceName, A>::from_record(chaos);
+    let same = Record::<Name<[u8; 3]>, A>::from_record(chaos);
     assert!(rt; same.class() == Class::CH && same.ttl() == Ttl::MINUTE);
     assert!(rt; same.owner().octets_eq(&owner) && same.data().octets() == [1, 2, 3, 4]);
     Ok(())
