@@ -13,6 +13,8 @@ mod data;
 mod fields;
 mod hinfo;
 #[cfg(test)]
+mod items;
+#[cfg(test)]
 mod mx;
 mod naptr;
 #[cfg(test)]
