@@ -4,9 +4,16 @@
 //! as a page of HTML, is tested.
 #![tactic(auto)]
 
+mod html;
+mod meaning;
+mod program;
 mod row;
+mod text;
 mod tile;
 mod walk;
 
+pub use html::print_page;
+pub use program::tool;
 pub use row::{Fault, Field, Part, Row};
+pub use text::print_text;
 pub use walk::rows;
