@@ -85,6 +85,7 @@ fn print_line<W: Write>(
     words: &[u8],
 ) -> io::Result<()> {
     let digits = digits_of(alloc, octets)?;
+    let words = words.strip_suffix(b" ").unwrap_or(words);
     if words.is_empty() {
         return writeln!(writer, "{digits}");
     }
