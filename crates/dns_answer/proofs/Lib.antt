@@ -1,0 +1,3 @@
+mod Pushing
+mod Sizes
+mod Starting

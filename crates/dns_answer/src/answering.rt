@@ -1,0 +1,130 @@
+//! Answers to queries from a table of records, cut to what the client takes (RFC 1035 section 4.1, RFC 6891 section 6.2).
+ghost use Rattle.std.specs.Prelude.{◌≡◌, ◌≤◌, ◌<◌, ◌↔◌, IfOk, IsTrue, Some, IsErr, length, map, max};
+ghost use Rattle.dns_wire.specs.Pieces.{Plain};
+ghost use Rattle.dns_code.specs.HeaderSection.{header_size};
+ghost use Rattle.dns_question.specs.Question.{parsed_question};
+ghost use Rattle.dns_question.specs.Questions.{QuestionItem};
+ghost use Rattle.dns_item.specs.Record.{record_item};
+ghost use Rattle.dns_read.specs.Message.{message_octets};
+ghost use Rattle.dns_read.specs.Searches.{asked_first};
+ghost use Rattle.dns_build.specs.State.{InAnswer, InBuilder, with_limit};
+ghost use Rattle.dns_build.specs.Standing.{InEach, StandsFor, fresh};
+ghost use Rattle.dns_answer.specs.Answering.{AddsFound, IsAnswer, IsAsked, PushesFound, payload_size};
+
+use dns_message::builder::{AnswerBuilder, MessageBuilder, PushError};
+use dns_message::code::Rcode;
+use dns_message::data::ComposeRecordData;
+use dns_message::message::Message;
+use dns_message::name::{ParsedName, ToName, ToNameExt};
+use dns_message::question::Question;
+use dns_message::record::Record;
+use std::alloc::Global;
+
+/// Why there is no answer.
+#[derive(Clone, Copy, Debug)]
+pub enum NoAnswer {
+    /// The query has fewer than twelve octets, so there is no ID to answer to.
+    ShortQuery,
+    /// The questions don't fit what the client takes, or memory is refused.
+    Refused(PushError),
+}
+
+impl From<PushError> for NoAnswer {
+    fn from(error: PushError) -> Self {
+        NoAnswer::Refused(error)
+    }
+}
+
+/// The answer to a query: the records of the table that its first question asks for; if they don't fit what the client
+/// takes, none of them, and TC. A query whose first question can't be read is answered by FORMERR.
+pub fn answer<N: ToName, D: ComposeRecordData>(
+    alloc: Global,
+    query: &[u8],
+    table: &[Record<N, D>],
+) -> Result<Vec<u8>, NoAnswer>
+    ensures limit { IfOk result (λ answer. length answer.items ≤ payload_size query.now) }
+    ensures answers { IfOk result (λ answer. (asked : QuestionItem)
+        → asked_first query.now ≡ Some asked
+        → IsAnswer query.now (map (record_item N.name D.rtype_of D.parts) table.now) asked
+        answer.items) }
+    ensures short { length query.now < header_size → IsErr result }
+{
+    let Ok(message) = Message::from_slice(query) else {
+        return Err(NoAnswer::ShortQuery);
+    };
+    let builder = limited(alloc, limit_of(&message))?;
+    let Some(question) = message.first_question() else {
+        let error = builder.start_error(&message, Rcode::masked_from_int(1));
+        return Ok(error.into_message().into_octets());
+    };
+    let started = builder.start_answer(&message, Rcode::NOERROR)?;
+    let answered = with_found(started, &question, table)?;
+    Ok(answered.into_message().into_octets())
+}
+
+/// A builder of a message of at most so many octets.
+fn limited(alloc: Global, limit: usize) -> Result<MessageBuilder<Vec<u8>>, PushError>
+    ensures { IfOk result (StandsFor InBuilder Plain (with_limit limit fresh)) }
+{
+    let mut builder = MessageBuilder::new_vec(alloc)?;
+    builder.set_push_limit(limit);
+    Ok(builder)
+}
+
+/// How many octets the client takes.
+fn limit_of(query: &Message<&[u8]>) -> usize
+    ensures { result ≡ payload_size (message_octets query.now) }
+{
+    match query.opt() {
+        Some(opt) => usize::from(opt.udp_payload_size()).max(512),
+        None => 512,
+    }
+}
+
+/// The builder with the records that the question asks for; where they pass the limit, without any, and with TC.
+fn with_found<N: ToName, D: ComposeRecordData>(
+    builder: AnswerBuilder<Vec<u8>>,
+    question: &Question<ParsedName<'_>>,
+    table: &[Record<N, D>],
+) -> Result<AnswerBuilder<Vec<u8>>, PushError>
+    ensures { IfOk result (λ new. InEach InAnswer Plain builder (λ s. AddsFound
+        (parsed_question question.now) (map (record_item N.name D.rtype_of D.parts) table.now)
+        s new)) }
+{
+    let mut builder = builder;
+    match push_found(&mut builder, question, table) {
+        Ok(()) => Ok(builder),
+        Err(PushError::LimitExceeded) => Ok(builder.tc_rewind_into()),
+        Err(error) => Err(error),
+    }
+}
+
+/// Pushes the records that the question asks for, up to the first that is refused.
+fn push_found<N: ToName, D: ComposeRecordData>(
+    builder: &mut AnswerBuilder<Vec<u8>>,
+    question: &Question<ParsedName<'_>>,
+    table: &[Record<N, D>],
+) -> Result<(), PushError>
+    ensures { InEach InAnswer Plain builder.old (λ s. PushesFound (parsed_question question.now)
+        (map (record_item N.name D.rtype_of D.parts) table.now) s result builder.new) }
+{
+    for found in table {
+        if is_asked(question, found) {
+            builder.push_ref(found)?;
+        }
+    }
+    Ok(())
+}
+
+/// Whether the record is one that the question asks for.
+fn is_asked<N: ToName, D: ComposeRecordData>(
+    question: &Question<ParsedName<'_>>,
+    found: &Record<N, D>,
+) -> bool
+    ensures { IsTrue result ↔ IsAsked (parsed_question question.now)
+        (record_item N.name D.rtype_of D.parts found.now) }
+{
+    found.owner().name_eq(question.qname())
+        && found.rtype() == question.qtype()
+        && found.class() == question.qclass()
+}
