@@ -22,7 +22,7 @@ fn push_address<B: RecordSectionBuilder<Vec<u8>>>(builder: &mut B) -> Result<(),
 /// A builder behind one question, which takes 5 octets.
 fn question(alloc: Global) -> Result<QuestionBuilder<Vec<u8>>, Fail> {
     let mut builder = MessageBuilder::new_vec(alloc)?.question();
-    builder.push((Name::root_slice(), Rtype::A))?;
+    builder.push((Name::from_octets([0])?, Rtype::A))?;
     Ok(builder)
 }
 

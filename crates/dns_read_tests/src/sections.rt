@@ -177,7 +177,7 @@ fn parses_records_with_their_data(rt: HostRuntime) -> Result<(), Fail> {
         )
     );
     assert_eq!(rt; parser.pos(), 29);
-    assert!(rt; ParsedRecord::parse(&mut parser).is_err());
+    assert!(rt; matches!(ParsedRecord::parse(&mut parser), Err(ParseError::ShortInput)));
     assert_eq!(rt; parser.pos(), 29);
     Ok(())
 }
