@@ -12,32 +12,13 @@ use answering::answer;
 use dns_message::data::A;
 use dns_message::name::Name;
 use dns_message::record::Record;
-use std::alloc::{AllocError, Global};
 use std::io;
 use std::io::Read;
-
-/// The octets that digits write, two for each; `None` for any other text.
-fn octets_of(alloc: Global, digits: &[u8]) -> Result<Option<Vec<u8>>, AllocError> {
-    let mut octets = Vec::new(alloc);
-    for pair in digits.chunks(2) {
-        let [high, low] = pair else {
-            return Ok(None);
-        };
-        let (Some(high), Some(low)) = (
-            char::from(*high).to_digit(16),
-            char::from(*low).to_digit(16),
-        ) else {
-            return Ok(None);
-        };
-        octets.push((high * 16 + low) as u8)?;
-    }
-    Ok(Some(octets))
-}
 
 fn main(rt: HostRuntime) -> io::Result<()> {
     let mut digits = Vec::new(rt.alloc());
     rt.stdin().read_to_end(&mut digits)?;
-    let Some(query) = octets_of(rt.alloc(), digits.trim_ascii())? else {
+    let Ok(query) = hex::decode(rt.alloc(), digits.trim_ascii()) else {
         return println!(rt; "bad digits");
     };
     let Ok(name) = Name::from_octets(*b"\x07example\x03com\x00") else {
