@@ -9,9 +9,11 @@ mod make;
 mod text;
 mod walk;
 
-ghost use Rattle.std.specs.Prelude.{◌≡◌, ◌≤◌, ◌+◌, ◌++◌, ◌∷◌, [], length, take};
+ghost use Rattle.std.specs.Prelude.{◌≡◌, ◌≢◌, ◌<◌, ◌≤◌, ◌+◌, ◌++◌, ◌∷◌, [], length, take};
 ghost use Rattle.dns_name.specs.NameTexts.{name_text};
 ghost use Rattle.dns_name.specs.Names.{Labels, Stands, uncompressed};
+ghost use Rattle.dns_code.specs.HeaderSection.{header_size};
+ghost use Rattle.dns_c.specs.Steps.{IsOpen, Opens, GivesNext};
 
 use make::NewItem;
 use std::alloc::Global;
@@ -20,14 +22,22 @@ use walk::{Cursor, Header, Item};
 
 /// Reads the header, and puts the cursor before the first question.
 #[unsafe(no_mangle)]
-pub extern "C" fn dns_open(message: &[u8], header: &mut Header, cursor: &mut Cursor) -> u8 {
+pub extern "C" fn dns_open(message: &[u8], header: &mut Header, cursor: &mut Cursor) -> u8
+    ensures opens { header_size ≤ length message.now → (result ≡ 0)
+        × Opens message.now header.new cursor.new }
+    ensures short { length message.now < header_size → (result ≡ 2) × (cursor.new.status ≡ 2) }
+{
     walk::open(message, header, cursor)
 }
 
 /// The next question or record: 0 with an item, 1 behind the last, else what is wrong, and then the same again.
 #[unsafe(no_mangle)]
 pub extern "C" fn dns_next(message: &[u8], cursor: &mut Cursor, item: &mut Item) -> u8
+    ensures gives { IsOpen message.now cursor.old
+        → GivesNext message.now cursor.old cursor.new item.new result }
     ensures within { result ≡ 0 → item.new.«data» + item.new.data_len ≤ length message.now }
+    ensures kept { cursor.old.status ≢ 0 → (result ≡ cursor.old.status)
+        × (cursor.new ≡ cursor.old) }
 {
     if cursor.status != 0 {
         return cursor.status;
