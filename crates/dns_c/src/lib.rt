@@ -13,6 +13,7 @@ ghost use Rattle.std.specs.Prelude.{◌≡◌, ◌≢◌, ◌<◌, ◌≤◌, �
 ghost use Rattle.dns_name.specs.NameTexts.{name_text};
 ghost use Rattle.dns_name.specs.Names.{Labels, Stands, uncompressed};
 ghost use Rattle.dns_code.specs.HeaderSection.{header_size};
+ghost use Rattle.dns_c.specs.Made.{IsQuery};
 ghost use Rattle.dns_c.specs.Steps.{IsOpen, Opens, GivesNext};
 
 use make::NewItem;
@@ -116,6 +117,8 @@ pub extern "C" fn dns_query(
     len: &mut usize,
 ) -> u8
     ensures length { length out.new ≡ length out.old }
+    ensures query { result ≡ 0
+        → IsQuery id recursion name.now qtype qclass (take len.new out.new) }
 {
     match make::query(id, recursion, name, qtype, qclass) {
         Ok(made) => make::hand_out(made.as_slice(), out, len),
