@@ -1,0 +1,15 @@
+use Rattle.dns_read.specs.Message.{message_octets}
+use Rattle.dns_c.proofs.WalkLemmas.{moved_on}
+use Rattle.dns_c.proofs.walk.settle.Goals as goal
+use Rattle.std.proofs.Common.{◌∙◌, arith}
+
+pub loop-cursor-preserved : goal.loop-cursor-preserved
+loop-cursor-preserved c =
+    let old = c.loop-cursor.cursor in
+    record {
+      same =
+          moved_on (message_octets c.args.message.now) old.section old.left c.count_of-cursor.result old.place c.loop-cursor-test.true c.if-cursor-lt3.true c.count_of-cursor.ensures
+          ∙ c.loop-cursor.invariant.same;
+      section = omega arith;
+      status = c.loop-cursor.invariant.status;
+    }

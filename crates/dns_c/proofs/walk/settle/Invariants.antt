@@ -1,0 +1,14 @@
+use Rattle.std.proofs.Common.{◌≡◌, ◌≤◌, ◌-◌}
+use Rattle.dns_read.specs.Message.{message_octets}
+use Rattle.dns_c.specs.Steps.{left_from}
+use Rattle.dns_c.proofs.walk.settle.Given as goal
+
+abbrev pub invariant-loop-cursor : goal.invariant-loop-cursor
+invariant-loop-cursor l = record {
+  same : left_from (message_octets l.message) l.cursor ≡ left_from (message_octets l.fn.message) l.fn.cursor;
+  section : l.cursor.section ≤ 3;
+  status : l.cursor.status ≡ l.fn.cursor.status;
+}
+
+abbrev pub decreases-loop-cursor : goal.decreases-loop-cursor
+decreases-loop-cursor l = 3 - l.cursor.section

@@ -1,0 +1,30 @@
+-- The numbers by which C sees what is wrong, as dns.h has them.
+use Rattle.std.specs.Prelude.{◌≡◌, ℕ, ◌≤◌, Bool, true, false, Result, Ok, Err}
+use Rattle.dns_name.specs.Names.{Fault as FaultThere}
+use Rattle.dns_name.specs.Names.Fault.{ShortInput, Form}
+use Rattle.dns_c.specs.declared.code.Fault.{Fault}
+use Rattle.dns_c.specs.declared.code.Fault.TheVariants as faults
+
+-- the number of a fault
+abbrev pub number_of : Fault → ℕ
+number_of faults.ShortInput = 2
+number_of faults.BadLabel = 3
+number_of faults.BadPointer = 4
+number_of faults.LongName = 5
+number_of faults.Form = 6
+number_of faults.NoRoom = 7
+number_of faults.BadText = 8
+number_of faults.NoQuestion = 9
+number_of faults.BadArgument = 10
+number_of faults.NoMemory = 11
+
+-- 0 where something is given, 1 at the end, else the number of the fault
+abbrev pub code_of : Result Bool Fault → ℕ
+code_of (Ok true) = 0
+code_of (Ok false) = 1
+code_of (Err fault) = number_of fault
+
+-- a number that tells the fault of octets: 2 that one isn't there, 3 to 6 that they aren't as they have to be
+abbrev pub TellsFault : FaultThere → ℕ → Type 0
+TellsFault ShortInput n = n ≡ 2
+TellsFault Form n = (3 ≤ n) × (n ≤ 6)

@@ -1,0 +1,4 @@
+pub mod Walk
+pub mod Codes
+pub mod Steps
+pub mod Made

@@ -1,0 +1,163 @@
+//! Calls by which C programs read and write DNS messages. `dns.h` has their prototypes.
+//!
+//! Nothing is kept between two calls: the caller holds the message, the cursor and each buffer. Each call is total; what
+//! is wrong is answered as a number. Only `dns_build` takes memory.
+#![tactic(auto)]
+
+mod code;
+mod make;
+mod text;
+mod walk;
+
+ghost use Rattle.std.specs.Prelude.{◌≡◌, ◌≢◌, ◌<◌, ◌≤◌, ◌+◌, ◌++◌, ◌∷◌, [], length, take};
+ghost use Rattle.dns_name.specs.NameTexts.{name_text};
+ghost use Rattle.dns_name.specs.Names.{Labels, Stands, uncompressed};
+ghost use Rattle.dns_code.specs.HeaderSection.{header_size};
+ghost use Rattle.dns_c.specs.Made.{IsQuery};
+ghost use Rattle.dns_c.specs.Steps.{IsOpen, Opens, GivesNext};
+
+use make::NewItem;
+use std::alloc::Global;
+use text::Sink;
+use walk::{Cursor, Header, Item};
+
+/// Reads the header, and puts the cursor before the first question.
+#[unsafe(no_mangle)]
+pub extern "C" fn dns_open(message: &[u8], header: &mut Header, cursor: &mut Cursor) -> u8
+    ensures opens { header_size ≤ length message.now → (result ≡ 0)
+        × Opens message.now header.new cursor.new }
+    ensures short { length message.now < header_size → (result ≡ 2) × (cursor.new.status ≡ 2) }
+{
+    walk::open(message, header, cursor)
+}
+
+/// The next question or record: 0 with an item, 1 behind the last, else what is wrong, and then the same again.
+#[unsafe(no_mangle)]
+pub extern "C" fn dns_next(message: &[u8], cursor: &mut Cursor, item: &mut Item) -> u8
+    ensures gives { IsOpen message.now cursor.old
+        → GivesNext message.now cursor.old cursor.new item.new result }
+    ensures within { result ≡ 0 → item.new.«data» + item.new.data_len ≤ length message.now }
+    ensures kept { cursor.old.status ≢ 0 → (result ≡ cursor.old.status)
+        × (cursor.new ≡ cursor.old) }
+{
+    if cursor.status != 0 {
+        return cursor.status;
+    }
+    code::of(walk::next(message, cursor, item))
+}
+
+/// Writes the name at a place as text with a dot behind each label, and a zero octet.
+#[unsafe(no_mangle)]
+pub extern "C" fn dns_name_text(message: &[u8], place: usize, out: &mut [u8], len: &mut usize) -> u8
+    ensures length { length out.new ≡ length out.old }
+    ensures text { result ≡ 0 → (name : Labels) × Stands message.now place name × (take (len.new + 1) out.new ≡ name_text name ++ 46 ∷ 0 ∷ []) }
+{
+    match text::name(message, place) {
+        Ok(text) => make::hand_out_text(text.as_str().as_bytes(), out, len),
+        Err(fault) => code::of_fault(fault),
+    }
+}
+
+/// Writes the name at a place as octets without pointers: at most 255.
+#[unsafe(no_mangle)]
+pub extern "C" fn dns_name_octets(
+    message: &[u8],
+    place: usize,
+    out: &mut [u8],
+    len: &mut usize,
+) -> u8
+    ensures length { length out.new ≡ length out.old }
+    ensures name { result ≡ 0 → (name : Labels) × Stands message.now place name × (take len.new out.new ≡ uncompressed name) }
+{
+    match walk::name_at(message, place) {
+        Ok(name) => make::hand_out(name.uncompressed().as_slice(), out, len),
+        Err(fault) => code::of_fault(fault),
+    }
+}
+
+/// Writes the data of a record as text, and a zero octet: that of A, NS, CNAME and SOA in their own form, else opaque.
+#[unsafe(no_mangle)]
+pub extern "C" fn dns_data_text(message: &[u8], item: &Item, out: &mut [u8], len: &mut usize) -> u8
+    ensures length { length out.new ≡ length out.old }
+{
+    let mut sink = Sink::new(out);
+    let answer = text::data(message, item, &mut sink);
+    sink.close(answer, len)
+}
+
+/// Writes the name of a record type, and a zero octet.
+#[unsafe(no_mangle)]
+pub extern "C" fn dns_type_text(number: u16, out: &mut [u8], len: &mut usize) -> u8
+    ensures length { length out.new ≡ length out.old }
+{
+    let mut sink = Sink::new(out);
+    let answer = text::rtype(number, &mut sink);
+    sink.close(answer, len)
+}
+
+/// Writes the name of a class, and a zero octet.
+#[unsafe(no_mangle)]
+pub extern "C" fn dns_class_text(number: u16, out: &mut [u8], len: &mut usize) -> u8
+    ensures length { length out.new ≡ length out.old }
+{
+    let mut sink = Sink::new(out);
+    let answer = text::class(number, &mut sink);
+    sink.close(answer, len)
+}
+
+/// Writes a query for the name that a text spells.
+#[unsafe(no_mangle)]
+pub extern "C" fn dns_query(
+    id: u16,
+    recursion: bool,
+    name: &[u8],
+    qtype: u16,
+    qclass: u16,
+    out: &mut [u8],
+    len: &mut usize,
+) -> u8
+    ensures length { length out.new ≡ length out.old }
+    ensures query { result ≡ 0
+        → IsQuery id recursion name.now qtype qclass (take len.new out.new) }
+{
+    match make::query(id, recursion, name, qtype, qclass) {
+        Ok(made) => make::hand_out(made.as_slice(), out, len),
+        Err(fault) => code::of_fault(fault),
+    }
+}
+
+/// Writes the response to a query with one question: its header, its question, and one address.
+#[unsafe(no_mangle)]
+pub extern "C" fn dns_respond_a(
+    query: &[u8],
+    authoritative: bool,
+    ttl: u32,
+    address: &[u8; 4],
+    out: &mut [u8],
+    len: &mut usize,
+) -> u8
+    ensures length { length out.new ≡ length out.old }
+{
+    match make::respond_a(query, authoritative, ttl, address) {
+        Ok(made) => make::hand_out(made.as_slice(), out, len),
+        Err(fault) => code::of_fault(fault),
+    }
+}
+
+/// Writes the message of a header and items, each in its section, with names compressed. It takes memory.
+#[unsafe(no_mangle)]
+pub extern "C" fn dns_build(
+    alloc: Global,
+    id: u16,
+    flags: u16,
+    items: &[NewItem<'_>],
+    out: &mut [u8],
+    len: &mut usize,
+) -> u8
+    ensures length { length out.new ≡ length out.old }
+{
+    match make::build(alloc, id, flags, items) {
+        Ok(made) => make::hand_out(made.as_slice(), out, len),
+        Err(fault) => code::of_fault(fault),
+    }
+}

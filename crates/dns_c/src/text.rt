@@ -1,0 +1,112 @@
+//! Texts written into a caller's buffer.
+ghost use Rattle.std.specs.Prelude.{◌≡◌, ◌++◌, ◌∷◌, [], IfOk};
+ghost use Rattle.dns_name.specs.Names.{Labels, Stands};
+ghost use Rattle.dns_name.specs.NameTexts.{name_text};
+ghost use Rattle.dns_name.specs.ParsedName.{labels};
+
+use crate::code;
+use crate::code::Fault;
+use crate::walk::{Item, name_at};
+use arrayvec::ArrayString;
+use dns_code::{Class, Rtype};
+use dns_data::{A, Cname, Ns, ParseRecordData, Soa, UnknownRecordData};
+use dns_item::ParsedRecord;
+use dns_wire::{ParsedName, Parser};
+use std::fmt;
+use std::fmt::Write;
+
+/// A buffer that is written from its beginning on.
+pub(crate) struct Sink<'a> {
+    out: &'a mut [u8],
+    len: usize,
+}
+
+impl<'a> Sink<'a> {
+    pub(crate) fn new(out: &'a mut [u8]) -> Self {
+        Sink { out, len: 0 }
+    }
+
+    /// Ends the text with a zero octet, tells its length, and gives the number of the answer.
+    pub(crate) fn close(self, answer: Result<(), Fault>, len: &mut usize) -> u8 {
+        let Sink { out, len: written } = self;
+        *len = 0;
+        if let Err(fault) = answer {
+            return code::of_fault(fault);
+        }
+        if written >= out.len() {
+            return code::of_fault(Fault::NoRoom);
+        }
+        out[written] = 0;
+        *len = written;
+        0
+    }
+}
+
+impl fmt::Write for Sink<'_> {
+    fn write_str(&mut self, s: &str) -> fmt::Result {
+        let octets = s.as_bytes();
+        if self.len > self.out.len() || octets.len() > self.out.len() - self.len {
+            return Err(fmt::Error);
+        }
+        let end = self.len + octets.len();
+        self.out[self.len..end].copy_from_slice(octets);
+        self.len = end;
+        Ok(())
+    }
+}
+
+/// The text of a name, with a dot behind each label.
+#[tactic(auto, using(crate::proofs::Texts::array_contents))]
+fn spelled(name: ParsedName<'_>) -> Result<ArrayString<1004>, fmt::Error>
+    ensures { IfOk result (λ text. text.bytes ≡ name_text (labels name.entry) ++ 46 ∷ []) }
+{
+    let mut text = ArrayString::new();
+    text.write(name)?;
+    text.write_str(".")?;
+    Ok(text)
+}
+
+/// The text of the name at a place, with a dot behind each label.
+pub(crate) fn name(octets: &[u8], place: usize) -> Result<ArrayString<1004>, Fault>
+    ensures { IfOk result (λ text. (name : Labels) × Stands octets.now place name × (text.bytes ≡ name_text name ++ 46 ∷ [])) }
+{
+    let name = name_at(octets, place)?;
+    Ok(spelled(name)?)
+}
+
+/// The data of a record.
+pub(crate) fn data(octets: &[u8], item: &Item, sink: &mut Sink<'_>) -> Result<(), Fault> {
+    let mut parser = Parser::new(octets);
+    parser.seek(item.place)?;
+    let found = ParsedRecord::parse(&mut parser)?;
+    match found.rtype() {
+        Rtype::A => data_as::<A>(found, sink),
+        Rtype::NS => data_as::<Ns<ParsedName<'_>>>(found, sink),
+        Rtype::CNAME => data_as::<Cname<ParsedName<'_>>>(found, sink),
+        Rtype::SOA => data_as::<Soa<ParsedName<'_>>>(found, sink),
+        _ => data_as::<UnknownRecordData<&[u8]>>(found, sink),
+    }
+}
+
+fn data_as<'a, D: ParseRecordData<'a> + fmt::Display + Drop>(
+    found: ParsedRecord<'a>,
+    sink: &mut Sink<'_>,
+) -> Result<(), Fault> {
+    let Some(read) = found.to_record::<D>()? else {
+        return Err(Fault::Form);
+    };
+    write!(sink, "{}", read.data())?;
+    Ok(())
+}
+
+/// The name of a record type.
+pub(crate) fn rtype(number: u16, sink: &mut Sink<'_>) -> Result<(), Fault> {
+    write!(sink, "{}", Rtype::from_int(number))?;
+    Ok(())
+}
+
+/// The name of a class.
+pub(crate) fn class(number: u16, sink: &mut Sink<'_>) -> Result<(), Fault> {
+    write!(sink, "{}", Class::from_int(number))?;
+    Ok(())
+}

@@ -1,0 +1,237 @@
+//! A walk over a message whose place the caller holds.
+ghost use Rattle.std.specs.Prelude.{◌≡◌, ◌+◌, ◌<◌, ◌≤◌, length, true, IfOk, IfErr};
+ghost use Rattle.dns_name.specs.Names.{Stands, fault_of};
+ghost use Rattle.dns_name.specs.ParsedName.{labels};
+ghost use Rattle.dns_name.specs.Parsers as Parsers;
+ghost use Rattle.dns_name.specs.Parsers.{seen};
+ghost use Rattle.dns_code.specs.HeaderSection.{header_size};
+ghost use Rattle.dns_question.specs.Questions.{QuestionFaultAt};
+ghost use Rattle.dns_item.specs.Items.{RecordFaultAt};
+ghost use Rattle.dns_read.specs.Message.{message_octets};
+ghost use Rattle.dns_c.specs.Steps.{left_from, IsHeader, IsOpen, Opens, AnswersQuestion, AnswersRecord, AnswersEntry, Steps};
+ghost use Rattle.dns_c.specs.Walk.{count_at};
+
+use crate::code;
+use crate::code::Fault;
+use dns_item::{Question, RecordHeader};
+use dns_read::Message;
+use dns_wire::{ParseError, ParsedName, Parser};
+
+/// A header with its counts.
+#[repr(C)]
+#[derive(Clone, Copy)]
+pub struct Header {
+    pub id: u16,
+    /// The third and fourth octet.
+    pub flags: u16,
+    /// Of questions, answers, authorities and additional records.
+    pub counts: [u16; 4],
+    pub opcode: u8,
+    pub rcode: u8,
+}
+
+/// A place in a message, which the caller holds.
+#[repr(C)]
+#[derive(Clone, Copy)]
+pub struct Cursor {
+    /// Behind what was given.
+    pub place: usize,
+    /// How many are left in the section.
+    pub left: u16,
+    /// 0 for questions, then 1 to 3.
+    pub section: u8,
+    /// 0, or what was wrong.
+    pub status: u8,
+}
+
+/// A question or a record.
+#[repr(C)]
+#[derive(Clone, Copy)]
+pub struct Item {
+    /// Where it begins, which is where its name does.
+    pub place: usize,
+    /// Where its data begins.
+    pub data: usize,
+    pub ttl: u32,
+    pub rtype: u16,
+    pub class: u16,
+    pub data_len: u16,
+    /// 0 for questions, then 1 to 3.
+    pub section: u8,
+}
+
+/// The count of a section.
+fn count_of(message: &Message<&[u8]>, section: u8) -> u16
+    ensures { result ≡ count_at (message_octets message.now) section }
+{
+    let counts = message.header_counts();
+    match section {
+        0 => counts.qdcount(),
+        1 => counts.ancount(),
+        2 => counts.nscount(),
+        _ => counts.arcount(),
+    }
+}
+
+/// The header of a message, and its counts.
+fn header_of(message: &Message<&[u8]>) -> Header
+    ensures { IsHeader (message_octets message.now) result }
+{
+    let header = message.header();
+    let fields = header.as_slice();
+    let counts = message.header_counts();
+    Header {
+        id: header.id(),
+        flags: u16::from_be_bytes([fields[2], fields[3]]),
+        counts: [
+            counts.qdcount(),
+            counts.ancount(),
+            counts.nscount(),
+            counts.arcount(),
+        ],
+        opcode: header.opcode().to_int(),
+        rcode: header.rcode().to_int(),
+    }
+}
+
+/// Reads the header, and puts the cursor before the first question.
+pub(crate) fn open(octets: &[u8], header: &mut Header, cursor: &mut Cursor) -> u8
+    ensures opens { header_size ≤ length octets.now → (result ≡ 0)
+        × Opens octets.now header.new cursor.new }
+    ensures short { length octets.now < header_size → (result ≡ 2) × (cursor.new.status ≡ 2) }
+{
+    let Ok(message) = Message::from_slice(octets) else {
+        let status = code::of_fault(Fault::ShortInput);
+        *cursor = Cursor {
+            place: 0,
+            left: 0,
+            section: 3,
+            status,
+        };
+        return status;
+    };
+    *header = header_of(&message);
+    *cursor = Cursor {
+        place: 12,
+        left: count_of(&message, 0),
+        section: 0,
+        status: 0,
+    };
+    0
+}
+
+/// Moves the cursor past sections of which nothing is left.
+fn settle(message: &Message<&[u8]>, cursor: &mut Cursor)
+    requires { cursor.old.section ≤ 3 }
+    ensures same { left_from (message_octets message.now) cursor.new
+        ≡ left_from (message_octets message.now) cursor.old }
+    ensures section { cursor.new.section ≤ 3 }
+    ensures last { cursor.new.left ≡ 0 → cursor.new.section ≡ 3 }
+    ensures status { cursor.new.status ≡ cursor.old.status }
+{
+    while cursor.left == 0 && cursor.section < 3 {
+        cursor.section += 1;
+        cursor.left = count_of(message, cursor.section);
+    }
+}
+
+/// A parser at a place of the octets. Past their end there is nothing to read.
+#[tactic(auto, using(crate::proofs::WalkLemmas::past_end))]
+fn parser_at(octets: &[u8], place: usize) -> Result<Parser<'_>, ParseError>
+    ensures ok { IfOk result (λ parser. (seen parser ≡ octets.now)
+        × (Parsers.place parser ≡ place)) }
+    ensures err { IfErr result (λ error. QuestionFaultAt octets.now place (fault_of error)
+        × RecordFaultAt octets.now place (fault_of error)) }
+{
+    let mut parser = Parser::new(octets);
+    parser.seek(place)?;
+    Ok(parser)
+}
+
+/// The question at a place, and the place behind it.
+fn read_question(octets: &[u8], place: usize) -> Result<(Item, usize), ParseError>
+    ensures { AnswersQuestion octets.now place result }
+{
+    let mut parser = parser_at(octets, place)?;
+    let question = Question::parse(&mut parser)?;
+    let item = Item {
+        place,
+        data: parser.pos(),
+        ttl: 0,
+        rtype: question.qtype().to_int(),
+        class: question.qclass().to_int(),
+        data_len: 0,
+        section: 0,
+    };
+    Ok((item, parser.pos()))
+}
+
+/// The record at a place, which is of this section, and the place behind it.
+fn read_record(octets: &[u8], section: u8, place: usize) -> Result<(Item, usize), ParseError>
+    ensures { AnswersRecord octets.now section place result }
+{
+    let mut parser = parser_at(octets, place)?;
+    let header = RecordHeader::parse_and_skip(&mut parser)?;
+    let item = Item {
+        place,
+        data: parser.pos() - usize::from(header.rdlen()),
+        ttl: header.ttl().as_secs(),
+        rtype: header.rtype().to_int(),
+        class: header.class().to_int(),
+        data_len: header.rdlen(),
+        section,
+    };
+    Ok((item, parser.pos()))
+}
+
+/// The entry at the cursor, and the place behind it.
+fn read(octets: &[u8], cursor: &Cursor) -> Result<(Item, usize), ParseError>
+    requires { cursor.now.section ≤ 3 }
+    ensures entry { AnswersEntry octets.now cursor.now result }
+    ensures within { IfOk result (λ found. found.0.«data» + found.0.data_len ≤ length octets.now) }
+{
+    if cursor.section == 0 {
+        read_question(octets, cursor.place)
+    } else {
+        read_record(octets, cursor.section, cursor.place)
+    }
+}
+
+/// The next item, if there is one.
+pub(crate) fn next(octets: &[u8], cursor: &mut Cursor, item: &mut Item) -> Result<bool, Fault>
+    ensures steps { IsOpen octets.now cursor.old
+        → Steps octets.now cursor.old cursor.new item.new result }
+    ensures within { IfOk result (λ given. given ≡ true
+        → item.new.«data» + item.new.data_len ≤ length octets.now) }
+{
+    if cursor.section > 3 {
+        return Err(Fault::BadArgument);
+    }
+    let message = Message::from_slice(octets)?;
+    settle(&message, cursor);
+    if cursor.left == 0 {
+        return Ok(false);
+    }
+    match read(octets, cursor) {
+        Ok((read, behind)) => {
+            *item = read;
+            cursor.place = behind;
+            cursor.left -= 1;
+            Ok(true)
+        }
+        Err(error) => {
+            let fault = Fault::from(error);
+            cursor.status = code::of_fault(fault);
+            Err(fault)
+        }
+    }
+}
+
+/// The name at a place.
+pub(crate) fn name_at(octets: &[u8], place: usize) -> Result<ParsedName<'_>, Fault>
+    ensures { IfOk result (λ name. Stands octets.now place (labels name)) }
+{
+    let mut parser = Parser::new(octets);
+    parser.seek(place)?;
+    Ok(ParsedName::parse(&mut parser)?)
+}
