@@ -50,11 +50,12 @@ pub extern "C" fn dns_next(message: &[u8], cursor: &mut Cursor, item: &mut Item)
 #[unsafe(no_mangle)]
 pub extern "C" fn dns_name_text(message: &[u8], place: usize, out: &mut [u8], len: &mut usize) -> u8
     ensures length { length out.new ≡ length out.old }
+    ensures empty { result ≢ 0 → len.new ≡ 0 }
     ensures text { result ≡ 0 → (name : Labels) × Stands message.now place name × (take (len.new + 1) out.new ≡ name_text name ++ 46 ∷ 0 ∷ []) }
 {
     match text::name(message, place) {
         Ok(text) => make::hand_out_text(text.as_str().as_bytes(), out, len),
-        Err(fault) => code::of_fault(fault),
+        Err(fault) => make::refuse(fault, len),
     }
 }
 
@@ -67,11 +68,12 @@ pub extern "C" fn dns_name_octets(
     len: &mut usize,
 ) -> u8
     ensures length { length out.new ≡ length out.old }
+    ensures empty { result ≢ 0 → len.new ≡ 0 }
     ensures name { result ≡ 0 → (name : Labels) × Stands message.now place name × (take len.new out.new ≡ uncompressed name) }
 {
     match walk::name_at(message, place) {
         Ok(name) => make::hand_out(name.uncompressed().as_slice(), out, len),
-        Err(fault) => code::of_fault(fault),
+        Err(fault) => make::refuse(fault, len),
     }
 }
 
@@ -79,6 +81,7 @@ pub extern "C" fn dns_name_octets(
 #[unsafe(no_mangle)]
 pub extern "C" fn dns_data_text(message: &[u8], item: &Item, out: &mut [u8], len: &mut usize) -> u8
     ensures length { length out.new ≡ length out.old }
+    ensures empty { result ≢ 0 → len.new ≡ 0 }
 {
     let mut sink = Sink::new(out);
     let answer = text::data(message, item, &mut sink);
@@ -89,6 +92,7 @@ pub extern "C" fn dns_data_text(message: &[u8], item: &Item, out: &mut [u8], len
 #[unsafe(no_mangle)]
 pub extern "C" fn dns_type_text(number: u16, out: &mut [u8], len: &mut usize) -> u8
     ensures length { length out.new ≡ length out.old }
+    ensures empty { result ≢ 0 → len.new ≡ 0 }
 {
     let mut sink = Sink::new(out);
     let answer = text::rtype(number, &mut sink);
@@ -99,6 +103,7 @@ pub extern "C" fn dns_type_text(number: u16, out: &mut [u8], len: &mut usize) ->
 #[unsafe(no_mangle)]
 pub extern "C" fn dns_class_text(number: u16, out: &mut [u8], len: &mut usize) -> u8
     ensures length { length out.new ≡ length out.old }
+    ensures empty { result ≢ 0 → len.new ≡ 0 }
 {
     let mut sink = Sink::new(out);
     let answer = text::class(number, &mut sink);
@@ -117,12 +122,13 @@ pub extern "C" fn dns_query(
     len: &mut usize,
 ) -> u8
     ensures length { length out.new ≡ length out.old }
+    ensures empty { result ≢ 0 → len.new ≡ 0 }
     ensures query { result ≡ 0
         → IsQuery id recursion name.now qtype qclass (take len.new out.new) }
 {
     match make::query(id, recursion, name, qtype, qclass) {
         Ok(made) => make::hand_out(made.as_slice(), out, len),
-        Err(fault) => code::of_fault(fault),
+        Err(fault) => make::refuse(fault, len),
     }
 }
 
@@ -137,10 +143,11 @@ pub extern "C" fn dns_respond_a(
     len: &mut usize,
 ) -> u8
     ensures length { length out.new ≡ length out.old }
+    ensures empty { result ≢ 0 → len.new ≡ 0 }
 {
     match make::respond_a(query, authoritative, ttl, address) {
         Ok(made) => make::hand_out(made.as_slice(), out, len),
-        Err(fault) => code::of_fault(fault),
+        Err(fault) => make::refuse(fault, len),
     }
 }
 
@@ -155,9 +162,10 @@ pub extern "C" fn dns_build(
     len: &mut usize,
 ) -> u8
     ensures length { length out.new ≡ length out.old }
+    ensures empty { result ≢ 0 → len.new ≡ 0 }
 {
     match make::build(alloc, id, flags, items) {
         Ok(made) => make::hand_out(made.as_slice(), out, len),
-        Err(fault) => code::of_fault(fault),
+        Err(fault) => make::refuse(fault, len),
     }
 }

@@ -1,5 +1,5 @@
 //! Texts written into a caller's buffer.
-ghost use Rattle.std.specs.Prelude.{◌≡◌, ◌++◌, ◌∷◌, [], IfOk};
+ghost use Rattle.std.specs.Prelude.{◌≡◌, ◌≢◌, ◌++◌, ◌∷◌, [], IfOk};
 ghost use Rattle.dns_name.specs.Names.{Labels, Stands};
 ghost use Rattle.dns_name.specs.NameTexts.{name_text};
 ghost use Rattle.dns_name.specs.ParsedName.{labels};
@@ -27,7 +27,9 @@ impl<'a> Sink<'a> {
     }
 
     /// Ends the text with a zero octet, tells its length, and gives the number of the answer.
-    pub(crate) fn close(self, answer: Result<(), Fault>, len: &mut usize) -> u8 {
+    pub(crate) fn close(self, answer: Result<(), Fault>, len: &mut usize) -> u8
+        ensures { result ≢ 0 → len.new ≡ 0 }
+    {
         let Sink { out, len: written } = self;
         *len = 0;
         if let Err(fault) = answer {
