@@ -16,8 +16,6 @@ mod clones;
 #[cfg(test)]
 mod compressors;
 #[cfg(test)]
-mod conversions;
-#[cfg(test)]
 mod copies;
 #[cfg(test)]
 mod opts;

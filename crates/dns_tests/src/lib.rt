@@ -14,6 +14,4 @@ mod record_program;
 #[cfg(test)]
 mod runs;
 #[cfg(test)]
-mod scripts;
-#[cfg(test)]
 mod tour;
