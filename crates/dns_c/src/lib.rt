@@ -51,7 +51,8 @@ pub extern "C" fn dns_next(message: &[u8], cursor: &mut Cursor, item: &mut Item)
 pub extern "C" fn dns_name_text(message: &[u8], place: usize, out: &mut [u8], len: &mut usize) -> u8
     ensures length { length out.new ≡ length out.old }
     ensures empty { result ≢ 0 → len.new ≡ 0 }
-    ensures text { result ≡ 0 → (name : Labels) × Stands message.now place name × (take (len.new + 1) out.new ≡ name_text name ++ 46 ∷ 0 ∷ []) }
+    ensures text { result ≡ 0 → (name : Labels) × Stands message.now place name
+        × (take (len.new + 1) out.new ≡ name_text name ++ 46 ∷ 0 ∷ []) }
 {
     match text::name(message, place) {
         Ok(text) => make::hand_out_text(text.as_str().as_bytes(), out, len),
@@ -69,7 +70,8 @@ pub extern "C" fn dns_name_octets(
 ) -> u8
     ensures length { length out.new ≡ length out.old }
     ensures empty { result ≢ 0 → len.new ≡ 0 }
-    ensures name { result ≡ 0 → (name : Labels) × Stands message.now place name × (take len.new out.new ≡ uncompressed name) }
+    ensures name { result ≡ 0 → (name : Labels) × Stands message.now place name
+        × (take len.new out.new ≡ uncompressed name) }
 {
     match walk::name_at(message, place) {
         Ok(name) => make::hand_out(name.uncompressed().as_slice(), out, len),

@@ -70,7 +70,8 @@ fn spelled(name: ParsedName<'_>) -> Result<ArrayString<1004>, fmt::Error>
 
 /// The text of the name at a place, with a dot behind each label.
 pub(crate) fn name(octets: &[u8], place: usize) -> Result<ArrayString<1004>, Fault>
-    ensures { IfOk result (λ text. (name : Labels) × Stands octets.now place name × (text.bytes ≡ name_text name ++ 46 ∷ [])) }
+    ensures { IfOk result (λ text. (name : Labels) × Stands octets.now place name
+        × (text.bytes ≡ name_text name ++ 46 ∷ [])) }
 {
     let name = name_at(octets, place)?;
     Ok(spelled(name)?)
