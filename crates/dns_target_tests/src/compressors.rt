@@ -123,7 +123,8 @@ fn clones_go_on_alone(rt: HostRuntime) -> Result<(), Fail> {
     let alloc = rt.alloc();
     assert_clones(&rt, StaticCompressor::new(ArrayVec::<u8, 30>::new()))?;
     assert_clones(&rt, TreeCompressor::new(alloc, Vec::new(alloc)))?;
-    assert_clones(&rt, HashCompressor::new(alloc, Vec::new(alloc)))
+    assert_clones(&rt, HashCompressor::new(alloc, Vec::new(alloc)))?;
+    assert_clones(&rt, IndexCompressor::new(alloc, Vec::new(alloc)))
 }
 
 #[test]

@@ -61,6 +61,22 @@ fn writes_over_its_message(rt: HostRuntime) -> Result<(), Fail> {
     Ok(())
 }
 
+/// A clone of a target of fixed size knows its length, and goes on alone.
+#[test]
+fn clones_a_target_of_fixed_size(rt: HostRuntime) -> Result<(), Fail> {
+    let mut target = StreamTarget::new(ArrayVec::<u8, 4>::new())?;
+    target.append_slice(b"a")?;
+    let clone = target.clone()?;
+    let steps = [
+        Step::Octets(b"b", Ok(b"b")),
+        Step::Octets(b"c", Err(AppendError::ShortBuf)),
+    ];
+    let clone = after(&rt, clone, &steps)?;
+    assert_message(&rt, &clone, b"ab", b"\x00\x02ab");
+    assert_message(&rt, &target, b"a", b"\x00\x01a");
+    Ok(())
+}
+
 #[test]
 fn is_full_at_65535_octets(rt: HostRuntime) -> Result<(), Fail> {
     let short = Err(AppendError::ShortBuf);
