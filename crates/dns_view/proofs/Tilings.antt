@@ -1,5 +1,5 @@
 -- A row behind rows.
-use Rattle.std.proofs.Common.{◌≡◌, ℕ, ◌≤◌, List, [], ◌∷◌, ◌++◌, subst, sym, refl}
+use Rattle.std.proofs.Common.{ℕ, ◌≤◌, List, [], ◌∷◌, ◌++◌, subst, sym, refl}
 use Rattle.dns_view.specs.Tiles.{Tiles}
 use Rattle.dns_view.specs.declared.row.Row.{Row}
 
