@@ -14,4 +14,6 @@ mod record_program;
 #[cfg(test)]
 mod runs;
 #[cfg(test)]
+mod scripts;
+#[cfg(test)]
 mod tour;
