@@ -4,6 +4,7 @@ use dns_code::{Class, Header, Rcode, Rtype};
 use dns_item::Question;
 use dns_read::{Message, QuestionSection, ShortMessage};
 use dns_wire::{AppendError, FormError, Name, OctetsFrom, ParseError, ToName, ToNameExt};
+use std::convert::AsSlice;
 use std::process::Abort;
 use std::test::Fail;
 
@@ -275,5 +276,15 @@ fn changes_into_an_array(rt: HostRuntime) -> Result<(), Fail> {
     assert_eq!(rt; kept.as_slice(), POSITIVE_RESPONSE.as_slice());
     let refused = Message::<ArrayVec<u8, 44>>::try_octets_from(rt.alloc(), message);
     assert_eq!(rt; refused.err(), Some(AppendError::ShortBuf));
+    Ok(())
+}
+
+#[test]
+fn lends_its_holder_and_its_octets(rt: HostRuntime) -> Result<(), Fail> {
+    let message = Message::from_octets(*POSITIVE_RESPONSE)?;
+    let holder: &[u8; 45] = message.as_ref();
+    assert_eq!(rt; holder, POSITIVE_RESPONSE);
+    assert_eq!(rt; AsSlice::as_slice(&message), POSITIVE_RESPONSE.as_slice());
+    assert_eq!(rt; message.into_octets(), *POSITIVE_RESPONSE);
     Ok(())
 }

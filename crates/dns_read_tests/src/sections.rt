@@ -2,7 +2,7 @@
 use dns_code::{Class, Rtype};
 use dns_data::{A, Cname, UnknownRecordData};
 use dns_item::{ParsedRecord, Record};
-use dns_read::{Message, RecordSection};
+use dns_read::{Message, RecordSection, Section};
 use dns_wire::{FormError, Name, ParseError, ParsedName, Parser, ToNameExt};
 use std::process::Abort;
 use std::test::Fail;
@@ -177,7 +177,20 @@ fn parses_records_with_their_data(rt: HostRuntime) -> Result<(), Fail> {
         )
     );
     assert_eq!(rt; parser.pos(), 29);
-    assert!(rt; ParsedRecord::parse(&mut parser).is_err());
+    assert!(rt;
+        matches!(
+            ParsedRecord::parse(&mut parser),
+            Err(ParseError::ShortInput)
+        )
+    );
     assert_eq!(rt; parser.pos(), 29);
+    Ok(())
+}
+
+#[test]
+fn sections_stand_in_the_order_of_the_message(rt: HostRuntime) -> Result<(), Fail> {
+    assert!(rt; Section::Answer < Section::Authority);
+    assert!(rt; Section::Authority < Section::Additional);
+    assert!(rt; Section::Answer < Section::Additional);
     Ok(())
 }
