@@ -18,7 +18,7 @@ pub(crate) const POSITIVE_RESPONSE: &[u8; 45] =
 pub(crate) const REPLACEMENTS: [u8; 6] = [0x00, 0x3F, 0x40, 0x80, 0xC0, 0xFF];
 
 /// Messages of one to three entries that can't be read, or stand at a bound.
-pub(crate) const BOUNDS: [&[u8]; 12] = [
+pub(crate) const BOUNDS: [&[u8]; 13] = [
     // a label behind which a pointer leads back to it
     b"\x00\x00\x00\x00\x00\x01\x00\x00\x00\x00\x00\x00\x01\x61\xC0\x0C\x00\x01\x00\x01",
     // a pointer to its own place
@@ -39,6 +39,8 @@ pub(crate) const BOUNDS: [&[u8]; 12] = [
     b"\x00\x00\x00\x00\x00\x00\x00\x01\x00\x00\x00\x00\x00\x00\x01\x00\x03\x00\x00\x00\x00\x00\x05\x01\x02\x03\x04\x05",
     // an owner that can't be read, before a record that can be
     b"\x00\x00\x00\x00\x00\x00\x00\x00\x00\x00\x00\x02\xC0\x0C\x00\x01\x00\x01\x00\x00\x00\x00\x00\x00\x00\x00\x01\x00\x01\x00\x00\x00\x00\x00\x04\x01\x02\x03\x04",
+    // aliases from a. to b. and from B. to c., of the classes CH and IN
+    b"\x00\x00\x00\x00\x00\x01\x00\x02\x00\x00\x00\x00\x01a\x00\x00\x01\x00\x01\x01a\x00\x00\x05\x00\x03\x00\x00\x00\x00\x00\x03\x01b\x00\x01B\x00\x00\x05\x00\x01\x00\x00\x00\x00\x00\x03\x01c\x00",
     // an OPT record whose option is cut off
     b"\x00\x00\x00\x00\x00\x00\x00\x00\x00\x00\x00\x01\x00\x00\x29\x10\x00\x01\x00\x00\x00\x00\x00\x01\x00",
 ];
@@ -108,9 +110,12 @@ fn add_piece(octets: &mut Octets, pieces: &[&[u8]], number: u64) -> Result<(), F
     Ok(())
 }
 
+/// An odd number whose multiples differ in their higher bits too.
+const SPREAD: u64 = 0x9E37_79B9_7F4A_7C15;
+
 /// A message of up to one question and six records, whose pieces are drawn at random.
 pub(crate) fn random_message(seed: u64) -> Result<Octets, Fail> {
-    let mut state = next_state(seed);
+    let mut state = next_state(seed.wrapping_mul(SPREAD));
     let mut octets = ArrayVec::new();
     let [flags, questions, answers, others, ..] = state.to_be_bytes();
     octets.try_extend_from_slice(&[0, 0, flags, 0, 0, questions & 1, 0, answers & 3])?;
