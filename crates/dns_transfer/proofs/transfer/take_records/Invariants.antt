@@ -1,0 +1,11 @@
+use Rattle.std.proofs.Common.{◌≡◌, ◌++◌, map}
+use Rattle.dns_section.specs.RecordSection.{record_answer, records_left}
+use Rattle.dns_transfer.specs.Transfer.{up_to_fault, is_whole}
+use Rattle.dns_transfer.proofs.transfer.take_records.Given as goal
+
+abbrev pub invariant-loop-item : goal.invariant-loop-item
+invariant-loop-item l =
+    let left = records_left l.item-iterator in
+    let all = records_left l.fn.records in
+    (map record_answer l.items.items ++ up_to_fault left ≡ map record_answer l.fn.items.items ++ up_to_fault all)
+    × (is_whole left ≡ is_whole all)

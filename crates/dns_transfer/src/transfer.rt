@@ -1,0 +1,95 @@
+//! The messages of a stream, and the records of their answer sections.
+ghost use Rattle.std.specs.Prelude.{◌≡◌, ◌++◌, map, IfOk, MatchOption};
+ghost use Rattle.dns_read.specs.Message.{message_octets};
+ghost use Rattle.dns_section.specs.RecordSection.{record_answer, records_left};
+ghost use Rattle.dns_transfer.specs.Transfer.{AreMessagesOf, BeginsWith, BeginsWithNone, transferred, answers_of, is_whole, up_to_fault, Takes};
+
+use dns_message::message::{Message, RecordSection};
+use dns_message::record::ParsedRecord;
+use dns_message::wire::ParseError;
+use std::alloc::{AllocError, Global};
+
+/// A record, or the error of the first that can't be read.
+pub(crate) type Item<'a> = Result<ParsedRecord<'a>, ParseError>;
+
+/// The messages of a stream, and the octets behind them, which begin with no message.
+pub(crate) fn messages<'a>(
+    alloc: Global,
+    stream: &'a [u8],
+) -> Result<(Vec<Message<&'a [u8]>>, &'a [u8]), AllocError>
+    ensures { IfOk result (λ found. AreMessagesOf stream.now (map message_octets found.0.items)
+        found.1.now) }
+{
+    let mut messages = Vec::new(alloc);
+    let mut rest = stream;
+    while let Some((message, behind)) = first_message(rest) {
+        messages.push(message)?;
+        rest = behind;
+    }
+    Ok((messages, rest))
+}
+
+/// The message that a stream begins with, and the octets behind it.
+fn first_message<'a>(stream: &'a [u8]) -> Option<(Message<&'a [u8]>, &'a [u8])>
+    ensures { MatchOption result (BeginsWithNone stream.now)
+        (λ found. BeginsWith stream.now (message_octets found.0) found.1.now) }
+{
+    let (length, behind) = stream.split_at_checked(2)?;
+    let length = u16::from_be_bytes([length[0], length[1]]);
+    let (octets, behind) = behind.split_at_checked(usize::from(length))?;
+    Some((Message::from_slice(octets).ok()?, behind))
+}
+
+/// The records of the answer sections of messages, in order, up to the error of the first that can't be read.
+pub(crate) fn items<'a>(
+    alloc: Global,
+    messages: &'a [Message<&'a [u8]>],
+) -> Result<Vec<Item<'a>>, AllocError>
+    ensures { IfOk result (λ items. map record_answer items.items
+        ≡ transferred (map message_octets messages.now)) }
+{
+    let mut items = Vec::new(alloc);
+    for message in messages {
+        if !take_answers(message, &mut items)? {
+            return Ok(items);
+        }
+    }
+    Ok(items)
+}
+
+/// Appends the records of a message's answer section, and tells whether all could be read.
+fn take_answers<'a>(
+    message: &'a Message<&'a [u8]>,
+    items: &mut Vec<Item<'a>>,
+) -> Result<bool, AllocError>
+    ensures { IfOk result (Takes (answers_of (message_octets message.now))
+        (map record_answer items.old.items) (map record_answer items.new.items)) }
+{
+    match message.answer() {
+        Ok(records) => take_records(records, items),
+        Err(error) => {
+            items.push(Err(error))?;
+            Ok(false)
+        }
+    }
+}
+
+/// Appends the records of a section, and tells whether all could be read.
+fn take_records<'a>(
+    records: RecordSection<'a>,
+    items: &mut Vec<Item<'a>>,
+) -> Result<bool, AllocError>
+    ensures { IfOk result (Takes (records_left records.entry)
+        (map record_answer items.old.items) (map record_answer items.new.items)) }
+{
+    for item in records {
+        match item {
+            Ok(record) => items.push(Ok(record))?,
+            Err(error) => {
+                items.push(Err(error))?;
+                return Ok(false);
+            }
+        }
+    }
+    Ok(true)
+}
