@@ -5,7 +5,7 @@ use dns_build::{MessageBuilder, PushError, QuestionBuilder};
 use dns_code::{Class, Header, Opcode, Rcode, Rtype};
 use dns_item::Question;
 use dns_read::Message;
-use dns_target::{HashCompressor, StaticCompressor, TreeCompressor};
+use dns_target::{HashCompressor, IndexCompressor, StaticCompressor, TreeCompressor};
 use dns_wire::{
     AppendError, Composer, FreezeBuilder, Name, Octets, ParseError, ParsedName, ToNameExt,
 };
@@ -255,24 +255,36 @@ fn compresses_suffixes_of_suffixes(rt: HostRuntime) -> Result<(), Fail> {
     over_each!(alloc, target => assert_shares_endings(&rt, alloc, target, lens))
 }
 
-/// Pushes the questions a. to y., and y. once more; the message then has so many octets.
-fn assert_25_names<T: Composer>(rt: &impl Abort, target: T, len: usize) -> Result<(), Fail> {
+/// Pushes the questions a. to y., and y. once more, whose octets are then these.
+fn assert_25_names<T: Composer>(rt: &impl Abort, target: T, again: &[u8]) -> Result<(), Fail> {
     let mut builder = MessageBuilder::from_target(target)?.question();
-    for letter in b'a'..=b'y' {
+    for letter in b'a'..=b'x' {
         builder.push((Name::from_octets([1, letter, 0])?, Rtype::A))?;
     }
+    assert_eq!(rt; builder.as_slice().len(), 180);
+    builder.push((Name::from_octets(*b"\x01y\x00")?, Rtype::A))?;
     assert_eq!(rt; builder.as_slice().len(), 187);
     builder.push((Name::from_octets(*b"\x01y\x00")?, Rtype::A))?;
-    assert_eq!(rt; builder.as_slice().len(), len);
+    assert_eq!(rt; builder.as_slice().get(187..), Some(again));
     Ok(())
 }
+
+/// The question y. behind a name that is written in full, in 7 octets, so the message has 194.
+const Y_IN_FULL: &[u8] = b"\x01y\x00\x00\x01\x00\x01";
+
+/// The question y. behind a pointer, in 6 octets, so the message has 193.
+const Y_BY_POINTER: &[u8] = b"\xC0\xB4\x00\x01\x00\x01";
 
 #[test]
 fn a_static_compressor_holds_24_suffixes(rt: HostRuntime) -> Result<(), Fail> {
     let alloc = rt.alloc();
-    assert_25_names(&rt, StaticCompressor::new(Vec::new(alloc)), 194)?;
-    assert_25_names(&rt, TreeCompressor::new(alloc, Vec::new(alloc)), 193)?;
-    assert_25_names(&rt, HashCompressor::new(alloc, Vec::new(alloc)), 193)
+    assert_25_names(&rt, StaticCompressor::new(Vec::new(alloc)), Y_IN_FULL)?;
+    let target = TreeCompressor::new(alloc, Vec::new(alloc));
+    assert_25_names(&rt, target, Y_BY_POINTER)?;
+    let target = HashCompressor::new(alloc, Vec::new(alloc));
+    assert_25_names(&rt, target, Y_BY_POINTER)?;
+    let target = IndexCompressor::new(alloc, Vec::new(alloc));
+    assert_25_names(&rt, target, Y_BY_POINTER)
 }
 
 /// An empty message over a target is twelve zero octets.

@@ -62,7 +62,11 @@ fn refuses_above_the_limit(rt: HostRuntime) -> Result<(), Fail> {
     assert!(rt; matches!(refused, Err(PushError::LimitExceeded)));
     assert_eq!(rt; builder.as_slice().len(), 62);
     builder.clear_push_limit();
-    assert!(rt; push_opaque(rt.alloc(), &mut builder, b"\x00", 0)?.is_ok());
+    push_opaque(rt.alloc(), &mut builder, b"\x00", 27)??;
+    assert_eq!(rt; builder.as_slice().len(), 100);
+    let refused = push_opaque(rt.alloc(), &mut builder, b"\x00", 0)?;
+    assert!(rt; matches!(refused, Err(PushError::ShortBuf)));
+    assert_eq!(rt; builder.as_slice().len(), 100);
     Ok(())
 }
 

@@ -5,7 +5,7 @@ use dns_code::{Flags, Header, Rtype};
 use dns_data::{A, Ns, UnknownRecordData};
 use dns_item::Ttl;
 use dns_target::{HashCompressor, StaticCompressor, TreeCompressor};
-use dns_wire::{Composer, Name};
+use dns_wire::{AppendError, Composer, Name};
 use std::alloc::Global;
 use std::process::Abort;
 use std::test::Fail;
@@ -317,43 +317,64 @@ fn writes_a_known_suffix_across_the_bound(rt: HostRuntime) -> Result<(), Fail> {
     assert_row_behind(&rt, alloc, target, c, &pointed)
 }
 
-/// The pushes of `POSITIVE_RESPONSE`: whether each was taken, and the length behind it.
-fn push_both<T: Composer>(target: T) -> Result<[(bool, usize); 2], Fail> {
+/// The answer to a push and the length behind it are these.
+fn assert_answer(
+    rt: &impl Abort,
+    answer: Result<(), PushError>,
+    len: usize,
+    (fits, expected): (bool, usize),
+) {
+    match answer {
+        Ok(()) => assert!(rt; fits),
+        Err(PushError::ShortBuf) => assert!(rt; !fits),
+        Err(_) => panic!(rt; "another error"),
+    }
+    assert_eq!(rt; len, expected);
+}
+
+/// The pushes of `POSITIVE_RESPONSE`: whether each fits, or else is `ShortBuf`, and the length behind it.
+fn assert_both<T: Composer>(
+    rt: &impl Abort,
+    target: T,
+    question: (bool, usize),
+    answer: (bool, usize),
+) -> Result<(), Fail> {
     let mut builder = MessageBuilder::from_target(target)?.question();
-    let question = builder.push((Name::from_octets(*EXAMPLE_COM)?, Rtype::A));
-    let question_end = builder.as_slice().len();
+    let pushed = builder.push((Name::from_octets(*EXAMPLE_COM)?, Rtype::A));
+    assert_answer(rt, pushed, builder.as_slice().len(), question);
     let mut builder = builder.answer();
-    let answer = push_address(&mut builder, EXAMPLE_COM)?;
-    let answer_end = builder.as_slice().len();
-    Ok([
-        (question.is_ok(), question_end),
-        (answer.is_ok(), answer_end),
-    ])
+    let pushed = push_address(&mut builder, EXAMPLE_COM)?;
+    assert_answer(rt, pushed, builder.as_slice().len(), answer);
+    Ok(())
+}
+
+/// A static compressor over an array.
+fn over_array<const N: usize>() -> StaticCompressor<ArrayVec<u8, N>> {
+    StaticCompressor::new(ArrayVec::new())
+}
+
+#[test]
+fn refuses_a_header_that_has_no_room(rt: HostRuntime) -> Result<(), Fail> {
+    let refused = MessageBuilder::from_target(over_array::<0>()).err();
+    assert_eq!(rt; refused, Some(AppendError::ShortBuf));
+    let refused = MessageBuilder::from_target(over_array::<11>()).err();
+    assert_eq!(rt; refused, Some(AppendError::ShortBuf));
+    Ok(())
 }
 
 #[test]
 fn refuses_a_question_that_has_no_room(rt: HostRuntime) -> Result<(), Fail> {
-    // for the header
-    let small = StaticCompressor::new(ArrayVec::<u8, 11>::new());
-    assert!(rt; MessageBuilder::from_target(small).is_err());
-    let none = [(false, 12), (false, 12)];
-    let pushed = push_both(StaticCompressor::new(ArrayVec::<u8, 12>::new()))?;
-    assert_eq!(rt; pushed, none);
-    let pushed = push_both(StaticCompressor::new(ArrayVec::<u8, 28>::new()))?;
-    assert_eq!(rt; pushed, none);
-    Ok(())
+    let refused = (false, 12);
+    assert_both(&rt, over_array::<12>(), refused, refused)?;
+    assert_both(&rt, over_array::<28>(), refused, refused)
 }
 
 #[test]
 fn refuses_an_answer_that_has_no_room(rt: HostRuntime) -> Result<(), Fail> {
-    let one = [(true, 29), (false, 29)];
-    let pushed = push_both(StaticCompressor::new(ArrayVec::<u8, 29>::new()))?;
-    assert_eq!(rt; pushed, one);
-    let pushed = push_both(StaticCompressor::new(ArrayVec::<u8, 44>::new()))?;
-    assert_eq!(rt; pushed, one);
-    let pushed = push_both(StaticCompressor::new(ArrayVec::<u8, 45>::new()))?;
-    assert_eq!(rt; pushed, [(true, 29), (true, 45)]);
-    Ok(())
+    let taken = (true, 29);
+    assert_both(&rt, over_array::<29>(), taken, (false, 29))?;
+    assert_both(&rt, over_array::<44>(), taken, (false, 29))?;
+    assert_both(&rt, over_array::<45>(), taken, (true, 45))
 }
 
 const WWW: &[u8] = b"\x03www\x07example\x03com\x00";

@@ -16,6 +16,8 @@ mod clones;
 #[cfg(test)]
 mod compressors;
 #[cfg(test)]
+mod conversions;
+#[cfg(test)]
 mod copies;
 #[cfg(test)]
 mod opts;

@@ -43,15 +43,10 @@ fn fills_an_array(rt: HostRuntime) -> Result<(), Fail> {
     Ok(())
 }
 
-/// Pushes opaque data, and gives whether it was taken, and the length before the message.
-fn push_before(
-    alloc: Global,
-    builder: &mut AnswerBuilder<StreamTarget<Vec<u8>>>,
-    count: usize,
-) -> Result<(bool, Option<[u8; 2]>), Fail> {
-    let taken = push_opaque(alloc, builder, b"\x00", count)?.is_ok();
-    let prefix = builder.as_target().as_stream_slice().first_chunk::<2>();
-    Ok((taken, prefix.copied()))
+/// The octets of the length before the message.
+fn prefix(builder: &AnswerBuilder<StreamTarget<Vec<u8>>>) -> Option<[u8; 2]> {
+    let octets = builder.as_target().as_stream_slice();
+    octets.first_chunk::<2>().copied()
 }
 
 /// A message has at most 65,535 octets.
@@ -61,10 +56,11 @@ fn assert_full(
     builder: MessageBuilder<StreamTarget<Vec<u8>>>,
 ) -> Result<(), Fail> {
     let mut builder = builder.answer();
-    let refused = push_before(alloc, &mut builder, 65_513)?;
-    assert_eq!(rt; refused, (false, Some([0, 12])));
-    let taken = push_before(alloc, &mut builder, 65_512)?;
-    assert_eq!(rt; taken, (true, Some([0xFF, 0xFF])));
+    let refused = push_opaque(alloc, &mut builder, b"\x00", 65_513)?;
+    assert!(rt; matches!(refused, Err(PushError::ShortBuf)));
+    assert_eq!(rt; prefix(&builder), Some([0, 12]));
+    push_opaque(alloc, &mut builder, b"\x00", 65_512)??;
+    assert_eq!(rt; prefix(&builder), Some([0xFF, 0xFF]));
     assert_eq!(rt; builder.as_slice().len(), 65_535);
     Ok(())
 }
