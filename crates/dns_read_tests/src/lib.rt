@@ -15,5 +15,6 @@ mod opt_searches;
 mod record_searches;
 #[cfg(test)]
 mod searches;
+mod section_order;
 #[cfg(test)]
 mod sections;

@@ -285,6 +285,25 @@ fn lends_its_holder_and_its_octets(rt: HostRuntime) -> Result<(), Fail> {
     let holder: &[u8; 45] = message.as_ref();
     assert_eq!(rt; holder, POSITIVE_RESPONSE);
     assert_eq!(rt; AsSlice::as_slice(&message), POSITIVE_RESPONSE.as_slice());
+    assert_eq!(rt; message.as_octets(), POSITIVE_RESPONSE);
+    assert_eq!(rt;
+        message.for_slice_ref().as_slice(),
+        POSITIVE_RESPONSE.as_slice()
+    );
     assert_eq!(rt; message.into_octets(), *POSITIVE_RESPONSE);
+    Ok(())
+}
+
+#[test]
+fn has_the_sections_of_an_update(rt: HostRuntime) -> Result<(), Fail> {
+    let message = Message::from_octets(*POSITIVE_RESPONSE)?;
+    let mut zones = message.zone();
+    assert!(rt; matches!(zones.next(), Some(Ok(zone)) if zone.qtype() == Rtype::A));
+    let mut prerequisites = message.prerequisite()?;
+    assert_eq!(rt; prerequisites.pos(), 29);
+    assert!(rt; matches!(prerequisites.next(), Some(Ok(record)) if record.rdlen() == 4));
+    let mut updates = message.update()?;
+    assert_eq!(rt; updates.pos(), 45);
+    assert!(rt; updates.next().is_none());
     Ok(())
 }
