@@ -1,3 +1,4 @@
+mod Asking
 mod Pushing
 mod Sizes
 mod Starting

@@ -1,16 +1,22 @@
 -- How the records that a question asks for are pushed one by one.
-use Rattle.std.proofs.Common.{◌≡◌, ◌∙◌, ℕ, ◌+◌, ◌<◌, ◌≤◌, List, [], ◌∷◌, ◌++◌, length, take, get_or, append_assoc, ap, sym, refl, subst, inl, inr, arith, None}
-use Rattle.std.proofs.lemmas.List.{take_more, append-nil, map-append}
-use Rattle.std.specs.Prelude.{map, Ok, Err}
+use Rattle.std.proofs.Common.{◌≡◌, ◌∙◌, ℕ, ◌+◌, ◌<◌, ◌≤◌, Bool, true, false, cond, List, [], ◌∷◌, ◌++◌, length, length-append, take, drop, get_or, append_assoc, ap, sym, refl, subst, arith, None}
+use Rattle.std.proofs.lemmas.Bool.{le-leb, lt-leb}
+use Rattle.std.proofs.Math.Seq.{take-length}
+use Rattle.std.proofs.lemmas.List.{take_more, append-nil, map-append, take-append-drop}
+use Rattle.std.proofs.lemmas.List.Elements.{filter-append}
+use Rattle.std.specs.Prelude.{map, filter, nat_le, Result, Ok, Err}
 use Rattle.dns_wire.specs.Pieces.{Plain}
-use Rattle.dns_wire.specs.Targets.{Fits}
+use Rattle.dns_wire.specs.Targets.{Fits, Passes}
+use Rattle.dns_code.specs.Header.{header_octets}
 use Rattle.dns_question.specs.Questions.{QuestionItem}
 use Rattle.dns_item.specs.Items.{RecordItem}
 use Rattle.dns_build.specs.Standing.{Built, StandsFor, MovesState, InEach, size_after}
-use Rattle.dns_build.specs.State.{InAnswer, State, with_record, most_entries, tc_rewound}
+use Rattle.dns_build.specs.State.{InAnswer, State, with_record, most_entries, tc_rewound, up_to}
 use Rattle.dns_build.specs.declared.push_error.PushError.{PushError}
-use Rattle.dns_answer.specs.Answering.{IsAsked, Selects, none, taken, passed, with_answers, size, MoreAnswers, PushesFound, AddsFound}
-use Rattle.dns_answer.proofs.Sizes.{cut_within}
+use Rattle.dns_build.specs.declared.push_error.PushError.TheVariants.{CountOverflow, LimitExceeded, ShortBuf, OutOfMemory}
+use Rattle.dns_answer.specs.Answering.{is_asked, asked_records, with_answers, size, all_or_none}
+use Rattle.dns_answer.specs.Pushing.{MoreAnswers, PushesEach, AddsAll}
+use Rattle.dns_answer.proofs.Sizes.{longer_answers, items_within}
 
 -- no more answers
 none_more : (s : State) (b : Built) → StandsFor InAnswer Plain s b → MoreAnswers s b []
@@ -18,11 +24,19 @@ none_more s b h =
     let e : s ≡ with_answers [] s = λ i. record s { answers = sym (append-nil s.answers) i } in
     record { stands = subst (λ (t : State). StandsFor InAnswer Plain t b) e h; within = λ l. subst (λ (t : State). size t ≤ s.limit) e l }
 
+-- what a push of an answer has to have, and why it may be refused
+abbrev HasRoom : RecordItem → State → Type 0
+HasRoom x t = let n = size_after Plain (with_record InAnswer x) t in Fits None n × (n ≤ t.limit) × (length t.answers < most_entries)
+
+abbrev PassesLimit : RecordItem → State → Type 0
+PassesLimit x t = let n = size_after Plain (with_record InAnswer x) t in Fits None n × (t.limit < n)
+
+abbrev PassesCount : RecordItem → State → Type 0
+PassesCount x t = let n = size_after Plain (with_record InAnswer x) t in Fits None n × (n ≤ t.limit) × (length t.answers ≡ most_entries)
+
 -- one more answer behind others
 one_more : (s : State) (xs : List RecordItem) (x : RecordItem) (mid new : Built) → MoreAnswers s mid xs
-    → MovesState InAnswer InAnswer Plain (with_record InAnswer x) mid new
-    → InEach InAnswer Plain mid (λ t. let n = size_after Plain (with_record InAnswer x) t in Fits None n × (n ≤ t.limit) × (length t.answers < most_entries))
-    → MoreAnswers s new (xs ++ x ∷ [])
+    → MovesState InAnswer InAnswer Plain (with_record InAnswer x) mid new → InEach InAnswer Plain mid (HasRoom x) → MoreAnswers s new (xs ++ x ∷ [])
 one_more s xs x mid new h moves room =
     let e : with_record InAnswer x (with_answers xs s) ≡ with_answers (xs ++ x ∷ []) s = λ i. record s { answers = append_assoc s.answers xs (x ∷ []) i } in
     record {
@@ -30,57 +44,106 @@ one_more s xs x mid new h moves room =
       within = λ l. subst (λ (t : State). size t ≤ s.limit) e (room (with_answers xs s) h.stands).1;
     }
 
+-- of more answers, the first are no longer than all
+some_within : (s : State) (b : Built) → StandsFor InAnswer Plain s b → (xs ys : List RecordItem) → size (with_answers xs s) ≤ size (with_answers (xs ++ ys) s)
+some_within s b h xs ys =
+    subst (λ (t : State). size (with_answers xs t) ≤ size (with_answers (xs ++ ys) t)) (sym h.last) (longer_answers s xs ys h.state.header)
+
+-- one that would pass the limit makes all longer than that
+limit_passed : (s : State) (xs : List RecordItem) (x : RecordItem) (ys : List RecordItem) (b mid : Built) → StandsFor InAnswer Plain s b → MoreAnswers s mid xs
+    → InEach InAnswer Plain mid (PassesLimit x) → s.limit < size (with_answers ((xs ++ x ∷ []) ++ ys) s)
+limit_passed s xs x ys b mid h more passes =
+    let e : with_record InAnswer x (with_answers xs s) ≡ with_answers (xs ++ x ∷ []) s = λ i. record s { answers = append_assoc s.answers xs (x ∷ []) i } in
+    let l : s.limit < size (with_answers (xs ++ x ∷ []) s) = subst (λ (t : State). s.limit < size t) e (passes (with_answers xs s) more.stands).1 in
+    let m = some_within s b h (xs ++ x ∷ []) ys in
+    omega (arith, l, m)
+
+-- one that can't be counted makes the limit above that count
+count_passed : (s : State) (xs : List RecordItem) (x : RecordItem) (mid : Built) → MoreAnswers s mid xs → InEach InAnswer Plain mid (PassesCount x) → most_entries < s.limit
+count_passed s xs x mid more passes =
+    let t = with_answers xs s in
+    let p = passes t more.stands in
+    let k = items_within (with_record InAnswer x t) more.stands.state.header in
+    let n = length-append t.answers (x ∷ []) in
+    omega (arith, p, k, n)
+
 module _ {R : Type 0} (item : R → RecordItem) (asked : QuestionItem) (table : List R) where
+  -- those of the first records of the table
+  abbrev pub first : ℕ → List RecordItem
+  first i = asked_records asked (map item (take i table))
+
   -- one record of the table more
-  next : (i : ℕ) (x : R) (d : R) → i < length table → x ≡ get_or table i d → map item (take i table) ++ item x ∷ [] ≡ map item (take (i + 1) table)
+  next : (i : ℕ) (x : R) (d : R) → i < length table → x ≡ get_or table i d → first (i + 1) ≡ first i ++ cond (is_asked asked (item x)) (item x ∷ []) []
   next i x d l is =
-      sym (map-append item (take i table) (x ∷ [])) ∙ ap (λ (y : R). map item (take i table ++ y ∷ [])) is ∙ ap (map item) (sym (take_more table i d l))
+      ap (λ (ys : List R). asked_records asked (map item ys)) (take_more table i d l)
+      ∙ ap (λ (y : R). asked_records asked (map item (take i table ++ y ∷ []))) (sym is)
+      ∙ ap (asked_records asked) (map-append item (take i table) (x ∷ []))
+      ∙ filter-append (is_asked asked) (map item (take i table)) (item x ∷ [])
+
+  next_taken : (i : ℕ) (x : R) (d : R) → i < length table → x ≡ get_or table i d → is_asked asked (item x) ≡ true → first (i + 1) ≡ first i ++ item x ∷ []
+  next_taken i x d l is asks = next i x d l is ∙ ap (λ (b : Bool). first i ++ cond b (item x ∷ []) []) asks
+
+  next_passed : (i : ℕ) (x : R) (d : R) → i < length table → x ≡ get_or table i d → is_asked asked (item x) ≡ false → first (i + 1) ≡ first i
+  next_passed i x d l is other = next i x d l is ∙ ap (λ (b : Bool). first i ++ cond b (item x ∷ []) []) other ∙ append-nil (first i)
+
+  -- those of the first, and behind them those of the others
+  first_then : (i : ℕ) → first i ++ asked_records asked (map item (drop i table)) ≡ asked_records asked (map item table)
+  first_then i =
+      sym (filter-append (is_asked asked) (map item (take i table)) (map item (drop i table)))
+      ∙ ap (asked_records asked) (sym (map-append item (take i table) (drop i table)))
+      ∙ ap (λ (ys : List R). asked_records asked (map item ys)) (take-append-drop i table)
 
   -- at first nothing is pushed
-  pub pushes_none : (s : State) (b : Built) → StandsFor InAnswer Plain s b → PushesFound asked (map item (take 0 table)) s (Ok tt) b
-  pushes_none s b h = ([], none, none_more s b h)
+  pub pushes_none : (s : State) (b : Built) → StandsFor InAnswer Plain s b → MoreAnswers s b (first 0)
+  pushes_none s b h = none_more s b h
 
   -- a record that is asked for is pushed
-  pub pushes_next : (i : ℕ) (x d : R) → i < length table → x ≡ get_or table i d → IsAsked asked (item x) → (old mid new : Built)
-      → MovesState InAnswer InAnswer Plain (with_record InAnswer (item x)) mid new
-      → InEach InAnswer Plain mid (λ t. let n = size_after Plain (with_record InAnswer (item x)) t in Fits None n × (n ≤ t.limit) × (length t.answers < most_entries))
-      → InEach InAnswer Plain old (λ s. PushesFound asked (map item (take i table)) s (Ok tt) mid)
-      → InEach InAnswer Plain old (λ s. PushesFound asked (map item (take (i + 1) table)) s (Ok tt) new)
+  pub pushes_next : (i : ℕ) (x d : R) → i < length table → x ≡ get_or table i d → is_asked asked (item x) ≡ true → (old mid new : Built)
+      → MovesState InAnswer InAnswer Plain (with_record InAnswer (item x)) mid new → InEach InAnswer Plain mid (HasRoom (item x))
+      → InEach InAnswer Plain old (λ s. MoreAnswers s mid (first i)) → InEach InAnswer Plain old (λ s. MoreAnswers s new (first (i + 1)))
   pushes_next i x d l is asks old mid new moves room so_far s h =
-      let before = so_far s h in (
-        before.0 ++ item x ∷ [],
-        subst (λ t. Selects asked t (before.0 ++ item x ∷ [])) (next i x d l is) (taken (item x) asks before.1),
-        one_more s before.0 (item x) mid new before.2 moves room,
-      )
+      subst (MoreAnswers s new) (sym (next_taken i x d l is asks)) (one_more s (first i) (item x) mid new (so_far s h) moves room)
 
   -- one that isn't is passed
-  pub passes_next : (i : ℕ) (x d : R) → i < length table → x ≡ get_or table i d → ¬ IsAsked asked (item x) → (old mid : Built)
-      → InEach InAnswer Plain old (λ s. PushesFound asked (map item (take i table)) s (Ok tt) mid)
-      → InEach InAnswer Plain old (λ s. PushesFound asked (map item (take (i + 1) table)) s (Ok tt) mid)
-  passes_next i x d l is other old mid so_far s h =
-      let before = so_far s h in
-      (before.0, subst (λ t. Selects asked t before.0) (next i x d l is) (passed (item x) other before.1), before.2)
+  pub passes_next : (i : ℕ) (x d : R) → i < length table → x ≡ get_or table i d → is_asked asked (item x) ≡ false → (old mid : Built)
+      → InEach InAnswer Plain old (λ s. MoreAnswers s mid (first i)) → InEach InAnswer Plain old (λ s. MoreAnswers s mid (first (i + 1)))
+  passes_next i x d l is other old mid so_far s h = subst (MoreAnswers s mid) (sym (next_passed i x d l is other)) (so_far s h)
+
+  -- where one is refused, all are, or those before it have been pushed
+  pub refused_next : (i : ℕ) (x d : R) → i < length table → x ≡ get_or table i d → is_asked asked (item x) ≡ true → (old mid : Built)
+      → InEach InAnswer Plain old (λ s. MoreAnswers s mid (first i)) → (result : Result (Unit {0}) PushError)
+      → (result ≡ Err ShortBuf → InEach InAnswer Plain mid (λ t. Passes None (size_after Plain (with_record InAnswer (item x)) t)))
+      → (result ≡ Err LimitExceeded → InEach InAnswer Plain mid (PassesLimit (item x)))
+      → (result ≡ Err CountOverflow → InEach InAnswer Plain mid (PassesCount (item x)))
+      → (e : PushError) → result ≡ Err e → InEach InAnswer Plain old (λ s. PushesEach (asked_records asked (map item table)) s (Err e) mid)
+  refused_next i x d l is asks old mid so_far result short limit count ShortBuf was s h = short was (with_answers (first i) s) (so_far s h).stands
+  refused_next i x d l is asks old mid so_far result short limit count OutOfMemory was s h = tt
+  refused_next i x d l is asks old mid so_far result short limit count CountOverflow was s h = count_passed s (first i) (item x) mid (so_far s h) (count was)
+  refused_next i x d l is asks old mid so_far result short limit count LimitExceeded was s h =
+      let others = asked_records asked (map item (drop (i + 1) table)) in
+      let all : (first i ++ item x ∷ []) ++ others ≡ asked_records asked (map item table) =
+      ap (λ (ys : List RecordItem). ys ++ others) (sym (next_taken i x d l is asks)) ∙ first_then (i + 1) in (
+        first i,
+        so_far s h,
+        subst (λ (ys : List RecordItem). s.limit < size (with_answers ys s)) all (limit_passed s (first i) (item x) others old mid h (so_far s h) (limit was)),
+      )
+
+  -- at last all are
+  pub pushes_all : (s : State) (b : Built) → MoreAnswers s b (first (length table)) → MoreAnswers s b (asked_records asked (map item table))
+  pushes_all s b more = subst (λ (ys : List R). MoreAnswers s b (asked_records asked (map item ys))) (take-length table) more
+
+-- a choice by a test that is known
+chosen : (xs : List RecordItem) (s : State) (b : Bool) → nat_le (size (with_answers xs s)) s.limit ≡ b → all_or_none xs s ≡ cond b (with_answers xs s) (tc_rewound InAnswer s)
+chosen xs s b is = ap (λ (t : Bool). cond t (with_answers xs s) (tc_rewound InAnswer s)) is
 
 -- all that were found are added
-pub all_added : (asked : QuestionItem) (table : List RecordItem) (s : State) (new : Built) → PushesFound asked table s (Ok tt) new → AddsFound asked table s new
-all_added asked table s new p = record {
-  left = with_answers p.0 s;
-  stands = p.2.stands;
-  questions = refl;
-  answers = λ e. inl (subst (Selects asked table) (ap (λ ys. ys ++ p.0) (sym e)) p.1, refl);
-  within = p.2.within;
-}
+pub all_added : (xs : List RecordItem) (s : State) (new : Built) → MoreAnswers s new xs → AddsAll xs s (Ok new)
+all_added xs s new more l =
+    subst (λ (t : State). StandsFor InAnswer Plain t new) (sym (chosen xs s true (le-leb (size (with_answers xs s)) s.limit (more.within l)))) more.stands
 
 -- none are, and TC is set
-pub cut_added : (asked : QuestionItem) (table : List RecordItem) (s : State) (e : PushError) (mid new : Built) → PushesFound asked table s (Err e) mid
-    → MovesState InAnswer InAnswer Plain (tc_rewound InAnswer) mid new → AddsFound asked table s new
-cut_added asked table s e mid new p moves =
-    let t = with_answers p.0 s in
-    let stands = moves t p.1.stands in
-    record {
-      left = tc_rewound InAnswer t;
-      stands = stands;
-      questions = refl;
-      answers = λ _. inr (refl, refl);
-      within = λ l. let a = cut_within t p.1.stands.state.header stands.state.header in let b = p.1.within l in omega (arith, a, b);
-    }
+pub none_added : (xs : List RecordItem) (s : State) (mid new : Built) → PushesEach xs s (Err LimitExceeded) mid
+    → MovesState InAnswer InAnswer Plain (tc_rewound InAnswer) mid new → AddsAll xs s (Ok new)
+none_added xs s mid new p moves l =
+    let other = lt-leb (size (with_answers xs s)) s.limit p.2 in
+    subst (λ (t : State). StandsFor InAnswer Plain t new) (sym (chosen xs s false other)) (moves (with_answers p.0 s) p.1.stands)

@@ -1,14 +1,13 @@
 -- How many octets the messages of states have.
-use Rattle.std.proofs.Common.{◌≡◌, ◌∙◌, ℕ, ◌+◌, ◌≤◌, List, [], ◌∷◌, ◌++◌, length, length-append, ap, sym, refl, arith}
-use Rattle.std.proofs.lemmas.List.{append-nil}
+use Rattle.std.proofs.Common.{◌≡◌, ◌∙◌, ℕ, ◌+◌, ◌≤◌, List, [], ◌∷◌, ◌++◌, length, length-append, append_assoc, ap, sym, refl, subst, arith}
+use Rattle.std.proofs.lemmas.List.{append-nil, map-append, length-map}
 use Rattle.std.specs.Prelude.{map}
 use Rattle.dns_wire.specs.Pieces.{Memory, Piece, Plain, nothing}
 use Rattle.dns_code.specs.Header.{header_octets}
 use Rattle.dns_question.specs.Questions.{QuestionItem, put_question}
-use Rattle.dns_item.specs.Items.{put_record}
-use Rattle.dns_build.specs.State.{InAnswer, State, all_of, pieces_of, head_of, fold, tc_rewound, with_tc, move_to, with_header, InQuestion}
-use Rattle.dns_code.specs.declared.header.Header.{Header}
-use Rattle.dns_answer.specs.Answering.{size}
+use Rattle.dns_item.specs.Items.{RecordItem, put_record}
+use Rattle.dns_build.specs.State.{InAnswer, InQuestion, State, Every, all_of, pieces_of, head_of, fold, tc_rewound, with_tc, move_to, up_to}
+use Rattle.dns_answer.specs.Answering.{size, with_answers}
 
 -- more pieces are no shorter
 longer : (ps qs : List Piece) (m : Memory) (w : ℕ) → length (all_of ps m w).octets ≤ length (all_of (ps ++ qs) m w).octets
@@ -21,6 +20,10 @@ longer (p ∷ ps) qs m w =
 head_size : (s : State) → length (header_octets s.header) ≡ 4 → length (head_of s).octets ≡ 12
 head_size s four = length-append _ _ ∙ ap (λ n. n + 8) four
 
+-- how many octets these pieces have behind a header section
+abbrev behind : List Piece → ℕ
+behind ps = 12 + length (all_of ps nothing 12).octets
+
 -- the header section, and the pieces behind it
 pub sized : (s : State) → length (header_octets s.header) ≡ 4 → size s ≡ 12 + length (all_of (pieces_of Plain s) nothing 12).octets
 unfolding fold
@@ -32,15 +35,83 @@ cut_within s four tc =
     let asked = map (put_question Plain) s.questions in
     let l = longer asked (map (put_record Plain) s.answers ++ (map (put_record Plain) s.authorities ++ map (put_record Plain) s.additionals)) nothing 12 in
     let a = sized s four in
-    let b : size (tc_rewound InAnswer s) ≡ 12 + length (all_of asked nothing 12).octets =
-    sized (tc_rewound InAnswer s) tc ∙ ap (λ ps. 12 + length (all_of ps nothing 12).octets) (append-nil asked) in
+    let b : size (tc_rewound InAnswer s) ≡ behind asked = sized (tc_rewound InAnswer s) tc ∙ ap behind (append-nil asked) in
     omega (arith, a, b, l)
 
 -- a move to the answers takes no octet, where there are none behind the questions
-pub size_moved : (s : State) (xs : List QuestionItem) → size (move_to InAnswer (record (move_to InQuestion s) { questions = xs })) ≡ size (record (move_to InQuestion s) { questions = xs })
+pub size_moved : (s : State) (xs : List QuestionItem) → size (move_to InAnswer (record (up_to InQuestion s) { questions = xs })) ≡ size (record (up_to InQuestion s) { questions = xs })
 unfolding fold
 size_moved s xs = refl
 
--- nor does another header
-pub size_headed : (header : Header) (s : State) → length (header_octets s.header) ≡ 4 → length (header_octets header) ≡ 4 → size (with_header header s) ≡ size s
-size_headed header s four same = sized (with_header header s) same ∙ sym (sized s four)
+-- more questions are no shorter
+pub longer_questions : (s : State) (xs ys : List QuestionItem) → length (header_octets s.header) ≡ 4 → size (record (up_to InQuestion s) { questions = xs }) ≤ size (record (up_to InQuestion s) { questions = xs ++ ys })
+longer_questions s xs ys four =
+    let put = put_question Plain in
+    let l = longer (map put xs) (map put ys) nothing 12 in
+    let a : size (record (up_to InQuestion s) { questions = xs }) ≡ behind (map put xs) = sized (record (up_to InQuestion s) { questions = xs }) four ∙ ap behind (append-nil (map put xs)) in
+    let b : size (record (up_to InQuestion s) { questions = xs ++ ys }) ≡ behind (map put xs ++ map put ys) =
+    sized (record (up_to InQuestion s) { questions = xs ++ ys }) four ∙ ap behind (append-nil (map put (xs ++ ys)) ∙ map-append put xs ys) in
+    omega (arith, a, b, l)
+
+-- more answers are no shorter
+pub longer_answers : (s : State) (xs ys : List RecordItem) → length (header_octets s.header) ≡ 4 → size (with_answers xs (up_to InAnswer s)) ≤ size (with_answers (xs ++ ys) (up_to InAnswer s))
+longer_answers s xs ys four =
+    let put = put_record Plain in
+    let asked = map (put_question Plain) s.questions in
+    let front = asked ++ map put (s.answers ++ xs) in
+    let l = longer front (map put ys) nothing 12 in
+    let a : size (with_answers xs (up_to InAnswer s)) ≡ behind front =
+    sized (with_answers xs (up_to InAnswer s)) four ∙ ap (λ (ps : List Piece). behind (asked ++ ps)) (append-nil (map put (s.answers ++ xs))) in
+    let e : map put (s.answers ++ (xs ++ ys)) ≡ map put (s.answers ++ xs) ++ map put ys =
+    ap (map put) (sym (append_assoc s.answers xs ys)) ∙ map-append put (s.answers ++ xs) ys in
+    let b : size (with_answers (xs ++ ys) (up_to InAnswer s)) ≡ behind (front ++ map put ys) =
+    sized (with_answers (xs ++ ys) (up_to InAnswer s)) four
+    ∙ ap (λ (ps : List Piece). behind (asked ++ ps)) (append-nil (map put (s.answers ++ (xs ++ ys))) ∙ e)
+    ∙ ap behind (sym (append_assoc asked (map put (s.answers ++ xs)) (map put ys))) in
+    omega (arith, a, b, l)
+
+-- whatever is remembered and wherever it is put, a piece has an octet
+abbrev HasOctets : Piece → Type 0
+HasOctets p = (m : Memory) (w : ℕ) → 1 ≤ length (p m w).octets
+
+question_octets : (x : QuestionItem) → HasOctets (put_question Plain x)
+unfolding put_question
+question_octets x m w = simp length-append (omega arith)
+
+record_octets : (x : RecordItem) → HasOctets (put_record Plain x)
+unfolding put_record
+record_octets x m w = simp length-append (omega arith)
+
+every_question : (xs : List QuestionItem) → Every HasOctets (map (put_question Plain) xs)
+every_question [] = tt
+every_question (x ∷ xs) = (question_octets x, every_question xs)
+
+every_record : (xs : List RecordItem) → Every HasOctets (map (put_record Plain) xs)
+every_record [] = tt
+every_record (x ∷ xs) = (record_octets x, every_record xs)
+
+every_both : (ps qs : List Piece) → Every HasOctets ps → Every HasOctets qs → Every HasOctets (ps ++ qs)
+every_both [] qs all others = others
+every_both (p ∷ ps) qs all others = (all.0, every_both ps qs all.1 others)
+
+-- so there are as many octets as pieces
+pieces_within : (ps : List Piece) (m : Memory) (w : ℕ) → Every HasOctets ps → length ps ≤ length (all_of ps m w).octets
+pieces_within [] m w all = omega arith
+pieces_within (p ∷ ps) m w all =
+    let first = all.0 m w in
+    let rest = pieces_within ps (p m w).memory (w + length (p m w).octets) all.1 in
+    simp length-append (omega (arith, first, rest))
+
+-- there are no more questions and answers than octets behind the header section
+pub items_within : (s : State) → length (header_octets s.header) ≡ 4 → 12 + (length s.questions + length s.answers) ≤ size s
+items_within s four =
+    let questions = map (put_question Plain) s.questions in
+    let answers = map (put_record Plain) s.answers in
+    let behind_them = map (put_record Plain) s.authorities ++ map (put_record Plain) s.additionals in
+    let l = pieces_within (questions ++ answers) nothing 12 (every_both questions answers (every_question s.questions) (every_record s.answers)) in
+    let m = longer (questions ++ answers) behind_them nothing 12 in
+    let a = sized s four ∙ ap behind (sym (append_assoc questions answers behind_them)) in
+    let n = length-append questions answers in
+    let q = length-map s.questions (put_question Plain) in
+    let r = length-map s.answers (put_record Plain) in
+    omega (arith, a, l, m, n, q, r)

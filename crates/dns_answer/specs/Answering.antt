@@ -1,17 +1,19 @@
 -- Answers from a table of records, cut to what the client takes. RFC 1035 sections 4.1 and 4.2.1, RFC 6891 section 6.2.
-use Rattle.std.specs.Prelude.{◌≡◌, ◌≤◌, ◌⊎◌, ℕ, List, [], ◌∷◌, ◌++◌, max, Option, Some, None, Result, Ok, Err}
-use Rattle.dns_name.specs.Names.{lowered}
+use Rattle.std.specs.Prelude.{◌≡◌, ◌<◌, ◌==◌, ◌&&◌, nat_le, if◌then◌else◌, ℕ, Bool, List, ◌++◌, length, filter, max, Option, Some, None}
+use Rattle.dns_name.specs.NameOrders.{names_equal}
 use Rattle.dns_wire.specs.Pieces.{Plain}
-use Rattle.dns_code.specs.declared.header.Header.{Header}
+use Rattle.dns_code.specs.HeaderSection.{header_size}
 use Rattle.dns_question.specs.Questions.{QuestionItem}
 use Rattle.dns_item.specs.Items.{RecordItem}
 use Rattle.dns_item.specs.OptRecord.{OptItem}
 use Rattle.dns_read.specs.OptSearches.{opt_of}
 use Rattle.dns_build.specs.Answers.{answer_header, header_in, readable_questions}
 use Rattle.dns_build.specs.MessageOf.{ReadsBack}
-use Rattle.dns_build.specs.Standing.{Built, StandsFor, fresh, size_after}
-use Rattle.dns_build.specs.State.{InAnswer, State, with_tc}
-use Rattle.dns_build.specs.declared.push_error.PushError.{PushError}
+use Rattle.dns_build.specs.Standing.{fresh, size_after}
+use Rattle.dns_build.specs.State.{InAnswer, State, fold, tc_rewound}
+use Rattle.dns_build.specs.declared.push_error.PushError.TheVariants.{CountOverflow, LimitExceeded, ShortBuf, OutOfMemory}
+use Rattle.dns_answer.specs.declared.answering.NoAnswer.{NoAnswer}
+use Rattle.dns_answer.specs.declared.answering.NoAnswer.TheVariants.{ShortQuery, Refused}
 
 -- The size that an OPT record says, if there is one. Less than 512 is taken as 512, and so is no record: RFC 6891 section 6.2.3.
 abbrev pub size_said : Option OptItem → ℕ
@@ -22,15 +24,13 @@ size_said (Some opt) = max 512 opt.fields.udp_payload_size
 abbrev pub payload_size : List ℕ → ℕ
 payload_size query = size_said (opt_of query)
 
--- a record answers a question: its owner up to case, its type and its class are those that are asked for
-abbrev pub IsAsked : QuestionItem → RecordItem → Type 0
-IsAsked asked x = (lowered x.owner ≡ lowered asked.name) × (x.rtype ≡ asked.rtype) × (x.class ≡ asked.class)
+-- whether a question asks for a record: for its owner up to ASCII case, its type and its class
+abbrev pub is_asked : QuestionItem → RecordItem → Bool
+is_asked asked x = names_equal x.owner asked.name && (x.rtype == asked.rtype) && (x.class == asked.class)
 
--- of the records of a table, those that answer a question, in order
-pub data Selects (asked : QuestionItem) : List RecordItem → List RecordItem → Type 0 where
-  none : Selects asked [] []
-  taken : {xs ys : List RecordItem} (x : RecordItem) → IsAsked asked x → Selects asked xs ys → Selects asked (xs ++ x ∷ []) (ys ++ x ∷ [])
-  passed : {xs ys : List RecordItem} (x : RecordItem) → ¬ IsAsked asked x → Selects asked xs ys → Selects asked (xs ++ x ∷ []) ys
+-- the records of a table that a question asks for, in order
+abbrev pub asked_records : QuestionItem → List RecordItem → List RecordItem
+asked_records asked table = filter (is_asked asked) table
 
 -- a state with more answers
 abbrev pub with_answers : List RecordItem → State → State
@@ -40,32 +40,39 @@ with_answers xs s = record s { answers = s.answers ++ xs }
 abbrev pub size : State → ℕ
 size s = size_after Plain (λ t. t) s
 
--- a builder of answers with more answers, within the limit if it was
-pub record MoreAnswers (s : State) (new : Built) (xs : List RecordItem) : Type 0 where
-  pub stands : StandsFor InAnswer Plain (with_answers xs s) new
-  pub within : size s ≤ s.limit → size (with_answers xs s) ≤ s.limit
+-- All of these records are answers, if the message is then no longer than its limit; else none is, and TC is set. RFC 1035 section 4.1.1.
+abbrev pub all_or_none : List RecordItem → State → State
+all_or_none xs s = if nat_le (size (with_answers xs s)) s.limit then with_answers xs s else tc_rewound InAnswer s
 
--- The records of a table that answer a question are pushed, all of them unless one is refused.
-abbrev pub PushesFound : QuestionItem → List RecordItem → State → Result (Unit {0}) PushError → Built → Type 0
-PushesFound asked table s (Ok _) new = (xs : List RecordItem) × Selects asked table xs × MoreAnswers s new xs
-PushesFound asked table s (Err e) new = (xs : List RecordItem) × MoreAnswers s new xs
+-- A reply to a query, without items: it has the query's ID, opcode and RD, QR, and an rcode, and is limited to what the client takes. RFC 1035 section 4.1.1.
+abbrev pub reply : ℕ → List ℕ → State
+reply rcode query = record fresh {
+  stage = InAnswer;
+  header = answer_header rcode (header_in query) fresh.header;
+  limit = payload_size query;
+}
 
--- the answers are all that were found, and the header stays; or there are none, and TC is set
-abbrev pub AllOrCut : QuestionItem → List RecordItem → Header → State → Type 0
-AllOrCut asked table header s =
-    (Selects asked table s.answers × (s.header ≡ header)) ⊎ ((s.answers ≡ []) × (s.header ≡ with_tc header))
+-- the same with the query's questions and without an error
+abbrev pub asked_again : List ℕ → State
+asked_again query = record (reply 0 query) { questions = readable_questions query }
 
--- A builder of answers with all that were found, or with none and TC. It is within the limit if it was.
-pub record AddsFound (asked : QuestionItem) (table : List RecordItem) (s : State) (new : Built) : Type 0 where
-  pub left : State
-  pub stands : StandsFor InAnswer Plain left new
-  pub questions : left.questions ≡ s.questions
-  pub answers : s.answers ≡ [] → AllOrCut asked table s.header left
-  pub within : size s ≤ s.limit → size left ≤ s.limit
+-- the answer to a question of a query
+abbrev pub answer_to : List ℕ → List RecordItem → QuestionItem → State
+answer_to query table asked = all_or_none (asked_records asked table) (asked_again query)
 
--- The octets are a message with the header of an answer and the questions of the query. Its answers are all records of the table that answer the first question; or there are none, and TC is set.
-pub record IsAnswer (query : List ℕ) (table : List RecordItem) (asked : QuestionItem) (b : List ℕ) : Type 0 where
-  pub state : State
-  pub reads_back : ReadsBack state b
-  pub questions : state.questions ≡ readable_questions query
-  pub answers : AllOrCut asked table (answer_header 0 (header_in query) fresh.header) state
+-- the reply to a query whose first question can't be read: FORMERR, which is 1. RFC 1035 section 4.1.1.
+abbrev pub format_error : List ℕ → State
+format_error query = reply 1 query
+
+-- the octets are the message of a state, and are read back as it
+pub record IsMessage (s : State) (b : List ℕ) : Type 0 where
+  pub octets : b ≡ (fold Plain s).octets
+  pub reads_back : ReadsBack s b
+
+-- Why a query has no answer: it has no whole header section, there is no memory, or the questions alone are longer than the client takes.
+abbrev pub HasNoAnswer : List ℕ → NoAnswer → Type 0
+HasNoAnswer query ShortQuery = length query < header_size
+HasNoAnswer query (Refused OutOfMemory) = Unit {0}
+HasNoAnswer query (Refused LimitExceeded) = payload_size query < size (asked_again query)
+HasNoAnswer query (Refused ShortBuf) = ⊥
+HasNoAnswer query (Refused CountOverflow) = ⊥

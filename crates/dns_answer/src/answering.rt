@@ -1,5 +1,5 @@
 //! Answers to queries from a table of records, cut to what the client takes (RFC 1035 section 4.1, RFC 6891 section 6.2).
-ghost use Rattle.std.specs.Prelude.{◌≡◌, ◌≤◌, ◌<◌, ◌↔◌, IfOk, IsTrue, Some, IsErr, length, map, max};
+ghost use Rattle.std.specs.Prelude.{◌≡◌, ◌≤◌, ◌<◌, IfOk, IfErr, Some, None, Err, length, map, max};
 ghost use Rattle.dns_wire.specs.Pieces.{Plain};
 ghost use Rattle.dns_code.specs.HeaderSection.{header_size};
 ghost use Rattle.dns_question.specs.Question.{parsed_question};
@@ -9,7 +9,8 @@ ghost use Rattle.dns_read.specs.Message.{message_octets};
 ghost use Rattle.dns_read.specs.Searches.{asked_first};
 ghost use Rattle.dns_build.specs.State.{InAnswer, InBuilder, with_limit};
 ghost use Rattle.dns_build.specs.Standing.{InEach, StandsFor, fresh};
-ghost use Rattle.dns_answer.specs.Answering.{AddsFound, IsAnswer, IsAsked, PushesFound, payload_size};
+ghost use Rattle.dns_answer.specs.Answering.{HasNoAnswer, IsMessage, answer_to, asked_records, format_error, is_asked, payload_size};
+ghost use Rattle.dns_answer.specs.Pushing.{AddsAll, PushesEach};
 
 use dns_message::builder::{AnswerBuilder, MessageBuilder, PushError};
 use dns_message::code::Rcode;
@@ -30,6 +31,11 @@ pub enum NoAnswer {
 }
 
 impl From<PushError> for NoAnswer {
+    ghost use Rattle.std.specs.Prelude.{◌≡◌};
+    ghost use Rattle.dns_answer.specs.declared.answering.NoAnswer.TheVariants as reasons;
+
+    ghost from_gives = { λ error reason. reason ≡ reasons.Refused error };
+
     fn from(error: PushError) -> Self {
         NoAnswer::Refused(error)
     }
@@ -45,9 +51,12 @@ pub fn answer<N: ToName, D: ComposeRecordData>(
     ensures limit { IfOk result (λ answer. length answer.items ≤ payload_size query.now) }
     ensures answers { IfOk result (λ answer. (asked : QuestionItem)
         → asked_first query.now ≡ Some asked
-        → IsAnswer query.now (map (record_item N.name D.rtype_of D.parts) table.now) asked
-        answer.items) }
-    ensures short { length query.now < header_size → IsErr result }
+        → let records = map (record_item N.name D.rtype_of D.parts) table.now in
+        IsMessage (answer_to query.now records asked) answer.items) }
+    ensures unreadable { IfOk result (λ answer. asked_first query.now ≡ None
+        → IsMessage (format_error query.now) answer.items) }
+    ensures refused { IfErr result (HasNoAnswer query.now) }
+    ensures short { length query.now < header_size → result ≡ Err NoAnswer.ShortQuery }
 {
     let Ok(message) = Message::from_slice(query) else {
         return Err(NoAnswer::ShortQuery);
@@ -64,7 +73,8 @@ pub fn answer<N: ToName, D: ComposeRecordData>(
 
 /// A builder of a message of at most so many octets.
 fn limited(alloc: Global, limit: usize) -> Result<MessageBuilder<Vec<u8>>, PushError>
-    ensures { IfOk result (StandsFor InBuilder Plain (with_limit limit fresh)) }
+    ensures stands { IfOk result (StandsFor InBuilder Plain (with_limit limit fresh)) }
+    ensures memory { IfErr result (λ error. error ≡ PushError.OutOfMemory) }
 {
     let mut builder = MessageBuilder::new_vec(alloc)?;
     builder.set_push_limit(limit);
@@ -73,7 +83,8 @@ fn limited(alloc: Global, limit: usize) -> Result<MessageBuilder<Vec<u8>>, PushE
 
 /// How many octets the client takes.
 fn limit_of(query: &Message<&[u8]>) -> usize
-    ensures { result ≡ payload_size (message_octets query.now) }
+    ensures value { result ≡ payload_size (message_octets query.now) }
+    ensures within { result ≤ 65535 }
 {
     match query.opt() {
         Some(opt) => usize::from(opt.udp_payload_size()).max(512),
@@ -87,9 +98,9 @@ fn with_found<N: ToName, D: ComposeRecordData>(
     question: &Question<ParsedName<'_>>,
     table: &[Record<N, D>],
 ) -> Result<AnswerBuilder<Vec<u8>>, PushError>
-    ensures { IfOk result (λ new. InEach InAnswer Plain builder (λ s. AddsFound
-        (parsed_question question.now) (map (record_item N.name D.rtype_of D.parts) table.now)
-        s new)) }
+    ensures { let records = map (record_item N.name D.rtype_of D.parts) table.now in
+        InEach InAnswer Plain builder (λ s.
+        AddsAll (asked_records (parsed_question question.now) records) s result) }
 {
     let mut builder = builder;
     match push_found(&mut builder, question, table) {
@@ -105,8 +116,9 @@ fn push_found<N: ToName, D: ComposeRecordData>(
     question: &Question<ParsedName<'_>>,
     table: &[Record<N, D>],
 ) -> Result<(), PushError>
-    ensures { InEach InAnswer Plain builder.old (λ s. PushesFound (parsed_question question.now)
-        (map (record_item N.name D.rtype_of D.parts) table.now) s result builder.new) }
+    ensures { let records = map (record_item N.name D.rtype_of D.parts) table.now in
+        InEach InAnswer Plain builder.old (λ s.
+        PushesEach (asked_records (parsed_question question.now) records) s result builder.new) }
 {
     for found in table {
         if is_asked(question, found) {
@@ -121,7 +133,7 @@ fn is_asked<N: ToName, D: ComposeRecordData>(
     question: &Question<ParsedName<'_>>,
     found: &Record<N, D>,
 ) -> bool
-    ensures { IsTrue result ↔ IsAsked (parsed_question question.now)
+    ensures { result ≡ is_asked (parsed_question question.now)
         (record_item N.name D.rtype_of D.parts found.now) }
 {
     found.owner().name_eq(question.qname())
