@@ -6,6 +6,8 @@
 #[cfg(test)]
 mod callers;
 #[cfg(test)]
+mod failing;
+#[cfg(test)]
 mod histories;
 #[cfg(test)]
 mod program;

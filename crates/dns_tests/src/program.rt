@@ -1,11 +1,9 @@
 //! The program `dnsmsg`: what it prints, and its status.
-use crate::runs::{assert_run, run, strings};
-use dns_message::tool;
+use crate::runs::{assert_run, run};
 use std::alloc::Global;
-use std::io::{ErrorKind, Read, Write};
 use std::process::Abort;
+use std::str;
 use std::test::Fail;
-use std::{io, str};
 
 /// Words behind the program's name, what is on standard input, and what is printed with which status.
 type Run<'a> = (&'a [&'a str], &'a [u8], &'a str, u8);
@@ -312,86 +310,4 @@ fn tells_its_usage(rt: HostRuntime) -> Result<(), Fail> {
         (&["show", "plain"], b"", usage, 2),
     ];
     assert_runs(&rt, rt.alloc(), &runs)
-}
-
-/// Gives some octets, and then fails.
-#[derive(Drop)]
-struct Cut<'a>(&'a [u8]);
-
-impl Read for Cut<'_> {
-    fn read(&mut self, buf: &mut [u8]) -> io::Result<usize> {
-        if self.0.is_empty() {
-            return Err(io::Error::from(ErrorKind::BrokenPipe));
-        }
-        self.0.read(buf)
-    }
-}
-
-/// Takes octets, but for the write with one number from 0, which fails.
-#[derive(Drop)]
-struct Gap {
-    taken: Vec<u8>,
-    writes: u64,
-    gap: u64,
-}
-
-impl Write for Gap {
-    fn write(&mut self, buf: &[u8]) -> io::Result<usize> {
-        let fails = self.writes == self.gap;
-        self.writes = self.writes.saturating_add(1);
-        if fails {
-            return Err(io::Error::from(ErrorKind::BrokenPipe));
-        }
-        self.taken.write(buf)
-    }
-
-    fn flush(&mut self) -> io::Result<()> {
-        Ok(())
-    }
-}
-
-#[test]
-fn fails_where_reading_fails(rt: HostRuntime) -> Result<(), Fail> {
-    let alloc = rt.alloc();
-    let mut output = Vec::new(alloc);
-    let status = tool(
-        alloc,
-        &strings(alloc, PLAIN)?,
-        Cut(b"question\n"),
-        &mut output,
-    );
-    assert_eq!(rt; str::from_utf8(&output)?, "failed\n");
-    assert_eq!(rt; status, 3);
-    Ok(())
-}
-
-/// The status where the write with this number fails, and how many writes there are.
-fn run_with_gap(alloc: Global, words: &[&str], script: &[u8], gap: u64) -> Result<(u8, Gap), Fail> {
-    let mut writer = Gap {
-        taken: Vec::new(alloc),
-        writes: 0,
-        gap,
-    };
-    let status = tool(alloc, &strings(alloc, words)?, script, &mut writer);
-    Ok((status, writer))
-}
-
-#[test]
-fn fails_where_a_write_fails(rt: HostRuntime) -> Result<(), Fail> {
-    let alloc = rt.alloc();
-    let runs: [(&[&str], &[u8]); 3] = [
-        (PLAIN, b"question\nlimit 17\npush . A\npush . A\n"),
-        (PLAIN, b"question\nbogus\n"),
-        (&[], b""),
-    ];
-    for (words, script) in runs {
-        let (_, whole) = run_with_gap(alloc, words, script, u64::MAX)?;
-        assert!(rt; whole.writes > 0);
-        for gap in 0..whole.writes {
-            let (status, writer) = run_with_gap(alloc, words, script, gap)?;
-            assert_eq!(rt; status, 3, "at the write {gap}");
-            assert!(rt; writer.taken.ends_with(b"failed\n"));
-        }
-    }
-    Ok(())
 }

@@ -4,7 +4,8 @@ use dns_message::code::{OptRcode, OptionCode, Rtype};
 use dns_message::data::{UnknownOptData, UnknownRecordData};
 use dns_message::header::{Flags, Header};
 use dns_message::name::Name;
-use dns_message::question::Question;
+use dns_message::question::{ComposeQuestion, Question};
+use dns_message::record::ComposeRecord;
 use dns_message::script::{Call, OptPlan, Reply, Stage, run};
 use dns_message::target::{
     Composer, HashCompressor, IndexCompressor, StaticCompressor, StreamTarget, TreeCompressor,
@@ -13,7 +14,7 @@ use std::alloc::Global;
 use std::process::Abort;
 use std::test::Fail;
 
-type Owner = Name<&'static [u8]>;
+pub(crate) type Owner = Name<&'static [u8]>;
 
 type Record = (Owner, u32, UnknownRecordData<&'static [u8]>);
 
@@ -37,24 +38,29 @@ fn address(owner: &'static [u8]) -> Result<PlainCall, Fail> {
     record(owner, Rtype::A, b"\xCB\x00\x71\x01")
 }
 
-/// An OPT record with rcode 19 and DO, without options or with a cookie.
+/// An OPT record with rcode 19 and DO.
+pub(crate) fn opt_plan(options: Vec<UnknownOptData<Vec<u8>>>) -> OptPlan {
+    OptPlan {
+        udp_payload_size: 1232,
+        rcode: OptRcode::checked_from_int(19),
+        version: 0,
+        dnssec_ok: true,
+        options,
+    }
+}
+
+/// An OPT record without options or with a cookie.
 fn opt(alloc: Global, cookie: Option<&[u8]>) -> Result<PlainCall, Fail> {
     let mut options = Vec::new(alloc);
     if let Some(octets) = cookie {
         let octets = Vec::from_slice(alloc, octets)?;
         options.push(UnknownOptData::new(OptionCode::from_int(10), octets)?)?;
     }
-    Ok(Call::PushOpt(OptPlan {
-        udp_payload_size: 1232,
-        rcode: OptRcode::checked_from_int(19),
-        version: 0,
-        dnssec_ok: true,
-        options,
-    }))
+    Ok(Call::PushOpt(opt_plan(options)))
 }
 
 /// The header with QR, RD, RA and AD.
-fn response() -> Header {
+pub(crate) fn response() -> Header {
     let mut flags = Flags::new();
     flags.qr = true;
     flags.rd = true;
@@ -78,11 +84,11 @@ fn letter_of(reply: Reply) -> u8 {
 }
 
 /// Makes the calls, whose replies have these letters.
-fn after<T: Composer>(
+pub(crate) fn after<T: Composer, Q: ComposeQuestion, R: ComposeRecord>(
     rt: &impl Abort,
     alloc: Global,
     stage: Stage<T>,
-    calls: &[PlainCall],
+    calls: &[Call<Q, R>],
     letters: &[u8],
 ) -> Result<Stage<T>, Fail> {
     let mut replies = Vec::new(alloc);
@@ -97,7 +103,7 @@ fn after<T: Composer>(
 }
 
 /// The stage of an empty message over a target.
-fn fresh<T: Composer>(target: T) -> Result<Stage<T>, Fail> {
+pub(crate) fn fresh<T: Composer>(target: T) -> Result<Stage<T>, Fail> {
     Ok(Stage::Builder(MessageBuilder::from_target(target)?))
 }
 
@@ -142,7 +148,7 @@ fn each_stage_has_its_calls(rt: HostRuntime) -> Result<(), Fail> {
 }
 
 /// The stage's number among the five.
-fn number_of<T: Composer>(stage: &Stage<T>) -> usize {
+pub(crate) fn number_of<T: Composer>(stage: &Stage<T>) -> usize {
     match stage {
         Stage::Builder(_) => 0,
         Stage::Question(_) => 1,
