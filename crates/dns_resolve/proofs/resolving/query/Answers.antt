@@ -1,0 +1,22 @@
+use Rattle.std.proofs.Common.{◌≡◌, ◌<◌, arith, false, length, rules, true}
+use Rattle.dns_wire.specs.Pieces.{Plain}
+use Rattle.dns_question.specs.Questions.{QuestionItem}
+use Rattle.dns_build.specs.Standing.{StandsFor, fresh}
+use Rattle.dns_build.specs.State.{InBuilder, fold, no_limit}
+use Rattle.dns_resolve.specs.Resolving.{asking}
+use Rattle.dns_resolve.proofs.QueryLemmas.{accepted, query_size}
+use Rattle.dns_resolve.proofs.resolving.query.Goals as goal
+
+pub unwrap-requires-2 : goal.unwrap-requires-2
+unwrap-requires-2 g c =
+    let header = c.query_header.result in
+    let asked : QuestionItem = record { name = g.N.ToName.name c.args.name.now; rtype = c.args.rtype; class = 1 } in
+    let first : StandsFor InBuilder Plain fresh c.unwrap.result = search rules in
+    let stands = c.set_header.ensures _ (c.question-builder.ensures _ first) in
+    let few = query_size header asked stands.state.header c.as_parsed.ensures.is_name in
+    let e = c.push.ensures in
+    accepted c.push.result
+    (λ h. let n : 512 < length (fold Plain (asking header asked)).octets = e.short h _ stands in omega (arith, n, few))
+    (λ h. let n : false ≡ true = e.memory h in cc)
+    (λ h. let n : no_limit < length (fold Plain (asking header asked)).octets = (e.limit h _ stands).1 in omega (arith, n, few))
+    (λ h. let n : 0 ≡ 65535 = (e.count h _ stands).2 in omega (arith, n))

@@ -1,0 +1,134 @@
+//! Queries for addresses, and the addresses in what is received (RFC 1034 sections 3.6.2 and 5.3.1).
+ghost use Rattle.std.specs.Prelude.{◌≡◌, ◌≤◌, IfOk, IfErr, MatchResult, length};
+ghost use Rattle.dns_name.specs.ParsedName.{labels};
+ghost use Rattle.dns_code.specs.Header.{fields};
+ghost use Rattle.dns_read.specs.Message.{message_octets};
+ghost use Rattle.dns_section.specs.Limited.{limited};
+ghost use Rattle.dns_section.specs.RecordSection.{records_left};
+ghost use Rattle.dns_resolve.specs.Resolving.{query_fields, IsQuery, a_layout, Gives, IsReason, Finds, StopsAt};
+
+use arrayvec::ArrayVec;
+use dns_message::builder::MessageBuilder;
+use dns_message::code::{Class, Rcode, Rtype};
+use dns_message::data::A;
+use dns_message::header::Header;
+use dns_message::message::{Message, RecordSection};
+use dns_message::name::{ParsedName, ToName};
+use dns_message::wire::{Octets, ParseError};
+use std::alloc::Global;
+
+/// A query: 512 octets are enough for every one (RFC 1035 section 4.2.1).
+pub type Query = Message<ArrayVec<u8, 512>>;
+
+/// Why a message gives no addresses.
+#[derive(Clone, Copy, Debug)]
+pub enum NoAddresses {
+    /// It is no answer to the query.
+    OtherMessage,
+    /// The server says that it failed, and how.
+    Failed(Rcode),
+    /// The message was cut short. The query is to be sent again over a stream (RFC 7766 section 5).
+    Truncated,
+    /// Nothing is asked for, or twenty aliases follow one another.
+    NoName,
+    /// It can't be read.
+    Unreadable(ParseError),
+    /// Memory is refused.
+    OutOfMemory,
+}
+
+impl From<ParseError> for NoAddresses {
+    ghost use Rattle.std.specs.Prelude.{◌≡◌};
+    ghost use Rattle.dns_resolve.specs.declared.resolving.NoAddresses.TheVariants as reasons;
+
+    ghost from_gives = { λ e reason. reason ≡ reasons.Unreadable e };
+
+    fn from(error: ParseError) -> Self {
+        NoAddresses::Unreadable(error)
+    }
+}
+
+/// The query with an ID for the records of a name and a type in class IN. It asks a server to follow aliases itself.
+pub fn query<N: ToName>(id: u16, name: &N, rtype: Rtype) -> Query
+    ensures asks { IsQuery id (record { name = N.name name.now; rtype = rtype; class = 1 })
+        (message_octets result) }
+    ensures size { length (message_octets result) ≤ 512 }
+{
+    let mut builder = MessageBuilder::from_target(ArrayVec::new())
+        .unwrap()
+        .question();
+    builder.set_header(query_header(id));
+    // By the contract of this call, what stands for a name is one.
+    let _ = name.as_parsed();
+    builder.push((name, rtype)).unwrap();
+    builder.into_message()
+}
+
+/// The header of a query with an ID: RD is set, and nothing else.
+fn query_header(id: u16) -> Header
+    ensures { fields result ≡ query_fields id }
+{
+    let mut header = Header::new();
+    header.set_id(id);
+    header.set_rd(true);
+    header
+}
+
+/// The addresses that a message gives to a query: those of the name that the question's name is an alias of, or its own, in
+/// the question's class, in the order of the answer section.
+///
+/// A message that is no whole answer of a server that didn't fail gives none, nor does one whose answer section has a record
+/// that can't be read, or an address that isn't four octets, whosever it is.
+pub fn addresses<Asked: Octets, Received: Octets>(
+    alloc: Global,
+    query: &Message<Asked>,
+    received: &Message<Received>,
+) -> Result<Vec<A>, NoAddresses>
+    ensures given { IfOk result (λ found. Gives (message_octets query.now)
+        (message_octets received.now) found.items) }
+    ensures reason { IfErr result (λ reason. IsReason (message_octets query.now)
+        (message_octets received.now) reason) }
+{
+    if !received.is_answer(query) {
+        return Err(NoAddresses::OtherMessage);
+    }
+    let header = received.header();
+    if header.rcode() != Rcode::NOERROR {
+        return Err(NoAddresses::Failed(header.rcode()));
+    }
+    if header.tc() {
+        return Err(NoAddresses::Truncated);
+    }
+    let answers = received.answer()?;
+    let Some(question) = received.first_question() else {
+        return Err(NoAddresses::NoName);
+    };
+    let Some(name) = received.canonical_name() else {
+        return Err(NoAddresses::NoName);
+    };
+    found_addresses(alloc, answers, &name, question.qclass())
+}
+
+/// The addresses of a name in a class among these records.
+fn found_addresses(
+    alloc: Global,
+    answers: RecordSection<'_>,
+    name: &ParsedName<'_>,
+    class: Class,
+) -> Result<Vec<A>, NoAddresses>
+    ensures { MatchResult result
+        (λ found. Finds (labels name.now) class (limited a_layout (records_left answers.entry))
+        found.items)
+        (λ reason. StopsAt (limited a_layout (records_left answers.entry)) reason) }
+{
+    let mut found = Vec::new(alloc);
+    for item in answers.limit_to::<A>() {
+        let record = item?;
+        if record.owner() == name && record.class() == class {
+            found
+                .push(record.into_data())
+                .map_err(|_| NoAddresses::OutOfMemory)?;
+        }
+    }
+    Ok(found)
+}
