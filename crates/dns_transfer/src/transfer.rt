@@ -1,8 +1,9 @@
 //! The messages of a stream, and the records of their answer sections.
-ghost use Rattle.std.specs.Prelude.{◌≡◌, ◌++◌, map, IfOk, MatchOption};
+ghost use Rattle.std.specs.Prelude.{◌≡◌, List, map, IfOk, MatchOption};
 ghost use Rattle.dns_read.specs.Message.{message_octets};
 ghost use Rattle.dns_section.specs.RecordSection.{record_answer, records_left};
-ghost use Rattle.dns_transfer.specs.Transfer.{AreMessagesOf, BeginsWith, BeginsWithNone, transferred, answers_of, is_whole, up_to_fault, Takes};
+ghost use Rattle.dns_transfer.specs.Transfer.{AreMessagesOf, AreTransferred, BeginsWithNone, Taken};
+ghost use Rattle.dns_transfer.specs.Taking.{BeginsWith, Takes, TakesAnswers};
 
 use dns_message::message::{Message, RecordSection};
 use dns_message::record::ParsedRecord;
@@ -45,8 +46,13 @@ pub(crate) fn items<'a>(
     alloc: Global,
     messages: &'a [Message<&'a [u8]>],
 ) -> Result<Vec<Item<'a>>, AllocError>
-    ensures { IfOk result (λ items. map record_answer items.items
-        ≡ transferred (map message_octets messages.now)) }
+    ensures given { IfOk result (λ items. AreTransferred (map message_octets messages.now)
+        (map record_answer items.items)) }
+
+    // There is no other such list.
+    ensures one { IfOk result (λ items. (xs : List Taken)
+        → AreTransferred (map message_octets messages.now) xs
+        → xs ≡ map record_answer items.items) }
 {
     let mut items = Vec::new(alloc);
     for message in messages {
@@ -62,7 +68,7 @@ fn take_answers<'a>(
     message: &'a Message<&'a [u8]>,
     items: &mut Vec<Item<'a>>,
 ) -> Result<bool, AllocError>
-    ensures { IfOk result (Takes (answers_of (message_octets message.now))
+    ensures { IfOk result (TakesAnswers (message_octets message.now)
         (map record_answer items.old.items) (map record_answer items.new.items)) }
 {
     match message.answer() {

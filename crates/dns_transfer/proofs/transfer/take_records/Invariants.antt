@@ -1,6 +1,7 @@
 use Rattle.std.proofs.Common.{◌≡◌, ◌++◌, map}
 use Rattle.dns_section.specs.RecordSection.{record_answer, records_left}
-use Rattle.dns_transfer.specs.Transfer.{up_to_fault, is_whole}
+use Rattle.dns_transfer.specs.Transfer.{is_whole}
+use Rattle.dns_transfer.specs.Taking.{up_to_fault}
 use Rattle.dns_transfer.proofs.transfer.take_records.Given as goal
 
 abbrev pub invariant-loop-item : goal.invariant-loop-item
