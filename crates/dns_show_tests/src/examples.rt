@@ -1,9 +1,8 @@
 //! Worked examples of `dnsmsg show`.
-use crate::shown::{assert_shows, show_words};
+use crate::shown::assert_shows;
 use dns_message::tool;
-use std::io::{ErrorKind, Read, Write};
+use std::str;
 use std::test::Fail;
-use std::{io, str};
 
 #[test]
 fn shows_an_empty_message(rt: HostRuntime) -> Result<(), Fail> {
@@ -125,82 +124,4 @@ fn shows_what_it_built(rt: HostRuntime) -> Result<(), Fail> {
         "answer example.com. 3600 IN A 203.0.113.1",
     ];
     assert_shows(&rt, alloc, digits.as_bytes(), &shown, 0)
-}
-
-/// Gives some octets, and then fails.
-#[derive(Drop)]
-struct Cut<'a>(&'a [u8]);
-
-impl Read for Cut<'_> {
-    fn read(&mut self, buf: &mut [u8]) -> io::Result<usize> {
-        if self.0.is_empty() {
-            return Err(io::Error::from(ErrorKind::BrokenPipe));
-        }
-        self.0.read(buf)
-    }
-}
-
-#[test]
-fn fails_where_reading_fails(rt: HostRuntime) -> Result<(), Fail> {
-    let alloc = rt.alloc();
-    let mut output = Vec::new(alloc);
-    let status = tool(
-        alloc,
-        &show_words(alloc)?,
-        Cut(b"000000000000000000000000"),
-        &mut output,
-    );
-    assert_eq!(rt; str::from_utf8(&output)?, "failed\n");
-    assert_eq!(rt; status, 3);
-    Ok(())
-}
-
-/// Takes octets, but for the write with one number from 0, which fails.
-#[derive(Drop)]
-struct Gap {
-    taken: Vec<u8>,
-    writes: u64,
-    gap: u64,
-}
-
-impl Write for Gap {
-    fn write(&mut self, buf: &[u8]) -> io::Result<usize> {
-        let fails = self.writes == self.gap;
-        self.writes = self.writes.saturating_add(1);
-        if fails {
-            return Err(io::Error::from(ErrorKind::BrokenPipe));
-        }
-        self.taken.write(buf)
-    }
-
-    fn flush(&mut self) -> io::Result<()> {
-        Ok(())
-    }
-}
-
-/// Shows one message of all kinds of lines to a writer with a gap.
-fn show_to(rt: &HostRuntime, gap: u64) -> Result<(u8, Gap), Fail> {
-    let alloc = rt.alloc();
-    let digits: &[u8] =
-        b"000000000002000100000000 00 0001 0001 c00f 0001 0001 00 0001 0001 00000000 0004 01020304 00";
-    let mut writer = Gap {
-        taken: Vec::new(alloc),
-        writes: 0,
-        gap,
-    };
-    let status = tool(alloc, &show_words(alloc)?, digits, &mut writer);
-    Ok((status, writer))
-}
-
-#[test]
-fn fails_where_a_write_fails(rt: HostRuntime) -> Result<(), Fail> {
-    let (status, whole) = show_to(&rt, u64::MAX)?;
-    assert_eq!(rt; status, 0);
-    assert!(rt; whole.writes > 0);
-    for gap in 0..whole.writes {
-        let (status, writer) = show_to(&rt, gap)?;
-        assert_eq!(rt; status, 3, "at the write {gap}");
-        assert!(rt; writer.taken.ends_with(b"failed\n"));
-    }
-    Ok(())
 }

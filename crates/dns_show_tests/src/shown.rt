@@ -10,7 +10,7 @@ use std::test::Fail;
 pub(crate) type Capture<'a> = (&'a str, &'a [&'a str]);
 
 /// The words for `dnsmsg show`.
-pub(crate) fn show_words(alloc: Global) -> Result<Vec<String>, Fail> {
+fn show_words(alloc: Global) -> Result<Vec<String>, Fail> {
     let mut words = Vec::new(alloc);
     words.push(String::from_str(alloc, "show")?)?;
     Ok(words)
