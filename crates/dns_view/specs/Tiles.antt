@@ -1,13 +1,8 @@
 -- Rows that cover octets, each exactly once and in order.
 use Rattle.std.specs.Prelude.{◌≡◌, ℕ, ◌≤◌, List, [], ◌∷◌}
 use Rattle.dns_view.specs.declared.row.Row.{Row}
-use Rattle.dns_view.specs.declared.row.Field.TheVariants.{ShortHeader}
 
 -- the rows are adjacent: the first begins at `start`, each other where the one before it ends, and the last ends at `end`
 abbrev pub Tiles : List Row → ℕ → ℕ → Type 0
 Tiles [] start end = start ≡ end
 Tiles (row ∷ rows) start end = (row.start ≡ start) × (start ≤ row.end) × Tiles rows row.end end
-
--- the row of octets that are fewer than a header section has (RFC 1035 section 4.1.1)
-abbrev pub short_header : ℕ → Row
-short_header len = record { start = 0; end = len; kind = ShortHeader }

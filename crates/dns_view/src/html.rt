@@ -1,6 +1,6 @@
 //! Rows printed as a page of HTML: the octets in a grid, coloured by field, with pointers drawn as arrows.
 use crate::meaning::{Meaning, octets_of, target_of};
-use crate::row::{Field, Row};
+use crate::row::{Field, Kind, Row};
 use std::alloc::Global;
 use std::io;
 use std::io::Write;
@@ -15,6 +15,9 @@ const HEIGHT: usize = 30;
 
 const MARGIN: usize = 60;
 
+/// Where the number of a line's first place ends.
+const PLACE_END: usize = 50;
+
 /// What stands before the grid: the page needs no other file.
 const HEAD: &str = "<!DOCTYPE html>
 <html lang=\"en\">
@@ -22,9 +25,11 @@ const HEAD: &str = "<!DOCTYPE html>
 <meta charset=\"utf-8\">
 <title>A DNS message</title>
 <style>
-body { font-family: sans-serif; margin: 2em; }
-svg text, td.octets { font-family: monospace; font-size: 14px; }
-svg text { text-anchor: middle; }
+body { font-family: sans-serif; margin: 1.5em; }
+main { display: flex; flex-wrap: wrap; gap: 2em; align-items: flex-start; }
+svg text, td.octets, td.place { font-family: monospace; font-size: 14px; }
+svg text { text-anchor: middle; fill: black; }
+svg text.place { text-anchor: end; fill: #666; }
 rect { stroke: white; stroke-width: 2; }
 .header { fill: #c9d8f0; background: #c9d8f0; }
 .name { fill: #cfe8c6; background: #cfe8c6; }
@@ -33,15 +38,23 @@ rect { stroke: white; stroke-width: 2; }
 .data { fill: #f3cbb0; background: #f3cbb0; }
 .option { fill: #dfcbee; background: #dfcbee; }
 .fault { fill: #ef8080; background: #ef8080; }
-g text { fill: black; }
-path { fill: none; stroke: #20601f; stroke-width: 2; opacity: 0.7; }
-table { border-collapse: collapse; margin-top: 2em; }
-td { padding: 2px 12px; border-bottom: 2px solid white; vertical-align: top; }
-td.octets { max-width: 26em; }
+.legend span { padding: 3px 10px; margin-right: 6px; }
+path { fill: none; stroke: #20601f; stroke-width: 2; opacity: 0.6; }
+path:hover { stroke-width: 4; opacity: 1; }
+table { border-collapse: collapse; }
+th { text-align: left; padding: 10px 10px 2px; }
+td { padding: 2px 10px; border-bottom: 2px solid white; vertical-align: top; }
+td.place { text-align: right; }
+td.octets { max-width: 24ch; }
 </style>
 </head>
 <body>
 <h1>A DNS message</h1>
+<p class=\"legend\"><span class=\"header\">header</span><span class=\"name\">names</span>\
+<span class=\"pointer\">pointers</span><span class=\"kind\">types, classes, TTLs, lengths</span>\
+<span class=\"data\">data</span><span class=\"option\">EDNS</span>\
+<span class=\"fault\">faults, unread</span></p>
+<main>
 ";
 
 /// The tip of an arrow.
@@ -72,7 +85,7 @@ pub fn print_page<W: Write>(
     for row in rows {
         print_table_row(alloc, writer, message, row)?;
     }
-    writeln!(writer, "</table>\n</body>\n</html>")
+    writeln!(writer, "</table>\n</main>\n</body>\n</html>")
 }
 
 /// The left edge of an octet's cell.
@@ -85,16 +98,22 @@ fn y_of(place: usize) -> usize {
     (place / OCTETS).saturating_mul(HEIGHT)
 }
 
-/// The class of a field in the page's style.
-fn class_of(kind: Field) -> &'static str {
+/// The class of a row in the page's style.
+fn class_of(kind: Kind) -> &'static str {
     match kind {
+        Kind::Field(field) => field_class(field),
+        Kind::ShortHeader | Kind::Fault(_) | Kind::Unread => "fault",
+    }
+}
+
+fn field_class(field: Field) -> &'static str {
+    match field {
         Field::Id | Field::Flags | Field::Count(_) => "header",
-        Field::Label | Field::Root => "name",
-        Field::Pointer => "pointer",
+        Field::Label(_) | Field::Root(_, _) => "name",
+        Field::Pointer(_, _) => "pointer",
         Field::Type | Field::Class | Field::Ttl | Field::DataLength => "kind",
         Field::PayloadSize | Field::ExtendedRcode | Field::Version | Field::OptFlags => "option",
-        Field::OptionCode | Field::OptionLength | Field::OptionData => "option",
-        Field::ShortHeader | Field::Fault(_) | Field::Unread => "fault",
+        Field::OptionCode | Field::OptionLength(_) | Field::OptionData(_) => "option",
         _ => "data",
     }
 }
@@ -138,7 +157,10 @@ fn print_cell<W: Write>(writer: &mut W, place: usize, octet: u8) -> io::Result<(
     let middle = x.saturating_add(WIDTH / 2);
     let base = y.saturating_add(20);
     if place % OCTETS == 0 {
-        writeln!(writer, "<text x=\"25\" y=\"{base}\">{place}</text>")?;
+        writeln!(
+            writer,
+            "<text class=\"place\" x=\"{PLACE_END}\" y=\"{base}\">{place}</text>"
+        )?;
     }
     write!(
         writer,
@@ -146,25 +168,27 @@ fn print_cell<W: Write>(writer: &mut W, place: usize, octet: u8) -> io::Result<(
     )?;
     writeln!(
         writer,
-        "<text x=\"{middle}\" y=\"{base}\">{octet:02x}</text>"
+        "<text x=\"{middle}\" y=\"{base}\" id=\"o{place}\">{octet:02x}</text>"
     )
 }
 
 /// Prints the arrow of a pointer, from its first octet to the one where it leads.
 fn print_arrow<W: Write>(writer: &mut W, message: &[u8], row: &Row) -> io::Result<()> {
-    if row.kind != Field::Pointer {
+    let Kind::Field(Field::Pointer(_, _)) = row.kind else {
         return Ok(());
-    }
+    };
     let target = target_of(octets_of(message, row));
-    let from_x = x_of(row.start).saturating_add(WIDTH / 2);
-    let from_y = y_of(row.start).saturating_add(4);
+    let from = row.start;
+    let from_x = x_of(from).saturating_add(WIDTH);
+    let from_y = y_of(from).saturating_add(6);
     let to_x = x_of(target).saturating_add(WIDTH / 2);
     let to_y = y_of(target).saturating_add(HEIGHT - 4);
     let bend_x = from_x.max(to_x).saturating_add(WIDTH);
-    writeln!(
+    write!(
         writer,
-        "<path d=\"M{from_x},{from_y} Q{bend_x},{to_y} {to_x},{to_y}\" marker-end=\"url(#tip)\"/>"
-    )
+        "<path d=\"M{from_x},{from_y} Q{bend_x},{to_y} {to_x},{to_y}\" marker-end=\"url(#tip)\">"
+    )?;
+    writeln!(writer, "<title>{from} points to {target}</title></path>")
 }
 
 /// Prints a row of the table: its place, its octets and what they mean.
@@ -176,14 +200,14 @@ fn print_table_row<W: Write>(
 ) -> io::Result<()> {
     let meaning = Meaning { message, row: *row };
     let meaning = format!(in alloc; "{meaning}")?;
-    if let Field::Item(_, _) = row.kind {
+    if let Kind::Field(Field::Item(_, _)) = row.kind {
         return writeln!(writer, "<tr><th colspan=\"3\">{meaning}</th></tr>");
     }
     let class = class_of(row.kind);
     let start = row.start;
     write!(
         writer,
-        "<tr class=\"{class}\"><td>{start}</td><td class=\"octets\">"
+        "<tr class=\"{class}\"><td class=\"place\">{start}</td><td class=\"octets\">"
     )?;
     for octet in octets_of(message, row) {
         write!(writer, "{octet:02x} ")?;

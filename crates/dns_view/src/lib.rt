@@ -1,19 +1,23 @@
 //! The octets of a message as rows, one for each field, for people who would rather look.
 //!
-//! It promises that the rows of any octets cover them, each exactly once and in order. What is printed of rows, as a text and
-//! as a page of HTML, is tested.
+//! It promises that the rows of any octets cover them, each exactly once and in order, and that the first six are those of the
+//! header section. Which fields the others are, and what is printed of rows, as a text and as a page of HTML, is tested.
 #![tactic(auto)]
 
+mod codes;
 mod html;
 mod meaning;
+mod option;
 mod program;
+mod quoted;
 mod row;
+mod shown;
 mod text;
 mod tile;
 mod walk;
 
 pub use html::print_page;
 pub use program::tool;
-pub use row::{Fault, Field, Part, Row};
+pub use row::{Fault, Field, Kind, NameOf, Part, Row};
+pub use shown::rows;
 pub use text::print_text;
-pub use walk::rows;

@@ -1,6 +1,9 @@
 //! What rows mean, in words.
-use crate::row::{Fault, Field, Part, Row};
-use dns_message::code::{Class, Rtype};
+use crate::codes::{OpcodeName, OptionName, RcodeName};
+use crate::option::OptionData;
+use crate::quoted::{Quoted, octet_count, second_count, write_address};
+use crate::row::{Fault, Field, Kind, NameOf, Part, Row};
+use dns_message::code::{Class, OptRcode, Rtype};
 use dns_message::header::Header;
 use dns_message::name::ParsedName;
 use dns_message::wire::Parser;
@@ -8,6 +11,9 @@ use std::fmt;
 
 /// The flags of an OPT record have DO as their highest bit (RFC 3225).
 const DNSSEC_OK: u32 = 0x8000;
+
+/// How many octets the header of a message has.
+const HEADER_LEN: usize = 4;
 
 /// A row of a message, to be printed in words, in ASCII.
 #[derive(Clone, Copy)]
@@ -37,8 +43,16 @@ pub(crate) fn target_of(octets: &[u8]) -> usize {
 fn number_of(octets: &[u8]) -> u32 {
     match octets {
         [only] => u32::from(*only),
-        [high, low] => u32::from(u16::from_be_bytes([*high, *low])),
+        [high, low] => u32::from(short_of(&[*high, *low])),
         [a, b, c, d] => u32::from_be_bytes([*a, *b, *c, *d]),
+        _ => 0,
+    }
+}
+
+/// The number that two octets write.
+fn short_of(octets: &[u8]) -> u16 {
+    match octets {
+        [high, low] => u16::from_be_bytes([*high, *low]),
         _ => 0,
     }
 }
@@ -53,151 +67,144 @@ pub(crate) fn word_of(part: Part) -> &'static str {
     }
 }
 
-fn fault_of(fault: Fault) -> &'static str {
-    match fault {
-        Fault::Short => "the octets end before the field does",
-        Fault::Name => "no name can be read here",
-        Fault::Trailing => "octets are left behind the value of the data",
-    }
-}
-
-/// The name of an opcode (RFC 1035 section 4.1.1, RFC 1996, RFC 2136).
-fn opcode_name(opcode: u8) -> &'static str {
-    match opcode {
-        0 => "query",
-        1 => "inverse query",
-        2 => "status",
-        4 => "notify",
-        5 => "update",
-        6 => "stateful operations",
-        _ => "unassigned",
-    }
-}
-
-/// The name of an rcode (RFC 1035 section 4.1.1, RFC 2136).
-fn rcode_name(rcode: u8) -> &'static str {
-    match rcode {
-        0 => "no error",
-        1 => "format error",
-        2 => "server failure",
-        3 => "no such name",
-        4 => "not implemented",
-        5 => "refused",
-        6 => "name exists",
-        7 => "records exist",
-        8 => "no such records",
-        9 => "not authoritative or authorized",
-        10 => "name not in zone",
-        _ => "unassigned",
-    }
-}
-
-/// The name of an option (the registry of EDNS0 option codes).
-fn option_name(code: u32) -> &'static str {
-    match code {
-        1 => "LLQ",
-        2 => "update lease",
-        3 => "name server identifier (NSID)",
-        5 => "DAU",
-        6 => "DHU",
-        7 => "N3U",
-        8 => "client subnet",
-        9 => "expire",
-        10 => "cookie",
-        11 => "TCP keepalive",
-        12 => "padding",
-        13 => "chain",
-        14 => "key tag",
-        15 => "extended error",
-        _ => "no name known",
+/// The words for a name of an item.
+fn words_of(name: NameOf) -> &'static str {
+    match name {
+        NameOf::Question => "name",
+        NameOf::Owner => "owner",
+        NameOf::Server => "name server",
+        NameOf::Canonical => "canonical name",
+        NameOf::Target => "target",
+        NameOf::Exchange => "mail exchange",
+        NameOf::Primary => "primary server",
+        NameOf::Mailbox => "mailbox",
     }
 }
 
 impl fmt::Display for Meaning<'_> {
     fn fmt<W: fmt::Write>(&self, f: &mut fmt::Formatter<W>) -> fmt::Result {
-        let octets = octets_of(self.message, &self.row);
-        let number = number_of(octets);
         match self.row.kind {
-            Field::ShortHeader => f.write_str("too short for a header, which has 12 octets"),
-            Field::Id => write!(f, "identifier {number}"),
-            Field::Flags => write_flags(f, self.message),
-            Field::Count(part) => {
-                let word = word_of(part);
-                write!(f, "{word} count: {number}")
+            Kind::ShortHeader => f.write_str("too short for a header section of 12 octets"),
+            Kind::Field(field) => self.write_field(f, field),
+            Kind::Fault(fault) => self.write_fault(f, fault),
+            Kind::Unread => {
+                let count = octet_count(self.octets().len());
+                write!(f, "unread, {count}")
             }
+        }
+    }
+}
+
+impl<'a> Meaning<'a> {
+    /// The octets of the row.
+    fn octets(&self) -> &'a [u8] {
+        octets_of(self.message, &self.row)
+    }
+
+    /// Prints a field: those that need more than their number here, the others by `write_number`.
+    fn write_field<W: fmt::Write>(&self, f: &mut fmt::Formatter<W>, field: Field) -> fmt::Result {
+        let octets = self.octets();
+        match field {
+            Field::Flags => write_flags(f, self.message),
             Field::Item(part, number) => {
                 let word = word_of(part);
                 write!(f, "{word} {number}")
             }
-            Field::Fault(fault) => {
-                let word = fault_of(fault);
-                write!(f, "FAULT: {word}")
+            Field::Label(name) => write_label(f, name, octets),
+            Field::Root(name, start) => {
+                let words = words_of(name);
+                write!(f, "{words}, root label: ")?;
+                write_name(f, self.message, start)
             }
-            Field::Label | Field::Text => write_quoted(f, octets),
-            Field::Pointer => write_pointer(f, self.message, target_of(octets)),
-            Field::OptFlags => write_opt_flags(f, number),
-            Field::Address | Field::LongAddress => write_address(f, octets),
-            kind => write_number(f, kind, number, octets.len()),
+            Field::Pointer(name, start) => self.write_pointer(f, name, start),
+            Field::Address | Field::LongAddress => {
+                f.write_str("address ")?;
+                write_address(f, octets)
+            }
+            Field::Text => write_text(f, octets),
+            Field::ExtendedRcode => write_extended(f, self.message, octets),
+            Field::OptionCode | Field::OptionLength(_) | Field::OptionData(_) => {
+                write_option(f, field, octets)
+            }
+            _ => write_number(f, field, octets),
+        }
+    }
+
+    /// Prints where a pointer leads, and the whole name, where it is more than what stands there.
+    fn write_pointer<W: fmt::Write>(
+        &self,
+        f: &mut fmt::Formatter<W>,
+        name: NameOf,
+        start: usize,
+    ) -> fmt::Result {
+        let words = words_of(name);
+        let target = target_of(self.octets());
+        write!(f, "{words}, pointer to {target}: ")?;
+        write_name(f, self.message, target)?;
+        if start == self.row.start {
+            return Ok(());
+        }
+        f.write_str(", whole name ")?;
+        write_name(f, self.message, start)
+    }
+
+    fn write_fault<W: fmt::Write>(&self, f: &mut fmt::Formatter<W>, fault: Fault) -> fmt::Result {
+        let mut parser = Parser::new(self.message);
+        let octets = match parser.seek(self.row.start) {
+            Ok(()) => parser.peek(2).unwrap_or(&[]),
+            Err(_) => &[],
+        };
+        let target = target_of(octets);
+        f.write_str("FAULT: ")?;
+        match fault {
+            Fault::Short(field) => {
+                let word = field_words(field);
+                write!(f, "the octets end before the {word} does")
+            }
+            Fault::Label => f.write_str("no label begins with the high bits 01 or 10"),
+            Fault::LongName => f.write_str("with this label the name has more than 255 octets"),
+            Fault::Pointer => write!(f, "pointer to {target}, which doesn't lead back"),
+            Fault::Behind => write!(f, "pointer to {target}, where no name can be read"),
+            Fault::Trailing => f.write_str("octets are left behind the value of the data"),
         }
     }
 }
 
-/// Prints the bits of a header, but for its identifier.
-fn write_flags<W: fmt::Write>(f: &mut fmt::Formatter<W>, message: &[u8]) -> fmt::Result {
-    if message.len() < 12 {
-        return Ok(());
+/// The words for a field that can be cut short.
+fn field_words(field: Field) -> &'static str {
+    match field {
+        Field::Label(name) | Field::Root(name, _) | Field::Pointer(name, _) => words_of(name),
+        Field::Type => "type",
+        Field::Class => "class",
+        Field::Ttl => "TTL",
+        Field::DataLength => "data length",
+        Field::Address | Field::LongAddress => "address",
+        Field::Preference => "preference",
+        Field::Serial => "serial",
+        Field::Refresh => "refresh",
+        Field::Retry => "retry",
+        Field::Expire => "expire",
+        Field::Minimum => "minimum",
+        Field::Text => "text",
+        Field::PayloadSize => "UDP payload size",
+        Field::ExtendedRcode => "extended rcode",
+        Field::Version => "EDNS version",
+        Field::OptFlags => "EDNS flags",
+        Field::OptionCode => "option code",
+        Field::OptionLength(_) => "option length",
+        Field::OptionData(_) => "option data",
+        _ => "data",
     }
-    let header = Header::for_message_slice(message);
-    let kind = if header.qr() { "response" } else { "query" };
-    let opcode = header.opcode().to_int();
-    let opcode_name = opcode_name(opcode);
-    let rcode = header.rcode().to_int();
-    let rcode_name = rcode_name(rcode);
-    let flags = header.flags();
-    write!(
-        f,
-        "{kind}, opcode {opcode} ({opcode_name}), rcode {rcode} ({rcode_name}), flags: {flags}"
-    )?;
-    if header.z() {
-        f.write_str(", Z is set")?;
-    }
-    Ok(())
 }
 
-fn write_opt_flags<W: fmt::Write>(f: &mut fmt::Formatter<W>, flags: u32) -> fmt::Result {
-    let word = if flags & DNSSEC_OK == 0 {
-        "not set"
-    } else {
-        "set"
-    };
-    write!(f, "EDNS flags: DO is {word}")
-}
-
-/// Prints a label or a string that stands behind its length octet.
-fn write_quoted<W: fmt::Write>(f: &mut fmt::Formatter<W>, octets: &[u8]) -> fmt::Result {
-    let [len, text @ ..] = octets else {
-        return Ok(());
-    };
-    write!(f, "{len} octets: \"")?;
-    for octet in text {
-        match *octet {
-            b'"' | b'\\' => write!(f, "\\{}", char::from(*octet))?,
-            b' '..=b'~' => write!(f, "{}", char::from(*octet))?,
-            _ => write!(f, "\\{octet:03}")?,
-        }
-    }
-    f.write_str("\"")
-}
-
-/// Prints where a pointer leads.
-fn write_pointer<W: fmt::Write>(
+/// Prints the name that stands at a place, with a dot behind its labels.
+fn write_name<W: fmt::Write>(
     f: &mut fmt::Formatter<W>,
     message: &[u8],
-    target: usize,
+    place: usize,
 ) -> fmt::Result {
-    write!(f, "pointer to {target}: ")?;
     let mut parser = Parser::new(message);
-    if parser.seek(target).is_err() {
+    if parser.seek(place).is_err() {
         return Ok(());
     }
     match ParsedName::parse(&mut parser) {
@@ -206,57 +213,154 @@ fn write_pointer<W: fmt::Write>(
     }
 }
 
-/// Prints four or sixteen octets as an address.
-fn write_address<W: fmt::Write>(f: &mut fmt::Formatter<W>, octets: &[u8]) -> fmt::Result {
-    if let [a, b, c, d] = octets {
-        return write!(f, "address {a}.{b}.{c}.{d}");
+/// Prints the bits of a header behind its identifier, in order; of the flags those that are set.
+fn write_flags<W: fmt::Write>(f: &mut fmt::Formatter<W>, message: &[u8]) -> fmt::Result {
+    if message.len() < HEADER_LEN {
+        return Ok(());
     }
-    f.write_str("address ")?;
-    for (index, pair) in octets.chunks(2).enumerate() {
-        if index > 0 {
-            f.write_str(":")?;
+    let header = Header::for_message_slice(message);
+    let opcode = OpcodeName(header.opcode());
+    let rcode = RcodeName(u16::from(header.rcode().to_int()));
+    f.write_str(if header.qr() {
+        "response (QR)"
+    } else {
+        "query"
+    })?;
+    write!(f, ", opcode {opcode}")?;
+    write_set(f, header)?;
+    write!(f, ", rcode {rcode}")
+}
+
+/// Prints the flags of a header that are set, but for QR.
+fn write_set<W: fmt::Write>(f: &mut fmt::Formatter<W>, header: Header) -> fmt::Result {
+    let flags = [
+        (header.aa(), "authoritative answer (AA)"),
+        (header.tc(), "truncated (TC)"),
+        (header.rd(), "recursion desired (RD)"),
+        (header.ra(), "recursion available (RA)"),
+        (header.z(), "reserved bit (Z)"),
+        (header.ad(), "authentic data (AD)"),
+        (header.cd(), "checking disabled (CD)"),
+    ];
+    for (is_set, words) in flags {
+        if is_set {
+            write!(f, ", {words}")?;
         }
-        let group = number_of(pair);
-        write!(f, "{group:x}")?;
     }
     Ok(())
 }
 
-/// Prints a field that is a number, and one that has no more to tell than its kind.
+/// Prints a label, which stands behind its length octet.
+fn write_label<W: fmt::Write>(
+    f: &mut fmt::Formatter<W>,
+    name: NameOf,
+    octets: &[u8],
+) -> fmt::Result {
+    let words = words_of(name);
+    let [len, label @ ..] = octets else {
+        return Ok(());
+    };
+    let count = octet_count(usize::from(*len));
+    let label = Quoted(label);
+    write!(f, "{words}, label of {count}: {label}")
+}
+
+/// Prints a string, which stands behind its length octet.
+fn write_text<W: fmt::Write>(f: &mut fmt::Formatter<W>, octets: &[u8]) -> fmt::Result {
+    let [len, text @ ..] = octets else {
+        return Ok(());
+    };
+    let count = octet_count(usize::from(*len));
+    let text = Quoted(text);
+    write!(f, "text of {count}: {text}")
+}
+
+/// Prints the eight bits of an OPT record above those of the header, and the rcode that they make (RFC 6891 section
+/// 6.1.3).
+fn write_extended<W: fmt::Write>(
+    f: &mut fmt::Formatter<W>,
+    message: &[u8],
+    octets: &[u8],
+) -> fmt::Result {
+    let [higher] = octets else {
+        return Ok(());
+    };
+    write!(f, "extended rcode {higher}")?;
+    if *higher == 0 || message.len() < HEADER_LEN {
+        return Ok(());
+    }
+    let header = Header::for_message_slice(message);
+    let rcode = RcodeName(OptRcode::from_parts(header.rcode(), *higher).to_int());
+    write!(f, ", with that of the header {rcode}")
+}
+
+/// Prints a field of an option, behind the option's name.
+fn write_option<W: fmt::Write>(
+    f: &mut fmt::Formatter<W>,
+    field: Field,
+    octets: &[u8],
+) -> fmt::Result {
+    let number = short_of(octets);
+    match field {
+        Field::OptionLength(code) => {
+            let name = OptionName(code);
+            write!(f, "{name}, option length {number}")
+        }
+        Field::OptionData(code) => {
+            let data = OptionData { code, octets };
+            write!(f, "{data}")
+        }
+        _ => {
+            let name = OptionName(number);
+            write!(f, "{name}, option code {number}")
+        }
+    }
+}
+
+/// Prints a field that is a number, and data that has no more to tell than its length.
 fn write_number<W: fmt::Write>(
     f: &mut fmt::Formatter<W>,
-    kind: Field,
-    number: u32,
-    len: usize,
+    field: Field,
+    octets: &[u8],
 ) -> fmt::Result {
-    match kind {
-        Field::Root => f.write_str("root label, the name ends"),
+    let number = number_of(octets);
+    let seconds = second_count(number);
+    match field {
+        Field::Id => write!(f, "identifier {number}"),
+        Field::Count(part) => {
+            let word = word_of(part);
+            write!(f, "{word} count {number}")
+        }
         Field::Type => {
-            let rtype = Rtype::from_int((number & 0xffff) as u16);
+            let rtype = Rtype::from_int(short_of(octets));
             write!(f, "type {rtype}")
         }
         Field::Class => {
-            let class = Class::from_int((number & 0xffff) as u16);
+            let class = Class::from_int(short_of(octets));
             write!(f, "class {class}")
         }
-        Field::Ttl => write!(f, "TTL {number} seconds"),
+        Field::Ttl => write!(f, "TTL {seconds}"),
         Field::DataLength => write!(f, "data length {number}"),
         Field::Preference => write!(f, "preference {number}"),
         Field::Serial => write!(f, "serial {number}"),
-        Field::Refresh => write!(f, "refresh {number} seconds"),
-        Field::Retry => write!(f, "retry {number} seconds"),
-        Field::Expire => write!(f, "expire {number} seconds"),
-        Field::Minimum => write!(f, "minimum {number} seconds"),
+        Field::Refresh => write!(f, "refresh {seconds}"),
+        Field::Retry => write!(f, "retry {seconds}"),
+        Field::Expire => write!(f, "expire {seconds}"),
+        Field::Minimum => write!(f, "minimum {seconds}"),
         Field::PayloadSize => write!(f, "UDP payload size {number}"),
-        Field::ExtendedRcode => write!(f, "higher bits of the rcode: {number}"),
         Field::Version => write!(f, "EDNS version {number}"),
-        Field::OptionCode => {
-            let name = option_name(number);
-            write!(f, "option {number}: {name}")
+        Field::OptFlags => write_opt_flags(f, number),
+        _ => {
+            let count = octet_count(octets.len());
+            write!(f, "data, {count}")
         }
-        Field::OptionLength => write!(f, "option length {number}"),
-        Field::OptionData => write!(f, "option data, {len} octets"),
-        Field::Data => write!(f, "data, {len} octets"),
-        _ => write!(f, "unread, {len} octets"),
     }
+}
+
+fn write_opt_flags<W: fmt::Write>(f: &mut fmt::Formatter<W>, flags: u32) -> fmt::Result {
+    write!(f, "EDNS flags {flags:04x}")?;
+    if flags & DNSSEC_OK != 0 {
+        f.write_str(", DNSSEC OK (DO)")?;
+    }
+    Ok(())
 }

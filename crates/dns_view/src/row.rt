@@ -1,11 +1,23 @@
 //! Rows and what they are.
 
 /// Some adjacent octets of a message, from `start` up to `end`.
-#[derive(Clone, Copy, Debug)]
+#[derive(Clone, Copy, Debug, PartialEq, Eq)]
 pub struct Row {
     pub start: usize,
     pub end: usize,
-    pub kind: Field,
+    pub kind: Kind,
+}
+
+/// What the octets of a row are.
+#[derive(Clone, Copy, Debug, PartialEq, Eq)]
+pub enum Kind {
+    /// All octets, where they are fewer than a header section has.
+    ShortHeader,
+    Field(Field),
+    /// No octets: the field that begins here can't be read.
+    Fault(Fault),
+    /// What is behind the last field that can be read.
+    Unread,
 }
 
 /// A part of a message that holds items (RFC 1035 section 4.1).
@@ -17,22 +29,28 @@ pub enum Part {
     Additional,
 }
 
-/// Why the octets from a place on can't be read.
+/// Which name of an item it is (RFC 1035 sections 3.3 and 4.1).
 #[derive(Clone, Copy, Debug, PartialEq, Eq)]
-pub enum Fault {
-    /// The message or the data ends before the field does.
-    Short,
-    /// A name has a label of no known kind, a pointer that doesn't lead back, or more than 255 octets.
-    Name,
-    /// The data of a record has octets behind its value.
-    Trailing,
+pub enum NameOf {
+    Question,
+    Owner,
+    /// The data of NS.
+    Server,
+    /// The data of CNAME.
+    Canonical,
+    /// The data of PTR.
+    Target,
+    /// In the data of MX.
+    Exchange,
+    /// MNAME of SOA, the server that is the source of the zone.
+    Primary,
+    /// RNAME of SOA, the mailbox of who is responsible for the zone.
+    Mailbox,
 }
 
-/// What the octets of a row are.
+/// A field of a message, or a part of one.
 #[derive(Clone, Copy, Debug, PartialEq, Eq)]
 pub enum Field {
-    /// All octets, where they are fewer than a header section has.
-    ShortHeader,
     Id,
     Flags,
     /// How many items a part has.
@@ -40,9 +58,11 @@ pub enum Field {
     /// No octets: an item of a part begins, the first is 1.
     Item(Part, usize),
     /// A label with its length octet.
-    Label,
-    Pointer,
-    Root,
+    Label(NameOf),
+    /// The root label that ends a name, and where the name begins.
+    Root(NameOf, usize),
+    /// The compression pointer that ends a name, and where the name begins.
+    Pointer(NameOf, usize),
     Type,
     Class,
     Ttl,
@@ -66,10 +86,25 @@ pub enum Field {
     Version,
     OptFlags,
     OptionCode,
-    OptionLength,
-    OptionData,
-    /// No octets: what is behind can't be read.
-    Fault(Fault),
-    /// What is behind the last field that could be read.
-    Unread,
+    /// The length of an option with this code.
+    OptionLength(u16),
+    /// The data of an option with this code.
+    OptionData(u16),
+}
+
+/// Why a field can't be read.
+#[derive(Clone, Copy, Debug, PartialEq, Eq)]
+pub enum Fault {
+    /// The message or the data ends before the field does.
+    Short(Field),
+    /// An octet with the high bits 01 or 10 begins no label.
+    Label,
+    /// With this label the name has more than 255 octets.
+    LongName,
+    /// The pointer doesn't lead back.
+    Pointer,
+    /// The pointer leads to octets from which no name can be read.
+    Behind,
+    /// The data of a record has octets behind its value.
+    Trailing,
 }

@@ -2,7 +2,7 @@
 ghost use Rattle.std.specs.Prelude.{◌≤◌, length};
 
 use crate::meaning::{Meaning, octets_of};
-use crate::row::{Field, Row};
+use crate::row::{Field, Kind, Row};
 use std::alloc::{AllocError, Global};
 use std::io;
 use std::io::Write;
@@ -23,7 +23,7 @@ pub fn print_text<W: Write>(
     for row in rows {
         let meaning = Meaning { message, row: *row };
         match row.kind {
-            Field::Item(_, _) => writeln!(writer, "{meaning}")?,
+            Kind::Field(Field::Item(_, _)) => writeln!(writer, "{meaning}")?,
             _ => {
                 let text = format!(in alloc; "{meaning}")?;
                 print_row(
@@ -69,12 +69,14 @@ fn print_row<W: Write>(
 fn line_len(words: &[u8]) -> usize
     ensures { result ≤ length words.now }
 {
-    let head = words.chunks(COLUMNS).next().unwrap_or(words);
-    let len = match head.iter().rposition(|octet| *octet == b' ') {
-        Some(space) if head.len() < words.len() => space.saturating_add(1),
-        _ => head.len(),
-    };
-    len.min(words.len())
+    if words.len() <= COLUMNS {
+        return words.len();
+    }
+    // A space behind the last column isn't printed.
+    match words[..=COLUMNS].iter().rposition(|octet| *octet == b' ') {
+        Some(space) => space.saturating_add(1).min(words.len()),
+        None => COLUMNS,
+    }
 }
 
 /// Prints some octets and a part of the meaning, and ends the line.

@@ -1,54 +1,106 @@
-//! Rows made of the places where fields end.
-ghost use Rattle.std.specs.Prelude.{◌≤◌, IfOk, OnOk};
+//! Rows put one behind the other.
+ghost use Rattle.std.specs.Prelude.{◌≡◌, ◌++◌, ◌≤◌, OnOk, IfOk};
+ghost use Rattle.dns_view.specs.Shown.{field_row, header_rows, fault_rows, unread_rows};
 ghost use Rattle.dns_view.specs.Tiles.{Tiles};
 
-use crate::row::{Field, Row};
+use crate::row::{Fault, Field, Kind, Part, Row};
 use std::alloc::{AllocError, Global};
 
-/// A field, and the place where it ends.
+/// A field, and the places where it begins and ends.
 #[derive(Clone, Copy, Debug)]
 pub(crate) struct Mark {
+    pub(crate) start: usize,
     pub(crate) end: usize,
-    pub(crate) kind: Field,
+    pub(crate) field: Field,
+}
+
+/// The row of a field.
+fn field(start: usize, end: usize, field: Field) -> Row
+    ensures { result ≡ field_row start end field }
+{
+    let kind = Kind::Field(field);
+    Row { start, end, kind }
+}
+
+/// The rows of a header section, two octets each (RFC 1035 section 4.1.1).
+pub(crate) fn header(alloc: Global) -> Result<Vec<Row>, AllocError>
+    ensures { IfOk result (λ rows. rows.items ≡ header_rows) }
+{
+    let mut rows = Vec::new(alloc);
+    rows.push(field(0, 2, Field::Id))?;
+    rows.push(field(2, 4, Field::Flags))?;
+    rows.push(field(4, 6, Field::Count(Part::Question)))?;
+    rows.push(field(6, 8, Field::Count(Part::Answer)))?;
+    rows.push(field(8, 10, Field::Count(Part::Authority)))?;
+    rows.push(field(10, 12, Field::Count(Part::Additional)))?;
+    Ok(rows)
 }
 
 /// Puts a row behind rows that end where it begins.
 #[tactic(auto, using(crate::proofs::Tilings::one_more))]
-fn push_row(rows: &mut Vec<Row>, row: Row) -> Result<(), AllocError>
+fn push_row(rows: &mut Vec<Row>, from: usize, row: Row) -> Result<(), AllocError>
     requires order { row.start ≤ row.end }
-    requires adjacent { Tiles rows.old.items 0 row.start }
-    ensures { OnOk result (Tiles rows.new.items 0 row.end) }
+    requires adjacent { Tiles rows.old.items from row.start }
+    ensures { OnOk result (Tiles rows.new.items from row.end) }
 {
+    let _from = from;
     rows.push(row)?;
     Ok(())
 }
 
-/// The rows of fields that end at these places, each behind the one before it, and of the octets behind them.
+/// The rows of fields that are one behind the other from a place on, and the place where they end.
 ///
-/// A mark that goes back or past the length makes no row.
-pub(crate) fn tile(alloc: Global, marks: &[Mark], len: usize) -> Result<Vec<Row>, AllocError>
-    ensures { IfOk result (λ rows. Tiles rows.items 0 len) }
+/// A mark that isn't adjacent to the one before it, or goes past the length, makes no row.
+pub(crate) fn fields(
+    alloc: Global,
+    marks: &[Mark],
+    from: usize,
+    len: usize,
+) -> Result<(Vec<Row>, usize), AllocError>
+    requires { from ≤ len }
+    ensures { IfOk result (λ found. Tiles found.0.items from found.1 × (found.1 ≤ len)) }
 {
     let mut rows = Vec::new(alloc);
-    let mut start = 0;
+    let mut place = from;
     for mark in marks {
-        if start <= mark.end && mark.end <= len {
-            let row = Row {
-                start,
-                end: mark.end,
-                kind: mark.kind,
-            };
-            push_row(&mut rows, row)?;
-            start = mark.end;
+        if mark.start == place && place <= mark.end && mark.end <= len {
+            push_row(&mut rows, from, field(place, mark.end, mark.field))?;
+            place = mark.end;
         }
     }
-    if start < len {
-        let row = Row {
-            start,
+    Ok((rows, place))
+}
+
+/// Puts behind rows of fields that end at a place the fault there, if there is one, and the octets that are left.
+pub(crate) fn push_rest(
+    rows: &mut Vec<Row>,
+    stop: Option<Fault>,
+    place: usize,
+    len: usize,
+) -> Result<(), AllocError>
+    ensures { OnOk result (rows.new.items
+        ≡ rows.old.items ++ (fault_rows stop place ++ unread_rows place len)) }
+{
+    push_fault(rows, stop, place)?;
+    if place < len {
+        rows.push(Row {
+            start: place,
             end: len,
-            kind: Field::Unread,
-        };
-        push_row(&mut rows, row)?;
+            kind: Kind::Unread,
+        })?;
     }
-    Ok(rows)
+    Ok(())
+}
+
+fn push_fault(rows: &mut Vec<Row>, stop: Option<Fault>, place: usize) -> Result<(), AllocError>
+    ensures { OnOk result (rows.new.items ≡ rows.old.items ++ fault_rows stop place) }
+{
+    if let Some(fault) = stop {
+        rows.push(Row {
+            start: place,
+            end: place,
+            kind: Kind::Fault(fault),
+        })?;
+    }
+    Ok(())
 }

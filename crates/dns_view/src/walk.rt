@@ -1,22 +1,25 @@
-//! A walk over a message that marks where each field ends (RFC 1035 sections 4.1 and 3.3, RFC 6891 section 6.1.2).
-ghost use Rattle.std.specs.Prelude.{◌≡◌, ◌<◌, ◌∷◌, [], IfOk, length};
-ghost use Rattle.dns_view.specs.Tiles.{Tiles, short_header};
+//! A walk over a message that makes a row of each field (RFC 1035 sections 3.3 and 4.1, RFC 6891 section 6.1.2).
+ghost use Rattle.std.specs.Prelude.{◌≤◌, length};
+ghost use Rattle.dns_code.specs.HeaderSection.{header_size};
 
-use crate::row::{Fault, Field, Part, Row};
-use crate::tile::{Mark, tile};
+use crate::meaning::target_of;
+use crate::row::{Fault, Field, NameOf, Part};
+use crate::tile::Mark;
 use dns_message::code::Rtype;
+use dns_message::header::HeaderCounts;
 use dns_message::name::ParsedName;
-use dns_message::wire::{ParseError, Parser};
+use dns_message::wire::Parser;
 use std::alloc::{AllocError, Global};
 
-/// How many octets a header section has.
-const HEADER_LEN: usize = 12;
+/// The most octets that the labels of a name take: 255 less the root's zero octet (RFC 1035 section 2.3.4).
+const MAX_SIZE: usize = 254;
 
-/// How many labels and pointers a walk over a name passes at most: 255 octets have no more.
-const MOST_LABELS: usize = 128;
+/// A name of as many octets has no more labels.
+const MOST_LABELS: usize = 127;
 
 /// Why a walk ends early.
-enum Stop {
+#[derive(Clone, Copy, Debug)]
+pub(crate) enum Stop {
     Fault(Fault),
     Memory,
 }
@@ -27,109 +30,178 @@ impl From<AllocError> for Stop {
     }
 }
 
-impl From<ParseError> for Stop {
-    fn from(error: ParseError) -> Self {
-        match error {
-            ParseError::ShortInput => Stop::Fault(Fault::Short),
-            ParseError::Form(_) => Stop::Fault(Fault::Name),
+/// A place in a message behind its header section, and the rows of the fields before it.
+#[derive(Drop)]
+pub(crate) struct Walk<'a> {
+    pub(crate) parser: Parser<'a>,
+    pub(crate) marks: Vec<Mark>,
+}
+
+impl<'a> Walk<'a> {
+    /// A walk that begins behind the header section.
+    pub(crate) fn new(alloc: Global, octets: &'a [u8]) -> Self
+        requires { header_size ≤ length octets.now }
+    {
+        let mut parser = Parser::new(octets);
+        parser.advance(12).unwrap();
+        Walk {
+            parser,
+            marks: Vec::new(alloc),
         }
     }
-}
 
-/// The rows of any octets: one for each field of the message up to the first that can't be read, and one for what is behind.
-///
-/// Octets that are fewer than a header section has are one row.
-pub fn rows(alloc: Global, octets: &[u8]) -> Result<Vec<Row>, AllocError>
-    ensures tiles { IfOk result (λ rows. Tiles rows.items 0 (length octets.now)) }
-    ensures short { length octets.now < 12
-        → IfOk result (λ rows. rows.items ≡ short_header (length octets.now) ∷ []) }
-{
-    let len = octets.len();
-    if len < HEADER_LEN {
-        let kind = Field::ShortHeader;
-        let row = Row {
-            start: 0,
-            end: len,
-            kind,
-        };
-        let mut rows = Vec::new(alloc);
-        rows.push(row)?;
-        return Ok(rows);
-    }
-    let mut walk = Walk {
-        parser: Parser::new(octets),
-        marks: Vec::new(alloc),
-    };
-    match walk.message() {
-        Ok(()) => {}
-        Err(Stop::Fault(fault)) => walk.mark(Field::Fault(fault))?,
-        Err(Stop::Memory) => return Err(AllocError),
-    }
-    tile(alloc, &walk.marks, len)
-}
-
-/// A place in a message, and the fields before it.
-#[derive(Drop)]
-struct Walk<'a> {
-    parser: Parser<'a>,
-    marks: Vec<Mark>,
-}
-
-impl Walk<'_> {
-    /// A field ends here.
-    fn mark(&mut self, kind: Field) -> Result<(), AllocError> {
+    /// Marks a field that ends here.
+    fn mark(&mut self, start: usize, field: Field) -> Result<(), AllocError> {
         let end = self.parser.pos();
-        self.marks.push(Mark { end, kind })?;
+        self.marks.push(Mark { start, end, field })?;
         Ok(())
     }
 
     /// A field of `n` octets.
-    fn octets(&mut self, n: usize, kind: Field) -> Result<(), Stop> {
-        self.parser.advance(n)?;
-        self.mark(kind)?;
+    fn octets(&mut self, n: usize, field: Field) -> Result<(), Stop> {
+        let start = self.parser.pos();
+        if self.parser.advance(n).is_err() {
+            return Err(Stop::Fault(Fault::Short(field)));
+        }
+        self.mark(start, field)?;
         Ok(())
     }
 
     /// A field that is a number of two octets.
-    fn number(&mut self, kind: Field) -> Result<u16, Stop> {
-        let number = self.parser.parse_u16_be()?;
-        self.mark(kind)?;
+    fn number(&mut self, field: Field) -> Result<u16, Stop> {
+        let start = self.parser.pos();
+        let Ok(number) = self.parser.parse_u16_be() else {
+            return Err(Stop::Fault(Fault::Short(field)));
+        };
+        self.mark(start, field)?;
         Ok(number)
     }
 
-    fn message(&mut self) -> Result<(), Stop> {
-        self.number(Field::Id)?;
-        self.number(Field::Flags)?;
-        let questions = self.number(Field::Count(Part::Question))?;
-        let answers = self.number(Field::Count(Part::Answer))?;
-        let authorities = self.number(Field::Count(Part::Authority))?;
-        let additionals = self.number(Field::Count(Part::Additional))?;
-        self.questions(questions)?;
-        self.records(Part::Answer, answers)?;
-        self.records(Part::Authority, authorities)?;
-        self.records(Part::Additional, additionals)
+    /// The octet that stands here, if one does.
+    fn first(&self) -> Option<u8> {
+        let octets = self.parser.peek(1).ok()?;
+        Some(octets[0])
     }
 
+    /// The octets of the label that begins here, without its length octet; `None` where none begins, where it isn't all
+    /// there, and where a name is too long with it, which has `size` octets before it.
+    fn label_len(&self, size: usize) -> Option<usize> {
+        let len = usize::from(self.first()?);
+        if len == 0
+            || len > 63
+            || len >= self.parser.remaining()
+            || size.saturating_add(len) >= MAX_SIZE
+        {
+            return None;
+        }
+        Some(len)
+    }
+
+    /// The labels that begin here, up to what is no label of a name.
+    fn labels(&mut self, name: NameOf) -> Result<(), Stop> {
+        let mut size = 0;
+        for _ in 0..MOST_LABELS {
+            let Some(len) = self.label_len(size) else {
+                break;
+            };
+            self.octets(len.saturating_add(1), Field::Label(name))?;
+            size = size.saturating_add(len).saturating_add(1);
+        }
+        Ok(())
+    }
+
+    /// A name: its labels, and the root label or the pointer that ends it.
+    fn name(&mut self, name: NameOf) -> Result<(), Stop> {
+        let start = self.parser.pos();
+        let mut behind = self.parser;
+        let read = ParsedName::parse(&mut behind);
+        self.labels(name)?;
+        match read {
+            Ok(_) => self.end_name(name, start, behind),
+            Err(_) => Err(Stop::Fault(self.name_fault(name, start))),
+        }
+    }
+
+    /// The root label or the pointer that ends a name here; the name begins at `start`.
+    fn end_name(&mut self, name: NameOf, start: usize, behind: Parser<'a>) -> Result<(), Stop> {
+        let last = self.parser.pos();
+        self.parser = behind;
+        let field = if self.parser.pos().saturating_sub(last) == 1 {
+            Field::Root(name, start)
+        } else {
+            Field::Pointer(name, start)
+        };
+        self.mark(last, field)?;
+        Ok(())
+    }
+
+    /// Why a name that begins at `start` can't be read on from here, behind its labels.
+    fn name_fault(&self, name: NameOf, start: usize) -> Fault {
+        let place = self.parser.pos();
+        match self.first() {
+            Some(0x40..=0xbf) => Fault::Label,
+            Some(0xc0..) => self.pointer_fault(name, start),
+            Some(len) if place.saturating_sub(start).saturating_add(usize::from(len)) >= MAX_SIZE =>
+                Fault::LongName,
+            _ => Fault::Short(Field::Label(name)),
+        }
+    }
+
+    /// Why a name that begins at `start` can't be read from the pointer that begins here.
+    fn pointer_fault(&self, name: NameOf, start: usize) -> Fault {
+        let Ok(octets) = self.parser.peek(2) else {
+            return Fault::Short(Field::Pointer(name, start));
+        };
+        if target_of(octets) < self.parser.pos() {
+            Fault::Behind
+        } else {
+            Fault::Pointer
+        }
+    }
+
+    /// The items of all parts, as many as the header section of the message says.
+    pub(crate) fn items(&mut self, counts: HeaderCounts) -> Result<(), Stop> {
+        self.questions(counts.qdcount())?;
+        self.records(Part::Answer, counts.ancount())?;
+        self.records(Part::Authority, counts.nscount())?;
+        self.records(Part::Additional, counts.arcount())
+    }
+
+    /// The questions, as many as the header says.
     fn questions(&mut self, count: u16) -> Result<(), Stop> {
-        for number in 1..=usize::from(count) {
-            self.mark(Field::Item(Part::Question, number))?;
-            self.name()?;
-            self.number(Field::Type)?;
-            self.number(Field::Class)?;
+        for index in 0..usize::from(count) {
+            self.question(index + 1)?;
         }
         Ok(())
     }
 
+    fn question(&mut self, number: usize) -> Result<(), Stop> {
+        let start = self.parser.pos();
+        self.mark(start, Field::Item(Part::Question, number))?;
+        self.name(NameOf::Question)?;
+        self.number(Field::Type)?;
+        self.number(Field::Class)?;
+        Ok(())
+    }
+
+    /// The records of a part, as many as the header says.
     fn records(&mut self, part: Part, count: u16) -> Result<(), Stop> {
-        for number in 1..=usize::from(count) {
-            self.mark(Field::Item(part, number))?;
-            self.record()?;
+        for index in 0..usize::from(count) {
+            self.record(part, index + 1)?;
         }
         Ok(())
     }
 
-    fn record(&mut self) -> Result<(), Stop> {
-        self.name()?;
+    fn record(&mut self, part: Part, number: usize) -> Result<(), Stop> {
+        let start = self.parser.pos();
+        self.mark(start, Field::Item(part, number))?;
+        self.name(NameOf::Owner)?;
+        let (rtype, len) = self.record_fields()?;
+        self.within(rtype, usize::from(len))
+    }
+
+    /// The ten octets behind the owner of a record; gives its type and the length of its data.
+    fn record_fields(&mut self) -> Result<(Rtype, u16), Stop> {
         let rtype = Rtype::from_int(self.number(Field::Type)?);
         if rtype == Rtype::OPT {
             self.number(Field::PayloadSize)?;
@@ -141,13 +213,16 @@ impl Walk<'_> {
             self.octets(4, Field::Ttl)?;
         }
         let len = self.number(Field::DataLength)?;
-        self.within(rtype, usize::from(len))
+        Ok((rtype, len))
     }
 
-    /// The data of a record, which has so many octets.
+    /// The data of a record, which has `len` octets.
     fn within(&mut self, rtype: Rtype, len: usize) -> Result<(), Stop> {
         let mut behind = self.parser;
-        self.parser = behind.parse_parser(len)?;
+        let Ok(inner) = behind.parse_parser(len) else {
+            return Err(Stop::Fault(Fault::Short(Field::Data)));
+        };
+        self.parser = inner;
         self.data(rtype)?;
         if self.parser.remaining() > 0 {
             return Err(Stop::Fault(Fault::Trailing));
@@ -161,11 +236,10 @@ impl Walk<'_> {
         match rtype {
             Rtype::A => self.octets(4, Field::Address),
             Rtype::AAAA => self.octets(16, Field::LongAddress),
-            Rtype::NS | Rtype::CNAME | Rtype::PTR => self.name(),
-            Rtype::MX => {
-                self.number(Field::Preference)?;
-                self.name()
-            }
+            Rtype::NS => self.name(NameOf::Server),
+            Rtype::CNAME => self.name(NameOf::Canonical),
+            Rtype::PTR => self.name(NameOf::Target),
+            Rtype::MX => self.exchange(),
             Rtype::SOA => self.zone(),
             Rtype::TXT => self.texts(),
             Rtype::OPT => self.options(),
@@ -174,17 +248,23 @@ impl Walk<'_> {
     }
 
     /// The octets that are left, if there are any.
-    fn rest(&mut self, kind: Field) -> Result<(), Stop> {
+    fn rest(&mut self, field: Field) -> Result<(), Stop> {
         match self.parser.remaining() {
             0 => Ok(()),
-            len => self.octets(len, kind),
+            len => self.octets(len, field),
         }
+    }
+
+    /// The data of MX (RFC 1035 section 3.3.9).
+    fn exchange(&mut self) -> Result<(), Stop> {
+        self.number(Field::Preference)?;
+        self.name(NameOf::Exchange)
     }
 
     /// The data of SOA (RFC 1035 section 3.3.13).
     fn zone(&mut self) -> Result<(), Stop> {
-        self.name()?;
-        self.name()?;
+        self.name(NameOf::Primary)?;
+        self.name(NameOf::Mailbox)?;
         self.octets(4, Field::Serial)?;
         self.octets(4, Field::Refresh)?;
         self.octets(4, Field::Retry)?;
@@ -195,10 +275,10 @@ impl Walk<'_> {
     /// The data of TXT (RFC 1035 section 3.3.14).
     fn texts(&mut self) -> Result<(), Stop> {
         for _ in 0..self.parser.remaining() {
-            let Ok(head) = self.parser.peek(1) else {
+            let Some(len) = self.first() else {
                 break;
             };
-            self.octets(1 + usize::from(head[0]), Field::Text)?;
+            self.octets(1 + usize::from(len), Field::Text)?;
         }
         Ok(())
     }
@@ -209,27 +289,16 @@ impl Walk<'_> {
             if self.parser.remaining() == 0 {
                 break;
             }
-            self.number(Field::OptionCode)?;
-            let len = usize::from(self.number(Field::OptionLength)?);
-            if len > 0 {
-                self.octets(len, Field::OptionData)?;
-            }
+            self.option()?;
         }
         Ok(())
     }
 
-    /// A name: its labels, and the root label or the pointer that ends it.
-    fn name(&mut self) -> Result<(), Stop> {
-        let mut behind = self.parser;
-        ParsedName::parse(&mut behind)?;
-        for _ in 0..MOST_LABELS {
-            let head = self.parser.peek(1)?[0];
-            match head {
-                0 => return self.octets(1, Field::Root),
-                1..=63 => self.octets(1 + usize::from(head), Field::Label)?,
-                _ => return self.octets(2, Field::Pointer),
-            }
+    fn option(&mut self) -> Result<(), Stop> {
+        let code = self.number(Field::OptionCode)?;
+        match self.number(Field::OptionLength(code))? {
+            0 => Ok(()),
+            len => self.octets(usize::from(len), Field::OptionData(code)),
         }
-        Ok(())
     }
 }

@@ -1,6 +1,6 @@
 use Rattle.std.proofs.Common.{◌≤◌}
 use Rattle.dns_view.specs.Tiles.{Tiles}
-use Rattle.dns_view.proofs.tile.tile.Given as goal
+use Rattle.dns_view.proofs.tile.fields.Given as goal
 
 abbrev pub invariant-loop-mark : goal.invariant-loop-mark
-invariant-loop-mark l = Tiles l.rows.items 0 l.start × (l.start ≤ l.len)
+invariant-loop-mark l = Tiles l.rows.items l.from l.place × (l.place ≤ l.len)

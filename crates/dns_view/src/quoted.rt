@@ -1,0 +1,66 @@
+//! Octets printed as texts, as addresses and by their number.
+use std::fmt;
+use std::net::{Ipv4Addr, Ipv6Addr};
+
+/// Octets to be printed in quotation marks, those that are no printable ASCII as a backslash and three decimal digits.
+#[derive(Clone, Copy)]
+pub(crate) struct Quoted<'a>(pub(crate) &'a [u8]);
+
+/// A number of things, to be printed as `1 octet` or `2 octets`.
+#[derive(Clone, Copy)]
+pub(crate) struct Count {
+    number: usize,
+    word: &'static str,
+}
+
+/// So many octets.
+pub(crate) fn octet_count(number: usize) -> Count {
+    let word = "octet";
+    Count { number, word }
+}
+
+/// So many seconds.
+pub(crate) fn second_count(number: u32) -> Count {
+    let number = number as usize;
+    let word = "second";
+    Count { number, word }
+}
+
+impl fmt::Display for Quoted<'_> {
+    fn fmt<W: fmt::Write>(&self, f: &mut fmt::Formatter<W>) -> fmt::Result {
+        f.write_str("\"")?;
+        for octet in self.0 {
+            match *octet {
+                b'"' | b'\\' => write!(f, "\\{}", char::from(*octet))?,
+                b' '..=b'~' => write!(f, "{}", char::from(*octet))?,
+                _ => write!(f, "\\{octet:03}")?,
+            }
+        }
+        f.write_str("\"")
+    }
+}
+
+impl fmt::Display for Count {
+    fn fmt<W: fmt::Write>(&self, f: &mut fmt::Formatter<W>) -> fmt::Result {
+        let number = self.number;
+        let word = self.word;
+        let ending = if number == 1 { "" } else { "s" };
+        write!(f, "{number} {word}{ending}")
+    }
+}
+
+/// Prints four or sixteen octets as an address.
+pub(crate) fn write_address<W: fmt::Write>(
+    f: &mut fmt::Formatter<W>,
+    octets: &[u8],
+) -> fmt::Result {
+    if let [a, b, c, d] = octets {
+        let address = Ipv4Addr::new(*a, *b, *c, *d);
+        return write!(f, "{address}");
+    }
+    if let Ok(octets) = <[u8; 16]>::try_from(octets) {
+        let address = Ipv6Addr::from_octets(octets);
+        return write!(f, "{address}");
+    }
+    Ok(())
+}
