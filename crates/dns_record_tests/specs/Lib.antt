@@ -1,2 +1,3 @@
 pub mod CharStr
+pub mod FieldOrders
 pub mod Naptr

@@ -1,8 +1,11 @@
 //! Records compared, and in canonical form.
+use arrayvec::ArrayVec;
 use dns_code::{Class, Rtype};
 use dns_data::{A, Ns};
 use dns_item::{Record, RecordHeader, Ttl};
-use dns_message::target::StaticCompressor;
+use dns_message::target::{
+    HashCompressor, IndexCompressor, StaticCompressor, StreamTarget, TreeCompressor,
+};
 use dns_wire::{Composer, Name};
 use std::cmp::Ordering;
 use std::hash::{DefaultHasher, Hash, Hasher};
@@ -58,7 +61,17 @@ fn assert_canonical<T: Composer>(rt: &impl Abort, mut target: T) -> Result<(), F
 #[test]
 fn composes_a_canonical_record(rt: HostRuntime) -> Result<(), Fail> {
     assert_canonical(&rt, Vec::new(rt.alloc()))?;
-    assert_canonical(&rt, StaticCompressor::new(Vec::new(rt.alloc())))
+    assert_canonical(&rt, ArrayVec::<u8, 39>::new())?;
+    assert_canonical(&rt, StreamTarget::new_vec(rt.alloc())?)
+}
+
+#[test]
+fn composes_a_canonical_record_over_compressors(rt: HostRuntime) -> Result<(), Fail> {
+    let alloc = rt.alloc();
+    assert_canonical(&rt, StaticCompressor::new(Vec::new(alloc)))?;
+    assert_canonical(&rt, TreeCompressor::new(alloc, Vec::new(alloc)))?;
+    assert_canonical(&rt, HashCompressor::new(alloc, Vec::new(alloc)))?;
+    assert_canonical(&rt, IndexCompressor::new(alloc, Vec::new(alloc)))
 }
 
 #[test]

@@ -1,7 +1,7 @@
 //! Questions, records and their data, converted between holders, read out of a message, and cloned.
 use arrayvec::ArrayVec;
 use dns_code::{Class, Rtype};
-use dns_data::{A, Ns, Opt, Soa, UnknownRecordData};
+use dns_data::{A, Cname, Ns, Opt, Soa, UnknownRecordData};
 use dns_item::{ParsedRecord, Question, Record, RecordHeader, Ttl};
 use dns_wire::{AppendError, FlattenInto, Name, OctetsFrom, ParsedName, Parser, ToNameExt};
 use std::alloc::Global;
@@ -105,6 +105,37 @@ fn flattens_a_record(rt: HostRuntime) -> Result<(), Fail> {
         record.data().nsdname().as_slice(),
         b"\x02ns\x07example\x03com\x00".as_slice()
     );
+    Ok(())
+}
+
+/// The numbers of a zone behind its serial.
+fn times_of<N>(soa: &Soa<N>) -> (u32, u32, u32, u32) {
+    (soa.refresh(), soa.retry(), soa.expire(), soa.minimum())
+}
+
+#[test]
+fn flattens_data(rt: HostRuntime) -> Result<(), Fail> {
+    let address: A = flatten(rt.alloc(), A::from_octets(1, 2, 3, 4))?;
+    assert_eq!(rt; address.octets(), [1, 2, 3, 4]);
+    let name = ParsedName::parse(&mut Parser::new(EXAMPLE_COM))?;
+    let soa: Soa<VecName> = flatten(rt.alloc(), Soa::new(name, name, 1, 2, 3, 4, 5))?;
+    assert_eq!(rt; soa.mname().as_slice(), EXAMPLE_COM.as_slice());
+    assert_eq!(rt; soa.rname().as_slice(), EXAMPLE_COM.as_slice());
+    assert_eq!(rt; (soa.serial(), times_of(&soa)), (1, (2, 3, 4, 5)));
+    Ok(())
+}
+
+#[test]
+fn clones_data(rt: HostRuntime) -> Result<(), Fail> {
+    let name: VecName = convert(rt.alloc(), example_com()?)?;
+    let cname = Cname::new(name.clone()?);
+    assert!(rt; cname.clone()? == cname);
+    let soa = Soa::new(name.clone()?, cname.into_cname(), 1, 2, 3, 4, 5);
+    let clone = soa.clone()?;
+    assert!(rt; clone == soa);
+    assert_eq!(rt; times_of(&clone), (2, 3, 4, 5));
+    let ns = Ns::new(name);
+    assert!(rt; ns.clone()? == ns);
     Ok(())
 }
 

@@ -1,9 +1,10 @@
 //! Records and their headers: read over, taken apart, made anew and ordered.
 use dns_code::{Class, Rtype};
 use dns_data::{A, Ns, UnknownRecordData, compose_canonical_len_rdata, compose_len_rdata};
-use dns_item::{ParsedRecord, Question, Record, RecordHeader, Ttl};
+use dns_item::{ComposeRecord, ParsedRecord, Question, Record, RecordHeader, Ttl};
 use dns_message::target::StaticCompressor;
-use dns_wire::{Composer, Name, ParseError, Parser, ToNameExt};
+use dns_wire::{Composer, Name, ParseError, ParsedName, Parser, ToNameExt};
+use std::alloc::Global;
 use std::cmp::Ordering;
 use std::process::Abort;
 use std::test::Fail;
@@ -53,6 +54,38 @@ fn reads_a_header_and_passes_its_data(rt: HostRuntime) -> Result<(), Fail> {
     Ok(())
 }
 
+/// The address of a record, where it has one.
+fn address_of(
+    record: Result<Option<Record<ParsedName<'_>, A>>, ParseError>,
+) -> Result<Option<[u8; 4]>, ParseError> {
+    match record {
+        Ok(Some(record)) => Ok(Some(record.data().octets())),
+        Ok(None) => Ok(None),
+        Err(error) => Err(error),
+    }
+}
+
+/// The parser stays where the data isn't all there.
+#[test]
+fn reads_no_data_that_is_cut(rt: HostRuntime) -> Result<(), Fail> {
+    let mut parser = Parser::new(&ADDRESS[..16]);
+    let header = RecordHeader::parse(&mut parser)?;
+    let address = address_of(header.parse_into_record(&mut parser));
+    assert_eq!(rt; address, Err(ParseError::ShortInput));
+    assert_eq!(rt; parser.pos(), 13);
+    Ok(())
+}
+
+#[test]
+fn reads_any_data_behind_a_header(rt: HostRuntime) -> Result<(), Fail> {
+    let mut parser = Parser::new(ADDRESS);
+    let header = RecordHeader::parse(&mut parser)?;
+    let record = header.parse_into_any_record::<UnknownRecordData<&[u8]>>(&mut parser)?;
+    assert_eq!(rt; *record.data().data(), b"\xCB\x00\x71\x01".as_slice());
+    assert_eq!(rt; parser.pos(), 17);
+    Ok(())
+}
+
 #[test]
 fn reads_data_of_any_type(rt: HostRuntime) -> Result<(), Fail> {
     let record = ParsedRecord::parse(&mut Parser::new(ADDRESS))?;
@@ -86,6 +119,38 @@ fn makes_a_record_of_fields(rt: HostRuntime) -> Result<(), Fail> {
     let same = Record::<Name<[u8; 3]>, A>::from_record(chaos);
     assert!(rt; same.class() == Class::CH && same.ttl() == Ttl::MINUTE);
     assert!(rt; same.owner().octets_eq(&owner) && same.data().octets() == [1, 2, 3, 4]);
+    Ok(())
+}
+
+/// The octets of a record.
+fn composed<R: ComposeRecord>(alloc: Global, record: &R) -> Result<Vec<u8>, Fail> {
+    let mut target = Vec::new(alloc);
+    record.compose_record(&mut target)?;
+    Ok(target)
+}
+
+#[test]
+fn composes_tuples(rt: HostRuntime) -> Result<(), Fail> {
+    let alloc = rt.alloc();
+    let owner = letter(b"\x01a\x00")?;
+    let data = A::from_octets(203, 0, 113, 1);
+    let internet = composed(alloc, &(owner, Ttl::HOUR, data))?;
+    assert_eq!(rt; internet.as_slice(), ADDRESS.as_slice());
+    assert!(rt; composed(alloc, &(owner, 3600, data))? == internet);
+    assert!(rt; composed(alloc, &(owner, Class::IN, 3600, data))? == internet);
+    assert!(rt; composed(alloc, &&(owner, Class::IN, Ttl::HOUR, data))? == internet);
+    let chaos = composed(alloc, &(owner, Class::CH, Ttl::MINUTE, data))?;
+    assert_eq!(rt;
+        chaos.as_slice(),
+        b"\x01a\x00\x00\x01\x00\x03\x00\x00\x00\x3C\x00\x04\xCB\x00\x71\x01".as_slice()
+    );
+    Ok(())
+}
+
+#[test]
+fn takes_the_name_out_of_a_question(rt: HostRuntime) -> Result<(), Fail> {
+    let question = Question::new(letter(b"\x01a\x00")?, Rtype::NS, Class::CH);
+    assert_eq!(rt; question.into_qname().as_slice(), b"\x01a\x00".as_slice());
     Ok(())
 }
 

@@ -10,6 +10,7 @@ mod comparisons;
 mod conversions;
 #[cfg(test)]
 mod data;
+mod field_orders;
 mod fields;
 mod hinfo;
 #[cfg(test)]
