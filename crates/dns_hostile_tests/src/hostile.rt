@@ -1,4 +1,8 @@
-//! All that is read, passed and searched over hostile octets.
+//! All that is read, passed, searched and copied over hostile octets.
+use crate::copies::{assert_copies, assert_opaque_records, assert_told_apart};
+use crate::cursors::assert_cursors;
+use crate::data::assert_all_data;
+use crate::headers::assert_headers;
 use crate::octets::{
     BOUNDS, NAME_IN_DATA, OPT, POSITIVE_RESPONSE, REPLACEMENTS, long_question, random_message,
 };
@@ -17,7 +21,7 @@ use std::str;
 use std::test::Fail;
 
 /// Each answer of the library is that of the plain reader.
-fn assert_reads(rt: &impl Abort, octets: &[u8]) -> Result<(), Fail> {
+fn assert_reads(rt: &impl Abort, alloc: Global, octets: &[u8]) -> Result<(), Fail> {
     let message = Message::from_octets(octets)?;
     assert_questions(rt, &message)?;
     assert_sections(rt, &message)?;
@@ -28,7 +32,13 @@ fn assert_reads(rt: &impl Abort, octets: &[u8]) -> Result<(), Fail> {
     assert_canonical(rt, &message)?;
     assert_last_additional(rt, &message);
     assert_answers(rt, &message);
-    assert_walks(rt, octets)
+    assert_cursors(rt, &message);
+    assert_opaque_records(rt, &message)?;
+    assert_told_apart(rt, &message)?;
+    assert_copies(rt, alloc, &message)?;
+    assert_walks(rt, octets)?;
+    assert_headers(rt, octets)?;
+    assert_all_data(rt, octets)
 }
 
 /// The octets in hexadecimal digits.
@@ -66,6 +76,12 @@ fn assert_shows(rt: &impl Abort, alloc: Global, octets: &[u8]) -> Result<(), Fai
     Ok(())
 }
 
+/// All of it over these octets.
+fn assert_all(rt: &impl Abort, alloc: Global, octets: &[u8]) -> Result<(), Fail> {
+    assert_reads(rt, alloc, octets)?;
+    assert_shows(rt, alloc, octets)
+}
+
 /// Each octet is replaced in turn.
 fn assert_replaced<const N: usize>(
     rt: &impl Abort,
@@ -76,8 +92,7 @@ fn assert_replaced<const N: usize>(
         for octet in REPLACEMENTS {
             let mut replaced = octets;
             replaced[place] = octet;
-            assert_reads(rt, &replaced)?;
-            assert_shows(rt, alloc, &replaced)?;
+            assert_all(rt, alloc, &replaced)?;
         }
     }
     Ok(())
@@ -93,37 +108,57 @@ fn reads_a_name_in_data_with_replaced_octets(rt: HostRuntime) -> Result<(), Fail
     assert_replaced(&rt, rt.alloc(), *NAME_IN_DATA)
 }
 
+/// The message is cut behind each of its octets. Without a header section it is none.
+fn assert_cut(rt: &impl Abort, alloc: Global) -> Result<(), Fail> {
+    for n in 0..=45 {
+        let octets = &POSITIVE_RESPONSE[..n];
+        if n < 12 {
+            assert!(rt; Message::from_octets(octets).is_err());
+        } else {
+            assert_all(rt, alloc, octets)?;
+        }
+    }
+    Ok(())
+}
+
 #[test]
 fn reads_messages_that_are_cut(rt: HostRuntime) -> Result<(), Fail> {
-    for n in 0..12 {
-        assert!(rt; Message::from_octets(&POSITIVE_RESPONSE[..n]).is_err());
+    assert_cut(&rt, rt.alloc())
+}
+
+/// Names of at most 255 octets, and of more.
+fn assert_long_questions(rt: &impl Abort, alloc: Global) -> Result<(), Fail> {
+    for last in 59..=63 {
+        assert_all(rt, alloc, &long_question(last))?;
     }
-    for n in 12..=45 {
-        assert_reads(&rt, &POSITIVE_RESPONSE[..n])?;
-        assert_shows(&rt, rt.alloc(), &POSITIVE_RESPONSE[..n])?;
+    Ok(())
+}
+
+#[test]
+fn reads_long_questions(rt: HostRuntime) -> Result<(), Fail> {
+    assert_long_questions(&rt, rt.alloc())
+}
+
+fn assert_bounds(rt: &impl Abort, alloc: Global) -> Result<(), Fail> {
+    for octets in BOUNDS {
+        assert_all(rt, alloc, octets)?;
     }
     Ok(())
 }
 
 #[test]
 fn reads_messages_at_the_bounds(rt: HostRuntime) -> Result<(), Fail> {
-    for octets in BOUNDS {
-        assert_reads(&rt, octets)?;
-        assert_shows(&rt, rt.alloc(), octets)?;
-    }
-    for last in 59..=63 {
-        assert_reads(&rt, &long_question(last))?;
-        assert_shows(&rt, rt.alloc(), &long_question(last))?;
+    assert_bounds(&rt, rt.alloc())
+}
+
+fn assert_random(rt: &impl Abort, alloc: Global) -> Result<(), Fail> {
+    for seed in 1..=64 {
+        assert_all(rt, alloc, &random_message(seed)?)?;
     }
     Ok(())
 }
 
 #[test]
 fn reads_messages_drawn_at_random(rt: HostRuntime) -> Result<(), Fail> {
-    for seed in 1..=64 {
-        let octets = random_message(seed)?;
-        assert_reads(&rt, &octets)?;
-        assert_shows(&rt, rt.alloc(), &octets)?;
-    }
-    Ok(())
+    assert_random(&rt, rt.alloc())
 }

@@ -97,6 +97,27 @@ pub(crate) fn name_end(octets: &[u8], place: usize) -> Result<usize, Fault> {
     end_of_labels(octets, place, 0)
 }
 
+/// The octets are all of one name without pointers (RFC 1035 section 3.1), before which labels of this size stand.
+pub(crate) fn check_name(octets: &[u8], size: usize) -> Result<(), Fault>
+    requires { size ≤ 254 }
+{
+    match octets {
+        [] | [192..=255] => Err(Fault::Short),
+        [0] => Ok(()),
+        [first @ 1..=63, behind @ ..] => {
+            let len = usize::from(*first);
+            if size + len + 1 > 254 {
+                return Err(Fault::Form);
+            }
+            match behind.get(len..) {
+                Some(rest) => check_name(rest, size + len + 1),
+                None => Err(Fault::Short),
+            }
+        }
+        _ => Err(Fault::Form),
+    }
+}
+
 /// What stands behind the name of a question or of a record. A question has no TTL and no data.
 #[derive(Clone, Copy, Debug, PartialEq, Eq)]
 pub(crate) struct Fields<'a> {
@@ -122,18 +143,50 @@ fn question_fields(octets: &[u8], place: usize) -> Option<Fields<'_>> {
     })
 }
 
-/// The fields of a record and its data, behind its owner (RFC 1035 section 4.1.3).
-fn record_fields(octets: &[u8], place: usize) -> Option<Fields<'_>> {
+/// The fields of a record's header: all of a record but its owner and its data.
+#[derive(Clone, Copy, Debug, PartialEq, Eq)]
+pub(crate) struct HeaderFields {
+    pub(crate) rtype: u16,
+    pub(crate) class: u16,
+    pub(crate) ttl: u32,
+    /// How many octets the data has.
+    pub(crate) rdlen: u16,
+    /// The place behind all of it.
+    pub(crate) end: usize,
+}
+
+/// The fields of a record's header, behind its owner (RFC 1035 section 4.1.3).
+fn fields_behind(octets: &[u8], place: usize) -> Option<HeaderFields> {
     let question = question_fields(octets, place)?;
-    let [first, second, third, fourth, high, low, rest @ ..] = octets.get(question.end..)? else {
+    let [first, second, third, fourth, high, low, ..] = octets.get(question.end..)? else {
         return None;
     };
-    let len = usize::from(u16::from_be_bytes([*high, *low]));
-    Some(Fields {
+    Some(HeaderFields {
+        rtype: question.rtype,
+        class: question.class,
         ttl: u32::from_be_bytes([*first, *second, *third, *fourth]),
-        data: rest.get(..len)?,
-        end: question.end + 6 + len,
-        ..question
+        rdlen: u16::from_be_bytes([*high, *low]),
+        end: question.end + 6,
+    })
+}
+
+/// The fields of the record header at this place, whose owner has to stand. Its data need not be there.
+pub(crate) fn header_fields(octets: &[u8], place: usize) -> Result<HeaderFields, Fault> {
+    let _labels = labels_at(octets, place)?;
+    let behind = name_end(octets, place)?;
+    fields_behind(octets, behind).ok_or(Fault::Short)
+}
+
+/// The fields of a record and its data, behind its owner (RFC 1035 section 4.1.3).
+fn record_fields(octets: &[u8], place: usize) -> Option<Fields<'_>> {
+    let header = fields_behind(octets, place)?;
+    let len = usize::from(header.rdlen);
+    Some(Fields {
+        rtype: header.rtype,
+        class: header.class,
+        ttl: header.ttl,
+        data: octets.get(header.end..)?.get(..len)?,
+        end: header.end + len,
     })
 }
 

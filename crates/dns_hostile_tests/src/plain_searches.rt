@@ -1,5 +1,5 @@
 //! Plain searches in messages, over the readings of their sections.
-use crate::plain::{Entry, Fault, Labels, Reading, labels_at, name_end};
+use crate::plain::{Entry, Fault, Labels, Reading, count, labels_at, name_end};
 
 /// The first question, where it can be read.
 pub(crate) fn first_question(octets: &[u8]) -> Option<Entry<'_>> {
@@ -7,7 +7,7 @@ pub(crate) fn first_question(octets: &[u8]) -> Option<Entry<'_>> {
 }
 
 /// The data is a list of options, each of them a code, a length and so many octets (RFC 6891 section 6.1.2).
-fn has_options(data: &[u8]) -> bool {
+pub(crate) fn has_options(data: &[u8]) -> bool {
     let [_, _, high, low, rest @ ..] = data else {
         return data.is_empty();
     };
@@ -115,4 +115,65 @@ pub(crate) fn lines_of(octets: &[u8], section: u8) -> Result<usize, Fault> {
         }
     }
     Ok(usize::from(u16::MAX))
+}
+
+/// Both questions can be read, and ask the same, where the letter case of names plays no part.
+fn is_same_question(octets: &[u8], entry: Entry<'_>, others: &[u8], other: Entry<'_>) -> bool {
+    let (Ok(name), Ok(other_name)) = (labels_at(octets, entry.name), labels_at(others, other.name))
+    else {
+        return false;
+    };
+    name.eq_ignore_ascii_case(&other_name)
+        && entry.fields.rtype == other.fields.rtype
+        && entry.fields.class == other.fields.class
+}
+
+/// The questions of two messages can all be read, and are the same in order.
+fn same_questions(octets: &[u8], others: &[u8]) -> bool {
+    let (Ok(mut reading), Ok(mut other)) = (Reading::of(octets, 0), Reading::of(others, 0)) else {
+        return false;
+    };
+    for _ in 0..=u16::MAX {
+        match (reading.next(), other.next()) {
+            (Some(Ok(entry)), Some(Ok(another))) => {
+                if !is_same_question(octets, entry, others, another) {
+                    return false;
+                }
+            }
+            (None, None) => return true,
+            _ => return false,
+        }
+    }
+    false
+}
+
+/// A message is the answer to a query: QR is set, and the IDs, the numbers of questions and the questions are the same.
+pub(crate) fn is_answer(octets: &[u8], query: &[u8]) -> bool {
+    octets.get(2).is_some_and(|flags| *flags & 0x80 != 0)
+        && octets.get(..2) == query.get(..2)
+        && count(octets, 0) == count(query, 0)
+        && same_questions(octets, query)
+}
+
+/// Counts the records of a section up to its fault.
+fn count_section(octets: &[u8], section: u8, records: &mut usize) -> Result<(), Fault> {
+    let mut reading = Reading::of(octets, section)?;
+    for _ in 0..=u16::MAX {
+        match reading.next() {
+            Some(entry) => {
+                let _entry = entry?;
+                *records = records.saturating_add(1);
+            }
+            None => return Ok(()),
+        }
+    }
+    Ok(())
+}
+
+/// Counts the records of the three sections up to the first fault, also that of a section without a start.
+pub(crate) fn count_records(octets: &[u8], records: &mut usize) -> Result<(), Fault> {
+    for section in 1..=3 {
+        count_section(octets, section, records)?;
+    }
+    Ok(())
 }

@@ -7,7 +7,7 @@ use std::process::Abort;
 use std::test::Fail;
 
 /// A parser at this place.
-fn parser_at(octets: &[u8], place: usize) -> Result<Parser<'_>, Fail> {
+pub(crate) fn parser_at(octets: &[u8], place: usize) -> Result<Parser<'_>, Fail> {
     let mut parser = Parser::new(octets);
     parser.seek(place)?;
     Ok(parser)
