@@ -1,6 +1,7 @@
 #!/usr/bin/env bash
-# Builds crates/dns_c, which proves it and the crates below it, and compiles and runs the examples in C, C++ and Rust:
-# those in C and C++ by gcc and by clang where it is there, with the address and undefined behaviour sanitizers.
+# Builds crates/dns_c, which proves it and the crates below it, compares dns.h with its exports (header.sh), and compiles
+# and runs the examples in C, C++ and Rust: those in C and C++ by gcc and by clang, each where it is there, with the
+# address and undefined behaviour sanitizers. Debian has them as gcc, g++ and clang.
 # The last line is 'all examples ran'.
 set -eu
 here=$(cd "$(dirname "$0")" && pwd)
@@ -10,6 +11,9 @@ build=$(mktemp -d)
 trap 'rm -rf "$build"' EXIT
 
 (cd "$crate" && rt lib) >"$build/proof" 2>&1 || { cat "$build/proof" >&2; exit 1; }
+
+"$here/header.sh"
+echo 'dns.h has the exports'
 
 flags="-O1 -g -Wall -Wextra -pedantic -Werror -fsanitize=address,undefined -fno-sanitize-recover=all -I$crate"
 

@@ -5,7 +5,7 @@ use Rattle.std.specs.Prelude.{Option, Some, None, Result, Ok, Err, slice_get, If
 use Rattle.std.specs.Option.{option_map_or}
 use Rattle.dns_octets.specs.declared.error.ParseError.{ParseError}
 use Rattle.dns_octets.specs.declared.error.ParseError.TheVariants as errors
-use Rattle.dns_name.specs.Names.{Fault, EndsOrFaults, fault_of, head_of, head_at}
+use Rattle.dns_name.specs.Names.{Fault, FaultAt, EndsOrFaults, fault_of, head_of, head_at}
 use Rattle.dns_name.specs.Names.Faulty.{head}
 use Rattle.dns_name.specs.Names.Fault.{ShortInput}
 use Rattle.dns_code.specs.HeaderSection.{header_size}
@@ -198,10 +198,11 @@ past_head : (b : List ℕ) (p : ℕ) → length b < p → head_at b p ≡ Err Sh
 unfolding head_at
 past_head b p past = let gone = slice_get_past b p (omega arith) in ap (λ o. head_of o (slice_get b (p + 1))) gone
 
-pub past_end : (b : List ℕ) (p : ℕ) (e : ParseError) → length b < p → e ≡ errors.ShortInput → QuestionFaultAt b p (fault_of e) × RecordFaultAt b p (fault_of e)
+pub past_end : (b : List ℕ) (p : ℕ) (e : ParseError) → length b < p → e ≡ errors.ShortInput → QuestionFaultAt b p (fault_of e) × RecordFaultAt b p (fault_of e) × FaultAt b p (fault_of e)
 past_end b p e past short =
     let fault : fault_of e ≡ ShortInput = ap fault_of short in
-    (subst (QuestionFaultAt b p) (sym fault) (in_name (head (past_head b p past))), subst (RecordFaultAt b p) (sym fault) (in_name (head (past_head b p past))))
+    let none : FaultAt b p ShortInput = head (past_head b p past) in
+    (subst (QuestionFaultAt b p) (sym fault) (in_name none), subst (RecordFaultAt b p) (sym fault) (in_name none), subst (FaultAt b p) (sym fault) none)
 
 -- The beginning.
 

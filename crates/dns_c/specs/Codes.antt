@@ -1,7 +1,11 @@
 -- The numbers by which C sees what is wrong, as dns.h has them.
 use Rattle.std.specs.Prelude.{◌≡◌, ℕ, ◌≤◌, Bool, true, false, Result, Ok, Err}
+use Rattle.dns_octets.specs.declared.error.AppendError.{AppendError}
+use Rattle.dns_octets.specs.declared.error.AppendError.TheVariants as appending
 use Rattle.dns_name.specs.Names.{Fault as FaultThere}
 use Rattle.dns_name.specs.Names.Fault.{ShortInput, Form}
+use Rattle.dns_build.specs.declared.push_error.PushError.{PushError}
+use Rattle.dns_build.specs.declared.push_error.PushError.TheVariants as pushing
 use Rattle.dns_c.specs.declared.code.Fault.{Fault}
 use Rattle.dns_c.specs.declared.code.Fault.TheVariants as faults
 
@@ -15,8 +19,10 @@ number_of faults.Form = 6
 number_of faults.NoRoom = 7
 number_of faults.BadText = 8
 number_of faults.NoQuestion = 9
-number_of faults.BadArgument = 10
+number_of faults.BadSection = 10
 number_of faults.NoMemory = 11
+number_of faults.LongData = 12
+number_of faults.TooMany = 13
 
 -- 0 where something is given, 1 at the end, else the number of the fault
 abbrev pub code_of : Result Bool Fault → ℕ
@@ -28,3 +34,15 @@ code_of (Err fault) = number_of fault
 abbrev pub TellsFault : FaultThere → ℕ → Type 0
 TellsFault ShortInput n = n ≡ 2
 TellsFault Form n = (3 ≤ n) × (n ≤ 6)
+
+-- the fault that a target's refusal is
+abbrev pub append_fault : AppendError → Fault
+append_fault appending.ShortBuf = faults.NoRoom
+append_fault appending.OutOfMemory = faults.NoMemory
+
+-- the fault that a refused push is; no builder has a limit but the greatest number of 64 bits, for which there is no memory
+abbrev pub push_fault : PushError → Fault
+push_fault pushing.ShortBuf = faults.NoRoom
+push_fault pushing.OutOfMemory = faults.NoMemory
+push_fault pushing.LimitExceeded = faults.NoMemory
+push_fault pushing.CountOverflow = faults.TooMany

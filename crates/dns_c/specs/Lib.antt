@@ -2,3 +2,4 @@ pub mod Walk
 pub mod Codes
 pub mod Steps
 pub mod Made
+pub mod Built

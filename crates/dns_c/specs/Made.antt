@@ -1,22 +1,71 @@
--- What a query that is handed out is. RFC 1035 section 4.1.
-use Rattle.std.specs.Prelude.{◌≡◌, ℕ, Bool, List, [], ◌∷◌, replicate}
-use Rattle.dns_name.specs.Names.{Labels}
+-- Messages of one name that are handed out, and why there is none. RFC 1035 section 4.1.
+use Rattle.std.specs.Prelude.{◌≡◌, ◌≢◌, ◌<◌, ◌≤◌, ◌⊎◌, ℕ, Bool, false, true, List, [], ◌∷◌, length, take, replicate}
+use Rattle.dns_name.specs.Names.{Fault, FaultAt, Labels}
 use Rattle.dns_name.specs.NameTexts.{SpellsName}
-use Rattle.dns_wire.specs.Pieces.{Plain}
+use Rattle.dns_wire.specs.Parts.{Octets}
+use Rattle.dns_wire.specs.Pieces.{Plain, Static}
 use Rattle.dns_code.specs.Header.{fields, fields_in}
+use Rattle.dns_code.specs.HeaderSection.{header_size}
 use Rattle.dns_code.specs.declared.header.Header.{Header}
-use Rattle.dns_question.specs.Questions.{QuestionItem}
-use Rattle.dns_build.specs.State.{State, fold, InQuestion}
+use Rattle.dns_question.specs.Questions.{QuestionItem, ReadsQuestion, QuestionFaultAt}
+use Rattle.dns_item.specs.Items.{RecordItem}
+use Rattle.dns_section.specs.Sections.{question_count}
+use Rattle.dns_build.specs.State.{State, InQuestion, InAnswer}
 use Rattle.dns_build.specs.Standing.{fresh}
+use Rattle.dns_build.specs.MessageOf.{IsMessageOf}
+use Rattle.dns_c.specs.Codes.{TellsFault, number_of}
+use Rattle.dns_c.specs.declared.code.Fault.TheVariants as faults
+
+-- a text spells no name
+abbrev pub SpellsNoName : List ℕ → Type 0
+SpellsNoName text = (name : Labels) → SpellsName text name → ⊥
+
+-- no name can be read at a place, and the number tells why
+abbrev pub LacksName : List ℕ → ℕ → ℕ → Type 0
+LacksName b p n = (f : Fault) × FaultAt b p f × TellsFault f n
+
+-- octets that are more than so many, of which this holds
+abbrev pub IsLonger : (List ℕ → Type 0) → ℕ → Type 0
+IsLonger P room = (octets : List ℕ) × P octets × (room < length octets)
 
 -- a header and one question
 abbrev pub asking : Header → QuestionItem → State
 asking header x = record fresh { stage = InQuestion; header = header; questions = x ∷ [] }
 
--- The octets of a query: those of the fold over a header with this ID and RD, and zero but for these, and the question of a name that the text spells.
+-- with one record in the answer section
+abbrev pub answering : Header → QuestionItem → RecordItem → State
+answering header x answer = record (asking header x) { stage = InAnswer; answers = answer ∷ [] }
+
+-- the address of what is asked for: a record of type A, of the same name and class. RFC 1035 section 3.4.1
+abbrev pub address_record : QuestionItem → ℕ → List ℕ → RecordItem
+address_record x ttl address = record { owner = x.name; rtype = 1; class = x.class; ttl = ttl; parts = Octets address ∷ [] }
+
+-- The octets of a query: those of a message with this ID and RD and no other bit set, and the question of a name that the text spells.
 pub record IsQuery (id : ℕ) (rd : Bool) (text : List ℕ) (qtype qclass : ℕ) (octets : List ℕ) : Type 0 where
   pub header : Header
   pub name : Labels
   pub fields : fields header ≡ record (fields_in (replicate 4 0)) { id = id; rd = rd }
   pub spelled : SpellsName text name
-  pub folded : octets ≡ (fold Plain (asking header (record { name = name; rtype = qtype; class = qclass }))).octets
+  pub message : IsMessageOf Plain (asking header (record { name = name; rtype = qtype; class = qclass })) octets
+
+-- the octets of a query with one question, and it can be read
+pub record Asks (b : List ℕ) (x : QuestionItem) : Type 0 where
+  pub long : header_size ≤ length b
+  pub one : question_count b ≡ 1
+  pub behind : ℕ
+  pub reads : ReadsQuestion b header_size behind x
+
+-- They have none: they are fewer than a header section's, or have another count, or the question can't be read. The number tells which.
+abbrev pub AsksNothing : List ℕ → ℕ → Type 0
+AsksNothing b n =
+    ((length b < header_size) × (n ≡ number_of faults.ShortInput))
+    ⊎ ((header_size ≤ length b) × (question_count b ≢ 1) × (n ≡ number_of faults.NoQuestion))
+    ⊎ ((header_size ≤ length b) × (question_count b ≡ 1) × ((f : Fault) × QuestionFaultAt b header_size f × TellsFault f n))
+
+-- The octets of the response to a query: its ID, opcode, RD and CD, QR and AA, and no other bit; its question; and the address. RFC 1035 section 4.1.1.
+pub record IsResponse (query : List ℕ) (aa : Bool) (ttl : ℕ) (address octets : List ℕ) : Type 0 where
+  pub header : Header
+  pub asked : QuestionItem
+  pub asks : Asks query asked
+  pub fields : fields header ≡ record (fields_in (take 4 query)) { qr = true; aa = aa; tc = false; ra = false; z = false; ad = false; rcode = 0 }
+  pub message : IsMessageOf Static (answering header asked (address_record asked ttl address)) octets

@@ -4,6 +4,7 @@
 //! is wrong is answered as a number. Only `dns_build` takes memory.
 #![tactic(auto)]
 
+mod build;
 mod code;
 mod make;
 mod text;
@@ -13,10 +14,15 @@ ghost use Rattle.std.specs.Prelude.{◌≡◌, ◌≢◌, ◌<◌, ◌≤◌, �
 ghost use Rattle.dns_name.specs.NameTexts.{name_text};
 ghost use Rattle.dns_name.specs.Names.{Labels, Stands, uncompressed};
 ghost use Rattle.dns_code.specs.HeaderSection.{header_size};
-ghost use Rattle.dns_c.specs.Made.{IsQuery};
+ghost use Rattle.dns_number.specs.Classes.{class_text};
+ghost use Rattle.dns_number.specs.Types.{type_text};
+ghost use Rattle.dns_c.specs.Built.{IsBuilt, IsUnbuilt};
+ghost use Rattle.dns_c.specs.Codes.{number_of};
+ghost use Rattle.dns_c.specs.Made.{AsksNothing, IsLonger, IsQuery, IsResponse, LacksName, SpellsNoName};
 ghost use Rattle.dns_c.specs.Steps.{IsOpen, Opens, GivesNext};
 
-use make::NewItem;
+use build::NewItem;
+use code::Fault;
 use std::alloc::Global;
 use text::Sink;
 use walk::{Cursor, Header, Item};
@@ -53,6 +59,8 @@ pub extern "C" fn dns_name_text(message: &[u8], place: usize, out: &mut [u8], le
     ensures empty { result ≢ 0 → len.new ≡ 0 }
     ensures text { result ≡ 0 → (name : Labels) × Stands message.now place name
         × (take (len.new + 1) out.new ≡ name_text name ++ 46 ∷ 0 ∷ []) }
+    ensures no_name { result ≢ 0 → result ≢ number_of Fault.NoRoom
+        → LacksName message.now place result }
 {
     match text::name(message, place) {
         Ok(text) => make::hand_out_text(text.as_str().as_bytes(), out, len),
@@ -72,6 +80,10 @@ pub extern "C" fn dns_name_octets(
     ensures empty { result ≢ 0 → len.new ≡ 0 }
     ensures name { result ≡ 0 → (name : Labels) × Stands message.now place name
         × (take len.new out.new ≡ uncompressed name) }
+    ensures no_room { result ≡ number_of Fault.NoRoom → (name : Labels)
+        × Stands message.now place name × (length out.old < length (uncompressed name)) }
+    ensures no_name { result ≢ 0 → result ≢ number_of Fault.NoRoom
+        → LacksName message.now place result }
 {
     match walk::name_at(message, place) {
         Ok(name) => make::hand_out(name.uncompressed().as_slice(), out, len),
@@ -95,10 +107,13 @@ pub extern "C" fn dns_data_text(message: &[u8], item: &Item, out: &mut [u8], len
 pub extern "C" fn dns_type_text(number: u16, out: &mut [u8], len: &mut usize) -> u8
     ensures length { length out.new ≡ length out.old }
     ensures empty { result ≢ 0 → len.new ≡ 0 }
+    ensures text { result ≡ 0 → take (len.new + 1) out.new ≡ type_text number ++ 0 ∷ [] }
+    ensures no_room { result ≢ 0 → result ≡ number_of Fault.NoRoom }
 {
-    let mut sink = Sink::new(out);
-    let answer = text::rtype(number, &mut sink);
-    sink.close(answer, len)
+    match text::rtype(number) {
+        Ok(text) => make::hand_out_text(text.as_str().as_bytes(), out, len),
+        Err(fault) => make::refuse(fault, len),
+    }
 }
 
 /// Writes the name of a class, and a zero octet.
@@ -106,10 +121,13 @@ pub extern "C" fn dns_type_text(number: u16, out: &mut [u8], len: &mut usize) ->
 pub extern "C" fn dns_class_text(number: u16, out: &mut [u8], len: &mut usize) -> u8
     ensures length { length out.new ≡ length out.old }
     ensures empty { result ≢ 0 → len.new ≡ 0 }
+    ensures text { result ≡ 0 → take (len.new + 1) out.new ≡ class_text number ++ 0 ∷ [] }
+    ensures no_room { result ≢ 0 → result ≡ number_of Fault.NoRoom }
 {
-    let mut sink = Sink::new(out);
-    let answer = text::class(number, &mut sink);
-    sink.close(answer, len)
+    match text::class(number) {
+        Ok(text) => make::hand_out_text(text.as_str().as_bytes(), out, len),
+        Err(fault) => make::refuse(fault, len),
+    }
 }
 
 /// Writes a query for the name that a text spells.
@@ -127,6 +145,10 @@ pub extern "C" fn dns_query(
     ensures empty { result ≢ 0 → len.new ≡ 0 }
     ensures query { result ≡ 0
         → IsQuery id recursion name.now qtype qclass (take len.new out.new) }
+    ensures no_room { result ≡ number_of Fault.NoRoom
+        → IsLonger (IsQuery id recursion name.now qtype qclass) (length out.old) }
+    ensures no_name { result ≢ 0 → result ≢ number_of Fault.NoRoom
+        → (result ≡ number_of Fault.BadText) × SpellsNoName name.now }
 {
     match make::query(id, recursion, name, qtype, qclass) {
         Ok(made) => make::hand_out(made.as_slice(), out, len),
@@ -146,6 +168,12 @@ pub extern "C" fn dns_respond_a(
 ) -> u8
     ensures length { length out.new ≡ length out.old }
     ensures empty { result ≢ 0 → len.new ≡ 0 }
+    ensures response { result ≡ 0
+        → IsResponse query.now authoritative ttl address.now (take len.new out.new) }
+    ensures no_room { result ≡ number_of Fault.NoRoom
+        → IsLonger (IsResponse query.now authoritative ttl address.now) (length out.old) }
+    ensures no_question { result ≢ 0 → result ≢ number_of Fault.NoRoom
+        → AsksNothing query.now result }
 {
     match make::respond_a(query, authoritative, ttl, address) {
         Ok(made) => make::hand_out(made.as_slice(), out, len),
@@ -165,8 +193,12 @@ pub extern "C" fn dns_build(
 ) -> u8
     ensures length { length out.new ≡ length out.old }
     ensures empty { result ≢ 0 → len.new ≡ 0 }
+    ensures built { result ≡ 0 → IsBuilt id flags items.now (take len.new out.new) }
+    ensures no_room { result ≡ number_of Fault.NoRoom
+        → IsLonger (IsBuilt id flags items.now) (length out.old) }
+    ensures unbuilt { result ≢ 0 → result ≢ number_of Fault.NoRoom → IsUnbuilt items.now result }
 {
-    match make::build(alloc, id, flags, items) {
+    match build::build(alloc, id, flags, items) {
         Ok(made) => make::hand_out(made.as_slice(), out, len),
         Err(fault) => make::refuse(fault, len),
     }

@@ -1,8 +1,12 @@
 //! Texts written into a caller's buffer.
-ghost use Rattle.std.specs.Prelude.{◌≡◌, ◌≢◌, ◌++◌, ◌∷◌, [], IfOk};
+ghost use Rattle.std.specs.Prelude.{◌≡◌, ◌≢◌, ◌++◌, ◌∷◌, [], IfOk, IfErr};
 ghost use Rattle.dns_name.specs.Names.{Labels, Stands};
 ghost use Rattle.dns_name.specs.NameTexts.{name_text};
 ghost use Rattle.dns_name.specs.ParsedName.{labels};
+ghost use Rattle.dns_number.specs.Classes.{class_text};
+ghost use Rattle.dns_number.specs.Types.{type_text};
+ghost use Rattle.dns_c.specs.Codes.{number_of};
+ghost use Rattle.dns_c.specs.Made.{LacksName};
 
 use crate::code;
 use crate::code::Fault;
@@ -70,8 +74,10 @@ fn spelled(name: ParsedName<'_>) -> Result<ArrayString<1004>, fmt::Error>
 
 /// The text of the name at a place, with a dot behind each label.
 pub(crate) fn name(octets: &[u8], place: usize) -> Result<ArrayString<1004>, Fault>
-    ensures { IfOk result (λ text. (name : Labels) × Stands octets.now place name
+    ensures text { IfOk result (λ text. (name : Labels) × Stands octets.now place name
         × (text.bytes ≡ name_text name ++ 46 ∷ [])) }
+    ensures none { IfErr result (λ fault. fault ≢ Fault.NoRoom
+        → LacksName octets.now place (number_of fault)) }
 {
     let name = name_at(octets, place)?;
     Ok(spelled(name)?)
@@ -103,13 +109,23 @@ fn data_as<'a, D: ParseRecordData<'a> + fmt::Display + Drop>(
 }
 
 /// The name of a record type.
-pub(crate) fn rtype(number: u16, sink: &mut Sink<'_>) -> Result<(), Fault> {
-    write!(sink, "{}", Rtype::from_int(number))?;
-    Ok(())
+#[tactic(auto, using(crate::proofs::Texts::array_contents))]
+pub(crate) fn rtype(number: u16) -> Result<ArrayString<16>, Fault>
+    ensures text { IfOk result (λ text. text.bytes ≡ type_text number) }
+    ensures none { IfErr result (λ fault. fault ≡ Fault.NoRoom) }
+{
+    let mut text = ArrayString::new();
+    text.write(Rtype::from_int(number))?;
+    Ok(text)
 }
 
 /// The name of a class.
-pub(crate) fn class(number: u16, sink: &mut Sink<'_>) -> Result<(), Fault> {
-    write!(sink, "{}", Class::from_int(number))?;
-    Ok(())
+#[tactic(auto, using(crate::proofs::Texts::array_contents))]
+pub(crate) fn class(number: u16) -> Result<ArrayString<16>, Fault>
+    ensures text { IfOk result (λ text. text.bytes ≡ class_text number) }
+    ensures none { IfErr result (λ fault. fault ≡ Fault.NoRoom) }
+{
+    let mut text = ArrayString::new();
+    text.write(Class::from_int(number))?;
+    Ok(text)
 }

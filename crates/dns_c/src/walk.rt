@@ -1,6 +1,6 @@
 //! A walk over a message whose place the caller holds.
 ghost use Rattle.std.specs.Prelude.{◌≡◌, ◌+◌, ◌<◌, ◌≤◌, length, true, IfOk, IfErr};
-ghost use Rattle.dns_name.specs.Names.{Stands, fault_of};
+ghost use Rattle.dns_name.specs.Names.{FaultAt, Stands, fault_of};
 ghost use Rattle.dns_name.specs.ParsedName.{labels};
 ghost use Rattle.dns_name.specs.Parsers as Parsers;
 ghost use Rattle.dns_name.specs.Parsers.{seen};
@@ -8,6 +8,8 @@ ghost use Rattle.dns_code.specs.HeaderSection.{header_size};
 ghost use Rattle.dns_question.specs.Questions.{QuestionFaultAt};
 ghost use Rattle.dns_item.specs.Items.{RecordFaultAt};
 ghost use Rattle.dns_read.specs.Message.{message_octets};
+ghost use Rattle.dns_c.specs.Codes.{number_of};
+ghost use Rattle.dns_c.specs.Made.{LacksName};
 ghost use Rattle.dns_c.specs.Steps.{left_from, IsHeader, IsOpen, Opens, AnswersQuestion, AnswersRecord, AnswersEntry, Steps};
 ghost use Rattle.dns_c.specs.Walk.{count_at};
 
@@ -137,11 +139,12 @@ fn settle(message: &Message<&[u8]>, cursor: &mut Cursor)
 
 /// A parser at a place of the octets. Past their end there is nothing to read.
 #[tactic(auto, using(crate::proofs::WalkLemmas::past_end))]
-fn parser_at(octets: &[u8], place: usize) -> Result<Parser<'_>, ParseError>
+pub(crate) fn parser_at(octets: &[u8], place: usize) -> Result<Parser<'_>, ParseError>
     ensures ok { IfOk result (λ parser. (seen parser ≡ octets.now)
         × (Parsers.place parser ≡ place)) }
     ensures err { IfErr result (λ error. QuestionFaultAt octets.now place (fault_of error)
-        × RecordFaultAt octets.now place (fault_of error)) }
+        × RecordFaultAt octets.now place (fault_of error)
+        × FaultAt octets.now place (fault_of error)) }
 {
     let mut parser = Parser::new(octets);
     parser.seek(place)?;
@@ -205,7 +208,7 @@ pub(crate) fn next(octets: &[u8], cursor: &mut Cursor, item: &mut Item) -> Resul
         → item.new.«data» + item.new.data_len ≤ length octets.now) }
 {
     if cursor.section > 3 {
-        return Err(Fault::BadArgument);
+        return Err(Fault::BadSection);
     }
     let message = Message::from_slice(octets)?;
     settle(&message, cursor);
@@ -229,9 +232,9 @@ pub(crate) fn next(octets: &[u8], cursor: &mut Cursor, item: &mut Item) -> Resul
 
 /// The name at a place.
 pub(crate) fn name_at(octets: &[u8], place: usize) -> Result<ParsedName<'_>, Fault>
-    ensures { IfOk result (λ name. Stands octets.now place (labels name)) }
+    ensures name { IfOk result (λ name. Stands octets.now place (labels name)) }
+    ensures none { IfErr result (λ fault. LacksName octets.now place (number_of fault)) }
 {
-    let mut parser = Parser::new(octets);
-    parser.seek(place)?;
+    let mut parser = parser_at(octets, place)?;
     Ok(ParsedName::parse(&mut parser)?)
 }

@@ -18,5 +18,5 @@ returns-in-Err-clause-steps c =
       at_the_fault c.args.octets.now (message_octets c.in_ok-message.message) c.args.cursor.now c.settle.new.cursor (fault_of c.in-Err.error) c.in_ok-message.ensures.octets s.same
           c.if-cursor-eq0.false c.in-Err.ensures.entry,
       c.from-fault.ensures,
-      c.of_fault-cursor.ensures,
+      c.of_fault-cursor.ensures.number,
     )

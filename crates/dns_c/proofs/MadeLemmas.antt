@@ -1,0 +1,99 @@
+-- Messages of one name: how long they are, and that nothing stops them.
+use Rattle.std.proofs.Common.{◌≡◌, ◌∙◌, ℕ, ◌+◌, ◌<◌, ◌≤◌, Some, None, true, false, Bool, List, [], ◌∷◌, ◌++◌, length, length-append, ap, sym, subst, refl, arith}
+use Rattle.std.specs.Prelude.{Option, IsTrue}
+use Rattle.std.specs.FinMap.{get, len, get-empty, len-empty}
+use Rattle.dns_wire.proofs.theory.Memories.{get-insert_same}
+use Rattle.dns_name.specs.Names.{Labels, IsName, framed}
+use Rattle.dns_name.proofs.theory.LabelsLemmas.{length-uncompressed}
+use Rattle.dns_wire.specs.Parts.{Part, Octets, put_parts}
+use Rattle.dns_wire.specs.Pieces.{Memory, Rule, Static, Spot, nothing, put_name, remember, spell, spell_label, is_kept, suffix_cmp}
+use Rattle.dns_wire.specs.Targets.{Fits, Passes}
+use Rattle.dns_wire.proofs.theory.NameSizes.{names_are_short}
+use Rattle.dns_code.specs.Header.{header_octets}
+use Rattle.dns_code.specs.declared.header.Header.{Header}
+use Rattle.dns_question.specs.Questions.{QuestionItem, put_question}
+use Rattle.dns_item.specs.Items.{RecordItem, put_record}
+use Rattle.dns_build.specs.State.{State, IsState, fold, no_limit, most_entries}
+use Rattle.dns_build.specs.MessageOf.{IsMessageOf}
+use Rattle.dns_build.specs.declared.push_error.PushError.{PushError}
+use Rattle.dns_build.specs.declared.push_error.PushError.TheVariants as pushing
+use Rattle.dns_build.proofs.FoldReading.{folds_are_messages}
+use Rattle.dns_c.specs.Made.{asking, answering, address_record}
+
+-- The octets of a builder's message.
+
+pub is_message : (rule : Rule) (s : State) (octets : List ℕ) → IsState s → octets ≡ (fold rule s).octets → IsMessageOf rule s octets
+is_message rule s octets state folded = subst (IsMessageOf rule s) (sym folded) (folds_are_messages rule s state)
+
+-- Nothing stops a message that has room.
+
+-- an item is pushed where the message has at most 512 octets, no limit, and a count that isn't full
+pub never_refused : (e : PushError) (n limit count : ℕ) → n ≤ 512 → limit ≡ no_limit → count < most_entries → (e ≡ pushing.ShortBuf → Passes (Some 512) n)
+    → (e ≡ pushing.OutOfMemory → IsTrue false) → (e ≡ pushing.LimitExceeded → Fits (Some 512) n × (limit < n)) → (e ≡ pushing.CountOverflow → Fits (Some 512) n × (n ≤ limit) × (count ≡ most_entries)) → ⊥
+never_refused pushing.ShortBuf n limit count small none few short memory over full = let h : 512 < n = short refl in omega arith
+never_refused pushing.OutOfMemory n limit count small none few short memory over full = let grows = memory refl in cc
+never_refused pushing.LimitExceeded n limit count small none few short memory over full = let h : limit < n = (over refl).1 in omega arith
+never_refused pushing.CountOverflow n limit count small none few short memory over full = let h : count ≡ most_entries = (full refl).2 in omega arith
+
+-- How long they are.
+
+name_short : (rule : Rule) (name : Labels) (m : Memory) (w : ℕ) → IsName name → length (put_name rule name m w).octets ≤ 255
+name_short rule name m w is = let short = is.short in omega (arith, names_are_short rule name m w, length-uncompressed name)
+
+-- a header section and a question
+pub asked_short : (rule : Rule) (header : Header) (x : QuestionItem) → length (header_octets header) ≡ 4 → IsName x.name → length (fold rule (asking header x)).octets ≤ 512
+unfolding fold put_question
+asked_short rule header x four is =
+    let name = name_short rule x.name nothing (length (header_octets header) + 8) is in
+    simp length-append (omega (arith, name, four))
+
+-- a first label is written out, and the name is remembered
+first_spelled : (label : List ℕ) (rest : Labels) (p : ℕ) (after : List ℕ × List (Labels × ℕ)) (o : Option Spot) (k : Bool) → o ≡ None → k ≡ true
+    → spell_label o k label rest p after ≡ (framed label ++ after.0, (label ∷ rest, p) ∷ after.1)
+first_spelled label rest p after o k none kept = λ i. spell_label (none i) (kept i) label rest p after
+
+-- a name that is known is a pointer
+known_short : (label : List ℕ) (rest : Labels) (p : ℕ) (after : List ℕ × List (Labels × ℕ)) (o : Option Spot) (k : Bool) (x : Spot) → o ≡ Some x
+    → length (spell_label o k label rest p after).0 ≤ 2
+known_short label rest p after o k x known =
+    let two : length (spell_label o k label rest p after).0 ≡ 2 = λ i. length (spell_label (known i) k label rest p after).0 in omega arith
+
+-- what is remembered of a name that was written out
+listed_first : (name : Labels) (p end : ℕ) (ss rest : List (Labels × ℕ)) → ss ≡ (name, p) ∷ rest → get (remember nothing ss end) name ≡ Some (record { place = p; end = end })
+listed_first name p end ss rest is =
+    ap (λ (xs : List (Labels × ℕ)). get (remember nothing xs end) name) is ∙ get-insert_same (remember nothing rest end) name (record { place = p; end = end })
+
+-- behind the first name of a message it is a pointer, and the root is one octet
+again_at : (name : Labels) (v : ℕ) → length (put_name Static name (put_name Static name nothing 12).memory v).octets ≤ 2
+unfolding put_name
+again_at [] v = omega arith
+again_at (label ∷ rest) v =
+    let held = len nothing in
+    let after = spell Static nothing (12 + 1 + length label) (held + 1) rest in
+    let spelled = spell Static nothing 12 held (label ∷ rest) in
+    let kept : is_kept Static 12 held ≡ true = ap (is_kept Static 12) (len-empty suffix_cmp Spot) in
+    let first = first_spelled label rest 12 after (get nothing (label ∷ rest)) (is_kept Static 12 held) (get-empty suffix_cmp (label ∷ rest)) kept in
+    let end = 12 + length spelled.0 in
+    let memory = remember nothing spelled.1 end in
+    known_short label rest v (spell Static memory (v + 1 + length label) (len memory + 1) rest) (get memory (label ∷ rest)) (is_kept Static v (len memory))
+    (record { place = 12; end = end }) (listed_first (label ∷ rest) 12 end spelled.1 after.1 (ap (λ (s : List ℕ × List (Labels × ℕ)). s.1) first))
+
+again_short : (name : Labels) (w v : ℕ) → w ≡ 12 → length (put_name Static name (put_name Static name nothing w).memory v).octets ≤ 2
+again_short name w v first = subst (λ k. length (put_name Static name (put_name Static name nothing k).memory v).octets ≤ 2) (sym first) (again_at name v)
+
+-- with a question and an address
+pub answered_short : (header : Header) (x : QuestionItem) (ttl : ℕ) (address : List ℕ) → length (header_octets header) ≡ 4 → length address ≡ 4 → IsName x.name
+    → length (fold Static (answering header x (address_record x ttl address))).octets ≤ 512
+unfolding fold put_question put_record put_parts
+answered_short header x ttl address four quad is =
+    let w = length (header_octets header) + 8 in
+    let name = name_short Static x.name nothing w is in
+    let again = again_short x.name w (w + (length (put_name Static x.name nothing w).octets + 4)) (omega (arith, four)) in
+    simp length-append (omega (arith, name, again, four, quad))
+
+-- a record of an address, field by field
+pub address_item : (x : QuestionItem) (item : RecordItem) (ttl : ℕ) (octets address : List ℕ) → item.owner ≡ x.name → item.rtype ≡ 1 → item.class ≡ x.class → item.ttl ≡ ttl
+    → item.parts ≡ Octets octets ∷ [] → octets ≡ address → item ≡ address_record x ttl address
+address_item x item ttl octets address owner rtype class same_ttl parts is =
+    let filled = parts ∙ ap (λ (o : List ℕ). let one : List Part = Octets o ∷ [] in one) is in
+    λ i. record { owner = owner i; rtype = rtype i; class = class i; ttl = same_ttl i; parts = filled i }

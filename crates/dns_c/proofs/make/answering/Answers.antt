@@ -1,0 +1,45 @@
+use Rattle.std.proofs.Common.{◌≤◌, length, ap, refl, subst, sym, arith}
+use Rattle.std.specs.Prelude.{Err}
+use Rattle.dns_name.proofs.theory.NameLemmas.{parsed_is}
+use Rattle.dns_name.specs.ParsedName.{labels}
+use Rattle.dns_wire.specs.Pieces.{Static}
+use Rattle.dns_wire.specs.Targets.{Written}
+use Rattle.dns_item.specs.Items.{RecordItem}
+use Rattle.dns_question.specs.Question.{parsed_question}
+use Rattle.dns_build.specs.MessageOf.{IsMessageOf}
+use Rattle.dns_build.specs.State.{fold}
+use Rattle.dns_c.specs.Made.{answering}
+use Rattle.dns_c.proofs.MadeLemmas.{address_item, answered_short, asked_short, is_message, never_refused}
+use Rattle.dns_c.proofs.make.answering.Goals as goal
+
+pub returns-in_err-push : goal.returns-in_err-push
+returns-in_err-push c =
+    let first = c.set_header.ensures _ c.in_ok-builder.ensures.fresh in
+    let second = c.question-builder.ensures _ first in
+    let e = c.in_err-push.ensures in
+    absurd (never_refused c.in_err-push.field-0.0 _ _ _ (asked_short Static c.args.header _ first.state.header (parsed_is c.args.question.qname)) refl (omega arith)
+    (λ is. e.short (ap Err is) _ second) (λ is. e.memory (ap Err is)) (λ is. e.limit (ap Err is) _ second) (λ is. e.count (ap Err is) _ second))
+
+pub returns-in_err-push-2 : goal.returns-in_err-push-2
+returns-in_err-push-2 c =
+    let x = parsed_question c.args.question in
+    let first = c.set_header.ensures _ c.in_ok-builder.ensures.fresh in
+    let second = c.question-builder.ensures _ first in
+    let third = c.in_ok-push.ensures.accepted _ second in
+    let fourth = c.answer-builder.ensures _ third in
+    let item = address_item x _ c.args.ttl _ c.args.address.now (ap labels c.qname.ensures) refl c.qclass.ensures c.from_secs.ensures refl c.address_of.ensures.value in
+    let size = subst (λ (y : RecordItem). length (fold Static (answering c.args.header x y)).octets ≤ 512) (sym item) (answered_short c.args.header x c.args.ttl c.args.address.now first.state.header c.address_of.ensures.four (parsed_is c.args.question.qname)) in
+    let e = c.in_err-push-2.ensures in
+    absurd (never_refused c.in_err-push-2.field-0.0 _ _ _ size refl (omega arith) (λ is. e.short (ap Err is) _ fourth) (λ is. e.memory (ap Err is)) (λ is. e.limit (ap Err is) _ fourth) (λ is. e.count (ap Err is) _ fourth))
+
+pub returns : goal.returns
+returns c =
+    let x = parsed_question c.args.question in
+    let first = c.set_header.ensures _ c.in_ok-builder.ensures.fresh in
+    let second = c.question-builder.ensures _ first in
+    let third = c.in_ok-push.ensures.accepted _ second in
+    let fourth = c.answer-builder.ensures _ third in
+    let stands = c.in_ok-push-2.ensures.accepted _ fourth in
+    let item = address_item x _ c.args.ttl _ c.args.address.now (ap labels c.qname.ensures) refl c.qclass.ensures c.from_secs.ensures refl c.address_of.ensures.value in
+    subst (λ (y : RecordItem). IsMessageOf Static (answering c.args.header x y) c.finish.result.octets) item
+    (is_message Static _ c.finish.result.octets stands.state (ap (λ (w : Written). w.octets) (c.finish.ensures.fold _ stands)))

@@ -1,0 +1,186 @@
+//! The message of items that a caller hands in.
+ghost use Rattle.std.specs.Prelude.{◌≡◌, ◌∷◌, List, [], length, IfOk, IfErr, OnOk};
+ghost use Rattle.dns_name.specs.NameReading.{name_labels};
+ghost use Rattle.dns_wire.specs.Parts.{Octets};
+ghost use Rattle.dns_wire.specs.Pieces.{Tree};
+ghost use Rattle.dns_data.specs.UnknownData.{unknown_rtype_of, unknown_octets};
+ghost use Rattle.dns_build.specs.State.{InQuestion, records_at};
+ghost use Rattle.dns_build.specs.Standing.{InEach, MovesState};
+ghost use Rattle.dns_c.specs.Codes.{number_of};
+ghost use Rattle.dns_c.specs.Made.{SpellsNoName};
+ghost use Rattle.dns_c.specs.Built.{NewEntry, Means, AllMean, IsQuestionOf, IsRecordOf, IsBuilt, LacksFields, IsRefused, FirstRefused, IsStopped, IsUnbuilt, questions_among, records_among, with_questions, with_records, header_of};
+
+use crate::code::Fault;
+use crate::make::{Text, name_of};
+use dns_build::{Builder, MessageBuilder, QuestionBuilder, RecordStage};
+use dns_code::{Class, Header, Rtype};
+use dns_data::UnknownRecordData;
+use dns_item::Ttl;
+use dns_target::TreeCompressor;
+use std::alloc::Global;
+
+/// The section of the questions.
+const QUESTION: u8 = 0;
+
+/// The last section.
+const ADDITIONAL: u8 = 3;
+
+/// A question or a record to be written.
+#[repr(C)]
+#[derive(Clone, Copy)]
+pub struct NewItem<'a> {
+    /// A text that spells the name.
+    pub name: &'a [u8],
+    /// The octets of the data, without pointers.
+    pub rdata: &'a [u8],
+    pub ttl: u32,
+    pub rtype: u16,
+    pub class: u16,
+    /// 0 for questions, then 1 to 3.
+    pub section: u8,
+}
+
+/// What a message is built on, which takes memory.
+type Target = TreeCompressor<Vec<u8>>;
+
+type NewQuestion = (Text, Rtype, Class);
+
+type NewRecord<'a> = (Text, Class, Ttl, UnknownRecordData<&'a [u8]>);
+
+/// An item as a question.
+fn question_of(item: &NewItem<'_>) -> Result<NewQuestion, Fault>
+    ensures question { IfOk result (λ made. IsQuestionOf item.now (record {
+      name = name_labels made.0;
+      rtype = made.1;
+      class = made.2;
+    })) }
+    ensures none { IfErr result (λ fault. (fault ≡ Fault.BadText)
+        × SpellsNoName item.now.name.now) }
+{
+    let name = name_of(item.name)?;
+    Ok((
+        name,
+        Rtype::from_int(item.rtype),
+        Class::from_int(item.class),
+    ))
+}
+
+/// An item as a record.
+fn record_of<'a>(item: &NewItem<'a>) -> Result<NewRecord<'a>, Fault>
+    ensures made { IfOk result (λ made. IsRecordOf item.now (record {
+      owner = name_labels made.0;
+      rtype = unknown_rtype_of made.3;
+      class = made.1;
+      ttl = made.2;
+      parts = Octets (unknown_octets made.3) ∷ [];
+    })) }
+    ensures none { IfErr result (λ fault. LacksFields item.now (number_of fault)) }
+{
+    let name = name_of(item.name)?;
+    match UnknownRecordData::from_octets(Rtype::from_int(item.rtype), item.rdata) {
+        Ok(data) => Ok((
+            name,
+            Class::from_int(item.class),
+            Ttl::from_secs(item.ttl),
+            data,
+        )),
+        Err(_) => Err(Fault::LongData),
+    }
+}
+
+/// An item is an entry, or it is refused.
+fn check(item: &NewItem<'_>) -> Result<(), Fault>
+    ensures means { OnOk result ((x : NewEntry) × Means item.now x) }
+    ensures refused { IfErr result (λ fault. IsRefused item.now (number_of fault)) }
+{
+    if item.section > ADDITIONAL {
+        return Err(Fault::BadSection);
+    }
+    if item.section == QUESTION {
+        let _question = question_of(item)?;
+        return Ok(());
+    }
+    let _record = record_of(item)?;
+    Ok(())
+}
+
+/// All items are entries, or the first that is none is refused.
+fn check_all(items: &[NewItem<'_>]) -> Result<(), Fault>
+    ensures mean { OnOk result ((xs : List NewEntry) × AllMean items.now xs) }
+    ensures refused { IfErr result (λ fault. FirstRefused items.now (number_of fault)) }
+{
+    for item in items {
+        check(item)?;
+    }
+    Ok(())
+}
+
+/// Pushes the questions among items.
+fn push_questions(builder: &mut QuestionBuilder<Target>, items: &[NewItem<'_>]) -> Result<(), Fault>
+    ensures pushed { OnOk result ((xs : List NewEntry) → AllMean items.now xs
+        → MovesState InQuestion InQuestion Tree (with_questions (questions_among xs))
+        builder.old builder.new) }
+    ensures stopped { IfErr result (λ fault. (xs : List NewEntry) → AllMean items.now xs
+        → InEach InQuestion Tree builder.old (λ s. IsStopped
+        (length (with_questions (questions_among xs) s).questions) (number_of fault))) }
+{
+    for item in items {
+        if item.section == QUESTION {
+            builder.push(question_of(item)?)?;
+        }
+    }
+    Ok(())
+}
+
+/// Pushes the records among items that are of the stage's section.
+fn push_records<S: RecordStage>(
+    builder: &mut Builder<Target, S>,
+    items: &[NewItem<'_>],
+) -> Result<(), Fault>
+    ensures pushed { OnOk result ((xs : List NewEntry) → AllMean items.now xs
+        → MovesState S.stage S.stage Tree (with_records S.stage (records_among S.section xs))
+        builder.old builder.new) }
+    ensures stopped { IfErr result (λ fault. (xs : List NewEntry) → AllMean items.now xs
+        → InEach S.stage Tree builder.old (λ s. IsStopped (length (records_at S.stage
+        (with_records S.stage (records_among S.section xs) s))) (number_of fault))) }
+{
+    for item in items {
+        if usize::from(item.section) + 1 == S::DEPTH {
+            builder.push(record_of(item)?)?;
+        }
+    }
+    Ok(())
+}
+
+/// The header of an ID, and of flags that are its third and fourth octet.
+fn header_of(id: u16, flags: u16) -> Header
+    ensures { result ≡ header_of id flags }
+{
+    let [a, b] = id.to_be_bytes();
+    let [c, d] = flags.to_be_bytes();
+    Header::for_message_slice(&[a, b, c, d])
+}
+
+/// The message of a header and items, each in its section, in their order.
+pub(crate) fn build(
+    alloc: Global,
+    id: u16,
+    flags: u16,
+    items: &[NewItem<'_>],
+) -> Result<Target, Fault>
+    ensures made { IfOk result (λ made. IsBuilt id flags items.now made.octets) }
+    ensures none { IfErr result (λ fault. IsUnbuilt items.now (number_of fault)) }
+{
+    check_all(items)?;
+    let mut builder = MessageBuilder::from_target(TreeCompressor::new(alloc, Vec::new(alloc)))?;
+    builder.set_header(header_of(id, flags));
+    let mut questions = builder.question();
+    push_questions(&mut questions, items)?;
+    let mut answers = questions.answer();
+    push_records(&mut answers, items)?;
+    let mut authorities = answers.authority();
+    push_records(&mut authorities, items)?;
+    let mut additionals = authorities.additional();
+    push_records(&mut additionals, items)?;
+    Ok(additionals.finish())
+}
