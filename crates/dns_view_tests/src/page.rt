@@ -1,0 +1,81 @@
+//! The page of HTML.
+use crate::printed::page;
+use std::alloc::Global;
+use std::process::Abort;
+use std::test::Fail;
+
+/// A question for `a<b>&.c`, and answers that point to it: one in its owner, one in its owner and in its data.
+const MESSAGE: [u8; 58] = [
+    0x00, 0x01, 0x84, 0x00, 0x00, 0x01, 0x00, 0x02, 0x00, 0x00, 0x00, 0x00, //
+    0x05, b'a', b'<', b'b', b'>', b'&', 0x01, b'c', 0x00, 0x00, 0x01, 0x00, 0x01, //
+    0xc0, 0x0c, 0x00, 0x05, 0x00, 0x01, 0x00, 0x00, 0x00, 0x3c, 0x00, 0x04, //
+    0x01, b'd', 0xc0, 0x12, //
+    0xc0, 0x25, 0x00, 0x01, 0x00, 0x01, 0x00, 0x00, 0x00, 0x3c, 0x00, 0x04, //
+    0xc0, 0x00, 0x02, 0x01, 0xff,
+];
+
+/// How often a text stands in another.
+fn count(text: &str, word: &str) -> usize {
+    text.split(word).skip(1).count()
+}
+
+/// The page asks for no other file, and has no script.
+#[test]
+fn needs_nothing_else(rt: HostRuntime) -> Result<(), Fail> {
+    assert_alone(&rt, rt.alloc())
+}
+
+fn assert_alone(rt: &impl Abort, alloc: Global) -> Result<(), Fail> {
+    let page = page(alloc, &MESSAGE)?;
+    assert!(rt; page.starts_with("<!DOCTYPE html>"));
+    assert!(rt; page.trim_end().ends_with("</html>"));
+    for word in ["http", "<script", "src=", "href=", "@import", "//"] {
+        assert!(rt; !page.contains(word), "{word}");
+    }
+    Ok(())
+}
+
+/// Each octet has one cell, with its digits, at its place in a grid of sixteen columns.
+#[test]
+fn shows_each_octet_once(rt: HostRuntime) -> Result<(), Fail> {
+    assert_cells(&rt, rt.alloc())
+}
+
+fn assert_cells(rt: &impl Abort, alloc: Global) -> Result<(), Fail> {
+    let page = page(alloc, &MESSAGE)?;
+    assert_eq!(rt; count(&page, "<rect "), MESSAGE.len());
+    for (place, octet) in MESSAGE.iter().enumerate() {
+        let cell = format!(in alloc; "id=\"o{place}\">{octet:02x}</text>")?;
+        assert_eq!(rt; count(&page, cell.as_str()), 1, "{cell}");
+    }
+    Ok(())
+}
+
+/// Three pointers lead to 12, 18 and 37, and each has one arrow.
+#[test]
+fn draws_each_pointer_once(rt: HostRuntime) -> Result<(), Fail> {
+    assert_arrows(&rt, rt.alloc())
+}
+
+fn assert_arrows(rt: &impl Abort, alloc: Global) -> Result<(), Fail> {
+    let page = page(alloc, &MESSAGE)?;
+    assert_eq!(rt; count(&page, "marker-end="), 3);
+    for (from, to) in [(25, 12), (39, 18), (41, 37)] {
+        let title = format!(in alloc; "<title>{from} points to {to}</title>")?;
+        assert_eq!(rt; count(&page, title.as_str()), 1, "{title}");
+    }
+    Ok(())
+}
+
+/// Labels are text, and never markup.
+#[test]
+fn escapes_labels(rt: HostRuntime) -> Result<(), Fail> {
+    assert_escaped(&rt, rt.alloc())
+}
+
+fn assert_escaped(rt: &impl Abort, alloc: Global) -> Result<(), Fail> {
+    let page = page(alloc, &MESSAGE)?;
+    assert!(rt; !page.contains("<b>"));
+    assert!(rt; page.contains("name, root label: a&lt;b&gt;&amp;.c."));
+    Ok(())
+}
