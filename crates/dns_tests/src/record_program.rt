@@ -43,6 +43,13 @@ fn builds_answers(rt: HostRuntime) -> Result<(), Fail> {
     assert_builds(&rt, rt.alloc(), "plain", &runs)
 }
 
+/// The same is printed over each compressor.
+fn assert_compressed(rt: &impl Abort, alloc: Global, runs: &[Run<'_>]) -> Result<(), Fail> {
+    assert_builds(rt, alloc, "static", runs)?;
+    assert_builds(rt, alloc, "tree", runs)?;
+    assert_builds(rt, alloc, "hash", runs)
+}
+
 /// A rewind forgets the names that were taken out, over each compressor.
 #[test]
 fn rewinds_over_compressors(rt: HostRuntime) -> Result<(), Fail> {
@@ -51,9 +58,7 @@ fn rewinds_over_compressors(rt: HostRuntime) -> Result<(), Fail> {
         "ok 12\nok 39\nok 12\nok 39\nok 55\n000000000000000200000000076578616d706c6503636f6d000001000100000e100004cb007101c00c0001000100000e100004cb007101\n",
         0,
     )];
-    assert_builds(&rt, rt.alloc(), "static", &runs)?;
-    assert_builds(&rt, rt.alloc(), "tree", &runs)?;
-    assert_builds(&rt, rt.alloc(), "hash", &runs)
+    assert_compressed(&rt, rt.alloc(), &runs)
 }
 
 /// Moves among all sections take out what stands behind them.
