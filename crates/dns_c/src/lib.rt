@@ -10,7 +10,7 @@ mod make;
 mod text;
 mod walk;
 
-ghost use Rattle.std.specs.Prelude.{◌≡◌, ◌≢◌, ◌<◌, ◌≤◌, ◌+◌, ◌++◌, ◌∷◌, [], length, take};
+ghost use Rattle.std.specs.Prelude.{◌≡◌, ◌≢◌, ◌<◌, ◌≤◌, ◌+◌, ◌++◌, ◌∷◌, [], length, take, get_or};
 ghost use Rattle.dns_name.specs.NameTexts.{name_text};
 ghost use Rattle.dns_name.specs.Names.{Labels, Stands, uncompressed};
 ghost use Rattle.dns_code.specs.HeaderSection.{header_size};
@@ -45,6 +45,11 @@ pub extern "C" fn dns_next(message: &[u8], cursor: &mut Cursor, item: &mut Item)
     ensures within { result ≡ 0 → item.new.«data» + item.new.data_len ≤ length message.now }
     ensures kept { cursor.old.status ≢ 0 → (result ≡ cursor.old.status)
         × (cursor.new ≡ cursor.old) }
+    ensures no_section { cursor.old.status ≡ 0 → 3 < cursor.old.section
+        → result ≡ number_of Fault.BadSection }
+    ensures short { cursor.old.status ≡ 0 → cursor.old.section ≤ 3
+        → length message.now < header_size → result ≡ number_of Fault.ShortInput }
+    ensures no_item { result ≢ 0 → item.new ≡ item.old }
 {
     if cursor.status != 0 {
         return cursor.status;
@@ -96,10 +101,12 @@ pub extern "C" fn dns_name_octets(
 pub extern "C" fn dns_data_text(message: &[u8], item: &Item, out: &mut [u8], len: &mut usize) -> u8
     ensures length { length out.new ≡ length out.old }
     ensures empty { result ≢ 0 → len.new ≡ 0 }
+    ensures ended { result ≡ 0 → (len.new < length out.new) × (get_or out.new len.new 1 ≡ 0) }
 {
     let mut sink = Sink::new(out);
     let answer = text::data(message, item, &mut sink);
-    sink.close(answer, len)
+    let written = sink.finish();
+    text::close(answer, written, out, len)
 }
 
 /// Writes the name of a record type, and a zero octet.

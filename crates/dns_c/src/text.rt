@@ -1,5 +1,5 @@
 //! Texts written into a caller's buffer.
-ghost use Rattle.std.specs.Prelude.{◌≡◌, ◌≢◌, ◌++◌, ◌∷◌, [], IfOk, IfErr};
+ghost use Rattle.std.specs.Prelude.{◌≡◌, ◌≢◌, ◌<◌, ◌++◌, ◌∷◌, [], length, get_or, IfOk, IfErr};
 ghost use Rattle.dns_name.specs.Names.{Labels, Stands};
 ghost use Rattle.dns_name.specs.NameTexts.{name_text};
 ghost use Rattle.dns_name.specs.ParsedName.{labels};
@@ -30,21 +30,10 @@ impl<'a> Sink<'a> {
         Sink { out, len: 0 }
     }
 
-    /// Ends the text with a zero octet, tells its length, and gives the number of the answer.
-    pub(crate) fn close(self, answer: Result<(), Fault>, len: &mut usize) -> u8
-        ensures { result ≢ 0 → len.new ≡ 0 }
-    {
-        let Sink { out, len: written } = self;
-        *len = 0;
-        if let Err(fault) = answer {
-            return code::of_fault(fault);
-        }
-        if written >= out.len() {
-            return code::of_fault(Fault::NoRoom);
-        }
-        out[written] = 0;
-        *len = written;
-        0
+    /// How many octets were written.
+    pub(crate) fn finish(self) -> usize {
+        let Sink { len, out: _out } = self;
+        len
     }
 }
 
@@ -106,6 +95,29 @@ fn data_as<'a, D: ParseRecordData<'a> + fmt::Display + Drop>(
     };
     write!(sink, "{}", read.data())?;
     Ok(())
+}
+
+/// Ends a text of so many octets with a zero octet, tells its length, and gives the number of the answer.
+pub(crate) fn close(
+    answer: Result<(), Fault>,
+    written: usize,
+    out: &mut [u8],
+    len: &mut usize,
+) -> u8
+    ensures length { length out.new ≡ length out.old }
+    ensures empty { result ≢ 0 → len.new ≡ 0 }
+    ensures text { result ≡ 0 → (len.new < length out.new) × (get_or out.new len.new 1 ≡ 0) }
+{
+    *len = 0;
+    if let Err(fault) = answer {
+        return code::of_fault(fault);
+    }
+    if written >= out.len() {
+        return code::of_fault(Fault::NoRoom);
+    }
+    out[written] = 0;
+    *len = written;
+    0
 }
 
 /// The name of a record type.

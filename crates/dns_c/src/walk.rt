@@ -1,5 +1,5 @@
 //! A walk over a message whose place the caller holds.
-ghost use Rattle.std.specs.Prelude.{◌≡◌, ◌+◌, ◌<◌, ◌≤◌, length, true, IfOk, IfErr};
+ghost use Rattle.std.specs.Prelude.{◌≡◌, ◌≢◌, ◌+◌, ◌<◌, ◌≤◌, length, true, Ok, Err, IfOk, IfErr};
 ghost use Rattle.dns_name.specs.Names.{FaultAt, Stands, fault_of};
 ghost use Rattle.dns_name.specs.ParsedName.{labels};
 ghost use Rattle.dns_name.specs.Parsers as Parsers;
@@ -206,6 +206,10 @@ pub(crate) fn next(octets: &[u8], cursor: &mut Cursor, item: &mut Item) -> Resul
         → Steps octets.now cursor.old cursor.new item.new result }
     ensures within { IfOk result (λ given. given ≡ true
         → item.new.«data» + item.new.data_len ≤ length octets.now) }
+    ensures no_section { 3 < cursor.old.section → result ≡ Err Fault.BadSection }
+    ensures short { cursor.old.section ≤ 3 → length octets.now < header_size
+        → result ≡ Err Fault.ShortInput }
+    ensures no_item { result ≢ Ok true → item.new ≡ item.old }
 {
     if cursor.section > 3 {
         return Err(Fault::BadSection);
