@@ -1,0 +1,5 @@
+mod Beginning
+mod Checking
+mod CutLemmas
+mod Kept
+mod NoFault

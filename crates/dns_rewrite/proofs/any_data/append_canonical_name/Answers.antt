@@ -1,0 +1,19 @@
+use Rattle.std.proofs.Common.{Err, [], ◌∷◌, ap, ◌∙◌}
+use Rattle.std.proofs.lemmas.Result.{err_from_is_err_and}
+use Rattle.dns_name.specs.Names.{lowered, uncompressed}
+use Rattle.dns_name.specs.ParsedName.{labels}
+use Rattle.dns_wire.specs.Parts.{Octets}
+use Rattle.dns_rewrite.proofs.any_data.append_canonical_name.Goals as goal
+
+pub returns-in_err-append_slice : goal.returns-in_err-append_slice
+returns-in_err-append_slice g c =
+    let p = err_from_is_err_and c.from_residual.result c.from_residual.ensures.1 in
+    c.parts_compose.ensures.refused _ _ g.T.Composer.rule (Octets c.args.octets.now) (Octets (uncompressed (lowered (labels c.args.name.now))) ∷ []) _ _
+    c.append_slice.result c.from_residual.result c.in_err-append_slice.field-0.0 c.in_err-append_slice.was (p.1 ∙ ap Err p.2)
+    c.append_slice.ensures
+
+pub returns : goal.returns
+returns g c =
+    c.parts_compose.ensures.behind _ _ g.T.Composer.rule (Octets c.args.octets.now) (Octets (uncompressed (lowered (labels c.args.name.now))) ∷ []) _ _ _ _
+    c.in_ok-append_slice.ensures.ok
+    (c.parts_compose.ensures.one _ _ g.T.Composer.rule (Octets (uncompressed (lowered (labels c.args.name.now)))) _ _ _ c.compose_canonical.ensures)

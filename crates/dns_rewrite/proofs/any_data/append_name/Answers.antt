@@ -1,0 +1,18 @@
+use Rattle.std.proofs.Common.{Err, [], ◌∷◌, ap, ◌∙◌}
+use Rattle.std.proofs.lemmas.Result.{err_from_is_err_and}
+use Rattle.dns_name.specs.ParsedName.{labels}
+use Rattle.dns_wire.specs.Parts.{Octets, CompressibleName}
+use Rattle.dns_rewrite.proofs.any_data.append_name.Goals as goal
+
+pub returns-in_err-append_slice-clause-composes : goal.returns-in_err-append_slice-clause-composes
+returns-in_err-append_slice-clause-composes g c =
+    let p = err_from_is_err_and c.from_residual.result c.from_residual.ensures.1 in
+    c.parts_compose.ensures.refused _ _ g.T.Composer.rule (Octets c.args.octets.now) (CompressibleName (labels c.args.name.now) ∷ []) _ _
+    c.append_slice.result c.from_residual.result c.in_err-append_slice.field-0.0 c.in_err-append_slice.was (p.1 ∙ ap Err p.2)
+    c.append_slice.ensures
+
+pub returns-clause-composes : goal.returns-clause-composes
+returns-clause-composes g c =
+    c.parts_compose.ensures.behind _ _ g.T.Composer.rule (Octets c.args.octets.now) (CompressibleName (labels c.args.name.now) ∷ []) _ _ _ _
+    c.in_ok-append_slice.ensures.ok
+    (c.parts_compose.ensures.one _ _ g.T.Composer.rule (CompressibleName (labels c.args.name.now)) _ _ _ (rw c.as_parsed-name.ensures.labels at c.append_compressed_name.ensures))

@@ -1,0 +1,3 @@
+pub mod AnyData
+pub mod AnyLayout
+pub mod Rewriting

@@ -1,0 +1,121 @@
+//! A message written again with its TTLs cut, as a cache does that keeps no record for longer (RFC 1035 section 3.2.1).
+ghost use Rattle.std.specs.Prelude.{◌≡◌, IfErr, IfOk, MatchResult, None, Some, option_map, option_and_then};
+ghost use Rattle.std.specs.Result.{result_ok};
+ghost use Rattle.dns_name.specs.Names.{fault_of};
+ghost use Rattle.dns_name.specs.ParsedName.{labels};
+ghost use Rattle.dns_wire.specs.Pieces.{Static};
+ghost use Rattle.dns_item.specs.ParsedRecord.{standing_record};
+ghost use Rattle.dns_item.specs.Record.{record_item};
+ghost use Rattle.dns_item.specs.TypedRecords.{laid_out};
+ghost use Rattle.dns_read.specs.Message.{message_octets};
+ghost use Rattle.dns_section.specs.AnyRecordIter.{every};
+ghost use Rattle.dns_section.specs.Limited.{limited};
+ghost use Rattle.dns_section.specs.QuestionSection.{questions_left};
+ghost use Rattle.dns_section.specs.RecordSection.{records_left};
+ghost use Rattle.dns_build.specs.Standing.{StandsFor};
+ghost use Rattle.dns_build.specs.State.{InAnswer};
+ghost use Rattle.dns_rewrite.specs.AnyData.{rtype_of, parts_of};
+ghost use Rattle.dns_rewrite.specs.AnyLayout.{any_layout};
+ghost use Rattle.dns_rewrite.specs.Rewriting.{first_fault, MessageReads, HasFault, IsCut, IsReason, cut_answer, begun};
+
+use crate::any_data::AnyData;
+use dns_message::builder::{
+    AnswerBuilder, CopyRecordsError, MessageBuilder, PushError, copy_records,
+};
+use dns_message::code::{Rcode, Rtype};
+use dns_message::message::{Message, QuestionSection, RecordSection};
+use dns_message::name::ParsedName;
+use dns_message::record::{ParsedRecord, Record, Ttl};
+use dns_message::target::StaticCompressor;
+use dns_message::wire::{Octets, ParseError};
+use std::alloc::Global;
+
+/// What a message is written to.
+type Target = StaticCompressor<Vec<u8>>;
+
+/// The message with the TTL of each record cut to at most `most`, and without its OPT records.
+///
+/// A message that can't be read to its end, with the data of its records, is answered by a fault in it.
+pub fn with_ttls_cut<Octs: Octets>(
+    alloc: Global,
+    message: &Message<Octs>,
+    most: Ttl,
+) -> Result<Message<Vec<u8>>, CopyRecordsError>
+    ensures cut { IfOk result (λ new. IsCut most (message_octets message.now)
+        (message_octets new)) }
+    ensures reason { IfErr result (λ e. IsReason (message_octets message.now) e) }
+{
+    check(message)?;
+    let builder = begun(alloc, message)?;
+    let copied = copy_records(message, builder, |shown| cut(shown, most))?;
+    Ok(copied.into_message())
+}
+
+/// Reads the questions of a message, and its records with their data.
+fn check<Octs: Octets>(message: &Message<Octs>) -> Result<(), ParseError>
+    ensures { MatchResult result (λ _. MessageReads (message_octets message.now))
+        (λ e. HasFault (message_octets message.now) (fault_of e)) }
+{
+    let (questions, answers, authorities, additionals) = message.sections()?;
+    check_questions(questions)?;
+    check_records(answers)?;
+    check_records(authorities)?;
+    check_records(additionals)
+}
+
+/// Reads questions.
+fn check_questions(questions: QuestionSection<'_>) -> Result<(), ParseError>
+    ensures { MatchResult result
+        (λ _. first_fault (questions_left questions.entry) ≡ None)
+        (λ e. first_fault (questions_left questions.entry) ≡ Some (fault_of e)) }
+{
+    for question in questions {
+        question?;
+    }
+    Ok(())
+}
+
+/// Reads records with their data.
+fn check_records(records: RecordSection<'_>) -> Result<(), ParseError>
+    ensures { let reading = limited (every any_layout) (records_left records.entry) in
+        MatchResult result (λ _. first_fault reading ≡ None)
+        (λ e. first_fault reading ≡ Some (fault_of e)) }
+{
+    for item in records.into_records::<AnyData<'_>>() {
+        item?;
+    }
+    Ok(())
+}
+
+/// A builder with the header of a message and those of its questions that can be read.
+fn begun<Octs: Octets>(
+    alloc: Global,
+    message: &Message<Octs>,
+) -> Result<AnswerBuilder<Target>, PushError>
+    ensures { IfOk result (λ builder. StandsFor InAnswer Static
+        (begun (message_octets message.now)) builder) }
+{
+    let target = StaticCompressor::new(Vec::new(alloc));
+    let mut builder = MessageBuilder::from_target(target)?.start_answer(message, Rcode::NOERROR)?;
+    builder.set_header(message.header());
+    Ok(builder)
+}
+
+/// The record with its TTL cut; none for an OPT record, or for one whose data can't be read.
+fn cut<'a>(shown: ParsedRecord<'a>, most: Ttl) -> Option<Record<ParsedName<'a>, AnyData<'a>>>
+    ensures { let x = standing_record shown.entry in
+        option_map (record_item labels rtype_of parts_of) result
+        ≡ cut_answer most (laid_out x (any_layout x.entry.rtype)) }
+{
+    if shown.rtype() == Rtype::OPT {
+        return None;
+    }
+    match shown.into_any_record::<AnyData<'a>>() {
+        Ok(mut record) => {
+            let secs = record.ttl().as_secs().min(most.as_secs());
+            record.set_ttl(Ttl::from_secs(secs));
+            Some(record)
+        }
+        Err(_) => None,
+    }
+}
