@@ -16,6 +16,8 @@ mod copies;
 #[cfg(test)]
 mod fresh;
 #[cfg(test)]
+mod lists;
+#[cfg(test)]
 mod messages;
 #[cfg(test)]
 mod opts;
@@ -23,3 +25,5 @@ mod opts;
 mod rows;
 #[cfg(test)]
 mod scripts;
+#[cfg(test)]
+mod written;

@@ -17,7 +17,7 @@ const NEGATIVE_RESPONSE: &[u8] =
     b"\x00\x00\x81\x83\x00\x01\x00\x00\x00\x01\x00\x00\x07example\x00\x00\x02\x00\x01\x00\x00\x06\x00\x01\x00\x01\x51\x76\x00\x40\x01a\x0Croot-servers\x03net\x00\x05nstld\x0Cverisign-grs\x03com\x00\x78\x68\x00\x25\x00\x00\x07\x08\x00\x00\x03\x84\x00\x09\x3A\x80\x00\x01\x51\x80";
 
 /// The header of a response to a recursive query.
-fn response_header(rcode: Rcode, is_authentic: bool) -> Header {
+pub(crate) fn response_header(rcode: Rcode, is_authentic: bool) -> Header {
     let mut flags = Flags::new();
     flags.qr = true;
     flags.rd = true;

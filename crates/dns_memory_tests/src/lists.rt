@@ -1,0 +1,98 @@
+//! A list of calls made at once, a second time where memory was refused.
+use crate::again::Array;
+use crate::fresh::{Fresh, started};
+use crate::messages::response_header;
+use dns_message::builder::PushError;
+use dns_message::code::{Rcode, Rtype};
+use dns_message::data::A;
+use dns_message::name::Name;
+use dns_message::script::{Call, Reply, Stage, run};
+use dns_message::target::Composer;
+use std::alloc::Global;
+use std::process::Abort;
+use std::test::Fail;
+
+type BorrowedName = Name<&'static [u8]>;
+
+type AddressCall = Call<(BorrowedName, Rtype), (BorrowedName, u32, A)>;
+
+/// The calls that make a positive response, on any stage.
+fn positive_calls() -> Result<[AddressCall; 6], Fail> {
+    let name = Name::from_octets(b"\x07example\x03com\x00".as_slice())?;
+    Ok([
+        Call::ToBuilder,
+        Call::SetHeader(response_header(Rcode::NOERROR, true)),
+        Call::ToQuestion,
+        Call::PushQuestion((name, Rtype::A)),
+        Call::ToAnswer,
+        Call::PushRecord((name, 3600, A::from_octets(203, 0, 113, 1))),
+    ])
+}
+
+fn is_done(reply: &Reply) -> bool {
+    matches!(reply, Reply::Done)
+}
+
+fn is_refused_for_memory(reply: &Reply) -> bool {
+    matches!(reply, Reply::Refused(PushError::OutOfMemory))
+}
+
+/// Whether all calls were done. Otherwise one of them was refused for memory.
+fn all_done<R: Abort + Print>(rt: &R, replies: &[Reply]) -> Result<bool, Fail> {
+    assert_eq!(rt; replies.len(), 6);
+    if replies.iter().all(is_done) {
+        return Ok(true);
+    }
+    println!(rt; "refused call")?;
+    assert_eq!(rt;
+        replies
+            .iter()
+            .filter(|reply| is_refused_for_memory(reply))
+            .count(),
+        1
+    );
+    assert_eq!(rt; replies.iter().filter(|reply| is_done(reply)).count(), 5);
+    Ok(false)
+}
+
+/// Makes the calls from before the sections on, and says whether all were done. Where the room for the replies is refused,
+/// the stage stands as it stood, and there is no reply.
+fn made<R: Abort + Print, T: Composer>(
+    rt: &R,
+    alloc: Global,
+    stage: Stage<T>,
+    calls: &[AddressCall],
+) -> Result<(Stage<T>, bool), Fail> {
+    let before = Array::try_from(stage.as_slice())?;
+    let mut replies = Vec::new(alloc);
+    match run(alloc, stage, calls, &mut replies) {
+        Ok(stage) => Ok((stage, all_done(rt, replies.as_slice())?)),
+        Err(same) => {
+            println!(rt; "refused replies")?;
+            assert!(rt; replies.is_empty());
+            assert!(rt; matches!(same, Stage::Builder(_)));
+            assert_eq!(rt; same.as_slice(), before.as_slice());
+            Ok((same, false))
+        }
+    }
+}
+
+/// An address of example.com. behind a question for it, by one list of calls.
+pub(crate) fn assert_list<R: Abort + Print, T: Fresh>(
+    rt: &R,
+    alloc: Global,
+    expected: &[u8],
+) -> Result<(), Fail> {
+    let calls = positive_calls()?;
+    let stage: Stage<T> = Stage::Builder(started(rt, alloc)?);
+    let (stage, is_all) = made(rt, alloc, stage, &calls)?;
+    let stage = if is_all {
+        stage
+    } else {
+        let (stage, is_all) = made(rt, alloc, stage, &calls)?;
+        assert!(rt; is_all);
+        stage
+    };
+    assert_eq!(rt; stage.as_slice(), expected);
+    Ok(())
+}
