@@ -297,12 +297,17 @@ fn assert_first_behind(
     Ok(())
 }
 
-#[test]
-fn each_name_behind_a_cut(rt: HostRuntime) -> Result<(), Fail> {
-    for len in 0..=content_len(rt.alloc(), Rule::Static, &SHARED)? {
-        assert_first_behind(&rt, rt.alloc(), &SHARED, len)?;
+/// Takes the steps, cuts the content at each place, and takes each of the steps twice.
+fn assert_each_behind(rt: &impl Abort, alloc: Global, steps: &[Step]) -> Result<(), Fail> {
+    for len in 0..=content_len(alloc, Rule::Static, steps)? {
+        assert_first_behind(rt, alloc, steps, len)?;
     }
     Ok(())
+}
+
+#[test]
+fn each_name_behind_a_cut(rt: HostRuntime) -> Result<(), Fail> {
+    assert_each_behind(&rt, rt.alloc(), &SHARED)
 }
 
 #[test]
@@ -310,33 +315,51 @@ fn more_than_24_suffixes(rt: HostRuntime) -> Result<(), Fail> {
     assert_cuts(&rt, rt.alloc(), &MANY_SUFFIXES)
 }
 
-#[test]
-fn more_than_24_names(rt: HostRuntime) -> Result<(), Fail> {
-    let mut steps = Vec::new(rt.alloc());
-    for name in ONE_LABEL.chunks(3) {
+/// Steps that append names of three octets each.
+fn steps_of(alloc: Global, names: &'static [u8]) -> Result<Vec<Step>, Fail> {
+    let mut steps = Vec::new(alloc);
+    for name in names.chunks(3) {
         steps.push(Step::Name(name))?;
     }
+    Ok(steps)
+}
+
+fn assert_one_label(rt: &impl Abort, alloc: Global) -> Result<(), Fail> {
+    let steps = steps_of(alloc, ONE_LABEL)?;
     assert_eq!(rt; steps.len(), 30);
-    assert_cuts(&rt, rt.alloc(), &steps)
+    assert_cuts(rt, alloc, &steps)
+}
+
+#[test]
+fn more_than_24_names(rt: HostRuntime) -> Result<(), Fail> {
+    assert_one_label(&rt, rt.alloc())
 }
 
 /// Starts at places from which one of the names passes the bound.
-#[test]
-fn names_across_the_bound(rt: HostRuntime) -> Result<(), Fail> {
+fn assert_across(rt: &impl Abort, alloc: Global, names: &[Step]) -> Result<(), Fail> {
     for place in POINTER_BOUND.saturating_sub(35)..=POINTER_BOUND {
-        assert_cut(&rt, rt.alloc(), &[Step::Zeros(place)], place, &ACROSS)?;
+        assert_cut(rt, alloc, &[Step::Zeros(place)], place, names)?;
     }
     Ok(())
 }
 
-/// Cuts at each place of names across the bound.
 #[test]
-fn cuts_across_the_bound(rt: HostRuntime) -> Result<(), Fail> {
+fn names_across_the_bound(rt: HostRuntime) -> Result<(), Fail> {
+    assert_across(&rt, rt.alloc(), &ACROSS)
+}
+
+/// Cuts at each place of names across the bound.
+fn assert_cuts_across(rt: &impl Abort, alloc: Global, names: &[Step]) -> Result<(), Fail> {
     let place = POINTER_BOUND.saturating_sub(15);
-    let mut steps = Vec::from_slice(rt.alloc(), &[Step::Zeros(place)])?;
-    steps.extend_from_slice(&ACROSS)?;
+    let mut steps = Vec::from_slice(alloc, &[Step::Zeros(place)])?;
+    steps.extend_from_slice(names)?;
     for len in place..=POINTER_BOUND.saturating_add(20) {
-        assert_cut(&rt, rt.alloc(), &steps, len, &ACROSS)?;
+        assert_cut(rt, alloc, &steps, len, names)?;
     }
     Ok(())
+}
+
+#[test]
+fn cuts_across_the_bound(rt: HostRuntime) -> Result<(), Fail> {
+    assert_cuts_across(&rt, rt.alloc(), &ACROSS)
 }

@@ -4,6 +4,7 @@ use dns_code::{
     CountOverflow, Flags, FlagsFromStrError, Header, HeaderCounts, HeaderSection, Opcode, Rcode,
 };
 use dns_wire::{ParseError, Parser};
+use std::process::Abort;
 use std::test::Fail;
 
 const SECTION: [u8; 12] = *b"\x01\x02\x00\x00\x12\x34\x56\x78\x9a\xbc\xde\xf0";
@@ -154,6 +155,16 @@ fn prints_flags(rt: HostRuntime) -> Result<(), Fail> {
     assert_printed(&rt, rt.alloc(), &Flags::new(), "")
 }
 
+#[test]
+fn clears_the_other_flags(rt: HostRuntime) {
+    let mut header = Header::for_message_slice(b"\x00\x00\x87\xF0\x00\x00\x00\x00\x00\x00\x00\x00");
+    header.set_aa(false);
+    header.set_rd(false);
+    header.set_z(false);
+    header.set_cd(false);
+    assert_eq!(rt; header.as_slice(), b"\x00\x00\x82\xA0".as_slice());
+}
+
 /// Counts of 0x0102, 0x0304, 0x0506 and 0x0708.
 fn some_counts() -> HeaderCounts {
     HeaderCounts::for_message_slice(b"\x00\x00\x00\x00\x01\x02\x03\x04\x05\x06\x07\x08")
@@ -180,6 +191,28 @@ fn counts_up(rt: HostRuntime) -> Result<(), Fail> {
         b"\x01\x03\x03\x05\x05\x07\x07\x09".as_slice()
     );
     Ok(())
+}
+
+/// To count down asks for a count above 0.
+#[test]
+fn counts_down(rt: HostRuntime) {
+    let mut counts = some_counts();
+    if counts.qdcount() > 0 {
+        counts.dec_qdcount();
+    }
+    if counts.ancount() > 0 {
+        counts.dec_ancount();
+    }
+    if counts.nscount() > 0 {
+        counts.dec_nscount();
+    }
+    if counts.arcount() > 0 {
+        counts.dec_arcount();
+    }
+    assert_eq!(rt;
+        counts.as_slice(),
+        b"\x01\x01\x03\x03\x05\x05\x07\x07".as_slice()
+    );
 }
 
 #[test]
@@ -225,6 +258,35 @@ fn refuses_a_count_past_65535(rt: HostRuntime) -> Result<(), Fail> {
         counts.as_slice(),
         b"\xff\xff\xff\xff\xff\xff\xff\xff".as_slice()
     );
+    Ok(())
+}
+
+/// A raise was refused, and all counts are 65,535.
+fn assert_full(rt: &impl Abort, counts: HeaderCounts, refused: Result<(), CountOverflow>) {
+    assert!(rt; refused.is_err());
+    assert_eq!(rt;
+        counts.as_slice(),
+        b"\xff\xff\xff\xff\xff\xff\xff\xff".as_slice()
+    );
+}
+
+#[test]
+fn raises_each_count_to_65535(rt: HostRuntime) -> Result<(), Fail> {
+    let mut counts = HeaderCounts::for_message_slice(
+        b"\x00\x00\x00\x00\xff\xfe\xff\xfe\xff\xfe\xff\xfe",
+    );
+    counts.inc_qdcount()?;
+    counts.inc_ancount()?;
+    counts.inc_nscount()?;
+    counts.inc_arcount()?;
+    let refused = counts.inc_qdcount();
+    assert_full(&rt, counts, refused);
+    let refused = counts.inc_ancount();
+    assert_full(&rt, counts, refused);
+    let refused = counts.inc_nscount();
+    assert_full(&rt, counts, refused);
+    let refused = counts.inc_arcount();
+    assert_full(&rt, counts, refused);
     Ok(())
 }
 

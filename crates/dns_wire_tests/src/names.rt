@@ -308,3 +308,14 @@ fn stands_for_a_name(rt: HostRuntime) -> Result<(), Fail> {
     assert_is_ab(&rt, &ParsedName::parse(&mut Parser::new(&octets))?);
     Ok(())
 }
+
+#[test]
+fn lends_octets_without_pointers(rt: HostRuntime) -> Result<(), Fail> {
+    let mut parser = Parser::new(b"\x02Ab\x00\x01c\xC0\x00");
+    let whole = ParsedName::parse(&mut parser)?;
+    assert_eq!(rt; whole.as_flat_slice(), Some(b"\x02Ab\x00".as_slice()));
+    assert!(rt; ParsedName::parse(&mut parser)?.as_flat_slice().is_none());
+    let name = Name::from_octets(*b"\x02Ab\x00")?;
+    assert_eq!(rt; name.as_flat_slice(), Some(b"\x02Ab\x00".as_slice()));
+    Ok(())
+}

@@ -43,6 +43,16 @@ fn sums(rt: HostRuntime) -> Result<(), Fail> {
 }
 
 #[test]
+fn takes_away_and_divides(rt: HostRuntime) {
+    let mut ttl = Ttl::HOUR;
+    ttl -= Ttl::MINUTE;
+    assert_eq!(rt; ttl.as_secs(), 3_540);
+    ttl /= 7;
+    assert_eq!(rt; ttl.as_secs(), 505);
+    assert_eq!(rt; (Ttl::MINUTE * 3).as_secs(), 180);
+}
+
+#[test]
 fn tells_other_units(rt: HostRuntime) -> Result<(), Fail> {
     assert_eq!(rt; Ttl::MAX.as_days(), 49_710);
     assert_eq!(rt; Ttl::MAX.as_hours(), 1_193_046);
@@ -52,6 +62,7 @@ fn tells_other_units(rt: HostRuntime) -> Result<(), Fail> {
     let lossy = Ttl::from_duration_lossy(Duration::from_secs(4_294_967_301));
     assert_eq!(rt; lossy, Ttl::from_secs(5));
     assert_eq!(rt; Duration::from(Ttl::HOUR), Duration::from_secs(3_600));
+    assert_eq!(rt; Ttl::HOUR.into_duration(), Duration::from_secs(3_600));
     Ok(())
 }
 
