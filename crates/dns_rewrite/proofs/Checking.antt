@@ -11,7 +11,7 @@ use Rattle.dns_section.specs.declared.question_section.QuestionSection.{Question
 use Rattle.dns_section.specs.declared.record_section.RecordSection.{RecordSection}
 use Rattle.dns_section.specs.declared.section.Section.{Section}
 use Rattle.dns_section.specs.declared.section.Section.TheVariants.{Answer, Authority, Additional}
-use Rattle.dns_rewrite.specs.AnyLayout.{any_layout}
+use Rattle.dns_any_data.specs.AnyLayout.{any_layout}
 use Rattle.dns_rewrite.specs.Rewriting.{first_fault, HasFault, MessageReads, SectionReads, records_at}
 
 -- the first fault of the records that are left, with their data

@@ -14,7 +14,7 @@ use Rattle.dns_section.specs.Sections.{record_count}
 use Rattle.dns_section.specs.declared.section.Section.{Section}
 use Rattle.dns_build.specs.KeptRecords.{Keeps, KeepsSection}
 use Rattle.dns_build.specs.KeptRecords.Keeps.{none, dropped, kept}
-use Rattle.dns_rewrite.specs.AnyLayout.{any_layout}
+use Rattle.dns_any_data.specs.AnyLayout.{any_layout}
 use Rattle.dns_rewrite.specs.Rewriting.{CutsSection, cut_answer, is_cached, values, with_ttl_cut}
 
 -- a record where it stands, as it is kept

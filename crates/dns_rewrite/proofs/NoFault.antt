@@ -21,7 +21,7 @@ use Rattle.dns_build.specs.CopyRecords.CopiesSections.{none as no_section, copie
 use Rattle.dns_build.specs.State.{Stage, State}
 use Rattle.dns_build.specs.declared.copy_records_error.CopyRecordsError.{CopyRecordsError}
 use Rattle.dns_build.specs.declared.copy_records_error.CopyRecordsError.TheVariants.{Parse, Push}
-use Rattle.dns_rewrite.specs.AnyLayout.{any_layout}
+use Rattle.dns_any_data.specs.AnyLayout.{any_layout}
 use Rattle.dns_rewrite.specs.Rewriting.{IsReason, MessageReads, SectionReads, first_fault, records_at}
 
 -- a section starts at one place, or has a fault before it

@@ -1,3 +1,1 @@
-pub mod AnyData
-pub mod AnyLayout
 pub mod Rewriting

@@ -17,7 +17,7 @@ use Rattle.dns_build.specs.Answers.{header_in, readable_questions}
 use Rattle.dns_build.specs.State.{InAnswer, State, no_limit}
 use Rattle.dns_build.specs.declared.copy_records_error.CopyRecordsError.{CopyRecordsError}
 use Rattle.dns_build.specs.declared.copy_records_error.CopyRecordsError.TheVariants.{Parse, Push}
-use Rattle.dns_rewrite.specs.AnyLayout.{any_layout}
+use Rattle.dns_any_data.specs.AnyLayout.{any_layout}
 
 -- the first fault of a reading
 abbrev pub first_fault : {X : Type 0} → List (Result X Fault) → Option Fault

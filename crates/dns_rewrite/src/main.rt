@@ -8,7 +8,6 @@
 //! `rewriting::with_ttls_cut`.
 #![tactic(auto)]
 
-mod any_data;
 mod rewriting;
 
 use crate::rewriting::with_ttls_cut;

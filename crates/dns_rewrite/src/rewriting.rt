@@ -14,11 +14,11 @@ ghost use Rattle.dns_section.specs.QuestionSection.{questions_left};
 ghost use Rattle.dns_section.specs.RecordSection.{records_left};
 ghost use Rattle.dns_build.specs.Standing.{StandsFor};
 ghost use Rattle.dns_build.specs.State.{InAnswer};
-ghost use Rattle.dns_rewrite.specs.AnyData.{rtype_of, parts_of};
-ghost use Rattle.dns_rewrite.specs.AnyLayout.{any_layout};
+ghost use Rattle.dns_any_data.specs.AnyData.{rtype_of, parts_of};
+ghost use Rattle.dns_any_data.specs.AnyLayout.{any_layout};
 ghost use Rattle.dns_rewrite.specs.Rewriting.{first_fault, MessageReads, HasFault, IsCut, IsReason, cut_answer, begun};
 
-use crate::any_data::AnyData;
+use dns_any_data::AnyData;
 use dns_message::builder::{
     AnswerBuilder, CopyRecordsError, MessageBuilder, PushError, copy_records,
 };

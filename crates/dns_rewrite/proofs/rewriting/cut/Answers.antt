@@ -1,8 +1,8 @@
 use Rattle.std.proofs.Common.{◌∙◌, sym, arith}
 use Rattle.std.specs.Prelude.{min}
 use Rattle.dns_item.specs.ParsedRecord.{standing_record}
-use Rattle.dns_rewrite.specs.AnyData.{rtype_of, parts_of}
-use Rattle.dns_rewrite.specs.AnyLayout.{any_layout}
+use Rattle.dns_any_data.specs.AnyData.{rtype_of, parts_of}
+use Rattle.dns_any_data.specs.AnyLayout.{any_layout}
 use Rattle.dns_rewrite.proofs.CutLemmas.{laid_out-read, record_cut, fault_dropped}
 use Rattle.dns_rewrite.proofs.rewriting.cut.Goals as goal
 

@@ -3,7 +3,7 @@ use Rattle.std.proofs.lemmas.Result.{err_from_is_err_and}
 use Rattle.dns_name.specs.Names.{lowered, uncompressed}
 use Rattle.dns_name.specs.ParsedName.{labels}
 use Rattle.dns_wire.specs.Parts.{Octets}
-use Rattle.dns_rewrite.proofs.any_data.append_canonical_name.Goals as goal
+use Rattle.dns_any_data.proofs.any_data.append_canonical_name.Goals as goal
 
 pub returns-in_err-append_slice : goal.returns-in_err-append_slice
 returns-in_err-append_slice g c =

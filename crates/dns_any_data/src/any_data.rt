@@ -1,5 +1,4 @@
-//! Record data that can be written into another message: names in it that may be compressed are read, so that no pointer is
-//! taken along (RFC 3597 section 4).
+//! Record data whose names may be compressed, beside other octets (RFC 1035 section 3.3).
 ghost use Rattle.std.specs.Prelude.{◌≡◌, ◌<◌, ◌≤◌, ◌∷◌, [], length};
 ghost use Rattle.dns_name.specs.Names.{IsName};
 ghost use Rattle.dns_name.specs.ParsedName.{labels};
@@ -8,7 +7,7 @@ ghost use Rattle.dns_wire.specs.Targets.{Composes};
 ghost use Rattle.dns_data.specs.Layout.{DomainName, End, Fixed};
 ghost use Rattle.dns_data.specs.RecordData.{ParsesLaidOut, canonical};
 ghost use Rattle.dns_data.specs.UnknownData.{opaque_layout};
-ghost use Rattle.dns_rewrite.specs.AnyLayout.{count_of, names_in, octets_in, any_layout};
+ghost use Rattle.dns_any_data.specs.AnyLayout.{count_of, names_in, octets_in, any_layout};
 
 use dns_message::code::Rtype;
 use dns_message::data::laws::{names_are_short, parts_compose};
@@ -63,7 +62,7 @@ fn octets_in(rtype: Rtype) -> usize
 }
 
 impl RecordData for AnyData<'_> {
-    ghost use Rattle.dns_rewrite.specs.AnyData.{rtype_of, parts_of};
+    ghost use Rattle.dns_any_data.specs.AnyData.{rtype_of, parts_of};
 
     ghost rtype_of = { rtype_of };
 
@@ -170,7 +169,7 @@ fn append_canonical_names<T: Composer>(
 }
 
 impl<'a> ParseAnyRecordData<'a> for AnyData<'a> {
-    ghost use Rattle.dns_rewrite.specs.AnyData.{any_laid_out};
+    ghost use Rattle.dns_any_data.specs.AnyData.{any_laid_out};
 
     ghost any_layout = { any_layout };
 
@@ -186,7 +185,7 @@ impl<'a> ParseAnyRecordData<'a> for AnyData<'a> {
 }
 
 impl<'a> AnyData<'a> {
-    ghost use Rattle.dns_rewrite.specs.AnyData.{rtype_of, parts_of};
+    ghost use Rattle.dns_any_data.specs.AnyData.{rtype_of, parts_of};
 
     /// Reads data without names that may be compressed, up to the parser's end.
     fn parse_opaque(rtype: Rtype, parser: &mut Parser<'a>) -> Result<Self, ParseError>

@@ -6,10 +6,10 @@ use Rattle.dns_name.specs.ParsedName.{labels}
 use Rattle.dns_wire.specs.Parts.{Part}
 use Rattle.dns_wire.specs.Parts.Part.{Octets, CompressibleName}
 use Rattle.dns_data.specs.Layout.{IsLaidOut}
-use Rattle.dns_rewrite.specs.AnyLayout.{any_layout, layout_of, count_of}
-use Rattle.dns_rewrite.specs.declared.any_data.AnyData.{AnyData}
-use Rattle.dns_rewrite.specs.declared.any_data.Names.{Names}
-use Rattle.dns_rewrite.specs.declared.any_data.Names.TheVariants as names
+use Rattle.dns_any_data.specs.AnyLayout.{any_layout, layout_of, count_of}
+use Rattle.dns_any_data.specs.declared.any_data.AnyData.{AnyData}
+use Rattle.dns_any_data.specs.declared.any_data.Names.{Names}
+use Rattle.dns_any_data.specs.declared.any_data.Names.TheVariants as names
 
 -- the record type
 abbrev pub rtype_of : AnyData → ℕ

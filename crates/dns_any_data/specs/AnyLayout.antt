@@ -3,8 +3,8 @@ use Rattle.std.specs.Prelude.{ℕ, zero, suc, ◌==◌, ◌||◌, if◌then◌el
 use Rattle.dns_data.specs.Layout.{Layout}
 use Rattle.dns_data.specs.Layout.Layout.{DomainName, End, Fixed}
 use Rattle.dns_data.specs.UnknownData.{opaque_layout}
-use Rattle.dns_rewrite.specs.declared.any_data.Names.{Names}
-use Rattle.dns_rewrite.specs.declared.any_data.Names.TheVariants as names
+use Rattle.dns_any_data.specs.declared.any_data.Names.{Names}
+use Rattle.dns_any_data.specs.declared.any_data.Names.TheVariants as names
 
 -- how many: one in NS, MD, MF, CNAME, MB, MG, MR, PTR and MX, two in SOA and MINFO
 abbrev pub names_in : ℕ → ℕ

@@ -1,0 +1,2 @@
+pub mod AnyData
+pub mod AnyLayout
