@@ -1,4 +1,4 @@
--- Where the data of a record has names that may be compressed: RFC 1035 section 3.3, and no other type, RFC 3597 section 4.
+-- Where the data of a record has names that may be compressed: RFC 1035 section 3.3. Who writes compresses those of no other type: RFC 3597 section 4.
 use Rattle.std.specs.Prelude.{ℕ, zero, suc, ◌==◌, ◌||◌, if◌then◌else◌}
 use Rattle.dns_data.specs.Layout.{Layout}
 use Rattle.dns_data.specs.Layout.Layout.{DomainName, End, Fixed}
