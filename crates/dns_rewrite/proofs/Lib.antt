@@ -3,3 +3,6 @@ mod Checking
 mod CutLemmas
 mod Kept
 mod NoFault
+mod Reasons
+mod Refusing
+mod Sizes

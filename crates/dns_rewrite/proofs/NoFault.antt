@@ -1,5 +1,5 @@
 -- A message that can be read is copied without a fault.
-use Rattle.std.proofs.Common.{◌≡◌, ℕ, Bool, List, [], ◌∷◌, refl, subst}
+use Rattle.std.proofs.Common.{◌≡◌, ℕ, Bool, List, [], ◌∷◌, subst}
 use Rattle.std.specs.Prelude.{Option, None, Result, Ok, Err}
 use Rattle.dns_octets.specs.declared.error.ParseError.{ParseError}
 use Rattle.dns_name.specs.Names.{Fault}
@@ -14,15 +14,15 @@ use Rattle.dns_section.specs.Sections.{StartFault, StartsAt}
 use Rattle.dns_section.specs.declared.section.Section.{Section}
 use Rattle.dns_section.specs.declared.section.Section.TheVariants.{Answer, Authority, Additional}
 use Rattle.dns_section.proofs.theory.StartLemmas.{start_or_fault}
-use Rattle.dns_build.specs.CopyRecords.{CopiesList, CopiesMessage, CopiesSection, CopiesSections, record_sections}
+use Rattle.dns_build.specs.CopyRecords.{CopiesList, CopiesSection, CopiesSections}
 use Rattle.dns_build.specs.CopyRecords.CopiesList.{none as no_record, copied as record_copied, refused, fault}
 use Rattle.dns_build.specs.CopyRecords.CopiesSection.{started, unstarted}
 use Rattle.dns_build.specs.CopyRecords.CopiesSections.{none as no_section, copied as section_copied, stopped}
 use Rattle.dns_build.specs.State.{Stage, State}
 use Rattle.dns_build.specs.declared.copy_records_error.CopyRecordsError.{CopyRecordsError}
-use Rattle.dns_build.specs.declared.copy_records_error.CopyRecordsError.TheVariants.{Parse, Push}
+use Rattle.dns_build.specs.declared.copy_records_error.CopyRecordsError.TheVariants.{Parse}
 use Rattle.dns_any_data.specs.AnyLayout.{any_layout}
-use Rattle.dns_rewrite.specs.Rewriting.{IsReason, MessageReads, SectionReads, first_fault, records_at}
+use Rattle.dns_rewrite.specs.Rewriting.{MessageReads, SectionReads, first_fault, records_at}
 
 -- a section starts at one place, or has a fault before it
 one_start : (section : Section) (b : List ℕ) (p q : ℕ) → StartsAt section b p → StartsAt section b q → p ≡ q
@@ -67,9 +67,3 @@ module _ {F R : Type 0} (call : F → ParsedRecord → Option R → F → Type 0
   no_fault b [] no_section is reads = absurd (cc)
   no_fault b (section ∷ sections) (section_copied one rest) is reads = no_fault b sections rest is reads
   no_fault b (section ∷ sections) (stopped one) is reads = no_fault_in_section b section one is (reads section)
-
--- why a copy of a message that can be read is refused
-pub reason : {F R : Type 0} (call : F → ParsedRecord → Option R → F → Type 0) (item : R → RecordItem) (room : Option ℕ) (grows : Bool) (rule : Rule) (b : List ℕ) (f : F) (s : State) (e : CopyRecordsError)
-    → CopiesMessage call item room grows rule b f s (Err e) → MessageReads b → IsReason b e
-reason call item room grows rule b f s (Parse e) copies reads = absurd (no_fault call item room grows rule e b record_sections copies.2 refl (section_reads b reads))
-reason call item room grows rule b f s (Push e) copies reads = reads

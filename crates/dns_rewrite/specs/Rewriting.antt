@@ -3,6 +3,7 @@ use Rattle.std.specs.Prelude.{◌≡◌, ◌==◌, if◌then◌else◌, Bool, no
 use Rattle.std.specs.List.{filter_map}
 use Rattle.std.specs.Result.{result_ok}
 use Rattle.dns_name.specs.Names.{Fault, fault_of}
+use Rattle.dns_wire.specs.Pieces.{Static}
 use Rattle.dns_code.specs.Header.{header_octets}
 use Rattle.dns_item.specs.Items.{RecordItem}
 use Rattle.dns_section.specs.AnyRecordIter.{every}
@@ -14,9 +15,10 @@ use Rattle.dns_section.specs.declared.section.Section.TheVariants.{Answer, Autho
 use Rattle.dns_read.specs.Searches.{questions_of}
 use Rattle.dns_build.specs.MessageOf.{ReadsBack}
 use Rattle.dns_build.specs.Answers.{header_in, readable_questions}
-use Rattle.dns_build.specs.State.{InAnswer, State, no_limit}
+use Rattle.dns_build.specs.State.{InAnswer, State, fold, no_limit}
 use Rattle.dns_build.specs.declared.copy_records_error.CopyRecordsError.{CopyRecordsError}
 use Rattle.dns_build.specs.declared.copy_records_error.CopyRecordsError.TheVariants.{Parse, Push}
+use Rattle.dns_build.specs.declared.push_error.PushError.TheVariants.{OutOfMemory}
 use Rattle.dns_any_data.specs.AnyLayout.{any_layout}
 
 -- the first fault of a reading
@@ -69,6 +71,7 @@ pub record CutsSection (most : ℕ) (b : List ℕ) (section : Section) (items : 
 pub record IsCut (most : ℕ) (b new : List ℕ) : Type 0 where
   pub readable : MessageReads b
   pub state : State
+  pub octets : new ≡ (fold Static state).octets
   pub reads_back : ReadsBack state new
   pub header : header_octets state.header ≡ take 4 b
   pub questions : state.questions ≡ values (questions_of b)
@@ -76,10 +79,10 @@ pub record IsCut (most : ℕ) (b new : List ℕ) : Type 0 where
   pub authorities : CutsSection most b Authority state.authorities
   pub additionals : CutsSection most b Additional state.additionals
 
--- why there is none: a fault; or the message can be read, and a push is refused
+-- why there is none: a fault; or the message can be read, and memory is refused
 abbrev pub IsReason : List ℕ → CopyRecordsError → Type 0
 IsReason b (Parse e) = HasFault b (fault_of e)
-IsReason b (Push e) = MessageReads b
+IsReason b (Push e) = MessageReads b × (e ≡ OutOfMemory)
 
 -- a record with its data, as it is kept; a fault isn't
 abbrev pub cut_answer : ℕ → Result RecordItem Fault → Option RecordItem

@@ -1,6 +1,5 @@
 //! A message written again with its TTLs cut, as a cache does that keeps no record for longer (RFC 1035 section 3.2.1).
-ghost use Rattle.std.specs.Prelude.{◌≡◌, IfErr, IfOk, MatchResult, None, Some, option_map, option_and_then};
-ghost use Rattle.std.specs.Result.{result_ok};
+ghost use Rattle.std.specs.Prelude.{◌≡◌, ◌≤◌, IfErr, IfOk, MatchResult, None, Some, option_map};
 ghost use Rattle.dns_name.specs.Names.{fault_of};
 ghost use Rattle.dns_name.specs.ParsedName.{labels};
 ghost use Rattle.dns_wire.specs.Pieces.{Static};
@@ -12,8 +11,9 @@ ghost use Rattle.dns_section.specs.AnyRecordIter.{every};
 ghost use Rattle.dns_section.specs.Limited.{limited};
 ghost use Rattle.dns_section.specs.QuestionSection.{questions_left};
 ghost use Rattle.dns_section.specs.RecordSection.{records_left};
+ghost use Rattle.dns_section.specs.Sections.{question_count, answer_count, authority_count, additional_count};
 ghost use Rattle.dns_build.specs.Standing.{StandsFor};
-ghost use Rattle.dns_build.specs.State.{InAnswer};
+ghost use Rattle.dns_build.specs.State.{InAnswer, most_entries};
 ghost use Rattle.dns_any_data.specs.AnyData.{rtype_of, parts_of};
 ghost use Rattle.dns_any_data.specs.AnyLayout.{any_layout};
 ghost use Rattle.dns_rewrite.specs.Rewriting.{first_fault, MessageReads, HasFault, IsCut, IsReason, cut_answer, begun};
@@ -35,7 +35,8 @@ type Target = StaticCompressor<Vec<u8>>;
 
 /// The message with the TTL of each record cut to at most `most`, and without its OPT records.
 ///
-/// A message that can't be read to its end, with the data of its records, is answered by a fault in it.
+/// A message that can't be read to its last record, with the data of its records, is answered by a fault in it, which may
+/// be any one. Octets behind the last record are no fault, and are left out.
 pub fn with_ttls_cut<Octs: Octets>(
     alloc: Global,
     message: &Message<Octs>,
@@ -45,10 +46,25 @@ pub fn with_ttls_cut<Octs: Octets>(
         (message_octets new)) }
     ensures reason { IfErr result (λ e. IsReason (message_octets message.now) e) }
 {
+    counts_fit(message);
     check(message)?;
     let builder = begun(alloc, message)?;
     let copied = copy_records(message, builder, |shown| cut(shown, most))?;
     Ok(copied.into_message())
+}
+
+/// No section of a message has more entries than a count can tell.
+fn counts_fit<Octs: Octets>(message: &Message<Octs>)
+    ensures questions { question_count (message_octets message.now) ≤ most_entries }
+    ensures answers { answer_count (message_octets message.now) ≤ most_entries }
+    ensures authorities { authority_count (message_octets message.now) ≤ most_entries }
+    ensures additionals { additional_count (message_octets message.now) ≤ most_entries }
+{
+    let counts = message.header_counts();
+    let _questions = counts.qdcount();
+    let _answers = counts.ancount();
+    let _authorities = counts.nscount();
+    let _additionals = counts.arcount();
 }
 
 /// Reads the questions of a message, and its records with their data.
@@ -92,9 +108,11 @@ fn begun<Octs: Octets>(
     alloc: Global,
     message: &Message<Octs>,
 ) -> Result<AnswerBuilder<Target>, PushError>
-    ensures { IfOk result (λ builder. StandsFor InAnswer Static
+    ensures begun { IfOk result (λ builder. StandsFor InAnswer Static
         (begun (message_octets message.now)) builder) }
+    ensures memory { IfErr result (λ e. e ≡ PushError.OutOfMemory) }
 {
+    counts_fit(message);
     let target = StaticCompressor::new(Vec::new(alloc));
     let mut builder = MessageBuilder::from_target(target)?.start_answer(message, Rcode::NOERROR)?;
     builder.set_header(message.header());
