@@ -165,6 +165,10 @@ impl<'a> Meaning<'a> {
             Fault::LongName => f.write_str("with this label the name has more than 255 octets"),
             Fault::Pointer => write!(f, "pointer to {target}, which doesn't lead back"),
             Fault::Behind => write!(f, "pointer to {target}, where no name can be read"),
+            Fault::LongPointer => write!(
+                f,
+                "pointer to {target}, with which the name has more than 255 octets"
+            ),
             Fault::Trailing => f.write_str("octets are left behind the value of the data"),
         }
     }

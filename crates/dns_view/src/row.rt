@@ -105,6 +105,8 @@ pub enum Fault {
     Pointer,
     /// The pointer leads to octets from which no name can be read.
     Behind,
+    /// The pointer leads to a name with which this one has more than 255 octets.
+    LongPointer,
     /// The data of a record has octets behind its value.
     Trailing,
 }

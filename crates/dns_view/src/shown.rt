@@ -1,10 +1,12 @@
 //! The rows of a message.
-ghost use Rattle.std.specs.Prelude.{◌≡◌, ◌<◌, ◌≤◌, ◌∷◌, [], IfOk, length, take};
+ghost use Rattle.std.specs.Prelude.{◌≡◌, ◌+◌, ◌<◌, ◌≤◌, ◌∷◌, [], IfOk, length, take};
 ghost use Rattle.dns_code.specs.HeaderSection.{header_size};
-ghost use Rattle.dns_view.specs.Shown.{header_rows, short_header};
+ghost use Rattle.dns_code.specs.HeaderCounts.{counts as counts_of};
+ghost use Rattle.dns_view.specs.Shown.{Begins, header_rows, short_header, sum_of, ShowsMessage};
 ghost use Rattle.dns_view.specs.Tiles.{Tiles};
+ghost use Rattle.dns_view.specs.Walks.{items, Comes, IsMarked};
 
-use crate::row::{Kind, Row};
+use crate::row::{Fault, Kind, Row};
 use crate::tile;
 use crate::walk::{Stop, Walk};
 use dns_message::header::HeaderCounts;
@@ -23,6 +25,8 @@ pub fn rows(alloc: Global, octets: &[u8]) -> Result<Vec<Row>, AllocError>
         → IfOk result (λ rows. rows.items ≡ short_header (length octets.now) ∷ []) }
     ensures header { header_size ≤ length octets.now
         → IfOk result (λ rows. take 6 rows.items ≡ header_rows) }
+    ensures shows { header_size ≤ length octets.now
+        → IfOk result (λ rows. ShowsMessage octets.now rows.items) }
 {
     if octets.len() < HEADER_LEN {
         return short_rows(alloc, octets.len());
@@ -44,21 +48,29 @@ fn short_rows(alloc: Global, len: usize) -> Result<Vec<Row>, AllocError>
 }
 
 /// The rows of octets that have a header section.
-#[tactic(auto, using(crate::proofs::Tilings::tiles_message))]
 fn message_rows(alloc: Global, octets: &[u8]) -> Result<Vec<Row>, AllocError>
     requires { header_size ≤ length octets.now }
     ensures tiles { IfOk result (λ rows. Tiles rows.items 0 (length octets.now)) }
-    ensures header { IfOk result (λ rows. take 6 rows.items ≡ header_rows) }
+    ensures shows { IfOk result (λ rows. ShowsMessage octets.now rows.items) }
 {
     let mut walk = Walk::new(alloc, octets);
-    let stop = match walk.items(HeaderCounts::for_message_slice(octets)) {
-        Ok(()) => None,
-        Err(Stop::Fault(fault)) => Some(fault),
-        Err(Stop::Memory) => return Err(AllocError),
-    };
-    let (mut fields, place) = tile::fields(alloc, &walk.marks, HEADER_LEN, octets.len())?;
+    let stop = fault_of(&mut walk, HeaderCounts::for_message_slice(octets))?;
     let mut rows = tile::header(alloc)?;
-    rows.append(&mut fields)?;
-    tile::push_rest(&mut rows, stop, place, octets.len())?;
+    rows.append(&mut walk.rows)?;
+    tile::push_rest(&mut rows, stop, walk.parser.pos(), octets.len())?;
     Ok(rows)
+}
+
+/// Walks over the items of a message, and gives the fault that ends the walk, if one does.
+fn fault_of(walk: &mut Walk, counts: HeaderCounts) -> Result<Option<Fault>, AllocError>
+    requires { IsMarked walk.old }
+    ensures comes { Comes (sum_of (counts_of counts)) walk.old walk.new }
+    ensures begins { IfOk result (λ stop.
+        Begins stop (items walk.new) (items walk.old + sum_of (counts_of counts))) }
+{
+    match walk.items(counts) {
+        Ok(()) => Ok(None),
+        Err(Stop::Fault(fault)) => Ok(Some(fault)),
+        Err(Stop::Memory) => Err(AllocError),
+    }
 }

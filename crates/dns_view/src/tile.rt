@@ -1,21 +1,12 @@
 //! Rows put one behind the other.
-ghost use Rattle.std.specs.Prelude.{◌≡◌, ◌++◌, ◌≤◌, OnOk, IfOk};
+ghost use Rattle.std.specs.Prelude.{◌≡◌, ◌++◌, OnOk, IfOk};
 ghost use Rattle.dns_view.specs.Shown.{field_row, header_rows, fault_rows, unread_rows};
-ghost use Rattle.dns_view.specs.Tiles.{Tiles};
 
 use crate::row::{Fault, Field, Kind, Part, Row};
 use std::alloc::{AllocError, Global};
 
-/// A field, and the places where it begins and ends.
-#[derive(Clone, Copy, Debug)]
-pub(crate) struct Mark {
-    pub(crate) start: usize,
-    pub(crate) end: usize,
-    pub(crate) field: Field,
-}
-
 /// The row of a field.
-fn field(start: usize, end: usize, field: Field) -> Row
+pub(crate) fn field(start: usize, end: usize, field: Field) -> Row
     ensures { result ≡ field_row start end field }
 {
     let kind = Kind::Field(field);
@@ -34,41 +25,6 @@ pub(crate) fn header(alloc: Global) -> Result<Vec<Row>, AllocError>
     rows.push(field(8, 10, Field::Count(Part::Authority)))?;
     rows.push(field(10, 12, Field::Count(Part::Additional)))?;
     Ok(rows)
-}
-
-/// Puts a row behind rows that end where it begins.
-#[tactic(auto, using(crate::proofs::Tilings::one_more))]
-fn push_row(rows: &mut Vec<Row>, from: usize, row: Row) -> Result<(), AllocError>
-    requires order { row.start ≤ row.end }
-    requires adjacent { Tiles rows.old.items from row.start }
-    ensures { OnOk result (Tiles rows.new.items from row.end) }
-{
-    let _from = from;
-    rows.push(row)?;
-    Ok(())
-}
-
-/// The rows of fields that are one behind the other from a place on, and the place where they end.
-///
-/// A mark that isn't adjacent to the one before it, or goes past the length, makes no row.
-pub(crate) fn fields(
-    alloc: Global,
-    marks: &[Mark],
-    from: usize,
-    len: usize,
-) -> Result<(Vec<Row>, usize), AllocError>
-    requires { from ≤ len }
-    ensures { IfOk result (λ found. Tiles found.0.items from found.1 × (found.1 ≤ len)) }
-{
-    let mut rows = Vec::new(alloc);
-    let mut place = from;
-    for mark in marks {
-        if mark.start == place && place <= mark.end && mark.end <= len {
-            push_row(&mut rows, from, field(place, mark.end, mark.field))?;
-            place = mark.end;
-        }
-    }
-    Ok((rows, place))
 }
 
 /// Puts behind rows of fields that end at a place the fault there, if there is one, and the octets that are left.

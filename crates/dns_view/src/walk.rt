@@ -1,10 +1,14 @@
 //! A walk over a message that makes a row of each field (RFC 1035 sections 3.3 and 4.1, RFC 6891 section 6.1.2).
-ghost use Rattle.std.specs.Prelude.{◌≤◌, length};
+ghost use Rattle.std.specs.Prelude.{◌≡◌, ◌+◌, ◌<◌, ◌≤◌, OnOk, IfSome, length};
+ghost use Rattle.dns_name.specs.Parsers.{input, place};
+ghost use Rattle.dns_code.specs.HeaderCounts.{counts};
 ghost use Rattle.dns_code.specs.HeaderSection.{header_size};
+ghost use Rattle.dns_view.specs.Shown.{items_at, sum_of, IsField, field_row};
+ghost use Rattle.dns_view.specs.Walks.{at, items, IsMarked, Comes};
 
 use crate::meaning::target_of;
-use crate::row::{Fault, Field, NameOf, Part};
-use crate::tile::Mark;
+use crate::row::{Fault, Field, NameOf, Part, Row};
+use crate::tile;
 use dns_message::code::Rtype;
 use dns_message::header::HeaderCounts;
 use dns_message::name::ParsedName;
@@ -34,47 +38,77 @@ impl From<AllocError> for Stop {
 #[derive(Drop)]
 pub(crate) struct Walk<'a> {
     pub(crate) parser: Parser<'a>,
-    pub(crate) marks: Vec<Mark>,
+    pub(crate) rows: Vec<Row>,
 }
 
 impl<'a> Walk<'a> {
     /// A walk that begins behind the header section.
     pub(crate) fn new(alloc: Global, octets: &'a [u8]) -> Self
         requires { header_size ≤ length octets.now }
+        ensures marked { IsMarked result }
+        ensures items { items result ≡ 0 }
+        ensures input { input result.parser ≡ octets.now }
     {
         let mut parser = Parser::new(octets);
         parser.advance(12).unwrap();
         Walk {
             parser,
-            marks: Vec::new(alloc),
+            rows: Vec::new(alloc),
         }
     }
 
-    /// Marks a field that ends here.
-    fn mark(&mut self, start: usize, field: Field) -> Result<(), AllocError> {
-        let end = self.parser.pos();
-        self.marks.push(Mark { start, end, field })?;
+    /// Marks a field from here up to where a parser stands, and goes on with that.
+    fn mark(&mut self, behind: Parser<'a>, field: Field) -> Result<(), AllocError>
+        requires marked { IsMarked self.old }
+        requires input { input behind ≡ input self.old.parser }
+        requires order { at self.old ≤ place behind }
+        requires is_field { IsField (field_row (at self.old) (place behind) field) }
+        ensures comes { Comes (items_at field) self.old self.new }
+        ensures begins { OnOk result (items self.new ≡ items self.old + items_at field) }
+    {
+        let row = tile::field(self.parser.pos(), behind.pos(), field);
+        self.rows.push(row)?;
+        self.parser = behind;
         Ok(())
     }
 
     /// A field of `n` octets.
-    fn octets(&mut self, n: usize, field: Field) -> Result<(), Stop> {
-        let start = self.parser.pos();
-        if self.parser.advance(n).is_err() {
+    fn octets(&mut self, n: usize, field: Field) -> Result<(), Stop>
+        requires marked { IsMarked self.old }
+        requires some { 0 < n }
+        requires plain { items_at field ≡ 0 }
+        ensures { Comes 0 self.old self.new }
+    {
+        let mut behind = self.parser;
+        if behind.advance(n).is_err() {
             return Err(Stop::Fault(Fault::Short(field)));
         }
-        self.mark(start, field)?;
+        self.mark(behind, field)?;
         Ok(())
     }
 
     /// A field that is a number of two octets.
-    fn number(&mut self, field: Field) -> Result<u16, Stop> {
-        let start = self.parser.pos();
-        let Ok(number) = self.parser.parse_u16_be() else {
+    fn number(&mut self, field: Field) -> Result<u16, Stop>
+        requires marked { IsMarked self.old }
+        requires plain { items_at field ≡ 0 }
+        ensures { Comes 0 self.old self.new }
+    {
+        let mut behind = self.parser;
+        let Ok(number) = behind.parse_u16_be() else {
             return Err(Stop::Fault(Fault::Short(field)));
         };
-        self.mark(start, field)?;
+        self.mark(behind, field)?;
         Ok(number)
+    }
+
+    /// An item of a part begins here.
+    fn item(&mut self, part: Part, number: usize) -> Result<(), Stop>
+        requires { IsMarked self.old }
+        ensures comes { Comes 1 self.old self.new }
+        ensures begins { OnOk result (items self.new ≡ items self.old + 1) }
+    {
+        self.mark(self.parser, Field::Item(part, number))?;
+        Ok(())
     }
 
     /// The octet that stands here, if one does.
@@ -85,7 +119,9 @@ impl<'a> Walk<'a> {
 
     /// The octets of the label that begins here, without its length octet; `None` where none begins, where it isn't all
     /// there, and where a name is too long with it, which has `size` octets before it.
-    fn label_len(&self, size: usize) -> Option<usize> {
+    fn label_len(&self, size: usize) -> Option<usize>
+        ensures { IfSome result (λ len. len ≤ 63) }
+    {
         let len = usize::from(self.first()?);
         if len == 0
             || len > 63
@@ -98,41 +134,45 @@ impl<'a> Walk<'a> {
     }
 
     /// The labels that begin here, up to what is no label of a name.
-    fn labels(&mut self, name: NameOf) -> Result<(), Stop> {
+    fn labels(&mut self, name: NameOf) -> Result<(), Stop>
+        requires { IsMarked self.old }
+        ensures { Comes 0 self.old self.new }
+    {
         let mut size = 0;
         for _ in 0..MOST_LABELS {
             let Some(len) = self.label_len(size) else {
                 break;
             };
-            self.octets(len.saturating_add(1), Field::Label(name))?;
+            self.octets(len + 1, Field::Label(name))?;
             size = size.saturating_add(len).saturating_add(1);
         }
         Ok(())
     }
 
     /// A name: its labels, and the root label or the pointer that ends it.
-    fn name(&mut self, name: NameOf) -> Result<(), Stop> {
+    fn name(&mut self, name: NameOf) -> Result<(), Stop>
+        requires { IsMarked self.old }
+        ensures { Comes 0 self.old self.new }
+    {
         let start = self.parser.pos();
-        let mut behind = self.parser;
-        let read = ParsedName::parse(&mut behind);
+        let is_readable = self.has_name(start);
         self.labels(name)?;
-        match read {
-            Ok(_) => self.end_name(name, start, behind),
-            Err(_) => Err(Stop::Fault(self.name_fault(name, start))),
+        if is_readable {
+            self.end_name(name, start)
+        } else {
+            Err(Stop::Fault(self.name_fault(name, start)))
         }
     }
 
     /// The root label or the pointer that ends a name here; the name begins at `start`.
-    fn end_name(&mut self, name: NameOf, start: usize, behind: Parser<'a>) -> Result<(), Stop> {
-        let last = self.parser.pos();
-        self.parser = behind;
-        let field = if self.parser.pos().saturating_sub(last) == 1 {
-            Field::Root(name, start)
-        } else {
-            Field::Pointer(name, start)
-        };
-        self.mark(last, field)?;
-        Ok(())
+    fn end_name(&mut self, name: NameOf, start: usize) -> Result<(), Stop>
+        requires { IsMarked self.old }
+        ensures { Comes 0 self.old self.new }
+    {
+        match self.first() {
+            Some(0) => self.octets(1, Field::Root(name, start)),
+            _ => self.octets(2, Field::Pointer(name, start)),
+        }
     }
 
     /// Why a name that begins at `start` can't be read on from here, behind its labels.
@@ -148,36 +188,58 @@ impl<'a> Walk<'a> {
     }
 
     /// Why a name that begins at `start` can't be read from the pointer that begins here.
+    ///
+    /// A name that can be read where the pointer leads is too long behind the labels before it.
     fn pointer_fault(&self, name: NameOf, start: usize) -> Fault {
         let Ok(octets) = self.parser.peek(2) else {
             return Fault::Short(Field::Pointer(name, start));
         };
-        if target_of(octets) < self.parser.pos() {
-            Fault::Behind
-        } else {
+        let target = target_of(octets);
+        if target >= self.parser.pos() {
             Fault::Pointer
+        } else if self.has_name(target) {
+            Fault::LongPointer
+        } else {
+            Fault::Behind
         }
     }
 
+    /// Whether a name can be read at a place before the end.
+    fn has_name(&self, place: usize) -> bool {
+        let mut there = self.parser;
+        there.seek(place).is_ok() && ParsedName::parse(&mut there).is_ok()
+    }
+
     /// The items of all parts, as many as the header section of the message says.
-    pub(crate) fn items(&mut self, counts: HeaderCounts) -> Result<(), Stop> {
-        self.questions(counts.qdcount())?;
-        self.records(Part::Answer, counts.ancount())?;
-        self.records(Part::Authority, counts.nscount())?;
-        self.records(Part::Additional, counts.arcount())
+    pub(crate) fn items(&mut self, all: HeaderCounts) -> Result<(), Stop>
+        requires { IsMarked self.old }
+        ensures comes { Comes (sum_of (counts all)) self.old self.new }
+        ensures begins { OnOk result (items self.new ≡ items self.old + sum_of (counts all)) }
+    {
+        self.questions(all.qdcount())?;
+        self.records(Part::Answer, all.ancount())?;
+        self.records(Part::Authority, all.nscount())?;
+        self.records(Part::Additional, all.arcount())
     }
 
     /// The questions, as many as the header says.
-    fn questions(&mut self, count: u16) -> Result<(), Stop> {
+    fn questions(&mut self, count: u16) -> Result<(), Stop>
+        requires { IsMarked self.old }
+        ensures comes { Comes count self.old self.new }
+        ensures begins { OnOk result (items self.new ≡ items self.old + count) }
+    {
         for index in 0..usize::from(count) {
             self.question(index + 1)?;
         }
         Ok(())
     }
 
-    fn question(&mut self, number: usize) -> Result<(), Stop> {
-        let start = self.parser.pos();
-        self.mark(start, Field::Item(Part::Question, number))?;
+    fn question(&mut self, number: usize) -> Result<(), Stop>
+        requires { IsMarked self.old }
+        ensures comes { Comes 1 self.old self.new }
+        ensures begins { OnOk result (items self.new ≡ items self.old + 1) }
+    {
+        self.item(Part::Question, number)?;
         self.name(NameOf::Question)?;
         self.number(Field::Type)?;
         self.number(Field::Class)?;
@@ -185,23 +247,33 @@ impl<'a> Walk<'a> {
     }
 
     /// The records of a part, as many as the header says.
-    fn records(&mut self, part: Part, count: u16) -> Result<(), Stop> {
+    fn records(&mut self, part: Part, count: u16) -> Result<(), Stop>
+        requires { IsMarked self.old }
+        ensures comes { Comes count self.old self.new }
+        ensures begins { OnOk result (items self.new ≡ items self.old + count) }
+    {
         for index in 0..usize::from(count) {
             self.record(part, index + 1)?;
         }
         Ok(())
     }
 
-    fn record(&mut self, part: Part, number: usize) -> Result<(), Stop> {
-        let start = self.parser.pos();
-        self.mark(start, Field::Item(part, number))?;
+    fn record(&mut self, part: Part, number: usize) -> Result<(), Stop>
+        requires { IsMarked self.old }
+        ensures comes { Comes 1 self.old self.new }
+        ensures begins { OnOk result (items self.new ≡ items self.old + 1) }
+    {
+        self.item(part, number)?;
         self.name(NameOf::Owner)?;
         let (rtype, len) = self.record_fields()?;
         self.within(rtype, usize::from(len))
     }
 
     /// The ten octets behind the owner of a record; gives its type and the length of its data.
-    fn record_fields(&mut self) -> Result<(Rtype, u16), Stop> {
+    fn record_fields(&mut self) -> Result<(Rtype, u16), Stop>
+        requires { IsMarked self.old }
+        ensures { Comes 0 self.old self.new }
+    {
         let rtype = Rtype::from_int(self.number(Field::Type)?);
         if rtype == Rtype::OPT {
             self.number(Field::PayloadSize)?;
@@ -217,14 +289,17 @@ impl<'a> Walk<'a> {
     }
 
     /// The data of a record, which has `len` octets.
-    fn within(&mut self, rtype: Rtype, len: usize) -> Result<(), Stop> {
+    fn within(&mut self, rtype: Rtype, len: usize) -> Result<(), Stop>
+        requires { IsMarked self.old }
+        ensures { Comes 0 self.old self.new }
+    {
         let mut behind = self.parser;
         let Ok(inner) = behind.parse_parser(len) else {
             return Err(Stop::Fault(Fault::Short(Field::Data)));
         };
         self.parser = inner;
         self.data(rtype)?;
-        if self.parser.remaining() > 0 {
+        if self.parser.pos() != behind.pos() {
             return Err(Stop::Fault(Fault::Trailing));
         }
         self.parser = behind;
@@ -232,7 +307,10 @@ impl<'a> Walk<'a> {
     }
 
     /// The data of a record, up to the end of the parser.
-    fn data(&mut self, rtype: Rtype) -> Result<(), Stop> {
+    fn data(&mut self, rtype: Rtype) -> Result<(), Stop>
+        requires { IsMarked self.old }
+        ensures { Comes 0 self.old self.new }
+    {
         match rtype {
             Rtype::A => self.octets(4, Field::Address),
             Rtype::AAAA => self.octets(16, Field::LongAddress),
@@ -243,26 +321,35 @@ impl<'a> Walk<'a> {
             Rtype::SOA => self.zone(),
             Rtype::TXT => self.texts(),
             Rtype::OPT => self.options(),
-            _ => self.rest(Field::Data),
+            _ => self.rest(),
         }
     }
 
-    /// The octets that are left, if there are any.
-    fn rest(&mut self, field: Field) -> Result<(), Stop> {
+    /// Data that is one field: the octets that are left, if there are any.
+    fn rest(&mut self) -> Result<(), Stop>
+        requires { IsMarked self.old }
+        ensures { Comes 0 self.old self.new }
+    {
         match self.parser.remaining() {
             0 => Ok(()),
-            len => self.octets(len, field),
+            len => self.octets(len, Field::Data),
         }
     }
 
     /// The data of MX (RFC 1035 section 3.3.9).
-    fn exchange(&mut self) -> Result<(), Stop> {
+    fn exchange(&mut self) -> Result<(), Stop>
+        requires { IsMarked self.old }
+        ensures { Comes 0 self.old self.new }
+    {
         self.number(Field::Preference)?;
         self.name(NameOf::Exchange)
     }
 
     /// The data of SOA (RFC 1035 section 3.3.13).
-    fn zone(&mut self) -> Result<(), Stop> {
+    fn zone(&mut self) -> Result<(), Stop>
+        requires { IsMarked self.old }
+        ensures { Comes 0 self.old self.new }
+    {
         self.name(NameOf::Primary)?;
         self.name(NameOf::Mailbox)?;
         self.octets(4, Field::Serial)?;
@@ -273,7 +360,10 @@ impl<'a> Walk<'a> {
     }
 
     /// The data of TXT (RFC 1035 section 3.3.14).
-    fn texts(&mut self) -> Result<(), Stop> {
+    fn texts(&mut self) -> Result<(), Stop>
+        requires { IsMarked self.old }
+        ensures { Comes 0 self.old self.new }
+    {
         for _ in 0..self.parser.remaining() {
             let Some(len) = self.first() else {
                 break;
@@ -284,7 +374,10 @@ impl<'a> Walk<'a> {
     }
 
     /// The options of OPT (RFC 6891 section 6.1.2).
-    fn options(&mut self) -> Result<(), Stop> {
+    fn options(&mut self) -> Result<(), Stop>
+        requires { IsMarked self.old }
+        ensures { Comes 0 self.old self.new }
+    {
         for _ in 0..self.parser.remaining() {
             if self.parser.remaining() == 0 {
                 break;
@@ -294,7 +387,10 @@ impl<'a> Walk<'a> {
         Ok(())
     }
 
-    fn option(&mut self) -> Result<(), Stop> {
+    fn option(&mut self) -> Result<(), Stop>
+        requires { IsMarked self.old }
+        ensures { Comes 0 self.old self.new }
+    {
         let code = self.number(Field::OptionCode)?;
         match self.number(Field::OptionLength(code))? {
             0 => Ok(()),
