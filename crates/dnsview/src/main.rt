@@ -13,11 +13,15 @@ use std::{env, io};
 /// The exit status where reading, writing or memory fails.
 const FAILED: u8 = 3;
 
-/// The words behind the program's name; none where the arguments aren't text.
+/// The words behind the program's name; where an argument isn't text, one word that is none of the program's.
 fn words(rt: &HostRuntime) -> io::Result<Vec<String>> {
     match env::args(rt) {
         Ok(args) => Ok(args.skip(1).collect(rt.alloc())?),
-        Err(error) if error.kind() == ErrorKind::InvalidData => Ok(Vec::new(rt.alloc())),
+        Err(error) if error.kind() == ErrorKind::InvalidData => {
+            let mut words = Vec::new(rt.alloc());
+            words.push(String::from_str(rt.alloc(), "no text")?)?;
+            Ok(words)
+        }
         Err(error) => Err(error),
     }
 }
