@@ -1,4 +1,6 @@
 //! What rows mean, in words.
+ghost use Rattle.std.specs.Prelude.{◌≡◌, ◌≤◌, length, slice_range};
+
 use crate::codes::{OpcodeName, OptionName, RcodeName};
 use crate::option::OptionData;
 use crate::quoted::{Quoted, octet_count, second_count, write_address};
@@ -23,15 +25,16 @@ pub(crate) struct Meaning<'a> {
     pub(crate) row: Row,
 }
 
-/// The octets of a row.
-pub(crate) fn octets_of<'a>(message: &'a [u8], row: &Row) -> &'a [u8] {
-    let mut parser = Parser::new(message);
-    if parser.seek(row.start).is_err() {
-        return &[];
+/// The octets of a row; none, where it isn't one of the message.
+pub(crate) fn octets_of<'a>(message: &'a [u8], row: &Row) -> &'a [u8]
+    ensures { row.now.start ≤ row.now.end → row.now.end ≤ length message.now
+        → result.now ≡ slice_range message.now row.now.start row.now.end }
+{
+    if row.start <= row.end && row.end <= message.len() {
+        &message[row.start..row.end]
+    } else {
+        &[]
     }
-    parser
-        .peek(row.end.saturating_sub(row.start))
-        .unwrap_or(&[])
 }
 
 /// The place where a pointer leads (RFC 1035 section 4.1.4).

@@ -1,5 +1,5 @@
 //! The work of the program `dnsview`.
-ghost use Rattle.std.specs.Prelude.{◌≤◌, IfOk};
+ghost use Rattle.std.specs.Prelude.{◌≡◌, ◌≤◌, IfOk, length};
 
 use crate::html::print_page;
 use crate::shown::rows;
@@ -28,7 +28,8 @@ pub fn tool<R: Read + Drop, W: Write + Drop>(
     reader: R,
     writer: W,
 ) -> u8
-    ensures { result ≤ 3 }
+    ensures status { result ≤ 3 }
+    ensures usage { 2 ≤ length args.now → 2 ≤ result }
 {
     let mut reader = reader;
     let mut writer = writer;
@@ -41,22 +42,30 @@ pub fn tool<R: Read + Drop, W: Write + Drop>(
     }
 }
 
+/// Whether the words ask for a page; `None` for words that are none of the program's.
+fn page_asked(args: &[String]) -> Option<bool>
+    ensures { 2 ≤ length args.now → result ≡ None }
+{
+    match args {
+        [] => Some(false),
+        [word] if word.as_str() == "--html" => Some(true),
+        _ => None,
+    }
+}
+
 fn view<R: Read, W: Write>(
     alloc: Global,
     args: &[String],
     reader: &mut R,
     writer: &mut W,
 ) -> io::Result<u8>
-    ensures { IfOk result (λ status. status ≤ 3) }
+    ensures status { IfOk result (λ status. status ≤ 3) }
+    ensures usage { 2 ≤ length args.now → IfOk result (λ status. status ≡ 2) }
 {
-    let is_page = match args {
-        [] => false,
-        [word] if word.as_str() == "--html" => true,
-        _ => {
-            writeln!(writer, "usage: dnsview [--html]")?;
-            writer.flush()?;
-            return Ok(USAGE);
-        }
+    let Some(is_page) = page_asked(args) else {
+        writeln!(writer, "usage: dnsview [--html]")?;
+        writer.flush()?;
+        return Ok(USAGE);
     };
     let mut input = Vec::new(alloc);
     reader.read_to_end(&mut input)?;
