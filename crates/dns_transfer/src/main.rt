@@ -2,7 +2,8 @@
 //! sends over a stream stand on standard input, each behind its length in two octets (RFC 1035 section 4.2.2).
 //!
 //! It promises that each record of the answer sections is taken once, in order, up to the first that can't be read
-//! (`transfer::items`), and that the messages are those of the stream (`transfer::messages`).
+//! (`transfer::items`), and that the messages are those of the stream up to the first frame that is none
+//! (`transfer::messages`). What is printed is shown by its run alone.
 #![tactic(auto)]
 
 mod transfer;

@@ -13,7 +13,7 @@ use std::alloc::{AllocError, Global};
 /// A record, or the error of the first that can't be read.
 pub(crate) type Item<'a> = Result<ParsedRecord<'a>, ParseError>;
 
-/// The messages of a stream, and the octets behind them, which begin with no message.
+/// The messages that a stream begins with, up to the first frame that is none, and the octets from there on.
 pub(crate) fn messages<'a>(
     alloc: Global,
     stream: &'a [u8],
