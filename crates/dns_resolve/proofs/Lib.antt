@@ -1,2 +1,3 @@
+mod AcceptedLemmas
 mod FoundLemmas
 mod QueryLemmas

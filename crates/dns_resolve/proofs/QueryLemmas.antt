@@ -1,5 +1,5 @@
 -- How many octets a query has, and that it is never refused.
-use Rattle.std.proofs.Common.{◌≡◌, ℕ, ◌+◌, ◌≤◌, ◌<◌, length, length-append, arith, refl}
+use Rattle.std.proofs.Common.{◌≡◌, ◌≤◌, length, length-append, arith, refl}
 use Rattle.std.specs.Prelude.{Result, Ok, Err, IsOk}
 use Rattle.dns_name.specs.Names.{IsName}
 use Rattle.dns_name.proofs.theory.LabelsLemmas.{length-uncompressed}

@@ -2,11 +2,11 @@
 use Rattle.std.specs.Prelude.{◌≡◌, ◌≢◌, ◌⊎◌, ◌==◌, ◌&&◌, Bool, true, false, ℕ, List, [], ◌∷◌, map, filter, take, Option, Some, None, Result, Ok, Err}
 use Rattle.std.specs.List.{filter_map}
 use Rattle.std.specs.Result.{result_ok}
-use Rattle.dns_octets.specs.declared.error.ParseError.{ParseError}
 use Rattle.dns_name.specs.Names.{Fault, Labels, fault_of}
 use Rattle.dns_name.specs.NameOrders.{names_equal}
 use Rattle.dns_wire.specs.Parts.{Part}
 use Rattle.dns_wire.specs.Parts.Part.{Octets}
+use Rattle.dns_wire.specs.Pieces.{Plain}
 use Rattle.dns_code.specs.Header.{HeaderFields, fields, fields_in}
 use Rattle.dns_code.specs.declared.header.Header.{Header}
 use Rattle.dns_data.specs.A.{address_of}
@@ -17,15 +17,15 @@ use Rattle.dns_data.specs.declared.a.A.{A}
 use Rattle.dns_question.specs.Questions.{QuestionItem}
 use Rattle.dns_item.specs.Items.{RecordItem}
 use Rattle.dns_section.specs.Limited.{limited}
-use Rattle.dns_section.specs.Sections.{AnswersFault}
 use Rattle.dns_section.specs.declared.section.Section.TheVariants.{Answer}
-use Rattle.dns_read.specs.RecordSearches.{CanonicalName}
+use Rattle.dns_read.specs.OptSearches.{opt_rcode_of}
+use Rattle.dns_read.specs.RecordSearches.{CanonicalName, cname_layout}
 use Rattle.dns_read.specs.Searches.{answers_query, asked_first}
 use Rattle.dns_read.specs.SectionStarts.{records_of}
 use Rattle.dns_build.specs.MessageOf.{ReadsBack}
-use Rattle.dns_build.specs.State.{InQuestion, State, no_limit}
+use Rattle.dns_build.specs.State.{InQuestion, State, fold, no_limit}
 use Rattle.dns_resolve.specs.declared.resolving.NoAddresses.{NoAddresses}
-use Rattle.dns_resolve.specs.declared.resolving.NoAddresses.TheVariants.{OtherMessage, Failed, Truncated, NoName, Unreadable, OutOfMemory}
+use Rattle.dns_resolve.specs.declared.resolving.NoAddresses.TheVariants.{OtherMessage, Failed, Truncated, OtherType, NoName, Unreadable, OutOfMemory}
 
 -- Queries: RFC 1035 section 4.1.1.
 
@@ -57,10 +57,11 @@ asking header asked = record {
   additionals = [];
 }
 
--- the octets are a query that asks this and has nothing else
+-- the octets are a query that asks this and has nothing else, and are read back as it
 pub record IsQuery (id : ℕ) (asked : QuestionItem) (b : List ℕ) : Type 0 where
   pub header : Header
   pub fields : fields header ≡ query_fields id
+  pub octets : b ≡ (fold Plain (asking header asked)).octets
   pub reads_back : ReadsBack (asking header asked) b
 
 -- Addresses.
@@ -94,32 +95,50 @@ StopsAt reading OutOfMemory = Unit {0}
 StopsAt reading OtherMessage = ⊥
 StopsAt reading (Failed rcode) = ⊥
 StopsAt reading Truncated = ⊥
+StopsAt reading OtherType = ⊥
 StopsAt reading NoName = ⊥
 
 -- the address records of a message's answer section
 abbrev pub address_records : List ℕ → List (Result RecordItem Fault)
 address_records b = limited a_layout (records_of Answer b)
 
--- A message answers a query, whole, and the server didn't fail.
+-- the aliases of a message's answer section
+abbrev pub alias_records : List ℕ → List (Result RecordItem Fault)
+alias_records b = limited cname_layout (records_of Answer b)
+
+-- A message answers a query, whole, and its rcode is NOERROR, which is 0, also with the higher bits of an OPT record: RFC 6891 section 6.1.3.
 pub record IsAccepted (query b : List ℕ) : Type 0 where
   pub answers : answers_query b query ≡ true
-  pub no_error : (fields_in (take 4 b)).rcode ≡ 0
+  pub no_error : opt_rcode_of b ≡ 0
   pub whole : (fields_in (take 4 b)).tc ≡ false
 
--- These are the addresses that an accepted message gives to a query: those of the canonical name of what is asked for, in the class that is asked for.
+-- These are the addresses that an accepted message gives to a query for type A, which is 1: those of the canonical name of what is asked for, in the class that is asked for. All aliases can be read.
 pub record Gives (query b : List ℕ) (found : List A) : Type 0 where
   pub accepted : IsAccepted query b
   pub asked : QuestionItem
   pub asks : asked_first b ≡ Some asked
+  pub for_addresses : asked.rtype ≡ 1
+  pub aliases : first_fault (alias_records b) ≡ None
   pub name : Labels
   pub canonical : CanonicalName b (Some name)
   pub finds : Finds name asked.class (address_records b) found
 
+-- the first fault of the aliases of a message's answer section, or of its address records
+abbrev pub IsFault : List ℕ → Fault → Type 0
+IsFault b f = (first_fault (alias_records b) ≡ Some f) ⊎ (first_fault (address_records b) ≡ Some f)
+
+-- the first question of a message is for another record type than A
+pub record AsksForOther (b : List ℕ) : Type 0 where
+  pub asked : QuestionItem
+  pub asks : asked_first b ≡ Some asked
+  pub other : asked.rtype ≢ 1
+
 -- Why a message gives none.
 abbrev pub IsReason : List ℕ → List ℕ → NoAddresses → Type 0
 IsReason query b OtherMessage = answers_query b query ≡ false
-IsReason query b (Failed rcode) = (answers_query b query ≡ true) × ((fields_in (take 4 b)).rcode ≡ rcode) × (rcode ≢ 0)
-IsReason query b Truncated = (answers_query b query ≡ true) × ((fields_in (take 4 b)).rcode ≡ 0) × ((fields_in (take 4 b)).tc ≡ true)
+IsReason query b (Failed rcode) = (answers_query b query ≡ true) × (opt_rcode_of b ≡ rcode) × (rcode ≢ 0)
+IsReason query b Truncated = (answers_query b query ≡ true) × (opt_rcode_of b ≡ 0) × ((fields_in (take 4 b)).tc ≡ true)
+IsReason query b OtherType = IsAccepted query b × AsksForOther b
 IsReason query b NoName = IsAccepted query b × CanonicalName b None
-IsReason query b (Unreadable e) = IsAccepted query b × (AnswersFault b (fault_of e) ⊎ (first_fault (address_records b) ≡ Some (fault_of e)))
+IsReason query b (Unreadable e) = IsAccepted query b × IsFault b (fault_of e)
 IsReason query b OutOfMemory = IsAccepted query b

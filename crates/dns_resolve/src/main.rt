@@ -70,6 +70,7 @@ fn text_of(reason: NoAddresses) -> &'static str {
         NoAddresses::OtherMessage => "no answer to the query",
         NoAddresses::Failed(_) => "the server failed",
         NoAddresses::Truncated => "cut short",
+        NoAddresses::OtherType => "no query for addresses",
         NoAddresses::NoName => "no canonical name",
         NoAddresses::Unreadable(_) => "unreadable",
         NoAddresses::OutOfMemory => "out of memory",

@@ -1,16 +1,18 @@
 //! Queries for addresses, and the addresses in what is received (RFC 1034 sections 3.6.2 and 5.3.1).
-ghost use Rattle.std.specs.Prelude.{◌≡◌, ◌≤◌, IfOk, IfErr, MatchResult, length};
+ghost use Rattle.std.specs.Prelude.{◌≡◌, ◌≤◌, IfOk, IfErr, MatchResult, None, Some, length};
+ghost use Rattle.dns_name.specs.Names.{fault_of};
 ghost use Rattle.dns_name.specs.ParsedName.{labels};
 ghost use Rattle.dns_code.specs.Header.{fields};
 ghost use Rattle.dns_read.specs.Message.{message_octets};
 ghost use Rattle.dns_section.specs.Limited.{limited};
 ghost use Rattle.dns_section.specs.RecordSection.{records_left};
-ghost use Rattle.dns_resolve.specs.Resolving.{query_fields, IsQuery, a_layout, Gives, IsReason, Finds, StopsAt};
+ghost use Rattle.dns_read.specs.RecordSearches.{cname_layout};
+ghost use Rattle.dns_resolve.specs.Resolving.{query_fields, IsQuery, a_layout, first_fault, Gives, IsReason, Finds, StopsAt};
 
 use arrayvec::ArrayVec;
 use dns_message::builder::MessageBuilder;
-use dns_message::code::{Class, Rcode, Rtype};
-use dns_message::data::A;
+use dns_message::code::{Class, OptRcode, Rcode, Rtype};
+use dns_message::data::{A, Cname};
 use dns_message::header::Header;
 use dns_message::message::{Message, RecordSection};
 use dns_message::name::{ParsedName, ToName};
@@ -26,12 +28,14 @@ pub enum NoAddresses {
     /// It is no answer to the query.
     OtherMessage,
     /// The server says that it failed, and how.
-    Failed(Rcode),
+    Failed(OptRcode),
     /// The message was cut short. The query is to be sent again over a stream (RFC 7766 section 5).
     Truncated,
+    /// The first question is for another record type than A.
+    OtherType,
     /// Nothing is asked for, or twenty aliases follow one another.
     NoName,
-    /// It can't be read.
+    /// A record of its answer section can't be read, or the data of an alias or an address.
     Unreadable(ParseError),
     /// Memory is refused.
     OutOfMemory,
@@ -74,11 +78,12 @@ fn query_header(id: u16) -> Header
     header
 }
 
-/// The addresses that a message gives to a query: those of the name that the question's name is an alias of, or its own, in
-/// the question's class, in the order of the answer section.
+/// The addresses that a message gives to a query for type A: those of the name that the first question's name is an alias
+/// of, or its own, in that question's class, in the order of the answer section.
 ///
-/// A message that is no whole answer of a server that didn't fail gives none, nor does one whose answer section has a record
-/// that can't be read, or an address that isn't four octets, whosever it is.
+/// A message that is no whole answer with the rcode NOERROR gives none. The higher bits of the rcode are those of the OPT
+/// record, if one can be read. Nor does a message give any whose answer section has a record that can't be read, or the data
+/// of an alias or of an address that can't be, whosever it is.
 pub fn addresses<Asked: Octets, Received: Octets>(
     alloc: Global,
     query: &Message<Asked>,
@@ -92,21 +97,38 @@ pub fn addresses<Asked: Octets, Received: Octets>(
     if !received.is_answer(query) {
         return Err(NoAddresses::OtherMessage);
     }
-    let header = received.header();
-    if header.rcode() != Rcode::NOERROR {
-        return Err(NoAddresses::Failed(header.rcode()));
+    let rcode = received.opt_rcode();
+    if rcode != OptRcode::from(Rcode::NOERROR) {
+        return Err(NoAddresses::Failed(rcode));
     }
+    let header = received.header();
     if header.tc() {
         return Err(NoAddresses::Truncated);
     }
-    let answers = received.answer()?;
     let Some(question) = received.first_question() else {
         return Err(NoAddresses::NoName);
     };
+    if question.qtype() != Rtype::A {
+        return Err(NoAddresses::OtherType);
+    }
+    let answers = received.answer()?;
+    check_aliases(answers)?;
     let Some(name) = received.canonical_name() else {
         return Err(NoAddresses::NoName);
     };
     found_addresses(alloc, answers, &name, question.qclass())
+}
+
+/// Reads the aliases among these records.
+fn check_aliases(answers: RecordSection<'_>) -> Result<(), ParseError>
+    ensures { let reading = limited cname_layout (records_left answers.entry) in
+        MatchResult result (λ _. first_fault reading ≡ None)
+        (λ e. first_fault reading ≡ Some (fault_of e)) }
+{
+    for item in answers.limit_to::<Cname<ParsedName<'_>>>() {
+        item?;
+    }
+    Ok(())
 }
 
 /// The addresses of a name in a class among these records.
