@@ -1,49 +1,43 @@
 #!/usr/bin/env bash
-# Compares crates/dns_c/dns.h with what the crate exports: each call and each struct by its C types, and the calls of the
-# archive by name. It prints what differs, and fails then. The crate has to be built.
+# Compares crates/dns_c/dns.h with the crate: each call and each struct by its C types and the names of its parameters and
+# fields, the numbers of what is wrong, and the calls of the archive by name. It prints what differs, and fails then. The
+# crate has to be built.
 set -eu
 here=$(cd "$(dirname "$0")" && pwd)
 crate=$here/../../crates/dns_c
 folder=$(mktemp -d)
 trap 'rm -rf "$folder"' EXIT
 
-# the types of Rust as those of C, without the names of parameters and fields
-rust_types() {
-  sed -E "s/alloc: Global,//; s/[a-z_]+: //g
-    s/&('a )?\[u8\]/const uint8_t *, size_t/g; s/&mut \[u8\]/uint8_t *, size_t/g
-    s/&\[u8; 4\]/const uint8_t */g; s/\[u16; 4\]/uint16_t[4]/g; s/&\[NewItem<'_>\]/const dns_new_item *, size_t/g
-    s/&mut usize/size_t */g; s/&mut Header/dns_header */g; s/&mut Cursor/dns_cursor */g
-    s/&mut Item/dns_item */g; s/&Item/const dns_item */g
-    s/\bu8\b/uint8_t/g; s/\bu16\b/uint16_t/g; s/\bu32\b/uint32_t/g; s/\busize\b/size_t/g"
+# parameters and fields of Rust as C declares them; a slice is a pointer and a length
+rust_as_c() {
+  sed -E "s/\balloc: Global,//; s/'a //g
+    s/([a-z_]+): &\[u8\]/const uint8_t *\1, size_t \1_len/g; s/([a-z_]+): &mut \[u8\]/uint8_t *\1, size_t \1_len/g
+    s/([a-z_]+): &\[u8; 4\]/const uint8_t \1[4]/g; s/([a-z_]+): \[u16; 4\]/uint16_t \1[4]/g
+    s/([a-z_]+): &\[NewItem<'_>\]/const dns_new_item *\1, size_t \1_len/g; s/([a-z_]+): &mut usize/size_t *\1/g
+    s/([a-z_]+): &mut (Header|Cursor|Item)\b/dns_\L\2\E *\1/g; s/([a-z_]+): &Item\b/const dns_item *\1/g
+    s/([a-z_]+): (u8|u16|u32)\b/\2 \1/g; s/\bu(8|16|32) /uint\1_t /g
+    s/([a-z_]+): usize\b/size_t \1/g; s/([a-z_]+): bool\b/bool \1/g
+    s/\b[rq]type\b/type/g; s/\bq?class\b/class_/g; s/\brdata/data/g"
 }
 
-# the types of dns.h without names; texts are octets
-c_types() {
-  sed -E 's/\bchar\b/uint8_t/g; s/\baddress\[4\]/*/; s/\*[a-z_]+/*/g
-    s/\b(uint8_t|uint16_t|uint32_t|size_t|bool) [a-z_]+(\[4\])?/\1\2/g'
-}
-
-# one space between words, none behind the last type
+# one space between words, none at the ends; texts are octets
 plain() {
-  sed -E 's/\s+/ /g; s/,? ?\)/)/; s/\( /(/; s/ $//; s/,$//' | sort
+  sed -E 's/\bchar\b/uint8_t/g; s/\s+/ /g; s/,? ?\)/)/; s/\( /(/; s/^ //; s/,? ?$//'
 }
 
 tr '\n' ' ' <"$crate/src/lib.rt" | grep -oE 'extern "C" fn [a-z_]+\([^)]*\) -> u8' |
-  sed -E 's/extern "C" fn ([a-z_]+)/uint8_t \1/; s/ -> u8$//' | rust_types | plain >"$folder/exports"
-tr '\n' ' ' <"$crate/dns.h" | grep -oE 'uint8_t dns_[a-z_]+\([^)]*\)' |
-  sed -E 's/^uint8_t (dns_[a-z_]+)\((.*)\)$/\1 \2/' | while read -r name types; do
-    echo "uint8_t $name($(echo "$types" | c_types))"
-  done | plain >"$folder/prototypes"
+  sed -E 's/extern "C" fn ([a-z_]+)/uint8_t \1/; s/ -> u8$//' | rust_as_c | plain | sort >"$folder/exports"
+tr '\n' ' ' <"$crate/dns.h" | grep -oE 'uint8_t dns_[a-z_]+\([^)]*\)' | plain | sort >"$folder/prototypes"
 diff "$folder/exports" "$folder/prototypes"
 
-# the types of a struct's fields, of Rust and of C
+# the fields of a struct, of Rust and of C
 rust_fields() {
-  sed -n "/^pub struct $2\b/,/^}/p" "$crate/src/$1" | grep -oE 'pub [a-z_]+: .*,' | sed 's/^pub //' | rust_types | tr '\n' ' '
+  sed -n "/^pub struct $2\b/,/^}/p" "$crate/src/$1" | grep -oE 'pub [a-z_]+: .*,' | sed 's/^pub //; s/,$//' | rust_as_c |
+    sed 's/, /\n/' | plain
 }
 
 c_fields() {
-  sed -n "/^typedef struct $1 /,/^}/p" "$crate/dns.h" | grep -oE '^    [^;]+;' | tr -d ';' | c_types |
-    sed -E 's/^ +//; s/$/,/' | tr '\n' ' '
+  sed -n "/^typedef struct $1 /,/^}/p" "$crate/dns.h" | grep -oE '^    [^;]+;' | tr -d ';' | plain
 }
 
 compare_struct() {
@@ -55,10 +49,21 @@ compare_struct walk.rt Cursor dns_cursor
 compare_struct walk.rt Item dns_item
 compare_struct build.rt NewItem dns_new_item
 
+# the numbers of number_of and code_of, and those of the first enum
+{
+  echo 'DNS_OK 0'
+  echo 'DNS_END 1'
+  sed -nE 's/^number_of faults\.([A-Za-z]+) = ([0-9]+)$/\1 \2/p' "$crate/specs/Codes.antt" |
+    sed -E 's/([a-z])([A-Z])/\1_\2/g; s/^/DNS_/; s/.*/\U&/'
+} >"$folder/numbers"
+grep -qx 'code_of (Ok true) = 0' "$crate/specs/Codes.antt" && grep -qx 'code_of (Ok false) = 1' "$crate/specs/Codes.antt"
+sed -n '/^enum {$/,/^};$/p' "$crate/dns.h" | sed -E 's/ *\/\*.*\*\///; s/^ +//; s/,$//' | grep -vx 'enum {\|};' |
+  awk '{ print $0, n++ }' | diff "$folder/numbers" -
+
 # what the archive defines, and what edge.c calls
-nm --defined-only "$crate/out/libdns_c.a" 2>/dev/null | sed -nE 's/.* T (dns_[a-z_]+)$/\1/p' | sort >"$folder/defined"
 sed -E 's/^uint8_t ([a-z_]+)\(.*/\1/' "$folder/prototypes" | sort >"$folder/declared"
-diff "$folder/defined" "$folder/declared"
 while read -r name; do
   grep -q "\b$name(" "$here/edge.c" || { echo "edge.c calls no $name"; exit 1; }
 done <"$folder/declared"
+nm --defined-only "$crate/out/libdns_c.a" 2>/dev/null | sed -nE 's/.* T (dns_[a-z_]+)$/\1/p' | sort >"$folder/defined"
+diff "$folder/defined" "$folder/declared"

@@ -31,7 +31,7 @@ use Rattle.dns_read.specs.SectionStarts.{found, records_of}
 use Rattle.dns_section.proofs.theory.SectionLemmas.{starts_behind}
 use Rattle.dns_read.proofs.theory.SectionStartLemmas.{start_found, no_answers, no_authorities, no_additionals, no_reading}
 use Rattle.dns_question.specs.BehindNames.FieldsFaultAt.{name as in_name}
-use Rattle.dns_c.specs.Steps.{left_from, IsHeader, IsOpen, Opens, AnswersQuestion, AnswersRecord, AnswersEntry, Tells}
+use Rattle.dns_c.specs.Steps.{left_from, IsHeader, IsOpen, Opens, AnswersQuestion, AnswersRecord, AnswersEntry, Spans, Tells}
 use Rattle.dns_c.specs.declared.walk.Cursor.{Cursor}
 use Rattle.dns_c.specs.declared.walk.Header.{Header}
 use Rattle.dns_c.specs.declared.walk.Item.{Item}
@@ -176,6 +176,18 @@ pub answered_within : (b : List ℕ) (cursor : Cursor) (r : Result (Item × ℕ)
 answered_within b cursor (Ok found) h = told_within b found.0 h.0 h.1
 answered_within b cursor (Err e) h = tt
 
+-- It begins at the cursor, and is of the cursor's section.
+
+pub placed_question : (b : List ℕ) (cursor : Cursor) (r : Result (Item × ℕ) ParseError) → cursor.section ≡ 0 → AnswersQuestion b cursor.place r
+    → IfOk r (λ found. Spans found.0 cursor.place found.1) → IfOk r (λ found. Spans found.0 cursor.place found.1 × (found.0.section ≡ cursor.section))
+placed_question b cursor (Ok found) first h spans = (spans, h.2.section ∙ sym first)
+placed_question b cursor (Err e) first h spans = tt
+
+pub placed_record : (b : List ℕ) (cursor : Cursor) (r : Result (Item × ℕ) ParseError) → AnswersRecord b cursor.section cursor.place r
+    → IfOk r (λ found. Spans found.0 cursor.place found.1) → IfOk r (λ found. Spans found.0 cursor.place found.1 × (found.0.section ≡ cursor.section))
+placed_record b cursor (Ok found) h spans = (spans, h.3)
+placed_record b cursor (Err e) h spans = tt
+
 -- A cursor that moved past empty sections.
 
 pub at_the_end : (b m : List ℕ) (old new : Cursor) → m ≡ b → left_from m new ≡ left_from m old → new.section ≤ 3 → (new.left ≡ 0 → new.section ≡ 3) → new.status ≡ old.status → new.left ≡ 0
@@ -280,5 +292,8 @@ pub opened : (b m : List ℕ) (header : Header) (n : ℕ) → m ≡ b → IsHead
 opened b m header n same fields counted long = record {
   fields = subst (λ k. IsHeader k header) same fields;
   is_open = record { long = long; section = omega arith; status = refl };
+  section = refl;
+  place = refl;
+  left = counted ∙ ap question_count same;
   walk = ap (λ k. left_at b 0 k 12) (counted ∙ ap question_count same) ∙ begun b;
 }

@@ -35,10 +35,13 @@ pub record IsHeader (b : List ℕ) (header : Header) : Type 0 where
   pub opcode : header.opcode ≡ (fields_in (take 4 b)).opcode
   pub rcode : header.rcode ≡ (fields_in (take 4 b)).rcode
 
--- what a call of `dns_open` gives: the header, and a cursor that has the whole walk left
+-- what a call of `dns_open` gives: the header, and a cursor before the first question, that has the whole walk left
 pub record Opens (b : List ℕ) (header : Header) (cursor : Cursor) : Type 0 where
   pub fields : IsHeader b header
   pub is_open : IsOpen b cursor
+  pub section : cursor.section ≡ 0
+  pub place : cursor.place ≡ header_size
+  pub left : cursor.left ≡ question_count b
   pub walk : left_from b cursor ≡ walk_of b
 
 -- the item that C is given is this question
@@ -65,6 +68,11 @@ pub record TellsRecord (b : List ℕ) (item : Item) (x : RecordEntry) : Type 0 w
 abbrev pub Tells : List ℕ → Item → Entry → Type 0
 Tells b item (Asked x) = TellsQuestion b item x
 Tells b item (Stated which x) = TellsRecord b item x × (1 ≤ item.section) × (item.section ≤ 3) × (section_at item.section ≡ which)
+
+-- an item begins at the first place, and its data ends at the second; that of a question is empty, and stands behind its class
+pub record Spans (item : Item) (p q : ℕ) : Type 0 where
+  pub start : item.place ≡ p
+  pub end : item.«data» + item.data_len ≡ q
 
 -- What reading at a cursor answers, where one more entry is to come: the first that is left and the place behind it, or the fault that is left.
 abbrev pub AnswersEntry : List ℕ → Cursor → Result (Item × ℕ) ParseError → Type 0

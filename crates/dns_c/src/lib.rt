@@ -19,7 +19,7 @@ ghost use Rattle.dns_number.specs.Types.{type_text};
 ghost use Rattle.dns_c.specs.Built.{IsBuilt, IsUnbuilt};
 ghost use Rattle.dns_c.specs.Codes.{number_of};
 ghost use Rattle.dns_c.specs.Made.{AsksNothing, IsLonger, IsQuery, IsResponse, LacksName, SpellsNoName};
-ghost use Rattle.dns_c.specs.Steps.{IsOpen, Opens, GivesNext};
+ghost use Rattle.dns_c.specs.Steps.{IsOpen, Opens, Spans, GivesNext};
 
 use build::NewItem;
 use code::Fault;
@@ -32,7 +32,8 @@ use walk::{Cursor, Header, Item};
 pub extern "C" fn dns_open(message: &[u8], header: &mut Header, cursor: &mut Cursor) -> u8
     ensures opens { header_size ≤ length message.now → (result ≡ 0)
         × Opens message.now header.new cursor.new }
-    ensures short { length message.now < header_size → (result ≡ 2) × (cursor.new.status ≡ 2) }
+    ensures short { length message.now < header_size → (result ≡ number_of Fault.ShortInput)
+        × (cursor.new.status ≡ result) × (header.new ≡ header.old) }
 {
     walk::open(message, header, cursor)
 }
@@ -43,12 +44,15 @@ pub extern "C" fn dns_next(message: &[u8], cursor: &mut Cursor, item: &mut Item)
     ensures gives { IsOpen message.now cursor.old
         → GivesNext message.now cursor.old cursor.new item.new result }
     ensures within { result ≡ 0 → item.new.«data» + item.new.data_len ≤ length message.now }
+    ensures place { result ≡ 0 → Spans item.new cursor.old.place cursor.new.place
+        × (item.new.section ≡ cursor.new.section) }
     ensures kept { cursor.old.status ≢ 0 → (result ≡ cursor.old.status)
         × (cursor.new ≡ cursor.old) }
     ensures no_section { cursor.old.status ≡ 0 → 3 < cursor.old.section
-        → result ≡ number_of Fault.BadSection }
+        → (result ≡ number_of Fault.BadSection) × (cursor.new ≡ cursor.old) }
     ensures short { cursor.old.status ≡ 0 → cursor.old.section ≤ 3
-        → length message.now < header_size → result ≡ number_of Fault.ShortInput }
+        → length message.now < header_size
+        → (result ≡ number_of Fault.ShortInput) × (cursor.new ≡ cursor.old) }
     ensures no_item { result ≢ 0 → item.new ≡ item.old }
 {
     if cursor.status != 0 {
@@ -61,6 +65,7 @@ pub extern "C" fn dns_next(message: &[u8], cursor: &mut Cursor, item: &mut Item)
 #[unsafe(no_mangle)]
 pub extern "C" fn dns_name_text(message: &[u8], place: usize, out: &mut [u8], len: &mut usize) -> u8
     ensures length { length out.new ≡ length out.old }
+    ensures within { result ≡ 0 → len.new < length out.new }
     ensures empty { result ≢ 0 → len.new ≡ 0 }
     ensures text { result ≡ 0 → (name : Labels) × Stands message.now place name
         × (take (len.new + 1) out.new ≡ name_text name ++ 46 ∷ 0 ∷ []) }
@@ -82,6 +87,7 @@ pub extern "C" fn dns_name_octets(
     len: &mut usize,
 ) -> u8
     ensures length { length out.new ≡ length out.old }
+    ensures within { len.new ≤ length out.new }
     ensures empty { result ≢ 0 → len.new ≡ 0 }
     ensures name { result ≡ 0 → (name : Labels) × Stands message.now place name
         × (take len.new out.new ≡ uncompressed name) }
@@ -102,6 +108,8 @@ pub extern "C" fn dns_data_text(message: &[u8], item: &Item, out: &mut [u8], len
     ensures length { length out.new ≡ length out.old }
     ensures empty { result ≢ 0 → len.new ≡ 0 }
     ensures ended { result ≡ 0 → (len.new < length out.new) × (get_or out.new len.new 1 ≡ 0) }
+    ensures question { item.now.section ≡ 0 → result ≡ number_of Fault.BadSection }
+    ensures told { result ≢ 0 → (fault : Fault) × (result ≡ number_of fault) }
 {
     let mut sink = Sink::new(out);
     let answer = text::data(message, item, &mut sink);
@@ -111,13 +119,14 @@ pub extern "C" fn dns_data_text(message: &[u8], item: &Item, out: &mut [u8], len
 
 /// Writes the name of a record type, and a zero octet.
 #[unsafe(no_mangle)]
-pub extern "C" fn dns_type_text(number: u16, out: &mut [u8], len: &mut usize) -> u8
+pub extern "C" fn dns_type_text(rtype: u16, out: &mut [u8], len: &mut usize) -> u8
     ensures length { length out.new ≡ length out.old }
+    ensures within { result ≡ 0 → len.new < length out.new }
     ensures empty { result ≢ 0 → len.new ≡ 0 }
-    ensures text { result ≡ 0 → take (len.new + 1) out.new ≡ type_text number ++ 0 ∷ [] }
+    ensures text { result ≡ 0 → take (len.new + 1) out.new ≡ type_text rtype ++ 0 ∷ [] }
     ensures no_room { result ≢ 0 → result ≡ number_of Fault.NoRoom }
 {
-    match text::rtype(number) {
+    match text::rtype(rtype) {
         Ok(text) => make::hand_out_text(text.as_str().as_bytes(), out, len),
         Err(fault) => make::refuse(fault, len),
     }
@@ -125,13 +134,14 @@ pub extern "C" fn dns_type_text(number: u16, out: &mut [u8], len: &mut usize) ->
 
 /// Writes the name of a class, and a zero octet.
 #[unsafe(no_mangle)]
-pub extern "C" fn dns_class_text(number: u16, out: &mut [u8], len: &mut usize) -> u8
+pub extern "C" fn dns_class_text(class: u16, out: &mut [u8], len: &mut usize) -> u8
     ensures length { length out.new ≡ length out.old }
+    ensures within { result ≡ 0 → len.new < length out.new }
     ensures empty { result ≢ 0 → len.new ≡ 0 }
-    ensures text { result ≡ 0 → take (len.new + 1) out.new ≡ class_text number ++ 0 ∷ [] }
+    ensures text { result ≡ 0 → take (len.new + 1) out.new ≡ class_text class ++ 0 ∷ [] }
     ensures no_room { result ≢ 0 → result ≡ number_of Fault.NoRoom }
 {
-    match text::class(number) {
+    match text::class(class) {
         Ok(text) => make::hand_out_text(text.as_str().as_bytes(), out, len),
         Err(fault) => make::refuse(fault, len),
     }
@@ -149,11 +159,13 @@ pub extern "C" fn dns_query(
     len: &mut usize,
 ) -> u8
     ensures length { length out.new ≡ length out.old }
+    ensures within { len.new ≤ length out.new }
     ensures empty { result ≢ 0 → len.new ≡ 0 }
     ensures query { result ≡ 0
         → IsQuery id recursion name.now qtype qclass (take len.new out.new) }
     ensures no_room { result ≡ number_of Fault.NoRoom
         → IsLonger (IsQuery id recursion name.now qtype qclass) (length out.old) }
+    ensures short { result ≡ number_of Fault.NoRoom → length out.old < 512 }
     ensures no_name { result ≢ 0 → result ≢ number_of Fault.NoRoom
         → (result ≡ number_of Fault.BadText) × SpellsNoName name.now }
 {
@@ -174,11 +186,13 @@ pub extern "C" fn dns_respond_a(
     len: &mut usize,
 ) -> u8
     ensures length { length out.new ≡ length out.old }
+    ensures within { len.new ≤ length out.new }
     ensures empty { result ≢ 0 → len.new ≡ 0 }
     ensures response { result ≡ 0
         → IsResponse query.now authoritative ttl address.now (take len.new out.new) }
     ensures no_room { result ≡ number_of Fault.NoRoom
         → IsLonger (IsResponse query.now authoritative ttl address.now) (length out.old) }
+    ensures short { result ≡ number_of Fault.NoRoom → length out.old < 512 }
     ensures no_question { result ≢ 0 → result ≢ number_of Fault.NoRoom
         → AsksNothing query.now result }
 {
@@ -199,6 +213,7 @@ pub extern "C" fn dns_build(
     len: &mut usize,
 ) -> u8
     ensures length { length out.new ≡ length out.old }
+    ensures within { len.new ≤ length out.new }
     ensures empty { result ≢ 0 → len.new ≡ 0 }
     ensures built { result ≡ 0 → IsBuilt id flags items.now (take len.new out.new) }
     ensures no_room { result ≡ number_of Fault.NoRoom

@@ -1,5 +1,5 @@
 //! Texts written into a caller's buffer.
-ghost use Rattle.std.specs.Prelude.{◌≡◌, ◌≢◌, ◌<◌, ◌++◌, ◌∷◌, [], length, get_or, IfOk, IfErr};
+ghost use Rattle.std.specs.Prelude.{◌≡◌, ◌≢◌, ◌<◌, ◌++◌, ◌∷◌, [], length, get_or, Err, IfOk, IfErr};
 ghost use Rattle.dns_name.specs.Names.{Labels, Stands};
 ghost use Rattle.dns_name.specs.NameTexts.{name_text};
 ghost use Rattle.dns_name.specs.ParsedName.{labels};
@@ -72,8 +72,13 @@ pub(crate) fn name(octets: &[u8], place: usize) -> Result<ArrayString<1004>, Fau
     Ok(spelled(name)?)
 }
 
-/// The data of a record.
-pub(crate) fn data(octets: &[u8], item: &Item, sink: &mut Sink<'_>) -> Result<(), Fault> {
+/// The data of a record. A question has none.
+pub(crate) fn data(octets: &[u8], item: &Item, sink: &mut Sink<'_>) -> Result<(), Fault>
+    ensures { item.now.section ≡ 0 → result ≡ Err Fault.BadSection }
+{
+    if item.section == 0 {
+        return Err(Fault::BadSection);
+    }
     let mut parser = Parser::new(octets);
     parser.seek(item.place)?;
     let found = ParsedRecord::parse(&mut parser)?;
@@ -107,6 +112,8 @@ pub(crate) fn close(
     ensures length { length out.new ≡ length out.old }
     ensures empty { result ≢ 0 → len.new ≡ 0 }
     ensures text { result ≡ 0 → (len.new < length out.new) × (get_or out.new len.new 1 ≡ 0) }
+    ensures fault { IfErr answer (λ fault. result ≡ number_of fault) }
+    ensures told { result ≢ 0 → (fault : Fault) × (result ≡ number_of fault) }
 {
     *len = 0;
     if let Err(fault) = answer {

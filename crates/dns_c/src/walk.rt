@@ -10,7 +10,7 @@ ghost use Rattle.dns_item.specs.Items.{RecordFaultAt};
 ghost use Rattle.dns_read.specs.Message.{message_octets};
 ghost use Rattle.dns_c.specs.Codes.{number_of};
 ghost use Rattle.dns_c.specs.Made.{LacksName};
-ghost use Rattle.dns_c.specs.Steps.{left_from, IsHeader, IsOpen, Opens, AnswersQuestion, AnswersRecord, AnswersEntry, Steps};
+ghost use Rattle.dns_c.specs.Steps.{left_from, IsHeader, IsOpen, Opens, Spans, AnswersQuestion, AnswersRecord, AnswersEntry, Steps};
 ghost use Rattle.dns_c.specs.Walk.{count_at};
 
 use crate::code;
@@ -100,7 +100,8 @@ fn header_of(message: &Message<&[u8]>) -> Header
 pub(crate) fn open(octets: &[u8], header: &mut Header, cursor: &mut Cursor) -> u8
     ensures opens { header_size ≤ length octets.now → (result ≡ 0)
         × Opens octets.now header.new cursor.new }
-    ensures short { length octets.now < header_size → (result ≡ 2) × (cursor.new.status ≡ 2) }
+    ensures short { length octets.now < header_size → (result ≡ number_of Fault.ShortInput)
+        × (cursor.new.status ≡ result) × (header.new ≡ header.old) }
 {
     let Ok(message) = Message::from_slice(octets) else {
         let status = code::of_fault(Fault::ShortInput);
@@ -130,6 +131,7 @@ fn settle(message: &Message<&[u8]>, cursor: &mut Cursor)
     ensures section { cursor.new.section ≤ 3 }
     ensures last { cursor.new.left ≡ 0 → cursor.new.section ≡ 3 }
     ensures status { cursor.new.status ≡ cursor.old.status }
+    ensures place { cursor.new.place ≡ cursor.old.place }
 {
     while cursor.left == 0 && cursor.section < 3 {
         cursor.section += 1;
@@ -153,7 +155,8 @@ pub(crate) fn parser_at(octets: &[u8], place: usize) -> Result<Parser<'_>, Parse
 
 /// The question at a place, and the place behind it.
 fn read_question(octets: &[u8], place: usize) -> Result<(Item, usize), ParseError>
-    ensures { AnswersQuestion octets.now place result }
+    ensures answers { AnswersQuestion octets.now place result }
+    ensures spans { IfOk result (λ found. Spans found.0 place found.1) }
 {
     let mut parser = parser_at(octets, place)?;
     let question = Question::parse(&mut parser)?;
@@ -171,7 +174,8 @@ fn read_question(octets: &[u8], place: usize) -> Result<(Item, usize), ParseErro
 
 /// The record at a place, which is of this section, and the place behind it.
 fn read_record(octets: &[u8], section: u8, place: usize) -> Result<(Item, usize), ParseError>
-    ensures { AnswersRecord octets.now section place result }
+    ensures answers { AnswersRecord octets.now section place result }
+    ensures spans { IfOk result (λ found. Spans found.0 place found.1) }
 {
     let mut parser = parser_at(octets, place)?;
     let header = RecordHeader::parse_and_skip(&mut parser)?;
@@ -192,6 +196,8 @@ fn read(octets: &[u8], cursor: &Cursor) -> Result<(Item, usize), ParseError>
     requires { cursor.now.section ≤ 3 }
     ensures entry { AnswersEntry octets.now cursor.now result }
     ensures within { IfOk result (λ found. found.0.«data» + found.0.data_len ≤ length octets.now) }
+    ensures place { IfOk result (λ found. Spans found.0 cursor.now.place found.1
+        × (found.0.section ≡ cursor.now.section)) }
 {
     if cursor.section == 0 {
         read_question(octets, cursor.place)
@@ -206,9 +212,13 @@ pub(crate) fn next(octets: &[u8], cursor: &mut Cursor, item: &mut Item) -> Resul
         → Steps octets.now cursor.old cursor.new item.new result }
     ensures within { IfOk result (λ given. given ≡ true
         → item.new.«data» + item.new.data_len ≤ length octets.now) }
-    ensures no_section { 3 < cursor.old.section → result ≡ Err Fault.BadSection }
+    ensures place { IfOk result (λ given. given ≡ true
+        → Spans item.new cursor.old.place cursor.new.place
+        × (item.new.section ≡ cursor.new.section)) }
+    ensures no_section { 3 < cursor.old.section → (result ≡ Err Fault.BadSection)
+        × (cursor.new ≡ cursor.old) }
     ensures short { cursor.old.section ≤ 3 → length octets.now < header_size
-        → result ≡ Err Fault.ShortInput }
+        → (result ≡ Err Fault.ShortInput) × (cursor.new ≡ cursor.old) }
     ensures no_item { result ≢ Ok true → item.new ≡ item.old }
 {
     if cursor.section > 3 {

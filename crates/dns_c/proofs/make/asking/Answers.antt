@@ -1,4 +1,4 @@
-use Rattle.std.proofs.Common.{ap, refl, arith}
+use Rattle.std.proofs.Common.{◌≤◌, ℕ, List, length, ap, refl, subst, sym, arith}
 use Rattle.std.specs.Prelude.{Err}
 use Rattle.dns_name.proofs.theory.AnswerLaws.{standing_name}
 use Rattle.dns_wire.specs.Pieces.{Plain}
@@ -19,4 +19,6 @@ returns c =
     let first = c.set_header.ensures _ c.in_ok-builder.ensures.fresh in
     let second = c.question-builder.ensures _ first in
     let stands = c.in_ok-push.ensures.accepted _ second in
-    is_message Plain _ c.finish.result.items stands.state (ap (λ (w : Written). w.octets) (c.finish.ensures.fold _ stands))
+    let folded = ap (λ (w : Written). w.octets) (c.finish.ensures.fold _ stands) in
+    let size = asked_short Plain c.args.header _ first.state.header (standing_name c.args.name.whole.0.1) in
+    (is_message Plain _ c.finish.result.items stands.state folded, subst (λ (octets : List ℕ). length octets ≤ 512) (sym folded) size)

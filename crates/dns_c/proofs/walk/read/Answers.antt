@@ -1,13 +1,21 @@
-use Rattle.dns_c.proofs.WalkLemmas.{positive, entry_of_question, entry_of_record, answered_within}
+use Rattle.dns_c.proofs.WalkLemmas.{positive, entry_of_question, entry_of_record, answered_within, placed_question, placed_record}
 use Rattle.dns_c.proofs.walk.read.Goals as goal
 
 pub returns-then-cursor-eq0 : goal.returns-then-cursor-eq0
 returns-then-cursor-eq0 c =
-    let entry = entry_of_question c.args.octets.now c.args.cursor.now c.read_question.result c.if-cursor-eq0.true c.read_question.ensures in
-    record { entry = entry; within = answered_within c.args.octets.now c.args.cursor.now c.read_question.result entry }
+    let entry = entry_of_question c.args.octets.now c.args.cursor.now c.read_question.result c.if-cursor-eq0.true c.read_question.ensures.answers in
+    record {
+      entry = entry;
+      within = answered_within c.args.octets.now c.args.cursor.now c.read_question.result entry;
+      place = placed_question c.args.octets.now c.args.cursor.now c.read_question.result c.if-cursor-eq0.true c.read_question.ensures.answers c.read_question.ensures.spans;
+    }
 
 pub returns-else-cursor-eq0 : goal.returns-else-cursor-eq0
 returns-else-cursor-eq0 c =
     let at = positive c.args.cursor.now.section c.if-cursor-eq0.false in
-    let entry = entry_of_record c.args.octets.now c.args.cursor.now c.read_record.result at.0 at.1 c.requires c.read_record.ensures in
-    record { entry = entry; within = answered_within c.args.octets.now c.args.cursor.now c.read_record.result entry }
+    let entry = entry_of_record c.args.octets.now c.args.cursor.now c.read_record.result at.0 at.1 c.requires c.read_record.ensures.answers in
+    record {
+      entry = entry;
+      within = answered_within c.args.octets.now c.args.cursor.now c.read_record.result entry;
+      place = placed_record c.args.octets.now c.args.cursor.now c.read_record.result c.read_record.ensures.answers c.read_record.ensures.spans;
+    }

@@ -12,4 +12,5 @@ loop-cursor-preserved c =
           ∙ c.loop-cursor.invariant.same;
       section = omega arith;
       status = c.loop-cursor.invariant.status;
+      place = c.loop-cursor.invariant.place;
     }

@@ -8,6 +8,7 @@ invariant-loop-cursor l = record {
   same : left_from (message_octets l.message) l.cursor ≡ left_from (message_octets l.fn.message) l.fn.cursor;
   section : l.cursor.section ≤ 3;
   status : l.cursor.status ≡ l.fn.cursor.status;
+  place : l.cursor.place ≡ l.fn.cursor.place;
 }
 
 abbrev pub decreases-loop-cursor : goal.decreases-loop-cursor
