@@ -299,12 +299,7 @@ fn marks_a_label_with_which_a_name_is_too_long(rt: HostRuntime) -> Result<(), Fa
 fn assert_long(rt: &impl Abort, alloc: Global) -> Result<(), Fail> {
     let mut octets = Vec::new(alloc);
     octets.extend_from_slice(&[0, 0, 0, 0, 0, 1, 0, 0, 0, 0, 0, 0])?;
-    for len in [63, 63, 63, 60, 1] {
-        octets.push(len)?;
-        for _ in 0..len {
-            octets.push(b'x')?;
-        }
-    }
+    push_labels(&mut octets, &[63, 63, 63, 60, 1])?;
     octets.extend_from_slice(&[0, 0, 1, 0, 1])?;
     let printed = printed(alloc, &octets)?;
     let place = 12 + 3 * 64 + 61;
@@ -320,5 +315,44 @@ fn assert_long(rt: &impl Abort, alloc: Global) -> Result<(), Fail> {
     let unread = format!(in alloc; "{place:>6}  01 78 00 00 01 00 01     unread, 7 octets")?;
     assert_eq!(rt; lines.next(), Some(unread.as_str()));
     assert_eq!(rt; lines.next(), None);
+    Ok(())
+}
+
+/// Behind three labels the name where the pointer leads, of 67 octets, makes one of 259 (RFC 1035 section 2.3.4).
+#[test]
+fn marks_a_pointer_with_which_a_name_is_too_long(rt: HostRuntime) -> Result<(), Fail> {
+    assert_long_pointer(&rt, rt.alloc())
+}
+
+fn assert_long_pointer(rt: &impl Abort, alloc: Global) -> Result<(), Fail> {
+    let mut octets = Vec::new(alloc);
+    octets.extend_from_slice(&[0, 0, 0, 0, 0, 2, 0, 0, 0, 0, 0, 0])?;
+    push_labels(&mut octets, &[63, 1])?;
+    octets.extend_from_slice(&[0, 0, 1, 0, 1])?;
+    push_labels(&mut octets, &[63, 63, 63])?;
+    octets.extend_from_slice(&[0xc0, 12, 0, 1, 0, 1])?;
+    let printed = printed(alloc, &octets)?;
+    let place = 12 + 66 + 5 + 3 * 64;
+    let fault = format!(in alloc;
+        "{place:>6}                           FAULT: pointer to 12, with which the name has"
+    )?;
+    let unread = format!(in alloc; "{place:>6}  c0 0c 00 01 00 01        unread, 6 octets")?;
+    let behind = "                                 more than 255 octets";
+    let mut lines = printed.lines().skip_while(|line| !line.contains("FAULT"));
+    assert_eq!(rt; lines.next(), Some(fault.as_str()));
+    assert_eq!(rt; lines.next(), Some(behind));
+    assert_eq!(rt; lines.next(), Some(unread.as_str()));
+    assert_eq!(rt; lines.next(), None);
+    Ok(())
+}
+
+/// Puts labels of these lengths behind octets.
+fn push_labels(octets: &mut Vec<u8>, lens: &[u8]) -> Result<(), Fail> {
+    for len in lens {
+        octets.push(*len)?;
+        for _ in 0..*len {
+            octets.push(b'x')?;
+        }
+    }
     Ok(())
 }
