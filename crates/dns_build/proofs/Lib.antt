@@ -1,12 +1,11 @@
-pub mod Messages
-pub mod Folds
-pub mod Sections
-pub mod FoldReading
-pub mod Moves
-pub mod Steps
-pub mod OptLemmas
-pub mod OptReading
-pub mod AnswerLemmas
-pub mod CopyLemmas
-pub mod CopySections
-pub mod KeptLemmas
+pub mod theory
+mod Messages
+mod Sections
+mod Moves
+mod Steps
+mod OptLemmas
+mod OptReading
+mod AnswerLemmas
+mod CopyLemmas
+mod CopySections
+mod KeptLemmas

@@ -8,7 +8,7 @@ use Rattle.dns_wire.specs.Targets.{Fits, Passes}
 use Rattle.dns_opt.specs.OptHeader.{ttl_in}
 use Rattle.dns_opt.specs.Options.{OptionItem, AreOptions, put_options}
 use Rattle.dns_opt.specs.OptionsOf.{options_of}
-use Rattle.dns_opt.proofs.OptionsLemmas.{options_of-holds}
+use Rattle.dns_opt.proofs.theory.OptionsLemmas.{options_of-holds}
 use Rattle.dns_opt_builder.specs.Gathered.{Gathered, IsGathered, gathered, option_octets}
 use Rattle.dns_opt_builder.specs.declared.builder.OptBuilder.{OptBuilder}
 use Rattle.dns_item.specs.Items.{RecordItem}

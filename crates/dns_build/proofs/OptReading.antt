@@ -14,7 +14,7 @@ use Rattle.dns_code.proofs.theory.HeaderLemmas.{rcode_changed}
 use Rattle.dns_opt.specs.OptHeader.{OptFields, ttl_in, fields_in as opt_fields_in}
 use Rattle.dns_opt.specs.Options.{OptionItem, put_options}
 use Rattle.dns_opt.specs.OptionsOf.{options_of}
-use Rattle.dns_opt.proofs.OptionsLemmas.{options_of-is}
+use Rattle.dns_opt.proofs.theory.OptionsLemmas.{options_of-is}
 use Rattle.dns_opt_builder.specs.Gathered.{Gathered, IsGathered}
 use Rattle.dns_data.specs.Opt.{is_opt_data, opt_layout}
 use Rattle.dns_data.specs.RecordData.{only}

@@ -12,7 +12,7 @@ use Rattle.dns_build.specs.Standing.{count_at, counted, emptied_from}
 use Rattle.dns_section.specs.declared.section.Section.{Section}
 use Rattle.dns_section.specs.declared.section.Section.TheVariants.{Answer, Authority, Additional}
 use Rattle.dns_build.specs.State.{fold, stage_of, Stage, InBuilder, InQuestion, InAnswer, InAuthority, State, Every, with_question, with_record, records_at, up_to}
-use Rattle.dns_build.proofs.Folds.{pieces, message, sections_of, fold-message, sections_grow, between, every_map, count-message, size-more, message-more, message-less}
+use Rattle.dns_build.proofs.theory.Folds.{pieces, message, sections_of, fold-message, sections_grow, between, every_map, count-message, size-more, message-more, message-less}
 
 -- the section of questions, or one of records
 pub data Kind : Type 0 where

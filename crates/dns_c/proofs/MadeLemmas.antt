@@ -17,7 +17,7 @@ use Rattle.dns_build.specs.State.{State, IsState, fold, no_limit, most_entries}
 use Rattle.dns_build.specs.MessageOf.{IsMessageOf}
 use Rattle.dns_build.specs.declared.push_error.PushError.{PushError}
 use Rattle.dns_build.specs.declared.push_error.PushError.TheVariants as pushing
-use Rattle.dns_build.proofs.FoldReading.{folds_are_messages}
+use Rattle.dns_build.proofs.theory.FoldReading.{folds_are_messages}
 use Rattle.dns_c.specs.Made.{asking, answering, address_record}
 
 -- The octets of a builder's message.

@@ -1,5 +1,5 @@
 pub mod theory
-pub mod SectionLemmas
-pub mod FlagsLemmas
-pub mod TokensLemmas
-pub mod OctetsLemmas
+mod SectionLemmas
+mod FlagsLemmas
+mod TokensLemmas
+mod OctetsLemmas

@@ -1,5 +1,5 @@
 pub mod theory
-pub mod ComposedParts
-pub mod WrittenLengths
-pub mod SoaNumbers
-pub mod PrintedData
+mod ComposedParts
+mod WrittenLengths
+mod SoaNumbers
+mod PrintedData

@@ -1,4 +1,4 @@
 pub mod theory
-pub mod RecordReadingLemmas
-pub mod RecordLemmas
-pub mod PrintedRecords
+mod RecordReadingLemmas
+mod RecordLemmas
+mod PrintedRecords

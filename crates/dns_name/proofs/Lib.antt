@@ -1,10 +1,10 @@
 pub mod theory
-pub mod ParserLemmas
-pub mod NameOrderLemmas
-pub mod Orders
-pub mod RootOrders
-pub mod NameTextLemmas
-pub mod OctetTexts
-pub mod NameTextReading
-pub mod PrintedNames
-pub mod FlatNames
+mod ParserLemmas
+mod NameOrderLemmas
+mod Orders
+mod RootOrders
+mod NameTextLemmas
+mod OctetTexts
+mod NameTextReading
+mod PrintedNames
+mod FlatNames

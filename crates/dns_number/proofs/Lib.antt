@@ -1,3 +1,3 @@
 pub mod theory
-pub mod TableLemmas
-pub mod TextLemmas
+mod TableLemmas
+mod TextLemmas

@@ -1,1 +1,1 @@
-pub mod OptionsLemmas
+pub mod theory

@@ -1,2 +1,2 @@
-pub mod OptionListLemmas
-pub mod OptBuilderLemmas
+pub mod theory
+mod OptionListLemmas

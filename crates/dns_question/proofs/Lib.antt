@@ -1,5 +1,5 @@
 pub mod theory
-pub mod QuestionLemmas
-pub mod WordLemmas
-pub mod QuestionTextLemmas
-pub mod SpelledNumbers
+mod QuestionLemmas
+mod WordLemmas
+mod QuestionTextLemmas
+mod SpelledNumbers

@@ -1,6 +1,6 @@
-pub mod HeaderLemmas
+mod HeaderLemmas
 pub mod theory
-pub mod MessageIterLemmas
-pub mod RecordSearchLemmas
-pub mod NthNameLemmas
-pub mod ReadingItems
+mod MessageIterLemmas
+mod RecordSearchLemmas
+mod NthNameLemmas
+mod ReadingItems

@@ -1,4 +1,4 @@
 pub mod theory
-pub mod CursorLemmas
-pub mod SkipLemmas
-pub mod LimitedLemmas
+mod CursorLemmas
+mod SkipLemmas
+mod LimitedLemmas

@@ -1,5 +1,5 @@
 pub mod theory
-pub mod Lines
-pub mod ShownHeader
-pub mod ShownRecords
-pub mod TypedText
+mod Lines
+mod ShownHeader
+mod ShownRecords
+mod TypedText

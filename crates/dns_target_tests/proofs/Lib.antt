@@ -1,1 +1,1 @@
-pub mod CutAway
+mod CutAway

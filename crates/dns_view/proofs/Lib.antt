@@ -1,1 +1,1 @@
-pub mod Tilings
+mod Tilings

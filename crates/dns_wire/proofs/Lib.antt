@@ -1,3 +1,3 @@
 pub mod theory
-pub mod Choices
-pub mod SharedSuffixes
+mod Choices
+mod SharedSuffixes

@@ -1,4 +1,4 @@
-use Rattle.dns_build.proofs.FoldReading as folds
+use Rattle.dns_build.proofs.theory.FoldReading as folds
 use Rattle.dns_build.proofs.laws.folds_are_messages.Goals as goal
 
 pub returns : goal.returns

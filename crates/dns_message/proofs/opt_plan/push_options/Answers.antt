@@ -5,7 +5,7 @@ use Rattle.std.specs.Prelude.{map, Ok, Err}
 use Rattle.dns_opt.specs.OptData.{option_of}
 use Rattle.dns_opt_builder.specs.Additions.{Adds}
 use Rattle.dns_opt_builder.specs.Gathered.{gathered}
-use Rattle.dns_opt_builder.proofs.OptBuilderLemmas.{one_added, none_left}
+use Rattle.dns_opt_builder.proofs.theory.OptBuilderLemmas.{one_added, none_left}
 use Rattle.dns_message.specs.OptPlans.{gathered_size, AddsAll}
 use Rattle.dns_message.proofs.PlannedOpts.{added_first, refused_first}
 use Rattle.dns_message.proofs.opt_plan.push_options.Goals as goal

@@ -2,7 +2,7 @@ use Rattle.std.proofs.Common.{◌≡◌, drop}
 use Rattle.std.specs.Prelude.{map}
 use Rattle.dns_opt.specs.OptData.{option_of}
 use Rattle.dns_opt_builder.specs.Gathered.{gathered}
-use Rattle.dns_opt_builder.proofs.OptBuilderLemmas.{with_left}
+use Rattle.dns_opt_builder.proofs.theory.OptBuilderLemmas.{with_left}
 use Rattle.dns_message.specs.OptPlans.{gathered_size, AddsAll}
 use Rattle.dns_message.proofs.opt_plan.push_options.Given as goal
 

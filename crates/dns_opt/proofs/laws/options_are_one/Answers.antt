@@ -1,4 +1,4 @@
-use Rattle.dns_opt.proofs.OptionsLemmas.{options_of-is, options_of-holds}
+use Rattle.dns_opt.proofs.theory.OptionsLemmas.{options_of-is, options_of-holds}
 use Rattle.dns_opt.proofs.laws.options_are_one.Goals as goal
 
 pub returns : goal.returns

@@ -1,5 +1,5 @@
 use Rattle.dns_opt.specs.Options.{put_options}
-use Rattle.dns_opt.proofs.OptionsLemmas.{options_of-is, options_put}
+use Rattle.dns_opt.proofs.theory.OptionsLemmas.{options_of-is, options_put}
 use Rattle.dns_opt.proofs.laws.options_read_back.Goals as goal
 
 pub returns : goal.returns

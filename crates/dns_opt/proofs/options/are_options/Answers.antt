@@ -1,5 +1,5 @@
 use Rattle.std.proofs.Common.{◌∙◌, sym}
-use Rattle.dns_opt.proofs.OptionsLemmas.{told_behind}
+use Rattle.dns_opt.proofs.theory.OptionsLemmas.{told_behind}
 use Rattle.dns_opt.proofs.options.are_options.Goals as goal
 
 pub loop-left-preserved : goal.loop-left-preserved

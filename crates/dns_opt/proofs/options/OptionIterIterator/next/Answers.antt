@@ -1,5 +1,5 @@
 use Rattle.std.proofs.Common.{ap, length, arith, rules}
-use Rattle.dns_opt.proofs.OptionsLemmas.{given_first}
+use Rattle.dns_opt.proofs.theory.OptionsLemmas.{given_first}
 use Rattle.dns_opt.proofs.options.OptionIterIterator.next.Goals as goal
 
 pub invariant_of-self : goal.invariant_of-self

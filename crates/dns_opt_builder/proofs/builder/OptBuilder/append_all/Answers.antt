@@ -4,7 +4,7 @@ use Rattle.dns_opt.specs.OptionIter.{options_left}
 use Rattle.dns_opt.specs.Options.{put_options}
 use Rattle.dns_opt.specs.declared.options.OptionIter.{OptionIter}
 use Rattle.dns_opt_builder.specs.Gathered.{Gathered}
-use Rattle.dns_opt_builder.proofs.OptBuilderLemmas.{with_left, one_added, none_left, too_many}
+use Rattle.dns_opt_builder.proofs.theory.OptBuilderLemmas.{with_left, one_added, none_left, too_many}
 use Rattle.dns_opt_builder.proofs.builder.OptBuilder.append_all.Goals as goal
 
 pub loop-code-init : goal.loop-code-init

@@ -1,6 +1,6 @@
 use Rattle.std.proofs.Common.{◌≡◌}
 use Rattle.dns_opt.specs.OptionIter.{options_left}
-use Rattle.dns_opt_builder.proofs.OptBuilderLemmas.{with_left}
+use Rattle.dns_opt_builder.proofs.theory.OptBuilderLemmas.{with_left}
 use Rattle.dns_opt_builder.proofs.builder.OptBuilder.append_all.Given as goal
 
 abbrev pub invariant-loop-code : goal.invariant-loop-code

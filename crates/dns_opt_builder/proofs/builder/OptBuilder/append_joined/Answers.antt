@@ -1,4 +1,4 @@
-use Rattle.dns_opt_builder.proofs.OptBuilderLemmas.{kept, adds}
+use Rattle.dns_opt_builder.proofs.theory.OptBuilderLemmas.{kept, adds}
 use Rattle.dns_opt_builder.proofs.builder.OptBuilder.append_joined.Goals as goal
 
 pub invariant_of-self : goal.invariant_of-self

@@ -2,10 +2,10 @@ use Rattle.std.proofs.Common.{◌∙◌, ap, List, length, Err, ◌++◌, arith}
 use Rattle.std.proofs.lemmas.Result.{err_from_is_err_and}
 use Rattle.dns_opt.specs.Options.{OptionItem, put_options}
 use Rattle.dns_opt.specs.OptionIter.{options_left}
-use Rattle.dns_opt.proofs.OptionsLemmas.{options_length}
+use Rattle.dns_opt.proofs.theory.OptionsLemmas.{options_length}
 use Rattle.dns_data.specs.Opt.{opt_octets}
 use Rattle.dns_opt_builder.specs.Gathered.{Gathered}
-use Rattle.dns_opt_builder.proofs.OptBuilderLemmas.{of_memory}
+use Rattle.dns_opt_builder.proofs.theory.OptBuilderLemmas.{of_memory}
 use Rattle.dns_opt_builder.proofs.builder.OptBuilder.clone_from.Goals as goal
 
 pub returns-in_err-append_all-clause-memory : goal.returns-in_err-append_all-clause-memory

@@ -3,8 +3,8 @@ use Rattle.std.specs.Option.{option_map_or}
 use Rattle.std.specs.Prelude.{Option, is_some}
 use Rattle.dns_opt.specs.Options.{OptionItem, put_options}
 use Rattle.dns_opt.specs.OptionsOf.{options_of}
-use Rattle.dns_opt.proofs.OptionsLemmas.{options_of-nil}
-use Rattle.dns_opt_builder.proofs.OptBuilderLemmas.{nothing_yet}
+use Rattle.dns_opt.proofs.theory.OptionsLemmas.{options_of-nil}
+use Rattle.dns_opt_builder.proofs.theory.OptBuilderLemmas.{nothing_yet}
 use Rattle.dns_opt_builder.proofs.builder.OptBuilder.new.Goals as goal
 
 pub invariant_of-result : goal.invariant_of-result

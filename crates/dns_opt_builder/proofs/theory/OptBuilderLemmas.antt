@@ -10,7 +10,7 @@ use Rattle.dns_octets.specs.declared.error.AppendError.TheVariants.{ShortBuf, Ou
 use Rattle.dns_opt.specs.Options.{OptionItem, put_option, put_options}
 use Rattle.dns_opt.specs.OptionsOf.{options_of, are_options, options_in}
 use Rattle.dns_opt.specs.OptHeader.{fields_in}
-use Rattle.dns_opt.proofs.OptionsLemmas.{one_more, options_of-nil}
+use Rattle.dns_opt.proofs.theory.OptionsLemmas.{one_more, options_of-nil}
 use Rattle.dns_opt_builder.specs.declared.builder.OptBuilder.{OptBuilder}
 use Rattle.dns_opt_builder.specs.OptionLists.{AppendsOption}
 use Rattle.dns_opt_builder.specs.Gathered.{Gathered, gathered, nothing_gathered, option_octets}

@@ -1,0 +1,3 @@
+-- Lemmas that crates above cite: a change here is one for them too.
+pub mod Folds
+pub mod FoldReading

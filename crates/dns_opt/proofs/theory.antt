@@ -1,0 +1,2 @@
+-- Lemmas that crates above cite: a change here is one for them too.
+pub mod OptionsLemmas
