@@ -1,10 +1,8 @@
-//! Tests of targets: names and octets appended and cut away, beside a plain list of suffixes, with answers from outside.
+//! Tests of targets: names and octets appended and cut away, with answers from outside.
 //!
 //! Nothing is exported.
 #![tactic(auto)]
 
-#[cfg(test)]
-mod compressor_model;
 #[cfg(test)]
 mod compressors;
 #[cfg(test)]
