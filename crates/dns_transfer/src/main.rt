@@ -9,65 +9,49 @@
 mod transfer;
 
 use crate::transfer::{items, messages};
-use dns_message::code::Rtype;
-use dns_message::data::{A, Cname, Ns, ParseRecordData, Soa, UnknownRecordData};
+use dns_message::data::{A, Cname, Ns, Soa, UnknownRecordData};
 use dns_message::name::ParsedName;
 use dns_message::record::ParsedRecord;
 use std::alloc::Global;
-use std::fmt::Display;
 use std::io;
 use std::io::{BufWriter, Read, Write};
 
-/// Prints a record, with its data by its fields where it has data of a type that has them.
+/// Prints a record, with its data by its fields if it has data of one of these types that can be read, else as octets.
 fn print_record<W: Write>(writer: &mut W, record: &ParsedRecord<'_>) -> io::Result<()> {
-    match record.rtype() {
-        Rtype::A => print_with::<A, W>(writer, record),
-        Rtype::NS => print_with::<Ns<ParsedName<'_>>, W>(writer, record),
-        Rtype::CNAME => print_with::<Cname<ParsedName<'_>>, W>(writer, record),
-        Rtype::SOA => print_with::<Soa<ParsedName<'_>>, W>(writer, record),
-        _ => print_opaque(writer, record),
+    if let Ok(Some(record)) = record.to_record::<A>() {
+        writeln!(writer, "{record}")
+    } else if let Ok(Some(record)) = record.to_record::<Ns<ParsedName<'_>>>() {
+        writeln!(writer, "{record}")
+    } else if let Ok(Some(record)) = record.to_record::<Cname<ParsedName<'_>>>() {
+        writeln!(writer, "{record}")
+    } else if let Ok(Some(record)) = record.to_record::<Soa<ParsedName<'_>>>() {
+        writeln!(writer, "{record}")
+    } else if let Ok(record) = record.to_any_record::<UnknownRecordData<&[u8]>>() {
+        writeln!(writer, "{record}")
+    } else {
+        writeln!(writer, "unreadable data")
     }
 }
 
-/// Prints a record with its data by its fields if they can be read, else as octets.
-fn print_with<'a, D: ParseRecordData<'a> + Display + Drop, W: Write>(
-    writer: &mut W,
-    record: &ParsedRecord<'a>,
-) -> io::Result<()> {
-    match record.to_record::<D>() {
-        Ok(Some(record)) => writeln!(writer, "{record}"),
-        Ok(None) | Err(_) => print_opaque(writer, record),
-    }
-}
-
-/// Prints a record with its data as octets.
-fn print_opaque<W: Write>(writer: &mut W, record: &ParsedRecord<'_>) -> io::Result<()> {
-    match record.to_any_record::<UnknownRecordData<&[u8]>>() {
-        Ok(record) => writeln!(writer, "{record}"),
-        Err(_) => writeln!(writer, "unreadable data"),
-    }
-}
-
-fn run<R: Read, W: Write>(alloc: Global, reader: &mut R, writer: &mut W) -> io::Result<()> {
-    let mut stream = Vec::new(alloc);
-    reader.read_to_end(&mut stream)?;
-    let (messages, rest) = messages(alloc, &stream)?;
+/// Prints the records that the messages of a stream transfer, and why they end early if they do.
+fn print_transfer<W: Write>(alloc: Global, stream: &[u8], writer: &mut W) -> io::Result<()> {
+    let (messages, rest) = messages(alloc, stream)?;
     for item in items(alloc, &messages)? {
-        match item {
-            Ok(record) => print_record(writer, &record)?,
-            Err(_) => {
-                writeln!(writer, "unreadable record")?;
-                return writer.flush();
-            }
-        }
+        let Ok(record) = item else {
+            return writeln!(writer, "unreadable record");
+        };
+        print_record(writer, &record)?;
     }
     if !rest.is_empty() {
         writeln!(writer, "unreadable message")?;
     }
-    writer.flush()
+    Ok(())
 }
 
 fn main(rt: HostRuntime) -> io::Result<()> {
+    let mut stream = Vec::new(rt.alloc());
+    rt.stdin().read_to_end(&mut stream)?;
     let mut writer = BufWriter::new(rt.alloc(), rt.stdout())?;
-    run(rt.alloc(), &mut rt.stdin(), &mut writer)
+    print_transfer(rt.alloc(), &stream, &mut writer)?;
+    writer.flush()
 }
