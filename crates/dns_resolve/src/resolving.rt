@@ -2,12 +2,11 @@
 ghost use Rattle.std.specs.Prelude.{◌≡◌, ◌≤◌, IfOk, IfErr, MatchResult, None, Some, length};
 ghost use Rattle.dns_name.specs.Names.{fault_of};
 ghost use Rattle.dns_name.specs.ParsedName.{labels};
-ghost use Rattle.dns_code.specs.Header.{fields};
 ghost use Rattle.dns_read.specs.Message.{message_octets};
 ghost use Rattle.dns_section.specs.Limited.{limited};
 ghost use Rattle.dns_section.specs.RecordSection.{records_left};
 ghost use Rattle.dns_read.specs.RecordSearches.{cname_layout};
-ghost use Rattle.dns_resolve.specs.Resolving.{query_fields, IsQuery, a_layout, first_fault, Gives, IsReason, Finds, StopsAt};
+ghost use Rattle.dns_resolve.specs.Resolving.{IsQuery, a_layout, first_fault, Gives, IsReason, Finds, StopsAt};
 
 use arrayvec::ArrayVec;
 use dns_message::builder::MessageBuilder;
@@ -18,26 +17,31 @@ use dns_message::message::{Message, RecordSection};
 use dns_message::name::{ParsedName, ToName};
 use dns_message::wire::{Octets, ParseError};
 use std::alloc::Global;
-
-/// A query: 512 octets are enough for every one (RFC 1035 section 4.2.1).
-pub type Query = Message<ArrayVec<u8, 512>>;
+use thiserror::Error;
 
 /// Why a message gives no addresses.
-#[derive(Clone, Copy, Debug)]
+#[derive(Clone, Copy, Debug, Error)]
 pub enum NoAddresses {
     /// It is no answer to the query.
+    #[error("no answer to the query")]
     OtherMessage,
     /// The server says that it failed, and how.
+    #[error("the server failed")]
     Failed(OptRcode),
     /// The message was cut short. The query is to be sent again over a stream (RFC 7766 section 5).
+    #[error("cut short")]
     Truncated,
     /// The first question is for another record type than A.
+    #[error("no query for addresses")]
     OtherType,
     /// Nothing is asked for, or twenty aliases follow one another.
+    #[error("no canonical name")]
     NoName,
     /// A record of its answer section can't be read, or the data of an alias or an address.
+    #[error("unreadable: {0}")]
     Unreadable(ParseError),
     /// Memory is refused.
+    #[error("out of memory")]
     OutOfMemory,
 }
 
@@ -52,30 +56,23 @@ impl From<ParseError> for NoAddresses {
     }
 }
 
-/// The query with an ID for the records of a name and a type in class IN. It asks a server to follow aliases itself.
-pub fn query<N: ToName>(id: u16, name: &N, rtype: Rtype) -> Query
+/// The query with an ID for the records of a name and a type in class IN. It asks a server to follow aliases itself. 512
+/// octets are enough for every one (RFC 1035 section 4.2.1).
+pub fn query<N: ToName>(id: u16, name: &N, rtype: Rtype) -> Message<ArrayVec<u8, 512>>
     ensures asks { IsQuery id (record { name = N.name name.now; rtype = rtype; class = 1 })
         (message_octets result) }
     ensures size { length (message_octets result) ≤ 512 }
 {
-    let mut builder = MessageBuilder::from_target(ArrayVec::new())
-        .unwrap()
-        .question();
-    builder.set_header(query_header(id));
-    // By the contract of this call, what stands for a name is one.
-    let _ = name.as_parsed();
-    builder.push((name, rtype)).unwrap();
-    builder.into_message()
-}
-
-/// The header of a query with an ID: RD is set, and nothing else.
-fn query_header(id: u16) -> Header
-    ensures { fields result ≡ query_fields id }
-{
     let mut header = Header::new();
     header.set_id(id);
     header.set_rd(true);
-    header
+    let mut builder = MessageBuilder::from_target(ArrayVec::new()).unwrap();
+    builder.set_header(header);
+    let mut questions = builder.question();
+    // By the contract of this call, what stands for a name is one.
+    let _ = name.as_parsed();
+    questions.push((name, rtype)).unwrap();
+    questions.into_message()
 }
 
 /// The addresses that a message gives to a query for type A: those of the name that the first question's name is an alias
@@ -101,8 +98,7 @@ pub fn addresses<Asked: Octets, Received: Octets>(
     if rcode != OptRcode::from(Rcode::NOERROR) {
         return Err(NoAddresses::Failed(rcode));
     }
-    let header = received.header();
-    if header.tc() {
+    if received.header().tc() {
         return Err(NoAddresses::Truncated);
     }
     let Some(question) = received.first_question() else {
@@ -147,9 +143,8 @@ fn found_addresses(
     for item in answers.limit_to::<A>() {
         let record = item?;
         if record.owner() == name && record.class() == class {
-            found
-                .push(record.into_data())
-                .map_err(|_| NoAddresses::OutOfMemory)?;
+            let address = record.into_data();
+            found.push(address).map_err(|_| NoAddresses::OutOfMemory)?;
         }
     }
     Ok(found)

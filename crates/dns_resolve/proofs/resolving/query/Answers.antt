@@ -7,12 +7,12 @@ use Rattle.dns_resolve.specs.Resolving.{asking}
 use Rattle.dns_resolve.proofs.QueryLemmas.{accepted, query_size}
 use Rattle.dns_resolve.proofs.resolving.query.Goals as goal
 
-pub unwrap-requires-2 : goal.unwrap-requires-2
-unwrap-requires-2 g c =
-    let header = c.query_header.result in
+pub unwrap-requires : goal.unwrap-requires
+unwrap-requires g c =
+    let header = c.set_rd.new.self in
     let asked : QuestionItem = record { name = g.N.ToName.name c.args.name.now; rtype = c.args.rtype; class = 1 } in
-    let first : StandsFor InBuilder Plain fresh c.unwrap.result = search rules in
-    let stands = c.set_header.ensures _ (c.question-builder.ensures _ first) in
+    let first : StandsFor InBuilder Plain fresh c.unwrap-builder.result = search rules in
+    let stands = c.question-questions.ensures _ (c.set_header.ensures _ first) in
     let few = query_size header asked stands.state.header c.as_parsed.ensures.is_name in
     let e = c.push.ensures in
     accepted c.push.result
