@@ -4,17 +4,15 @@
 #![tactic(auto)]
 
 #[cfg(test)]
-mod hostile;
+mod aliases;
 #[cfg(test)]
 mod iterators;
 #[cfg(test)]
 mod messages;
 #[cfg(test)]
-mod opt_searches;
+mod questions;
 #[cfg(test)]
-mod record_searches;
+mod records;
 #[cfg(test)]
 mod searches;
 mod section_order;
-#[cfg(test)]
-mod sections;

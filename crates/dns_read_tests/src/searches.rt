@@ -1,104 +1,137 @@
-//! What is looked for in messages: their questions, and the last additional record.
-use arrayvec::ArrayVec;
+//! What is looked for in messages: their questions, their OPT record, and records of a type.
 use dns_code::Rtype;
+use dns_data::{A, Ns};
 use dns_read::Message;
-use dns_wire::{FormError, ParseError};
+use dns_wire::{FormError, ParseError, ParsedName, ToName};
 use std::process::Abort;
 use std::test::Fail;
 
-/// A message with this QDCOUNT, over these octets behind the header section.
-fn with_questions(count: u8, questions: &[u8]) -> Result<Message<ArrayVec<u8, 64>>, Fail> {
-    with_id(0, 0, count, questions)
-}
+/// Messages, and the type that their sole question asks for.
+const SOLE: &[(&str, &[u8], Result<u16, ParseError>)] = &[
+    (
+        "none",
+        b"\x00\x00\x00\x00\x00\x00\x00\x00\x00\x00\x00\x00",
+        Err(ParseError::Form(FormError::NO_QUESTION)),
+    ),
+    (
+        "two",
+        b"\x00\x00\x00\x00\x00\x02\x00\x00\x00\x00\x00\x00\x00\x00\x01\x00\x01\x00\x00\x01\x00\x01",
+        Err(ParseError::Form(FormError::MULTIPLE_QUESTIONS)),
+    ),
+    (
+        "one",
+        b"\x00\x00\x00\x00\x00\x01\x00\x00\x00\x00\x00\x00\x00\x00\x1C\x00\x01",
+        Ok(28),
+    ),
+];
 
-/// A question for the root in the class IN asks for a zone transfer or doesn't, by its type.
-fn assert_transfer(rt: &impl Abort, rtype: u8, expected: bool) -> Result<(), Fail> {
-    let message = with_questions(1, &[0, 0, rtype, 0, 1])?;
-    assert_eq!(rt; message.qtype(), Some(Rtype::from_int(u16::from(rtype))));
-    assert_eq!(rt; message.is_xfr(), expected);
-    Ok(())
+/// The type that the sole question of a message asks for.
+fn sole_type(message: &Message<&[u8]>) -> Result<u16, ParseError> {
+    match message.sole_question() {
+        Ok(question) => Ok(question.qtype().to_int()),
+        Err(error) => Err(error),
+    }
 }
 
 #[test]
-fn knows_a_zone_transfer(rt: HostRuntime) -> Result<(), Fail> {
-    assert_transfer(&rt, 251, true)?;
-    assert_transfer(&rt, 252, true)?;
-    assert_transfer(&rt, 250, false)?;
-    assert_transfer(&rt, 253, false)?;
-    assert!(rt; !with_questions(0, b"")?.is_xfr());
+fn has_a_sole_question(rt: HostRuntime) -> Result<(), Fail> {
+    for &(row, octets, expected) in SOLE {
+        assert!(rt;
+            sole_type(&Message::from_slice(octets)?) == expected,
+            "{row}"
+        );
+    }
     Ok(())
 }
 
 #[test]
 fn has_a_first_question(rt: HostRuntime) -> Result<(), Fail> {
-    let message = with_questions(2, b"\x01a\x00\x00\x01\x00\x03\x00\x00\x02\x00\x01")?;
-    let Some(question) = message.first_question() else {
-        panic!(rt; "no question");
-    };
+    // AXFR of a. in the class CH
+    let octets =
+        b"\x00\x00\x00\x00\x00\x02\x00\x00\x00\x00\x00\x00\x01a\x00\x00\xFC\x00\x03\x00\x00\x02\x00\x01";
+    let message = Message::from_slice(octets)?;
+    let question = message.first_question().ok_or("no question")?;
     assert_eq!(rt; question.qname().compose_len(), 3);
-    assert_eq!(rt; question.qtype().to_int(), 1);
-    assert_eq!(rt; question.qclass().to_int(), 3);
-    assert!(rt;
-        with_questions(0, b"\x00\x00\x01\x00\x01")?
-            .first_question()
-            .is_none()
+    assert_eq!(rt;
+        (question.qtype().to_int(), question.qclass().to_int()),
+        (252, 3)
     );
-    assert!(rt;
-        with_questions(1, b"\xC0\x0C\x00\x01\x00\x01")?
-            .first_question()
-            .is_none()
-    );
-    assert_eq!(rt; with_questions(1, b"\x00\x00\x01")?.qtype(), None);
+    assert!(rt; message.qtype() == Some(Rtype::AXFR) && message.is_xfr());
     Ok(())
 }
 
-#[test]
-fn has_a_sole_question(rt: HostRuntime) -> Result<(), Fail> {
-    let none = with_questions(0, b"")?;
-    let no_question = ParseError::Form(FormError::NO_QUESTION);
-    assert_eq!(rt; none.sole_question().err(), Some(no_question));
-    let two = with_questions(2, b"\x00\x00\x01\x00\x01\x00\x00\x01\x00\x01")?;
-    let multiple_questions = ParseError::Form(FormError::MULTIPLE_QUESTIONS);
-    assert_eq!(rt; two.sole_question().err(), Some(multiple_questions));
-    let one = with_questions(1, b"\x00\x00\x1C\x00\x01")?;
-    assert_eq!(rt; one.sole_question()?.qtype().to_int(), 28);
-    let short = with_questions(1, b"\x00\x00\x1C")?;
-    assert_eq!(rt; short.sole_question().err(), Some(ParseError::ShortInput));
-    Ok(())
-}
+/// A response of the ID 7 whose question points to its own place.
+const BROKEN: &[u8; 18] =
+    b"\x00\x07\x80\x00\x00\x01\x00\x00\x00\x00\x00\x00\xC0\x0C\x00\x01\x00\x01";
 
-/// A header with this ID, and QR where it is a response, over QDCOUNT and these octets.
-fn with_id(
-    id: u8,
-    response: u8,
-    count: u8,
-    questions: &[u8],
-) -> Result<Message<ArrayVec<u8, 64>>, Fail> {
-    let mut octets = ArrayVec::new();
-    octets.try_extend_from_slice(&[0, id, response, 0, 0, count, 0, 0, 0, 0, 0, 0])?;
-    octets.try_extend_from_slice(questions)?;
-    Ok(Message::from_octets(octets)?)
+/// Whether octets are an answer to a query.
+fn answers(octets: &[u8], query: &[u8]) -> Result<bool, Fail> {
+    let message = Message::from_slice(octets)?;
+    Ok(message.is_answer(&Message::from_slice(query)?))
 }
 
 #[test]
 fn knows_an_answer(rt: HostRuntime) -> Result<(), Fail> {
-    let query = with_id(7, 0, 1, b"\x01a\x00\x00\x01\x00\x01")?;
-    assert!(rt; with_id(7, 0x80, 1, b"\x01A\x00\x00\x01\x00\x01")?.is_answer(&query));
-    assert!(rt; !with_id(7, 0, 1, b"\x01A\x00\x00\x01\x00\x01")?.is_answer(&query));
-    assert!(rt; !with_id(8, 0x80, 1, b"\x01A\x00\x00\x01\x00\x01")?.is_answer(&query));
-    assert!(rt; !with_id(7, 0x80, 1, b"\x01b\x00\x00\x01\x00\x01")?.is_answer(&query));
-    assert!(rt; !with_id(7, 0x80, 1, b"\x01a\x00\x00\x02\x00\x01")?.is_answer(&query));
-    assert!(rt; !with_id(7, 0x80, 1, b"\x01a\x00\x00\x01\x00\x03")?.is_answer(&query));
-    assert!(rt; !with_id(7, 0x80, 0, b"")?.is_answer(&query));
+    let query = b"\x00\x07\x00\x00\x00\x01\x00\x00\x00\x00\x00\x00\x01a\x00\x00\x01\x00\x01";
+    let answer = b"\x00\x07\x80\x00\x00\x01\x00\x00\x00\x00\x00\x00\x01A\x00\x00\x01\x00\x01";
+    assert!(rt; answers(answer, query)?);
+    assert!(rt; !answers(query, query)?);
+    assert!(rt; !answers(BROKEN, BROKEN)?);
     Ok(())
 }
 
+/// Messages, and the UDP payload size and the rcode that their OPT record tells.
+const OPTS: &[(&str, &[u8], Option<u16>, u16)] = &[
+    (
+        "OPT found",
+        b"\x00\x00\x00\x00\x00\x00\x00\x00\x00\x00\x00\x01\x00\x00\x29\x10\x00\x01\x00\x00\x00\x00\x00",
+        Some(4096),
+        16,
+    ),
+    (
+        "data of one octet, which is no option",
+        b"\x00\x00\x00\x00\x00\x00\x00\x00\x00\x00\x00\x01\x00\x00\x29\x10\x00\x01\x00\x00\x00\x00\x01\x00",
+        None,
+        0,
+    ),
+    (
+        "behind a record of another type",
+        b"\x00\x00\x80\x05\x00\x00\x00\x00\x00\x00\x00\x02\x00\x00\x01\x00\x01\x00\x00\x00\x00\x00\x00\x00\x00\x29\x04\xD0\x02\x00\x00\x00\x00\x00",
+        Some(1232),
+        37,
+    ),
+];
+
+/// Whether the OPT record of a message tells this.
+fn has_opt(message: &Message<&[u8]>, size: Option<u16>, rcode: u16) -> bool {
+    message.opt().map(|record| record.udp_payload_size()) == size
+        && message.opt_rcode().to_int() == rcode
+}
+
 #[test]
-fn nothing_answers_broken_questions(rt: HostRuntime) -> Result<(), Fail> {
-    let broken = b"\xC0\x0C\x00\x01\x00\x01";
-    let message = with_id(1, 0x80, 1, broken)?;
-    assert!(rt; !message.is_answer(&with_id(1, 0x80, 1, broken)?));
-    assert!(rt; !message.question().same_questions(&message.question()));
+fn has_an_opt_record(rt: HostRuntime) -> Result<(), Fail> {
+    for &(row, octets, size, rcode) in OPTS {
+        assert!(rt;
+            has_opt(&Message::from_slice(octets)?, size, rcode),
+            "{row}"
+        );
+    }
+    Ok(())
+}
+
+/// An answer whose owner points to its own place.
+const FAULTY_ANSWER: &[u8; 24] =
+    b"\x00\x00\x00\x00\x00\x00\x00\x01\x00\x00\x00\x00\xC0\x0C\x00\x01\x00\x01\x00\x00\x00\x00\x00\x00";
+
+/// ANCOUNT 1; the address 1.2.3.4 of the root.
+const ANSWER: &[u8; 27] =
+    b"\x00\x00\x00\x00\x00\x00\x00\x01\x00\x00\x00\x00\x00\x00\x01\x00\x01\x00\x00\x00\x00\x00\x04\x01\x02\x03\x04";
+
+#[test]
+fn a_faulty_answer_counts(rt: HostRuntime) -> Result<(), Fail> {
+    assert!(rt; Message::from_slice(FAULTY_ANSWER)?.contains_answer::<A>());
+    assert!(rt; Message::from_slice(ANSWER)?.contains_answer::<A>());
+    assert!(rt; !Message::from_slice(ANSWER)?.contains_answer::<Ns<ParsedName<'_>>>());
     Ok(())
 }
 
@@ -106,16 +139,37 @@ fn nothing_answers_broken_questions(rt: HostRuntime) -> Result<(), Fail> {
 const LAST_ADDITIONAL: [u8; 39] =
     *b"\x00\x00\x00\x00\x00\x00\x00\x00\x00\x00\x00\x02\xC0\x0C\x00\x01\x00\x01\x00\x00\x00\x00\x00\x00\x00\x00\x01\x00\x01\x00\x00\x00\x00\x00\x04\x01\x02\x03\x04";
 
+/// The last additional record's address.
+fn last_address(octets: &[u8]) -> Option<[u8; 4]> {
+    let message = Message::from_slice(octets).ok()?;
+    let record = message.get_last_additional::<A>()?;
+    Some(record.data().octets())
+}
+
+#[test]
+fn has_a_last_additional(rt: HostRuntime) -> Result<(), Fail> {
+    assert_eq!(rt; last_address(&LAST_ADDITIONAL), None);
+    // the record that stays is the one that can be read
+    let mut octets = *ANSWER;
+    octets[7] = 0;
+    octets[11] = 1;
+    assert_eq!(rt; last_address(&octets), Some([1, 2, 3, 4]));
+    Ok(())
+}
+
+/// The octets of a message without its last additional record, if it has one.
+fn without_last(mut message: Message<[u8; 39]>) -> [u8; 39] {
+    if message.header_counts().arcount() > 0 {
+        message.remove_last_additional();
+    }
+    message.into_octets()
+}
+
 #[test]
 fn removes_the_last_additional(rt: HostRuntime) -> Result<(), Fail> {
-    let mut message = Message::from_octets(LAST_ADDITIONAL)?;
-    if message.header_counts().arcount() == 0 {
-        panic!(rt; "no additional record");
-    }
-    message.remove_last_additional();
-    assert_eq!(rt; message.header_counts().arcount(), 1);
+    let octets = without_last(Message::from_octets(LAST_ADDITIONAL)?);
     let mut expected = LAST_ADDITIONAL;
     expected[11] = 1;
-    assert_eq!(rt; message.as_slice(), expected.as_slice());
+    assert!(rt; octets == expected);
     Ok(())
 }
