@@ -1,13 +1,11 @@
 //! Input that comes in parts or fails, and output that fails: `dnsmsg` then ends with status 3, and says so where it can.
-use crate::runs::strings;
-use dns_message::tool;
+use crate::runs::{prints, run};
 use std::alloc::Global;
 use std::io;
 use std::io::{ErrorKind, Read, Write};
-use std::process::Abort;
 use std::test::Fail;
 
-/// Words behind the program's name, what is on standard input, and what is printed with which status.
+/// Words behind the program's name, standard input, what is printed, and the status.
 #[derive(Clone, Copy)]
 struct Run {
     words: &'static [&'static str],
@@ -94,100 +92,73 @@ impl Write for Gap {
     }
 }
 
-/// What is printed for the octets that a reader gives, and the status.
-fn run_over(alloc: Global, words: &[&str], reader: Cut<'_>) -> Result<(Vec<u8>, u8), Fail> {
-    let mut output = Vec::new(alloc);
-    let status = tool(alloc, &strings(alloc, words)?, reader, &mut output);
-    Ok((output, status))
-}
-
 /// The input is read octet by octet, and reading may fail behind each.
-fn assert_reads(rt: &impl Abort, alloc: Global, run: Run) -> Result<(), Fail> {
-    let whole = Cut {
-        octets: run.input,
-        fails: false,
-    };
-    let (output, status) = run_over(alloc, run.words, whole)?;
-    assert_eq!(rt; output.as_slice(), run.printed);
-    assert_eq!(rt; status, run.status);
-    for len in 0..=run.input.len() {
-        let octets = &run.input[..len];
-        let (output, status) = run_over(
-            alloc,
-            run.words,
-            Cut {
-                octets,
-                fails: true,
-            },
-        )?;
-        assert_eq!(rt; output.as_slice(), b"failed\n".as_slice());
-        assert_eq!(rt; status, 3, "behind {len} octets");
+#[test]
+fn fails_where_input_is_cut(rt: HostRuntime) -> Result<(), Fail> {
+    for row in [BUILD, SHOW] {
+        let (octets, fails) = (row.input, false);
+        let whole = Cut { octets, fails };
+        assert!(rt; prints(rt.alloc(), row.words, whole, row.printed, row.status)?);
+        for len in 0..=row.input.len() {
+            let (octets, fails) = (&row.input[..len], true);
+            let cut = Cut { octets, fails };
+            assert!(rt;
+                prints(rt.alloc(), row.words, cut, b"failed\n", 3)?,
+                "behind {len} octets"
+            );
+        }
     }
     Ok(())
 }
 
-#[test]
-fn fails_where_a_script_is_cut(rt: HostRuntime) -> Result<(), Fail> {
-    assert_reads(&rt, rt.alloc(), BUILD)
-}
-
-#[test]
-fn fails_where_digits_are_cut(rt: HostRuntime) -> Result<(), Fail> {
-    assert_reads(&rt, rt.alloc(), SHOW)
-}
-
-/// The writer behind a run in which the steps with these numbers fail, and the status.
-fn run_with_gap(alloc: Global, run: Run, from: usize, to: usize) -> Result<(Gap, u8), Fail> {
+/// The octets taken by a writer whose steps with these numbers fail, its steps, and the status.
+fn run_with_gap(
+    alloc: Global,
+    row: Run,
+    from: usize,
+    to: usize,
+) -> Result<(Vec<u8>, usize, u8), Fail> {
+    let taken = Vec::new(alloc);
     let mut writer = Gap {
-        taken: Vec::new(alloc),
+        taken,
         steps: 0,
         from,
         to,
     };
-    let status = tool(alloc, &strings(alloc, run.words)?, run.input, &mut writer);
-    Ok((writer, status))
+    let status = run(alloc, row.words, row.input, &mut writer)?;
+    Ok((writer.taken, writer.steps, status))
 }
 
-/// One step fails, or all from it on: what was printed before stands, and `failed` behind it where it can be written.
-fn assert_gap(rt: &impl Abort, alloc: Global, run: Run, step: usize) -> Result<(), Fail> {
-    let before = &run.printed[..step.min(run.printed.len())];
-    let (writer, status) = run_with_gap(alloc, run, step, step.saturating_add(1))?;
-    assert_eq!(rt; writer.taken.strip_suffix(b"failed\n"), Some(before));
-    assert_eq!(rt; status, 3, "at the step {step}");
-    let (writer, status) = run_with_gap(alloc, run, step, usize::MAX)?;
-    assert_eq!(rt; writer.taken.as_slice(), before);
-    assert_eq!(rt; status, 3, "from the step {step} on");
-    Ok(())
+/// Whether all is printed where no step fails, and the number of steps: one for each octet, and the flush behind all.
+fn steps_of(alloc: Global, row: Run) -> Result<Option<usize>, Fail> {
+    let (taken, steps, status) = run_with_gap(alloc, row, usize::MAX, usize::MAX)?;
+    let is_whole = taken.as_slice() == row.printed && status == row.status;
+    Ok((is_whole && steps > row.printed.len()).then_some(steps))
 }
 
-/// Each octet, and the flush behind all, may fail to be written.
-fn assert_writes(rt: &impl Abort, alloc: Global, run: Run) -> Result<(), Fail> {
-    let (whole, status) = run_with_gap(alloc, run, usize::MAX, usize::MAX)?;
-    assert_eq!(rt; whole.taken.as_slice(), run.printed);
-    assert_eq!(rt; status, run.status);
-    assert!(rt; whole.steps > run.printed.len());
-    for step in 0..whole.steps {
-        assert_gap(rt, alloc, run, step)?;
+/// Whether what was printed before the steps that fail stands, and this behind it, with status 3.
+fn is_cut(alloc: Global, row: Run, from: usize, to: usize, behind: &[u8]) -> Result<bool, Fail> {
+    let before = &row.printed[..from.min(row.printed.len())];
+    let (taken, _, status) = run_with_gap(alloc, row, from, to)?;
+    Ok(taken.strip_suffix(behind) == Some(before) && status == 3)
+}
+
+/// One step fails, and then all from it on: `failed` is printed where it can be.
+#[test]
+fn fails_where_output_is_not_written(rt: HostRuntime) -> Result<(), Fail> {
+    for row in [BUILD, BAD_LINE, SHOW, USAGE] {
+        let steps = steps_of(rt.alloc(), row)?.ok_or("not whole")?;
+        for step in 0..steps {
+            let next = step.saturating_add(1);
+            assert!(rt;
+                is_cut(rt.alloc(), row, step, next, b"failed\n")?,
+                "at {step}"
+            );
+            assert!(rt;
+                is_cut(rt.alloc(), row, step, usize::MAX, b"")?,
+                "from {step} on"
+            );
+        }
     }
     Ok(())
-}
-
-#[test]
-fn fails_where_replies_are_not_written(rt: HostRuntime) -> Result<(), Fail> {
-    assert_writes(&rt, rt.alloc(), BUILD)
-}
-
-#[test]
-fn fails_where_a_bad_line_is_not_told(rt: HostRuntime) -> Result<(), Fail> {
-    assert_writes(&rt, rt.alloc(), BAD_LINE)
-}
-
-#[test]
-fn fails_where_a_message_is_not_shown(rt: HostRuntime) -> Result<(), Fail> {
-    assert_writes(&rt, rt.alloc(), SHOW)
-}
-
-#[test]
-fn fails_where_the_usage_is_not_told(rt: HostRuntime) -> Result<(), Fail> {
-    assert_writes(&rt, rt.alloc(), USAGE)
 }

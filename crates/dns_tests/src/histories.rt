@@ -2,22 +2,24 @@
 ghost use Rattle.std.specs.Prelude.{◌≡◌};
 ghost use Rattle.dns_wire.specs.Pieces.Rule.{Plain};
 
-use crate::scripts::{Owner, after, fresh, number_of, opt_plan, response};
 use arrayvec::ArrayVec;
-use dns_message::code::Rtype;
+use dns_message::builder::{MessageBuilder, PushError};
+use dns_message::code::{OptRcode, Rtype};
 use dns_message::data::Ns;
 use dns_message::header::Header;
 use dns_message::name::Name;
-use dns_message::question::Question;
-use dns_message::script::{Call, Stage};
+use dns_message::script::{Call, OptPlan, Reply, Stage, run};
 use dns_message::target::{
-    CloneTarget, HashCompressor, IndexCompressor, StaticCompressor, StreamTarget, TreeCompressor,
+    CloneTarget, Composer, HashCompressor, IndexCompressor, StaticCompressor, StreamTarget,
+    TreeCompressor,
 };
 use std::alloc::Global;
 use std::process::Abort;
 use std::test::Fail;
 
-type ServerCall = Call<Question<Owner>, (Owner, u32, Ns<Owner>)>;
+type Owner = Name<&'static [u8]>;
+
+type ServerCall = Call<(Owner, Rtype), (Owner, u32, Ns<Owner>)>;
 
 /// The items with each name in full: a question and a record in each section, and an OPT record with rcode 19.
 const PLAIN: &[u8; 174] =
@@ -27,363 +29,222 @@ const PLAIN: &[u8; 174] =
 const COMPRESSED: &[u8; 94] =
     b"\x00\x00\x00\x03\x00\x01\x00\x01\x00\x01\x00\x02\x07example\x03com\x00\x00\x02\x00\x01\xC0\x0C\x00\x02\x00\x01\x00\x00\x00\x3C\x00\x05\x02ns\xC0\x0C\x03www\xC0\x0C\x00\x02\x00\x01\x00\x00\x00\x3C\x00\x05\x02ns\xC0\x2E\xC0\x29\x00\x02\x00\x01\x00\x00\x00\x3C\x00\x04\x01a\xC0\x3E\x00\x00\x29\x04\xD0\x01\x00\x80\x00\x00\x00";
 
-/// The names of the items, and two others.
-#[derive(Clone, Copy)]
-struct Names {
-    example: Owner,
-    www: Owner,
-    ns: Owner,
-    ns_www: Owner,
-    a_ns_www: Owner,
-    /// The name `example` in another letter case.
-    other_case: Owner,
-    com: Owner,
-}
+/// A letter for each call, and one for each reply.
+type History = (&'static str, &'static str);
 
-fn question(name: Owner) -> ServerCall {
-    Call::PushQuestion(Question::new_in(name, Rtype::NS))
+/// The calls, and behind them the replies: done, misplaced, or refused by the limit.
+///
+/// `b q a n d` move to a stage, and `Q A N D` push the item of that section that stands in the end, `O` the OPT record;
+/// `u v w x y z` push others. `r` rewinds, `t` with TC; `H` changes the header, and `h` changes it back; `1 2 3` set a limit,
+/// below the message behind the next push, and `c` takes it away.
+const HISTORIES: [History; 9] = [
+    // in order
+    ("bqQaAnNdDO", "dddddddddd"),
+    // other items rewound, in each section
+    ("qvwrQaAnNdDO", "dddddddddddd"),
+    ("bqQaxNrAnNdDO", "ddddddddddddd"),
+    ("qrQaAnythNdDO", "ddddddddddddd"),
+    ("bqQaAnNdOurDrDO", "ddddddddddddddd"),
+    // moved back, and sections passed over and taken up again
+    ("bqQaAnNdDanNdDO", "ddddddddddddddd"),
+    ("bdDqQnNaAdnNdDO", "ddddddddddddddd"),
+    // each push refused first
+    ("b1qQcQa2AcAnNd3OcDO", "dddlddddlddddddlddd"),
+    // calls that their stages lack
+    ("bQArHqAtQaQOAnNdhDO", "dmmmddmmddmmddddddd"),
+];
+
+/// A record too many for a target that is full then.
+const OVERFULL: &str = "bqQaAnNdDOArDO";
+
+/// Other items in the sections up to each stage.
+const OTHERS: [History; 5] = [
+    ("", ""),
+    ("qw", "dd"),
+    ("qwax", "dddd"),
+    ("qwaxny", "dddddd"),
+    ("qwaxnydz", "dddddddd"),
+];
+
+const EXAMPLE: &[u8] = b"\x07example\x03com\x00";
+
+const OTHER_CASE: &[u8] = b"\x07EXAMPLE\x03com\x00";
+
+const COM: &[u8] = b"\x03com\x00";
+
+const WWW: &[u8] = b"\x03www\x07example\x03com\x00";
+
+const NS: &[u8] = b"\x02ns\x07example\x03com\x00";
+
+const NS_WWW: &[u8] = b"\x02ns\x03www\x07example\x03com\x00";
+
+const A_NS_WWW: &[u8] = b"\x01a\x02ns\x03www\x07example\x03com\x00";
+
+/// A question for a name server of a name.
+fn question(name: &'static [u8]) -> Result<ServerCall, Fail> {
+    Ok(Call::PushQuestion((Name::from_octets(name)?, Rtype::NS)))
 }
 
 /// A name server of an owner.
-fn server(owner: Owner, nsdname: Owner) -> ServerCall {
-    Call::PushRecord((owner, 60, Ns::new(nsdname)))
+fn server(owner: &'static [u8], nsdname: &'static [u8]) -> Result<ServerCall, Fail> {
+    let data = Ns::new(Name::from_octets(nsdname)?);
+    Ok(Call::PushRecord((Name::from_octets(owner)?, 60, data)))
 }
 
+/// An OPT record with rcode 19 and DO.
 fn opt(alloc: Global) -> ServerCall {
-    Call::PushOpt(opt_plan(Vec::new(alloc)))
+    Call::PushOpt(OptPlan {
+        udp_payload_size: 1232,
+        rcode: OptRcode::checked_from_int(19),
+        version: 0,
+        dnssec_ok: true,
+        options: Vec::new(alloc),
+    })
 }
 
-/// The items, and the histories that end with them.
-impl Names {
-    fn new() -> Result<Names, Fail> {
-        Ok(Names {
-            example: Name::from_octets(b"\x07example\x03com\x00".as_slice())?,
-            www: Name::from_octets(b"\x03www\x07example\x03com\x00".as_slice())?,
-            ns: Name::from_octets(b"\x02ns\x07example\x03com\x00".as_slice())?,
-            ns_www: Name::from_octets(b"\x02ns\x03www\x07example\x03com\x00".as_slice())?,
-            a_ns_www: Name::from_octets(b"\x01a\x02ns\x03www\x07example\x03com\x00".as_slice())?,
-            other_case: Name::from_octets(b"\x07EXAMPLE\x03com\x00".as_slice())?,
-            com: Name::from_octets(b"\x03com\x00".as_slice())?,
-        })
-    }
+/// The header of a response.
+fn response() -> Header {
+    let mut header = Header::new();
+    header.set_qr(true);
+    header
+}
 
-    fn asked(self) -> ServerCall {
-        question(self.example)
-    }
-
-    fn answer(self) -> ServerCall {
-        server(self.example, self.ns)
-    }
-
-    fn authority(self) -> ServerCall {
-        server(self.www, self.ns_www)
-    }
-
-    fn additional(self) -> ServerCall {
-        server(self.ns, self.a_ns_www)
-    }
-
-    /// Other items, one in each section.
-    fn others(self) -> [ServerCall; 8] {
-        [
-            Call::ToQuestion,
-            question(self.ns_www),
-            Call::ToAnswer,
-            server(self.www, self.example),
-            Call::ToAuthority,
-            server(self.a_ns_www, self.com),
-            Call::ToAdditional,
-            server(self.other_case, self.ns),
-        ]
-    }
-
-    fn in_order(self, alloc: Global) -> [ServerCall; 10] {
-        [
-            Call::ToBuilder,
-            Call::ToQuestion,
-            self.asked(),
-            Call::ToAnswer,
-            self.answer(),
-            Call::ToAuthority,
-            self.authority(),
-            Call::ToAdditional,
-            self.additional(),
-            opt(alloc),
-        ]
-    }
-
-    fn questions_rewound(self, alloc: Global) -> [ServerCall; 12] {
-        [
-            Call::ToQuestion,
-            question(self.other_case),
-            question(self.com),
-            Call::Rewind,
-            self.asked(),
-            Call::ToAnswer,
-            self.answer(),
-            Call::ToAuthority,
-            self.authority(),
-            Call::ToAdditional,
-            self.additional(),
-            opt(alloc),
-        ]
-    }
-
-    fn answers_rewound(self, alloc: Global) -> [ServerCall; 13] {
-        [
-            Call::ToBuilder,
-            Call::ToQuestion,
-            self.asked(),
-            Call::ToAnswer,
-            server(self.ns, self.www),
-            self.authority(),
-            Call::Rewind,
-            self.answer(),
-            Call::ToAuthority,
-            self.authority(),
-            Call::ToAdditional,
-            self.additional(),
-            opt(alloc),
-        ]
-    }
-
-    /// TC is set, and taken back.
-    fn authority_rewound(self, alloc: Global) -> [ServerCall; 13] {
-        [
-            Call::ToQuestion,
-            Call::Rewind,
-            self.asked(),
-            Call::ToAnswer,
-            self.answer(),
-            Call::ToAuthority,
-            server(self.com, self.a_ns_www),
-            Call::TcRewind,
-            Call::SetHeader(Header::new()),
-            self.authority(),
-            Call::ToAdditional,
-            self.additional(),
-            opt(alloc),
-        ]
-    }
-
-    fn additional_rewound(self, alloc: Global) -> [ServerCall; 15] {
-        [
-            Call::ToBuilder,
-            Call::ToQuestion,
-            self.asked(),
-            Call::ToAnswer,
-            self.answer(),
-            Call::ToAuthority,
-            self.authority(),
-            Call::ToAdditional,
-            opt(alloc),
-            server(self.a_ns_www, self.ns),
-            Call::Rewind,
-            self.additional(),
-            Call::Rewind,
-            self.additional(),
-            opt(alloc),
-        ]
-    }
-
-    fn moved_back(self, alloc: Global) -> [ServerCall; 15] {
-        [
-            Call::ToBuilder,
-            Call::ToQuestion,
-            self.asked(),
-            Call::ToAnswer,
-            self.answer(),
-            Call::ToAuthority,
-            self.authority(),
-            Call::ToAdditional,
-            self.additional(),
-            Call::ToAnswer,
-            Call::ToAuthority,
-            self.authority(),
-            Call::ToAdditional,
-            self.additional(),
-            opt(alloc),
-        ]
-    }
-
-    /// Sections are passed over, and taken up again.
-    fn moved_among(self, alloc: Global) -> [ServerCall; 15] {
-        [
-            Call::ToBuilder,
-            Call::ToAdditional,
-            self.additional(),
-            Call::ToQuestion,
-            self.asked(),
-            Call::ToAuthority,
-            self.authority(),
-            Call::ToAnswer,
-            self.answer(),
-            Call::ToAdditional,
-            Call::ToAuthority,
-            self.authority(),
-            Call::ToAdditional,
-            self.additional(),
-            opt(alloc),
-        ]
-    }
-
-    /// Each push is refused first, by a limit one octet below the message behind it or lower.
-    fn limited(self, alloc: Global) -> [ServerCall; 19] {
-        [
-            Call::ToBuilder,
-            Call::SetLimit(28),
-            Call::ToQuestion,
-            self.asked(),
-            Call::ClearLimit,
-            self.asked(),
-            Call::ToAnswer,
-            Call::SetLimit(45),
-            self.answer(),
-            Call::ClearLimit,
-            self.answer(),
-            Call::ToAuthority,
-            self.authority(),
-            Call::ToAdditional,
-            Call::SetLimit(67),
-            opt(alloc),
-            Call::ClearLimit,
-            self.additional(),
-            opt(alloc),
-        ]
-    }
-
-    /// One record too many for a target that is full then.
-    fn overfull(self, alloc: Global) -> [ServerCall; 14] {
-        [
-            Call::ToBuilder,
-            Call::ToQuestion,
-            self.asked(),
-            Call::ToAnswer,
-            self.answer(),
-            Call::ToAuthority,
-            self.authority(),
-            Call::ToAdditional,
-            self.additional(),
-            opt(alloc),
-            self.answer(),
-            Call::Rewind,
-            self.additional(),
-            opt(alloc),
-        ]
-    }
-
-    /// Calls that their stages lack, and another header for a while.
-    fn misplaced(self, alloc: Global) -> [ServerCall; 19] {
-        [
-            Call::ToBuilder,
-            self.asked(),
-            self.answer(),
-            Call::Rewind,
-            Call::SetHeader(response()),
-            Call::ToQuestion,
-            self.answer(),
-            Call::TcRewind,
-            self.asked(),
-            Call::ToAnswer,
-            self.asked(),
-            opt(alloc),
-            self.answer(),
-            Call::ToAuthority,
-            self.authority(),
-            Call::ToAdditional,
-            Call::SetHeader(Header::new()),
-            self.additional(),
-            opt(alloc),
-        ]
+/// The push that a letter stands for.
+fn push_of(letter: u8) -> Result<ServerCall, Fail> {
+    match letter {
+        b'Q' => question(EXAMPLE),
+        b'A' => server(EXAMPLE, NS),
+        b'N' => server(WWW, NS_WWW),
+        b'D' => server(NS, A_NS_WWW),
+        b'u' => server(A_NS_WWW, NS),
+        b'v' => question(OTHER_CASE),
+        b'w' => question(NS_WWW),
+        b'x' => server(WWW, EXAMPLE),
+        b'y' => server(A_NS_WWW, COM),
+        b'z' => server(OTHER_CASE, NS),
+        _ => Err(Fail::from("no letter")),
     }
 }
 
-/// What the histories begin and end with over a kind of target.
-#[derive(Drop)]
-struct Ending<T> {
-    names: Names,
-    /// An empty target.
-    target: T,
-    /// The message in the end.
-    octets: &'static [u8],
-    /// No record goes behind the message.
-    is_full: bool,
+/// The call that a letter stands for.
+fn call_of(alloc: Global, letter: u8) -> Result<ServerCall, Fail> {
+    Ok(match letter {
+        b'b' => Call::ToBuilder,
+        b'q' => Call::ToQuestion,
+        b'a' => Call::ToAnswer,
+        b'n' => Call::ToAuthority,
+        b'd' => Call::ToAdditional,
+        b'r' => Call::Rewind,
+        b't' => Call::TcRewind,
+        b'H' => Call::SetHeader(response()),
+        b'h' => Call::SetHeader(Header::new()),
+        b'1' => Call::SetLimit(28),
+        b'2' => Call::SetLimit(45),
+        b'3' => Call::SetLimit(67),
+        b'c' => Call::ClearLimit,
+        b'O' => opt(alloc),
+        _ => return push_of(letter),
+    })
 }
 
-impl<T: CloneTarget> Ending<T> {
-    /// The stage with this number among the five, with other items in the sections up to it.
-    fn stage(&self, rt: &impl Abort, alloc: Global, number: usize) -> Result<Stage<T>, Fail> {
-        let others = self.names.others();
-        let len = number.saturating_mul(2).min(8);
-        let stage = fresh(self.target.clone_target()?)?;
-        let stage = after(rt, alloc, stage, &others[..len], &b"dddddddd"[..len])?;
-        assert_eq!(rt; number_of(&stage), number);
-        Ok(stage)
+fn calls_of(alloc: Global, letters: &str) -> Result<Vec<ServerCall>, Fail> {
+    let mut calls = Vec::new(alloc);
+    for letter in letters.bytes() {
+        calls.push(call_of(alloc, letter)?)?;
     }
+    Ok(calls)
+}
 
-    /// The calls have replies with these letters from each stage, and end with the octets.
-    fn assert_behind(
-        &self,
-        rt: &impl Abort,
-        alloc: Global,
-        calls: &[ServerCall],
-        letters: &[u8],
-    ) -> Result<(), Fail> {
-        for number in 0..5 {
-            let stage = self.stage(rt, alloc, number)?;
-            let stage = after(rt, alloc, stage, calls, letters)?;
-            assert_eq!(rt; stage.as_slice(), self.octets, "from the stage {number}");
+/// The first letter of what is replied: done, misplaced, or the cause of a refusal.
+fn letter_of(reply: Reply) -> u8 {
+    match reply {
+        Reply::Done => b'd',
+        Reply::Misplaced => b'm',
+        Reply::Refused(PushError::ShortBuf) => b's',
+        Reply::Refused(PushError::LimitExceeded) => b'l',
+        Reply::Refused(PushError::CountOverflow) => b'c',
+        Reply::Refused(PushError::OutOfMemory) => b'o',
+    }
+}
+
+/// Whether the replies have these letters.
+fn are_told(replies: &[Reply], letters: &str) -> bool {
+    if replies.len() != letters.len() {
+        return false;
+    }
+    for (reply, letter) in replies.iter().zip(letters.bytes()) {
+        if letter_of(*reply) != letter {
+            return false;
         }
-        Ok(())
     }
+    true
+}
 
-    /// Items are taken out by rewinds.
-    fn assert_rewound(&self, rt: &impl Abort, alloc: Global) -> Result<(), Fail> {
-        let names = self.names;
-        self.assert_behind(rt, alloc, &names.in_order(alloc), b"dddddddddd")?;
-        self.assert_behind(rt, alloc, &names.questions_rewound(alloc), b"dddddddddddd")?;
-        self.assert_behind(rt, alloc, &names.answers_rewound(alloc), b"ddddddddddddd")?;
-        self.assert_behind(rt, alloc, &names.authority_rewound(alloc), b"ddddddddddddd")?;
-        self.assert_behind(
-            rt,
-            alloc,
-            &names.additional_rewound(alloc),
-            b"ddddddddddddddd",
-        )
-    }
-
-    /// Items are taken out by moves, and pushes are refused.
-    fn assert_moved(&self, rt: &impl Abort, alloc: Global) -> Result<(), Fail> {
-        let names = self.names;
-        let overfull = if self.is_full {
-            b"ddddddddddsddd"
-        } else {
-            b"dddddddddddddd"
-        };
-        self.assert_behind(rt, alloc, &names.moved_back(alloc), b"ddddddddddddddd")?;
-        self.assert_behind(rt, alloc, &names.moved_among(alloc), b"ddddddddddddddd")?;
-        self.assert_behind(rt, alloc, &names.limited(alloc), b"dddlddddlddddddlddd")?;
-        self.assert_behind(rt, alloc, &names.overfull(alloc), overfull)?;
-        self.assert_behind(rt, alloc, &names.misplaced(alloc), b"dmmmddmmddmmddddddd")
+/// The stage behind the calls, if the replies have their letters.
+fn after<T: Composer>(
+    alloc: Global,
+    stage: Stage<T>,
+    (calls, letters): History,
+) -> Result<Stage<T>, Fail> {
+    let calls = calls_of(alloc, calls)?;
+    let mut replies = Vec::new(alloc);
+    match run(alloc, stage, &calls, &mut replies) {
+        Ok(stage) if are_told(&replies, letters) => Ok(stage),
+        _ => Err(Fail::from("another reply")),
     }
 }
 
-/// The ten histories end with the octets over a target.
+/// Whether a history ends with the octets over an empty target, from the stage that others lead to.
+fn ends<T: Composer>(
+    alloc: Global,
+    target: T,
+    others: History,
+    history: History,
+    octets: &[u8],
+) -> Result<bool, Fail> {
+    let stage = Stage::Builder(MessageBuilder::from_target(target)?);
+    let stage = after(alloc, stage, others)?;
+    let stage = after(alloc, stage, history)?;
+    Ok(stage.as_slice() == octets)
+}
+
+/// A history ends with the octets over an empty target, from each stage.
+fn assert_history<T: CloneTarget>(
+    rt: &impl Abort,
+    alloc: Global,
+    target: &T,
+    history: History,
+    octets: &[u8],
+) -> Result<(), Fail> {
+    for others in OTHERS {
+        let target = target.clone_target()?;
+        assert!(rt;
+            ends(alloc, target, others, history, octets)?,
+            "{} behind {}",
+            history.0,
+            others.0
+        );
+    }
+    Ok(())
+}
+
+/// The ten histories end with the octets over an empty target, which may be full then.
 fn assert_ends<T: CloneTarget>(
     rt: &impl Abort,
     alloc: Global,
     target: T,
-    octets: &'static [u8],
+    octets: &[u8],
     is_full: bool,
 ) -> Result<(), Fail> {
-    let ending = Ending {
-        names: Names::new()?,
-        target,
-        octets,
-        is_full,
+    for history in HISTORIES {
+        assert_history(rt, alloc, &target, history, octets)?;
+    }
+    let letters = if is_full {
+        "ddddddddddsddd"
+    } else {
+        "dddddddddddddd"
     };
-    ending.assert_rewound(rt, alloc)?;
-    ending.assert_moved(rt, alloc)
+    assert_history(rt, alloc, &target, (OVERFULL, letters), octets)
 }
 
 /// The ten histories end alike over targets that don't compress, the arrays with room for the message and no more.

@@ -12,10 +12,6 @@ mod histories;
 #[cfg(test)]
 mod program;
 #[cfg(test)]
-mod record_program;
-#[cfg(test)]
 mod runs;
-#[cfg(test)]
-mod scripts;
 #[cfg(test)]
 mod tour;
