@@ -149,7 +149,6 @@ fn last_address(octets: &[u8]) -> Option<[u8; 4]> {
 #[test]
 fn has_a_last_additional(rt: HostRuntime) -> Result<(), Fail> {
     assert_eq!(rt; last_address(&LAST_ADDITIONAL), None);
-    // the record that stays is the one that can be read
     let mut octets = *ANSWER;
     octets[7] = 0;
     octets[11] = 1;
