@@ -148,5 +148,5 @@ const WHAT_BIND_SENT: Message<'_> = (
 
 #[test]
 fn shows_what_bind_sent(rt: HostRuntime) -> Result<(), Fail> {
-    assert_printed(&rt, rt.alloc(), WHAT_BIND_SENT)
+    assert_printed(&rt, rt.alloc(), &[WHAT_BIND_SENT])
 }

@@ -1,5 +1,5 @@
 //! Faults, each at the octet where it stands, and one row for what is behind.
-use crate::printed::{Message, assert_items, assert_printed, printed};
+use crate::printed::{Labels, Message, assert_items, assert_printed, printed, questions};
 use std::alloc::Global;
 use std::process::Abort;
 use std::test::Fail;
@@ -15,11 +15,6 @@ const SHORT_MESSAGES: Message<'_> = (
     ],
 );
 
-#[test]
-fn tells_short_messages(rt: HostRuntime) -> Result<(), Fail> {
-    assert_printed(&rt, rt.alloc(), SHORT_MESSAGES)
-}
-
 const POINTER_TO_ITSELF: Message<'_> = (
     &[
         0x00, 0x00, 0x00, 0x00, 0x00, 0x01, 0x00, 0x00, 0x00, 0x00, 0x00, 0x00, 0xc0, 0x0c, 0x00,
@@ -31,11 +26,6 @@ const POINTER_TO_ITSELF: Message<'_> = (
         "    12  c0 0c 00 01 00 01        unread, 6 octets",
     ],
 );
-
-#[test]
-fn marks_a_pointer_to_itself(rt: HostRuntime) -> Result<(), Fail> {
-    assert_items(&rt, rt.alloc(), POINTER_TO_ITSELF)
-}
 
 const POINTER_BEHIND_LABELS: Message<'_> = (
     &[
@@ -50,11 +40,6 @@ const POINTER_BEHIND_LABELS: Message<'_> = (
     ],
 );
 
-#[test]
-fn marks_a_pointer_behind_labels(rt: HostRuntime) -> Result<(), Fail> {
-    assert_items(&rt, rt.alloc(), POINTER_BEHIND_LABELS)
-}
-
 /// The pointer leads to an octet of the header that begins no label.
 const POINTER_TO_A_FAULT: Message<'_> = (
     &[
@@ -68,11 +53,6 @@ const POINTER_TO_A_FAULT: Message<'_> = (
         "    12  c0 0b 00 01 00 01        unread, 6 octets",
     ],
 );
-
-#[test]
-fn marks_a_pointer_to_a_fault(rt: HostRuntime) -> Result<(), Fail> {
-    assert_items(&rt, rt.alloc(), POINTER_TO_A_FAULT)
-}
 
 /// The high bits 01 (RFC 1035 section 4.1.4).
 const OCTET_THAT_BEGINS_NO_LABEL: Message<'_> = (
@@ -89,11 +69,6 @@ const OCTET_THAT_BEGINS_NO_LABEL: Message<'_> = (
     ],
 );
 
-#[test]
-fn marks_an_octet_that_begins_no_label(rt: HostRuntime) -> Result<(), Fail> {
-    assert_items(&rt, rt.alloc(), OCTET_THAT_BEGINS_NO_LABEL)
-}
-
 const LABEL_THAT_IS_CUT: Message<'_> = (
     &[
         0x00, 0x00, 0x00, 0x00, 0x00, 0x01, 0x00, 0x00, 0x00, 0x00, 0x00, 0x00, 0x03, 0x77, 0x77,
@@ -106,11 +81,6 @@ const LABEL_THAT_IS_CUT: Message<'_> = (
         "    16  05 61 62                 unread, 3 octets",
     ],
 );
-
-#[test]
-fn marks_a_label_that_is_cut(rt: HostRuntime) -> Result<(), Fail> {
-    assert_items(&rt, rt.alloc(), LABEL_THAT_IS_CUT)
-}
 
 /// The header counts two questions, and one is there.
 const MISSING_QUESTION: Message<'_> = (
@@ -128,11 +98,6 @@ const MISSING_QUESTION: Message<'_> = (
     ],
 );
 
-#[test]
-fn marks_a_missing_question(rt: HostRuntime) -> Result<(), Fail> {
-    assert_items(&rt, rt.alloc(), MISSING_QUESTION)
-}
-
 /// The TTL of four octets has three.
 const SHORT_RECORD: Message<'_> = (
     &[
@@ -148,11 +113,6 @@ const SHORT_RECORD: Message<'_> = (
         "    17  00 00 0e                 unread, 3 octets",
     ],
 );
-
-#[test]
-fn marks_a_short_record(rt: HostRuntime) -> Result<(), Fail> {
-    assert_items(&rt, rt.alloc(), SHORT_RECORD)
-}
 
 /// The data has four octets by its length, and one is there.
 const MISSING_DATA: Message<'_> = (
@@ -172,11 +132,6 @@ const MISSING_DATA: Message<'_> = (
     ],
 );
 
-#[test]
-fn marks_missing_data(rt: HostRuntime) -> Result<(), Fail> {
-    assert_items(&rt, rt.alloc(), MISSING_DATA)
-}
-
 /// An address in three octets; what is behind the record isn't read.
 const DATA_THAT_IS_TOO_SHORT: Message<'_> = (
     &[
@@ -194,11 +149,6 @@ const DATA_THAT_IS_TOO_SHORT: Message<'_> = (
         "    23  7f 00 00 00 00 01        unread, 6 octets",
     ],
 );
-
-#[test]
-fn marks_data_that_is_too_short(rt: HostRuntime) -> Result<(), Fail> {
-    assert_items(&rt, rt.alloc(), DATA_THAT_IS_TOO_SHORT)
-}
 
 /// An address in five octets.
 const OCTETS_BEHIND_THE_VALUE: Message<'_> = (
@@ -220,11 +170,6 @@ const OCTETS_BEHIND_THE_VALUE: Message<'_> = (
     ],
 );
 
-#[test]
-fn marks_octets_behind_the_value(rt: HostRuntime) -> Result<(), Fail> {
-    assert_items(&rt, rt.alloc(), OCTETS_BEHIND_THE_VALUE)
-}
-
 /// The name of CNAME has a label that ends behind the data.
 const NAME_THAT_LEAVES_ITS_DATA: Message<'_> = (
     &[
@@ -243,11 +188,6 @@ const NAME_THAT_LEAVES_ITS_DATA: Message<'_> = (
         "    23  02 61 62 00              unread, 4 octets",
     ],
 );
-
-#[test]
-fn marks_a_name_that_leaves_its_data(rt: HostRuntime) -> Result<(), Fail> {
-    assert_items(&rt, rt.alloc(), NAME_THAT_LEAVES_ITS_DATA)
-}
 
 /// The option has four octets by its length, and two are there.
 const OPTION_THAT_IS_CUT: Message<'_> = (
@@ -272,11 +212,6 @@ const OPTION_THAT_IS_CUT: Message<'_> = (
     ],
 );
 
-#[test]
-fn marks_an_option_that_is_cut(rt: HostRuntime) -> Result<(), Fail> {
-    assert_items(&rt, rt.alloc(), OPTION_THAT_IS_CUT)
-}
-
 /// No fault: two octets are behind the last item.
 const OCTETS_BEHIND_THE_ITEMS_UNREAD: Message<'_> = (
     &[
@@ -285,74 +220,63 @@ const OCTETS_BEHIND_THE_ITEMS_UNREAD: Message<'_> = (
     &["    12  ff fe                    unread, 2 octets"],
 );
 
+/// Each behind the lines of the header.
+const FAULTS: &[Message<'_>] = &[
+    POINTER_TO_ITSELF,
+    POINTER_BEHIND_LABELS,
+    POINTER_TO_A_FAULT,
+    OCTET_THAT_BEGINS_NO_LABEL,
+    LABEL_THAT_IS_CUT,
+    MISSING_QUESTION,
+    SHORT_RECORD,
+    MISSING_DATA,
+    DATA_THAT_IS_TOO_SHORT,
+    OCTETS_BEHIND_THE_VALUE,
+    NAME_THAT_LEAVES_ITS_DATA,
+    OPTION_THAT_IS_CUT,
+    OCTETS_BEHIND_THE_ITEMS_UNREAD,
+];
+
 #[test]
-fn leaves_octets_behind_the_items_unread(rt: HostRuntime) -> Result<(), Fail> {
-    assert_items(&rt, rt.alloc(), OCTETS_BEHIND_THE_ITEMS_UNREAD)
+fn marks_faults(rt: HostRuntime) -> Result<(), Fail> {
+    assert_items(&rt, rt.alloc(), FAULTS)
 }
 
-/// With the fifth label the name has 256 octets (RFC 1035 section 2.3.4).
 #[test]
-fn marks_a_label_with_which_a_name_is_too_long(rt: HostRuntime) -> Result<(), Fail> {
+fn tells_short_messages(rt: HostRuntime) -> Result<(), Fail> {
+    assert_printed(&rt, rt.alloc(), &[SHORT_MESSAGES])
+}
+
+/// The count of questions, then for each name the lengths of its labels and the octets behind these, and the last lines.
+type Long<'a> = (u8, &'a [Labels<'a>], &'a str);
+
+/// Names of more than 255 octets (RFC 1035 section 2.3.4): with the fifth label one has 256, and with the name of 67 octets
+/// where its pointer leads one has 259.
+const LONG_NAMES: &[Long<'_>] = &[
+    (
+        1,
+        &[(&[63, 63, 63, 60, 1], &[0, 0, 1, 0, 1])],
+        "\n   265                           FAULT: with this label the name has more than\n                                 255 octets\n   265  01 78 00 00 01 00 01     unread, 7 octets\n",
+    ),
+    (
+        2,
+        &[
+            (&[63, 1], &[0, 0, 1, 0, 1]),
+            (&[63, 63, 63], &[0xc0, 12, 0, 1, 0, 1]),
+        ],
+        "\n   275                           FAULT: pointer to 12, with which the name has\n                                 more than 255 octets\n   275  c0 0c 00 01 00 01        unread, 6 octets\n",
+    ),
+];
+
+#[test]
+fn marks_where_a_name_is_too_long(rt: HostRuntime) -> Result<(), Fail> {
     assert_long(&rt, rt.alloc())
 }
 
 fn assert_long(rt: &impl Abort, alloc: Global) -> Result<(), Fail> {
-    let mut octets = Vec::new(alloc);
-    octets.extend_from_slice(&[0, 0, 0, 0, 0, 1, 0, 0, 0, 0, 0, 0])?;
-    push_labels(&mut octets, &[63, 63, 63, 60, 1])?;
-    octets.extend_from_slice(&[0, 0, 1, 0, 1])?;
-    let printed = printed(alloc, &octets)?;
-    let place = 12 + 3 * 64 + 61;
-    let mut lines = printed.lines().skip_while(|line| !line.contains("FAULT"));
-    let fault = format!(in alloc;
-        "{place:>6}                           FAULT: with this label the name has more than"
-    )?;
-    assert_eq!(rt; lines.next(), Some(fault.as_str()));
-    assert_eq!(rt;
-        lines.next(),
-        Some("                                 255 octets")
-    );
-    let unread = format!(in alloc; "{place:>6}  01 78 00 00 01 00 01     unread, 7 octets")?;
-    assert_eq!(rt; lines.next(), Some(unread.as_str()));
-    assert_eq!(rt; lines.next(), None);
-    Ok(())
-}
-
-/// Behind three labels the name where the pointer leads, of 67 octets, makes one of 259 (RFC 1035 section 2.3.4).
-#[test]
-fn marks_a_pointer_with_which_a_name_is_too_long(rt: HostRuntime) -> Result<(), Fail> {
-    assert_long_pointer(&rt, rt.alloc())
-}
-
-fn assert_long_pointer(rt: &impl Abort, alloc: Global) -> Result<(), Fail> {
-    let mut octets = Vec::new(alloc);
-    octets.extend_from_slice(&[0, 0, 0, 0, 0, 2, 0, 0, 0, 0, 0, 0])?;
-    push_labels(&mut octets, &[63, 1])?;
-    octets.extend_from_slice(&[0, 0, 1, 0, 1])?;
-    push_labels(&mut octets, &[63, 63, 63])?;
-    octets.extend_from_slice(&[0xc0, 12, 0, 1, 0, 1])?;
-    let printed = printed(alloc, &octets)?;
-    let place = 12 + 66 + 5 + 3 * 64;
-    let fault = format!(in alloc;
-        "{place:>6}                           FAULT: pointer to 12, with which the name has"
-    )?;
-    let unread = format!(in alloc; "{place:>6}  c0 0c 00 01 00 01        unread, 6 octets")?;
-    let behind = "                                 more than 255 octets";
-    let mut lines = printed.lines().skip_while(|line| !line.contains("FAULT"));
-    assert_eq!(rt; lines.next(), Some(fault.as_str()));
-    assert_eq!(rt; lines.next(), Some(behind));
-    assert_eq!(rt; lines.next(), Some(unread.as_str()));
-    assert_eq!(rt; lines.next(), None);
-    Ok(())
-}
-
-/// Puts labels of these lengths behind octets.
-fn push_labels(octets: &mut Vec<u8>, lens: &[u8]) -> Result<(), Fail> {
-    for len in lens {
-        octets.push(*len)?;
-        for _ in 0..*len {
-            octets.push(b'x')?;
-        }
+    for (count, names, lines) in LONG_NAMES {
+        let printed = printed(alloc, &questions(alloc, *count, names)?)?;
+        assert!(rt; printed.ends_with(*lines), "{printed}");
     }
     Ok(())
 }

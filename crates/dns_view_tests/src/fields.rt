@@ -24,11 +24,6 @@ const HEADER_BIT: Message<'_> = (
     ],
 );
 
-#[test]
-fn tells_each_header_bit(rt: HostRuntime) -> Result<(), Fail> {
-    assert_printed(&rt, rt.alloc(), HEADER_BIT)
-}
-
 const A_QUERY: Message<'_> = (
     &[
         0x00, 0x01, 0x01, 0x00, 0x00, 0x01, 0x00, 0x00, 0x00, 0x00, 0x00, 0x00, 0x01, 0x61, 0x00,
@@ -50,9 +45,12 @@ const A_QUERY: Message<'_> = (
     ],
 );
 
+/// With all lines.
+const HEADERS: &[Message<'_>] = &[HEADER_BIT, A_QUERY];
+
 #[test]
-fn tells_a_query(rt: HostRuntime) -> Result<(), Fail> {
-    assert_printed(&rt, rt.alloc(), A_QUERY)
+fn tells_headers(rt: HostRuntime) -> Result<(), Fail> {
+    assert_printed(&rt, rt.alloc(), HEADERS)
 }
 
 /// The third and fourth octet of a header, and words that are printed for them, on one line each.
@@ -105,11 +103,6 @@ const TYPES_AND_CLASSES: Message<'_> = (
     ],
 );
 
-#[test]
-fn names_types_and_classes(rt: HostRuntime) -> Result<(), Fail> {
-    assert_items(&rt, rt.alloc(), TYPES_AND_CLASSES)
-}
-
 /// A (RFC 1035 section 3.4.1), AAAA (RFC 3596 section 2.2), and a type with no layout here (RFC 3597 section 3).
 const ADDRESSES_AND_OTHER_DATA: Message<'_> = (
     &[
@@ -144,11 +137,6 @@ const ADDRESSES_AND_OTHER_DATA: Message<'_> = (
         "    65  01 41 00                 data, 3 octets",
     ],
 );
-
-#[test]
-fn tells_addresses_and_other_data(rt: HostRuntime) -> Result<(), Fail> {
-    assert_items(&rt, rt.alloc(), ADDRESSES_AND_OTHER_DATA)
-}
 
 /// SOA, MX and TXT (RFC 1035 sections 3.3.13, 3.3.9 and 3.3.14).
 const FIELDS_OF_ZONES_MAIL_AND_TEXTS: Message<'_> = (
@@ -195,7 +183,14 @@ const FIELDS_OF_ZONES_MAIL_AND_TEXTS: Message<'_> = (
     ],
 );
 
+/// Each behind the lines of the header.
+const FIELDS: &[Message<'_>] = &[
+    TYPES_AND_CLASSES,
+    ADDRESSES_AND_OTHER_DATA,
+    FIELDS_OF_ZONES_MAIL_AND_TEXTS,
+];
+
 #[test]
-fn tells_the_fields_of_zones_mail_and_texts(rt: HostRuntime) -> Result<(), Fail> {
-    assert_items(&rt, rt.alloc(), FIELDS_OF_ZONES_MAIL_AND_TEXTS)
+fn tells_fields(rt: HostRuntime) -> Result<(), Fail> {
+    assert_items(&rt, rt.alloc(), FIELDS)
 }

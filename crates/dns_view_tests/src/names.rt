@@ -1,5 +1,5 @@
 //! Names: their labels, and where pointers lead.
-use crate::printed::{Message, assert_items, printed};
+use crate::printed::{Message, assert_items, printed, questions};
 use std::alloc::Global;
 use std::process::Abort;
 use std::test::Fail;
@@ -37,11 +37,6 @@ const POINTERS_LEAD: Message<'_> = (
     ],
 );
 
-#[test]
-fn tells_where_pointers_lead(rt: HostRuntime) -> Result<(), Fail> {
-    assert_items(&rt, rt.alloc(), POINTERS_LEAD)
-}
-
 /// A pointer to a pointer, and one to the root label of another name.
 const POINTER_TO_A_POINTER: Message<'_> = (
     &[
@@ -67,11 +62,6 @@ const POINTER_TO_A_POINTER: Message<'_> = (
     ],
 );
 
-#[test]
-fn follows_a_pointer_to_a_pointer(rt: HostRuntime) -> Result<(), Fail> {
-    assert_items(&rt, rt.alloc(), POINTER_TO_A_POINTER)
-}
-
 /// A dot and octets that are no printable ASCII, in a label and in the name (RFC 1035 section 5.1).
 const ODD_OCTETS_OF_LABELS: Message<'_> = (
     &[
@@ -88,9 +78,12 @@ const ODD_OCTETS_OF_LABELS: Message<'_> = (
     ],
 );
 
+/// Each behind the lines of the header.
+const NAMES: &[Message<'_>] = &[POINTERS_LEAD, POINTER_TO_A_POINTER, ODD_OCTETS_OF_LABELS];
+
 #[test]
-fn tells_odd_octets_of_labels(rt: HostRuntime) -> Result<(), Fail> {
-    assert_items(&rt, rt.alloc(), ODD_OCTETS_OF_LABELS)
+fn tells_names(rt: HostRuntime) -> Result<(), Fail> {
+    assert_items(&rt, rt.alloc(), NAMES)
 }
 
 /// A name of 255 octets, the most that there may be (RFC 1035 section 2.3.4): no line has more than 80 columns.
@@ -100,15 +93,7 @@ fn keeps_the_longest_name_within_the_columns(rt: HostRuntime) -> Result<(), Fail
 }
 
 fn assert_longest(rt: &impl Abort, alloc: Global) -> Result<(), Fail> {
-    let mut octets = Vec::new(alloc);
-    octets.extend_from_slice(&[0, 0, 0, 0, 0, 1, 0, 0, 0, 0, 0, 0])?;
-    for len in [63, 63, 63, 61] {
-        octets.push(len)?;
-        for _ in 0..len {
-            octets.push(b'x')?;
-        }
-    }
-    octets.extend_from_slice(&[0, 0, 1, 0, 1])?;
+    let octets = questions(alloc, 1, &[(&[63, 63, 63, 61], &[0, 0, 1, 0, 1])])?;
     let printed = printed(alloc, &octets)?;
     for line in printed.lines() {
         assert!(rt; line.len() <= 80, "{line}");

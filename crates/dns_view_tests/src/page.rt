@@ -19,63 +19,46 @@ fn count(text: &str, word: &str) -> usize {
     text.split(word).skip(1).count()
 }
 
-/// The page asks for no other file, and has no script.
 #[test]
-fn needs_nothing_else(rt: HostRuntime) -> Result<(), Fail> {
-    assert_alone(&rt, rt.alloc())
+fn shows_a_message(rt: HostRuntime) -> Result<(), Fail> {
+    let page = page(rt.alloc(), &MESSAGE)?;
+    assert_alone(&rt, &page);
+    assert_escaped(&rt, &page);
+    assert_cells(&rt, rt.alloc(), &page)?;
+    assert_arrows(&rt, rt.alloc(), &page)
 }
 
-fn assert_alone(rt: &impl Abort, alloc: Global) -> Result<(), Fail> {
-    let page = page(alloc, &MESSAGE)?;
+/// The page asks for no other file, and has no script.
+fn assert_alone(rt: &impl Abort, page: &str) {
     assert!(rt; page.starts_with("<!DOCTYPE html>"));
     assert!(rt; page.trim_end().ends_with("</html>"));
     for word in ["http", "<script", "src=", "href=", "@import", "//"] {
         assert!(rt; !page.contains(word), "{word}");
     }
-    Ok(())
 }
 
 /// Each octet has one cell, with its digits, at its place in a grid of sixteen columns.
-#[test]
-fn shows_each_octet_once(rt: HostRuntime) -> Result<(), Fail> {
-    assert_cells(&rt, rt.alloc())
-}
-
-fn assert_cells(rt: &impl Abort, alloc: Global) -> Result<(), Fail> {
-    let page = page(alloc, &MESSAGE)?;
-    assert_eq!(rt; count(&page, "<rect "), MESSAGE.len());
+fn assert_cells(rt: &impl Abort, alloc: Global, page: &str) -> Result<(), Fail> {
+    assert_eq!(rt; count(page, "<rect "), MESSAGE.len());
     for (place, octet) in MESSAGE.iter().enumerate() {
         let cell = format!(in alloc; "id=\"o{place}\">{octet:02x}</text>")?;
-        assert_eq!(rt; count(&page, cell.as_str()), 1, "{cell}");
+        assert_eq!(rt; count(page, cell.as_str()), 1, "{cell}");
     }
     Ok(())
 }
 
 /// Three pointers lead to 12, 18 and 37, and each has one arrow.
-#[test]
-fn draws_each_pointer_once(rt: HostRuntime) -> Result<(), Fail> {
-    assert_arrows(&rt, rt.alloc())
-}
-
-fn assert_arrows(rt: &impl Abort, alloc: Global) -> Result<(), Fail> {
-    let page = page(alloc, &MESSAGE)?;
-    assert_eq!(rt; count(&page, "marker-end="), 3);
+fn assert_arrows(rt: &impl Abort, alloc: Global, page: &str) -> Result<(), Fail> {
+    assert_eq!(rt; count(page, "marker-end="), 3);
     for (from, to) in [(25, 12), (39, 18), (41, 37)] {
         let title = format!(in alloc; "<title>{from} points to {to}</title>")?;
-        assert_eq!(rt; count(&page, title.as_str()), 1, "{title}");
+        assert_eq!(rt; count(page, title.as_str()), 1, "{title}");
     }
     Ok(())
 }
 
 /// Labels are text, and never markup.
-#[test]
-fn escapes_labels(rt: HostRuntime) -> Result<(), Fail> {
-    assert_escaped(&rt, rt.alloc())
-}
-
-fn assert_escaped(rt: &impl Abort, alloc: Global) -> Result<(), Fail> {
-    let page = page(alloc, &MESSAGE)?;
+fn assert_escaped(rt: &impl Abort, page: &str) {
     assert!(rt; !page.contains("<b>"));
     assert!(rt; page.contains("name, root label: a&lt;b&gt;&amp;.c."));
-    Ok(())
 }

@@ -46,28 +46,14 @@ fn assert_same_text(rt: &impl Abort, alloc: Global) -> Result<(), Fail> {
 /// Words for the program, its input, the status with which it ends, and what it prints.
 type Run<'a> = (&'a [&'a str], &'a [u8], u8, &'a str);
 
-const ODD_DIGITS: &[Run<'_>] = &[
+const RUNS: &[Run<'_>] = &[
+    // an odd number of digits
     (&[], b"000", 1, "bad hex\n"),
     (&["--html"], b"0 0 0\n", 1, "bad hex\n"),
-];
-
-#[test]
-fn refuses_an_odd_number_of_digits(rt: HostRuntime) -> Result<(), Fail> {
-    assert_runs(&rt, rt.alloc(), ODD_DIGITS)
-}
-
-const OTHER_WORDS: &[Run<'_>] = &[
+    // other words
     (&["--text"], b"00", 2, "usage: dnsview [--html]\n"),
     (&["--html", "--html"], b"00", 2, "usage: dnsview [--html]\n"),
-];
-
-#[test]
-fn refuses_other_words(rt: HostRuntime) -> Result<(), Fail> {
-    assert_runs(&rt, rt.alloc(), OTHER_WORDS)
-}
-
-/// An octet that is no digit, and no octet at all.
-const FEW_OCTETS: &[Run<'_>] = &[
+    // an octet that is no digit, and no octet at all
     (
         &[],
         b"g",
@@ -83,12 +69,12 @@ const FEW_OCTETS: &[Run<'_>] = &[
 ];
 
 #[test]
-fn takes_few_octets_as_a_message(rt: HostRuntime) -> Result<(), Fail> {
-    assert_runs(&rt, rt.alloc(), FEW_OCTETS)
+fn answers_other_input(rt: HostRuntime) -> Result<(), Fail> {
+    assert_runs(&rt, rt.alloc())
 }
 
-fn assert_runs(rt: &impl Abort, alloc: Global, runs: &[Run<'_>]) -> Result<(), Fail> {
-    for (words, input, status, text) in runs {
+fn assert_runs(rt: &impl Abort, alloc: Global) -> Result<(), Fail> {
+    for (words, input, status, text) in RUNS {
         let (ended, printed) = run(alloc, words, input)?;
         assert_eq!(rt; ended, *status, "after {printed}");
         assert_eq!(rt; printed.as_str(), *text);
@@ -98,13 +84,8 @@ fn assert_runs(rt: &impl Abort, alloc: Global, runs: &[Run<'_>]) -> Result<(), F
 
 #[test]
 fn prints_a_page(rt: HostRuntime) -> Result<(), Fail> {
-    assert_page(&rt, rt.alloc())
-}
-
-fn assert_page(rt: &impl Abort, alloc: Global) -> Result<(), Fail> {
-    let (status, page) = run(alloc, &["--html"], b"000000000000000000000000")?;
+    let (status, page) = run(rt.alloc(), &["--html"], b"000000000000000000000000")?;
     assert_eq!(rt; status, 0);
-    assert!(rt; page.starts_with("<!DOCTYPE html>\n"));
-    assert!(rt; page.ends_with("</html>\n"));
+    assert!(rt; page.starts_with("<!DOCTYPE html>\n") && page.ends_with("</html>\n"));
     Ok(())
 }
