@@ -2,8 +2,6 @@
 use dns_code::{Class, Opcode, OptRcode, OptionCode, Rcode, Rtype, class, rtype};
 use std::alloc::Global;
 use std::fmt::Display;
-use std::process::Abort;
-use std::test::Fail;
 
 /// The number of the record type that the text spells.
 fn rtype_text(text: &str) -> Option<u16> {
@@ -46,26 +44,26 @@ fn reads_classes(rt: HostRuntime) {
     }
 }
 
-/// The value is printed so.
-pub(crate) fn assert_printed<T: Display>(
-    rt: &impl Abort,
-    alloc: Global,
-    value: &T,
-    text: &str,
-) -> Result<(), Fail> {
-    assert_eq!(rt; value.to_string(alloc)?.as_str(), text);
-    Ok(())
+/// Whether the value is printed so.
+pub(crate) fn prints<T: Display>(alloc: Global, value: &T, text: &str) -> bool {
+    match value.to_string(alloc) {
+        Ok(printed) => printed.as_str() == text,
+        Err(_) => false,
+    }
 }
 
 #[test]
-fn prints_types_and_classes(rt: HostRuntime) -> Result<(), Fail> {
+fn prints_types_and_classes(rt: HostRuntime) {
     let alloc = rt.alloc();
-    assert_printed(&rt, alloc, &Rtype::AXFR, "AXFR")?;
-    assert_printed(&rt, alloc, &Rtype::from_int(3), "TYPE3")?;
-    assert_printed(&rt, alloc, &Class::from_int(255), "CLASS255")?;
-    assert_printed(&rt, alloc, &Class::HS, "HS")?;
-    assert_printed(&rt, alloc, &rtype::FromStrError, "unknown record type")?;
-    assert_printed(&rt, alloc, &class::FromStrError, "unknown class")
+    let printed = [
+        prints(alloc, &Rtype::AXFR, "AXFR"),
+        prints(alloc, &Rtype::from_int(3), "TYPE3"),
+        prints(alloc, &Class::from_int(255), "CLASS255"),
+        prints(alloc, &Class::HS, "HS"),
+        prints(alloc, &rtype::FromStrError, "unknown record type"),
+        prints(alloc, &class::FromStrError, "unknown class"),
+    ];
+    assert_eq!(rt; printed, [true; 6]);
 }
 
 #[test]

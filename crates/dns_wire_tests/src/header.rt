@@ -1,168 +1,170 @@
 //! Headers, flags and counts of messages.
-use crate::codes::assert_printed;
+use crate::codes::prints;
 use dns_code::{
     CountOverflow, Flags, FlagsFromStrError, Header, HeaderCounts, HeaderSection, Opcode, Rcode,
 };
 use dns_wire::{ParseError, Parser};
-use std::process::Abort;
 use std::test::Fail;
 
 const SECTION: [u8; 12] = *b"\x01\x02\x00\x00\x12\x34\x56\x78\x9a\xbc\xde\xf0";
 
-#[test]
-fn takes_a_slice_of_a_message(rt: HostRuntime) -> Result<(), Fail> {
-    let header = Header::for_message_slice(&SECTION);
-    let counts = HeaderCounts::for_message_slice(&SECTION);
-    let section = HeaderSection::for_message_slice(&SECTION);
-    assert_eq!(rt; header.as_slice(), b"\x01\x02\x00\x00".as_slice());
-    assert_eq!(rt;
-        counts.as_slice(),
-        b"\x12\x34\x56\x78\x9a\xbc\xde\xf0".as_slice()
-    );
-    assert_eq!(rt; section.as_slice(), SECTION.as_slice());
-    assert!(rt; section.header() == header && section.counts() == counts);
-    Ok(())
-}
+const NO_FLAG: Flags = Flags {
+    qr: false,
+    aa: false,
+    tc: false,
+    rd: false,
+    ra: false,
+    ad: false,
+    cd: false,
+};
+
+const ALL_FLAGS: Flags = Flags {
+    qr: true,
+    aa: true,
+    tc: true,
+    rd: true,
+    ra: true,
+    ad: true,
+    cd: true,
+};
 
 #[test]
-fn a_new_header_has_no_bit_set(rt: HostRuntime) {
-    let header = Header::new();
-    assert_eq!(rt; header.as_slice(), b"\x00\x00\x00\x00".as_slice());
-    assert_eq!(rt; (header.id(), header.opcode()), (0, Opcode::QUERY));
-    assert_eq!(rt; header.rcode(), Rcode::NOERROR);
-    assert_eq!(rt; header.flags(), Flags::new());
-    assert!(rt; !header.z());
+fn takes_a_slice_of_a_message(rt: HostRuntime) {
+    let section = HeaderSection::for_message_slice(&SECTION);
+    let header = Header::for_message_slice(&SECTION);
+    let counts = HeaderCounts::for_message_slice(&SECTION);
+    assert_eq!(rt; header.as_slice(), b"\x01\x02\x00\x00".as_slice());
+    assert_eq!(rt; counts.as_slice(), &SECTION[4..]);
+    assert_eq!(rt; section.as_slice(), SECTION.as_slice());
+    assert!(rt; section.header() == header && section.counts() == counts);
+}
+
+/// The identifier, the opcode, the response code, the reserved bit and the flags of the header are these.
+fn is_header(header: Header, id: u16, opcode: Opcode, rcode: Rcode, flags: Flags) -> bool {
+    header.id() == id
+        && header.opcode() == opcode
+        && header.rcode() == rcode
+        && header.flags() == flags
+        && !header.z()
 }
 
 #[test]
 fn keeps_each_field_apart(rt: HostRuntime) {
     let mut header = Header::new();
+    assert!(rt; is_header(header, 0, Opcode::QUERY, Rcode::NOERROR, Flags::new()));
     header.set_id(0x1234);
     header.set_opcode(Opcode::NOTIFY);
     header.set_rcode(Rcode::REFUSED);
-    header.set_flags(Flags {
+    let flags = Flags {
         qr: true,
-        ..Flags::new()
-    });
-    assert_eq!(rt; (header.id(), header.opcode()), (0x1234, Opcode::NOTIFY));
-    assert_eq!(rt; header.rcode(), Rcode::REFUSED);
+        ..NO_FLAG
+    };
+    header.set_flags(flags);
+    assert!(rt; is_header(header, 0x1234, Opcode::NOTIFY, Rcode::REFUSED, flags));
     assert_eq!(rt; header.as_slice(), b"\x12\x34\xA0\x05".as_slice());
+}
+
+/// Sets or clears each flag, and the reserved bit.
+fn set_all(header: &mut Header, set: bool) {
+    header.set_qr(set);
+    header.set_aa(set);
+    header.set_tc(set);
+    header.set_rd(set);
+    header.set_ra(set);
+    header.set_z(set);
+    header.set_ad(set);
+    header.set_cd(set);
+}
+
+/// Each flag, and the reserved bit.
+fn all_of(header: Header) -> [bool; 8] {
+    [
+        header.qr(),
+        header.aa(),
+        header.tc(),
+        header.rd(),
+        header.ra(),
+        header.z(),
+        header.ad(),
+        header.cd(),
+    ]
 }
 
 #[test]
 fn sets_each_flag(rt: HostRuntime) {
     let mut header = Header::new();
-    header.set_qr(true);
-    header.set_aa(true);
-    header.set_tc(true);
-    header.set_rd(true);
-    assert_eq!(rt; header.as_slice(), b"\x00\x00\x87\x00".as_slice());
-    header.set_ra(true);
-    header.set_z(true);
-    header.set_ad(true);
-    header.set_cd(true);
-    assert_eq!(rt; header.as_slice(), b"\x00\x00\x87\xF0".as_slice());
-    assert!(rt; header.qr() && header.aa() && header.tc() && header.rd());
-    assert!(rt; header.ra() && header.z() && header.ad() && header.cd());
-}
-
-#[test]
-fn clears_flags(rt: HostRuntime) {
-    let mut header = Header::for_message_slice(b"\x00\x00\x87\xF0\x00\x00\x00\x00\x00\x00\x00\x00");
-    header.set_qr(false);
-    header.set_tc(false);
-    header.set_ra(false);
-    header.set_ad(false);
-    assert_eq!(rt; header.as_slice(), b"\x00\x00\x05\x50".as_slice());
-}
-
-#[test]
-fn writes_four_bits_of_an_opcode(rt: HostRuntime) -> Result<(), Fail> {
-    let mut header = Header::new();
-    header.set_opcode(Opcode::from_int(0x10));
-    assert_eq!(rt; header.as_slice(), b"\x00\x00\x00\x00".as_slice());
-    header.set_opcode(Opcode::from_int(0x1f));
-    assert_eq!(rt; header.as_slice(), b"\x00\x00\x78\x00".as_slice());
-    Ok(())
-}
-
-#[test]
-fn reads_texts_of_flags(rt: HostRuntime) -> Result<(), Fail> {
-    let none = Flags::new();
-    let four = Flags {
-        aa: true,
-        tc: true,
-        rd: true,
-        cd: true,
-        ..none
-    };
-    let all = Flags {
-        qr: true,
-        aa: true,
-        tc: true,
-        rd: true,
-        ra: true,
-        ad: true,
-        cd: true,
-    };
-    for (text, flags) in [
-        ("tC Aa CD rd", Some(four)),
-        (
-            "RD CD",
-            Some(Flags {
-                rd: true,
-                cd: true,
-                ..none
-            }),
-        ),
-        ("", Some(none)),
-        ("QR AA TC RD RA AD CD", Some(all)),
-        (
-            "  qr  aa ",
-            Some(Flags {
-                qr: true,
-                aa: true,
-                ..none
-            }),
-        ),
-        ("XXXX", None),
-        ("QR,AA", None),
-        ("QR\tAA", None),
+    for (set, octets) in [
+        (true, b"\x00\x00\x87\xF0".as_slice()),
+        (false, b"\x00\x00\x00\x00"),
     ] {
+        set_all(&mut header, set);
+        assert_eq!(rt; header.as_slice(), octets);
+        assert_eq!(rt; all_of(header), [set; 8]);
+    }
+}
+
+#[test]
+fn writes_four_bits_of_an_opcode(rt: HostRuntime) {
+    let mut header = Header::new();
+    for (opcode, octets) in [
+        (0x10, b"\x00\x00\x00\x00".as_slice()),
+        (0x1f, b"\x00\x00\x78\x00"),
+    ] {
+        header.set_opcode(Opcode::from_int(opcode));
+        assert_eq!(rt; header.as_slice(), octets);
+    }
+}
+
+const FLAG_TEXTS: [(&str, Option<Flags>); 8] = [
+    (
+        "tC Aa CD rd",
+        Some(Flags {
+            aa: true,
+            tc: true,
+            rd: true,
+            cd: true,
+            ..NO_FLAG
+        }),
+    ),
+    (
+        "RD CD",
+        Some(Flags {
+            rd: true,
+            cd: true,
+            ..NO_FLAG
+        }),
+    ),
+    ("", Some(NO_FLAG)),
+    ("QR AA TC RD RA AD CD", Some(ALL_FLAGS)),
+    (
+        "  qr  aa ",
+        Some(Flags {
+            qr: true,
+            aa: true,
+            ..NO_FLAG
+        }),
+    ),
+    ("XXXX", None),
+    ("QR,AA", None),
+    ("QR\tAA", None),
+];
+
+#[test]
+fn reads_texts_of_flags(rt: HostRuntime) {
+    for (text, flags) in FLAG_TEXTS {
         assert_eq!(rt; text.parse::<Flags>().ok(), flags, "at {text:?}");
     }
-    Ok(())
 }
 
 #[test]
 fn prints_flags(rt: HostRuntime) -> Result<(), Fail> {
-    let all = Flags {
-        qr: true,
-        aa: true,
-        tc: true,
-        rd: true,
-        ra: true,
-        ad: true,
-        cd: true,
-    };
-    assert_printed(&rt, rt.alloc(), &all, "QR AA TC RD RA AD CD")?;
-    let some = Flags {
-        rd: true,
-        cd: true,
-        ..Flags::new()
-    };
-    assert_printed(&rt, rt.alloc(), &some, "RD CD")?;
-    assert_printed(&rt, rt.alloc(), &Flags::new(), "")
-}
-
-#[test]
-fn clears_the_other_flags(rt: HostRuntime) {
-    let mut header = Header::for_message_slice(b"\x00\x00\x87\xF0\x00\x00\x00\x00\x00\x00\x00\x00");
-    header.set_aa(false);
-    header.set_rd(false);
-    header.set_z(false);
-    header.set_cd(false);
-    assert_eq!(rt; header.as_slice(), b"\x00\x00\x82\xA0".as_slice());
+    for text in ["QR AA TC RD RA AD CD", "RD CD", ""] {
+        assert!(rt;
+            prints(rt.alloc(), &text.parse::<Flags>()?, text),
+            "at {text}"
+        );
+    }
+    Ok(())
 }
 
 /// Counts of 0x0102, 0x0304, 0x0506 and 0x0708.
@@ -173,30 +175,64 @@ fn some_counts() -> HeaderCounts {
 #[test]
 fn has_counts_by_two_names(rt: HostRuntime) {
     let counts = some_counts();
-    assert_eq!(rt; (counts.qdcount(), counts.ancount()), (0x0102, 0x0304));
-    assert_eq!(rt; (counts.nscount(), counts.arcount()), (0x0506, 0x0708));
-    assert_eq!(rt; (counts.zocount(), counts.prcount()), (0x0102, 0x0304));
-    assert_eq!(rt; (counts.upcount(), counts.adcount()), (0x0506, 0x0708));
+    let read = [
+        counts.qdcount(),
+        counts.ancount(),
+        counts.nscount(),
+        counts.arcount(),
+    ];
+    assert_eq!(rt; read, [0x0102, 0x0304, 0x0506, 0x0708]);
+    let update = [
+        counts.zocount(),
+        counts.prcount(),
+        counts.upcount(),
+        counts.adcount(),
+    ];
+    assert_eq!(rt; update, read);
+}
+
+/// Raises each count, and says which of them were refused.
+fn raise(counts: &mut HeaderCounts) -> [bool; 4] {
+    [
+        counts.inc_qdcount().is_err(),
+        counts.inc_ancount().is_err(),
+        counts.inc_nscount().is_err(),
+        counts.inc_arcount().is_err(),
+    ]
 }
 
 #[test]
-fn counts_up(rt: HostRuntime) -> Result<(), Fail> {
+fn counts_up(rt: HostRuntime) {
     let mut counts = some_counts();
-    counts.inc_qdcount()?;
-    counts.inc_ancount()?;
-    counts.inc_nscount()?;
-    counts.inc_arcount()?;
+    assert_eq!(rt; raise(&mut counts), [false; 4]);
     assert_eq!(rt;
         counts.as_slice(),
         b"\x01\x03\x03\x05\x05\x07\x07\x09".as_slice()
     );
-    Ok(())
 }
 
-/// To count down asks for a count above 0.
+/// Messages in which one count is 65,534 and the others are 65,535.
+const NEARLY_FULL: [&[u8; 12]; 4] = [
+    b"\x00\x00\x00\x00\xff\xfe\xff\xff\xff\xff\xff\xff",
+    b"\x00\x00\x00\x00\xff\xff\xff\xfe\xff\xff\xff\xff",
+    b"\x00\x00\x00\x00\xff\xff\xff\xff\xff\xfe\xff\xff",
+    b"\x00\x00\x00\x00\xff\xff\xff\xff\xff\xff\xff\xfe",
+];
+
 #[test]
-fn counts_down(rt: HostRuntime) {
-    let mut counts = some_counts();
+fn raises_each_count_to_65535(rt: HostRuntime) {
+    for place in 0..4 {
+        let mut counts = HeaderCounts::for_message_slice(NEARLY_FULL[place]);
+        let mut refused = [true; 4];
+        refused[place] = false;
+        assert_eq!(rt; raise(&mut counts), refused);
+        assert_eq!(rt; raise(&mut counts), [true; 4]);
+        assert_eq!(rt; counts.as_slice(), [0xff; 8].as_slice());
+    }
+}
+
+/// Counts down, which asks for a count above 0.
+fn lower(counts: &mut HeaderCounts) {
     if counts.qdcount() > 0 {
         counts.dec_qdcount();
     }
@@ -209,6 +245,12 @@ fn counts_down(rt: HostRuntime) {
     if counts.arcount() > 0 {
         counts.dec_arcount();
     }
+}
+
+#[test]
+fn counts_down(rt: HostRuntime) {
+    let mut counts = some_counts();
+    lower(&mut counts);
     assert_eq!(rt;
         counts.as_slice(),
         b"\x01\x01\x03\x03\x05\x05\x07\x07".as_slice()
@@ -216,7 +258,7 @@ fn counts_down(rt: HostRuntime) {
 }
 
 #[test]
-fn sets_counts(rt: HostRuntime) {
+fn sets_counts_by_two_names(rt: HostRuntime) {
     let mut counts = HeaderCounts::new();
     counts.set_qdcount(0x0807);
     counts.set_ancount(0x0605);
@@ -226,90 +268,34 @@ fn sets_counts(rt: HostRuntime) {
         counts.as_slice(),
         b"\x08\x07\x06\x05\x04\x03\x02\x01".as_slice()
     );
-    let mut copy = HeaderCounts::new();
-    copy.set(counts);
-    assert_eq!(rt; copy, counts);
+    let mut update = HeaderCounts::new();
+    update.set_zocount(0x0807);
+    update.set_prcount(0x0605);
+    update.set_upcount(0x0403);
+    update.set_adcount(0x0201);
+    assert_eq!(rt; update, counts);
+    update.set(HeaderCounts::new());
+    assert_eq!(rt; update, HeaderCounts::new());
 }
 
 #[test]
-fn sets_counts_of_an_update(rt: HostRuntime) {
-    let mut counts = HeaderCounts::new();
-    counts.set_zocount(0x0807);
-    counts.set_prcount(0x0605);
-    counts.set_upcount(0x0403);
-    counts.set_adcount(0x0201);
-    assert_eq!(rt;
-        counts.as_slice(),
-        b"\x08\x07\x06\x05\x04\x03\x02\x01".as_slice()
-    );
-}
-
-#[test]
-fn refuses_a_count_past_65535(rt: HostRuntime) -> Result<(), Fail> {
-    let mut counts = HeaderCounts::new();
-    counts.set_qdcount(0xfffe);
-    counts.set_ancount(0xffff);
-    counts.set_nscount(0xffff);
-    counts.set_arcount(0xffff);
-    counts.inc_qdcount()?;
-    assert!(rt; counts.inc_qdcount().is_err() && counts.inc_ancount().is_err());
-    assert!(rt; counts.inc_nscount().is_err() && counts.inc_arcount().is_err());
-    assert_eq!(rt;
-        counts.as_slice(),
-        b"\xff\xff\xff\xff\xff\xff\xff\xff".as_slice()
-    );
-    Ok(())
-}
-
-/// A raise was refused, and all counts are 65,535.
-fn assert_full(rt: &impl Abort, counts: HeaderCounts, refused: Result<(), CountOverflow>) {
-    assert!(rt; refused.is_err());
-    assert_eq!(rt;
-        counts.as_slice(),
-        b"\xff\xff\xff\xff\xff\xff\xff\xff".as_slice()
-    );
-}
-
-#[test]
-fn raises_each_count_to_65535(rt: HostRuntime) -> Result<(), Fail> {
-    let mut counts = HeaderCounts::for_message_slice(
-        b"\x00\x00\x00\x00\xff\xfe\xff\xfe\xff\xfe\xff\xfe",
-    );
-    counts.inc_qdcount()?;
-    counts.inc_ancount()?;
-    counts.inc_nscount()?;
-    counts.inc_arcount()?;
-    let refused = counts.inc_qdcount();
-    assert_full(&rt, counts, refused);
-    let refused = counts.inc_ancount();
-    assert_full(&rt, counts, refused);
-    let refused = counts.inc_nscount();
-    assert_full(&rt, counts, refused);
-    let refused = counts.inc_arcount();
-    assert_full(&rt, counts, refused);
-    Ok(())
-}
-
-#[test]
-fn parses_a_section(rt: HostRuntime) -> Result<(), Fail> {
+fn parses_a_section(rt: HostRuntime) {
     let mut parser = Parser::new(&SECTION);
-    let mut section = HeaderSection::parse(&mut parser)?;
-    assert_eq!(rt; section, HeaderSection::for_message_slice(&SECTION));
+    let section = HeaderSection::parse(&mut parser);
+    assert_eq!(rt; section, Ok(HeaderSection::for_message_slice(&SECTION)));
+    assert_eq!(rt;
+        HeaderSection::parse(&mut parser),
+        Err(ParseError::ShortInput)
+    );
     assert_eq!(rt; parser.pos(), 12);
+}
+
+#[test]
+fn replaces_the_parts_of_a_section(rt: HostRuntime) {
+    let mut section = HeaderSection::for_message_slice(&SECTION);
     section.set_header(Header::new());
     section.set_counts(HeaderCounts::new());
     assert_eq!(rt; section, HeaderSection::new());
-    Ok(())
-}
-
-#[test]
-fn parses_no_section_of_eleven_octets(rt: HostRuntime) {
-    let mut short = Parser::new(&SECTION[..11]);
-    assert_eq!(rt;
-        HeaderSection::parse(&mut short),
-        Err(ParseError::ShortInput)
-    );
-    assert_eq!(rt; short.pos(), 0);
 }
 
 #[test]
@@ -320,15 +306,25 @@ fn composes_a_section(rt: HostRuntime) -> Result<(), Fail> {
     Ok(())
 }
 
+/// The error of a count that passes 65,535.
+fn count_overflow() -> Option<CountOverflow> {
+    HeaderCounts::for_message_slice(&[0xff; 12])
+        .inc_qdcount()
+        .err()
+}
+
+/// The error of a text that is no flag's.
+fn flags_error() -> Option<FlagsFromStrError> {
+    "XXXX".parse::<Flags>().err()
+}
+
 #[test]
 fn tells_what_is_wrong(rt: HostRuntime) -> Result<(), Fail> {
-    let mut counts = HeaderCounts::new();
-    counts.set_qdcount(0xffff);
-    let overflow: Option<CountOverflow> = counts.inc_qdcount().err();
-    let overflow = overflow.ok_or("no overflow")?;
+    let alloc = rt.alloc();
+    let overflow = count_overflow().ok_or("no overflow")?;
     let text = "increasing a header count lead to an overflow";
-    assert_printed(&rt, rt.alloc(), &overflow, text)?;
-    let token: Option<FlagsFromStrError> = "XXXX".parse::<Flags>().err();
-    let token = token.ok_or("no error")?;
-    assert_printed(&rt, rt.alloc(), &token, "illegal flags token")
+    assert!(rt; prints(alloc, &overflow, text));
+    let token = flags_error().ok_or("no error")?;
+    assert!(rt; prints(alloc, &token, "illegal flags token"));
+    Ok(())
 }

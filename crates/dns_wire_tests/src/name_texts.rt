@@ -1,10 +1,10 @@
 //! Names read from texts, and printed.
-use crate::codes::assert_printed;
+use crate::codes::prints;
 use arrayvec::ArrayVec;
 use dns_wire::name::{FromStrError, PresentationError};
-use dns_wire::{Name, ParsedName, Parser, ToNameExt};
+use dns_wire::{Name, ParseError, ParsedName, Parser, ToName, ToNameExt};
 use std::alloc::Global;
-use std::process::Abort;
+use std::fmt::Display;
 use std::test::Fail;
 
 /// A text, and the octets of the name that it spells with how that is printed, or the fault.
@@ -78,41 +78,38 @@ const CASES: [Case; 15] = [
     },
 ];
 
-/// Reads the text into memory and into a buffer, and prints what is read.
-fn assert_name(
-    rt: &impl Abort,
+/// Whether a name read from a text has these octets and is printed so, or whether the text has this fault.
+fn answers<T: ToName + Display + Drop>(
     alloc: Global,
-    text: &str,
-    octets: &[u8],
-    printed: &str,
-) -> Result<(), Fail> {
-    let expected = Name::from_octets(octets)?;
-    let name = Name::vec_from_str(alloc, text)?;
-    assert!(rt; name.octets_eq(&expected));
-    assert_printed(rt, alloc, &name, printed)?;
-    let buffered = text.parse::<Name<ArrayVec<u8, 255>>>()?;
-    assert!(rt; buffered.octets_eq(&expected));
-    Ok(())
+    read: Result<T, FromStrError>,
+    answer: Result<(&'static [u8], &'static str), PresentationError>,
+) -> Result<bool, ParseError> {
+    match (read, answer) {
+        (Ok(name), Ok((octets, printed))) => is_name(alloc, &name, octets, printed),
+        (Err(fault), Err(wanted)) => Ok(fault == FromStrError::Presentation(wanted)),
+        _ => Ok(false),
+    }
 }
 
-/// The text is refused, into memory and into a buffer.
-fn assert_fault(rt: &impl Abort, alloc: Global, text: &str, fault: PresentationError) {
-    let answer = Some(FromStrError::Presentation(fault));
-    assert_eq!(rt; Name::vec_from_str(alloc, text).err(), answer);
-    let buffered = text.parse::<Name<ArrayVec<u8, 255>>>();
-    assert_eq!(rt; buffered.err(), answer);
+/// Whether the name has these octets and is printed so.
+fn is_name<T: ToName + Display>(
+    alloc: Global,
+    name: &T,
+    octets: &[u8],
+    printed: &str,
+) -> Result<bool, ParseError> {
+    Ok(name.octets_eq(&Name::from_octets(octets)?) && prints(alloc, name, printed))
 }
 
 #[test]
-fn reads_and_prints(rt: HostRuntime) -> Result<(), Fail> {
+fn reads_and_prints(rt: HostRuntime) {
     let alloc = rt.alloc();
     for case in CASES {
-        match case.answer {
-            Ok((octets, printed)) => assert_name(&rt, alloc, case.text, octets, printed)?,
-            Err(fault) => assert_fault(&rt, alloc, case.text, fault),
-        }
+        let in_memory = answers(alloc, Name::vec_from_str(alloc, case.text), case.answer);
+        let buffered = case.text.parse::<Name<ArrayVec<u8, 255>>>();
+        let buffered = answers(alloc, buffered, case.answer);
+        assert_eq!(rt; [in_memory, buffered], [Ok(true); 2], "at {:?}", case.text);
     }
-    Ok(())
 }
 
 #[test]
@@ -120,27 +117,41 @@ fn prints_a_parsed_name(rt: HostRuntime) -> Result<(), Fail> {
     let mut parser = Parser::new(b"\x03com\x00\x07ex.mple\xC0\x00");
     parser.seek(5)?;
     let name = ParsedName::parse(&mut parser)?;
-    assert_printed(&rt, rt.alloc(), &name, "ex\\.mple.com")
+    assert!(rt; prints(rt.alloc(), &name, "ex\\.mple.com"));
+    Ok(())
 }
 
+const FAULTS: [(FromStrError, &str); 7] = [
+    (
+        FromStrError::Presentation(PresentationError::EmptyLabel),
+        "empty label",
+    ),
+    (
+        FromStrError::Presentation(PresentationError::BadSymbol),
+        "illegal symbol",
+    ),
+    (
+        FromStrError::Presentation(PresentationError::BadEscape),
+        "illegal escape",
+    ),
+    (
+        FromStrError::Presentation(PresentationError::LongLabel),
+        "long label",
+    ),
+    (
+        FromStrError::Presentation(PresentationError::LongName),
+        "long name",
+    ),
+    (FromStrError::OutOfMemory, "out of memory"),
+    (FromStrError::ShortBuf, "buffer size exceeded"),
+];
+
 #[test]
-fn tells_faults(rt: HostRuntime) -> Result<(), Fail> {
-    let texts = [
-        (PresentationError::EmptyLabel, "empty label"),
-        (PresentationError::BadSymbol, "illegal symbol"),
-        (PresentationError::BadEscape, "illegal escape"),
-        (PresentationError::LongLabel, "long label"),
-        (PresentationError::LongName, "long name"),
-    ];
-    for (fault, text) in texts {
-        assert_printed(&rt, rt.alloc(), &fault, text)?;
-        assert_printed(&rt, rt.alloc(), &FromStrError::Presentation(fault), text)?;
+fn tells_faults(rt: HostRuntime) {
+    for (fault, text) in FAULTS {
+        assert!(rt; prints(rt.alloc(), &fault, text), "at {text}");
+        if let FromStrError::Presentation(fault) = fault {
+            assert!(rt; prints(rt.alloc(), &fault, text), "at {text}");
+        }
     }
-    assert_printed(&rt, rt.alloc(), &FromStrError::OutOfMemory, "out of memory")?;
-    assert_printed(
-        &rt,
-        rt.alloc(),
-        &FromStrError::ShortBuf,
-        "buffer size exceeded",
-    )
 }

@@ -167,14 +167,6 @@ fn sees_no_further_than_the_data(rt: HostRuntime) -> Result<(), Fail> {
     Ok(())
 }
 
-#[test]
-fn sees_the_whole_input(rt: HostRuntime) -> Result<(), Fail> {
-    let mut whole = Parser::new(HALF_A_POINTER);
-    whole.seek(23)?;
-    assert!(rt; ParsedName::parse(&mut whole)?.is_root());
-    Ok(())
-}
-
 /// A name of labels of 63, 63, 63 and 61 octets.
 fn longest_name() -> [u8; 255] {
     let mut octets = [b'a'; 255];
@@ -238,20 +230,6 @@ fn goes_over_labels(rt: HostRuntime) -> Result<(), Fail> {
         assert_eq!(rt; labels.next().map(|label| label.as_slice()), Some(text));
     }
     assert!(rt; labels.next().is_none() && labels.next_back().is_none());
-    Ok(())
-}
-
-#[test]
-fn goes_over_labels_from_the_back(rt: HostRuntime) -> Result<(), Fail> {
-    let name = example()?;
-    let mut labels = name.iter_labels();
-    for text in LABELS.iter().rev() {
-        assert_eq!(rt;
-            labels.next_back().map(|label| label.as_slice()),
-            Some(*text)
-        );
-    }
-    assert!(rt; labels.next_back().is_none() && labels.next().is_none());
     Ok(())
 }
 

@@ -3,7 +3,8 @@ ghost use Rattle.std.specs.Prelude.{◌≤◌, length};
 
 use arrayvec::ArrayVec;
 use dns_wire::{
-    AppendError, FlattenInto, Name, Octets, OctetsFrom, OctetsMut, ParsedName, Parser, ToNameExt,
+    AppendError, FlattenInto, Name, Octets, OctetsFrom, OctetsMut, ParsedName, Parser, ToName,
+    ToNameExt,
 };
 use std::alloc::{AllocError, Global};
 use std::process::Abort;
@@ -23,31 +24,11 @@ fn assert_abc<T: Octets>(rt: &impl Abort, holder: &T) {
     assert_eq!(rt; holder.octets(), b"abc".as_slice());
 }
 
-fn assert_plain<T: Octets>(rt: &impl Abort, name: &Name<T>) {
-    assert_eq!(rt; name.as_slice(), PLAIN.as_slice());
-}
-
 fn assert_written<T: OctetsMut>(rt: &impl Abort, holder: &mut T)
     requires { 4 ≤ length (T.octets holder.old) }
 {
     holder.write_at(1, b"XY");
     assert_eq!(rt; holder.octets(), b"aXYd".as_slice());
-}
-
-fn convert<T: OctetsFrom<S>, S>(alloc: Global, source: S) -> Result<T, AppendError> {
-    T::try_octets_from(alloc, source)
-}
-
-fn flatten<T, S: FlattenInto<T>>(alloc: Global, source: S) -> Result<T, AppendError> {
-    source.try_flatten_into(alloc)
-}
-
-fn clone_of<T: Clone>(value: &T) -> Result<T, AllocError> {
-    value.clone()
-}
-
-fn copy_of<T: Copy>(value: &T) -> T {
-    *value
 }
 
 #[test]
@@ -70,94 +51,112 @@ fn writes_over_octets(rt: HostRuntime) -> Result<(), Fail> {
     Ok(())
 }
 
-/// Converts a holder of `abc` into a vector.
-fn assert_vec<S>(rt: &impl Abort, alloc: Global, source: S) -> Result<(), Fail>
-where
-    Vec<u8>: OctetsFrom<S>,
-{
-    let vec: Vec<u8> = convert(alloc, source)?;
-    assert_abc(rt, &vec);
-    Ok(())
+/// Whether the source is converted into a holder of `abc`.
+fn gives_abc<T: OctetsFrom<S> + Octets + Drop, S>(
+    alloc: Global,
+    source: S,
+) -> Result<bool, AppendError> {
+    Ok(T::try_octets_from(alloc, source)?.octets() == b"abc".as_slice())
 }
 
 #[test]
-fn converts_into_vec(rt: HostRuntime) -> Result<(), Fail> {
+fn converts_octets(rt: HostRuntime) -> Result<(), Fail> {
     let alloc = rt.alloc();
     let vec = Vec::from_slice(alloc, b"abc")?;
-    assert_vec(&rt, alloc, *b"abc")?;
-    assert_vec(&rt, alloc, ArrayVec::<u8, 3>::from(*b"abc"))?;
-    assert_vec(&rt, alloc, b"abc".as_slice())?;
-    assert_vec(&rt, alloc, &vec)?;
-    assert_vec(&rt, alloc, vec)
+    let full = ArrayVec::<u8, 3>::from(*b"abc");
+    assert_eq!(rt; gives_abc::<&[u8], _>(alloc, &vec), Ok(true));
+    assert_eq!(rt; gives_abc::<Vec<u8>, _>(alloc, &vec), Ok(true));
+    assert_eq!(rt; gives_abc::<Vec<u8>, _>(alloc, vec), Ok(true));
+    let answers = [
+        gives_abc::<Vec<u8>, _>(alloc, *b"abc"),
+        gives_abc::<Vec<u8>, _>(alloc, b"abc".as_slice()),
+        gives_abc::<&[u8], _>(alloc, b"abc".as_slice()),
+        gives_abc::<ArrayVec<u8, 3>, _>(alloc, b"abc"),
+        gives_abc::<Vec<u8>, _>(alloc, ArrayVec::<u8, 3>::from(*b"abc")),
+    ];
+    assert_eq!(rt; answers, [Ok(true); 5]);
+    assert_eq!(rt;
+        gives_abc::<ArrayVec<u8, 2>, _>(alloc, full),
+        Err(AppendError::ShortBuf)
+    );
+    Ok(())
+}
+
+/// Whether the source is converted into a name of `example.com`.
+fn gives_name<T: OctetsFrom<S> + ToName + Drop, S>(alloc: Global, source: S) -> Result<bool, Fail> {
+    Ok(T::try_octets_from(alloc, source)?.octets_eq(&example_com()?))
+}
+
+/// The name in octets that it holds.
+fn held() -> Result<Name<ArrayVec<u8, 13>>, Fail> {
+    Ok(Name::from_octets(ArrayVec::from(PLAIN))?)
+}
+
+/// The name in memory.
+fn in_memory(alloc: Global) -> Result<Name<Vec<u8>>, Fail> {
+    Ok(Name::from_octets(Vec::from_slice(alloc, &PLAIN)?)?)
 }
 
 #[test]
-fn converts_into_array_vec(rt: HostRuntime) -> Result<(), Fail> {
-    let full: ArrayVec<u8, 3> = convert(rt.alloc(), b"abc")?;
-    assert_abc(&rt, &full);
-    let short: Result<ArrayVec<u8, 2>, AppendError> = convert(rt.alloc(), full);
-    assert_eq!(rt; short.map(|_| ()), Err(AppendError::ShortBuf));
+fn converts_names(rt: HostRuntime) -> Result<(), Fail> {
+    let alloc = rt.alloc();
+    let slice = Name::from_octets(PLAIN.as_slice())?;
+    let answers = [
+        gives_name::<Name<Vec<u8>>, _>(alloc, slice)?,
+        gives_name::<Name<ArrayVec<u8, 13>>, _>(alloc, slice)?,
+        gives_name::<Name<&[u8]>, _>(alloc, slice)?,
+        gives_name::<Name<Vec<u8>>, _>(alloc, &held()?)?,
+        gives_name::<Name<Vec<u8>>, _>(alloc, held()?)?,
+        gives_name::<Name<&[u8]>, _>(alloc, &in_memory(alloc)?)?,
+        gives_name::<Name<ArrayVec<u8, 13>>, _>(alloc, &held()?)?,
+    ];
+    assert_eq!(rt; answers, [true; 7]);
     Ok(())
 }
 
 #[test]
-fn converts_into_slice(rt: HostRuntime) -> Result<(), Fail> {
-    let vec = Vec::from_slice(rt.alloc(), b"abc")?;
-    let from_vec: &[u8] = convert(rt.alloc(), &vec)?;
-    let from_slice: &[u8] = convert(rt.alloc(), from_vec)?;
-    assert_abc(&rt, &from_vec);
-    assert_abc(&rt, &from_slice);
+fn refuses_a_name_without_room(rt: HostRuntime) -> Result<(), Fail> {
+    let slice = Name::from_octets(PLAIN.as_slice())?;
+    let short = Name::<ArrayVec<u8, 12>>::try_octets_from(rt.alloc(), slice);
+    assert_eq!(rt; short.err(), Some(AppendError::ShortBuf));
     Ok(())
+}
+
+/// Whether the name is flattened into an equal one.
+fn flattens_to<T: ToName + Drop, S: FlattenInto<T> + ToName + Copy>(
+    alloc: Global,
+    name: S,
+) -> Result<bool, AppendError> {
+    Ok(name.try_flatten_into(alloc)?.octets_eq(&name))
 }
 
 #[test]
 fn flattens(rt: HostRuntime) -> Result<(), Fail> {
-    let parsed = example_com()?;
-    let vec: Name<Vec<u8>> = flatten(rt.alloc(), parsed)?;
-    let array_vec: Name<ArrayVec<u8, 255>> = flatten(rt.alloc(), parsed)?;
-    assert_plain(&rt, &vec);
-    assert_plain(&rt, &array_vec);
-    assert!(rt; vec.name_eq(&parsed));
-    assert!(rt; array_vec.name_eq(&vec));
+    let name = example_com()?;
+    let vec = flattens_to::<Name<Vec<u8>>, _>(rt.alloc(), name);
+    let array_vec = flattens_to::<Name<ArrayVec<u8, 255>>, _>(rt.alloc(), name);
+    assert_eq!(rt; [vec, array_vec], [Ok(true); 2]);
     Ok(())
 }
 
-#[test]
-fn converts_names_into_memory(rt: HostRuntime) -> Result<(), Fail> {
-    let full: Name<ArrayVec<u8, 13>> = convert(rt.alloc(), Name::from_octets(PLAIN.as_slice())?)?;
-    let vec_from_lent: Name<Vec<u8>> = convert(rt.alloc(), &full)?;
-    assert_plain(&rt, &vec_from_lent);
-    let vec_from_full: Name<Vec<u8>> = convert(rt.alloc(), full)?;
-    assert_plain(&rt, &vec_from_full);
-    let slice: Name<&[u8]> = convert(rt.alloc(), &vec_from_full)?;
-    let slice_from_slice: Name<&[u8]> = convert(rt.alloc(), slice)?;
-    assert_plain(&rt, &slice_from_slice);
-    Ok(())
+/// Whether the name has an equal clone.
+fn clones<T: ToName + Clone + Drop>(name: &T) -> Result<bool, AllocError> {
+    Ok(name.clone()?.octets_eq(name))
 }
 
-#[test]
-fn converts_names_into_arrays(rt: HostRuntime) -> Result<(), Fail> {
-    let full: Name<ArrayVec<u8, 13>> = convert(rt.alloc(), Name::from_octets(PLAIN.as_slice())?)?;
-    let full_from_lent: Name<ArrayVec<u8, 13>> = convert(rt.alloc(), &full)?;
-    assert_plain(&rt, &full_from_lent);
-    let short: Result<Name<ArrayVec<u8, 12>>, AppendError> = convert(rt.alloc(), &full);
-    assert_eq!(rt; short.map(|_| ()), Err(AppendError::ShortBuf));
-    Ok(())
-}
-
-/// A name of `example.com` keeps its octets in a clone.
-fn assert_clone<T: Octets + Clone>(rt: &impl Abort, name: &Name<T>) -> Result<(), Fail> {
-    assert_plain(rt, &clone_of(name)?);
-    Ok(())
+fn copy_of<T: Copy>(value: &T) -> T {
+    *value
 }
 
 #[test]
 fn clones_names(rt: HostRuntime) -> Result<(), Fail> {
-    let vec: Name<Vec<u8>> = flatten(rt.alloc(), example_com()?)?;
-    assert_clone(&rt, &vec)?;
-    let slice: Name<&[u8]> = convert(rt.alloc(), &vec)?;
-    assert_clone(&rt, &slice)?;
-    assert_plain(&rt, &copy_of(&slice));
-    let array_vec: Name<ArrayVec<u8, 255>> = flatten(rt.alloc(), example_com()?)?;
-    assert_clone(&rt, &array_vec)
+    let slice = Name::from_octets(PLAIN.as_slice())?;
+    assert!(rt; copy_of(&slice).octets_eq(&slice));
+    let answers = [
+        clones(&slice),
+        clones(&held()?),
+        clones(&in_memory(rt.alloc())?),
+    ];
+    assert_eq!(rt; answers, [Ok(true); 3]);
+    Ok(())
 }

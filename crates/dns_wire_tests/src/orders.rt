@@ -92,16 +92,8 @@ fn first_label(octets: &[u8]) -> Result<Label<'_>, Fail> {
 fn compares_labels_lowercased(rt: HostRuntime) -> Result<(), Fail> {
     let label = first_label(b"\x02aB\x00")?;
     let same = first_label(b"\x02Ab\x00")?;
-    assert_eq!(rt; label, same);
-    assert_eq!(rt; hash_of(&label), hash_of(&same));
+    assert!(rt; label == same && hash_of(&label) == hash_of(&same));
     assert_eq!(rt; compare(&label, &same), Ordering::Equal);
-    Ok(())
-}
-
-#[test]
-fn orders_labels_lowercased(rt: HostRuntime) -> Result<(), Fail> {
-    let label = first_label(b"\x02aB\x00")?;
-    assert!(rt; label < first_label(b"\x03abc\x00")?);
     // the bracket stands between the upper and the lower case
     assert!(rt; first_label(b"\x02a[\x00")? < label);
     Ok(())
