@@ -1,12 +1,9 @@
 //! Answers that are started from a message: the header, the questions that can be read, and a refused one.
-use crate::compressors::over_each;
 use arrayvec::ArrayVec;
 use dns_build::{AnswerBuilder, MessageBuilder, PushError};
 use dns_code::Rcode;
 use dns_read::Message;
-use dns_target::{HashCompressor, StaticCompressor, TreeCompressor};
-use dns_wire::{AppendError, Composer};
-use std::process::Abort;
+use dns_wire::AppendError;
 use std::test::Fail;
 
 /// ID 0x1234, RD, a question for the A records of example.com., and one whose name is a pointer to itself.
@@ -25,43 +22,34 @@ const REFUSED: &[u8; 29] =
 const SERVFAIL: &[u8; 29] =
     b"\x12\x34\x81\x02\x00\x01\x00\x00\x00\x00\x00\x00\x07example\x03com\x00\x00\x01\x00\x01";
 
-/// The answer to `UNREADABLE` is `REFUSED`.
-fn assert_refused<T: Composer>(rt: &impl Abort, target: T) -> Result<(), Fail> {
+#[test]
+fn answers_the_readable_questions(rt: HostRuntime) -> Result<(), Fail> {
     let message = Message::from_slice(UNREADABLE.as_slice())?;
-    let builder = MessageBuilder::from_target(target)?.start_answer(&message, Rcode::REFUSED)?;
+    let builder = MessageBuilder::new_vec(rt.alloc())?.start_answer(&message, Rcode::REFUSED)?;
     assert_eq!(rt; builder.as_slice(), REFUSED.as_slice());
     Ok(())
 }
 
-#[test]
-fn answers_the_readable_questions(rt: HostRuntime) -> Result<(), Fail> {
-    over_each!(rt.alloc(), target => assert_refused(&rt, target))
-}
+type Small = AnswerBuilder<ArrayVec<u8, 40>>;
 
 /// A builder with room for one question of `READABLE`, but not for two.
 fn small() -> Result<MessageBuilder<ArrayVec<u8, 40>>, AppendError> {
     MessageBuilder::from_target(ArrayVec::new())
 }
 
-/// The message is `SERVFAIL`.
-fn assert_servfail<T: Composer>(rt: &impl Abort, builder: AnswerBuilder<T>) {
-    assert_eq!(rt; builder.as_slice(), SERVFAIL.as_slice());
+/// Whether the first question was answered with SERVFAIL, and the second one refused.
+fn is_servfail(given: Result<Small, Small>) -> bool {
+    match given {
+        Ok(_) => false,
+        Err(builder) => builder.as_slice() == SERVFAIL.as_slice(),
+    }
 }
 
 #[test]
 fn keeps_the_questions_before_a_refused_one(rt: HostRuntime) -> Result<(), Fail> {
     let message = Message::from_slice(READABLE.as_slice())?;
-    match small()?.try_start_answer(&message, Rcode::NOERROR) {
-        Ok(_) => panic!(rt; "no refusal"),
-        Err(builder) => assert_servfail(&rt, builder),
-    }
-    assert_servfail(&rt, small()?.start_error(&message, Rcode::NOERROR));
-    Ok(())
-}
-
-#[test]
-fn tells_why_a_question_is_refused(rt: HostRuntime) -> Result<(), Fail> {
-    let message = Message::from_slice(READABLE.as_slice())?;
+    assert!(rt; is_servfail(small()?.try_start_answer(&message, Rcode::NOERROR)));
+    assert!(rt; is_servfail(Err(small()?.start_error(&message, Rcode::NOERROR))));
     let refusal = small()?.start_answer(&message, Rcode::NOERROR).err();
     assert!(rt; matches!(refusal, Some(PushError::ShortBuf)));
     Ok(())

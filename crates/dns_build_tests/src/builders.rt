@@ -1,300 +1,196 @@
-//! Builders: what their octets are, and how a push is refused.
-use crate::compressors::over_each;
+//! Builders over plain targets: limits and counts, moves, conversions and clones.
+use crate::rows::{COUNT, Call, DONE, EMPTY, LIMIT, ROOT, Row, SHORT, Step, ask_step, asked, run};
 use arrayvec::ArrayVec;
-use dns_build::{MessageBuilder, PushError, QuestionBuilder};
-use dns_code::{Class, Header, Opcode, Rcode, Rtype};
-use dns_item::Question;
-use dns_read::Message;
-use dns_target::{HashCompressor, IndexCompressor, StaticCompressor, TreeCompressor};
-use dns_wire::{
-    AppendError, Composer, FreezeBuilder, Name, Octets, ParseError, ParsedName, ToNameExt,
+use dns_build::{
+    AdditionalBuilder, AnswerBuilder, AuthorityBuilder, MessageBuilder, QuestionBuilder,
+    RecordSectionBuilder,
 };
+use dns_data::A;
+use dns_read::Message;
+use dns_target::{HashCompressor, IndexCompressor, StaticCompressor, StreamTarget, TreeCompressor};
+use dns_wire::{CloneTarget, Name};
 use std::alloc::Global;
+use std::convert::AsSlice;
 use std::process::Abort;
 use std::test::Fail;
 
-/// A builder of the question section over an empty vector.
-fn questions_in_vec(alloc: Global) -> Result<QuestionBuilder<Vec<u8>>, AppendError> {
-    Ok(MessageBuilder::new_vec(alloc)?.question())
-}
-
-/// A push of a root question is refused for this cause, and the message keeps its octets, counts and header.
-fn assert_refused<T: Composer>(
-    rt: &impl Abort,
-    builder: &mut QuestionBuilder<T>,
-    cause: PushError,
-) -> Result<(), Fail> {
-    let len = builder.as_slice().len();
-    let counts = builder.counts();
-    let header = builder.header();
-    let refusal = builder.push((Name::from_octets([0])?, Rtype::A));
-    match (refusal, cause) {
-        (Err(PushError::ShortBuf), PushError::ShortBuf)
-        | (Err(PushError::LimitExceeded), PushError::LimitExceeded)
-        | (Err(PushError::CountOverflow), PushError::CountOverflow) => {}
-        _ => panic!(rt; "another answer"),
-    }
-    assert_eq!(rt; builder.as_slice().len(), len);
-    assert!(rt; builder.counts() == counts);
-    assert!(rt; builder.header() == header);
-    Ok(())
-}
-
-/// Pushes a question of the root. The message has so many octets then.
-fn assert_pushed<T: Composer>(
-    rt: &impl Abort,
-    builder: &mut QuestionBuilder<T>,
-    len: usize,
-) -> Result<(), Fail> {
-    builder.push((Name::from_octets([0])?, Rtype::A))?;
-    assert_eq!(rt; builder.as_slice().len(), len);
-    Ok(())
-}
-
-/// The question asks for A records of this name in the class IN.
-fn assert_asks(
-    rt: &impl Abort,
-    question: Option<Result<Question<ParsedName<'_>>, ParseError>>,
-    name: &[u8],
-) -> Result<(), Fail> {
-    let Some(Ok(question)) = question else {
-        panic!(rt; "no question");
-    };
-    assert!(rt; question.qname().octets_eq(&Name::from_octets(name)?));
-    assert!(rt; question.qtype() == Rtype::A && question.qclass() == Class::IN);
-    Ok(())
-}
-
-/// The message has these questions in the class IN for A records, and no fault.
-fn assert_questions<Octs: Octets>(
-    rt: &impl Abort,
-    message: &Message<Octs>,
-    names: &[&[u8]],
-) -> Result<(), Fail> {
-    assert_eq!(rt; usize::from(message.header_counts().qdcount()), names.len());
-    let mut questions = message.question();
-    for name in names {
-        assert_asks(rt, questions.next(), name)?;
-    }
-    assert!(rt; questions.next().is_none());
-    Ok(())
-}
-
-#[test]
-fn builds_the_first_run(rt: HostRuntime) -> Result<(), Fail> {
-    let mut builder = questions_in_vec(rt.alloc())?;
-    builder.push((Name::from_octets(*b"\x07example\x03com\x00")?, Rtype::A))?;
-    let message = builder.into_message();
-    assert_eq!(rt;
-        message.as_slice(),
-        b"\x00\x00\x00\x00\x00\x01\x00\x00\x00\x00\x00\x00\x07example\x03com\x00\x00\x01\x00\x01".as_slice()
-    );
-    assert_questions(&rt, &message, &[b"\x07example\x03com\x00"])
+fn has_no_item(message: &Message<Vec<u8>>) -> Result<bool, Fail> {
+    Ok(
+        message.question().next().is_none()
+            && message.answer()?.next().is_none()
+            && message.authority()?.next().is_none()
+            && message.additional()?.next().is_none(),
+    )
 }
 
 #[test]
 fn builds_an_empty_message(rt: HostRuntime) -> Result<(), Fail> {
-    let builder = MessageBuilder::new_vec(rt.alloc())?;
-    assert_eq!(rt; builder.as_slice(), [0; 12].as_slice());
-    assert!(rt; builder.push_limit().is_none());
-    assert_questions(&rt, &builder.as_message(), &[])?;
-    assert_eq!(rt; builder.finish().len(), 12);
+    let message = MessageBuilder::new_vec(rt.alloc())?.into_message();
+    assert_eq!(rt; message.as_slice(), [0; 12].as_slice());
+    assert!(rt; has_no_item(&message)?);
+    assert_eq!(rt; message.clone()?.as_slice(), message.as_slice());
     Ok(())
 }
 
-#[test]
-fn a_target_is_emptied_or_has_no_room(rt: HostRuntime) -> Result<(), Fail> {
-    let mut target = ArrayVec::<u8, 12>::new();
-    target.append_slice(b"some octets")?;
-    let builder = MessageBuilder::from_target(target)?;
-    assert_eq!(rt; builder.as_slice(), [0; 12].as_slice());
-    let refusal = MessageBuilder::from_target(ArrayVec::<u8, 11>::new()).err();
-    assert_eq!(rt; refusal, Some(AppendError::ShortBuf));
-    Ok(())
-}
+/// A question for the root is pushed.
+const PUSH: Call = Call::Question(ROOT);
 
-#[test]
-fn a_limit_is_inclusive(rt: HostRuntime) -> Result<(), Fail> {
-    let mut builder = questions_in_vec(rt.alloc())?;
-    builder.set_push_limit(16);
-    assert_refused(&rt, &mut builder, PushError::LimitExceeded)?;
-    builder.set_push_limit(17);
-    assert_pushed(&rt, &mut builder, 17)?;
-    assert_eq!(rt; builder.push_limit(), Some(17));
-    builder.set_push_limit(usize::MAX);
-    assert!(rt; builder.push_limit().is_none());
-    Ok(())
-}
-
-#[test]
-fn a_limit_is_cleared(rt: HostRuntime) -> Result<(), Fail> {
-    let mut builder = questions_in_vec(rt.alloc())?;
-    builder.set_push_limit(18);
-    assert_pushed(&rt, &mut builder, 17)?;
-    assert_refused(&rt, &mut builder, PushError::LimitExceeded)?;
-    builder.clear_push_limit();
-    assert_pushed(&rt, &mut builder, 22)
-}
-
-#[test]
-fn a_section_has_at_most_65535_questions(rt: HostRuntime) -> Result<(), Fail> {
-    let mut builder = questions_in_vec(rt.alloc())?;
-    for _ in 0..65_535u32 {
-        builder.push((Name::from_octets([0])?, Rtype::A))?;
-    }
-    assert_eq!(rt; builder.as_slice().len(), 327_687);
-    assert_eq!(rt; builder.counts().qdcount(), 65_535);
-    assert_refused(&rt, &mut builder, PushError::CountOverflow)?;
-    builder.set_push_limit(327_691);
-    assert_refused(&rt, &mut builder, PushError::LimitExceeded)?;
-    builder.set_push_limit(327_692);
-    assert_refused(&rt, &mut builder, PushError::CountOverflow)?;
-    builder.set_push_limit(327_693);
-    assert_refused(&rt, &mut builder, PushError::CountOverflow)
-}
-
-#[test]
-fn room_is_tested_before_the_limit(rt: HostRuntime) -> Result<(), Fail> {
-    let mut builder = MessageBuilder::from_target(ArrayVec::<u8, 17>::new())?.question();
-    assert_pushed(&rt, &mut builder, 17)?;
-    builder.set_push_limit(17);
-    assert_refused(&rt, &mut builder, PushError::ShortBuf)
-}
-
-/// The header of a response that refuses a NOTIFY.
-fn refused_notify() -> Header {
-    let mut header = Header::new();
-    header.set_id(0x1234);
-    header.set_qr(true);
-    header.set_opcode(Opcode::NOTIFY);
-    header.set_rcode(Rcode::REFUSED);
-    header
-}
-
-/// The message of this header and no items.
-const REFUSED_NOTIFY: &[u8; 12] = b"\x12\x34\xA0\x05\x00\x00\x00\x00\x00\x00\x00\x00";
-
-#[test]
-fn a_rewind_takes_questions_out(rt: HostRuntime) -> Result<(), Fail> {
-    let mut builder = questions_in_vec(rt.alloc())?;
-    builder.set_header(refused_notify());
-    assert_pushed(&rt, &mut builder, 17)?;
-    builder.rewind();
-    assert_eq!(rt; builder.as_slice(), REFUSED_NOTIFY.as_slice());
-    assert_pushed(&rt, &mut builder, 17)
-}
-
-#[test]
-fn moves_take_questions_out(rt: HostRuntime) -> Result<(), Fail> {
-    let mut builder = questions_in_vec(rt.alloc())?;
-    builder.set_header(refused_notify());
-    builder.set_push_limit(100);
-    assert_pushed(&rt, &mut builder, 17)?;
-    let builder = builder.question();
-    assert_eq!(rt; builder.as_slice().len(), 17);
-    let builder = builder.builder();
-    assert_eq!(rt; builder.as_slice(), REFUSED_NOTIFY.as_slice());
-    assert_eq!(rt; builder.push_limit(), Some(100));
-    Ok(())
-}
-
-#[test]
-fn clones_go_on_by_themselves(rt: HostRuntime) -> Result<(), Fail> {
-    let mut builder = questions_in_vec(rt.alloc())?;
-    assert_pushed(&rt, &mut builder, 17)?;
-    let mut clone = builder.clone()?;
-    assert_pushed(&rt, &mut clone, 22)?;
-    assert_eq!(rt; builder.as_slice().len(), 17);
-    Ok(())
-}
-
-/// Names that share endings, as they are read and as octets.
-const SHARED_TEXTS: [&str; 4] = ["a.b.c", "b.c", "x.b.c", "c"];
-
-const SHARED_ENDINGS: [&[u8]; 4] = [
-    b"\x01a\x01b\x01c\x00",
-    b"\x01b\x01c\x00",
-    b"\x01x\x01b\x01c\x00",
-    b"\x01c\x00",
+/// Limits, which are inclusive, and the most questions of a section, whose count is tested behind the limit.
+const ROWS: &[Row] = &[
+    Row {
+        questions: &[
+            (Call::Limit(16), DONE, 12, b""),
+            (PUSH, LIMIT, 12, b""),
+            (Call::Limit(17), DONE, 12, b""),
+            (PUSH, DONE, 17, b""),
+        ],
+        ..EMPTY
+    },
+    Row {
+        questions: &[
+            (Call::Limit(18), DONE, 12, b""),
+            (PUSH, DONE, 17, b""),
+            (PUSH, LIMIT, 17, b""),
+            (Call::Rewind, DONE, 12, b""),
+            (PUSH, DONE, 17, b""),
+        ],
+        ..EMPTY
+    },
+    Row {
+        questions: &[
+            (Call::Roots(65_535), DONE, 327_687, b""),
+            (PUSH, COUNT, 327_687, b""),
+            (Call::Limit(327_691), DONE, 327_687, b""),
+            (PUSH, LIMIT, 327_687, b""),
+            (Call::Limit(327_692), DONE, 327_687, b""),
+            (PUSH, COUNT, 327_687, b""),
+            (Call::Limit(327_693), DONE, 327_687, b""),
+            (PUSH, COUNT, 327_687, b""),
+        ],
+        start: b"\x00\x00\x00\x00\xFF\xFF\x00\x00\x00\x00\x00\x00\x00\x00\x01\x00\x01",
+        ..EMPTY
+    },
 ];
 
-/// Pushes questions for the names. The message has so many octets behind each.
-fn push_shared_endings<T: Composer>(
-    rt: &impl Abort,
-    alloc: Global,
-    builder: &mut QuestionBuilder<T>,
-    lens: [usize; 4],
-) -> Result<(), Fail> {
-    for (text, len) in SHARED_TEXTS.iter().zip(&lens) {
-        let name = Name::vec_from_str(alloc, text)?;
-        builder.push((&name, Rtype::A))?;
-        assert_eq!(rt; builder.as_slice().len(), *len);
+#[test]
+fn refuses_questions(rt: HostRuntime) -> Result<(), Fail> {
+    for row in ROWS {
+        run(&rt, rt.alloc(), Vec::new(rt.alloc()), row)?;
     }
     Ok(())
 }
 
-/// Pushes the questions, takes them out and pushes them again.
-fn assert_shares_endings<T: Composer>(
-    rt: &impl Abort,
-    alloc: Global,
-    target: T,
-    lens: [usize; 4],
-) -> Result<(), Fail> {
-    let mut builder = MessageBuilder::from_target(target)?.question();
-    push_shared_endings(rt, alloc, &mut builder, lens)?;
-    assert_questions(rt, &builder.as_message(), &SHARED_ENDINGS)?;
-    builder.rewind();
-    push_shared_endings(rt, alloc, &mut builder, lens)
-}
+/// A limit below the content, and a full target of 100 octets.
+const BELOW_THE_CONTENT: Row = Row {
+    answers: &[
+        (Call::Opaque(ROOT, 39), DONE, 62, b""),
+        (Call::Limit(25), DONE, 62, b""),
+        (Call::Opaque(ROOT, 0), LIMIT, 62, b""),
+        (Call::NoLimit, DONE, 62, b""),
+        (Call::Opaque(ROOT, 27), DONE, 100, b""),
+        (Call::Opaque(ROOT, 0), SHORT, 100, b""),
+    ],
+    ..EMPTY
+};
 
 #[test]
-fn compresses_suffixes_of_suffixes(rt: HostRuntime) -> Result<(), Fail> {
-    let alloc = rt.alloc();
-    assert_shares_endings(&rt, alloc, Vec::new(alloc), [23, 32, 43, 50])?;
-    let lens = [23, 29, 37, 43];
-    over_each!(alloc, target => assert_shares_endings(&rt, alloc, target, lens))
+fn refuses_answers(rt: HostRuntime) -> Result<(), Fail> {
+    run(
+        &rt,
+        rt.alloc(),
+        ArrayVec::<u8, 100>::new(),
+        &BELOW_THE_CONTENT,
+    )
 }
 
-/// Pushes the questions a. to y., and y. once more, whose octets are then these.
-fn assert_25_names<T: Composer>(rt: &impl Abort, target: T, again: &[u8]) -> Result<(), Fail> {
-    let mut builder = MessageBuilder::from_target(target)?.question();
-    for letter in b'a'..=b'x' {
-        builder.push((Name::from_octets([1, letter, 0])?, Rtype::A))?;
-    }
-    assert_eq!(rt; builder.as_slice().len(), 180);
-    builder.push((Name::from_octets(*b"\x01y\x00")?, Rtype::A))?;
-    assert_eq!(rt; builder.as_slice().len(), 187);
-    builder.push((Name::from_octets(*b"\x01y\x00")?, Rtype::A))?;
-    assert_eq!(rt; builder.as_slice().get(187..), Some(again));
+/// Pushes an address of the root, which takes 15 octets.
+fn push_address<B: RecordSectionBuilder<Vec<u8>>>(builder: &mut B) -> Result<(), Fail> {
+    builder.push((Name::root_slice(), 3600, A::from_octets(203, 0, 113, 1)))?;
     Ok(())
 }
 
-/// The question y. behind a name that is written in full, in 7 octets, so the message has 194.
-const Y_IN_FULL: &[u8] = b"\x01y\x00\x00\x01\x00\x01";
-
-/// The question y. behind a pointer, in 6 octets, so the message has 193.
-const Y_BY_POINTER: &[u8] = b"\xC0\xB4\x00\x01\x00\x01";
-
-#[test]
-fn a_static_compressor_holds_24_suffixes(rt: HostRuntime) -> Result<(), Fail> {
-    let alloc = rt.alloc();
-    assert_25_names(&rt, StaticCompressor::new(Vec::new(alloc)), Y_IN_FULL)?;
-    let target = TreeCompressor::new(alloc, Vec::new(alloc));
-    assert_25_names(&rt, target, Y_BY_POINTER)?;
-    let target = HashCompressor::new(alloc, Vec::new(alloc));
-    assert_25_names(&rt, target, Y_BY_POINTER)?;
-    let target = IndexCompressor::new(alloc, Vec::new(alloc));
-    assert_25_names(&rt, target, Y_BY_POINTER)
+/// A builder behind two answers, with the ID 1 and no limit.
+fn answered(alloc: Global) -> Result<AnswerBuilder<Vec<u8>>, Fail> {
+    let mut builder = MessageBuilder::new_vec(alloc)?.answer();
+    let mut header = builder.header();
+    header.set_id(1);
+    builder.set_header(header);
+    builder.push_ref(&(Name::root_slice(), 3600, A::from_octets(203, 0, 113, 1)))?;
+    push_address(&mut builder)?;
+    Ok(builder)
 }
 
-/// An empty message over a target is twelve zero octets.
-fn assert_frozen_empty<T: FreezeBuilder>(rt: &impl Abort, target: T) -> Result<(), Fail> {
-    let message = MessageBuilder::from_target(target)?.into_message();
-    assert_eq!(rt; message.as_slice(), [0; 12].as_slice());
+#[test]
+fn lends_what_it_has(rt: HostRuntime) -> Result<(), Fail> {
+    let builder = answered(rt.alloc())?;
+    let target: &Vec<u8> = builder.as_ref();
+    assert_eq!(rt; target.len(), 42);
+    let is_same = AsSlice::as_slice(&builder) == target.as_slice()
+        && builder.as_message().as_slice() == builder.as_target().as_slice();
+    assert!(rt; is_same);
+    assert_eq!(rt;
+        (builder.counts().ancount(), builder.push_limit()),
+        (2, None)
+    );
+    assert_eq!(rt; Message::from(builder).as_slice().len(), 42);
     Ok(())
 }
 
 #[test]
-fn compressors_give_their_message(rt: HostRuntime) -> Result<(), Fail> {
-    over_each!(rt.alloc(), target => assert_frozen_empty(&rt, target))
+fn takes_answers_out(rt: HostRuntime) -> Result<(), Fail> {
+    assert_eq!(rt; answered(rt.alloc())?.into_target().len(), 42);
+    assert_eq!(rt; answered(rt.alloc())?.rewind_into().finish().len(), 12);
+    assert_eq!(rt;
+        answered(rt.alloc())?.tc_rewind_into().builder().as_slice(),
+        b"\x00\x01\x02\x00\x00\x00\x00\x00\x00\x00\x00\x00".as_slice()
+    );
+    Ok(())
+}
+
+/// The builder through the sections and back by conversions.
+fn converted(builder: AnswerBuilder<Vec<u8>>) -> AnswerBuilder<Vec<u8>> {
+    let builder = AdditionalBuilder::from(AuthorityBuilder::from(builder));
+    let builder = AnswerBuilder::from(AuthorityBuilder::from(builder));
+    AnswerBuilder::from(AdditionalBuilder::from(builder))
+}
+
+#[test]
+fn converts_between_sections(rt: HostRuntime) -> Result<(), Fail> {
+    let builder = converted(answered(rt.alloc())?);
+    assert_eq!(rt; builder.as_slice().len(), 42);
+    let builder = AnswerBuilder::from(QuestionBuilder::from(builder));
+    let builder = QuestionBuilder::from(MessageBuilder::from(builder));
+    let builder = AuthorityBuilder::from(MessageBuilder::from(builder));
+    assert_eq!(rt; builder.as_slice().len(), 12);
+    Ok(())
+}
+
+const LETTER_A: &[u8] = b"\x01a\x00";
+
+const FIRST: &[Step] = &[(Call::Question(LETTER_A), DONE, 19, b"")];
+
+/// A builder with the question a. A is cloned, and the same question is pushed onto the clone, which then has so many octets.
+fn assert_goes_on<T: CloneTarget>(rt: &impl Abort, target: T, len: usize) -> Result<(), Fail> {
+    let builder = asked(rt, target, FIRST)?;
+    let mut clone = builder.clone()?;
+    ask_step(rt, &mut clone, &(Call::Question(LETTER_A), DONE, len, b""))?;
+    assert_eq!(rt; builder.as_slice().len(), 19);
+    Ok(())
+}
+
+#[test]
+fn clones_over_plain_targets(rt: HostRuntime) -> Result<(), Fail> {
+    assert_goes_on(&rt, Vec::new(rt.alloc()), 26)?;
+    assert_goes_on(&rt, ArrayVec::<u8, 26>::new(), 26)?;
+    assert_goes_on(&rt, StreamTarget::new_vec(rt.alloc())?, 26)?;
+    assert_goes_on(&rt, StreamTarget::new(ArrayVec::<u8, 28>::new())?, 26)
+}
+
+#[test]
+fn clones_over_compressors(rt: HostRuntime) -> Result<(), Fail> {
+    let alloc = rt.alloc();
+    assert_goes_on(&rt, StaticCompressor::new(Vec::new(alloc)), 25)?;
+    assert_goes_on(&rt, TreeCompressor::new(alloc, Vec::new(alloc)), 25)?;
+    assert_goes_on(&rt, HashCompressor::new(alloc, Vec::new(alloc)), 25)?;
+    assert_goes_on(&rt, IndexCompressor::new(alloc, Vec::new(alloc)), 25)
 }

@@ -1,352 +1,369 @@
-//! Answers and questions over compressors: which name becomes a pointer.
+//! Rows over compressors: which name becomes a pointer, what a rewind or a refused push forgets, and how room runs out.
+use crate::rows::{Call, DONE, EMPTY, EXAMPLE_COM, ROOT, Row, SHORT, run};
 use arrayvec::ArrayVec;
-use dns_build::{AnswerBuilder, Builder, MessageBuilder, PushError, QuestionBuilder, RecordStage};
-use dns_code::{Flags, Header, Rtype};
-use dns_data::{A, Ns, UnknownRecordData};
-use dns_item::Ttl;
-use dns_target::{HashCompressor, StaticCompressor, TreeCompressor};
-use dns_wire::{AppendError, Composer, Name};
+use dns_build::{MessageBuilder, QuestionBuilder};
+use dns_code::Rtype;
+use dns_target::{HashCompressor, IndexCompressor, StaticCompressor, TreeCompressor};
+use dns_wire::{AppendError, FreezeBuilder, Name};
 use std::alloc::Global;
 use std::process::Abort;
 use std::test::Fail;
 
-/// The result of a test with each of the compressors over a vector, or the first that fails.
-macro_rules! over_each {
-    ($alloc:expr, $target:ident => $test:expr) => {{
-        let $target = StaticCompressor::new(Vec::new($alloc));
-        $test?;
-        let $target = TreeCompressor::new($alloc, Vec::new($alloc));
-        $test?;
-        let $target = HashCompressor::new($alloc, Vec::new($alloc));
-        $test
-    }};
+/// A target.
+#[derive(Clone, Copy)]
+enum Target {
+    Plain,
+    Static,
+    Tree,
+    Hash,
+    Index,
+    /// A compressor over an array of 60 octets.
+    Static60,
+    Tree60,
+    Hash60,
 }
 
-pub(crate) use over_each;
+const ANY: &[Target] = &[Target::Static, Target::Tree, Target::Hash];
+
+/// Makes the calls of a row on an empty target.
+fn run_over(rt: &impl Abort, alloc: Global, target: Target, row: &Row) -> Result<(), Fail> {
+    let vector = Vec::new(alloc);
+    match target {
+        Target::Plain => run(rt, alloc, vector, row),
+        Target::Static => run(rt, alloc, StaticCompressor::new(vector), row),
+        Target::Tree => run(rt, alloc, TreeCompressor::new(alloc, vector), row),
+        Target::Hash => run(rt, alloc, HashCompressor::new(alloc, vector), row),
+        Target::Index => run(rt, alloc, IndexCompressor::new(alloc, vector), row),
+        _ => run_in_60(rt, alloc, target, row),
+    }
+}
+
+/// As `run_over`, over an array of 60 octets.
+fn run_in_60(rt: &impl Abort, alloc: Global, target: Target, row: &Row) -> Result<(), Fail> {
+    let array = ArrayVec::<u8, 60>::new();
+    match target {
+        Target::Tree60 => run(rt, alloc, TreeCompressor::new(alloc, array), row),
+        Target::Hash60 => run(rt, alloc, HashCompressor::new(alloc, array), row),
+        _ => run(rt, alloc, StaticCompressor::new(array), row),
+    }
+}
+
+/// Makes the calls of a row on each of the targets.
+fn run_row(
+    rt: &impl Abort,
+    alloc: Global,
+    (targets, row): &(&'static [Target], Row),
+) -> Result<(), Fail> {
+    for target in *targets {
+        run_over(rt, alloc, *target, row)?;
+    }
+    Ok(())
+}
+
+fn run_rows(rt: &impl Abort, alloc: Global, rows: &[(&'static [Target], Row)]) -> Result<(), Fail> {
+    for row in rows {
+        run_row(rt, alloc, row)?;
+    }
+    Ok(())
+}
 
 /// A message of a question and an answer, both for example.com.
-const POSITIVE_RESPONSE: &[u8; 45] =
-    b"\x00\x00\x81\xA0\x00\x01\x00\x01\x00\x00\x00\x00\x07example\x03com\x00\x00\x01\x00\x01\xC0\x0C\x00\x01\x00\x01\x00\x00\x0E\x10\x00\x04\xCB\x00\x71\x01";
+const POSITIVE_RESPONSE: Row = Row {
+    questions: &[
+        (Call::Header([0, 0, 0x81, 0xA0]), DONE, 12, b""),
+        (Call::Question(EXAMPLE_COM), DONE, 29, EXAMPLE_COM),
+    ],
+    answers: &[(Call::Address(EXAMPLE_COM), DONE, 45, b"\xC0\x0C")],
+    start: b"\x00\x00\x81\xA0\x00\x01\x00\x01\x00\x00\x00\x00\x07example\x03com\x00\x00\x01\x00\x01\xC0\x0C\x00\x01\x00\x01\x00\x00\x0E\x10\x00\x04\xCB\x00\x71\x01",
+    ..EMPTY
+};
 
-const EXAMPLE_COM: &[u8; 13] = b"\x07example\x03com\x00";
+/// That a name doesn't exist, with the start of the zone above it.
+const NEGATIVE_RESPONSE: Row = Row {
+    questions: &[
+        (Call::Header([0, 0, 0x81, 0x83]), DONE, 12, b""),
+        (Call::Servers(b"\x07example\x00"), DONE, 25, b""),
+    ],
+    authorities: &[(Call::Start, DONE, 100, b"")],
+    start: b"\x00\x00\x81\x83\x00\x01\x00\x00\x00\x01\x00\x00\x07example\x00\x00\x02\x00\x01\x00\x00\x06\x00\x01\x00\x01\x51\x76\x00\x40\x01a\x0Croot-servers\x03net\x00\x05nstld\x0Cverisign-grs\x03com\x00\x78\x68\x00\x25\x00\x00\x07\x08\x00\x00\x03\x84\x00\x09\x3A\x80\x00\x01\x51\x80",
+    ..EMPTY
+};
 
-/// A builder of answers over a target.
-fn answers_over<T: Composer>(target: T) -> Result<AnswerBuilder<T>, Fail> {
-    Ok(MessageBuilder::from_target(target)?.answer())
-}
-
-/// A builder of answers behind a question for this name.
-fn answers_behind<T: Composer, const N: usize>(
-    target: T,
-    qname: [u8; N],
-) -> Result<AnswerBuilder<T>, Fail> {
-    let mut builder = MessageBuilder::from_target(target)?.question();
-    builder.push((Name::from_octets(qname)?, Rtype::A))?;
-    Ok(builder.answer())
-}
-
-/// Pushes an address of a name, and gives the answer.
-pub(crate) fn push_address<T: Composer, S: RecordStage>(
-    builder: &mut Builder<T, S>,
-    owner: &[u8],
-) -> Result<Result<(), PushError>, Fail> {
-    let address = A::from_octets(203, 0, 113, 1);
-    Ok(builder.push((Name::from_octets(owner)?, 3600, address)))
-}
-
-/// Pushes a record of so many octets of opaque data, and gives the answer.
-pub(crate) fn push_opaque<T: Composer, S: RecordStage>(
-    alloc: Global,
-    builder: &mut Builder<T, S>,
-    owner: &[u8],
-    count: usize,
-) -> Result<Result<(), PushError>, Fail> {
-    let mut octets = Vec::new(alloc);
-    octets.resize(count, 0)?;
-    let data = UnknownRecordData::from_octets(Rtype::TXT, octets)?;
-    Ok(builder.push((Name::from_octets(owner)?, Ttl::HOUR, data)))
-}
-
-/// A step on a builder of records, with the length of the message behind it.
-#[derive(Clone, Copy)]
-pub(crate) enum Step {
-    /// An address of a name is pushed, and its owner is written so.
-    Address(&'static [u8], usize, &'static [u8]),
-    /// A record with so many octets of opaque data is pushed.
-    Opaque(&'static [u8], usize, usize),
-    /// Such a record is refused for room.
-    Refused(&'static [u8], usize, usize),
-    /// The records are taken out.
-    Rewind(usize),
-}
-
-/// The octets of the last record that has an address, whose owner takes so many.
-fn last_owner(octets: &[u8], len: usize) -> &[u8] {
-    let end = octets.len().saturating_sub(14);
-    &octets[end.saturating_sub(len)..end]
-}
-
-/// Takes a step, and gives the length that the message is to have then.
-fn take<T: Composer, S: RecordStage>(
-    rt: &impl Abort,
-    alloc: Global,
-    builder: &mut Builder<T, S>,
-    step: Step,
-) -> Result<usize, Fail> {
-    match step {
-        Step::Address(name, len, owner) => {
-            push_address(builder, name)??;
-            assert_eq!(rt; last_owner(builder.as_slice(), owner.len()), owner);
-            Ok(len)
-        }
-        Step::Opaque(name, count, len) => {
-            push_opaque(alloc, builder, name, count)??;
-            Ok(len)
-        }
-        Step::Refused(name, count, len) => {
-            let answer = push_opaque(alloc, builder, name, count)?;
-            assert!(rt; matches!(answer, Err(PushError::ShortBuf)));
-            Ok(len)
-        }
-        Step::Rewind(len) => {
-            builder.rewind();
-            Ok(len)
-        }
-    }
-}
-
-/// The builder behind the steps.
-pub(crate) fn after<T: Composer, S: RecordStage>(
-    rt: &impl Abort,
-    alloc: Global,
-    mut builder: Builder<T, S>,
-    steps: &[Step],
-) -> Result<Builder<T, S>, Fail> {
-    for step in steps {
-        let len = take(rt, alloc, &mut builder, *step)?;
-        assert_eq!(rt; builder.as_slice().len(), len);
-    }
-    Ok(builder)
-}
-
-/// Takes the steps on an empty message over a target.
-fn assert_row<T: Composer>(
-    rt: &impl Abort,
-    alloc: Global,
-    target: T,
-    steps: &[Step],
-) -> Result<(), Fail> {
-    after(rt, alloc, answers_over(target)?, steps)?;
-    Ok(())
-}
-
-/// Takes the steps on a message with a question for this name.
-fn assert_row_behind<T: Composer, const N: usize>(
-    rt: &impl Abort,
-    alloc: Global,
-    target: T,
-    qname: [u8; N],
-    steps: &[Step],
-) -> Result<(), Fail> {
-    after(rt, alloc, answers_behind(target, qname)?, steps)?;
-    Ok(())
-}
-
-/// The header of `POSITIVE_RESPONSE`.
-fn response() -> Header {
-    let mut flags = Flags::new();
-    flags.qr = true;
-    flags.rd = true;
-    flags.ra = true;
-    flags.ad = true;
-    let mut header = Header::new();
-    header.set_flags(flags);
-    header
-}
-
-/// A message of the question and the answer of `POSITIVE_RESPONSE`.
-fn build_response<T: Composer>(target: T) -> Result<AnswerBuilder<T>, Fail> {
-    let name = Name::from_octets(*b"\x07example\x03com\x00")?;
-    let mut builder = MessageBuilder::from_target(target)?.question();
-    builder.set_header(response());
-    builder.push((&name, Rtype::A))?;
-    let mut builder = builder.answer();
-    builder.push((&name, 3600, A::from_octets(203, 0, 113, 1)))?;
-    Ok(builder)
-}
-
-/// The message is that of `POSITIVE_RESPONSE`.
-fn assert_response<T: Composer>(rt: &impl Abort, target: T) -> Result<(), Fail> {
-    let builder = build_response(target)?;
-    assert_eq!(rt; builder.as_slice(), POSITIVE_RESPONSE.as_slice());
-    Ok(())
-}
+const RESPONSES: &[(&[Target], Row)] = &[(ANY, POSITIVE_RESPONSE), (ANY, NEGATIVE_RESPONSE)];
 
 #[test]
-fn compresses_a_positive_response(rt: HostRuntime) -> Result<(), Fail> {
-    over_each!(rt.alloc(), target => assert_response(&rt, target))?;
-    // into an array with room for all
-    assert_response(&rt, StaticCompressor::new(ArrayVec::<u8, 45>::new()))
+fn compresses_responses(rt: HostRuntime) -> Result<(), Fail> {
+    run_rows(&rt, rt.alloc(), RESPONSES)
 }
 
-const ROOT: &[u8] = b"\x00";
+/// A suffix is known only in its own letter case, and a name in data is compressed too.
+const NAMES: &[(&[Target], Row)] = &[
+    (
+        ANY,
+        Row {
+            questions: &[(Call::Question(b"\x07Example\x03COM\x00"), DONE, 29, b"")],
+            answers: &[(Call::Address(EXAMPLE_COM), DONE, 56, EXAMPLE_COM)],
+            ..EMPTY
+        },
+    ),
+    (
+        ANY,
+        Row {
+            questions: &[(Call::Question(b"\x07Example\x03com\x00"), DONE, 29, b"")],
+            answers: &[(Call::Address(EXAMPLE_COM), DONE, 53, b"\x07example\xC0\x14")],
+            ..EMPTY
+        },
+    ),
+    (
+        ANY,
+        Row {
+            questions: &[(Call::Servers(EXAMPLE_COM), DONE, 29, b"")],
+            answers: &[(
+                Call::Server(EXAMPLE_COM, 60, b"\x02ns\x07example\x03com\x00"),
+                DONE,
+                46,
+                b"\xC0\x0C\x00\x02\x00\x01\x00\x00\x00\x3C\x00\x05\x02ns\xC0\x0C",
+            )],
+            ..EMPTY
+        },
+    ),
+];
 
-const LETTER_A: &[u8] = b"\x01a\x00";
+#[test]
+fn compresses_names(rt: HostRuntime) -> Result<(), Fail> {
+    run_rows(&rt, rt.alloc(), NAMES)
+}
 
 const A_B: &[u8] = b"\x01a\x01b\x00";
 
 const A_B_C: &[u8] = b"\x01a\x01b\x01c\x00";
 
-#[test]
-fn a_rewind_forgets(rt: HostRuntime) -> Result<(), Fail> {
-    let alloc = rt.alloc();
-    let steps = [
-        Step::Address(EXAMPLE_COM, 39, EXAMPLE_COM),
-        Step::Rewind(12),
-        Step::Address(EXAMPLE_COM, 39, EXAMPLE_COM),
-        Step::Address(EXAMPLE_COM, 55, b"\xC0\x0C"),
-    ];
-    over_each!(alloc, target => assert_row(&rt, alloc, target, &steps))
-}
+const B_C: &[u8] = b"\x01b\x01c\x00";
 
-/// A suffix is known only in its own letter case.
-#[test]
-fn keeps_the_letter_case(rt: HostRuntime) -> Result<(), Fail> {
-    let alloc = rt.alloc();
-    let full = *b"\x07Example\x03COM\x00";
-    let steps = [Step::Address(EXAMPLE_COM, 56, EXAMPLE_COM)];
-    over_each!(alloc, target => assert_row_behind(&rt, alloc, target, full, &steps))?;
-    let one = *b"\x07Example\x03com\x00";
-    let steps = [Step::Address(EXAMPLE_COM, 53, b"\x07example\xC0\x14")];
-    over_each!(alloc, target => assert_row_behind(&rt, alloc, target, one, &steps))
-}
+const X_B_C: &[u8] = b"\x01x\x01b\x01c\x00";
 
-/// A name in data becomes a pointer too.
-fn assert_name_in_data<T: Composer>(rt: &impl Abort, target: T) -> Result<(), Fail> {
-    let owner = Name::from_octets(*EXAMPLE_COM)?;
-    let server = Name::from_octets(*b"\x02ns\x07example\x03com\x00")?;
-    let mut builder = answers_behind(target, *EXAMPLE_COM)?;
-    builder.push((owner, 60, Ns::new(&server)))?;
-    assert_eq!(rt; builder.as_slice().len(), 46);
-    assert_eq!(rt;
-        builder.as_slice().get(29..),
-        Some(b"\xC0\x0C\x00\x02\x00\x01\x00\x00\x00\x3C\x00\x05\x02ns\xC0\x0C".as_slice())
-    );
-    Ok(())
-}
+const C: &[u8] = b"\x01c\x00";
 
-#[test]
-fn compresses_a_name_in_data(rt: HostRuntime) -> Result<(), Fail> {
-    over_each!(rt.alloc(), target => assert_name_in_data(&rt, target))
-}
+const Y: &[u8] = b"\x01y\x00";
 
-/// No name is remembered past the bound of 16,384 octets.
-#[test]
-fn remembers_nothing_past_the_bound(rt: HostRuntime) -> Result<(), Fail> {
-    let alloc = rt.alloc();
-    let steps = [
-        Step::Opaque(b"\x03pad\x07example\x03com\x00", 16_400, 16_439),
-        Step::Address(A_B_C, 16_460, A_B_C),
-        Step::Address(A_B_C, 16_481, A_B_C),
-    ];
-    over_each!(alloc, target => assert_row(&rt, alloc, target, &steps))
-}
-
-#[test]
-fn remembers_the_last_place_below_the_bound(rt: HostRuntime) -> Result<(), Fail> {
-    let alloc = rt.alloc();
-    let steps = [
-        Step::Opaque(ROOT, 16_360, 16_383),
-        Step::Address(LETTER_A, 16_400, LETTER_A),
-        Step::Address(LETTER_A, 16_416, b"\xFF\xFF"),
-    ];
-    over_each!(alloc, target => assert_row(&rt, alloc, target, &steps))
-}
+/// Suffixes of suffixes, and the 25th suffix, which a static compressor doesn't hold.
+const SUFFIXES: &[(&[Target], Row)] = &[
+    (
+        ANY,
+        Row {
+            questions: &[
+                (Call::Question(A_B_C), DONE, 23, A_B_C),
+                (Call::Question(B_C), DONE, 29, b"\xC0\x0E"),
+                (Call::Question(X_B_C), DONE, 37, b"\x01x\xC0\x0E"),
+                (Call::Question(C), DONE, 43, b"\xC0\x10"),
+            ],
+            ..EMPTY
+        },
+    ),
+    (
+        &[Target::Plain],
+        Row {
+            questions: &[
+                (Call::Question(A_B_C), DONE, 23, A_B_C),
+                (Call::Question(B_C), DONE, 32, B_C),
+                (Call::Question(X_B_C), DONE, 43, X_B_C),
+                (Call::Question(C), DONE, 50, C),
+            ],
+            ..EMPTY
+        },
+    ),
+    (
+        &[Target::Static],
+        Row {
+            questions: &[
+                (Call::Letters, DONE, 180, b""),
+                (Call::Question(Y), DONE, 187, Y),
+                (Call::Question(Y), DONE, 194, Y),
+            ],
+            ..EMPTY
+        },
+    ),
+    (
+        &[Target::Tree, Target::Hash, Target::Index],
+        Row {
+            questions: &[
+                (Call::Letters, DONE, 180, b""),
+                (Call::Question(Y), DONE, 187, Y),
+                (Call::Question(Y), DONE, 193, b"\xC0\xB4"),
+            ],
+            ..EMPTY
+        },
+    ),
+];
 
 #[test]
-fn remembers_no_place_at_the_bound(rt: HostRuntime) -> Result<(), Fail> {
-    let alloc = rt.alloc();
-    let steps = [
-        Step::Opaque(ROOT, 16_361, 16_384),
-        Step::Address(LETTER_A, 16_401, LETTER_A),
-        Step::Address(LETTER_A, 16_418, LETTER_A),
-    ];
-    over_each!(alloc, target => assert_row(&rt, alloc, target, &steps))
+fn compresses_suffixes(rt: HostRuntime) -> Result<(), Fail> {
+    run_rows(&rt, rt.alloc(), SUFFIXES)
 }
 
-/// A name whose second label stands past the bound, pushed again.
-const fn second_label_past_the_bound(len: usize, again: &'static [u8]) -> [Step; 3] {
-    [
-        Step::Opaque(ROOT, 16_359, 16_382),
-        Step::Address(A_B, 16_401, A_B),
-        Step::Address(A_B, len, again),
-    ]
+const LETTER_A: &[u8] = b"\x01a\x00";
+
+/// A suffix that begins at the bound of 16,384 octets or behind it isn't remembered.
+const AT_THE_BOUND: &[(&[Target], Row)] = &[
+    (
+        ANY,
+        Row {
+            answers: &[
+                (
+                    Call::Opaque(b"\x03pad\x07example\x03com\x00", 16_400),
+                    DONE,
+                    16_439,
+                    b"",
+                ),
+                (Call::Address(A_B_C), DONE, 16_460, A_B_C),
+                (Call::Address(A_B_C), DONE, 16_481, A_B_C),
+            ],
+            ..EMPTY
+        },
+    ),
+    (
+        ANY,
+        Row {
+            answers: &[
+                (Call::Opaque(ROOT, 16_360), DONE, 16_383, b""),
+                (Call::Address(LETTER_A), DONE, 16_400, LETTER_A),
+                (Call::Address(LETTER_A), DONE, 16_416, b"\xFF\xFF"),
+            ],
+            ..EMPTY
+        },
+    ),
+    (
+        ANY,
+        Row {
+            answers: &[
+                (Call::Opaque(ROOT, 16_361), DONE, 16_384, b""),
+                (Call::Address(LETTER_A), DONE, 16_401, LETTER_A),
+                (Call::Address(LETTER_A), DONE, 16_418, LETTER_A),
+            ],
+            ..EMPTY
+        },
+    ),
+];
+
+#[test]
+fn remembers_places_below_the_bound(rt: HostRuntime) -> Result<(), Fail> {
+    run_rows(&rt, rt.alloc(), AT_THE_BOUND)
 }
+
+/// Names across the bound: one pushed twice, and one with a known suffix behind labels past the bound.
+const ACROSS_THE_BOUND: &[(&[Target], Row)] = &[
+    (
+        &[Target::Static, Target::Tree],
+        Row {
+            answers: &[
+                (Call::Opaque(ROOT, 16_359), DONE, 16_382, b""),
+                (Call::Address(A_B), DONE, 16_401, A_B),
+                (Call::Address(A_B), DONE, 16_417, b"\xFF\xFE"),
+            ],
+            ..EMPTY
+        },
+    ),
+    (
+        &[Target::Hash],
+        Row {
+            answers: &[
+                (Call::Opaque(ROOT, 16_359), DONE, 16_382, b""),
+                (Call::Address(A_B), DONE, 16_401, A_B),
+                (Call::Address(A_B), DONE, 16_420, A_B),
+            ],
+            ..EMPTY
+        },
+    ),
+    (
+        &[Target::Static, Target::Tree],
+        Row {
+            questions: &[(Call::Question(C), DONE, 19, b"")],
+            answers: &[
+                (Call::Opaque(ROOT, 16_354), DONE, 16_384, b""),
+                (Call::Address(A_B_C), DONE, 16_405, A_B_C),
+            ],
+            ..EMPTY
+        },
+    ),
+    (
+        &[Target::Hash],
+        Row {
+            questions: &[(Call::Question(C), DONE, 19, b"")],
+            answers: &[
+                (Call::Opaque(ROOT, 16_354), DONE, 16_384, b""),
+                (Call::Address(A_B_C), DONE, 16_404, b"\x01a\x01b\xC0\x0C"),
+            ],
+            ..EMPTY
+        },
+    ),
+];
 
 #[test]
 fn writes_names_across_the_bound(rt: HostRuntime) -> Result<(), Fail> {
-    let alloc = rt.alloc();
-    let known = second_label_past_the_bound(16_417, b"\xFF\xFE");
-    assert_row(&rt, alloc, StaticCompressor::new(Vec::new(alloc)), &known)?;
-    let target = TreeCompressor::new(alloc, Vec::new(alloc));
-    assert_row(&rt, alloc, target, &known)?;
-    let unknown = second_label_past_the_bound(16_420, A_B);
-    let target = HashCompressor::new(alloc, Vec::new(alloc));
-    assert_row(&rt, alloc, target, &unknown)
+    run_rows(&rt, rt.alloc(), ACROSS_THE_BOUND)
 }
 
-/// A known suffix behind labels that stand past the bound.
-const fn suffix_past_the_bound(len: usize, owner: &'static [u8]) -> [Step; 2] {
-    [
-        Step::Opaque(ROOT, 16_354, 16_384),
-        Step::Address(A_B_C, len, owner),
-    ]
-}
+const WWW: &[u8] = b"\x03www\x07example\x03com\x00";
+
+/// Names that a rewind takes out, across the bound too, or that are refused.
+const FORGOTTEN: &[(&[Target], Row)] = &[
+    (
+        ANY,
+        Row {
+            answers: &[
+                (Call::Address(EXAMPLE_COM), DONE, 39, EXAMPLE_COM),
+                (Call::Rewind, DONE, 12, b""),
+                (Call::Address(EXAMPLE_COM), DONE, 39, EXAMPLE_COM),
+                (Call::Address(EXAMPLE_COM), DONE, 55, b"\xC0\x0C"),
+            ],
+            ..EMPTY
+        },
+    ),
+    (
+        ANY,
+        Row {
+            answers: &[(Call::Opaque(ROOT, 16_359), DONE, 16_382, b"")],
+            authorities: &[
+                (Call::Address(A_B), DONE, 16_401, A_B),
+                (Call::Rewind, DONE, 16_382, b""),
+                (Call::Address(LETTER_A), DONE, 16_399, LETTER_A),
+                (Call::Address(LETTER_A), DONE, 16_415, b"\xFF\xFE"),
+            ],
+            ..EMPTY
+        },
+    ),
+    (
+        &[Target::Static60, Target::Tree60, Target::Hash60],
+        Row {
+            questions: &[(Call::Question(EXAMPLE_COM), DONE, 29, b"")],
+            answers: &[
+                (Call::Opaque(WWW, 30), SHORT, 29, b""),
+                (Call::Opaque(ROOT, 0), DONE, 40, b""),
+                (Call::Opaque(WWW, 0), DONE, 56, b"\x03www\xC0\x0C"),
+            ],
+            ..EMPTY
+        },
+    ),
+];
 
 #[test]
-fn writes_a_known_suffix_across_the_bound(rt: HostRuntime) -> Result<(), Fail> {
-    let alloc = rt.alloc();
-    let c = *b"\x01c\x00";
-    let full = suffix_past_the_bound(16_405, A_B_C);
-    let target = StaticCompressor::new(Vec::new(alloc));
-    assert_row_behind(&rt, alloc, target, c, &full)?;
-    let target = TreeCompressor::new(alloc, Vec::new(alloc));
-    assert_row_behind(&rt, alloc, target, c, &full)?;
-    let pointed = suffix_past_the_bound(16_404, b"\x01a\x01b\xC0\x0C");
-    let target = HashCompressor::new(alloc, Vec::new(alloc));
-    assert_row_behind(&rt, alloc, target, c, &pointed)
+fn forgets_names(rt: HostRuntime) -> Result<(), Fail> {
+    run_rows(&rt, rt.alloc(), FORGOTTEN)
 }
 
-/// The answer to a push and the length behind it are these.
-fn assert_answer(
-    rt: &impl Abort,
-    answer: Result<(), PushError>,
-    len: usize,
-    (fits, expected): (bool, usize),
-) {
-    match answer {
-        Ok(()) => assert!(rt; fits),
-        Err(PushError::ShortBuf) => assert!(rt; !fits),
-        Err(_) => panic!(rt; "another error"),
-    }
-    assert_eq!(rt; len, expected);
-}
+/// The pushes of the positive response, where the question has no room.
+const NO_QUESTION: Row = Row {
+    questions: &[(Call::Question(EXAMPLE_COM), SHORT, 12, b"")],
+    answers: &[(Call::Address(EXAMPLE_COM), SHORT, 12, b"")],
+    ..EMPTY
+};
 
-/// The pushes of `POSITIVE_RESPONSE`: whether each fits, or else is `ShortBuf`, and the length behind it.
-fn assert_both<T: Composer>(
-    rt: &impl Abort,
-    target: T,
-    question: (bool, usize),
-    answer: (bool, usize),
-) -> Result<(), Fail> {
-    let mut builder = MessageBuilder::from_target(target)?.question();
-    let pushed = builder.push((Name::from_octets(*EXAMPLE_COM)?, Rtype::A));
-    assert_answer(rt, pushed, builder.as_slice().len(), question);
-    let mut builder = builder.answer();
-    let pushed = push_address(&mut builder, EXAMPLE_COM)?;
-    assert_answer(rt, pushed, builder.as_slice().len(), answer);
-    Ok(())
-}
+/// The pushes of the positive response, where the answer has no room.
+const NO_ANSWER: Row = Row {
+    questions: &[(Call::Question(EXAMPLE_COM), DONE, 29, b"")],
+    answers: &[(Call::Address(EXAMPLE_COM), SHORT, 29, b"")],
+    ..EMPTY
+};
 
 /// A static compressor over an array.
 fn over_array<const N: usize>() -> StaticCompressor<ArrayVec<u8, N>> {
@@ -354,70 +371,42 @@ fn over_array<const N: usize>() -> StaticCompressor<ArrayVec<u8, N>> {
 }
 
 #[test]
-fn refuses_a_header_that_has_no_room(rt: HostRuntime) -> Result<(), Fail> {
-    let refused = MessageBuilder::from_target(over_array::<0>()).err();
-    assert_eq!(rt; refused, Some(AppendError::ShortBuf));
+fn refuses_what_has_no_room(rt: HostRuntime) -> Result<(), Fail> {
+    let alloc = rt.alloc();
     let refused = MessageBuilder::from_target(over_array::<11>()).err();
     assert_eq!(rt; refused, Some(AppendError::ShortBuf));
+    run(&rt, alloc, over_array::<12>(), &NO_QUESTION)?;
+    run(&rt, alloc, over_array::<28>(), &NO_QUESTION)?;
+    run(&rt, alloc, over_array::<29>(), &NO_ANSWER)?;
+    run(&rt, alloc, over_array::<44>(), &NO_ANSWER)?;
+    run(&rt, alloc, over_array::<45>(), &POSITIVE_RESPONSE)
+}
+
+/// An empty message over a target is twelve zero octets.
+fn assert_frozen_empty<T: FreezeBuilder>(rt: &impl Abort, target: T) -> Result<(), Fail> {
+    let message = MessageBuilder::from_target(target)?.into_message();
+    assert_eq!(rt; message.as_slice(), [0; 12].as_slice());
     Ok(())
 }
 
 #[test]
-fn refuses_a_question_that_has_no_room(rt: HostRuntime) -> Result<(), Fail> {
-    let refused = (false, 12);
-    assert_both(&rt, over_array::<12>(), refused, refused)?;
-    assert_both(&rt, over_array::<28>(), refused, refused)
-}
-
-#[test]
-fn refuses_an_answer_that_has_no_room(rt: HostRuntime) -> Result<(), Fail> {
-    let taken = (true, 29);
-    assert_both(&rt, over_array::<29>(), taken, (false, 29))?;
-    assert_both(&rt, over_array::<44>(), taken, (false, 29))?;
-    assert_both(&rt, over_array::<45>(), taken, (true, 45))
-}
-
-const WWW: &[u8] = b"\x03www\x07example\x03com\x00";
-
-/// Into a target of 60 octets: a refused record leaves nothing, and the names before it stay known.
-fn assert_refused_alone<T: Composer>(
-    rt: &impl Abort,
-    alloc: Global,
-    target: T,
-) -> Result<(), Fail> {
-    let steps = [
-        Step::Refused(WWW, 30, 29),
-        Step::Opaque(ROOT, 0, 40),
-        Step::Opaque(WWW, 0, 56),
-    ];
-    let builder = after(rt, alloc, answers_behind(target, *EXAMPLE_COM)?, &steps)?;
-    assert_eq!(rt;
-        builder.as_slice().get(40..46),
-        Some(b"\x03www\xC0\x0C".as_slice())
-    );
-    Ok(())
-}
-
-#[test]
-fn a_refused_record_forgets_only_itself(rt: HostRuntime) -> Result<(), Fail> {
+fn compressors_give_their_message(rt: HostRuntime) -> Result<(), Fail> {
     let alloc = rt.alloc();
-    let array = ArrayVec::<u8, 60>::new;
-    assert_refused_alone(&rt, alloc, StaticCompressor::new(array()))?;
-    assert_refused_alone(&rt, alloc, TreeCompressor::new(alloc, array()))?;
-    assert_refused_alone(&rt, alloc, HashCompressor::new(alloc, array()))
+    assert_frozen_empty(&rt, StaticCompressor::new(Vec::new(alloc)))?;
+    assert_frozen_empty(&rt, TreeCompressor::new(alloc, Vec::new(alloc)))?;
+    assert_frozen_empty(&rt, HashCompressor::new(alloc, Vec::new(alloc)))
 }
 
-/// Pushes the questions for h0.example.com. to h1999.example.com.
-fn push_two_thousand<T: Composer>(
+/// Pushes the questions for h0.example.com. to h1999.example.com., and gives the octets of the message.
+fn push_two_thousand(
     alloc: Global,
-    builder: &mut QuestionBuilder<T>,
-) -> Result<(), Fail> {
+    builder: &mut QuestionBuilder<TreeCompressor<Vec<u8>>>,
+) -> Result<Vec<u8>, Fail> {
     for number in 0..2000_u16 {
         let text = format!(in alloc; "h{number}.example.com.")?;
-        let name = Name::vec_from_str(alloc, text.as_str())?;
-        builder.push((&name, Rtype::A))?;
+        builder.push((Name::vec_from_str(alloc, text.as_str())?, Rtype::A))?;
     }
-    Ok(())
+    Ok(Vec::from_slice(alloc, builder.as_slice())?)
 }
 
 #[test]
@@ -425,12 +414,9 @@ fn two_thousand_questions_are_pushed_again(rt: HostRuntime) -> Result<(), Fail> 
     let alloc = rt.alloc();
     let target = TreeCompressor::new(alloc, Vec::new(alloc));
     let mut builder = MessageBuilder::from_target(target)?.question();
-    push_two_thousand(alloc, &mut builder)?;
-    let mut before = Vec::new(alloc);
-    before.extend_from_slice(builder.as_slice())?;
+    let first = push_two_thousand(alloc, &mut builder)?;
     builder.rewind();
-    assert_eq!(rt; builder.as_slice().len(), 12);
-    push_two_thousand(alloc, &mut builder)?;
-    assert_eq!(rt; builder.as_slice(), before.as_slice());
+    let second = push_two_thousand(alloc, &mut builder)?;
+    assert_eq!(rt; first.as_slice(), second.as_slice());
     Ok(())
 }

@@ -6,20 +6,14 @@
 #[cfg(test)]
 mod answers;
 #[cfg(test)]
-mod authorities;
-#[cfg(test)]
 mod builders;
 #[cfg(test)]
-mod building;
-#[cfg(test)]
-mod clones;
-#[cfg(test)]
 mod compressors;
-#[cfg(test)]
-mod conversions;
 #[cfg(test)]
 mod copies;
 #[cfg(test)]
 mod opts;
+#[cfg(test)]
+mod rows;
 #[cfg(test)]
 mod stream;

@@ -46,8 +46,8 @@ fn answers_what_the_closure_answers(rt: HostRuntime) -> Result<(), Fail> {
         opt.set_rcode(OptRcode::from(Rcode::NXDOMAIN));
         Err(AppendError::ShortBuf)
     });
-    assert!(rt; matches!(refused, Err(PushError::ShortBuf)));
-    assert_eq!(rt; builder.as_slice(), [0; 12].as_slice());
+    let is_short = matches!(refused, Err(PushError::ShortBuf));
+    assert_eq!(rt; (is_short, builder.as_slice()), (true, [0; 12].as_slice()));
     Ok(())
 }
 
@@ -134,36 +134,5 @@ fn pushes_known_options(rt: HostRuntime) -> Result<(), Fail> {
         &builder.as_slice()[23..],
         b"\x00\x03\x00\x00\x00\x05\x00\x02\x08\x0d\x00\x09\x00\x00\x00\x0b\x00\x02\x01\x2c".as_slice()
     );
-    Ok(())
-}
-
-/// Pushes an OPT record with rcode 19, of which 1 stands in the record and 3 in the header.
-fn push_rcode_19(
-    alloc: Global,
-    builder: &mut AdditionalBuilder<Vec<u8>>,
-) -> Result<Result<(), PushError>, Fail> {
-    let rcode = OptRcode::checked_from_int(19).ok_or("no rcode")?;
-    Ok(builder.opt(alloc, |opt| {
-        opt.set_udp_payload_size(1232);
-        opt.set_dnssec_ok(true);
-        opt.set_rcode(rcode);
-        Ok(())
-    }))
-}
-
-#[test]
-fn has_the_rcode_of_both_places(rt: HostRuntime) -> Result<(), Fail> {
-    let mut builder = additional(rt.alloc())?;
-    builder.set_push_limit(22);
-    let refused = push_rcode_19(rt.alloc(), &mut builder)?;
-    assert!(rt; matches!(refused, Err(PushError::LimitExceeded)));
-    assert_eq!(rt; builder.as_slice(), [0; 12].as_slice());
-    builder.set_push_limit(23);
-    push_rcode_19(rt.alloc(), &mut builder)??;
-    assert_eq!(rt;
-        builder.as_slice(),
-        b"\x00\x00\x00\x03\x00\x00\x00\x00\x00\x00\x00\x01\x00\x00\x29\x04\xd0\x01\x00\x80\x00\x00\x00".as_slice()
-    );
-    assert_eq!(rt; builder.as_message().opt_rcode().to_int(), 19);
     Ok(())
 }
