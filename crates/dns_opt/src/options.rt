@@ -6,7 +6,7 @@ use crate::split::split_option;
 use dns_code::OptionCode;
 
 /// Whether octets are a list of options, one behind the other.
-#[tactic(auto, using(crate::proofs::OptionsLemmas::told_empty, crate::proofs::OptionsLemmas::told_none))]
+#[tactic(auto, using(crate::proofs::theory::OptionsLemmas::told_empty, crate::proofs::theory::OptionsLemmas::told_none))]
 pub fn are_options(octets: &[u8]) -> bool
     ensures { result ≡ are_options octets.now }
 {
@@ -62,7 +62,7 @@ impl<'a> Iterator for OptionIter<'a> {
 
     ghost remaining = { item_count options_left };
 
-    #[tactic(auto, using(crate::proofs::OptionsLemmas::given_first, crate::proofs::OptionsLemmas::given_none))]
+    #[tactic(auto, using(crate::proofs::theory::OptionsLemmas::given_first, crate::proofs::theory::OptionsLemmas::given_none))]
     fn next(&mut self) -> Option<Self::Item> {
         let Some((code, octets, left)) = split_option(self.left) else {
             return None;
