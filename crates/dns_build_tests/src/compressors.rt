@@ -23,7 +23,7 @@ enum Target {
     Hash60,
 }
 
-const ANY: &[Target] = &[Target::Static, Target::Tree, Target::Hash];
+const ANY: &[Target] = &[Target::Static, Target::Tree, Target::Hash, Target::Index];
 
 /// Makes the calls of a row on an empty target.
 fn run_over(rt: &impl Abort, alloc: Global, target: Target, row: &Row) -> Result<(), Fail> {
@@ -253,7 +253,7 @@ fn remembers_places_below_the_bound(rt: HostRuntime) -> Result<(), Fail> {
 /// Names across the bound: one pushed twice, and one with a known suffix behind labels past the bound.
 const ACROSS_THE_BOUND: &[(&[Target], Row)] = &[
     (
-        &[Target::Static, Target::Tree],
+        &[Target::Static, Target::Tree, Target::Index],
         Row {
             answers: &[
                 (Call::Opaque(ROOT, 16_359), DONE, 16_382, b""),
@@ -275,7 +275,7 @@ const ACROSS_THE_BOUND: &[(&[Target], Row)] = &[
         },
     ),
     (
-        &[Target::Static, Target::Tree],
+        &[Target::Static, Target::Tree, Target::Index],
         Row {
             questions: &[(Call::Question(C), DONE, 19, b"")],
             answers: &[
