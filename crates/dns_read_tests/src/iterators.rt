@@ -124,11 +124,12 @@ fn behind_first<'a>(mut addresses: RecordIter<'a, A>) -> Result<(usize, Option<u
     Ok((place, next_start(addresses.next_section())?))
 }
 
-/// The first three data of a section.
+/// The first four data of a section.
 fn data_of<'a>(
     mut records: AnyRecordIter<'a, UnknownRecordData<&'a [u8]>>,
-) -> [Option<&'a [u8]>; 3] {
+) -> [Option<&'a [u8]>; 4] {
     [
+        next_data(&mut records),
         next_data(&mut records),
         next_data(&mut records),
         next_data(&mut records),
@@ -159,9 +160,9 @@ fn moves_on_behind_the_records_that_are_left(rt: HostRuntime) -> Result<(), Fail
 #[test]
 fn reads_every_record(rt: HostRuntime) -> Result<(), Fail> {
     let message = Message::from_slice(ADDRESS_BETWEEN)?;
-    let [alias, address, other] = data_of(message.answer()?.into_records());
+    let [alias, address, other, end] = data_of(message.answer()?.into_records());
     assert!(rt; alias == Some(b"\x00") && other == Some(b"\x00"));
-    assert!(rt; address == Some(FIRST.as_slice()));
+    assert!(rt; address == Some(FIRST.as_slice()) && end.is_none());
     Ok(())
 }
 

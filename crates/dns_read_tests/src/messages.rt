@@ -2,7 +2,7 @@
 use arrayvec::ArrayVec;
 use dns_code::Header;
 use dns_read::{Message, Section, ShortMessage};
-use dns_wire::{Octets, OctetsFrom, ParseError};
+use dns_wire::{AppendError, Octets, OctetsFrom, ParseError};
 use std::convert::AsSlice;
 use std::process::Abort;
 use std::test::Fail;
@@ -67,7 +67,9 @@ fn with_new_header(mut message: Message<[u8; 12]>) -> [u8; 12] {
 
 #[test]
 fn takes_another_header(rt: HostRuntime) -> Result<(), Fail> {
-    let octets = with_new_header(Message::from_octets([7; 12])?);
+    let message = Message::from_octets([7; 12])?;
+    assert!(rt; message.is_error() && !message.no_error());
+    let octets = with_new_header(message);
     assert_eq!(rt; octets, [0, 0, 0, 0, 7, 7, 7, 7, 7, 7, 7, 7]);
     Ok(())
 }
@@ -118,6 +120,8 @@ fn changes_holders(rt: HostRuntime) -> Result<(), Fail> {
     let lent = Message::<&[u8]>::try_octets_from(rt.alloc(), message)?;
     let array = Message::<ArrayVec<u8, 45>>::try_octets_from(rt.alloc(), lent)?;
     assert!(rt; is_response(&array));
+    let refused = Message::<ArrayVec<u8, 44>>::try_octets_from(rt.alloc(), lent).err();
+    assert_eq!(rt; refused, Some(AppendError::ShortBuf));
     let owned = Message::<Vec<u8>>::try_octets_from(rt.alloc(), array)?;
     assert!(rt; is_response(&owned.clone()?));
     assert!(rt; is_response(&Message::<&[u8]>::try_octets_from(rt.alloc(), &owned)?));

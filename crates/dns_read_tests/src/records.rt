@@ -59,17 +59,20 @@ fn sole_fault(
     Some((fault, next_start(records.next_section())))
 }
 
-/// The first three errors of an iterator that gives no record.
-fn faults_of(mut items: MessageIter<'_>) -> [Option<ParseError>; 3] {
+/// What an iterator gives three times: whether it is a record, or the fault.
+fn given(mut items: MessageIter<'_>) -> [Option<Result<(), ParseError>>; 3] {
     [
-        next_fault(&mut items),
-        next_fault(&mut items),
-        next_fault(&mut items),
+        next_given(&mut items),
+        next_given(&mut items),
+        next_given(&mut items),
     ]
 }
 
-fn next_fault(items: &mut MessageIter<'_>) -> Option<ParseError> {
-    items.next()?.err()
+fn next_given(items: &mut MessageIter<'_>) -> Option<Result<(), ParseError>> {
+    match items.next()? {
+        Ok(_) => Some(Ok(())),
+        Err(fault) => Some(Err(fault)),
+    }
 }
 
 /// Whether a message has answers from this place on, of which the first has this fault.
@@ -85,7 +88,7 @@ fn is_faulty(
     answers.pos() == start
         && sole_fault(answers) == Some((fault, Err(fault)))
         && start_of(message.authority()) == authority
-        && faults_of(message.iter()) == [Some(fault), Some(fault), None]
+        && given(message.iter()) == [Some(Err(fault)), Some(Err(fault)), None]
 }
 
 #[test]
@@ -117,8 +120,8 @@ fn ends_at_an_additional_record_that_cant_be_read(rt: HostRuntime) -> Result<(),
     );
     let missing = Message::from_slice(&UNREADABLE_ADDITIONAL[..12])?;
     assert_eq!(rt;
-        faults_of(missing.iter()),
-        [Some(ParseError::ShortInput), None, None]
+        given(missing.iter()),
+        [Some(Err(ParseError::ShortInput)), None, None]
     );
     Ok(())
 }

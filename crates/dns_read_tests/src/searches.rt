@@ -64,6 +64,13 @@ fn has_a_first_question(rt: HostRuntime) -> Result<(), Fail> {
 const BROKEN: &[u8; 18] =
     b"\x00\x07\x80\x00\x00\x01\x00\x00\x00\x00\x00\x00\xC0\x0C\x00\x01\x00\x01";
 
+/// Whether the questions of two messages are the same.
+fn ask_the_same(octets: &[u8], others: &[u8]) -> Result<bool, Fail> {
+    let message = Message::from_slice(octets)?;
+    let other = Message::from_slice(others)?;
+    Ok(message.question().same_questions(&other.question()))
+}
+
 /// Whether octets are an answer to a query.
 fn answers(octets: &[u8], query: &[u8]) -> Result<bool, Fail> {
     let message = Message::from_slice(octets)?;
@@ -77,6 +84,7 @@ fn knows_an_answer(rt: HostRuntime) -> Result<(), Fail> {
     assert!(rt; answers(answer, query)?);
     assert!(rt; !answers(query, query)?);
     assert!(rt; !answers(BROKEN, BROKEN)?);
+    assert!(rt; ask_the_same(query, answer)? && !ask_the_same(BROKEN, BROKEN)?);
     Ok(())
 }
 

@@ -103,6 +103,27 @@ fn sets_each_flag(rt: HostRuntime) {
     }
 }
 
+/// A header with each flag, and the reserved bit, set.
+fn with_all_flags() -> Header {
+    Header::for_message_slice(b"\x00\x00\x87\xF0\x00\x00\x00\x00\x00\x00\x00\x00")
+}
+
+#[test]
+fn clears_every_other_flag(rt: HostRuntime) {
+    let mut header = with_all_flags();
+    header.set_qr(false);
+    header.set_tc(false);
+    header.set_ra(false);
+    header.set_ad(false);
+    assert_eq!(rt; header.as_slice(), b"\x00\x00\x05\x50".as_slice());
+    let mut header = with_all_flags();
+    header.set_aa(false);
+    header.set_rd(false);
+    header.set_z(false);
+    header.set_cd(false);
+    assert_eq!(rt; header.as_slice(), b"\x00\x00\x82\xA0".as_slice());
+}
+
 #[test]
 fn writes_four_bits_of_an_opcode(rt: HostRuntime) {
     let mut header = Header::new();
