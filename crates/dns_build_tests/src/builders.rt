@@ -28,7 +28,6 @@ fn builds_an_empty_message(rt: HostRuntime) -> Result<(), Fail> {
     let message = MessageBuilder::new_vec(rt.alloc())?.into_message();
     assert_eq!(rt; message.as_slice(), [0; 12].as_slice());
     assert!(rt; has_no_item(&message)?);
-    assert_eq!(rt; message.clone()?.as_slice(), message.as_slice());
     Ok(())
 }
 
@@ -44,6 +43,7 @@ const ROWS: &[Row] = &[
             (Call::Limit(17), DONE, 12, b""),
             (PUSH, DONE, 17, b""),
         ],
+        start: b"\x00\x00\x00\x00\x00\x01\x00\x00\x00\x00\x00\x00",
         ..EMPTY
     },
     Row {
@@ -53,7 +53,9 @@ const ROWS: &[Row] = &[
             (PUSH, LIMIT, 17, b""),
             (Call::Rewind, DONE, 12, b""),
             (PUSH, DONE, 17, b""),
+            (PUSH, LIMIT, 17, b""),
         ],
+        start: b"\x00\x00\x00\x00\x00\x01\x00\x00\x00\x00\x00\x00",
         ..EMPTY
     },
     Row {
@@ -90,6 +92,7 @@ const BELOW_THE_CONTENT: Row = Row {
         (Call::Opaque(ROOT, 27), DONE, 100, b""),
         (Call::Opaque(ROOT, 0), SHORT, 100, b""),
     ],
+    start: b"\x00\x00\x00\x00\x00\x00\x00\x02\x00\x00\x00\x00",
     ..EMPTY
 };
 
@@ -137,7 +140,15 @@ fn lends_what_it_has(rt: HostRuntime) -> Result<(), Fail> {
 }
 
 #[test]
-fn takes_answers_out(rt: HostRuntime) -> Result<(), Fail> {
+fn keeps_its_limit(rt: HostRuntime) -> Result<(), Fail> {
+    let mut builder = answered(rt.alloc())?;
+    builder.set_push_limit(100);
+    assert_eq!(rt; builder.builder().push_limit(), Some(100));
+    Ok(())
+}
+
+#[test]
+fn keeps_answers_or_takes_them_out(rt: HostRuntime) -> Result<(), Fail> {
     assert_eq!(rt; answered(rt.alloc())?.into_target().len(), 42);
     assert_eq!(rt; answered(rt.alloc())?.rewind_into().finish().len(), 12);
     assert_eq!(rt;
@@ -193,4 +204,12 @@ fn clones_over_compressors(rt: HostRuntime) -> Result<(), Fail> {
     assert_goes_on(&rt, TreeCompressor::new(alloc, Vec::new(alloc)), 25)?;
     assert_goes_on(&rt, HashCompressor::new(alloc, Vec::new(alloc)), 25)?;
     assert_goes_on(&rt, IndexCompressor::new(alloc, Vec::new(alloc)), 25)
+}
+
+#[test]
+fn clones_a_message(rt: HostRuntime) -> Result<(), Fail> {
+    let message = asked(&rt, Vec::new(rt.alloc()), FIRST)?.into_message();
+    assert_eq!(rt; message.as_slice().len(), 19);
+    assert_eq!(rt; message.clone()?.as_slice(), message.as_slice());
+    Ok(())
 }

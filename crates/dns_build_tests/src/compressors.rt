@@ -316,6 +316,7 @@ const FORGOTTEN: &[(&[Target], Row)] = &[
                 (Call::Address(EXAMPLE_COM), DONE, 39, EXAMPLE_COM),
                 (Call::Address(EXAMPLE_COM), DONE, 55, b"\xC0\x0C"),
             ],
+            start: b"\x00\x00\x00\x00\x00\x00\x00\x02\x00\x00\x00\x00",
             ..EMPTY
         },
     ),
@@ -329,6 +330,7 @@ const FORGOTTEN: &[(&[Target], Row)] = &[
                 (Call::Address(LETTER_A), DONE, 16_399, LETTER_A),
                 (Call::Address(LETTER_A), DONE, 16_415, b"\xFF\xFE"),
             ],
+            start: b"\x00\x00\x00\x00\x00\x00\x00\x01\x00\x02\x00\x00",
             ..EMPTY
         },
     ),
@@ -341,6 +343,7 @@ const FORGOTTEN: &[(&[Target], Row)] = &[
                 (Call::Opaque(ROOT, 0), DONE, 40, b""),
                 (Call::Opaque(WWW, 0), DONE, 56, b"\x03www\xC0\x0C"),
             ],
+            start: b"\x00\x00\x00\x00\x00\x01\x00\x02\x00\x00\x00\x00",
             ..EMPTY
         },
     ),
@@ -355,6 +358,7 @@ fn forgets_names(rt: HostRuntime) -> Result<(), Fail> {
 const NO_QUESTION: Row = Row {
     questions: &[(Call::Question(EXAMPLE_COM), SHORT, 12, b"")],
     answers: &[(Call::Address(EXAMPLE_COM), SHORT, 12, b"")],
+    start: b"\x00\x00\x00\x00\x00\x00\x00\x00\x00\x00\x00\x00",
     ..EMPTY
 };
 
@@ -362,6 +366,7 @@ const NO_QUESTION: Row = Row {
 const NO_ANSWER: Row = Row {
     questions: &[(Call::Question(EXAMPLE_COM), DONE, 29, b"")],
     answers: &[(Call::Address(EXAMPLE_COM), SHORT, 29, b"")],
+    start: b"\x00\x00\x00\x00\x00\x01\x00\x00\x00\x00\x00\x00",
     ..EMPTY
 };
 

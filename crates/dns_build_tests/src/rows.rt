@@ -82,14 +82,18 @@ fn name(octets: &'static [u8]) -> Result<Name<&'static [u8]>, Fail> {
     Ok(Name::from_octets(octets)?)
 }
 
-/// Makes a call that pushes nothing.
-fn set<T: Composer, S: BuilderStage>(builder: &mut Builder<T, S>, call: Call) {
+/// Makes a call that every section has.
+fn set<T: Composer, S: BuilderStage>(
+    builder: &mut Builder<T, S>,
+    call: Call,
+) -> Result<Answer, Fail> {
     match call {
         Call::Limit(limit) => builder.set_push_limit(limit),
         Call::NoLimit => builder.clear_push_limit(),
         Call::Header(octets) => builder.set_header(Header::for_message_slice(&octets)),
-        _ => {}
+        _ => return Err(Fail::from("a call at another section than its own")),
     }
+    Ok(DONE)
 }
 
 /// Pushes the questions for a. to x.
@@ -128,10 +132,7 @@ fn ask<T: Composer>(builder: &mut QuestionBuilder<T>, call: Call) -> Result<Answ
             builder.rewind();
             Ok(DONE)
         }
-        _ => {
-            set(builder, call);
-            Ok(DONE)
-        }
+        _ => set(builder, call),
     }
 }
 
@@ -177,10 +178,7 @@ fn make<T: Composer, S: RecordStage>(
             builder.rewind();
             Ok(DONE)
         }
-        _ => {
-            set(builder, call);
-            Ok(DONE)
-        }
+        _ => set(builder, call),
     }
 }
 

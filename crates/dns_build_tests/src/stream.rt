@@ -13,7 +13,7 @@ use std::process::Abort;
 use std::test::Fail;
 
 #[test]
-fn has_room_for_the_header(rt: HostRuntime) -> Result<(), Fail> {
+fn has_no_room_for_the_header(rt: HostRuntime) -> Result<(), Fail> {
     let target = StreamTarget::new(ArrayVec::<u8, 13>::new())?;
     assert!(rt;
         matches!(
@@ -39,7 +39,11 @@ const TWO_QUESTIONS: &[Step] = &[
 #[test]
 fn fills_an_array(rt: HostRuntime) -> Result<(), Fail> {
     let target = StreamTarget::new(ArrayVec::<u8, 20>::new())?;
-    assert_eq!(rt; prefix(&asked(&rt, target, TWO_QUESTIONS)?), Some([0, 17]));
+    let builder = asked(&rt, target, TWO_QUESTIONS)?;
+    assert_eq!(rt;
+        (prefix(&builder), builder.counts().qdcount()),
+        (Some([0, 17]), 1)
+    );
     Ok(())
 }
 
