@@ -5,6 +5,8 @@
 #![tactic(auto)]
 
 #[cfg(test)]
+mod caller;
+#[cfg(test)]
 mod captured;
 #[cfg(test)]
 mod faults;
