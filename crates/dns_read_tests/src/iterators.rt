@@ -142,10 +142,10 @@ fn next_data<'a>(records: &mut AnyRecordIter<'a, UnknownRecordData<&'a [u8]>>) -
     Some(*record.data().data())
 }
 
-/// Where an iterator over opaque data is, and where the section behind it starts.
-fn opaque_places(answers: RecordSection<'_>) -> Result<(usize, Option<usize>), ParseError> {
+/// Where an iterator over opaque data is, and where the section behind its clone starts.
+fn opaque_places(answers: RecordSection<'_>) -> Result<(usize, Option<usize>), Fail> {
     let records = answers.into_records::<UnknownRecordData<&[u8]>>();
-    let behind = answers.into_records::<UnknownRecordData<&[u8]>>();
+    let behind = records.clone()?;
     Ok((records.unwrap().pos(), next_start(behind.next_section())?))
 }
 

@@ -146,7 +146,7 @@ fn reads_an_answer(rt: HostRuntime) -> Result<(), Fail> {
     let Some(Ok(answer)) = answers.next() else {
         panic!(rt; "no record")
     };
-    assert!(rt; is_address(&answer)?);
+    assert!(rt; is_address(&answer)? && is_address(&answer.clone()?)?);
     assert!(rt; matches!(answer.to_record::<Cname<ParsedName<'_>>>(), Ok(None)));
     let opaque = answer.to_any_record::<UnknownRecordData<&[u8]>>()?;
     assert_eq!(rt; *opaque.data().data(), [203, 0, 113, 1].as_slice());
