@@ -335,7 +335,7 @@ fn tells_its_usage(rt: HostRuntime) -> Result<(), Fail> {
     Ok(())
 }
 
-/// The start of a script, what is repeated behind it, how often, and the end; then a place from 0, and the line printed there.
+/// The start of a script, what is repeated behind it, how often, and the end; then a place from 0, the line printed there, and the status.
 type Long = (
     &'static str,
     &'static str,
@@ -343,11 +343,12 @@ type Long = (
     &'static str,
     usize,
     &'static str,
+    u8,
 );
 
 /// Scripts for an array: pushes that fill it, and options that are too long together and alone.
 const LONG: &[Long] = &[
-    ("question\n", "push . A\n", 101, "", 100, "ok 512"),
+    ("question\n", "push . A\n", 101, "", 100, "ok 512", 0),
     (
         "question\n",
         "push . A\n",
@@ -355,6 +356,7 @@ const LONG: &[Long] = &[
         "",
         101,
         "refused short 512",
+        0,
     ),
     (
         "question\nlimit 512\n",
@@ -363,6 +365,7 @@ const LONG: &[Long] = &[
         "",
         100,
         "ok 507",
+        0,
     ),
     (
         "question\nlimit 512\n",
@@ -371,6 +374,7 @@ const LONG: &[Long] = &[
         "",
         101,
         "ok 512",
+        0,
     ),
     (
         "question\nlimit 512\n",
@@ -379,6 +383,7 @@ const LONG: &[Long] = &[
         "",
         102,
         "refused short 512",
+        0,
     ),
     (
         "additional\nopt 1232 0 0 0 3:",
@@ -387,6 +392,7 @@ const LONG: &[Long] = &[
         " 3:",
         1,
         "refused short 12",
+        0,
     ),
     (
         "additional\nopt 1232 0 0 0 3:",
@@ -395,11 +401,12 @@ const LONG: &[Long] = &[
         "",
         1,
         "bad line 2",
+        1,
     ),
 ];
 
 fn script_of(alloc: Global, row: Long) -> Result<String, Fail> {
-    let (start, repeated, count, end, _, _) = row;
+    let (start, repeated, count, end, _, _, _) = row;
     let mut script = String::from_str(alloc, start)?;
     for _ in 0..count {
         script.push_str(repeated)?;
@@ -408,17 +415,17 @@ fn script_of(alloc: Global, row: Long) -> Result<String, Fail> {
     Ok(script)
 }
 
-/// Whether a line is printed at its place.
+/// Whether a line is printed at its place, with its status.
 fn is_printed(alloc: Global, row: Long) -> Result<bool, Fail> {
-    let (_, _, _, _, place, line) = row;
+    let (_, _, _, _, place, line, wanted) = row;
     let script = script_of(alloc, row)?;
     let mut output = Vec::new(alloc);
-    run(alloc, &["build", "fixed"], script.as_bytes(), &mut output)?;
-    Ok(str::from_utf8(&output)?.lines().nth(place) == Some(line))
+    let status = run(alloc, &["build", "fixed"], script.as_bytes(), &mut output)?;
+    Ok(status == wanted && str::from_utf8(&output)?.lines().nth(place) == Some(line))
 }
 
 #[test]
-fn fills_an_array(rt: HostRuntime) -> Result<(), Fail> {
+fn runs_long_scripts(rt: HostRuntime) -> Result<(), Fail> {
     for (index, row) in LONG.iter().enumerate() {
         assert!(rt; is_printed(rt.alloc(), *row)?, "row {index}");
     }
