@@ -2,8 +2,8 @@
 use crate::rows::{COUNT, Call, DONE, EMPTY, LIMIT, ROOT, Row, SHORT, Step, ask_step, asked, run};
 use arrayvec::ArrayVec;
 use dns_build::{
-    AdditionalBuilder, AnswerBuilder, AuthorityBuilder, MessageBuilder, QuestionBuilder,
-    RecordSectionBuilder,
+    AdditionalBuilder, AnswerBuilder, AuthorityBuilder, Builder, BuilderStage, MessageBuilder,
+    QuestionBuilder, RecordSectionBuilder,
 };
 use dns_data::A;
 use dns_read::Message;
@@ -180,13 +180,38 @@ const LETTER_A: &[u8] = b"\x01a\x00";
 
 const FIRST: &[Step] = &[(Call::Question(LETTER_A), DONE, 19, b"")];
 
+/// The builder, whose clone has its octets and its limit.
+fn cloned<T: CloneTarget, S: BuilderStage>(
+    rt: &impl Abort,
+    builder: Builder<T, S>,
+) -> Result<Builder<T, S>, Fail> {
+    let clone = builder.clone()?;
+    assert_eq!(rt; clone.as_slice(), builder.as_slice());
+    assert_eq!(rt; clone.push_limit(), Some(500));
+    Ok(builder)
+}
+
+/// A builder of questions with a limit of 500 is cloned, and moves on; so at each section, and at the start again.
+fn assert_each_stage<T: CloneTarget>(
+    rt: &impl Abort,
+    builder: QuestionBuilder<T>,
+) -> Result<(), Fail> {
+    let builder = cloned(rt, builder)?.answer();
+    let builder = cloned(rt, builder)?.authority();
+    let builder = cloned(rt, builder)?.additional();
+    let builder = cloned(rt, builder)?.builder();
+    cloned(rt, builder)?;
+    Ok(())
+}
+
 /// A builder with the question a. A is cloned, and the same question is pushed onto the clone, which then has so many octets.
 fn assert_goes_on<T: CloneTarget>(rt: &impl Abort, target: T, len: usize) -> Result<(), Fail> {
-    let builder = asked(rt, target, FIRST)?;
+    let mut builder = asked(rt, target, FIRST)?;
+    builder.set_push_limit(500);
     let mut clone = builder.clone()?;
     ask_step(rt, &mut clone, &(Call::Question(LETTER_A), DONE, len, b""))?;
     assert_eq!(rt; builder.as_slice().len(), 19);
-    Ok(())
+    assert_each_stage(rt, builder)
 }
 
 #[test]
