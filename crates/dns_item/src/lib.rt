@@ -24,7 +24,7 @@ mod ttl;
 
 pub use dns_question::{ComposeQuestion, Question, question};
 pub use opt_record::OptRecord;
-pub use parsed_record::ParsedRecord;
+pub use parsed_record::{ParsedRecord, parse_record_near};
 pub use record::{ComposeRecord, Record};
 pub use record_header::RecordHeader;
 pub use ttl::Ttl;

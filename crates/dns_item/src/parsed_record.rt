@@ -1,11 +1,14 @@
 //! Records whose data isn't read yet (RFC 1035 section 4.1.3).
 ghost use Rattle.std.specs.Prelude.{◌≡◌};
+ghost use Rattle.dns_name.specs.NearNames.{IsNear};
+ghost use Rattle.dns_name.specs.Parsers.{seen};
 ghost use Rattle.dns_item.specs.RecordHeader.{owner_of, rtype_of, class_of, ttl_of, rdlen_of};
 ghost use Rattle.dns_item.specs.ParsedRecord.{header_of, data_parser, ParsesRecord, SkipsOverRecord};
 
 use crate::record_header::RecordHeader;
 use crate::ttl::Ttl;
 use dns_code::{Class, Rtype};
+use dns_name::NearName;
 use dns_wire::{ParseError, ParsedName, Parser};
 
 /// A record as it stands in a message: its header, and the place of its data, which isn't read yet
@@ -68,11 +71,7 @@ impl<'a> ParsedRecord<'a> {
     pub fn parse(parser: &mut Parser<'a>) -> Result<Self, ParseError>
         ensures { ParsesRecord parser.old parser.new result }
     {
-        let (header, data) = RecordHeader::read(*parser)?;
-        let mut behind = data;
-        behind.advance(usize::from(header.rdlen()))?;
-        *parser = behind;
-        Ok(ParsedRecord { header, data })
+        parse_record_near(parser, &mut NearName::new())
     }
 
     /// Passes a record without following a pointer in its owner, and without a look at its data.
@@ -90,4 +89,21 @@ impl<'a> ParsedRecord<'a> {
         *parser = ahead;
         Ok(())
     }
+}
+
+/// As [`ParsedRecord::parse`], with the owner read by `parse_near` of `dns_name`.
+#[inline(always)]
+pub fn parse_record_near<'a>(
+    parser: &mut Parser<'a>,
+    near: &mut NearName,
+) -> Result<ParsedRecord<'a>, ParseError>
+    requires near { IsNear (seen parser.old) near.old }
+    ensures parses { ParsesRecord parser.old parser.new result }
+    ensures near { IsNear (seen parser.old) near.new }
+{
+    let (header, data) = RecordHeader::read(*parser, near)?;
+    let mut behind = data;
+    behind.advance(usize::from(header.rdlen()))?;
+    *parser = behind;
+    Ok(ParsedRecord { header, data })
 }

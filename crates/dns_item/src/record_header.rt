@@ -1,5 +1,6 @@
 //! Record headers (RFC 1035 section 4.1.3).
 ghost use Rattle.std.specs.Prelude.{◌≡◌};
+ghost use Rattle.dns_name.specs.NearNames.{IsNear};
 ghost use Rattle.dns_name.specs.Parsers.{seen, place, Takes};
 ghost use Rattle.dns_wire.specs.Targets.{Composes};
 ghost use Rattle.dns_item.specs.Record.{HasFields};
@@ -8,6 +9,7 @@ ghost use Rattle.dns_item.specs.RecordHeader.{owner_of, rtype_of, class_of, ttl_
 use crate::record::Record;
 use crate::ttl::Ttl;
 use dns_code::{Class, Rtype};
+use dns_name::{NearName, parse_near};
 use dns_wire::{AppendError, Composer, ParseError, ParsedName, Parser, ToName};
 
 /// A record but for its data: owner, type, class, TTL and the length of the data in octets (RFC 1035 section 4.1.3).
@@ -122,7 +124,7 @@ impl<'a> RecordHeader<ParsedName<'a>> {
     pub fn parse(parser: &mut Parser<'a>) -> Result<Self, ParseError>
         ensures { ParsesHeader parser.old parser.new result }
     {
-        let (header, behind) = RecordHeader::read(*parser)?;
+        let (header, behind) = RecordHeader::read(*parser, &mut NearName::new())?;
         *parser = behind;
         Ok(header)
     }
@@ -141,17 +143,24 @@ impl<'a> RecordHeader<ParsedName<'a>> {
     pub fn parse_and_skip(parser: &mut Parser<'a>) -> Result<Self, ParseError>
         ensures { ParsesAndSkips parser.old parser.new result }
     {
-        let (header, mut behind) = RecordHeader::read(*parser)?;
+        let (header, mut behind) = RecordHeader::read(*parser, &mut NearName::new())?;
         behind.advance(usize::from(header.rdlen))?;
         *parser = behind;
         Ok(header)
     }
 
-    /// The header at the parser's place, and the parser that stands behind it, at the data.
-    pub(crate) fn read(mut parser: Parser<'a>) -> Result<(Self, Parser<'a>), ParseError>
-        ensures { ReadsAhead parser.entry result }
+    /// The header at the parser's place, and the parser that stands behind it, at the data. The owner is read by
+    /// `parse_near`.
+    #[inline(always)]
+    pub(crate) fn read(
+        mut parser: Parser<'a>,
+        near: &mut NearName,
+    ) -> Result<(Self, Parser<'a>), ParseError>
+        requires near { IsNear (seen parser) near.old }
+        ensures reads { ReadsAhead parser.entry result }
+        ensures near { IsNear (seen parser.entry) near.new }
     {
-        let owner = ParsedName::parse(&mut parser)?;
+        let owner = parse_near(&mut parser, near)?;
         let (rtype, class, ttl, rdlen) = read_fields(&mut parser)?;
         Ok((RecordHeader::new(owner, rtype, class, ttl, rdlen), parser))
     }

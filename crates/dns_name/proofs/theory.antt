@@ -1,5 +1,6 @@
 -- Lemmas that crates above cite: a change here is one for them too.
 pub mod HeadLemmas
+pub mod NearNames
 pub mod AnswerLaws
 pub mod WalkLaws
 pub mod LabelsLemmas

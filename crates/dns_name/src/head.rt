@@ -1,9 +1,9 @@
-ghost use Rattle.std.specs.Prelude.{◌≡◌, ℕ, ◌+◌, ◌<◌, ◌≤◌, length, OnOk};
+ghost use Rattle.std.specs.Prelude.{◌≡◌, ℕ, ◌+◌, ◌<◌, ◌≤◌, length, OnOk, IfOk};
 
 use dns_octets::{FormError, ParseError};
 
 /// The most octets that the labels of a name take: 255 less the root's zero octet.
-const MAX_SIZE: usize = 254;
+pub(crate) const MAX_SIZE: usize = 254;
 
 /// What begins at a place in a name (RFC 1035 section 4.1.4).
 #[derive(Clone, Copy, Debug, PartialEq, Eq)]
@@ -18,12 +18,14 @@ pub enum Head {
 
 impl Head {
     ghost use Rattle.dns_name.specs.Names.{head_at, Reads, BeginsOrFails};
+    ghost use Rattle.dns_name.specs.NearNames.{IsInReach, PassesLabelsOrFails};
 
     /// What begins at the place.
     #[tactic(auto, unfolding(crate::specs::Names::head_at))]
     pub(crate) fn at(octets: &[u8], place: usize) -> Result<Head, ParseError>
         ensures head { Reads result (head_at octets.now place) }
         ensures within { OnOk result (place < length octets.now) }
+        ensures in_reach { IfOk result (λ head. IsInReach head) }
     {
         let first = *octets.get(place).ok_or(ParseError::ShortInput)?;
         match first {
@@ -53,5 +55,31 @@ impl Head {
             }
         }
         Ok(head)
+    }
+
+    /// Passes the labels that stand in a row at a place, behind labels of the size: where the root or a pointer begins
+    /// behind them, and the place where the pointer leads, or `None` for the root.
+    #[inline(always)]
+    pub(crate) fn behind_labels(
+        octets: &[u8],
+        start: usize,
+        size: usize,
+    ) -> Result<(usize, Option<u16>), ParseError>
+        requires within { start ≤ length octets.now }
+        requires short { size ≤ MAX_SIZE }
+        ensures { PassesLabelsOrFails octets.now start size result }
+    {
+        let longest = start + (MAX_SIZE - size);
+        let mut pos = start;
+        'walk: loop {
+            match Head::at(octets, pos)? {
+                Head::Root => return Ok((pos, None)),
+                Head::Label(len) => pos += usize::from(len) + 1,
+                Head::Pointer(target) => return Ok((pos, Some(target))),
+            }
+            if pos > longest {
+                return Err(ParseError::Form(FormError::LONG_NAME));
+            }
+        }
     }
 }

@@ -1,8 +1,9 @@
-ghost use Rattle.std.specs.Prelude.{◌≡◌, ◌+◌, ◌↔◌, IsTrue, IsSome, IfSome, [], length};
+ghost use Rattle.std.specs.Prelude.{◌≡◌, ℕ, List, ◌+◌, ◌↔◌, ◌≤◌, IsTrue, IsSome, IfSome, [], length};
 ghost use Rattle.dns_name.specs.Unique.{NameOfSize, NameOfSize-prop};
 
-use crate::head::Head;
+use crate::head::{Head, MAX_SIZE};
 use crate::label_iter::LabelIter;
+use crate::near_name::NearName;
 use crate::parser::Parser;
 use dns_octets::{FormError, ParseError};
 
@@ -19,6 +20,7 @@ pub struct ParsedName<'a> {
 impl<'a> ParsedName<'a> {
     ghost use Rattle.dns_name.specs.Names.{Labels, uncompressed, with_root, Stands};
     ghost use Rattle.dns_name.specs.Parsers.{seen, place};
+    ghost use Rattle.dns_name.specs.NearNames.{IsNear, ArrivesOrFails, MeasuresOrFails};
     ghost use Rattle.dns_name.specs.ParsedName.{labels, ParsesName, SkipsName, ReadsStanding, IsFlat, labels_left};
     ghost use Rattle.dns_name.specs.Uncompressed.{WholeName};
 
@@ -27,39 +29,84 @@ impl<'a> ParsedName<'a> {
     /// The end of the parser is that of the name too, also behind a pointer. A name has at most 255 octets, and a
     /// pointer leads strictly back. An octet that is missing is `ShortInput`, any other fault `Form`; the leftmost is
     /// answered.
+    #[inline(always)]
     pub fn parse(parser: &mut Parser<'a>) -> Result<ParsedName<'a>, ParseError>
         ensures reads { ParsesName parser.old parser.new result }
         ensures name { ReadsStanding (seen parser.old) (place parser.old) result }
     {
+        ParsedName::parse_near(parser, &mut NearName::new())
+    }
+
+    /// As `parse_near` of the crate.
+    #[inline(always)]
+    pub(crate) fn parse_near(
+        parser: &mut Parser<'a>,
+        near: &mut NearName,
+    ) -> Result<ParsedName<'a>, ParseError>
+        requires near { IsNear (seen parser.old) near.old }
+        ensures reads { ParsesName parser.old parser.new result }
+        ensures name { ReadsStanding (seen parser.old) (place parser.old) result }
+        ensures near { IsNear (seen parser.old) near.new }
+    {
         let octets = &parser.octets[..parser.end];
         let start = parser.pos;
-        let mut pos = start;
-        let mut size = 0;
-        let mut end = None;
-        'walk: loop {
-            match Head::behind(octets, pos, size)? {
-                Head::Root => break,
-                Head::Label(len) => {
-                    let taken = usize::from(len) + 1;
-                    size += taken;
-                    pos += taken;
-                }
-                Head::Pointer(target) => {
-                    let target = usize::from(target);
-                    if target >= pos {
-                        return Err(ParseError::Form(FormError::BAD_POINTER));
-                    }
-                    end = end.or(Some(pos + 2));
-                    pos = target;
-                }
-            }
-        }
-        parser.pos = end.unwrap_or(pos + 1);
+        let (end, size) = ParsedName::walk(octets, start, near)?;
+        parser.pos = end;
         Ok(ParsedName {
             octets,
             pos: start,
             size,
         })
+    }
+
+    /// Where the octets of the name at a place end, and how many octets its labels take.
+    #[inline(always)]
+    fn walk(octets: &[u8], start: usize, near: &mut NearName) -> Result<(usize, usize), ParseError>
+        requires within { start ≤ length octets.now }
+        requires near { IsNear octets.now near.old }
+        ensures arrives { ArrivesOrFails octets.now start result }
+        ensures near { IsNear octets.now near.new }
+    {
+        if near.is_all(octets, start) {
+            return Ok((start + 2, usize::from(near.size)));
+        }
+        let (pos, target) = Head::behind_labels(octets, start, 0)?;
+        let before = pos - start;
+        let Some(target) = target else {
+            return Ok((pos + 1, before));
+        };
+        if usize::from(target) >= pos {
+            return Err(ParseError::Form(FormError::BAD_POINTER));
+        }
+        let known = before + usize::from(near.size);
+        if target == near.pos && known <= MAX_SIZE {
+            return Ok((pos + 2, known));
+        }
+        let size = ParsedName::size_at(octets, target, before)?;
+        *near = NearName::at(octets, target, size - before);
+        Ok((pos + 2, size))
+    }
+
+    /// How many octets the labels of a name take: those before a pointer to a place, of a size, and those there.
+    #[inline(always)]
+    fn size_at(octets: &[u8], start: u16, before: usize) -> Result<usize, ParseError>
+        requires within { start ≤ length octets.now }
+        requires short { before ≤ MAX_SIZE }
+        ensures { MeasuresOrFails octets.now start before result }
+    {
+        let mut pos = usize::from(start);
+        let mut size = before;
+        'walk: loop {
+            let (at, target) = Head::behind_labels(octets, pos, size)?;
+            size += at - pos;
+            let Some(target) = target else {
+                return Ok(size);
+            };
+            pos = usize::from(target);
+            if pos >= at {
+                return Err(ParseError::Form(FormError::BAD_POINTER));
+            }
+        }
     }
 
     /// Passes a name without following a pointer. What is missing is `ShortInput`, any other fault `Form`.
@@ -94,6 +141,19 @@ impl<'a> ParsedName<'a> {
             octets,
             pos: 0,
             size: octets.len() - 1,
+        }
+    }
+
+    /// This name, which stands at a place, for `parse_near`. Where no pointer can lead to the place, it is no name.
+    pub fn near(&self, pos: usize) -> NearName
+        ensures { (b : List ℕ) → Stands b pos (labels self.now) → IsNear b result }
+    {
+        if pos >= NearName::PLACES {
+            return NearName::new();
+        }
+        NearName {
+            pos: pos as u16,
+            size: self.size as u8,
         }
     }
 

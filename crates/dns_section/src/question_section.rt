@@ -1,4 +1,5 @@
 ghost use Rattle.std.specs.Prelude.{◌≡◌, ◌≤◌, length, Ok};
+ghost use Rattle.dns_name.specs.NearNames.{IsNear, IsNear-prop};
 ghost use Rattle.dns_name.specs.Parsers.{input, seen};
 ghost use Rattle.dns_code.specs.HeaderSection.{header_size};
 ghost use Rattle.dns_question.specs.Questions.{SkipsQuestion, QuestionSkipFaultAt};
@@ -9,6 +10,7 @@ use crate::record_section::RecordSection;
 use crate::section::Section;
 use dns_code::HeaderCounts;
 use dns_item::Question;
+use dns_name::NearName;
 use dns_wire::{ParseError, ParsedName, Parser};
 
 /// A cursor over the questions of a message (RFC 1035 section 4.1.2).
@@ -20,8 +22,11 @@ pub struct QuestionSection<'a> {
     parser: Parser<'a>,
     /// How many questions may still come, or the error that was given.
     left: Result<u16, ParseError>,
+    /// The name of the last question: owners may lead there.
+    near: NearName,
     ghost long: { header_size ≤ length (input parser) },
     ghost whole: { seen parser ≡ input parser },
+    ghost met: { IsNear (seen parser) near } by { IsNear-prop (seen parser) near },
 }
 
 impl<'a> QuestionSection<'a> {
@@ -45,6 +50,7 @@ impl<'a> QuestionSection<'a> {
         QuestionSection {
             parser,
             left: Ok(HeaderCounts::for_message_slice(octets).qdcount()),
+            near: NearName::new(),
         }
     }
 
@@ -65,9 +71,11 @@ impl<'a> QuestionSection<'a> {
         ensures octets { octets_of self.new ≡ octets_of self.old }
     {
         let left = self.left.ok()?.checked_sub(1)?;
+        let start = self.parser.pos();
         match Question::parse(&mut self.parser) {
             Ok(question) => {
                 self.left = Ok(left);
+                self.near = question.qname().near(start);
                 Some(Ok(question))
             }
             Err(error) => {
@@ -86,7 +94,7 @@ impl<'a> QuestionSection<'a> {
     {
         let mut parser = self.parser;
         skip_questions(&mut parser, self.left?)?;
-        Ok(RecordSection::at(Section::Answer, parser))
+        Ok(RecordSection::at(Section::Answer, parser, self.near))
     }
 
     /// As `answer`.

@@ -1,4 +1,5 @@
 ghost use Rattle.std.specs.Prelude.{◌≡◌, ◌≤◌, length};
+ghost use Rattle.dns_name.specs.NearNames.{IsNear, IsNear-prop};
 ghost use Rattle.dns_name.specs.Parsers.{input, seen, place};
 ghost use Rattle.dns_code.specs.HeaderSection.{header_size};
 ghost use Rattle.dns_item.specs.Items.{SkipsRecord, RecordSkipFaultAt};
@@ -6,7 +7,8 @@ ghost use Rattle.dns_section.specs.Skipping.{SkipsAll};
 
 use crate::section::Section;
 use dns_code::HeaderCounts;
-use dns_item::ParsedRecord;
+use dns_item::{ParsedRecord, parse_record_near};
+use dns_name::NearName;
 use dns_wire::{ParseError, Parser};
 
 /// A cursor over the records of a section of a message (RFC 1035 section 4.1.3).
@@ -19,8 +21,12 @@ pub struct RecordSection<'a> {
     section: Section,
     /// How many records may still come, or the error that was given.
     left: Result<u16, ParseError>,
+    /// The name where the first pointer of an owner led, of the last that had one, or else of the question, if it was read
+    /// on the way. The next owner may lead there too.
+    near: NearName,
     ghost long: { header_size ≤ length (input parser) },
     ghost whole: { seen parser ≡ input parser },
+    ghost met: { IsNear (seen parser) near } by { IsNear-prop (seen parser) near },
 }
 
 impl<'a> RecordSection<'a> {
@@ -30,9 +36,10 @@ impl<'a> RecordSection<'a> {
 
     /// The section that begins at the parser's place, with all of its records to come.
     #[inline(always)]
-    pub(crate) fn at(section: Section, parser: Parser<'a>) -> Self
+    pub(crate) fn at(section: Section, parser: Parser<'a>, near: NearName) -> Self
         requires long { header_size ≤ length (input parser) }
         requires whole { seen parser ≡ input parser }
+        requires near { IsNear (seen parser) near }
         ensures fresh { IsFresh section (seen parser.entry) result }
         ensures position { position result ≡ place parser.entry }
     {
@@ -46,6 +53,7 @@ impl<'a> RecordSection<'a> {
             parser,
             section,
             left: Ok(count),
+            near,
         }
     }
 
@@ -75,7 +83,7 @@ impl<'a> RecordSection<'a> {
         ensures section { section_of self.new ≡ section_of self.old }
     {
         let left = self.left.ok()?.checked_sub(1)?;
-        match ParsedRecord::parse(&mut self.parser) {
+        match parse_record_near(&mut self.parser, &mut self.near) {
             Ok(record) => {
                 self.left = Ok(left);
                 Some(Ok(record))
@@ -100,7 +108,7 @@ impl<'a> RecordSection<'a> {
         };
         let mut parser = self.parser;
         skip_records(&mut parser, self.left?)?;
-        Ok(Some(RecordSection::at(section, parser)))
+        Ok(Some(RecordSection::at(section, parser, NearName::new())))
     }
 }
 

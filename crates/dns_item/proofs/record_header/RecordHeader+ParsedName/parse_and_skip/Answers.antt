@@ -7,16 +7,16 @@ use Rattle.dns_item.proofs.record_header.RecordHeader+ParsedName.parse_and_skip.
 pub returns-in_err-header : goal.returns-in_err-header
 returns-in_err-header c =
     let p = err_from_is_err_and c.from_residual.result c.from_residual.ensures.1 in
-    rw (p.1, p.2) (without_header _ _ _ c.in_err-header.ensures, refl)
+    rw (p.1, p.2) (without_header _ _ _ c.in_err-header.ensures.reads, refl)
 
 pub returns-in_err-advance : goal.returns-in_err-advance
 returns-in_err-advance c =
     let p = err_from_is_err_and c.from_residual-in_err-advance.result c.from_residual-in_err-advance.ensures.1 in
     let h = c.in_err-advance.ensures in
-    rw (p.1, p.2) (without_data _ c.in_ok-header.behind c.in_ok-header.header _ _ c.in_ok-header.ensures c.from.ensures h.0 h.1, refl)
+    rw (p.1, p.2) (without_data _ c.in_ok-header.behind c.in_ok-header.header _ _ c.in_ok-header.ensures.reads c.from.ensures h.0 h.1, refl)
 
 pub returns : goal.returns
 returns c =
     let h = c.in_ok-advance.ensures in
-    let r = with_data c.args.parser.now c.in_ok-header.behind c.advance.new.self c.in_ok-header.header _ c.in_ok-header.ensures c.from.ensures h.0 h.1 in
+    let r = with_data c.args.parser.now c.in_ok-header.behind c.advance.new.self c.in_ok-header.header _ c.in_ok-header.ensures.reads c.from.ensures h.0 h.1 in
     ((place c.in_ok-header.behind, r.0), r.1)

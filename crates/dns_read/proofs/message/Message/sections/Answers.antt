@@ -5,11 +5,14 @@ use Rattle.dns_section.specs.declared.section.Section.TheVariants.{Answer, Autho
 use Rattle.dns_section.proofs.theory.SectionLemmas.{begins_answers, begins_next}
 use Rattle.dns_read.proofs.message.Message.sections.Goals as goal
 
-pub returns-clause-additional : goal.returns-clause-additional
-returns-clause-additional g c =
+pub returns-clause-authority : goal.returns-clause-authority
+returns-clause-authority g c =
     let b = message_octets c.args.self.now in
     let q = c.question-question.ensures in
     let question : BeginsQuestions b c.question-question.result = record { octets = q.octets; start = q.position; count = q.count; questions = q.questions } in
     let answer = begins_answers b c.question-question.result c.in_ok-answer.answer question c.in_ok-answer.ensures in
-    let authority = begins_next Answer Authority b c.in_ok-answer.answer c.in_ok-authority.authority refl answer c.in_ok-authority.ensures in
-    begins_next Authority Additional b c.in_ok-authority.authority c.in_ok-additional.additional refl authority c.in_ok-additional.ensures
+    begins_next Answer Authority b c.in_ok-answer.answer c.in_ok-authority.authority refl answer c.in_ok-authority.ensures
+
+pub returns-clause-additional : goal.returns-clause-additional
+returns-clause-additional g c =
+    begins_next Authority Additional (message_octets c.args.self.now) c.in_ok-authority.authority c.in_ok-additional.additional refl (returns-clause-authority g c) c.in_ok-additional.ensures

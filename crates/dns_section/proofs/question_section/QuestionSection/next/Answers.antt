@@ -1,6 +1,6 @@
 use Rattle.std.proofs.Common.{◌∙◌, ◌∷◌, List, ℕ, ap, sym}
 use Rattle.std.specs.Prelude.{Ok}
-use Rattle.dns_name.specs.Parsers.{place}
+use Rattle.dns_name.specs.Parsers.{seen, place}
 use Rattle.dns_question.specs.Question.{parsed_question}
 use Rattle.dns_section.specs.QuestionSection.{octets_of, position, to_come}
 use Rattle.dns_section.specs.QuestionsFrom.{questions_from}
@@ -26,3 +26,11 @@ pub returns-in-Err-clause-steps : goal.returns-in-Err-clause-steps
 returns-in-Err-clause-steps c =
     let old = c.args.self.now in
     gives_fault (questions_from_are_read (octets_of old)) (position old) (to_come old) _ c.in_ok-ok.ensures.value _ _ c.in_ok-left.ensures c.in-Err.ensures.0
+
+pub invariant_of-self-clause-met : goal.invariant_of-self-clause-met
+invariant_of-self-clause-met c =
+    let reads = c.in-Ok.ensures in
+    c.near-self.ensures (seen c.parse.new.parser) (rw (reads.1.seen, c.pos-start.ensures, c.qname.ensures) reads.0.name)
+
+pub invariant_of-self-in-Err-clause-met : goal.invariant_of-self-in-Err-clause-met
+invariant_of-self-in-Err-clause-met c = rw c.in-Err.ensures.1 c.args.self.now.met

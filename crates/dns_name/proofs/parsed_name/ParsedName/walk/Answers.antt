@@ -1,0 +1,36 @@
+use Rattle.std.proofs.Common.{◌+◌, ◌-◌, ◌≤◌, arith}
+use Rattle.std.proofs.lemmas.Result.{err_from_is_err_and}
+use Rattle.dns_name.proofs.theory.NearNames.{arrives_root, arrives_pointer, arrives_back, fails_ahead, fails_behind}
+use Rattle.dns_name.proofs.parsed_name.ParsedName.walk.Goals as goal
+
+pub returns-then-is_all-clause-arrives : goal.returns-then-is_all-clause-arrives
+returns-then-is_all-clause-arrives c =
+    rw c.from.ensures (arrives_back _ _ c.args.near.now (c.is_all.ensures c.if-is_all.true) c.requires.near)
+
+pub returns-in_default-clause-arrives : goal.returns-in_default-clause-arrives
+returns-in_default-clause-arrives c = arrives_root _ _ _ (rw c.in_default.is at c.in_ok-pos.ensures)
+
+pub returns-then-from-pos-clause-arrives : goal.returns-then-from-pos-clause-arrives
+returns-then-from-pos-clause-arrives c =
+    let row = rw c.in-Some.is at c.in_ok-pos.ensures in
+    fails_ahead _ _ _ _ _ row (omega arith)
+
+pub returns-then-known-le-MAX_SIZE-clause-arrives : goal.returns-then-known-le-MAX_SIZE-clause-arrives
+returns-then-known-le-MAX_SIZE-clause-arrives c =
+    let row = rw c.in-Some.is at c.in_ok-pos.ensures in
+    let small : (c.in_ok-pos.pos - c.args.start) + c.args.near.now.size ≤ 254 = omega (arith, c.if-known-le-MAX_SIZE.true, c.from-3.ensures) in
+    let known = c.requires.near (omega (arith, small)) in
+    arrives_pointer _ _ _ _ _ _ row (omega arith) (rw c.if-target-near.true known) small (omega arith)
+
+pub returns-in_err-size-clause-arrives : goal.returns-in_err-size-clause-arrives
+returns-in_err-size-clause-arrives c =
+    let p = err_from_is_err_and c.from_residual-in_err-size.result c.from_residual-in_err-size.ensures.1 in
+    let row = rw c.in-Some.is at c.in_ok-pos.ensures in
+    rw (p.1, p.2) (fails_behind _ _ _ _ _ row (omega arith) c.in_err-size.ensures)
+
+pub returns-clause-arrives : goal.returns-clause-arrives
+returns-clause-arrives c =
+    let row = rw c.in-Some.is at c.in_ok-pos.ensures in
+    let grows : c.in_ok-pos.pos - c.args.start ≤ c.in_ok-size.size = c.in_ok-size.ensures.grows in
+    let short : c.in_ok-size.size ≤ 254 = c.in_ok-size.ensures.short in
+    arrives_pointer _ _ _ _ _ _ row (omega arith) c.in_ok-size.ensures.name (omega (arith, grows, short)) (omega (arith, grows))
