@@ -96,26 +96,37 @@ def zone():
     return msg
 
 
-def chain(broken):
-    """32 owners of 127 labels, each but the last two behind a pointer.
+def addresses(count):
+    """So many records of one owner."""
+    msg = Message(0xADD, 0x8180, (1, count, 0, 0))
+    msg.question("example.com", 1)
+    for i in range(count):
+        msg.a("example.com", 60, struct.pack(">I", i))
+    return msg
+
+
+def chain(broken, count=32, tops=1):
+    """Owners of 127 labels, each but the last two behind a pointer.
 
     126 pointers a name, which most libraries take. The chain
     stands in the data of a record of a type that nobody knows.
+    With two tops every other owner begins at the second label.
     """
-    msg = Message(0xBAD, 0x8180, (1, 33, 0, 1 if broken else 0))
+    msg = Message(0xBAD, 0x8180, (1, 1 + count, 0, 1 if broken else 0))
     msg.question("example.com", 1)
     msg.head("example.com", 65280, 60)
     msg.octets += struct.pack(">H", 5 + 4 * 125)
-    top = len(msg.octets)
+    places = [len(msg.octets)]
     msg.octets += b"\x01a\x01a\0"
     for _ in range(125):
-        place = len(msg.octets)
-        msg.octets += b"\x01a" + struct.pack(">H", 0xC000 | top)
-        top = place
+        msg.octets += b"\x01a" + struct.pack(">H", 0xC000 | places[-1])
+        places.append(len(msg.octets) - 4)
     msg.sum += 5 + 4 * 125
-    for i in range(32):
-        msg.octets += struct.pack(">HHHIH4B", 0xC000 | top, 1, 1, 60, 4, 10, 9, 8, i)
-        msg.sum += 127 + 255 + 1 + 1 + 60 + (10 << 24 | 9 << 16 | 8 << 8 | i)
+    for i in range(count):
+        less = i % tops
+        top = places[-1 - less]
+        msg.octets += struct.pack(">HHHIHI", 0xC000 | top, 1, 1, 60, 4, 0x0A090800 + i)
+        msg.sum += 127 - less + 255 - 2 * less + 1 + 1 + 60 + 0x0A090800 + i
     if broken:
         here = len(msg.octets)
         msg.octets += struct.pack(">HHHIH4B", 0xC000 | here, 1, 1, 60, 4, 1, 2, 3, 4)
@@ -153,6 +164,12 @@ def main():
     line("w5b", "-", chain(True).octets)
     for octets in garbage(64):
         line("w5c", "?", octets)
+    for count in (10, 100, 1000, 10000):
+        line(f"n{count}", addresses(count).sum, addresses(count).octets)
+    # Three messages of 64 KiB.
+    for label, msg in (("f64", addresses(4093)), ("h64", chain(False, 4061)), ("h64b", chain(False, 4061, 2))):
+        assert 65536 - 32 < len(msg.octets) < 65536, len(msg.octets)
+        line(label, msg.sum, msg.octets)
 
 
 main()

@@ -23,7 +23,7 @@ extern uint64_t allocations;
 #endif
 
 /* BATCH is that of ours.c: times are of a multiple of it. */
-enum { RUNS = 15, MOST = 128, ROOM = 65535, BATCH = 64, DIGITS = 1 << 18 };
+enum { RUNS = 15, MOST = 128, ROOM = 65535, BATCH = 64, DIGITS = 1 << 19 };
 
 struct input {
     char workload[8];
@@ -51,6 +51,12 @@ static void fail(const char *what)
     exit(1);
 }
 
+/* The number of a digit that inputs.py prints. */
+static int digit(char c)
+{
+    return c <= '9' ? c - '0' : c - 'a' + 10;
+}
+
 static void load(const char *path)
 {
     static char digits[DIGITS];
@@ -58,13 +64,13 @@ static void load(const char *path)
     FILE *file = fopen(path, "r");
     if (!file)
         fail("no inputs");
-    while (fscanf(file, "%7s %23s %262143s", next.workload, next.sum, digits) == 3) {
+    while (fscanf(file, "%7s %23s %524287s", next.workload, next.sum, digits) == 3) {
         if (input_count == MOST)
             fail("too many inputs");
         next.len = strlen(digits) / 2;
         next.octets = malloc(next.len + 1);
         for (size_t i = 0; i < next.len; i++)
-            sscanf(digits + 2 * i, "%2" SCNx8, &next.octets[i]);
+            next.octets[i] = (uint8_t)(digit(digits[2 * i]) << 4 | digit(digits[2 * i + 1]));
         inputs[input_count++] = next;
     }
     fclose(file);
@@ -109,7 +115,7 @@ static void report(const char *peer, const char *way, const char *workload, cons
     run(task, BATCH);
     uint64_t before = allocations;
     run(task, BATCH);
-    printf("%-12s %-15s %-5s %12.2f\n", peer, way, workload,
+    printf("%-12s %-15s %-6s %12.2f\n", peer, way, workload,
            (double)(allocations - before) / BATCH / (double)task->count);
 }
 
@@ -172,7 +178,7 @@ static void report(const char *peer, const char *way, const char *workload, cons
         ns[i] = (now() - start) / (double)times / (double)task->count;
     }
     qsort(ns, RUNS, sizeof *ns, by_value);
-    printf("%-12s %-15s %-5s %12.1f %12.1f  %s\n", peer, way, workload, ns[RUNS / 2], ns[0],
+    printf("%-12s %-15s %-6s %12.1f %12.1f  %s\n", peer, way, workload, ns[RUNS / 2], ns[0],
            difference(task));
 }
 
@@ -187,7 +193,8 @@ static const char *way_of(int32_t variant)
 
 static void report_all(const char *peer)
 {
-    static const char *const walks[] = {"w1", "w2", "w5a", "w5b", "w5c"};
+    static const char *const walks[] = {"w1", "w2", "w5a", "w5b", "w5c", "n10", "n100",
+                                        "n1000", "n10000", "f64", "h64", "h64b"};
     for (size_t i = 0; i < sizeof walks / sizeof *walks; i++) {
         struct task task = task_of(walks[i], 0);
         report(peer, "walk", walks[i], &task);

@@ -40,12 +40,12 @@ if [ "${PEER:-}" ]; then
 fi
 name_of() { [ "$1" = messages ] && echo ours || echo "${PEER_NAME:-peer}"; }
 
-printf '%-12s %-15s %-5s %12s %12s\n' library way work 'ns, median' 'ns, least'
+printf '%-12s %-15s %-6s %12s %12s\n' library way work 'ns, median' 'ns, least'
 for _ in $(seq "${ROUNDS:-1}"); do
   for peer in "${peers[@]}"; do "$build/$peer" "$(name_of "$peer")" "$build/inputs"; done
 done
 echo
-printf '%-12s %-15s %-5s %12s\n' library way work allocations
+printf '%-12s %-15s %-6s %12s\n' library way work allocations
 for peer in "${peers[@]}"; do "$build/${peer}_allocations" "$(name_of "$peer")" "$build/inputs"; done
 echo
 
