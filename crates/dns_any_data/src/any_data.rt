@@ -108,9 +108,8 @@ fn append_name<T: Composer>(
     ensures is_name { IsName (labels name.now) }
 {
     parts_compose();
-    let name = name.as_parsed();
     target.append_slice(octets)?;
-    target.append_compressed_name(&name)
+    target.append_compressed_name(name)
 }
 
 /// Appends two names, and octets behind them.
@@ -128,10 +127,8 @@ fn append_names<T: Composer>(
     ensures second { IsName (labels second.now) }
 {
     parts_compose();
-    let first = first.as_parsed();
-    let second = second.as_parsed();
-    target.append_compressed_name(&first)?;
-    target.append_compressed_name(&second)?;
+    target.append_compressed_name(first)?;
+    target.append_compressed_name(second)?;
     target.append_slice(octets)
 }
 

@@ -94,10 +94,9 @@ fn write_kept<T: Composer>(
         return 0;
     };
     for _ in 0..work.rounds {
-        target = match message(kind, target, names.as_slice()) {
-            Ok(kept) => kept,
-            Err(_) => return 0,
-        };
+        if message(kind, &mut target, names.as_slice()).is_err() {
+            return 0;
+        }
     }
     hand_out(target.as_slice(), out)
 }
@@ -118,10 +117,11 @@ fn write_fresh<T: Composer, F: Fn() -> T>(
     };
     let mut len = 0;
     for _ in 0..work.rounds {
-        len = match message(kind, new_target(), names.as_slice()) {
-            Ok(target) => hand_out(target.as_slice(), out),
-            Err(_) => return 0,
-        };
+        let mut target = new_target();
+        if message(kind, &mut target, names.as_slice()).is_err() {
+            return 0;
+        }
+        len = hand_out(target.as_slice(), out);
     }
     len
 }

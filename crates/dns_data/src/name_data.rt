@@ -18,7 +18,7 @@ fn compose_name<N: ToName, T: Composer>(name: &N, target: &mut T) -> Result<(), 
         (T.written target.new) result }
     ensures is_data { IsData (CompressibleName (N.name name.now) ∷ []) }
 {
-    target.append_compressed_name(&name.as_parsed())
+    target.append_compressed_name(name)
 }
 
 /// Appends data that is one name in canonical form.

@@ -185,10 +185,8 @@ impl<N: ToName> RecordData for Soa<N> {
 
 impl<N: ToName> ComposeRecordData for Soa<N> {
     fn compose_rdata<T: Composer>(&self, target: &mut T) -> Result<(), AppendError> {
-        let mname = self.mname.as_parsed();
-        let rname = self.rname.as_parsed();
-        target.append_compressed_name(&mname)?;
-        target.append_compressed_name(&rname)?;
+        target.append_compressed_name(&self.mname)?;
+        target.append_compressed_name(&self.rname)?;
         target.append_slice(&self.number_octets())
     }
 

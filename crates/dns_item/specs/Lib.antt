@@ -1,4 +1,4 @@
-pub mod Ttl
+pub use Rattle.dns_ttl.specs.Ttl
 pub mod Items
 pub mod RecordHeader
 pub mod ParsedRecord

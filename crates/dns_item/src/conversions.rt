@@ -4,9 +4,9 @@ ghost use Rattle.dns_item.specs.Record.{owner_of, data_of};
 ghost use Rattle.dns_item.specs.RecordConversions.{KeepsRecord, joined_record};
 
 use crate::record::Record;
-use crate::ttl::Ttl;
 use dns_code::Class;
 use dns_octets::join_conversions;
+use dns_ttl::Ttl;
 use dns_wire::{AppendError, FlattenInto, OctetsFrom};
 use std::alloc::Global;
 

@@ -6,9 +6,9 @@ ghost use Rattle.dns_item.specs.OptRecord.{opt_class, opt_ttl, opt_data, opt_ite
 ghost use Rattle.dns_item.specs.Record.{owner_of, class_of, ttl_of, data_of};
 
 use crate::record::Record;
-use crate::ttl::Ttl;
 use dns_code::{Header, OptRcode};
 use dns_data::{Opt, OptHeader};
+use dns_ttl::Ttl;
 use dns_wire::{Name, Octets};
 
 /// An OPT record: what its class and its TTL say, and its options (RFC 6891 section 6.1).

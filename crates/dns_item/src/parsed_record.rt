@@ -6,9 +6,9 @@ ghost use Rattle.dns_item.specs.RecordHeader.{owner_of, rtype_of, class_of, ttl_
 ghost use Rattle.dns_item.specs.ParsedRecord.{header_of, data_parser, ParsesRecord, SkipsOverRecord};
 
 use crate::record_header::RecordHeader;
-use crate::ttl::Ttl;
 use dns_code::{Class, Rtype};
 use dns_name::NearName;
+use dns_ttl::Ttl;
 use dns_wire::{ParseError, ParsedName, Parser};
 
 /// A record as it stands in a message: its header, and the place of its data, which isn't read yet

@@ -9,9 +9,9 @@ pub use crate::opt_record::OptRecord;
 pub use crate::parsed_record::ParsedRecord;
 pub use crate::record_error::RecordParseError;
 pub use crate::record_header::RecordHeader;
-pub use crate::ttl::Ttl;
 use dns_code::{Class, Rtype};
 use dns_data::{ComposeRecordData, RecordData, compose_len_rdata};
+pub use dns_ttl::Ttl;
 use dns_wire::{AppendError, Composer, ToName};
 
 /// A record: its owner, its class, its TTL and its data, which tells its type (RFC 1035 section 4.1.3).
@@ -190,8 +190,6 @@ impl<N: ToName, D: ComposeRecordData> Record<N, D> {
         ensures is_record { OnOk result (IsRecord
             (record_item N.name D.rtype_of D.parts self.now)) }
     {
-        // By the contract of this call, what stands for a name is one.
-        let _ = self.owner.as_parsed();
         let fields = field_octets(self.rtype(), self.class(), self.ttl());
         target.append_compressed_name(&self.owner)?;
         target.append_slice(&fields)?;

@@ -7,9 +7,9 @@ ghost use Rattle.dns_item.specs.Record.{HasFields};
 ghost use Rattle.dns_item.specs.RecordHeader.{owner_of, rtype_of, class_of, ttl_of, rdlen_of, AreFieldsAt, header_fields, header_item, put_header, ParsesHeader, ReadsAhead, ParsesAndSkips};
 
 use crate::record::Record;
-use crate::ttl::Ttl;
 use dns_code::{Class, Rtype};
 use dns_name::{NearName, parse_near};
+use dns_ttl::Ttl;
 use dns_wire::{AppendError, Composer, ParseError, ParsedName, Parser, ToName};
 
 /// A record but for its data: owner, type, class, TTL and the length of the data in octets (RFC 1035 section 4.1.3).
@@ -95,10 +95,8 @@ impl<N: ToName> RecordHeader<N> {
         ensures { Composes T.room T.grows (put_header T.rule (header_item N.name self.now))
             (T.written target.old) (T.written target.new) result }
     {
-        let owner = self.owner.as_parsed();
-        let octets = self.field_octets();
-        target.append_compressed_name(&owner)?;
-        target.append_slice(&octets)
+        target.append_compressed_name(&self.owner)?;
+        target.append_slice(&self.field_octets())
     }
 }
 

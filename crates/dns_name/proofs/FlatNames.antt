@@ -5,8 +5,8 @@ use Rattle.std.proofs.lemmas.List.Elements.{All-head}
 use Rattle.std.proofs.Math.Seq.{drop-append_seam, take-append_seam}
 use Rattle.dns_name.specs.Names.{Labels, IsLabel, uncompressed, head_at, Stands, label_at}
 use Rattle.dns_name.specs.declared.head.Head.TheVariants.{Root, Label, Pointer}
-use Rattle.dns_name.proofs.theory.AnswerLaws.{standing_name}
-use Rattle.dns_name.proofs.theory.HeadLemmas.{root_begins, label_begins, at_root, at_label, length_label}
+use Rattle.dns_name.specs.Unique.{length_label, standing_name}
+use Rattle.dns_name.proofs.theory.HeadLemmas.{root_begins, label_begins, at_root, at_label}
 use Rattle.dns_name.proofs.theory.LabelsLemmas.{length-uncompressed}
 use Rattle.dns_name.proofs.theory.Spelling.{drop_label, drop_root, get_drop}
 

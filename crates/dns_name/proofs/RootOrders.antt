@@ -11,7 +11,7 @@ use Rattle.dns_name.specs.Names.{Labels, with_root, name_size}
 use Rattle.dns_name.specs.ParsedName.{labels}
 use Rattle.dns_name.specs.declared.parsed_name.ParsedName.{ParsedName}
 use Rattle.dns_name.specs.NameOrders.{label_order, name_order}
-use Rattle.dns_name.proofs.theory.AnswerLaws.{standing_short}
+use Rattle.dns_name.specs.Unique.{standing_short}
 use Rattle.dns_name.proofs.Orders.{name_order-with_root, slice_cmp-append, then_assoc}
 
 -- of names that end with as many labels, those labels decide unless they are equal

@@ -1,8 +1,12 @@
--- At most one name stands at a place, and in one way. So a ghost field can hold the name.
-use Rattle.std.specs.Prelude.{◌≡◌, ℕ, ◌+◌, ◌<◌, ◌≤◌, List, [], ◌∷◌, length, Result, Ok, zero, suc, take}
-use Rattle.std.proofs.Common.{sym, ◌∙◌, ap, subst, refl, arith}
+-- What stands at a place is a name, and at most one stands there, in one way. So a ghost field can hold the name.
+use Rattle.std.specs.Prelude.{◌≡◌, ℕ, ◌+◌, ◌<◌, ◌≤◌, List, [], ◌∷◌, length, Option, Some, None, Result, Ok, zero, suc, take, All, slice_get}
+use Rattle.std.proofs.Common.{sym, ◌∙◌, ap, subst, refl, arith, length-take, length-drop}
 use Rattle.std.proofs.Props.{props}
-use Rattle.dns_name.specs.Names.{Fault, Labels, name_size, max_size, head_at, Stands, label_at, with_root}
+use Rattle.std.proofs.lemmas.Option.{slice_get_within}
+use Rattle.std.proofs.lemmas.Bool.Decides.{nat_tests}
+use Rattle.std.proofs.lemmas.Grind.{common_steps}
+use Rattle.std.proofs.lemmas.List.Elements.{All-cons}
+use Rattle.dns_name.specs.Names.{Fault, Labels, IsLabel, IsName, name_size, max_size, head_of, head_at, Stands, label_at, with_root}
 use Rattle.dns_name.specs.Names.Stands.{root, label, pointer}
 use Rattle.dns_name.specs.declared.head.Head.{Head}
 use Rattle.dns_name.specs.declared.head.Head.TheVariants.{Root, Label, Pointer}
@@ -117,3 +121,45 @@ pub LabelsAt-prop : (b : List ℕ) (p left : ℕ) → IsProp (LabelsAt b p left)
 LabelsAt-prop b p left x y =
     let P : NameAt b p → Type 0 = λ name. (z : FrontOfSize name.0 left) → x ≡ (name, z) in
     subst P (NameAt-prop b x.0 y.0) (λ z. ap (λ (w : FrontOfSize x.0.0 left). let labels : LabelsAt b p left = (x.0, w) in labels) (FrontOfSize-prop x.0.0 left x.1 z)) y.1
+
+-- What stands somewhere is a name: so `ToName` can promise it of each of its values.
+
+pub label_of : (first second : Option ℕ) (n : ℕ) → head_of first second ≡ Ok (Label n) → (first ≡ Some n) × (0 < n) × (n < 64)
+label_of None second n h = cc
+label_of (Some x) None n h = grind (arith, nat_tests, common_steps, h)
+label_of (Some x) (Some y) n h = grind (arith, nat_tests, common_steps, h)
+
+-- a label begins at an octet that is there, and has 1 to 63 octets
+pub record IsLabelHead (b : List ℕ) (p n : ℕ) : Type 0 where
+  pub within : p < length b
+  pub some : 0 < n
+  pub short : n < 64
+
+pub label_head : (b : List ℕ) (p n : ℕ) → head_at b p ≡ Ok (Label n) → IsLabelHead b p n
+unfolding head_at
+label_head b p n h = let l = label_of (slice_get b p) (slice_get b (p + 1)) n h in
+    record { within = slice_get_within b p n l.0; some = l.1; short = l.2 }
+
+pub length_label : (b : List ℕ) (p n : ℕ) → p + 1 + n ≤ length b → length (label_at b p n) ≡ n
+length_label b p n h = simp (length-take, length-drop) (omega arith)
+
+pub name_size-label_at : (b : List ℕ) (p n : ℕ) (name : Labels) → p + 1 + n ≤ length b → name_size (label_at b p n ∷ name) ≡ n + 1 + name_size name
+name_size-label_at b p n name h = ap (λ k. k + 1 + name_size name) (length_label b p n h)
+
+-- a name that stands somewhere takes at most 254 octets
+pub standing_short : {b : List ℕ} {p : ℕ} {name : Labels} → Stands b p name → name_size name ≤ max_size
+standing_short (root h) = omega arith
+standing_short {b = b} (label {p = p} {n = n} {name = name} h w x z) = let e = name_size-label_at b p n name w in omega (arith, e)
+standing_short (pointer h back x) = standing_short x
+
+-- and its labels are labels
+standing_labels : {b : List ℕ} {p : ℕ} {name : Labels} → Stands b p name → All IsLabel name
+standing_labels (root h) = λ k d l. absurd (omega arith)
+standing_labels {b = b} (label {p = p} {n = n} {name = name} h w x z) =
+    let l = label_head b p n h in
+    let e = length_label b p n w in
+    All-cons IsLabel (label_at b p n) name (record { some = omega (arith, l.some); short = omega (arith, l.short) }) (standing_labels x)
+standing_labels (pointer h back x) = standing_labels x
+
+pub standing_name : {b : List ℕ} {p : ℕ} {name : Labels} → Stands b p name → IsName name
+standing_name x = record { labels = standing_labels x; short = standing_short x }

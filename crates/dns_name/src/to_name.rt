@@ -11,8 +11,7 @@ pub trait ToName {
 
     /// The name as one in an input, which borrows this one.
     fn as_parsed(&self) -> ParsedName<'_>
-        ensures labels { labels result ≡ name self.now }
-        ensures is_name { IsName (name self.now) };
+        ensures labels { labels result ≡ name self.now };
 
     /// The octets of the name, where they are known to stand without pointers.
     ///
@@ -22,12 +21,18 @@ pub trait ToName {
     {
         self.as_parsed().as_flat_slice()
     }
+
+    /// What stands for a name is one.
+    ghost is_name: { (n : Self) → IsName (name n) };
 }
 
 impl ToName for ParsedName<'_> {
     ghost use Rattle.dns_name.specs.ParsedName.{labels};
+    ghost use Rattle.dns_name.specs.Unique.{standing_name};
 
     ghost name = { labels };
+
+    ghost is_name = { λ n. standing_name n.name_at.0.1 };
 
     fn as_parsed(&self) -> ParsedName<'_> {
         *self
@@ -36,6 +41,8 @@ impl ToName for ParsedName<'_> {
 
 impl<N: ToName> ToName for &N {
     ghost name = { λ n. N.name n.now };
+
+    ghost is_name = { λ n. N.is_name n.now };
 
     fn as_parsed(&self) -> ParsedName<'_> {
         (*self).as_parsed()

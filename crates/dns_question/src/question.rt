@@ -133,8 +133,6 @@ impl<N: ToName> Question<N> {
     {
         let [a, b] = self.qtype().to_int().to_be_bytes();
         let [c, d] = self.qclass().to_int().to_be_bytes();
-        // By the contract of this call, what stands for a name is one.
-        let _ = self.qname.as_parsed();
         target.append_compressed_name(&self.qname)?;
         target.append_slice(&[a, b, c, d])
     }

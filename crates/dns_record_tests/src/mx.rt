@@ -39,9 +39,8 @@ impl<N: ToName> ComposeRecordData for Mx<N> {
     fn compose_rdata<T: Composer>(&self, target: &mut T) -> Result<(), AppendError> {
         parts_compose();
         names_are_short();
-        let exchange = self.exchange.as_parsed();
         target.append_slice(&self.preference.to_be_bytes())?;
-        target.append_compressed_name(&exchange)
+        target.append_compressed_name(&self.exchange)
     }
 
     fn compose_canonical_rdata<T: Composer>(&self, target: &mut T) -> Result<(), AppendError> {

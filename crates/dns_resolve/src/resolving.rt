@@ -69,8 +69,6 @@ pub fn query<N: ToName>(id: u16, name: &N, rtype: Rtype) -> Message<ArrayVec<u8,
     let mut builder = MessageBuilder::from_target(ArrayVec::new()).unwrap();
     builder.set_header(header);
     let mut questions = builder.question();
-    // By the contract of this call, what stands for a name is one.
-    let _ = name.as_parsed();
     questions.push((name, rtype)).unwrap();
     questions.into_message()
 }

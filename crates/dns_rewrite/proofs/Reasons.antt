@@ -6,7 +6,6 @@ use Rattle.std.specs.Prelude.{Option, Result, Err}
 use Rattle.dns_name.specs.Names.{Fault}
 use Rattle.dns_name.specs.ParsedName.{labels}
 use Rattle.dns_name.specs.declared.parsed_name.ParsedName.{ParsedName}
-use Rattle.dns_name.proofs.theory.AnswerLaws.{standing_name}
 use Rattle.dns_name.proofs.theory.LabelsLemmas.{length-uncompressed}
 use Rattle.dns_wire.specs.Parts.{parts_size}
 use Rattle.dns_wire.specs.Pieces.{Static}
@@ -32,6 +31,7 @@ use Rattle.dns_any_data.specs.declared.any_data.AnyData.{AnyData}
 use Rattle.dns_any_data.specs.declared.any_data.Names.{Names}
 use Rattle.dns_any_data.specs.declared.any_data.Names.TheVariants as names
 use Rattle.dns_rewrite.specs.Rewriting.{IsReason, MessageReads, begun}
+use Rattle.dns_name.specs.Unique.{standing_name}
 use Rattle.dns_rewrite.proofs.NoFault.{no_fault, section_reads}
 use Rattle.dns_rewrite.proofs.Refusing.{AreFew, IsOpen, asking_refused, copying_refused}
 use Rattle.dns_rewrite.proofs.Sizes.{IsNamed, IsShort}

@@ -188,3 +188,41 @@ impl<const N: usize> CloneTarget for ArrayVec<u8, N> {
         ArrayVec::clone(self)
     }
 }
+
+/// The target behind the reference, so that a caller keeps it where it is. What it then holds is known of the reference that
+/// a builder gives back.
+impl<T: Composer> Composer for &mut T {
+    ghost rule = { T.rule };
+
+    ghost room = { T.room };
+
+    ghost grows = { T.grows };
+
+    ghost written = { λ t. T.written t.now };
+
+    ghost plain_forgets = { λ plain t. T.plain_forgets plain t.now };
+
+    fn as_slice(&self) -> &[u8] {
+        (**self).as_slice()
+    }
+
+    fn append_slice(&mut self, octets: &[u8]) -> Result<(), AppendError> {
+        (**self).append_slice(octets)
+    }
+
+    fn append_compressed_name<M: ToName>(&mut self, name: &M) -> Result<(), AppendError> {
+        (**self).append_compressed_name(name)
+    }
+
+    fn can_compress(&self) -> bool {
+        (**self).can_compress()
+    }
+
+    fn truncate(&mut self, len: usize) {
+        (**self).truncate(len)
+    }
+
+    fn write_at(&mut self, place: usize, octets: &[u8]) {
+        (**self).write_at(place, octets)
+    }
+}

@@ -6,8 +6,8 @@ use Rattle.dns_name.specs.Names.{Fault, Labels, Stands, FaultAt}
 use Rattle.dns_name.specs.Names.Fault.{ShortInput}
 use Rattle.dns_wire.specs.Parts.{Part}
 use Rattle.dns_wire.specs.Parts.Part.{Octets, CompressibleName}
-use Rattle.dns_name.specs.Unique.{same_name}
-use Rattle.dns_name.proofs.theory.AnswerLaws.{one_answer, standing_short}
+use Rattle.dns_name.specs.Unique.{same_name, standing_short}
+use Rattle.dns_name.proofs.theory.AnswerLaws.{one_answer}
 use Rattle.dns_name.proofs.theory.AnswerLaws as names
 use Rattle.dns_name.proofs.theory.WalkLaws.{one_end, standing_end, walked_in_octets}
 use Rattle.dns_data.specs.Layout.{Layout, string_size, DataStands, DataFaultAt}

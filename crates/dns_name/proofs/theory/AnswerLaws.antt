@@ -8,7 +8,8 @@ use Rattle.dns_name.specs.Names.Fault.{ShortInput, Form}
 use Rattle.dns_name.specs.Names.Faulty.{head, long, cut, ahead, label, pointer}
 use Rattle.dns_name.specs.declared.head.Head.{Head}
 use Rattle.dns_name.specs.declared.head.Head.TheVariants.{Root, Label, Pointer}
-use Rattle.dns_name.proofs.theory.HeadLemmas.{at_label, at_pointer, name_size-label_at, length_label, label_head}
+use Rattle.dns_name.specs.Unique.{name_size-label_at, length_label, label_head}
+use Rattle.dns_name.proofs.theory.HeadLemmas.{at_label, at_pointer}
 
 module _ (b : List ℕ) where
   no_head : {p : ℕ} {name : Labels} {f : Fault} → Stands b p name → head_at b p ≡ Err f → ⊥
@@ -110,21 +111,3 @@ module _ (b : List ℕ) where
 
   pub one_answer : (p : ℕ) → ((name : Labels) × Stands b p name × (0 + name_size name ≤ max_size)) ⊎ ((f : Fault) × Faulty b p 0 f)
   one_answer p = answer (left p 0 + 1) p 0 (omega arith) (omega arith)
-
--- a name that stands somewhere takes at most 254 octets
-pub standing_short : {b : List ℕ} {p : ℕ} {name : Labels} → Stands b p name → name_size name ≤ max_size
-standing_short (Stands.root h) = omega arith
-standing_short {b = b} (Stands.label {p = p} {n = n} {name = name} h w x z) = let e = name_size-label_at b p n name w in omega (arith, e)
-standing_short (Stands.pointer h back x) = standing_short x
-
--- and its labels are labels
-standing_labels : {b : List ℕ} {p : ℕ} {name : Labels} → Stands b p name → All IsLabel name
-standing_labels (Stands.root h) = λ k d l. absurd (omega arith)
-standing_labels {b = b} (Stands.label {p = p} {n = n} {name = name} h w x z) =
-    let l = label_head b p n h in
-    let e = length_label b p n w in
-    All-cons IsLabel (label_at b p n) name (record { some = omega (arith, l.some); short = omega (arith, l.short) }) (standing_labels x)
-standing_labels (Stands.pointer h back x) = standing_labels x
-
-pub standing_name : {b : List ℕ} {p : ℕ} {name : Labels} → Stands b p name → IsName name
-standing_name x = record { labels = standing_labels x; short = standing_short x }

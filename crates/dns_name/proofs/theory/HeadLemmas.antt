@@ -6,15 +6,10 @@ use Rattle.std.proofs.lemmas.Bool.Decides.{nat_tests}
 use Rattle.std.proofs.lemmas.Grind.{common_steps}
 use Rattle.dns_name.specs.Names.{head_of, head_at, Fault, Labels, name_size, max_size, Begins, Stands, label_at, WalkedBehind, Walked, SkipFaulty, SkipFaultAt}
 use Rattle.dns_name.specs.declared.head.Head.TheVariants.{Root, Label, Pointer}
-use Rattle.dns_name.specs.Unique.{NameAt}
+use Rattle.dns_name.specs.Unique.{NameAt, label_of, label_head}
 use Rattle.dns_name.specs.Names.Stands.{root, label, pointer}
 use Rattle.dns_name.specs.ParsedName.{IsFirst, label_octets}
 use Rattle.dns_name.specs.declared.label.Label.{Label as LabelOf}
-
-label_of : (first second : Option ℕ) (n : ℕ) → head_of first second ≡ Ok (Label n) → (first ≡ Some n) × (0 < n) × (n < 64)
-label_of None second n h = cc
-label_of (Some x) None n h = grind (arith, nat_tests, common_steps, h)
-label_of (Some x) (Some y) n h = grind (arith, nat_tests, common_steps, h)
 
 root_of : (first second : Option ℕ) → head_of first second ≡ Ok Root → first ≡ Some 0
 root_of None second h = cc
@@ -31,17 +26,6 @@ head_of_root second = refl
 
 head_of_label : (n : ℕ) (second : Option ℕ) → 1 ≤ n → n ≤ 63 → head_of (Some n) second ≡ Ok (Label n)
 head_of_label n second some short = grind (arith, nat_tests, common_steps)
-
--- a label begins at an octet that is there, and has 1 to 63 octets
-pub record IsLabelHead (b : List ℕ) (p n : ℕ) : Type 0 where
-  pub within : p < length b
-  pub some : 0 < n
-  pub short : n < 64
-
-pub label_head : (b : List ℕ) (p n : ℕ) → head_at b p ≡ Ok (Label n) → IsLabelHead b p n
-unfolding head_at
-label_head b p n h = let l = label_of (slice_get b p) (slice_get b (p + 1)) n h in
-    record { within = slice_get_within b p n l.0; some = l.1; short = l.2 }
 
 pub root_within : (b : List ℕ) (p : ℕ) → head_at b p ≡ Ok Root → p < length b
 unfolding head_at
@@ -86,12 +70,6 @@ unfolding head_at
 same_head b c p first second = λ i. head_of (first i) (second i)
 
 -- How far a walk over a name has come.
-
-pub length_label : (b : List ℕ) (p n : ℕ) → p + 1 + n ≤ length b → length (label_at b p n) ≡ n
-length_label b p n h = simp (length-take, length-drop) (omega arith)
-
-pub name_size-label_at : (b : List ℕ) (p n : ℕ) (name : Labels) → p + 1 + n ≤ length b → name_size (label_at b p n ∷ name) ≡ n + 1 + name_size name
-name_size-label_at b p n name h = ap (λ k. k + 1 + name_size name) (length_label b p n h)
 
 -- Labels of a size lead from start to at. So where the walk ends or fails from `at` decides where it ends or fails from start.
 pub record Passes (b : List ℕ) (start at size : ℕ) : Type 0 where

@@ -13,7 +13,7 @@ use Rattle.dns_name.specs.ParsedName.{labels}
 use Rattle.dns_octets.specs.declared.octets.Octets.{Ghosts}
 use Rattle.dns_name.specs.declared.name.Name.{Name}
 use Rattle.dns_name.specs.declared.parsed_name.ParsedName.{ParsedName}
-use Rattle.dns_name.proofs.theory.AnswerLaws.{standing_name}
+use Rattle.dns_name.specs.Unique.{standing_name}
 use Rattle.dns_name.proofs.theory.LabelsLemmas.{length-uncompressed}
 use Rattle.dns_name.proofs.NameOrderLemmas.{uncompressed-injective}
 use Rattle.dns_name.proofs.theory.Spelling.{stands_spelled}

@@ -2,7 +2,7 @@
 use Rattle.std.proofs.Common.{arith, inl, inr, refl, Ok, Err}
 use Rattle.dns_name.specs.Laws.{NameOrFault, NameOrFaultNotBoth, OneName, OneFault, EndOrSkipFault, EndOrSkipFaultNotBoth, OneEnd, StandingNamesEnd, SkipFaultsAreFaults, SkippingEndsAlike, SkippingFailsAlike}
 use Rattle.dns_name.specs.Parsers.{seen}
-use Rattle.dns_name.specs.Unique.{same_name as same}
+use Rattle.dns_name.specs.Unique.{same_name as same, standing_short}
 use Rattle.dns_name.proofs.theory.AnswerLaws as answers
 use Rattle.dns_name.proofs.theory.WalkLaws as walks
 
@@ -10,7 +10,7 @@ pub name_or_fault : NameOrFault
 name_or_fault b p = elim (answers.one_answer b p) [ inl a ↦ inl (a.0, a.1) | inr a ↦ inr a ]
 
 pub not_both : NameOrFaultNotBoth
-not_both b p name f x y = answers.not_both b y name x (omega (arith, answers.standing_short x))
+not_both b p name f x y = answers.not_both b y name x (omega (arith, standing_short x))
 
 pub one_name : OneName
 one_name b p m n x y = same b x y
@@ -28,7 +28,7 @@ pub one_end : OneEnd
 one_end b p q r x y = walks.one_end b x y
 
 pub names_end : StandingNamesEnd
-names_end b p name x = walks.standing_end 0 x (omega (arith, answers.standing_short x))
+names_end b p name x = walks.standing_end 0 x (omega (arith, standing_short x))
 
 pub skip_faults : SkipFaultsAreFaults
 skip_faults b p f x = walks.skip_fault b x

@@ -9,10 +9,10 @@ use Rattle.dns_name.specs.Names.{Fault, Labels, name_size, max_size, head_of, he
 use Rattle.dns_name.specs.Names.Fault.{ShortInput, Form}
 use Rattle.dns_name.specs.NearNames.{IsNear, LabelsTo, PassesLabels, Measures, Arrives, LeadsBackTo}
 use Rattle.dns_name.specs.NearNames.LabelsTo.{none, label}
-use Rattle.dns_name.specs.Unique.{NameOfSize}
+use Rattle.dns_name.specs.Unique.{NameOfSize, name_size-label_at, label_head}
 use Rattle.dns_name.specs.declared.head.Head.TheVariants.{Root, Label, Pointer}
 use Rattle.dns_name.specs.declared.near_name.NearName.{NearName}
-use Rattle.dns_name.proofs.theory.HeadLemmas.{name_size-label_at, pointer_within, pointer_begins, label_head}
+use Rattle.dns_name.proofs.theory.HeadLemmas.{pointer_within, pointer_begins}
 
 -- Past the end nothing begins.
 

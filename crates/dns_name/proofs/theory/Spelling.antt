@@ -8,7 +8,8 @@ use Rattle.std.proofs.Math.Seq.{drop-cons, drop-append_seam, take-append_seam}
 use Rattle.dns_name.specs.Names.{Fault, Labels, IsLabel, IsName, name_size, max_size, uncompressed, head_at, Begins, Stands, label_at, SkipFaulty}
 use Rattle.dns_name.specs.Uncompressed.{IsUncompressed, WholeName, WholeName-prop}
 use Rattle.dns_name.specs.declared.head.Head.TheVariants.{Root, Label, Pointer}
-use Rattle.dns_name.proofs.theory.HeadLemmas.{label_there, root_there, root_begins, label_begins, Passes, passes_none, passes_label, name_size-label_at, length_label}
+use Rattle.dns_name.specs.Unique.{name_size-label_at, length_label}
+use Rattle.dns_name.proofs.theory.HeadLemmas.{label_there, root_there, root_begins, label_begins, Passes, passes_none, passes_label}
 use Rattle.dns_name.proofs.theory.AnswerLaws.{not_both}
 use Rattle.dns_name.proofs.theory.WalkLaws.{skip_fault}
 

@@ -1,10 +1,9 @@
 -- One step of an iterator over labels, from the front and from the back.
 use Rattle.std.proofs.Common.{◌≡◌, ℕ, zero, suc, ◌+◌, ◌-◌, ◌<◌, ◌≤◌, ◌≢◌, List, [], ◌∷◌, ◌++◌, length, length-append, take, drop, arith, ap, sym, ◌∙◌, refl, subst}
 use Rattle.dns_name.specs.Names.{Labels, name_size, with_root, Stands}
-use Rattle.dns_name.specs.Unique.{same_name, NameOfSize, LabelsTake, LabelsAt, LabelsAt-prop, one_count}
+use Rattle.dns_name.specs.Unique.{same_name, NameOfSize, LabelsTake, LabelsAt, LabelsAt-prop, one_count, standing_short}
 use Rattle.dns_name.specs.ParsedName.{IsFirst, label_octets}
 use Rattle.dns_name.specs.declared.label.Label.{Label}
-use Rattle.dns_name.proofs.theory.AnswerLaws.{standing_short}
 use Rattle.dns_name.proofs.theory.LabelsLemmas.{name_size-with_root}
 
 length-with_root : (name : Labels) → length (with_root name) ≡ length name + 1

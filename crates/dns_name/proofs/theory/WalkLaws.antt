@@ -7,7 +7,8 @@ use Rattle.dns_name.specs.Names.Fault.{ShortInput, Form}
 use Rattle.dns_name.specs.Names.SkipFaulty.{head, long, cut, label}
 use Rattle.dns_name.specs.declared.head.Head.{Head}
 use Rattle.dns_name.specs.declared.head.Head.TheVariants.{Root, Label, Pointer}
-use Rattle.dns_name.proofs.theory.HeadLemmas.{root_within, pointer_within, name_size-label_at}
+use Rattle.dns_name.specs.Unique.{name_size-label_at}
+use Rattle.dns_name.proofs.theory.HeadLemmas.{root_within, pointer_within}
 
 module _ (b : List ℕ) where
   end_root : {p s q : ℕ} → WalkedBehind b p s q → head_at b p ≡ Ok Root → q ≡ p + 1

@@ -9,7 +9,8 @@ use Rattle.dns_wire.specs.TargetLaws.StandsIn.{root, label, pointer}
 use Rattle.dns_octets.specs.Octets.{overwritten}
 use Rattle.dns_wire.specs.Targets.{Spelled, Remembers}
 use Rattle.dns_name.specs.declared.head.Head.TheVariants.{Root, Label, Pointer}
-use Rattle.dns_name.proofs.theory.HeadLemmas.{label_head, label_there, root_there, root_begins, label_begins, same_head, root_within, pointer_within}
+use Rattle.dns_name.specs.Unique.{label_head}
+use Rattle.dns_name.proofs.theory.HeadLemmas.{label_there, root_there, root_begins, label_begins, same_head, root_within, pointer_within}
 use Rattle.dns_wire.proofs.theory.SpelledNames as octets_at
 use Rattle.dns_wire.proofs.theory.SpelledNames.{spelled_long, kept_spelled}
 

@@ -1,4 +1,4 @@
-use Rattle.dns_name.proofs.theory.AnswerLaws.{standing_name}
+use Rattle.dns_name.specs.Unique.{standing_name}
 use Rattle.dns_name.proofs.laws.standing_names.Goals as goal
 
 pub returns : goal.returns

@@ -13,11 +13,11 @@ returns-in_err-append_compressed_name-clause-composes g c =
     let soa = c.args.self.now in
     refused_part_composes _ _ _ (CompressibleName (g.N.ToName.name (mname_of soa))) (CompressibleName (g.N.ToName.name (rname_of soa)) ∷ Octets (number_octets soa) ∷ []) _ _
     c.append_compressed_name.result c.from_residual.result c.in_err-append_compressed_name.field-0.0 c.in_err-append_compressed_name.was (p.1 ∙ ap Err p.2)
-    (rw c.as_parsed-mname.ensures.labels at c.append_compressed_name.ensures)
+    c.append_compressed_name.ensures
 
 pub returns-in_err-append_compressed_name-clause-is_data :
     goal.returns-in_err-append_compressed_name-clause-is_data
-returns-in_err-append_compressed_name-clause-is_data g c = soa_is_data g.N.ToName.name c.args.self.now c.as_parsed-mname.ensures.is_name c.as_parsed-rname.ensures.is_name
+returns-in_err-append_compressed_name-clause-is_data g c = soa_is_data g.N.ToName.name c.args.self.now (g.N.ToName.is_name (mname_of c.args.self.now)) (g.N.ToName.is_name (rname_of c.args.self.now))
 
 pub returns-in_err-append_compressed_name-2-clause-composes :
     goal.returns-in_err-append_compressed_name-2-clause-composes
@@ -26,14 +26,14 @@ returns-in_err-append_compressed_name-2-clause-composes g c =
     let soa = c.args.self.now in
     let rname = CompressibleName (g.N.ToName.name (rname_of soa)) in
     parts_compose_behind _ _ _ (CompressibleName (g.N.ToName.name (mname_of soa))) (rname ∷ Octets (number_octets soa) ∷ []) _ _ _ _
-    (rw c.as_parsed-mname.ensures.labels at c.in_ok-append_compressed_name.ensures.ok)
+    c.in_ok-append_compressed_name.ensures.ok
     (refused_part_composes _ _ _ rname (Octets (number_octets soa) ∷ []) _ _
     c.append_compressed_name-2.result c.from_residual-in_err-append_compressed_name-2.result c.in_err-append_compressed_name-2.field-0.0 c.in_err-append_compressed_name-2.was (p.1 ∙ ap Err p.2)
-    (rw c.as_parsed-rname.ensures.labels at c.append_compressed_name-2.ensures))
+    c.append_compressed_name-2.ensures)
 
 pub returns-in_err-append_compressed_name-2-clause-is_data :
     goal.returns-in_err-append_compressed_name-2-clause-is_data
-returns-in_err-append_compressed_name-2-clause-is_data g c = soa_is_data g.N.ToName.name c.args.self.now c.as_parsed-mname.ensures.is_name c.as_parsed-rname.ensures.is_name
+returns-in_err-append_compressed_name-2-clause-is_data g c = soa_is_data g.N.ToName.name c.args.self.now (g.N.ToName.is_name (mname_of c.args.self.now)) (g.N.ToName.is_name (rname_of c.args.self.now))
 
 pub returns-clause-composes : goal.returns-clause-composes
 returns-clause-composes g c =
@@ -41,10 +41,10 @@ returns-clause-composes g c =
     let rname = CompressibleName (g.N.ToName.name (rname_of soa)) in
     let numbers = Octets (number_octets soa) in
     parts_compose_behind _ _ _ (CompressibleName (g.N.ToName.name (mname_of soa))) (rname ∷ numbers ∷ []) _ _ _ _
-    (rw c.as_parsed-mname.ensures.labels at c.in_ok-append_compressed_name.ensures.ok)
+    c.in_ok-append_compressed_name.ensures.ok
     (parts_compose_behind _ _ _ rname (numbers ∷ []) _ _ _ _
-    (rw c.as_parsed-rname.ensures.labels at c.in_ok-append_compressed_name-2.ensures.ok)
+    c.in_ok-append_compressed_name-2.ensures.ok
     (one_part_composes _ _ _ numbers _ _ _ (rw c.number_octets.ensures at c.append_slice.ensures)))
 
 pub returns-clause-is_data : goal.returns-clause-is_data
-returns-clause-is_data g c = soa_is_data g.N.ToName.name c.args.self.now c.as_parsed-mname.ensures.is_name c.as_parsed-rname.ensures.is_name
+returns-clause-is_data g c = soa_is_data g.N.ToName.name c.args.self.now (g.N.ToName.is_name (mname_of c.args.self.now)) (g.N.ToName.is_name (rname_of c.args.self.now))

@@ -13,12 +13,12 @@ returns-in_err-append_compressed_name g c =
     let x = header_item g.N.ToName.name c.args.self.now in
     composes_first _ _ _ (put_octets (header_fields x.rtype x.class x.ttl x.rdlen)) _ _ c.append_compressed_name.result c.from_residual.result c.in_err-append_compressed_name.field-0.0
     c.in_err-append_compressed_name.was (p.1 ∙ ap Err p.2)
-    (appends_compose _ _ _ _ _ _ (rw c.as_parsed-owner.ensures.labels at c.append_compressed_name.ensures))
+    (appends_compose _ _ _ _ _ _ c.append_compressed_name.ensures)
 
 pub returns : goal.returns
 unfolding put_header
 returns g c =
     let x = header_item g.N.ToName.name c.args.self.now in
     composes_both _ _ (put_name g.T.Composer.rule x.owner) (put_octets (header_fields x.rtype x.class x.ttl x.rdlen)) _ _ _ _ (put_name_grows g.T.Composer.rule x.owner)
-    (rw c.as_parsed-owner.ensures.labels at c.in_ok-append_compressed_name.ensures.ok)
-    (appends_compose _ _ _ _ _ _ (rw c.field_octets-octets.ensures at c.append_slice.ensures))
+    c.in_ok-append_compressed_name.ensures.ok
+    (appends_compose _ _ _ _ _ _ (rw c.field_octets.ensures at c.append_slice.ensures))

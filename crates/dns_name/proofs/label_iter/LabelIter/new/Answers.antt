@@ -1,6 +1,6 @@
 use Rattle.std.proofs.Common.{arith, rules}
-use Rattle.dns_name.proofs.theory.AnswerLaws.{standing_short}
 use Rattle.dns_name.proofs.theory.Steps.{all_labels, all_left}
+use Rattle.dns_name.specs.Unique.{standing_short}
 use Rattle.dns_name.proofs.label_iter.LabelIter.new.Goals as goal
 
 pub overflow_add-result : goal.overflow_add-result

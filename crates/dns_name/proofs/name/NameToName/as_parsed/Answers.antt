@@ -1,10 +1,6 @@
 use Rattle.std.proofs.Common.{subst, sym}
 use Rattle.dns_name.specs.Uncompressed.{WholeName}
-use Rattle.dns_name.proofs.theory.AnswerLaws.{standing_name}
 use Rattle.dns_name.proofs.name.NameToName.as_parsed.Goals as goal
 
 pub of_whole-requires : goal.of_whole-requires
 of_whole-requires g c = subst WholeName (sym c.octets.ensures) c.args.self.now.whole
-
-pub returns-clause-is_name : goal.returns-clause-is_name
-returns-clause-is_name g c = standing_name c.args.self.now.whole.0.1

@@ -1,6 +1,6 @@
 use Rattle.std.proofs.Common.{◌∙◌, ap, sym, arith, ◌+◌}
 use Rattle.dns_name.specs.ParsedName.{labels}
-use Rattle.dns_name.proofs.theory.AnswerLaws.{standing_short}
+use Rattle.dns_name.specs.Unique.{standing_short}
 use Rattle.dns_name.proofs.theory.LabelsLemmas.{length-uncompressed}
 use Rattle.dns_name.proofs.parsed_name.ParsedName.compose_len.Goals as goal
 

@@ -1,6 +1,6 @@
 use Rattle.std.proofs.Common.{arith}
 use Rattle.dns_name.specs.ParsedName.{labels}
-use Rattle.dns_name.proofs.theory.AnswerLaws.{standing_short}
+use Rattle.dns_name.specs.Unique.{standing_short}
 use Rattle.dns_name.proofs.parsed_name.ParsedName.near.Goals as goal
 
 pub overflow_cast-result-2 : goal.overflow_cast-result-2

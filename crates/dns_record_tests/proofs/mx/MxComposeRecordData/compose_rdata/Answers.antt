@@ -17,14 +17,16 @@ returns-clause-composes g c =
     let mx = c.args.self.now in
     c.parts_compose.ensures.behind _ _ g.T.Composer.rule (Octets (to_be_bytes w16 mx.preference)) (CompressibleName (g.N.ToName.name mx.exchange) ∷ []) _ _ _ _
     (rw c.to_be_bytes.ensures at c.in_ok-append_slice.ensures.ok)
-    (c.parts_compose.ensures.one _ _ g.T.Composer.rule (CompressibleName (g.N.ToName.name mx.exchange)) _ _ _ (rw c.as_parsed-exchange.ensures.labels at c.append_compressed_name.ensures))
+    (c.parts_compose.ensures.one _ _ g.T.Composer.rule (CompressibleName (g.N.ToName.name mx.exchange)) _ _ _ c.append_compressed_name.ensures)
 
 pub returns-in_err-append_slice-clause-is_data : goal.returns-in_err-append_slice-clause-is_data
 returns-in_err-append_slice-clause-is_data g c =
-    let few = c.names_are_short.ensures _ c.as_parsed-exchange.ensures.is_name in
-    record { names = (c.as_parsed-exchange.ensures.is_name, tt); short = omega (arith, few) }
+    let mx = c.args.self.now in
+    let few = c.names_are_short.ensures _ (g.N.ToName.is_name mx.exchange) in
+    record { names = ((g.N.ToName.is_name mx.exchange), tt); short = omega (arith, few) }
 
 pub returns-clause-is_data : goal.returns-clause-is_data
 returns-clause-is_data g c =
-    let few = c.names_are_short.ensures _ c.as_parsed-exchange.ensures.is_name in
-    record { names = (c.as_parsed-exchange.ensures.is_name, tt); short = omega (arith, few) }
+    let mx = c.args.self.now in
+    let few = c.names_are_short.ensures _ (g.N.ToName.is_name mx.exchange) in
+    record { names = ((g.N.ToName.is_name mx.exchange), tt); short = omega (arith, few) }

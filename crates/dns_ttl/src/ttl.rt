@@ -4,7 +4,7 @@ ghost use Rattle.std.specs.Duration.{as_nanos};
 ghost use Rattle.dns_name.specs.Parsers.{seen, place, number_at, Takes};
 ghost use Rattle.dns_wire.specs.Pieces.{put_octets};
 ghost use Rattle.dns_wire.specs.Targets.{Appends};
-ghost use Rattle.dns_item.specs.Ttl.{FitsTtl, most_seconds, cap_seconds, whole_seconds, nanos_of_seconds};
+ghost use Rattle.dns_ttl.specs.Ttl.{FitsTtl, most_seconds, cap_seconds, whole_seconds, nanos_of_seconds};
 
 use dns_wire::{AppendError, Composer, ParseError, Parser};
 use std::marker::Model;
