@@ -96,6 +96,16 @@ fn compresses_responses(rt: HostRuntime) -> Result<(), Fail> {
     run_rows(&rt, rt.alloc(), RESPONSES)
 }
 
+#[test]
+fn writes_twice_to_a_target_that_is_kept(rt: HostRuntime) -> Result<(), Fail> {
+    let mut target = StaticCompressor::new(Vec::new(rt.alloc()));
+    for _ in 0..2 {
+        run(&rt, rt.alloc(), &mut target, &POSITIVE_RESPONSE)?;
+        assert_eq!(rt; target.as_slice(), POSITIVE_RESPONSE.start);
+    }
+    Ok(())
+}
+
 /// A suffix is known only in its own letter case, and a name in data is compressed too.
 const NAMES: &[(&[Target], Row)] = &[
     (

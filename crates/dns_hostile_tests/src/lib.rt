@@ -5,28 +5,4 @@
 #![tactic(auto)]
 
 #[cfg(test)]
-mod copies;
-#[cfg(test)]
-mod cursors;
-#[cfg(test)]
-mod data;
-#[cfg(test)]
-mod given;
-#[cfg(test)]
-mod headers;
-#[cfg(test)]
-mod hostile;
-#[cfg(test)]
-mod octets;
-#[cfg(test)]
-mod plain;
-#[cfg(test)]
-mod plain_data;
-#[cfg(test)]
-mod plain_searches;
-#[cfg(test)]
-mod searches;
-#[cfg(test)]
-mod sections;
-#[cfg(test)]
-mod walks;
+mod tests;

@@ -5,20 +5,4 @@
 #![tactic(auto)]
 
 #[cfg(test)]
-mod caller;
-#[cfg(test)]
-mod captured;
-#[cfg(test)]
-mod faults;
-#[cfg(test)]
-mod fields;
-#[cfg(test)]
-mod names;
-#[cfg(test)]
-mod options;
-#[cfg(test)]
-mod page;
-#[cfg(test)]
-mod printed;
-#[cfg(test)]
-mod program;
+mod tests;

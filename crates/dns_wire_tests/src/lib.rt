@@ -4,20 +4,4 @@
 #![tactic(auto)]
 
 #[cfg(test)]
-mod codes;
-#[cfg(test)]
-mod error;
-#[cfg(test)]
-mod header;
-#[cfg(test)]
-mod name_texts;
-#[cfg(test)]
-mod names;
-#[cfg(test)]
-mod octets;
-#[cfg(test)]
-mod orders;
-#[cfg(test)]
-mod parser;
-#[cfg(test)]
-mod ttl;
+mod tests;

@@ -7,4 +7,4 @@ returns-clause-composes g c =
     one_part_composes _ _ _ (CompressibleName (g.N.ToName.name c.args.name.now)) _ _ _ c.append_compressed_name.ensures
 
 pub returns-clause-is_data : goal.returns-clause-is_data
-returns-clause-is_data g c = name_is_data _ (g.N.ToName.is_name c.args.name.now)
+returns-clause-is_data g c = name_is_data _ (g.met.N.ToName.is_name c.args.name.now)

@@ -13,7 +13,7 @@ unwrap-requires g c =
     let asked : QuestionItem = record { name = g.N.ToName.name c.args.name.now; rtype = c.args.rtype; class = 1 } in
     let first : StandsFor InBuilder Plain fresh c.unwrap-builder.result = search rules in
     let stands = c.question-questions.ensures _ (c.set_header.ensures _ first) in
-    let few = query_size header asked stands.state.header (g.N.ToName.is_name c.args.name.now) in
+    let few = query_size header asked stands.state.header (g.met.N.ToName.is_name c.args.name.now) in
     let e = c.push.ensures in
     accepted c.push.result
     (λ h. let n : 512 < length (fold Plain (asking header asked)).octets = e.short h _ stands in omega (arith, n, few))

@@ -17,7 +17,7 @@ returns-in_err-append_compressed_name-clause-composes g c =
 
 pub returns-in_err-append_compressed_name-clause-is_data :
     goal.returns-in_err-append_compressed_name-clause-is_data
-returns-in_err-append_compressed_name-clause-is_data g c = soa_is_data g.N.ToName.name c.args.self.now (g.N.ToName.is_name (mname_of c.args.self.now)) (g.N.ToName.is_name (rname_of c.args.self.now))
+returns-in_err-append_compressed_name-clause-is_data g c = soa_is_data g.N.ToName.name c.args.self.now (g.met.N.ToName.is_name (mname_of c.args.self.now)) (g.met.N.ToName.is_name (rname_of c.args.self.now))
 
 pub returns-in_err-append_compressed_name-2-clause-composes :
     goal.returns-in_err-append_compressed_name-2-clause-composes
@@ -33,7 +33,7 @@ returns-in_err-append_compressed_name-2-clause-composes g c =
 
 pub returns-in_err-append_compressed_name-2-clause-is_data :
     goal.returns-in_err-append_compressed_name-2-clause-is_data
-returns-in_err-append_compressed_name-2-clause-is_data g c = soa_is_data g.N.ToName.name c.args.self.now (g.N.ToName.is_name (mname_of c.args.self.now)) (g.N.ToName.is_name (rname_of c.args.self.now))
+returns-in_err-append_compressed_name-2-clause-is_data g c = soa_is_data g.N.ToName.name c.args.self.now (g.met.N.ToName.is_name (mname_of c.args.self.now)) (g.met.N.ToName.is_name (rname_of c.args.self.now))
 
 pub returns-clause-composes : goal.returns-clause-composes
 returns-clause-composes g c =
@@ -47,4 +47,4 @@ returns-clause-composes g c =
     (one_part_composes _ _ _ numbers _ _ _ (rw c.number_octets.ensures at c.append_slice.ensures)))
 
 pub returns-clause-is_data : goal.returns-clause-is_data
-returns-clause-is_data g c = soa_is_data g.N.ToName.name c.args.self.now (g.N.ToName.is_name (mname_of c.args.self.now)) (g.N.ToName.is_name (rname_of c.args.self.now))
+returns-clause-is_data g c = soa_is_data g.N.ToName.name c.args.self.now (g.met.N.ToName.is_name (mname_of c.args.self.now)) (g.met.N.ToName.is_name (rname_of c.args.self.now))

@@ -17,7 +17,7 @@ returns-in_err-append_compressed_name-clause-composes g c =
     (appends_compose _ _ _ _ _ _ c.append_compressed_name.ensures)
 
 pub returns-in_err-append_compressed_name-clause-item : goal.returns-in_err-append_compressed_name-clause-item
-returns-in_err-append_compressed_name-clause-item g c = record { name = g.N.ToName.is_name _; rtype = omega arith; class = omega arith }
+returns-in_err-append_compressed_name-clause-item g c = record { name = g.met.N.ToName.is_name _; rtype = omega arith; class = omega arith }
 
 pub returns-clause-composes : goal.returns-clause-composes
 unfolding put_question
@@ -28,4 +28,4 @@ returns-clause-composes g c =
     (appends_compose _ _ _ _ _ _ (rw (c.to_be_bytes.ensures, c.to_be_bytes-2.ensures, c.to_int.ensures, c.to_int-2.ensures, c.qtype.ensures, c.qclass.ensures) at c.append_slice.ensures))
 
 pub returns-clause-item : goal.returns-clause-item
-returns-clause-item g c = record { name = g.N.ToName.is_name _; rtype = omega arith; class = omega arith }
+returns-clause-item g c = record { name = g.met.N.ToName.is_name _; rtype = omega arith; class = omega arith }

@@ -1,5 +1,0 @@
--- The section before a section starts earlier.
-use Rattle.dns_hostile_tests.proofs.plain.+start.Given as goal
-
-abbrev pub decreases-start : goal.decreases-start
-decreases-start l = l.section

@@ -1,0 +1,5 @@
+-- The section before a section starts earlier.
+use Rattle.dns_hostile_tests.proofs.tests.plain.+start.Given as goal
+
+abbrev pub decreases-start : goal.decreases-start
+decreases-start l = l.section

@@ -1,0 +1,6 @@
+-- The options behind the first are fewer octets.
+use Rattle.std.proofs.Common.{length}
+use Rattle.dns_hostile_tests.proofs.tests.plain_searches.+has_options.Given as goal
+
+abbrev pub decreases-has_options : goal.decreases-has_options
+decreases-has_options l = length l.«data».now

@@ -1,0 +1,13 @@
+mod copies;
+mod cursors;
+mod data;
+mod given;
+mod headers;
+mod hostile;
+mod octets;
+mod plain;
+mod plain_data;
+mod plain_searches;
+mod searches;
+mod sections;
+mod walks;

@@ -1,0 +1,9 @@
+mod caller;
+mod captured;
+mod faults;
+mod fields;
+mod names;
+mod options;
+mod page;
+mod printed;
+mod program;

@@ -1,0 +1,9 @@
+mod codes;
+mod error;
+mod header;
+mod name_texts;
+mod names;
+mod octets;
+mod orders;
+mod parser;
+mod ttl;
