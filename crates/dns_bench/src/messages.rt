@@ -3,6 +3,7 @@ ghost use Rattle.dns_bench.specs.Message.{HandsOut};
 
 use crate::Work;
 use crate::names::{hand_out, read_names};
+use arrayvec::ArrayVec;
 use dns_build::{MessageBuilder, PushError};
 use dns_code::{Class, Header, Rtype};
 use dns_data::A;
@@ -126,8 +127,7 @@ fn write_fresh<T: Composer, F: Fn() -> T>(
     len
 }
 
-/// Writes the messages with the target of a number. The five that are kept come first, then the same five, new for
-/// each message.
+/// Writes the messages with the target of a number: one of the five that are kept, or else a new one for each message.
 pub(crate) fn write_with(
     alloc: Global,
     kind: Kind,
@@ -143,36 +143,38 @@ pub(crate) fn write_with(
         1 => write_kept(alloc, kind, StaticCompressor::new(octets()), work, out),
         2 => write_kept(alloc, kind, TreeCompressor::new(alloc, octets()), work, out),
         3 => write_kept(alloc, kind, HashCompressor::new(alloc, octets()), work, out),
-        4 => write_kept(
-            alloc,
-            kind,
-            IndexCompressor::new(alloc, octets()),
-            work,
-            out,
-        ),
+        4 => {
+            let index = IndexCompressor::new(alloc, octets());
+            write_kept(alloc, kind, index, work, out)
+        }
+        _ => write_fresh_with(alloc, kind, target, work, out),
+    }
+}
+
+/// Writes each message with a new target, that of a number: the same five in the same order, and behind them a static
+/// compressor over an array.
+fn write_fresh_with(
+    alloc: Global,
+    kind: Kind,
+    target: u32,
+    work: &Work<'_>,
+    out: &mut [u8],
+) -> usize
+    ensures { HandsOut out.old out.new result }
+{
+    let octets = || Vec::new(alloc);
+    let over_octets = || StaticCompressor::new(octets());
+    let tree = || TreeCompressor::new(alloc, octets());
+    let hash = || HashCompressor::new(alloc, octets());
+    let index = || IndexCompressor::new(alloc, octets());
+    let over_array = || StaticCompressor::new(ArrayVec::<u8, 512>::new());
+    match target {
         5 => write_fresh(alloc, kind, octets, work, out),
-        6 => write_fresh(alloc, kind, || StaticCompressor::new(octets()), work, out),
-        7 => write_fresh(
-            alloc,
-            kind,
-            || TreeCompressor::new(alloc, octets()),
-            work,
-            out,
-        ),
-        8 => write_fresh(
-            alloc,
-            kind,
-            || HashCompressor::new(alloc, octets()),
-            work,
-            out,
-        ),
-        9 => write_fresh(
-            alloc,
-            kind,
-            || IndexCompressor::new(alloc, octets()),
-            work,
-            out,
-        ),
+        6 => write_fresh(alloc, kind, over_octets, work, out),
+        7 => write_fresh(alloc, kind, tree, work, out),
+        8 => write_fresh(alloc, kind, hash, work, out),
+        9 => write_fresh(alloc, kind, index, work, out),
+        10 => write_fresh(alloc, kind, over_array, work, out),
         _ => 0,
     }
 }
