@@ -58,7 +58,7 @@ impl Head {
     }
 
     /// Passes the labels that stand in a row at a place, behind labels of the size: where the root or a pointer begins
-    /// behind them, and the place where the pointer leads, or `None` for the root.
+    /// behind them, and the place where the pointer leads, or `None` for the root. Else the leftmost fault is answered.
     #[inline(always)]
     pub(crate) fn behind_labels(
         octets: &[u8],

@@ -27,7 +27,7 @@ pub use label::Label;
 pub use label_iter::LabelIter;
 pub use name::Name;
 pub use near_name::NearName;
-pub use near_reading::parse_near;
+pub use near_reading::{near_at, parse_near};
 pub use parsed_name::ParsedName;
 pub use parser::Parser;
 pub use to_name::ToName;

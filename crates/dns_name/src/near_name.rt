@@ -17,7 +17,7 @@ impl NearName {
     ghost use Rattle.dns_name.specs.Unique.{NameOfSize};
 
     /// Pointers lead to places below this one.
-    pub(crate) const PLACES: usize = 16384;
+    pub(crate) const POINTER_END: usize = 16_384;
 
     /// No name: none is known.
     pub fn new() -> NearName
@@ -42,9 +42,9 @@ impl NearName {
         }
     }
 
-    /// Whether this name is known, and a pointer back to it stands at a place, which is then the whole name there.
+    /// Whether the name at a place is a pointer back to this one and nothing else. `false` where none is known.
     #[inline(always)]
-    pub(crate) fn is_all(&self, octets: &[u8], start: usize) -> bool
+    pub(crate) fn is_pointed_to(&self, octets: &[u8], start: usize) -> bool
         requires { start ≤ length octets.now }
         ensures { IsTrue result → LeadsBackTo octets.now start self.now }
     {

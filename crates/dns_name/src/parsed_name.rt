@@ -4,16 +4,17 @@ ghost use Rattle.dns_name.specs.Unique.{NameOfSize, NameOfSize-prop};
 use crate::head::{Head, MAX_SIZE};
 use crate::label_iter::LabelIter;
 use crate::near_name::NearName;
+use crate::near_reading::parse_near;
 use crate::parser::Parser;
 use dns_octets::{FormError, ParseError};
 
 /// A name in an input, perhaps with pointers (RFC 1035 section 4.1.4). It borrows the input.
 #[derive(Clone, Copy, Debug)]
 pub struct ParsedName<'a> {
-    octets: &'a [u8],
-    pos: usize,
+    pub(crate) octets: &'a [u8],
+    pub(crate) pos: usize,
     /// How many octets the labels take, each with its length octet.
-    size: usize,
+    pub(crate) size: usize,
     ghost name_at: { NameOfSize octets.now pos size } by { NameOfSize-prop octets.now pos size },
 }
 
@@ -34,40 +35,22 @@ impl<'a> ParsedName<'a> {
         ensures reads { ParsesName parser.old parser.new result }
         ensures name { ReadsStanding (seen parser.old) (place parser.old) result }
     {
-        ParsedName::parse_near(parser, &mut NearName::new())
-    }
-
-    /// As `parse_near` of the crate.
-    #[inline(always)]
-    pub(crate) fn parse_near(
-        parser: &mut Parser<'a>,
-        near: &mut NearName,
-    ) -> Result<ParsedName<'a>, ParseError>
-        requires near { IsNear (seen parser.old) near.old }
-        ensures reads { ParsesName parser.old parser.new result }
-        ensures name { ReadsStanding (seen parser.old) (place parser.old) result }
-        ensures near { IsNear (seen parser.old) near.new }
-    {
-        let octets = &parser.octets[..parser.end];
-        let start = parser.pos;
-        let (end, size) = ParsedName::walk(octets, start, near)?;
-        parser.pos = end;
-        Ok(ParsedName {
-            octets,
-            pos: start,
-            size,
-        })
+        parse_near(parser, &mut NearName::new())
     }
 
     /// Where the octets of the name at a place end, and how many octets its labels take.
     #[inline(always)]
-    fn walk(octets: &[u8], start: usize, near: &mut NearName) -> Result<(usize, usize), ParseError>
+    pub(crate) fn walk(
+        octets: &[u8],
+        start: usize,
+        near: &mut NearName,
+    ) -> Result<(usize, usize), ParseError>
         requires within { start ≤ length octets.now }
         requires near { IsNear octets.now near.old }
         ensures arrives { ArrivesOrFails octets.now start result }
         ensures near { IsNear octets.now near.new }
     {
-        if near.is_all(octets, start) {
+        if near.is_pointed_to(octets, start) {
             return Ok((start + 2, usize::from(near.size)));
         }
         let (pos, target) = Head::behind_labels(octets, start, 0)?;
@@ -87,7 +70,8 @@ impl<'a> ParsedName<'a> {
         Ok((pos + 2, size))
     }
 
-    /// How many octets the labels of a name take: those before a pointer to a place, of a size, and those there.
+    /// How many octets the labels of a name take of which those before a pointer take `before`, and the pointer leads to
+    /// `start`.
     #[inline(always)]
     fn size_at(octets: &[u8], start: u16, before: usize) -> Result<usize, ParseError>
         requires within { start ≤ length octets.now }
@@ -141,19 +125,6 @@ impl<'a> ParsedName<'a> {
             octets,
             pos: 0,
             size: octets.len() - 1,
-        }
-    }
-
-    /// This name, which stands at a place, for `parse_near`. Where no pointer can lead to the place, it is no name.
-    pub fn near(&self, pos: usize) -> NearName
-        ensures { (b : List ℕ) → Stands b pos (labels self.now) → IsNear b result }
-    {
-        if pos >= NearName::PLACES {
-            return NearName::new();
-        }
-        NearName {
-            pos: pos as u16,
-            size: self.size as u8,
         }
     }
 

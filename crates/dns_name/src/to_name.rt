@@ -22,7 +22,7 @@ pub trait ToName {
         self.as_parsed().as_flat_slice()
     }
 
-    /// What stands for a name is one.
+    /// The labels of each value are those of a name: 1 to 63 octets each, 255 octets in all.
     ghost is_name: { (n : Self) → IsName (name n) };
 }
 

@@ -10,7 +10,7 @@ use crate::record_section::RecordSection;
 use crate::section::Section;
 use dns_code::HeaderCounts;
 use dns_item::Question;
-use dns_name::NearName;
+use dns_name::{NearName, near_at};
 use dns_wire::{ParseError, ParsedName, Parser};
 
 /// A cursor over the questions of a message (RFC 1035 section 4.1.2).
@@ -22,7 +22,7 @@ pub struct QuestionSection<'a> {
     parser: Parser<'a>,
     /// How many questions may still come, or the error that was given.
     left: Result<u16, ParseError>,
-    /// The name of the last question: owners may lead there.
+    /// The name of the last question that was given, if there is one: owners may lead there.
     near: NearName,
     ghost long: { header_size ≤ length (input parser) },
     ghost whole: { seen parser ≡ input parser },
@@ -75,7 +75,7 @@ impl<'a> QuestionSection<'a> {
         match Question::parse(&mut self.parser) {
             Ok(question) => {
                 self.left = Ok(left);
-                self.near = question.qname().near(start);
+                self.near = near_at(question.qname(), start);
                 Some(Ok(question))
             }
             Err(error) => {

@@ -189,8 +189,8 @@ impl<const N: usize> CloneTarget for ArrayVec<u8, N> {
     }
 }
 
-/// The target behind the reference, so that a caller keeps it where it is. What it then holds is known of the reference that
-/// a builder gives back.
+/// The target behind the reference, so that a caller keeps it where it is. What was written is known of the reference that
+/// `finish` or `into_target` of a builder gives back.
 impl<T: Composer> Composer for &mut T {
     ghost rule = { T.rule };
 

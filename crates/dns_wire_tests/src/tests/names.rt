@@ -1,5 +1,5 @@
 //! Names in octets: parsed, skipped, gone over from both ends, and held in octets of their own.
-use dns_wire::{FormError, Name, ParseError, ParsedName, Parser, ToName, ToNameExt};
+use dns_wire::{Composer, FormError, Name, ParseError, ParsedName, Parser, ToName, ToNameExt};
 use std::process::Abort;
 use std::test::Fail;
 
@@ -295,5 +295,33 @@ fn lends_octets_without_pointers(rt: HostRuntime) -> Result<(), Fail> {
     assert!(rt; ParsedName::parse(&mut parser)?.as_flat_slice().is_none());
     let name = Name::from_octets(*b"\x02Ab\x00")?;
     assert_eq!(rt; name.as_flat_slice(), Some(b"\x02Ab\x00".as_slice()));
+    Ok(())
+}
+
+/// What stands for a name and is none of the library's: it holds one.
+#[derive(Drop)]
+struct Alias<N> {
+    target: N,
+}
+
+impl<N: ToName> ToName for Alias<N> {
+    ghost name = { λ alias. N.name alias.target };
+
+    ghost is_name = { λ alias. N.is_name alias.target };
+
+    fn as_parsed(&self) -> ParsedName<'_> {
+        self.target.as_parsed()
+    }
+}
+
+#[test]
+fn another_type_stands_for_a_name(rt: HostRuntime) -> Result<(), Fail> {
+    let alias = Alias {
+        target: Name::from_octets(*b"\x01A\x00")?,
+    };
+    let mut target = Vec::new(rt.alloc());
+    target.append_compressed_name(&alias)?;
+    assert_eq!(rt; target.as_slice(), b"\x01A\x00".as_slice());
+    assert!(rt; alias.name_eq(&Name::from_octets(*b"\x01a\x00")?));
     Ok(())
 }

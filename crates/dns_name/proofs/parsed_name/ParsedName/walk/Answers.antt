@@ -3,9 +3,9 @@ use Rattle.std.proofs.lemmas.Result.{err_from_is_err_and}
 use Rattle.dns_name.proofs.theory.NearNames.{arrives_root, arrives_pointer, arrives_back, fails_ahead, fails_behind}
 use Rattle.dns_name.proofs.parsed_name.ParsedName.walk.Goals as goal
 
-pub returns-then-is_all-clause-arrives : goal.returns-then-is_all-clause-arrives
-returns-then-is_all-clause-arrives c =
-    rw c.from.ensures (arrives_back _ _ c.args.near.now (c.is_all.ensures c.if-is_all.true) c.requires.near)
+pub returns-then-is_pointed_to-clause-arrives : goal.returns-then-is_pointed_to-clause-arrives
+returns-then-is_pointed_to-clause-arrives c =
+    rw c.from.ensures (arrives_back _ _ c.args.near.now (c.is_pointed_to.ensures c.if-is_pointed_to.true) c.requires.near)
 
 pub returns-in_default-clause-arrives : goal.returns-in_default-clause-arrives
 returns-in_default-clause-arrives c = arrives_root _ _ _ (rw c.in_default.is at c.in_ok-pos.ensures)
