@@ -1,1 +1,3 @@
-mod Tilings
+mod Appended
+mod PageTexts
+mod TextLines

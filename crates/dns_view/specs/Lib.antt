@@ -1,3 +1,4 @@
-pub mod Shown
-pub mod Tiles
-pub mod Walks
+pub mod Digits
+pub mod Pages
+pub mod Printed
+pub mod Texts

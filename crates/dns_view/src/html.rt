@@ -1,6 +1,13 @@
 //! Rows printed as a page of HTML: the octets in a grid, coloured by field, with pointers drawn as arrows.
-use crate::meaning::{Meaning, octets_of, target_of};
-use crate::row::{Field, Kind, Row};
+ghost use Rattle.std.specs.Prelude.{◌≡◌, ◌+◌, ◌^◌, ◌<◌, length, OnOk};
+ghost use Rattle.std.specs.Io.KnownBytes.{Appends};
+ghost use Rattle.std.specs.List.{flat_map};
+ghost use Rattle.dns_view.specs.Pages.{arrow_between, arrow_text, cell_digits, cell_text, class_text, escaped, escaped_octet, field_class, field_row_text, item_row_text, left_edge, octet_cells, opening_text, path_text, place_label, rectangle_text, table_octets, upper_edge, IsCells, IsPage, IsTableRow};
+ghost use Rattle.dns_view.specs.Printed.{Prints, PrintsEach};
+
+use crate::meaning::Meaning;
+use crate::text::print_octet;
+use dns_rows::{Field, Kind, Row, octets_of, target_of};
 use std::alloc::Global;
 use std::io;
 use std::io::Write;
@@ -11,7 +18,7 @@ const OCTETS: usize = 16;
 /// The width and the height of a cell of the grid, and its left margin.
 const WIDTH: usize = 36;
 
-const HEIGHT: usize = 30;
+const HEIGHT: u128 = 30;
 
 const MARGIN: usize = 60;
 
@@ -69,44 +76,57 @@ pub fn print_page<W: Write>(
     writer: &mut W,
     message: &[u8],
     rows: &[Row],
-) -> io::Result<()> {
+) -> io::Result<()>
+    ensures { OnOk result (Prints (IsPage message.now rows.now)
+        (W.contents writer.old) (W.contents writer.new)) }
+{
     writer.write_all(HEAD.as_bytes())?;
-    let width = x_of(OCTETS - 1).saturating_add(WIDTH * 2);
-    let height = y_of(message.len()).saturating_add(HEIGHT * 2);
-    writeln!(writer, "<svg width=\"{width}\" height=\"{height}\">")?;
+    print_opening(writer, message.len())?;
     writer.write_all(TIP.as_bytes())?;
-    for row in rows {
-        print_cells(alloc, writer, message, row)?;
-    }
-    for row in rows {
-        print_arrow(writer, message, row)?;
-    }
-    writeln!(writer, "</svg>\n<table>")?;
-    for row in rows {
-        print_table_row(alloc, writer, message, row)?;
-    }
-    writeln!(writer, "</table>\n</main>\n</body>\n</html>")
+    print_cells(alloc, writer, message, rows)?;
+    print_arrows(writer, message, rows)?;
+    writer.write_all(b"</svg>\n<table>\n")?;
+    print_table(alloc, writer, message, rows)?;
+    writer.write_all(b"</table>\n</main>\n</body>\n</html>\n")
+}
+
+/// Prints how the picture of so many octets begins.
+fn print_opening<W: Write>(writer: &mut W, count: usize) -> io::Result<()>
+    ensures { OnOk result (Appends (W.contents writer.old) (W.contents writer.new)
+        (opening_text count)) }
+{
+    let width = x_of(OCTETS - 1) + WIDTH * 2;
+    let height = y_of(count) + HEIGHT * 2;
+    writeln!(writer, "<svg width=\"{width}\" height=\"{height}\">")
 }
 
 /// The left edge of an octet's cell.
-fn x_of(place: usize) -> usize {
+fn x_of(place: usize) -> usize
+    ensures { result ≡ left_edge place }
+{
     (place % OCTETS) * WIDTH + MARGIN
 }
 
-/// The upper edge of an octet's cell.
-fn y_of(place: usize) -> usize {
-    (place / OCTETS).saturating_mul(HEIGHT)
+/// The upper edge of an octet's cell, which can have more than 64 bits.
+fn y_of(place: usize) -> u128
+    ensures { result ≡ upper_edge place }
+{
+    (place / OCTETS) as u128 * HEIGHT
 }
 
 /// The class of a row in the page's style.
-fn class_of(kind: Kind) -> &'static str {
+fn class_of(kind: Kind) -> &'static str
+    ensures { result.now ≡ class_text kind }
+{
     match kind {
         Kind::Field(field) => field_class(field),
         Kind::ShortHeader | Kind::Fault(_) | Kind::Unread => "fault",
     }
 }
 
-fn field_class(field: Field) -> &'static str {
+fn field_class(field: Field) -> &'static str
+    ensures { result.now ≡ field_class field }
+{
     match field {
         Field::Id | Field::Flags | Field::Count(_) => "header",
         Field::Label(_) | Field::Root(_, _) => "name",
@@ -119,100 +139,254 @@ fn field_class(field: Field) -> &'static str {
 }
 
 /// Prints a text with the characters of markup escaped.
-fn print_escaped<W: Write>(writer: &mut W, text: &str) -> io::Result<()> {
-    for octet in text.as_bytes() {
-        match *octet {
-            b'<' => writer.write_all(b"&lt;")?,
-            b'>' => writer.write_all(b"&gt;")?,
-            b'&' => writer.write_all(b"&amp;")?,
-            other => writer.write_all(&[other])?,
-        }
+fn print_escaped<W: Write>(writer: &mut W, text: &[u8]) -> io::Result<()>
+    ensures { OnOk result (Appends (W.contents writer.old) (W.contents writer.new)
+        (escaped text.now)) }
+{
+    for octet in text {
+        print_escaped_octet(writer, *octet)?;
+    }
+    Ok(())
+}
+
+/// Prints an octet of a text, escaped where it is one of markup.
+fn print_escaped_octet<W: Write>(writer: &mut W, octet: u8) -> io::Result<()>
+    ensures { OnOk result (Appends (W.contents writer.old) (W.contents writer.new)
+        (escaped_octet octet)) }
+{
+    match octet {
+        b'<' => writer.write_all(b"&lt;"),
+        b'>' => writer.write_all(b"&gt;"),
+        b'&' => writer.write_all(b"&amp;"),
+        other => writer.write_all(&[other]),
+    }
+}
+
+/// Prints the cells of rows.
+fn print_cells<W: Write>(
+    alloc: Global,
+    writer: &mut W,
+    message: &[u8],
+    rows: &[Row],
+) -> io::Result<()>
+    ensures { OnOk result (PrintsEach (IsCells message.now) rows.now
+        (W.contents writer.old) (W.contents writer.new)) }
+{
+    for row in rows {
+        print_row_cells(alloc, writer, message, row)?;
     }
     Ok(())
 }
 
 /// Prints the cells of a row's octets, with the meaning as what shows under the mouse.
-fn print_cells<W: Write>(
+fn print_row_cells<W: Write>(
     alloc: Global,
     writer: &mut W,
     message: &[u8],
     row: &Row,
-) -> io::Result<()> {
+) -> io::Result<()>
+    ensures { OnOk result (Prints (IsCells message.now row.now)
+        (W.contents writer.old) (W.contents writer.new)) }
+{
     let class = class_of(row.kind);
     let meaning = Meaning { message, row: *row };
-    let meaning = format!(in alloc; "{meaning}")?;
+    let words = format!(in alloc; "{meaning}")?;
     write!(writer, "<g class=\"{class}\"><title>")?;
-    print_escaped(writer, meaning.as_str())?;
-    writeln!(writer, "</title>")?;
-    for (place, octet) in (row.start..usize::MAX).zip(octets_of(message, row)) {
-        print_cell(writer, place, *octet)?;
+    print_escaped(writer, words.as_bytes())?;
+    writer.write_all(b"</title>\n")?;
+    print_octet_cells(writer, row.start, octets_of(message, row))?;
+    writer.write_all(b"</g>\n")
+}
+
+/// Prints the cells of octets from a place on.
+fn print_octet_cells<W: Write>(writer: &mut W, start: usize, octets: &[u8]) -> io::Result<()>
+    requires { start + length octets.now < 2 ^ 64 }
+    ensures { OnOk result (Appends (W.contents writer.old) (W.contents writer.new)
+        (octet_cells start octets.now)) }
+{
+    for (index, octet) in octets.iter().enumerate() {
+        print_cell(writer, start + index, *octet)?;
     }
-    writeln!(writer, "</g>")
+    Ok(())
 }
 
 /// Prints the cell of an octet, and at the start of a line its place.
-fn print_cell<W: Write>(writer: &mut W, place: usize, octet: u8) -> io::Result<()> {
+fn print_cell<W: Write>(writer: &mut W, place: usize, octet: u8) -> io::Result<()>
+    ensures { OnOk result (Appends (W.contents writer.old) (W.contents writer.new)
+        (cell_text (place, octet))) }
+{
+    print_place(writer, place)?;
+    print_rectangle(writer, place)?;
+    print_cell_digits(writer, place, octet)
+}
+
+/// Prints the rectangle of an octet's cell.
+fn print_rectangle<W: Write>(writer: &mut W, place: usize) -> io::Result<()>
+    ensures { OnOk result (Appends (W.contents writer.old) (W.contents writer.new)
+        (rectangle_text place)) }
+{
     let x = x_of(place);
     let y = y_of(place);
-    let middle = x.saturating_add(WIDTH / 2);
-    let base = y.saturating_add(20);
-    if place % OCTETS == 0 {
-        writeln!(
-            writer,
-            "<text class=\"place\" x=\"{PLACE_END}\" y=\"{base}\">{place}</text>"
-        )?;
-    }
     write!(
         writer,
         "<rect x=\"{x}\" y=\"{y}\" width=\"{WIDTH}\" height=\"{HEIGHT}\"/>"
-    )?;
-    writeln!(
-        writer,
-        "<text x=\"{middle}\" y=\"{base}\" id=\"o{place}\">{octet:02x}</text>"
     )
 }
 
-/// Prints the arrow of a pointer, from its first octet to the one where it leads.
-fn print_arrow<W: Write>(writer: &mut W, message: &[u8], row: &Row) -> io::Result<()> {
-    let Kind::Field(Field::Pointer(_, _)) = row.kind else {
+/// Prints the digits of an octet into its cell, with the place as their name.
+fn print_cell_digits<W: Write>(writer: &mut W, place: usize, octet: u8) -> io::Result<()>
+    ensures { OnOk result (Appends (W.contents writer.old) (W.contents writer.new)
+        (cell_digits place octet)) }
+{
+    let middle = x_of(place) + WIDTH / 2;
+    let base = y_of(place) + 20;
+    write!(writer, "<text x=\"{middle}\" y=\"{base}\" id=\"o{place}\">")?;
+    print_octet(writer, octet)?;
+    writer.write_all(b"</text>\n")
+}
+
+/// Prints a place before the cell there, at the start of a line.
+fn print_place<W: Write>(writer: &mut W, place: usize) -> io::Result<()>
+    ensures { OnOk result (Appends (W.contents writer.old) (W.contents writer.new)
+        (place_label place)) }
+{
+    if place % OCTETS != 0 {
         return Ok(());
-    };
-    let target = target_of(octets_of(message, row));
-    let from = row.start;
-    let from_x = x_of(from).saturating_add(WIDTH);
-    let from_y = y_of(from).saturating_add(6);
-    let to_x = x_of(target).saturating_add(WIDTH / 2);
-    let to_y = y_of(target).saturating_add(HEIGHT - 4);
-    let bend_x = from_x.max(to_x).saturating_add(WIDTH);
-    write!(
+    }
+    let base = y_of(place) + 20;
+    writeln!(
         writer,
-        "<path d=\"M{from_x},{from_y} Q{bend_x},{to_y} {to_x},{to_y}\" marker-end=\"url(#tip)\">"
-    )?;
+        "<text class=\"place\" x=\"{PLACE_END}\" y=\"{base}\">{place}</text>"
+    )
+}
+
+/// Prints the arrows of the rows that are pointers.
+fn print_arrows<W: Write>(writer: &mut W, message: &[u8], rows: &[Row]) -> io::Result<()>
+    ensures { OnOk result (Appends (W.contents writer.old) (W.contents writer.new)
+        (flat_map (arrow_text message.now) rows.now)) }
+{
+    for row in rows {
+        print_row_arrow(writer, message, row)?;
+    }
+    Ok(())
+}
+
+/// Prints the arrow of a row, from a pointer's first octet to the one where it leads; nothing for other rows.
+fn print_row_arrow<W: Write>(writer: &mut W, message: &[u8], row: &Row) -> io::Result<()>
+    ensures { OnOk result (Appends (W.contents writer.old) (W.contents writer.new)
+        (arrow_text message.now row.now)) }
+{
+    if !row.kind.is_pointer() {
+        return Ok(());
+    }
+    print_arrow(writer, row.start, target_of(octets_of(message, row)))
+}
+
+/// Prints an arrow from the cell of an octet to that of another.
+fn print_arrow<W: Write>(writer: &mut W, from: usize, target: usize) -> io::Result<()>
+    ensures { OnOk result (Appends (W.contents writer.old) (W.contents writer.new)
+        (arrow_between from target)) }
+{
+    let from_x = x_of(from) + WIDTH;
+    let to_x = x_of(target) + WIDTH / 2;
+    let bend_x = from_x.max(to_x) + WIDTH;
+    let from_y = y_of(from) + 6;
+    let to_y = y_of(target) + (HEIGHT - 4);
+    print_path(writer, from_x, from_y, bend_x, to_x, to_y)?;
     writeln!(writer, "<title>{from} points to {target}</title></path>")
 }
 
-/// Prints a row of the table: its place, its octets and what they mean.
+/// Prints a curve with a tip, which leads from one point to another.
+fn print_path<W: Write>(
+    writer: &mut W,
+    from_x: usize,
+    from_y: u128,
+    bend_x: usize,
+    to_x: usize,
+    to_y: u128,
+) -> io::Result<()>
+    ensures { OnOk result (Appends (W.contents writer.old) (W.contents writer.new)
+        (path_text from_x from_y bend_x to_x to_y)) }
+{
+    write!(writer, "<path d=\"M{from_x},{from_y} Q{bend_x},{to_y} ")?;
+    write!(writer, "{to_x},{to_y}\" marker-end=\"url(#tip)\">")
+}
+
+/// Prints the rows of the table.
+fn print_table<W: Write>(
+    alloc: Global,
+    writer: &mut W,
+    message: &[u8],
+    rows: &[Row],
+) -> io::Result<()>
+    ensures { OnOk result (PrintsEach (IsTableRow message.now) rows.now
+        (W.contents writer.old) (W.contents writer.new)) }
+{
+    for row in rows {
+        print_table_row(alloc, writer, message, row)?;
+    }
+    Ok(())
+}
+
+/// Prints a row of the table.
 fn print_table_row<W: Write>(
     alloc: Global,
     writer: &mut W,
     message: &[u8],
     row: &Row,
-) -> io::Result<()> {
+) -> io::Result<()>
+    ensures { OnOk result (Prints (IsTableRow message.now row.now)
+        (W.contents writer.old) (W.contents writer.new)) }
+{
     let meaning = Meaning { message, row: *row };
-    let meaning = format!(in alloc; "{meaning}")?;
-    if let Kind::Field(Field::Item(_, _)) = row.kind {
-        return writeln!(writer, "<tr><th colspan=\"3\">{meaning}</th></tr>");
+    let words = format!(in alloc; "{meaning}")?;
+    if row.kind.is_item() {
+        print_item_row(writer, words.as_bytes())
+    } else {
+        print_field_row(writer, row, octets_of(message, row), words.as_bytes())
     }
+}
+
+/// Prints a row of the table where an item begins: what it is.
+fn print_item_row<W: Write>(writer: &mut W, words: &[u8]) -> io::Result<()>
+    ensures { OnOk result (Appends (W.contents writer.old) (W.contents writer.new)
+        (item_row_text words.now)) }
+{
+    writer.write_all(b"<tr><th colspan=\"3\">")?;
+    print_escaped(writer, words)?;
+    writer.write_all(b"</th></tr>\n")
+}
+
+/// Prints any other row of the table: its place, its octets and what they mean.
+fn print_field_row<W: Write>(
+    writer: &mut W,
+    row: &Row,
+    octets: &[u8],
+    words: &[u8],
+) -> io::Result<()>
+    ensures { OnOk result (Appends (W.contents writer.old) (W.contents writer.new)
+        (field_row_text row.now octets.now words.now)) }
+{
     let class = class_of(row.kind);
     let start = row.start;
     write!(
         writer,
         "<tr class=\"{class}\"><td class=\"place\">{start}</td><td class=\"octets\">"
     )?;
-    for octet in octets_of(message, row) {
-        write!(writer, "{octet:02x} ")?;
+    print_octets(writer, octets)?;
+    writer.write_all(b"</td><td>")?;
+    print_escaped(writer, words)?;
+    writer.write_all(b"</td></tr>\n")
+}
+
+/// Prints octets in hexadecimal digits, with a space behind each.
+fn print_octets<W: Write>(writer: &mut W, octets: &[u8]) -> io::Result<()>
+    ensures { OnOk result (Appends (W.contents writer.old) (W.contents writer.new)
+        (table_octets octets.now)) }
+{
+    for octet in octets {
+        print_octet(writer, *octet)?;
+        writer.write_all(b" ")?;
     }
-    write!(writer, "</td><td>")?;
-    print_escaped(writer, meaning.as_str())?;
-    writeln!(writer, "</td></tr>")
+    Ok(())
 }

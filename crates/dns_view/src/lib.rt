@@ -1,8 +1,8 @@
-//! The octets of a message as rows, one for each field, for people who would rather look.
+//! The rows of a message printed, for people who would rather look: as a text of at most 80 columns, and as a page of HTML.
 //!
-//! It promises that the rows of any octets cover them, each exactly once and in order. Fewer than twelve octets are one row; of
-//! others the first six rows are those of the header section, and behind them come those of fields, of a fault, if there is one,
-//! and of what is left. Which fields these are, and what is printed of rows, as a text and as a page of HTML, is tested.
+//! It promises that each row is printed once and in order, with its place and all of its octets in digits, and in a page with
+//! a cell for each octet at its place and an arrow from each pointer to where it leads. Which words say what a row means is
+//! tested. The rows are those of `dns_rows`.
 #![tactic(auto)]
 
 mod codes;
@@ -11,14 +11,9 @@ mod meaning;
 mod option;
 mod program;
 mod quoted;
-mod row;
-mod shown;
 mod text;
-mod tile;
-mod walk;
 
+pub use dns_rows::{Fault, Field, Kind, NameOf, Part, Row, rows};
 pub use html::print_page;
 pub use program::tool;
-pub use row::{Fault, Field, Kind, NameOf, Part, Row};
-pub use shown::rows;
 pub use text::print_text;

@@ -1,14 +1,12 @@
 //! What rows mean, in words.
-ghost use Rattle.std.specs.Prelude.{◌≡◌, ◌≤◌, length, slice_range};
-
 use crate::codes::{OpcodeName, OptionName, RcodeName};
 use crate::option::OptionData;
 use crate::quoted::{Quoted, octet_count, second_count, write_address};
-use crate::row::{Fault, Field, Kind, NameOf, Part, Row};
 use dns_message::code::{Class, OptRcode, Rtype};
 use dns_message::header::Header;
 use dns_message::name::ParsedName;
 use dns_message::wire::Parser;
+use dns_rows::{Fault, Field, Kind, NameOf, Part, Row, octets_of, target_of};
 use std::fmt;
 
 /// The flags of an OPT record have DO as their highest bit (RFC 3225).
@@ -23,23 +21,6 @@ pub(crate) struct Meaning<'a> {
     /// The octets of the message.
     pub(crate) message: &'a [u8],
     pub(crate) row: Row,
-}
-
-/// The octets of a row; none, where it isn't one of the message.
-pub(crate) fn octets_of<'a>(message: &'a [u8], row: &Row) -> &'a [u8]
-    ensures { row.now.start ≤ row.now.end → row.now.end ≤ length message.now
-        → result.now ≡ slice_range message.now row.now.start row.now.end }
-{
-    if row.start <= row.end && row.end <= message.len() {
-        &message[row.start..row.end]
-    } else {
-        &[]
-    }
-}
-
-/// The place where a pointer leads (RFC 1035 section 4.1.4).
-pub(crate) fn target_of(octets: &[u8]) -> usize {
-    (number_of(octets) & 0x3fff) as usize
 }
 
 /// The number that one, two or four octets write.

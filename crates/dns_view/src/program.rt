@@ -2,8 +2,8 @@
 ghost use Rattle.std.specs.Prelude.{◌≡◌, ◌≤◌, IfOk, length};
 
 use crate::html::print_page;
-use crate::shown::rows;
 use crate::text::print_text;
+use dns_rows::rows;
 use std::alloc::{AllocError, Global};
 use std::io;
 use std::io::{Read, Write};

@@ -1,9 +1,13 @@
 //! Rows printed as a text of at most 80 columns.
-ghost use Rattle.std.specs.Prelude.{◌≤◌, length};
+ghost use Rattle.std.specs.Prelude.{◌≡◌, ◌<◌, ◌≤◌, length, OnOk};
+ghost use Rattle.std.specs.Io.KnownBytes.{Appends};
+ghost use Rattle.dns_view.specs.Printed.{Prints, PrintsEach};
+ghost use Rattle.dns_view.specs.Digits.{octet_text};
+ghost use Rattle.dns_view.specs.Texts.{blank_octets, columns, digits_text, line_octets, line_text, IsLines, IsRowText};
 
-use crate::meaning::{Meaning, octets_of};
-use crate::row::{Field, Kind, Row};
-use std::alloc::{AllocError, Global};
+use crate::meaning::Meaning;
+use dns_rows::{Row, octets_of};
+use std::alloc::Global;
 use std::io;
 use std::io::Write;
 
@@ -14,93 +18,122 @@ const OCTETS: usize = 8;
 const COLUMNS: usize = 46;
 
 /// Prints rows of a message, each on a line or more: its place, its octets and what they mean.
+///
+/// An item has one line, with its meaning alone.
 pub fn print_text<W: Write>(
     alloc: Global,
     writer: &mut W,
     message: &[u8],
     rows: &[Row],
-) -> io::Result<()> {
+) -> io::Result<()>
+    ensures { OnOk result (PrintsEach (IsRowText message.now) rows.now
+        (W.contents writer.old) (W.contents writer.new)) }
+{
     for row in rows {
-        let meaning = Meaning { message, row: *row };
-        match row.kind {
-            Kind::Field(Field::Item(_, _)) => writeln!(writer, "{meaning}")?,
-            _ => {
-                let text = format!(in alloc; "{meaning}")?;
-                print_row(
-                    alloc,
-                    writer,
-                    row.start,
-                    octets_of(message, row),
-                    text.as_bytes(),
-                )?;
-            }
-        }
+        print_row(alloc, writer, message, row)?;
     }
     Ok(())
 }
 
-/// Prints the lines of a row.
-fn print_row<W: Write>(
-    alloc: Global,
+/// Prints a row.
+fn print_row<W: Write>(alloc: Global, writer: &mut W, message: &[u8], row: &Row) -> io::Result<()>
+    ensures { OnOk result (Prints (IsRowText message.now row.now)
+        (W.contents writer.old) (W.contents writer.new)) }
+{
+    let meaning = Meaning { message, row: *row };
+    let words = format!(in alloc; "{meaning}")?;
+    if row.kind.is_item() {
+        return writeln!(writer, "{words}");
+    }
+    print_lines(writer, row.start, octets_of(message, row), words.as_bytes())
+}
+
+/// Prints the lines of a row: one, and as many more as its octets and words need.
+fn print_lines<W: Write>(
     writer: &mut W,
     start: usize,
     octets: &[u8],
-    meaning: &[u8],
-) -> io::Result<()> {
-    let mut words = meaning;
-    let mut groups = octets.chunks(OCTETS);
+    words: &[u8],
+) -> io::Result<()>
+    ensures { OnOk result (Prints (IsLines start octets.now)
+        (W.contents writer.old) (W.contents writer.new)) }
+{
+    let mut octets_left = octets;
+    let mut words_left = words;
     write!(writer, "{start:>6} ")?;
-    for number in 0..=octets.len().max(meaning.len()) {
-        let group = groups.next();
-        if number > 0 {
-            if group.is_none() && words.is_empty() {
-                break;
-            }
-            write!(writer, "       ")?;
+    loop {
+        let (group, octets_behind) = octets_left.split_at(octets_left.len().min(OCTETS));
+        let (line, words_behind) = split_line(words_left);
+        print_line(writer, group, line)?;
+        octets_left = octets_behind;
+        words_left = words_behind;
+        if octets_left.is_empty() && words_left.is_empty() {
+            return Ok(());
         }
-        let (line, behind) = words.split_at(line_len(words));
-        print_line(alloc, writer, group.unwrap_or(&[]), line)?;
-        words = behind;
+        write!(writer, "       ")?;
+    }
+}
+
+/// The words of one line, and those behind them: all fit, or those up to the last space that lets them fit.
+///
+/// The space where a line ends is in neither.
+fn split_line(words: &[u8]) -> (&[u8], &[u8])
+    ensures fits { length result.0.now ≤ columns }
+    ensures shorter { 0 < length words.now → length result.1.now < length words.now }
+    ensures none { length words.now ≡ 0 → length result.1.now ≡ 0 }
+{
+    if words.len() <= COLUMNS {
+        return (words.strip_suffix(b" ").unwrap_or(words), &[]);
+    }
+    match words[..=COLUMNS].iter().rposition(|octet| *octet == b' ') {
+        Some(space) => (&words[..space], &words[space + 1..]),
+        None => words.split_at(COLUMNS),
+    }
+}
+
+/// Prints some octets and words behind them, and ends the line.
+fn print_line<W: Write>(writer: &mut W, octets: &[u8], words: &[u8]) -> io::Result<()>
+    requires { length octets.now ≤ line_octets }
+    ensures { OnOk result (Appends (W.contents writer.old) (W.contents writer.new)
+        (line_text record { octets = octets.now; words = words.now })) }
+{
+    print_digits(writer, octets)?;
+    if !words.is_empty() {
+        print_blanks(writer, octets.len())?;
+        writer.write_all(b"  ")?;
+        writer.write_all(words)?;
+    }
+    writer.write_all(b"\n")
+}
+
+/// Prints hexadecimal digits, two for each octet, with a space before each.
+fn print_digits<W: Write>(writer: &mut W, octets: &[u8]) -> io::Result<()>
+    ensures { OnOk result (Appends (W.contents writer.old) (W.contents writer.new)
+        (digits_text octets.now)) }
+{
+    for octet in octets {
+        writer.write_all(b" ")?;
+        print_octet(writer, *octet)?;
     }
     Ok(())
 }
 
-/// How many octets of words stand on one line: all, or those up to the last space that lets them fit.
-fn line_len(words: &[u8]) -> usize
-    ensures { result ≤ length words.now }
+/// Prints an octet in two hexadecimal digits of lower case.
+pub(crate) fn print_octet<W: Write>(writer: &mut W, octet: u8) -> io::Result<()>
+    ensures { OnOk result (Appends (W.contents writer.old) (W.contents writer.new)
+        (octet_text octet)) }
 {
-    if words.len() <= COLUMNS {
-        return words.len();
-    }
-    // A space behind the last column isn't printed.
-    match words[..=COLUMNS].iter().rposition(|octet| *octet == b' ') {
-        Some(space) => space.saturating_add(1).min(words.len()),
-        None => COLUMNS,
-    }
+    write!(writer, "{octet:02x}")
 }
 
-/// Prints some octets and a part of the meaning, and ends the line.
-fn print_line<W: Write>(
-    alloc: Global,
-    writer: &mut W,
-    octets: &[u8],
-    words: &[u8],
-) -> io::Result<()> {
-    let digits = digits_of(alloc, octets)?;
-    let words = words.strip_suffix(b" ").unwrap_or(words);
-    if words.is_empty() {
-        return writeln!(writer, "{digits}");
+/// Prints what stands for the octets that a line lacks.
+fn print_blanks<W: Write>(writer: &mut W, count: usize) -> io::Result<()>
+    requires { count ≤ line_octets }
+    ensures { OnOk result (Appends (W.contents writer.old) (W.contents writer.new)
+        (blank_octets count)) }
+{
+    for _ in count..OCTETS {
+        writer.write_all(b"   ")?;
     }
-    write!(writer, "{digits:<24}  ")?;
-    writer.write_all(words)?;
-    writer.write_all(b"\n")
-}
-
-/// Hexadecimal digits, two for each octet, with a space before each.
-fn digits_of(alloc: Global, octets: &[u8]) -> Result<String, AllocError> {
-    let mut digits = String::new(alloc);
-    for octet in octets {
-        write!(digits, " {octet:02x}")?;
-    }
-    Ok(digits)
+    Ok(())
 }

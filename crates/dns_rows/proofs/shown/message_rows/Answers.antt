@@ -1,0 +1,32 @@
+use Rattle.std.proofs.Common.{◌≡◌, ℕ, ◌+◌, length, ◌∙◌, ap, subst, arith}
+use Rattle.dns_name.specs.Parsers.{place}
+use Rattle.dns_code.specs.HeaderCounts.{counts, counts_in}
+use Rattle.dns_rows.specs.Shown.{counted_items, item_count, sum_of, Begins}
+use Rattle.dns_rows.specs.Walks.{items}
+use Rattle.dns_rows.proofs.Tilings.{made_of, tiles_shown}
+use Rattle.dns_rows.proofs.shown.message_rows.Goals as goal
+
+pub returns-clause-shows : goal.returns-clause-shows
+returns-clause-shows c =
+    let b = c.args.octets.now in
+    let walk = c.fault_of.new.walk in
+    let others = walk.rows.items in
+    let stop = c.in_ok-stop.stop in
+    let same = ap length (c.fault_of.ensures.comes.input ∙ c.new-walk.ensures.input) in
+    let counted = ap (λ octets. sum_of (counts_in octets)) c.for_message_slice.ensures in
+    let none = c.new-walk.ensures.items in
+    let all : items c.new-walk.result + sum_of (counts c.for_message_slice.result) ≡ counted_items b = omega arith in
+    let P : ℕ → Type 0 = λ n. Begins stop (item_count others) n in
+    record {
+      others = others;
+      stop = stop;
+      place = place walk.parser;
+      made = made_of c.push_rest.new.rows.items c.append.new.self.items c.in_ok-rows.rows.items others stop c.pos.result (place walk.parser) (length b)
+          c.in_ok-push_rest.ensures c.in_ok-append.ensures.items c.in_ok-rows.ensures c.pos.ensures;
+      fields = c.fault_of.ensures.comes.marked;
+      within = omega (arith, walk.parser.before_end, walk.parser.within);
+      items = subst P all c.in_ok-stop.ensures.begins;
+    }
+
+pub returns-clause-tiles : goal.returns-clause-tiles
+returns-clause-tiles c = tiles_shown c.args.octets.now c.push_rest.new.rows.items (returns-clause-shows c)

@@ -1,0 +1,4 @@
+pub mod Rows
+pub mod Shown
+pub mod Tiles
+pub mod Walks

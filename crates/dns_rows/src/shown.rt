@@ -1,0 +1,76 @@
+//! The rows of a message.
+ghost use Rattle.std.specs.Prelude.{◌≡◌, ◌+◌, ◌<◌, ◌≤◌, ◌∷◌, [], IfOk, length, take};
+ghost use Rattle.dns_code.specs.HeaderSection.{header_size};
+ghost use Rattle.dns_code.specs.HeaderCounts.{counts as counts_of};
+ghost use Rattle.dns_rows.specs.Shown.{Begins, header_rows, short_header, sum_of, ShowsMessage};
+ghost use Rattle.dns_rows.specs.Tiles.{Tiles};
+ghost use Rattle.dns_rows.specs.Walks.{items, Comes, IsMarked};
+
+use crate::row::{Fault, Kind, Row};
+use crate::tile;
+use crate::walk::{Stop, Walk};
+use dns_message::header::HeaderCounts;
+use std::alloc::{AllocError, Global};
+
+/// How many octets a header section has.
+const HEADER_LEN: usize = 12;
+
+/// The rows of any octets, each octet in one of them: one for each field of the message up to the first that can't be
+/// read, one for the fault of that, and one for what is behind.
+///
+/// Octets that are fewer than a header section has are one row. Octets behind the last item are unread too.
+pub fn rows(alloc: Global, octets: &[u8]) -> Result<Vec<Row>, AllocError>
+    ensures tiles { IfOk result (λ rows. Tiles rows.items 0 (length octets.now)) }
+    ensures short { length octets.now < header_size
+        → IfOk result (λ rows. rows.items ≡ short_header (length octets.now) ∷ []) }
+    ensures header { header_size ≤ length octets.now
+        → IfOk result (λ rows. take 6 rows.items ≡ header_rows) }
+    ensures shows { header_size ≤ length octets.now
+        → IfOk result (λ rows. ShowsMessage octets.now rows.items) }
+{
+    if octets.len() < HEADER_LEN {
+        return short_rows(alloc, octets.len());
+    }
+    message_rows(alloc, octets)
+}
+
+/// The row of octets that are fewer than a header section has.
+fn short_rows(alloc: Global, len: usize) -> Result<Vec<Row>, AllocError>
+    ensures { IfOk result (λ rows. rows.items ≡ short_header len ∷ []) }
+{
+    let mut rows = Vec::new(alloc);
+    rows.push(Row {
+        start: 0,
+        end: len,
+        kind: Kind::ShortHeader,
+    })?;
+    Ok(rows)
+}
+
+/// The rows of octets that have a header section.
+fn message_rows(alloc: Global, octets: &[u8]) -> Result<Vec<Row>, AllocError>
+    requires { header_size ≤ length octets.now }
+    ensures tiles { IfOk result (λ rows. Tiles rows.items 0 (length octets.now)) }
+    ensures shows { IfOk result (λ rows. ShowsMessage octets.now rows.items) }
+{
+    let mut walk = Walk::new(alloc, octets);
+    let stop = fault_of(&mut walk, HeaderCounts::for_message_slice(octets))?;
+    let mut rows = tile::header(alloc)?;
+    rows.append(&mut walk.rows)?;
+    tile::push_rest(&mut rows, stop, walk.parser.pos(), octets.len())?;
+    Ok(rows)
+}
+
+/// Walks over the items of a message, and gives the fault that ends the walk, if one does.
+fn fault_of(walk: &mut Walk, counts: HeaderCounts) -> Result<Option<Fault>, AllocError>
+    requires { IsMarked walk.old }
+    ensures comes { Comes (sum_of (counts_of counts)) walk.old walk.new }
+    ensures begins { IfOk result (λ stop.
+        Begins stop (items walk.new) (items walk.old + sum_of (counts_of counts))) }
+{
+    match walk.items(counts) {
+        Ok(()) => Ok(None),
+        Err(Stop::Fault(fault)) => Ok(Some(fault)),
+        Err(Stop::Memory) => Err(AllocError),
+    }
+}

@@ -1,0 +1,62 @@
+//! Rows put one behind the other.
+ghost use Rattle.std.specs.Prelude.{◌≡◌, ◌++◌, OnOk, IfOk};
+ghost use Rattle.dns_rows.specs.Shown.{field_row, header_rows, fault_rows, unread_rows};
+
+use crate::row::{Fault, Field, Kind, Part, Row};
+use std::alloc::{AllocError, Global};
+
+/// The row of a field.
+pub(crate) fn field(start: usize, end: usize, field: Field) -> Row
+    ensures { result ≡ field_row start end field }
+{
+    let kind = Kind::Field(field);
+    Row { start, end, kind }
+}
+
+/// The rows of a header section, two octets each (RFC 1035 section 4.1.1).
+pub(crate) fn header(alloc: Global) -> Result<Vec<Row>, AllocError>
+    ensures { IfOk result (λ rows. rows.items ≡ header_rows) }
+{
+    let mut rows = Vec::new(alloc);
+    rows.push(field(0, 2, Field::Id))?;
+    rows.push(field(2, 4, Field::Flags))?;
+    rows.push(field(4, 6, Field::Count(Part::Question)))?;
+    rows.push(field(6, 8, Field::Count(Part::Answer)))?;
+    rows.push(field(8, 10, Field::Count(Part::Authority)))?;
+    rows.push(field(10, 12, Field::Count(Part::Additional)))?;
+    Ok(rows)
+}
+
+/// Puts behind rows of fields that end at a place the fault there, if there is one, and the octets that are left.
+pub(crate) fn push_rest(
+    rows: &mut Vec<Row>,
+    stop: Option<Fault>,
+    place: usize,
+    len: usize,
+) -> Result<(), AllocError>
+    ensures { OnOk result (rows.new.items
+        ≡ rows.old.items ++ (fault_rows stop place ++ unread_rows place len)) }
+{
+    push_fault(rows, stop, place)?;
+    if place < len {
+        rows.push(Row {
+            start: place,
+            end: len,
+            kind: Kind::Unread,
+        })?;
+    }
+    Ok(())
+}
+
+fn push_fault(rows: &mut Vec<Row>, stop: Option<Fault>, place: usize) -> Result<(), AllocError>
+    ensures { OnOk result (rows.new.items ≡ rows.old.items ++ fault_rows stop place) }
+{
+    if let Some(fault) = stop {
+        rows.push(Row {
+            start: place,
+            end: place,
+            kind: Kind::Fault(fault),
+        })?;
+    }
+    Ok(())
+}

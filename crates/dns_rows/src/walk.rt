@@ -1,0 +1,400 @@
+//! A walk over a message that makes a row of each field (RFC 1035 sections 3.3 and 4.1, RFC 6891 section 6.1.2).
+ghost use Rattle.std.specs.Prelude.{◌≡◌, ◌+◌, ◌<◌, ◌≤◌, OnOk, IfSome, length};
+ghost use Rattle.dns_name.specs.Parsers.{input, place};
+ghost use Rattle.dns_code.specs.HeaderCounts.{counts};
+ghost use Rattle.dns_code.specs.HeaderSection.{header_size};
+ghost use Rattle.dns_rows.specs.Shown.{items_at, sum_of, IsField, field_row};
+ghost use Rattle.dns_rows.specs.Walks.{at, items, IsMarked, Comes};
+
+use crate::octets::target_of;
+use crate::row::{Fault, Field, NameOf, Part, Row};
+use crate::tile;
+use dns_message::code::Rtype;
+use dns_message::header::HeaderCounts;
+use dns_message::name::ParsedName;
+use dns_message::wire::Parser;
+use std::alloc::{AllocError, Global};
+
+/// The most octets that the labels of a name take: 255 less the root's zero octet (RFC 1035 section 2.3.4).
+const MAX_SIZE: usize = 254;
+
+/// A name of as many octets has no more labels.
+const MOST_LABELS: usize = 127;
+
+/// Why a walk ends early.
+#[derive(Clone, Copy, Debug)]
+pub(crate) enum Stop {
+    Fault(Fault),
+    Memory,
+}
+
+impl From<AllocError> for Stop {
+    fn from(_error: AllocError) -> Self {
+        Stop::Memory
+    }
+}
+
+/// A place in a message behind its header section, and the rows of the fields before it.
+#[derive(Drop)]
+pub(crate) struct Walk<'a> {
+    pub(crate) parser: Parser<'a>,
+    pub(crate) rows: Vec<Row>,
+}
+
+impl<'a> Walk<'a> {
+    /// A walk that begins behind the header section.
+    pub(crate) fn new(alloc: Global, octets: &'a [u8]) -> Self
+        requires { header_size ≤ length octets.now }
+        ensures marked { IsMarked result }
+        ensures items { items result ≡ 0 }
+        ensures input { input result.parser ≡ octets.now }
+    {
+        let mut parser = Parser::new(octets);
+        parser.advance(12).unwrap();
+        Walk {
+            parser,
+            rows: Vec::new(alloc),
+        }
+    }
+
+    /// Marks a field from here up to where a parser stands, and goes on with that.
+    fn mark(&mut self, behind: Parser<'a>, field: Field) -> Result<(), AllocError>
+        requires marked { IsMarked self.old }
+        requires input { input behind ≡ input self.old.parser }
+        requires order { at self.old ≤ place behind }
+        requires is_field { IsField (field_row (at self.old) (place behind) field) }
+        ensures comes { Comes (items_at field) self.old self.new }
+        ensures begins { OnOk result (items self.new ≡ items self.old + items_at field) }
+    {
+        let row = tile::field(self.parser.pos(), behind.pos(), field);
+        self.rows.push(row)?;
+        self.parser = behind;
+        Ok(())
+    }
+
+    /// A field of `n` octets.
+    fn octets(&mut self, n: usize, field: Field) -> Result<(), Stop>
+        requires marked { IsMarked self.old }
+        requires some { 0 < n }
+        requires plain { items_at field ≡ 0 }
+        ensures { Comes 0 self.old self.new }
+    {
+        let mut behind = self.parser;
+        if behind.advance(n).is_err() {
+            return Err(Stop::Fault(Fault::Short(field)));
+        }
+        self.mark(behind, field)?;
+        Ok(())
+    }
+
+    /// A field that is a number of two octets.
+    fn number(&mut self, field: Field) -> Result<u16, Stop>
+        requires marked { IsMarked self.old }
+        requires plain { items_at field ≡ 0 }
+        ensures { Comes 0 self.old self.new }
+    {
+        let mut behind = self.parser;
+        let Ok(number) = behind.parse_u16_be() else {
+            return Err(Stop::Fault(Fault::Short(field)));
+        };
+        self.mark(behind, field)?;
+        Ok(number)
+    }
+
+    /// An item of a part begins here.
+    fn item(&mut self, part: Part, number: usize) -> Result<(), Stop>
+        requires { IsMarked self.old }
+        ensures comes { Comes 1 self.old self.new }
+        ensures begins { OnOk result (items self.new ≡ items self.old + 1) }
+    {
+        self.mark(self.parser, Field::Item(part, number))?;
+        Ok(())
+    }
+
+    /// The octet that stands here, if one does.
+    fn first(&self) -> Option<u8> {
+        let octets = self.parser.peek(1).ok()?;
+        Some(octets[0])
+    }
+
+    /// The octets of the label that begins here, without its length octet; `None` where none begins, where it isn't all
+    /// there, and where a name is too long with it, which has `size` octets before it.
+    fn label_len(&self, size: usize) -> Option<usize>
+        ensures { IfSome result (λ len. len ≤ 63) }
+    {
+        let len = usize::from(self.first()?);
+        if len == 0
+            || len > 63
+            || len >= self.parser.remaining()
+            || size.saturating_add(len) >= MAX_SIZE
+        {
+            return None;
+        }
+        Some(len)
+    }
+
+    /// The labels that begin here, up to what is no label of a name.
+    fn labels(&mut self, name: NameOf) -> Result<(), Stop>
+        requires { IsMarked self.old }
+        ensures { Comes 0 self.old self.new }
+    {
+        let mut size = 0;
+        for _ in 0..MOST_LABELS {
+            let Some(len) = self.label_len(size) else {
+                break;
+            };
+            self.octets(len + 1, Field::Label(name))?;
+            size = size.saturating_add(len).saturating_add(1);
+        }
+        Ok(())
+    }
+
+    /// A name: its labels, and the root label or the pointer that ends it.
+    fn name(&mut self, name: NameOf) -> Result<(), Stop>
+        requires { IsMarked self.old }
+        ensures { Comes 0 self.old self.new }
+    {
+        let start = self.parser.pos();
+        let is_readable = self.has_name(start);
+        self.labels(name)?;
+        if is_readable {
+            self.end_name(name, start)
+        } else {
+            Err(Stop::Fault(self.name_fault(name, start)))
+        }
+    }
+
+    /// The root label or the pointer that ends a name here; the name begins at `start`.
+    fn end_name(&mut self, name: NameOf, start: usize) -> Result<(), Stop>
+        requires { IsMarked self.old }
+        ensures { Comes 0 self.old self.new }
+    {
+        match self.first() {
+            Some(0) => self.octets(1, Field::Root(name, start)),
+            _ => self.octets(2, Field::Pointer(name, start)),
+        }
+    }
+
+    /// Why a name that begins at `start` can't be read on from here, behind its labels.
+    fn name_fault(&self, name: NameOf, start: usize) -> Fault {
+        let place = self.parser.pos();
+        match self.first() {
+            Some(0x40..=0xbf) => Fault::Label,
+            Some(0xc0..) => self.pointer_fault(name, start),
+            Some(len) if place.saturating_sub(start).saturating_add(usize::from(len)) >= MAX_SIZE =>
+                Fault::LongName,
+            _ => Fault::Short(Field::Label(name)),
+        }
+    }
+
+    /// Why a name that begins at `start` can't be read from the pointer that begins here.
+    ///
+    /// A name that can be read where the pointer leads is too long behind the labels before it.
+    fn pointer_fault(&self, name: NameOf, start: usize) -> Fault {
+        let Ok(octets) = self.parser.peek(2) else {
+            return Fault::Short(Field::Pointer(name, start));
+        };
+        let target = target_of(octets);
+        if target >= self.parser.pos() {
+            Fault::Pointer
+        } else if self.has_name(target) {
+            Fault::LongPointer
+        } else {
+            Fault::Behind
+        }
+    }
+
+    /// Whether a name can be read at a place before the end.
+    fn has_name(&self, place: usize) -> bool {
+        let mut there = self.parser;
+        there.seek(place).is_ok() && ParsedName::parse(&mut there).is_ok()
+    }
+
+    /// The items of all parts, as many as the header section of the message says.
+    pub(crate) fn items(&mut self, all: HeaderCounts) -> Result<(), Stop>
+        requires { IsMarked self.old }
+        ensures comes { Comes (sum_of (counts all)) self.old self.new }
+        ensures begins { OnOk result (items self.new ≡ items self.old + sum_of (counts all)) }
+    {
+        self.questions(all.qdcount())?;
+        self.records(Part::Answer, all.ancount())?;
+        self.records(Part::Authority, all.nscount())?;
+        self.records(Part::Additional, all.arcount())
+    }
+
+    /// The questions, as many as the header says.
+    fn questions(&mut self, count: u16) -> Result<(), Stop>
+        requires { IsMarked self.old }
+        ensures comes { Comes count self.old self.new }
+        ensures begins { OnOk result (items self.new ≡ items self.old + count) }
+    {
+        for index in 0..usize::from(count) {
+            self.question(index + 1)?;
+        }
+        Ok(())
+    }
+
+    fn question(&mut self, number: usize) -> Result<(), Stop>
+        requires { IsMarked self.old }
+        ensures comes { Comes 1 self.old self.new }
+        ensures begins { OnOk result (items self.new ≡ items self.old + 1) }
+    {
+        self.item(Part::Question, number)?;
+        self.name(NameOf::Question)?;
+        self.number(Field::Type)?;
+        self.number(Field::Class)?;
+        Ok(())
+    }
+
+    /// The records of a part, as many as the header says.
+    fn records(&mut self, part: Part, count: u16) -> Result<(), Stop>
+        requires { IsMarked self.old }
+        ensures comes { Comes count self.old self.new }
+        ensures begins { OnOk result (items self.new ≡ items self.old + count) }
+    {
+        for index in 0..usize::from(count) {
+            self.record(part, index + 1)?;
+        }
+        Ok(())
+    }
+
+    fn record(&mut self, part: Part, number: usize) -> Result<(), Stop>
+        requires { IsMarked self.old }
+        ensures comes { Comes 1 self.old self.new }
+        ensures begins { OnOk result (items self.new ≡ items self.old + 1) }
+    {
+        self.item(part, number)?;
+        self.name(NameOf::Owner)?;
+        let (rtype, len) = self.record_fields()?;
+        self.within(rtype, usize::from(len))
+    }
+
+    /// The ten octets behind the owner of a record; gives its type and the length of its data.
+    fn record_fields(&mut self) -> Result<(Rtype, u16), Stop>
+        requires { IsMarked self.old }
+        ensures { Comes 0 self.old self.new }
+    {
+        let rtype = Rtype::from_int(self.number(Field::Type)?);
+        if rtype == Rtype::OPT {
+            self.number(Field::PayloadSize)?;
+            self.octets(1, Field::ExtendedRcode)?;
+            self.octets(1, Field::Version)?;
+            self.octets(2, Field::OptFlags)?;
+        } else {
+            self.number(Field::Class)?;
+            self.octets(4, Field::Ttl)?;
+        }
+        let len = self.number(Field::DataLength)?;
+        Ok((rtype, len))
+    }
+
+    /// The data of a record, which has `len` octets.
+    fn within(&mut self, rtype: Rtype, len: usize) -> Result<(), Stop>
+        requires { IsMarked self.old }
+        ensures { Comes 0 self.old self.new }
+    {
+        let mut behind = self.parser;
+        let Ok(inner) = behind.parse_parser(len) else {
+            return Err(Stop::Fault(Fault::Short(Field::Data)));
+        };
+        self.parser = inner;
+        self.data(rtype)?;
+        if self.parser.pos() != behind.pos() {
+            return Err(Stop::Fault(Fault::Trailing));
+        }
+        self.parser = behind;
+        Ok(())
+    }
+
+    /// The data of a record, up to the end of the parser.
+    fn data(&mut self, rtype: Rtype) -> Result<(), Stop>
+        requires { IsMarked self.old }
+        ensures { Comes 0 self.old self.new }
+    {
+        match rtype {
+            Rtype::A => self.octets(4, Field::Address),
+            Rtype::AAAA => self.octets(16, Field::LongAddress),
+            Rtype::NS => self.name(NameOf::Server),
+            Rtype::CNAME => self.name(NameOf::Canonical),
+            Rtype::PTR => self.name(NameOf::Target),
+            Rtype::MX => self.exchange(),
+            Rtype::SOA => self.zone(),
+            Rtype::TXT => self.texts(),
+            Rtype::OPT => self.options(),
+            _ => self.rest(),
+        }
+    }
+
+    /// Data that is one field: the octets that are left, if there are any.
+    fn rest(&mut self) -> Result<(), Stop>
+        requires { IsMarked self.old }
+        ensures { Comes 0 self.old self.new }
+    {
+        match self.parser.remaining() {
+            0 => Ok(()),
+            len => self.octets(len, Field::Data),
+        }
+    }
+
+    /// The data of MX (RFC 1035 section 3.3.9).
+    fn exchange(&mut self) -> Result<(), Stop>
+        requires { IsMarked self.old }
+        ensures { Comes 0 self.old self.new }
+    {
+        self.number(Field::Preference)?;
+        self.name(NameOf::Exchange)
+    }
+
+    /// The data of SOA (RFC 1035 section 3.3.13).
+    fn zone(&mut self) -> Result<(), Stop>
+        requires { IsMarked self.old }
+        ensures { Comes 0 self.old self.new }
+    {
+        self.name(NameOf::Primary)?;
+        self.name(NameOf::Mailbox)?;
+        self.octets(4, Field::Serial)?;
+        self.octets(4, Field::Refresh)?;
+        self.octets(4, Field::Retry)?;
+        self.octets(4, Field::Expire)?;
+        self.octets(4, Field::Minimum)
+    }
+
+    /// The data of TXT (RFC 1035 section 3.3.14).
+    fn texts(&mut self) -> Result<(), Stop>
+        requires { IsMarked self.old }
+        ensures { Comes 0 self.old self.new }
+    {
+        for _ in 0..self.parser.remaining() {
+            let Some(len) = self.first() else {
+                break;
+            };
+            self.octets(1 + usize::from(len), Field::Text)?;
+        }
+        Ok(())
+    }
+
+    /// The options of OPT (RFC 6891 section 6.1.2).
+    fn options(&mut self) -> Result<(), Stop>
+        requires { IsMarked self.old }
+        ensures { Comes 0 self.old self.new }
+    {
+        for _ in 0..self.parser.remaining() {
+            if self.parser.remaining() == 0 {
+                break;
+            }
+            self.option()?;
+        }
+        Ok(())
+    }
+
+    fn option(&mut self) -> Result<(), Stop>
+        requires { IsMarked self.old }
+        ensures { Comes 0 self.old self.new }
+    {
+        let code = self.number(Field::OptionCode)?;
+        match self.number(Field::OptionLength(code))? {
+            0 => Ok(()),
+            len => self.octets(usize::from(len), Field::OptionData(code)),
+        }
+    }
+}

@@ -1,0 +1,9 @@
+use Rattle.std.proofs.Common.{◌+◌, length}
+use Rattle.dns_view.proofs.TextLines.{Underway}
+use Rattle.dns_view.proofs.text.print_lines.Given as goal
+
+abbrev pub invariant-loop-octets_left : goal.invariant-loop-octets_left
+invariant-loop-octets_left g l = Underway l.fn.start l.fn.octets l.octets_left (g.W.Write.contents l.fn.writer) (g.W.Write.contents l.writer)
+
+abbrev pub decreases-loop-octets_left : goal.decreases-loop-octets_left
+decreases-loop-octets_left g l = length l.octets_left + length l.words_left

@@ -1,5 +1,0 @@
-use Rattle.dns_view.specs.Walks.{Comes}
-use Rattle.dns_view.proofs.walk.Walk.texts.Given as goal
-
-abbrev pub invariant-loop : goal.invariant-loop
-invariant-loop l = Comes 0 l.fn.self l.self
