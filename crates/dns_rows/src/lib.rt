@@ -12,5 +12,5 @@ mod tile;
 mod walk;
 
 pub use octets::{octets_of, target_of};
-pub use row::{Fault, Field, Kind, NameOf, Part, Row};
+pub use row::{Fault, Field, Kind, NameOf, Part, Row, ZoneNumber};
 pub use shown::rows;

@@ -67,6 +67,16 @@ pub enum NameOf {
     Mailbox,
 }
 
+/// A number in the data of SOA (RFC 1035 section 3.3.13).
+#[derive(Clone, Copy, Debug, PartialEq, Eq)]
+pub enum ZoneNumber {
+    Serial,
+    Refresh,
+    Retry,
+    Expire,
+    Minimum,
+}
+
 /// A field of a message, or a part of one.
 #[derive(Clone, Copy, Debug, PartialEq, Eq)]
 pub enum Field {
@@ -91,11 +101,8 @@ pub enum Field {
     /// An address of sixteen octets.
     LongAddress,
     Preference,
-    Serial,
-    Refresh,
-    Retry,
-    Expire,
-    Minimum,
+    /// In the data of SOA.
+    Zone(ZoneNumber),
     /// A string with its length octet.
     Text,
     /// Data of any other type.

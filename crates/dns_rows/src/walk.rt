@@ -7,7 +7,7 @@ ghost use Rattle.dns_rows.specs.Shown.{items_at, sum_of, IsField, field_row};
 ghost use Rattle.dns_rows.specs.Walks.{at, items, IsMarked, Comes};
 
 use crate::octets::target_of;
-use crate::row::{Fault, Field, NameOf, Part, Row};
+use crate::row::{Fault, Field, NameOf, Part, Row, ZoneNumber};
 use crate::tile;
 use dns_message::code::Rtype;
 use dns_message::header::HeaderCounts;
@@ -352,11 +352,11 @@ impl<'a> Walk<'a> {
     {
         self.name(NameOf::Primary)?;
         self.name(NameOf::Mailbox)?;
-        self.octets(4, Field::Serial)?;
-        self.octets(4, Field::Refresh)?;
-        self.octets(4, Field::Retry)?;
-        self.octets(4, Field::Expire)?;
-        self.octets(4, Field::Minimum)
+        self.octets(4, Field::Zone(ZoneNumber::Serial))?;
+        self.octets(4, Field::Zone(ZoneNumber::Refresh))?;
+        self.octets(4, Field::Zone(ZoneNumber::Retry))?;
+        self.octets(4, Field::Zone(ZoneNumber::Expire))?;
+        self.octets(4, Field::Zone(ZoneNumber::Minimum))
     }
 
     /// The data of TXT (RFC 1035 section 3.3.14).

@@ -13,7 +13,7 @@ mod program;
 mod quoted;
 mod text;
 
-pub use dns_rows::{Fault, Field, Kind, NameOf, Part, Row, rows};
+pub use dns_rows::{Fault, Field, Kind, NameOf, Part, Row, ZoneNumber, rows};
 pub use html::print_page;
 pub use program::tool;
 pub use text::print_text;

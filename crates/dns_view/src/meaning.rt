@@ -6,7 +6,7 @@ use dns_message::code::{Class, OptRcode, Rtype};
 use dns_message::header::Header;
 use dns_message::name::ParsedName;
 use dns_message::wire::Parser;
-use dns_rows::{Fault, Field, Kind, NameOf, Part, Row, octets_of, target_of};
+use dns_rows::{Fault, Field, Kind, NameOf, Part, Row, ZoneNumber, octets_of, target_of};
 use std::fmt;
 
 /// The flags of an OPT record have DO as their highest bit (RFC 3225).
@@ -168,11 +168,11 @@ fn field_words(field: Field) -> &'static str {
         Field::DataLength => "data length",
         Field::Address | Field::LongAddress => "address",
         Field::Preference => "preference",
-        Field::Serial => "serial",
-        Field::Refresh => "refresh",
-        Field::Retry => "retry",
-        Field::Expire => "expire",
-        Field::Minimum => "minimum",
+        Field::Zone(ZoneNumber::Serial) => "serial",
+        Field::Zone(ZoneNumber::Refresh) => "refresh",
+        Field::Zone(ZoneNumber::Retry) => "retry",
+        Field::Zone(ZoneNumber::Expire) => "expire",
+        Field::Zone(ZoneNumber::Minimum) => "minimum",
         Field::Text => "text",
         Field::PayloadSize => "UDP payload size",
         Field::ExtendedRcode => "extended rcode",
@@ -330,11 +330,11 @@ fn write_number<W: fmt::Write>(
         Field::Ttl => write!(f, "TTL {seconds}"),
         Field::DataLength => write!(f, "data length {number}"),
         Field::Preference => write!(f, "preference {number}"),
-        Field::Serial => write!(f, "serial {number}"),
-        Field::Refresh => write!(f, "refresh {seconds}"),
-        Field::Retry => write!(f, "retry {seconds}"),
-        Field::Expire => write!(f, "expire {seconds}"),
-        Field::Minimum => write!(f, "minimum {seconds}"),
+        Field::Zone(ZoneNumber::Serial) => write!(f, "serial {number}"),
+        Field::Zone(ZoneNumber::Refresh) => write!(f, "refresh {seconds}"),
+        Field::Zone(ZoneNumber::Retry) => write!(f, "retry {seconds}"),
+        Field::Zone(ZoneNumber::Expire) => write!(f, "expire {seconds}"),
+        Field::Zone(ZoneNumber::Minimum) => write!(f, "minimum {seconds}"),
         Field::PayloadSize => write!(f, "UDP payload size {number}"),
         Field::Version => write!(f, "EDNS version {number}"),
         Field::OptFlags => write_opt_flags(f, number),

@@ -220,13 +220,17 @@ const OCTETS_BEHIND_THE_ITEMS_UNREAD: Message<'_> = (
     &["    12  ff fe                    unread, 2 octets"],
 );
 
-/// Each behind the lines of the header.
-const FAULTS: &[Message<'_>] = &[
+/// Faults in names, each behind the lines of the header.
+const FAULTY_NAMES: &[Message<'_>] = &[
     POINTER_TO_ITSELF,
     POINTER_BEHIND_LABELS,
     POINTER_TO_A_FAULT,
     OCTET_THAT_BEGINS_NO_LABEL,
     LABEL_THAT_IS_CUT,
+];
+
+/// Faults behind names, each behind the lines of the header.
+const FAULTY_ITEMS: &[Message<'_>] = &[
     MISSING_QUESTION,
     SHORT_RECORD,
     MISSING_DATA,
@@ -234,12 +238,13 @@ const FAULTS: &[Message<'_>] = &[
     OCTETS_BEHIND_THE_VALUE,
     NAME_THAT_LEAVES_ITS_DATA,
     OPTION_THAT_IS_CUT,
-    OCTETS_BEHIND_THE_ITEMS_UNREAD,
 ];
 
 #[test]
 fn marks_faults(rt: HostRuntime) -> Result<(), Fail> {
-    assert_items(&rt, rt.alloc(), FAULTS)
+    assert_items(&rt, rt.alloc(), FAULTY_NAMES)?;
+    assert_items(&rt, rt.alloc(), FAULTY_ITEMS)?;
+    assert_items(&rt, rt.alloc(), &[OCTETS_BEHIND_THE_ITEMS_UNREAD])
 }
 
 #[test]
