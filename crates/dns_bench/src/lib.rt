@@ -152,8 +152,9 @@ pub extern "C" fn dns_bench_walk(octets: &[u8]) -> u64 {
 /// Writes a response with the target of a number: the first name is asked for, and has an address.
 ///
 /// Targets 0 to 4 are octets, then static, tree, hash and index compressors over octets, emptied
-/// before each message; 5 to 9 are the same, new for each message, and 10 is a static compressor over
-/// an array of 512 octets, new for each message too.
+/// before each message; 5 to 9 are the same, new for each message. 10 and 11 are a static and an
+/// index compressor of which each builder has a reference, and 12 is a static compressor over an
+/// array of 512 octets, new for each message.
 #[unsafe(no_mangle)]
 pub extern "C" fn dns_bench_response(
     alloc: Global,

@@ -95,6 +95,28 @@ fn write_kept<T: Composer>(
         return 0;
     };
     for _ in 0..work.rounds {
+        target = match message(kind, target, names.as_slice()) {
+            Ok(kept) => kept,
+            Err(_) => return 0,
+        };
+    }
+    hand_out(target.as_slice(), out)
+}
+
+/// The same, but the target stays where it is, and each builder is lent it.
+fn write_lent<T: Composer>(
+    alloc: Global,
+    kind: Kind,
+    mut target: T,
+    work: &Work<'_>,
+    out: &mut [u8],
+) -> usize
+    ensures { HandsOut out.old out.new result }
+{
+    let Some(names) = flat_names(alloc, work.names) else {
+        return 0;
+    };
+    for _ in 0..work.rounds {
         if message(kind, &mut target, names.as_slice()).is_err() {
             return 0;
         }
@@ -118,7 +140,24 @@ fn write_fresh<T: Composer, F: Fn() -> T>(
     };
     let mut len = 0;
     for _ in 0..work.rounds {
-        let mut target = new_target();
+        len = match message(kind, new_target(), names.as_slice()) {
+            Ok(target) => hand_out(target.as_slice(), out),
+            Err(_) => return 0,
+        };
+    }
+    len
+}
+
+/// Writes each message with a new static compressor over an array, which the builder is lent.
+fn write_array(alloc: Global, kind: Kind, work: &Work<'_>, out: &mut [u8]) -> usize
+    ensures { HandsOut out.old out.new result }
+{
+    let Some(names) = flat_names(alloc, work.names) else {
+        return 0;
+    };
+    let mut len = 0;
+    for _ in 0..work.rounds {
+        let mut target = StaticCompressor::new(ArrayVec::<u8, 512>::new());
         if message(kind, &mut target, names.as_slice()).is_err() {
             return 0;
         }
@@ -127,7 +166,7 @@ fn write_fresh<T: Composer, F: Fn() -> T>(
     len
 }
 
-/// Writes the messages with the target of a number: one of the five that are kept, or else a new one for each message.
+/// Writes the messages with the target of a number: one of the five that are kept, or another way.
 pub(crate) fn write_with(
     alloc: Global,
     kind: Kind,
@@ -147,34 +186,29 @@ pub(crate) fn write_with(
             let index = IndexCompressor::new(alloc, octets());
             write_kept(alloc, kind, index, work, out)
         }
-        _ => write_fresh_with(alloc, kind, target, work, out),
+        _ => write_otherwise(alloc, kind, target, work, out),
     }
 }
 
-/// Writes each message with a new target, that of a number: the same five in the same order, and behind them a static
-/// compressor over an array.
-fn write_fresh_with(
-    alloc: Global,
-    kind: Kind,
-    target: u32,
-    work: &Work<'_>,
-    out: &mut [u8],
-) -> usize
+/// Writes each message with a new target, the same five in the same order; and behind them with a static and an index
+/// compressor that are lent, and with an array.
+fn write_otherwise(alloc: Global, kind: Kind, target: u32, work: &Work<'_>, out: &mut [u8]) -> usize
     ensures { HandsOut out.old out.new result }
 {
     let octets = || Vec::new(alloc);
-    let over_octets = || StaticCompressor::new(octets());
+    let fixed = || StaticCompressor::new(octets());
     let tree = || TreeCompressor::new(alloc, octets());
     let hash = || HashCompressor::new(alloc, octets());
     let index = || IndexCompressor::new(alloc, octets());
-    let over_array = || StaticCompressor::new(ArrayVec::<u8, 512>::new());
     match target {
         5 => write_fresh(alloc, kind, octets, work, out),
-        6 => write_fresh(alloc, kind, over_octets, work, out),
+        6 => write_fresh(alloc, kind, fixed, work, out),
         7 => write_fresh(alloc, kind, tree, work, out),
         8 => write_fresh(alloc, kind, hash, work, out),
         9 => write_fresh(alloc, kind, index, work, out),
-        10 => write_fresh(alloc, kind, over_array, work, out),
+        10 => write_lent(alloc, kind, fixed(), work, out),
+        11 => write_lent(alloc, kind, index(), work, out),
+        12 => write_array(alloc, kind, work, out),
         _ => 0,
     }
 }
