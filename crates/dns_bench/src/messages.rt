@@ -148,8 +148,15 @@ fn write_fresh<T: Composer, F: Fn() -> T>(
     len
 }
 
-/// Writes each message with a new static compressor over an array, which the builder is lent.
-fn write_array(alloc: Global, kind: Kind, work: &Work<'_>, out: &mut [u8]) -> usize
+/// The same, but each builder is lent its target.
+fn write_fresh_lent<T: Composer, F: Fn() -> T>(
+    alloc: Global,
+    kind: Kind,
+    new_target: F,
+    work: &Work<'_>,
+    out: &mut [u8],
+) -> usize
+    requires { F.IsAlwaysCallable new_target }
     ensures { HandsOut out.old out.new result }
 {
     let Some(names) = flat_names(alloc, work.names) else {
@@ -157,7 +164,7 @@ fn write_array(alloc: Global, kind: Kind, work: &Work<'_>, out: &mut [u8]) -> us
     };
     let mut len = 0;
     for _ in 0..work.rounds {
-        let mut target = StaticCompressor::new(ArrayVec::<u8, 512>::new());
+        let mut target = new_target();
         if message(kind, &mut target, names.as_slice()).is_err() {
             return 0;
         }
@@ -200,6 +207,7 @@ fn write_otherwise(alloc: Global, kind: Kind, target: u32, work: &Work<'_>, out:
     let tree = || TreeCompressor::new(alloc, octets());
     let hash = || HashCompressor::new(alloc, octets());
     let index = || IndexCompressor::new(alloc, octets());
+    let array = || StaticCompressor::new(ArrayVec::<u8, 512>::new());
     match target {
         5 => write_fresh(alloc, kind, octets, work, out),
         6 => write_fresh(alloc, kind, fixed, work, out),
@@ -208,7 +216,7 @@ fn write_otherwise(alloc: Global, kind: Kind, target: u32, work: &Work<'_>, out:
         9 => write_fresh(alloc, kind, index, work, out),
         10 => write_lent(alloc, kind, fixed(), work, out),
         11 => write_lent(alloc, kind, index(), work, out),
-        12 => write_array(alloc, kind, work, out),
+        12 => write_fresh_lent(alloc, kind, array, work, out),
         _ => 0,
     }
 }
