@@ -202,26 +202,32 @@ impl<T: Composer> Composer for &mut T {
 
     ghost plain_forgets = { λ plain t. T.plain_forgets plain t.now };
 
+    #[inline(always)]
     fn as_slice(&self) -> &[u8] {
         (**self).as_slice()
     }
 
+    #[inline(always)]
     fn append_slice(&mut self, octets: &[u8]) -> Result<(), AppendError> {
         (**self).append_slice(octets)
     }
 
+    #[inline(always)]
     fn append_compressed_name<M: ToName>(&mut self, name: &M) -> Result<(), AppendError> {
         (**self).append_compressed_name(name)
     }
 
+    #[inline(always)]
     fn can_compress(&self) -> bool {
         (**self).can_compress()
     }
 
+    #[inline(always)]
     fn truncate(&mut self, len: usize) {
         (**self).truncate(len)
     }
 
+    #[inline(always)]
     fn write_at(&mut self, place: usize, octets: &[u8]) {
         (**self).write_at(place, octets)
     }
