@@ -75,18 +75,39 @@ for message in answer servers; do
   more=$(instructions "$build/walk" "$message" 1100)
   printf '%-14s %-9s %12d\n' walk "$message" $(((more - few) / 1000))
 done
-while read -r way work; do
-  few=$(instructions "$build/messages" ours "$build/inputs" "$work" "$way" 64)
-  more=$(instructions "$build/messages" ours "$build/inputs" "$work" "$way" 192)
-  printf '%-14s %-9s %12d\n' "$way" "$work" $(((more - few) / 128))
+while IFS=: read -r way work few more; do
+  less=$(instructions "$build/messages" ours "$build/inputs" "$work" "$way" "$few")
+  all=$(instructions "$build/messages" ours "$build/inputs" "$work" "$way" "$more")
+  printf '%-14s %-9s %12d\n' "$way" "$work" $(((all - less) / (more - few)))
 done <<'ROWS'
-walk w1
-walk w2
-walk w5a
-plain w3
-static w3
-index w3
-plain w4
-static w4
-index w4
+walk:w1:64:192
+walk:w2:64:192
+walk:w5a:64:192
+walk:w5b:64:192
+walk:n10:64:192
+walk:n100:64:192
+walk:n1000:64:128
+walk:n10000:2:4
+walk:f64:2:4
+walk:h64:2:3
+walk:h64b:2:3
+plain:w3:64:192
+static:w3:64:192
+tree:w3:64:192
+hash:w3:64:192
+index:w3:64:192
+static, lent:w3:64:192
+index, lent:w3:64:192
+plain, fresh:w3:64:192
+static, fresh:w3:64:192
+index, fresh:w3:64:192
+array, fresh:w3:64:192
+plain:w4:64:128
+static:w4:64:128
+tree:w4:64:128
+hash:w4:64:128
+index:w4:64:128
+static, lent:w4:64:128
+index, lent:w4:64:128
+index, fresh:w4:64:128
 ROWS
