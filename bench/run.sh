@@ -100,6 +100,8 @@ static, lent:w3:64:192
 index, lent:w3:64:192
 plain, fresh:w3:64:192
 static, fresh:w3:64:192
+tree, fresh:w3:64:192
+hash, fresh:w3:64:192
 index, fresh:w3:64:192
 array, fresh:w3:64:192
 plain:w4:64:128
@@ -109,5 +111,9 @@ hash:w4:64:128
 index:w4:64:128
 static, lent:w4:64:128
 index, lent:w4:64:128
+plain, fresh:w4:64:128
+static, fresh:w4:64:128
+tree, fresh:w4:64:128
+hash, fresh:w4:64:128
 index, fresh:w4:64:128
 ROWS
