@@ -29,7 +29,9 @@ pub(crate) enum Stop {
 }
 
 impl From<AllocError> for Stop {
-    fn from(_error: AllocError) -> Self {
+    fn from(_error: AllocError) -> Self
+        ensures { result ≡ Stop.Memory }
+    {
         Stop::Memory
     }
 }
