@@ -77,6 +77,10 @@ pub trait CloneTarget: Composer + Sized {
         ensures memory { OnErr result (IsTrue Self.grows) };
 }
 
+/// The octets that a vector without room takes memory for at its first append: what a message over UDP may have
+/// (RFC 1035 section 4.2.1).
+const FIRST_CAPACITY: usize = 512;
+
 impl Composer for Vec<u8> {
     ghost rule = { Plain };
 
@@ -93,6 +97,10 @@ impl Composer for Vec<u8> {
     }
 
     fn append_slice(&mut self, octets: &[u8]) -> Result<(), AppendError> {
+        if self.capacity() == 0 {
+            // Where this is refused, what `octets` take may still be had.
+            let _ = self.reserve(FIRST_CAPACITY);
+        }
         self.extend_from_slice(octets)
             .map_err(|_| AppendError::OutOfMemory)
     }
