@@ -60,6 +60,7 @@ impl<'a> ParseRecordData<'a> for Hinfo<'a> {
 #[cfg(test)]
 mod tests {
     use super::*;
+    use crate::asserts::assert_octets;
     use dns_message::builder::MessageBuilder;
     use dns_message::code::Class;
     use dns_message::message::Message;
@@ -79,15 +80,20 @@ mod tests {
         )
     }
 
+    /// The host is a DEC-2060 with TOPS20.
+    fn assert_host(rt: &impl Abort, hinfo: &Hinfo<'_>) {
+        assert_octets(rt, "hardware", hinfo.cpu.as_slice(), b"\x08DEC-2060");
+        assert_octets(rt, "system", hinfo.os.as_slice(), b"\x06TOPS20");
+    }
+
     #[test]
     fn reads_hosts(rt: HostRuntime) {
         let mut parser = Parser::new(&OCTETS);
         let Ok(Some(hinfo)) = Hinfo::parse_rdata(Rtype::from_int(13), &mut parser) else {
             panic!(rt; "no host")
         };
-        assert_eq!(rt; hinfo.cpu.as_slice(), b"\x08DEC-2060".as_slice());
-        assert_eq!(rt; hinfo.os.as_slice(), b"\x06TOPS20".as_slice());
-        assert_eq!(rt; parser.remaining(), 0);
+        assert_host(&rt, &hinfo);
+        assert!(rt; parser.remaining() == 0);
         assert!(rt;
             matches!(
                 Hinfo::parse_rdata(Rtype::A, &mut Parser::new(&OCTETS)),
@@ -121,12 +127,11 @@ mod tests {
         let Some(Ok(answer)) = message.answer()?.next() else {
             panic!(rt; "no record")
         };
-        assert_eq!(rt; answer.rdlen(), 16);
+        assert!(rt; answer.rdlen() == 16);
         let Ok(Some(record)) = answer.to_record::<Hinfo<'_>>() else {
             panic!(rt; "no host")
         };
-        assert_eq!(rt; record.data().cpu.as_slice(), b"\x08DEC-2060".as_slice());
-        assert_eq!(rt; record.data().os.as_slice(), b"\x06TOPS20".as_slice());
+        assert_host(&rt, record.data());
         Ok(())
     }
 }

@@ -1,9 +1,9 @@
 //! Records and their headers: read over, taken apart, made anew and ordered.
+use crate::asserts::assert_octets;
 use dns_code::{Class, Rtype};
-use dns_data::{A, Ns, UnknownRecordData, compose_canonical_len_rdata, compose_len_rdata};
+use dns_data::{A, UnknownRecordData};
 use dns_item::{ComposeRecord, ParsedRecord, Question, Record, RecordHeader, Ttl};
-use dns_message::target::StaticCompressor;
-use dns_wire::{Composer, Name, ParseError, ParsedName, Parser, ToNameExt};
+use dns_wire::{Name, ParseError, ParsedName, Parser, ToNameExt};
 use std::alloc::Global;
 use std::cmp::Ordering;
 use std::process::Abort;
@@ -22,18 +22,18 @@ fn letter(octets: &'static [u8; 3]) -> Result<SliceName, Fail> {
 fn reads_a_header_up_to_its_data(rt: HostRuntime) -> Result<(), Fail> {
     let mut parser = Parser::new(ADDRESS);
     let header = RecordHeader::parse_ref(&mut parser)?;
-    assert_eq!(rt; parser.pos(), 13);
     assert!(rt; header.owner().octets_eq(&letter(b"\x01a\x00")?));
-    assert!(rt; header.rtype() == Rtype::A && header.class() == Class::IN);
-    assert!(rt; header.ttl() == Ttl::HOUR && header.rdlen() == 4);
-    let mut cut = Parser::new(&ADDRESS[..12]);
-    assert!(rt;
-        matches!(
-            RecordHeader::parse_ref(&mut cut),
-            Err(ParseError::ShortInput)
-        )
+    assert_eq!(rt;
+        (header.rtype(), header.class(), header.ttl(), header.rdlen()),
+        (Rtype::A, Class::IN, Ttl::HOUR, 4)
     );
-    assert_eq!(rt; cut.pos(), 0);
+    assert!(rt; parser.pos() == 13);
+    let mut cut = Parser::new(&ADDRESS[..12]);
+    let is_short = matches!(
+        RecordHeader::parse_ref(&mut cut),
+        Err(ParseError::ShortInput)
+    );
+    assert!(rt; is_short && cut.pos() == 0);
     Ok(())
 }
 
@@ -41,16 +41,14 @@ fn reads_a_header_up_to_its_data(rt: HostRuntime) -> Result<(), Fail> {
 fn reads_a_header_and_passes_its_data(rt: HostRuntime) -> Result<(), Fail> {
     let mut parser = Parser::new(ADDRESS);
     let header = RecordHeader::parse_and_skip(&mut parser)?;
-    assert_eq!(rt; parser.pos(), 17);
     assert!(rt; header == RecordHeader::parse(&mut Parser::new(ADDRESS))?);
+    assert!(rt; parser.pos() == 17);
     let mut cut = Parser::new(&ADDRESS[..16]);
-    assert!(rt;
-        matches!(
-            RecordHeader::parse_and_skip(&mut cut),
-            Err(ParseError::ShortInput)
-        )
+    let is_short = matches!(
+        RecordHeader::parse_and_skip(&mut cut),
+        Err(ParseError::ShortInput)
     );
-    assert_eq!(rt; cut.pos(), 0);
+    assert!(rt; is_short && cut.pos() == 0);
     Ok(())
 }
 
@@ -71,8 +69,7 @@ fn reads_no_data_that_is_cut(rt: HostRuntime) -> Result<(), Fail> {
     let mut parser = Parser::new(&ADDRESS[..16]);
     let header = RecordHeader::parse(&mut parser)?;
     let address = address_of(header.parse_into_record(&mut parser));
-    assert_eq!(rt; address, Err(ParseError::ShortInput));
-    assert_eq!(rt; parser.pos(), 13);
+    assert!(rt; address == Err(ParseError::ShortInput) && parser.pos() == 13);
     Ok(())
 }
 
@@ -81,8 +78,8 @@ fn reads_any_data_behind_a_header(rt: HostRuntime) -> Result<(), Fail> {
     let mut parser = Parser::new(ADDRESS);
     let header = RecordHeader::parse(&mut parser)?;
     let record = header.parse_into_any_record::<UnknownRecordData<&[u8]>>(&mut parser)?;
-    assert_eq!(rt; *record.data().data(), b"\xCB\x00\x71\x01".as_slice());
-    assert_eq!(rt; parser.pos(), 17);
+    assert_octets(&rt, "data", record.data().data(), b"\xCB\x00\x71\x01");
+    assert!(rt; parser.pos() == 17);
     Ok(())
 }
 
@@ -92,19 +89,26 @@ fn reads_data_of_any_type(rt: HostRuntime) -> Result<(), Fail> {
     let record = record.into_any_record::<UnknownRecordData<&[u8]>>()?;
     assert!(rt; record.owner().octets_eq(&letter(b"\x01a\x00")?));
     assert!(rt; record.rtype() == Rtype::A && record.ttl() == Ttl::HOUR);
-    assert_eq!(rt; *record.into_data().data(), [203, 0, 113, 1].as_slice());
+    assert_octets(&rt, "data", record.into_data().data(), &[203, 0, 113, 1]);
     Ok(())
 }
 
 #[test]
-fn takes_a_record_apart(rt: HostRuntime) -> Result<(), Fail> {
+fn takes_items_apart(rt: HostRuntime) -> Result<(), Fail> {
     let owner = Name::from_octets(*b"\x01a\x00")?;
     let record = Record::from((owner, Class::CH, Ttl::MINUTE, A::from_octets(1, 2, 3, 4)));
     assert!(rt; record.class() == Class::CH && record.ttl() == Ttl::MINUTE);
-    assert_eq!(rt; record.into_data().octets(), [1, 2, 3, 4]);
+    assert_octets(
+        &rt,
+        "data alone",
+        &record.into_data().octets(),
+        &[1, 2, 3, 4],
+    );
     let (owner, data) = record.into_owner_and_data();
-    assert_eq!(rt; owner.as_slice(), b"\x01a\x00".as_slice());
-    assert_eq!(rt; data.octets(), [1, 2, 3, 4]);
+    assert_octets(&rt, "owner", owner.as_slice(), b"\x01a\x00");
+    assert_octets(&rt, "data", &data.octets(), &[1, 2, 3, 4]);
+    let question = Question::new(letter(b"\x01a\x00")?, Rtype::NS, Class::CH);
+    assert_octets(&rt, "qname", question.into_qname().as_slice(), b"\x01a\x00");
     Ok(())
 }
 
@@ -122,11 +126,17 @@ fn makes_a_record_of_fields(rt: HostRuntime) -> Result<(), Fail> {
     Ok(())
 }
 
-/// The octets of a record.
-fn composed<R: ComposeRecord>(alloc: Global, record: &R) -> Result<Vec<u8>, Fail> {
+/// The record has these octets.
+fn assert_composed<R: ComposeRecord>(
+    rt: &impl Abort,
+    alloc: Global,
+    record: &R,
+    octets: &[u8],
+) -> Result<(), Fail> {
     let mut target = Vec::new(alloc);
     record.compose_record(&mut target)?;
-    Ok(target)
+    assert_octets(rt, "record", target.as_slice(), octets);
+    Ok(())
 }
 
 #[test]
@@ -134,52 +144,30 @@ fn composes_tuples(rt: HostRuntime) -> Result<(), Fail> {
     let alloc = rt.alloc();
     let owner = letter(b"\x01a\x00")?;
     let data = A::from_octets(203, 0, 113, 1);
-    let internet = composed(alloc, &(owner, Ttl::HOUR, data))?;
-    assert_eq!(rt; internet.as_slice(), ADDRESS.as_slice());
-    assert!(rt; composed(alloc, &(owner, 3600, data))? == internet);
-    assert!(rt; composed(alloc, &(owner, Class::IN, 3600, data))? == internet);
-    assert!(rt; composed(alloc, &&(owner, Class::IN, Ttl::HOUR, data))? == internet);
-    let chaos = composed(alloc, &(owner, Class::CH, Ttl::MINUTE, data))?;
-    assert_eq!(rt;
-        chaos.as_slice(),
-        b"\x01a\x00\x00\x01\x00\x03\x00\x00\x00\x3C\x00\x04\xCB\x00\x71\x01".as_slice()
-    );
-    Ok(())
-}
-
-#[test]
-fn takes_the_name_out_of_a_question(rt: HostRuntime) -> Result<(), Fail> {
-    let question = Question::new(letter(b"\x01a\x00")?, Rtype::NS, Class::CH);
-    assert_eq!(rt; question.into_qname().as_slice(), b"\x01a\x00".as_slice());
-    Ok(())
-}
-
-#[test]
-fn composes_data_behind_its_length(rt: HostRuntime) -> Result<(), Fail> {
-    let mut target = Vec::new(rt.alloc());
-    compose_len_rdata(&A::from_octets(1, 2, 3, 4), &mut target)?;
-    compose_canonical_len_rdata(&Ns::new(letter(b"\x01B\x00")?), &mut target)?;
-    assert_eq!(rt;
-        target.as_slice(),
-        b"\x00\x04\x01\x02\x03\x04\x00\x03\x01b\x00".as_slice()
-    );
-    // the length is that of what is written
-    let mut target = StaticCompressor::new(Vec::new(rt.alloc()));
-    compose_len_rdata(&Ns::new(letter(b"\x01a\x00")?), &mut target)?;
-    compose_len_rdata(&Ns::new(letter(b"\x01a\x00")?), &mut target)?;
-    assert_eq!(rt;
-        target.as_slice(),
-        b"\x00\x03\x01a\x00\x00\x02\xC0\x02".as_slice()
-    );
-    Ok(())
+    assert_composed(&rt, alloc, &(owner, Ttl::HOUR, data), ADDRESS)?;
+    assert_composed(&rt, alloc, &(owner, 3600, data), ADDRESS)?;
+    assert_composed(&rt, alloc, &(owner, Class::IN, 3600, data), ADDRESS)?;
+    assert_composed(&rt, alloc, &&(owner, Class::IN, Ttl::HOUR, data), ADDRESS)?;
+    assert_composed(
+        &rt,
+        alloc,
+        &(owner, Class::CH, Ttl::MINUTE, data),
+        b"\x01a\x00\x00\x01\x00\x03\x00\x00\x00\x3C\x00\x04\xCB\x00\x71\x01",
+    )
 }
 
 /// Each value stands before the next, and each is equal to itself.
 fn assert_ascends<T: Ord>(rt: &impl Abort, values: &[T]) {
     for pair in values.windows(2) {
-        assert_eq!(rt; pair[0].cmp(&pair[1]), Ordering::Less);
-        assert_eq!(rt; pair[1].cmp(&pair[0]), Ordering::Greater);
-        assert_eq!(rt; pair[0].cmp(&pair[0]), Ordering::Equal);
+        let orders = [
+            pair[0].cmp(&pair[1]),
+            pair[1].cmp(&pair[0]),
+            pair[0].cmp(&pair[0]),
+        ];
+        assert_eq!(rt;
+            orders,
+            [Ordering::Less, Ordering::Greater, Ordering::Equal]
+        );
     }
 }
 

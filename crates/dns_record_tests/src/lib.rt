@@ -3,6 +3,8 @@
 //! Nothing is exported.
 #![tactic(auto)]
 
+#[cfg(test)]
+mod asserts;
 mod char_str;
 #[cfg(test)]
 mod comparisons;

@@ -116,6 +116,7 @@ impl<'a> ParseRecordData<'a> for Naptr<'a, ParsedName<'a>> {
 #[cfg(test)]
 mod tests {
     use super::*;
+    use crate::asserts::assert_octets;
     use dns_message::builder::MessageBuilder;
     use dns_message::code::Class;
     use dns_message::message::Message;
@@ -136,19 +137,28 @@ mod tests {
         Naptr::parse_rdata(Rtype::from_int(35), &mut parser)
     }
 
+    /// The pointer has these fields.
+    fn assert_pointer(rt: &impl Abort, naptr: &Naptr<'_, ParsedName<'_>>) -> Result<(), Fail> {
+        assert!(rt; naptr.order == 100 && naptr.preference == 50);
+        assert_octets(rt, "flags", naptr.flags.as_slice(), b"\x01s");
+        assert_octets(
+            rt,
+            "services",
+            naptr.services.as_slice(),
+            b"\x0Dz3950+N2L+N2C",
+        );
+        assert_octets(rt, "expression", naptr.regexp.as_slice(), b"\x00");
+        let replacement = Name::from_octets(*b"\x05z3950\x07example\x00")?;
+        assert!(rt; naptr.replacement.octets_eq(&replacement));
+        Ok(())
+    }
+
     #[test]
     fn reads_a_compressed_replacement(rt: HostRuntime) -> Result<(), Fail> {
         let Ok(Some(naptr)) = read(&OCTETS) else {
             panic!(rt; "no pointer")
         };
-        assert_eq!(rt; naptr.order, 100);
-        assert_eq!(rt; naptr.preference, 50);
-        assert_eq!(rt; naptr.flags.as_slice(), b"\x01s".as_slice());
-        assert_eq!(rt; naptr.services.as_slice(), b"\x0Dz3950+N2L+N2C".as_slice());
-        assert_eq!(rt; naptr.regexp.as_slice(), b"\x00".as_slice());
-        let replacement = Name::from_octets(*b"\x05z3950\x07example\x00")?;
-        assert!(rt; naptr.replacement.octets_eq(&replacement));
-        Ok(())
+        assert_pointer(&rt, &naptr)
     }
 
     #[test]
@@ -204,14 +214,6 @@ mod tests {
         let Ok(Some(record)) = answer.to_record::<Naptr<'_, ParsedName<'_>>>() else {
             panic!(rt; "no pointer")
         };
-        let naptr = record.data();
-        assert_eq!(rt; naptr.order, 100);
-        assert_eq!(rt; naptr.services.as_slice(), b"\x0Dz3950+N2L+N2C".as_slice());
-        assert!(rt;
-            naptr
-                .replacement
-                .octets_eq(&Name::from_octets(REPLACEMENT)?)
-        );
-        Ok(())
+        assert_pointer(&rt, record.data())
     }
 }

@@ -1,10 +1,10 @@
 //! Questions: read from texts and from octets, printed, and composed.
-use crate::data::assert_printed;
+use crate::asserts::{assert_octets, assert_printed};
 use arrayvec::ArrayVec;
 use dns_code::{Class, Rtype};
 use dns_item::question::{FromStrError, PresentationError, PresentationErrorEnum};
 use dns_item::{ComposeQuestion, Question};
-use dns_wire::{AppendError, Name, ParseError, Parser, name};
+use dns_wire::{Name, ParseError, Parser, name};
 use std::alloc::Global;
 use std::process::Abort;
 use std::test::Fail;
@@ -112,11 +112,17 @@ fn buffered(text: &str) -> Result<Question<Name<ArrayVec<u8, 255>>>, FromStrErro
     text.parse::<Question<Name<ArrayVec<u8, 255>>>>()
 }
 
-/// The octets of a question.
-fn composed<Q: ComposeQuestion>(alloc: Global, question: &Q) -> Result<Vec<u8>, AppendError> {
+/// The question has these octets.
+fn assert_composed<Q: ComposeQuestion>(
+    rt: &impl Abort,
+    alloc: Global,
+    question: &Q,
+    octets: &[u8],
+) -> Result<(), Fail> {
     let mut target = Vec::new(alloc);
     question.compose_question(&mut target)?;
-    Ok(target)
+    assert_octets(rt, "question", target.as_slice(), octets);
+    Ok(())
 }
 
 /// The kind of fault and its text.
@@ -137,15 +143,15 @@ fn assert_faulty(
 
 /// Both readings of the text are the question example.com. A IN.
 fn assert_spelled(rt: &impl Abort, alloc: Global, text: &str) -> Result<(), Fail> {
+    let question = buffered(text)?;
+    assert!(rt; question == buffered("example.com A")?, "{text}");
+    assert_composed(rt, alloc, &question, EXAMPLE)?;
     let question = Question::vec_from_str(alloc, text)?;
+    assert_composed(rt, alloc, &question, EXAMPLE)?;
     assert!(rt;
         question == Question::vec_from_str(alloc, "example.com A")?,
         "{text}"
     );
-    assert_eq!(rt; composed(alloc, &question)?.as_slice(), EXAMPLE);
-    let question = buffered(text)?;
-    assert!(rt; question == buffered("example.com A")?, "{text}");
-    assert_eq!(rt; composed(alloc, &question)?.as_slice(), EXAMPLE);
     Ok(())
 }
 
@@ -191,27 +197,15 @@ fn prints(rt: HostRuntime) -> Result<(), Fail> {
 
 #[test]
 fn composes_tuples(rt: HostRuntime) -> Result<(), Fail> {
-    let triple = composed(rt.alloc(), &(Name::root_slice(), Rtype::NS, Class::CH))?;
-    assert_eq!(rt; triple.as_slice(), b"\x00\x00\x02\x00\x03".as_slice());
-    let pair = composed(rt.alloc(), &(Name::root_slice(), Rtype::SOA))?;
-    assert_eq!(rt; pair.as_slice(), b"\x00\x00\x06\x00\x01".as_slice());
-    Ok(())
-}
-
-#[test]
-fn makes_questions_of_tuples(rt: HostRuntime) -> Result<(), Fail> {
+    let alloc = rt.alloc();
     let root = Name::root_slice();
+    let octets = b"\x00\x00\x02\x00\x03";
+    assert_composed(&rt, alloc, &(root, Rtype::NS, Class::CH), octets)?;
+    assert_composed(&rt, alloc, &(root, Rtype::SOA), b"\x00\x00\x06\x00\x01")?;
     let triple = Question::from((&root, Rtype::MX, Class::HS));
-    assert_eq!(rt;
-        composed(rt.alloc(), &triple)?.as_slice(),
-        b"\x00\x00\x0f\x00\x04".as_slice()
-    );
+    assert_composed(&rt, alloc, &triple, b"\x00\x00\x0f\x00\x04")?;
     let pair = Question::from((&root, Rtype::TXT));
-    assert_eq!(rt;
-        composed(rt.alloc(), &&pair)?.as_slice(),
-        b"\x00\x00\x10\x00\x01".as_slice()
-    );
-    Ok(())
+    assert_composed(&rt, alloc, &&pair, b"\x00\x00\x10\x00\x01")
 }
 
 #[test]
@@ -221,10 +215,10 @@ fn passes_broken_names(rt: HostRuntime) -> Result<(), Fail> {
     for (octets, end) in [(looped.as_slice(), 20), (itself.as_slice(), 18)] {
         let mut parser = Parser::new(octets);
         parser.seek(12)?;
-        assert!(rt; matches!(Question::parse(&mut parser), Err(ParseError::Form(_))));
-        assert_eq!(rt; parser.pos(), 12);
+        let is_refused = matches!(Question::parse(&mut parser), Err(ParseError::Form(_)));
+        assert!(rt; is_refused && parser.pos() == 12, "{end}");
         Question::skip(&mut parser)?;
-        assert_eq!(rt; parser.pos(), end);
+        assert!(rt; parser.pos() == end, "{end}");
     }
     Ok(())
 }
