@@ -15,14 +15,20 @@ fn reads_the_fields(rt: HostRuntime) {
     let class = Class::from_int(4096);
     let ttl = Ttl::from_secs(0x0102_8000);
     let opt = OptRecord::from(Record::new(Name::root_slice(), class, ttl, data));
-    assert_eq!(rt; opt.udp_payload_size(), 4096);
-    assert_eq!(rt; opt.rcode(message).to_int(), 19);
-    assert_eq!(rt; opt.version(), 2);
-    assert!(rt; opt.dnssec_ok());
-    assert!(rt; opt.opt().iter().next().is_some());
+    let fields = (
+        opt.udp_payload_size(),
+        opt.rcode(message).to_int(),
+        opt.version(),
+        opt.dnssec_ok(),
+        opt.opt().iter().next().is_some(),
+    );
+    assert_eq!(rt; fields, (4096, 19, 2, true, true));
     let record = opt.as_record();
-    assert_eq!(rt; record.owner().as_slice(), b"\x00".as_slice());
-    assert_eq!(rt; record.class(), class);
-    assert_eq!(rt; record.ttl(), ttl);
-    assert_eq!(rt; record.data().data().len(), 4);
+    let parts = (
+        record.owner().as_slice(),
+        record.class(),
+        record.ttl(),
+        record.data().data().len(),
+    );
+    assert_eq!(rt; parts, (b"\x00".as_slice(), class, ttl, 4));
 }
