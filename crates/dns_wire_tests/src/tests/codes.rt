@@ -68,26 +68,37 @@ fn prints_types_and_classes(rt: HostRuntime) {
 
 #[test]
 fn keeps_codes_in_range(rt: HostRuntime) {
-    assert_eq!(rt; Rcode::checked_from_int(16), None);
-    assert_eq!(rt; Rcode::checked_from_int(5), Some(Rcode::REFUSED));
-    assert_eq!(rt; Rcode::masked_from_int(0xf3), Rcode::NXDOMAIN);
-    assert_eq!(rt; OptRcode::checked_from_int(4096), None);
-    assert_eq!(rt; OptRcode::from(Rcode::REFUSED).to_int(), 5);
+    let rcodes = (
+        Rcode::checked_from_int(16),
+        Rcode::checked_from_int(5),
+        Rcode::masked_from_int(0xf3),
+    );
+    assert_eq!(rt; rcodes, (None, Some(Rcode::REFUSED), Rcode::NXDOMAIN));
+    let long = (
+        OptRcode::checked_from_int(4096),
+        OptRcode::from(Rcode::REFUSED).to_int(),
+    );
+    assert_eq!(rt; long, (None, 5));
 }
 
 #[test]
 fn joins_the_parts_of_an_rcode(rt: HostRuntime) {
     let rcode = OptRcode::from_parts(Rcode::NXDOMAIN, 0xab);
-    assert_eq!(rt; rcode.to_int(), 0xab3);
-    assert_eq!(rt; rcode.rcode(), Rcode::NXDOMAIN);
-    assert_eq!(rt; rcode.ext(), 0xab);
+    let parts = (rcode.to_int(), rcode.rcode(), rcode.ext());
+    assert_eq!(rt; parts, (0xab3, Rcode::NXDOMAIN, 0xab));
 }
 
 #[test]
 fn has_the_numbers_of_codes(rt: HostRuntime) {
     assert!(rt; Opcode::QUERY < Opcode::NOTIFY);
-    assert_eq!(rt; Opcode::from_int(200).to_int(), 200);
-    assert_eq!(rt; (Opcode::QUERY.to_int(), Opcode::NOTIFY.to_int()), (0, 4));
-    assert_eq!(rt; (Rcode::NOERROR.to_int(), Rcode::SERVFAIL.to_int()), (0, 2));
-    assert_eq!(rt; OptionCode::from_int(65535).to_int(), 65535);
+    let numbers = (
+        [
+            Opcode::QUERY.to_int(),
+            Opcode::NOTIFY.to_int(),
+            Opcode::from_int(200).to_int(),
+        ],
+        [Rcode::NOERROR.to_int(), Rcode::SERVFAIL.to_int()],
+        OptionCode::from_int(65535).to_int(),
+    );
+    assert_eq!(rt; numbers, ([0, 4, 200], [0, 2], 65535));
 }

@@ -1,5 +1,6 @@
 //! Headers, flags and counts of messages.
 use crate::tests::codes::prints;
+use crate::tests::octets::assert_octets;
 use dns_code::{
     CountOverflow, Flags, FlagsFromStrError, Header, HeaderCounts, HeaderSection, Opcode, Rcode,
 };
@@ -33,9 +34,9 @@ fn takes_a_slice_of_a_message(rt: HostRuntime) {
     let section = HeaderSection::for_message_slice(&SECTION);
     let header = Header::for_message_slice(&SECTION);
     let counts = HeaderCounts::for_message_slice(&SECTION);
-    assert_eq!(rt; header.as_slice(), b"\x01\x02\x00\x00".as_slice());
-    assert_eq!(rt; counts.as_slice(), &SECTION[4..]);
-    assert_eq!(rt; section.as_slice(), SECTION.as_slice());
+    assert_octets(&rt, header.as_slice(), b"\x01\x02\x00\x00", "header");
+    assert_octets(&rt, counts.as_slice(), &SECTION[4..], "counts");
+    assert_octets(&rt, section.as_slice(), &SECTION, "section");
     assert!(rt; section.header() == header && section.counts() == counts);
 }
 
@@ -61,7 +62,7 @@ fn keeps_each_field_apart(rt: HostRuntime) {
     };
     header.set_flags(flags);
     assert!(rt; is_header(header, 0x1234, Opcode::NOTIFY, Rcode::REFUSED, flags));
-    assert_eq!(rt; header.as_slice(), b"\x12\x34\xA0\x05".as_slice());
+    assert_octets(&rt, header.as_slice(), b"\x12\x34\xA0\x05", "each field");
 }
 
 /// Sets or clears each flag, and the reserved bit.
@@ -98,8 +99,7 @@ fn sets_each_flag(rt: HostRuntime) {
         (false, b"\x00\x00\x00\x00"),
     ] {
         set_all(&mut header, set);
-        assert_eq!(rt; header.as_slice(), octets);
-        assert_eq!(rt; all_of(header), [set; 8]);
+        assert_eq!(rt; (header.as_slice(), all_of(header)), (octets, [set; 8]));
     }
 }
 
@@ -115,13 +115,18 @@ fn clears_every_other_flag(rt: HostRuntime) {
     header.set_tc(false);
     header.set_ra(false);
     header.set_ad(false);
-    assert_eq!(rt; header.as_slice(), b"\x00\x00\x05\x50".as_slice());
+    assert_octets(&rt, header.as_slice(), b"\x00\x00\x05\x50", "AA, RD, Z, CD");
     let mut header = with_all_flags();
     header.set_aa(false);
     header.set_rd(false);
     header.set_z(false);
     header.set_cd(false);
-    assert_eq!(rt; header.as_slice(), b"\x00\x00\x82\xA0".as_slice());
+    assert_octets(
+        &rt,
+        header.as_slice(),
+        b"\x00\x00\x82\xA0",
+        "QR, TC, RA, AD",
+    );
 }
 
 #[test]
@@ -202,14 +207,13 @@ fn has_counts_by_two_names(rt: HostRuntime) {
         counts.nscount(),
         counts.arcount(),
     ];
-    assert_eq!(rt; read, [0x0102, 0x0304, 0x0506, 0x0708]);
     let update = [
         counts.zocount(),
         counts.prcount(),
         counts.upcount(),
         counts.adcount(),
     ];
-    assert_eq!(rt; update, read);
+    assert_eq!(rt; [read, update], [[0x0102, 0x0304, 0x0506, 0x0708]; 2]);
 }
 
 /// Raises each count, and says which of them were refused.
@@ -226,10 +230,8 @@ fn raise(counts: &mut HeaderCounts) -> [bool; 4] {
 fn counts_up(rt: HostRuntime) {
     let mut counts = some_counts();
     assert_eq!(rt; raise(&mut counts), [false; 4]);
-    assert_eq!(rt;
-        counts.as_slice(),
-        b"\x01\x03\x03\x05\x05\x07\x07\x09".as_slice()
-    );
+    let expected = b"\x01\x03\x03\x05\x05\x07\x07\x09";
+    assert_octets(&rt, counts.as_slice(), expected, "raised counts");
 }
 
 /// Messages in which one count is 65,534 and the others are 65,535.
@@ -246,9 +248,9 @@ fn raises_each_count_to_65535(rt: HostRuntime) {
         let mut counts = HeaderCounts::for_message_slice(NEARLY_FULL[place]);
         let mut refused = [true; 4];
         refused[place] = false;
-        assert_eq!(rt; raise(&mut counts), refused);
-        assert_eq!(rt; raise(&mut counts), [true; 4]);
-        assert_eq!(rt; counts.as_slice(), [0xff; 8].as_slice());
+        let answers = [raise(&mut counts), raise(&mut counts)];
+        assert_eq!(rt; answers, [refused, [true; 4]], "at {place}");
+        assert_octets(&rt, counts.as_slice(), &[0xff; 8], "full counts");
     }
 }
 
@@ -272,10 +274,8 @@ fn lower(counts: &mut HeaderCounts) {
 fn counts_down(rt: HostRuntime) {
     let mut counts = some_counts();
     lower(&mut counts);
-    assert_eq!(rt;
-        counts.as_slice(),
-        b"\x01\x01\x03\x03\x05\x05\x07\x07".as_slice()
-    );
+    let expected = b"\x01\x01\x03\x03\x05\x05\x07\x07";
+    assert_octets(&rt, counts.as_slice(), expected, "lowered counts");
 }
 
 #[test]
@@ -285,30 +285,28 @@ fn sets_counts_by_two_names(rt: HostRuntime) {
     counts.set_ancount(0x0605);
     counts.set_nscount(0x0403);
     counts.set_arcount(0x0201);
-    assert_eq!(rt;
-        counts.as_slice(),
-        b"\x08\x07\x06\x05\x04\x03\x02\x01".as_slice()
-    );
+    let expected = b"\x08\x07\x06\x05\x04\x03\x02\x01";
+    assert_octets(&rt, counts.as_slice(), expected, "counts of a query");
     let mut update = HeaderCounts::new();
     update.set_zocount(0x0807);
     update.set_prcount(0x0605);
     update.set_upcount(0x0403);
     update.set_adcount(0x0201);
-    assert_eq!(rt; update, counts);
+    assert_octets(&rt, update.as_slice(), expected, "counts of an update");
     update.set(HeaderCounts::new());
-    assert_eq!(rt; update, HeaderCounts::new());
+    assert_octets(&rt, update.as_slice(), &[0; 8], "no counts");
 }
 
 #[test]
 fn parses_a_section(rt: HostRuntime) {
     let mut parser = Parser::new(&SECTION);
-    let section = HeaderSection::parse(&mut parser);
-    assert_eq!(rt; section, Ok(HeaderSection::for_message_slice(&SECTION)));
+    let parsed = HeaderSection::parse(&mut parser);
+    let missing = HeaderSection::parse(&mut parser);
+    let section = HeaderSection::for_message_slice(&SECTION);
     assert_eq!(rt;
-        HeaderSection::parse(&mut parser),
-        Err(ParseError::ShortInput)
+        (parsed, missing, parser.pos()),
+        (Ok(section), Err(ParseError::ShortInput), 12)
     );
-    assert_eq!(rt; parser.pos(), 12);
 }
 
 #[test]
@@ -323,7 +321,7 @@ fn replaces_the_parts_of_a_section(rt: HostRuntime) {
 fn composes_a_section(rt: HostRuntime) -> Result<(), Fail> {
     let mut target = Vec::new(rt.alloc());
     HeaderSection::for_message_slice(&SECTION).compose(&mut target)?;
-    assert_eq!(rt; target.as_slice(), SECTION.as_slice());
+    assert_octets(&rt, target.as_slice(), &SECTION, "composed section");
     Ok(())
 }
 

@@ -1,5 +1,8 @@
 //! Names in octets: parsed, skipped, gone over from both ends, and held in octets of their own.
-use dns_wire::{Composer, FormError, Name, ParseError, ParsedName, Parser, ToName, ToNameExt};
+use crate::tests::octets::assert_octets;
+use dns_wire::{
+    Composer, FormError, Label, Name, ParseError, ParsedName, Parser, ToName, ToNameExt,
+};
 use std::process::Abort;
 use std::test::Fail;
 
@@ -109,10 +112,13 @@ fn assert_parsed(
     end: usize,
 ) -> Result<(), Fail> {
     let name = ParsedName::parse(parser)?;
-    assert!(rt; name.octets_eq(&Name::from_octets(octets)?));
-    assert_eq!(rt; name.compose_len(), octets.len());
-    assert_eq!(rt; name.is_root(), octets.len() == 1);
-    assert_eq!(rt; parser.pos(), end);
+    let answers = (
+        name.octets_eq(&Name::from_octets(octets)?),
+        name.compose_len(),
+        name.is_root(),
+        parser.pos(),
+    );
+    assert_eq!(rt; answers, (true, octets.len(), octets.len() == 1, end));
     Ok(())
 }
 
@@ -130,8 +136,8 @@ fn parses(rt: HostRuntime) -> Result<(), Fail> {
         match case.parsed {
             Ok((octets, end)) => assert_parsed(&rt, &mut parser, octets, end)?,
             Err(fault) => {
-                assert_eq!(rt; ParsedName::parse(&mut parser).err(), Some(fault));
-                assert_eq!(rt; parser.pos(), case.place);
+                let refused = ParsedName::parse(&mut parser).err();
+                assert_eq!(rt; (refused, parser.pos()), (Some(fault), case.place));
             }
         }
     }
@@ -142,11 +148,22 @@ fn parses(rt: HostRuntime) -> Result<(), Fail> {
 fn skips(rt: HostRuntime) -> Result<(), Fail> {
     for case in CASES {
         let mut parser = parser_at(&case)?;
+        let expected = match case.skipped {
+            Ok(end) => (Ok(()), end),
+            Err(fault) => (Err(fault), case.place),
+        };
         let skipped = ParsedName::skip(&mut parser);
-        assert_eq!(rt; skipped.map(|()| parser.pos()), case.skipped);
-        assert_eq!(rt; parser.pos(), case.skipped.unwrap_or(case.place));
+        assert_eq!(rt; (skipped, parser.pos()), expected);
     }
     Ok(())
+}
+
+/// Fails unless parsing and skipping a name answer this fault, and the parser stays at this place.
+fn assert_refused(rt: &impl Abort, parser: &mut Parser<'_>, fault: ParseError, place: usize) {
+    let parsed = ParsedName::parse(parser).err();
+    let skipped = ParsedName::skip(parser);
+    let answers = (parsed, skipped, parser.pos());
+    assert_eq!(rt; answers, (Some(fault), Err(fault), place));
 }
 
 /// A CNAME record whose data of one octet, at 23, is the first of a pointer.
@@ -158,12 +175,7 @@ fn sees_no_further_than_the_data(rt: HostRuntime) -> Result<(), Fail> {
     let mut parser = Parser::new(HALF_A_POINTER);
     parser.advance(23)?;
     let mut inner = parser.parse_parser(1)?;
-    assert_eq!(rt;
-        ParsedName::parse(&mut inner).err(),
-        Some(ParseError::ShortInput)
-    );
-    assert_eq!(rt; ParsedName::skip(&mut inner), Err(ParseError::ShortInput));
-    assert_eq!(rt; inner.pos(), 23);
+    assert_refused(&rt, &mut inner, ParseError::ShortInput, 23);
     Ok(())
 }
 
@@ -192,12 +204,7 @@ fn longer_name() -> [u8; 256] {
 #[test]
 fn has_at_most_255_octets(rt: HostRuntime) -> Result<(), Fail> {
     let longest = longest_name();
-    let mut parser = Parser::new(&longest);
-    let name = ParsedName::parse(&mut parser)?;
-    assert_eq!(rt; name.compose_len(), 255);
-    assert_eq!(rt; parser.pos(), 255);
-    assert!(rt; Name::from_octets(longest.as_slice())?.octets_eq(&name));
-    Ok(())
+    assert_parsed(&rt, &mut Parser::new(&longest), &longest, 255)
 }
 
 #[test]
@@ -206,10 +213,7 @@ fn refuses_256_octets(rt: HostRuntime) {
     assert_eq!(rt; Name::from_octets(octets.as_slice()).err(), Some(LONG_NAME));
     // the size is tested before the octets are asked for
     for len in [256, 200] {
-        let mut parser = Parser::new(&octets[..len]);
-        assert_eq!(rt; ParsedName::parse(&mut parser).err(), Some(LONG_NAME));
-        assert_eq!(rt; ParsedName::skip(&mut parser), Err(LONG_NAME));
-        assert_eq!(rt; parser.pos(), 0);
+        assert_refused(&rt, &mut Parser::new(&octets[..len]), LONG_NAME, 0);
     }
 }
 
@@ -220,6 +224,15 @@ fn example() -> Result<ParsedName<'static>, Fail> {
     Ok(ParsedName::parse(&mut parser)?)
 }
 
+/// Fails unless there is a label, of these octets.
+fn assert_label(rt: &impl Abort, label: Option<Label<'_>>, octets: &[u8]) {
+    let Some(label) = label else {
+        panic!(rt; "no label for {octets:?}")
+    };
+    let answers = (label.as_slice(), label.len(), label.is_root());
+    assert_eq!(rt; answers, (octets, octets.len(), octets.is_empty()));
+}
+
 const LABELS: [&[u8]; 4] = [b"a", b"example", b"com", b""];
 
 #[test]
@@ -227,7 +240,7 @@ fn goes_over_labels(rt: HostRuntime) -> Result<(), Fail> {
     let name = example()?;
     let mut labels = name.iter_labels();
     for text in LABELS {
-        assert_eq!(rt; labels.next().map(|label| label.as_slice()), Some(text));
+        assert_label(&rt, labels.next(), text);
     }
     assert!(rt; labels.next().is_none() && labels.next_back().is_none());
     Ok(())
@@ -237,10 +250,11 @@ fn goes_over_labels(rt: HostRuntime) -> Result<(), Fail> {
 fn goes_over_labels_from_both_ends(rt: HostRuntime) -> Result<(), Fail> {
     let name = example()?;
     let mut labels = name.iter_labels();
-    assert_eq!(rt; labels.next().map(|label| label.len()), Some(1));
-    assert_eq!(rt; labels.next_back().map(|label| label.is_root()), Some(true));
-    assert_eq!(rt; labels.next_back().map(|label| label.len()), Some(3));
-    assert_eq!(rt; labels.map(|label| label.len()).max(), Some(7));
+    assert_label(&rt, labels.next(), b"a");
+    assert_label(&rt, labels.next_back(), b"");
+    assert_label(&rt, labels.next_back(), b"com");
+    assert_label(&rt, labels.next(), b"example");
+    assert!(rt; labels.next().is_none() && labels.next_back().is_none());
     Ok(())
 }
 
@@ -265,15 +279,15 @@ fn takes_whole_octets_alone(rt: HostRuntime) {
 #[test]
 fn holds_its_octets(rt: HostRuntime) -> Result<(), Fail> {
     let octets = b"\x02Ab\x00".as_slice();
-    assert_eq!(rt; Name::from_octets(octets)?.as_slice(), octets);
-    assert_eq!(rt; Name::root_slice().as_slice(), b"\x00".as_slice());
+    let name = Name::from_octets(octets)?;
+    assert_octets(&rt, name.as_slice(), octets, "a name");
+    assert_octets(&rt, Name::root_slice().as_slice(), b"\x00", "the root");
     Ok(())
 }
 
 fn assert_is_ab<N: ToName>(rt: &impl Abort, name: &N) {
     let parsed = name.as_parsed();
-    let first = parsed.iter_labels().next();
-    assert_eq!(rt; first.map(|label| label.as_slice()), Some(b"Ab".as_slice()));
+    assert_label(rt, parsed.iter_labels().next(), b"Ab");
     assert_eq!(rt; parsed.compose_len(), 4);
 }
 
@@ -291,10 +305,15 @@ fn stands_for_a_name(rt: HostRuntime) -> Result<(), Fail> {
 fn lends_octets_without_pointers(rt: HostRuntime) -> Result<(), Fail> {
     let mut parser = Parser::new(b"\x02Ab\x00\x01c\xC0\x00");
     let whole = ParsedName::parse(&mut parser)?;
-    assert_eq!(rt; whole.as_flat_slice(), Some(b"\x02Ab\x00".as_slice()));
-    assert!(rt; ParsedName::parse(&mut parser)?.as_flat_slice().is_none());
+    let pointed = ParsedName::parse(&mut parser)?;
     let name = Name::from_octets(*b"\x02Ab\x00")?;
-    assert_eq!(rt; name.as_flat_slice(), Some(b"\x02Ab\x00".as_slice()));
+    let lent = (
+        whole.as_flat_slice(),
+        pointed.as_flat_slice(),
+        name.as_flat_slice(),
+    );
+    let octets = Some(b"\x02Ab\x00".as_slice());
+    assert_eq!(rt; lent, (octets, None, octets));
     Ok(())
 }
 
@@ -321,7 +340,7 @@ fn another_type_stands_for_a_name(rt: HostRuntime) -> Result<(), Fail> {
     };
     let mut target = Vec::new(rt.alloc());
     target.append_compressed_name(&alias)?;
-    assert_eq!(rt; target.as_slice(), b"\x01A\x00".as_slice());
+    assert_octets(&rt, target.as_slice(), b"\x01A\x00", "appended name");
     assert!(rt; alias.name_eq(&Name::from_octets(*b"\x01a\x00")?));
     Ok(())
 }

@@ -20,6 +20,10 @@ fn example_com() -> Result<ParsedName<'static>, Fail> {
     Ok(ParsedName::parse(&mut parser)?)
 }
 
+pub(crate) fn assert_octets(rt: &impl Abort, octets: &[u8], expected: &[u8], what: &str) {
+    assert_eq!(rt; octets, expected, "of {what}");
+}
+
 fn assert_abc<T: Octets>(rt: &impl Abort, holder: &T) {
     assert_eq!(rt; holder.octets(), b"abc".as_slice());
 }
@@ -64,27 +68,31 @@ fn converts_octets(rt: HostRuntime) -> Result<(), Fail> {
     let alloc = rt.alloc();
     let vec = Vec::from_slice(alloc, b"abc")?;
     let full = ArrayVec::<u8, 3>::from(*b"abc");
-    assert_eq!(rt; gives_abc::<&[u8], _>(alloc, &vec), Ok(true));
-    assert_eq!(rt; gives_abc::<Vec<u8>, _>(alloc, &vec), Ok(true));
-    assert_eq!(rt; gives_abc::<Vec<u8>, _>(alloc, vec), Ok(true));
     let answers = [
+        gives_abc::<&[u8], _>(alloc, &vec),
+        gives_abc::<Vec<u8>, _>(alloc, &vec),
+        gives_abc::<Vec<u8>, _>(alloc, vec),
         gives_abc::<Vec<u8>, _>(alloc, *b"abc"),
         gives_abc::<Vec<u8>, _>(alloc, b"abc".as_slice()),
         gives_abc::<&[u8], _>(alloc, b"abc".as_slice()),
         gives_abc::<ArrayVec<u8, 3>, _>(alloc, b"abc"),
         gives_abc::<Vec<u8>, _>(alloc, ArrayVec::<u8, 3>::from(*b"abc")),
     ];
-    assert_eq!(rt; answers, [Ok(true); 5]);
+    let short = gives_abc::<ArrayVec<u8, 2>, _>(alloc, full);
     assert_eq!(rt;
-        gives_abc::<ArrayVec<u8, 2>, _>(alloc, full),
-        Err(AppendError::ShortBuf)
+        (answers, short),
+        ([Ok(true); 8], Err(AppendError::ShortBuf))
     );
     Ok(())
 }
 
-/// Whether the source is converted into a name of `example.com`.
-fn gives_name<T: OctetsFrom<S> + ToName + Drop, S>(alloc: Global, source: S) -> Result<bool, Fail> {
-    Ok(T::try_octets_from(alloc, source)?.octets_eq(&example_com()?))
+/// Whether the source is converted into a name of the same octets.
+fn gives_name<T: OctetsFrom<S> + ToName + Drop, S>(
+    alloc: Global,
+    source: S,
+    name: &ParsedName<'_>,
+) -> Result<bool, AppendError> {
+    Ok(T::try_octets_from(alloc, source)?.octets_eq(name))
 }
 
 /// The name in octets that it holds.
@@ -100,17 +108,20 @@ fn in_memory(alloc: Global) -> Result<Name<Vec<u8>>, Fail> {
 #[test]
 fn converts_names(rt: HostRuntime) -> Result<(), Fail> {
     let alloc = rt.alloc();
+    let name = example_com()?;
     let slice = Name::from_octets(PLAIN.as_slice())?;
+    let held = held()?;
+    let in_memory = in_memory(alloc)?;
     let answers = [
-        gives_name::<Name<Vec<u8>>, _>(alloc, slice)?,
-        gives_name::<Name<ArrayVec<u8, 13>>, _>(alloc, slice)?,
-        gives_name::<Name<&[u8]>, _>(alloc, slice)?,
-        gives_name::<Name<Vec<u8>>, _>(alloc, &held()?)?,
-        gives_name::<Name<Vec<u8>>, _>(alloc, held()?)?,
-        gives_name::<Name<&[u8]>, _>(alloc, &in_memory(alloc)?)?,
-        gives_name::<Name<ArrayVec<u8, 13>>, _>(alloc, &held()?)?,
+        gives_name::<Name<Vec<u8>>, _>(alloc, slice, &name),
+        gives_name::<Name<ArrayVec<u8, 13>>, _>(alloc, slice, &name),
+        gives_name::<Name<&[u8]>, _>(alloc, slice, &name),
+        gives_name::<Name<Vec<u8>>, _>(alloc, &held, &name),
+        gives_name::<Name<ArrayVec<u8, 13>>, _>(alloc, &held, &name),
+        gives_name::<Name<Vec<u8>>, _>(alloc, held, &name),
+        gives_name::<Name<&[u8]>, _>(alloc, &in_memory, &name),
     ];
-    assert_eq!(rt; answers, [true; 7]);
+    assert_eq!(rt; answers, [Ok(true); 7]);
     Ok(())
 }
 

@@ -24,10 +24,13 @@ fn orders_names_from_the_root(rt: HostRuntime) -> Result<(), Fail> {
     let mut before = ParsedName::parse(&mut parser)?;
     for _ in 0..8 {
         let name = ParsedName::parse(&mut parser)?;
-        assert_eq!(rt; before.name_cmp(&name), Ordering::Less);
-        assert_eq!(rt; name.name_cmp(&before), Ordering::Greater);
-        assert_eq!(rt; compare(&before, &name), Ordering::Less);
-        assert!(rt; before < name);
+        let orders = [
+            before.name_cmp(&name),
+            compare(&before, &name),
+            name.name_cmp(&before),
+        ];
+        let expected = [Ordering::Less, Ordering::Less, Ordering::Greater];
+        assert_eq!(rt; (orders, before < name), (expected, true));
         before = name;
     }
     assert_eq!(rt; parser.remaining(), 0);
@@ -44,14 +47,16 @@ fn name_at(place: usize) -> Result<ParsedName<'static>, Fail> {
 #[test]
 fn ignores_letter_case_but_for_octets_eq(rt: HostRuntime) -> Result<(), Fail> {
     let name = name_at(0)?;
-    let pointer = name_at(8)?;
-    let upper = name_at(10)?;
-    let short = name_at(18)?;
-    assert!(rt; name.octets_eq(&pointer) && name.name_eq(&pointer));
-    assert!(rt; !name.octets_eq(&upper) && name.name_eq(&upper));
-    assert!(rt; !name.octets_eq(&short) && !name.name_eq(&short));
-    assert!(rt; name == upper && name != short);
-    assert_eq!(rt; hash_of(&name), hash_of(&upper));
+    for (place, octets, letters) in [(8, true, true), (10, false, true), (18, false, false)] {
+        let other = name_at(place)?;
+        let equal = (
+            name.octets_eq(&other),
+            name.name_eq(&other),
+            name == other,
+            hash_of(&name) == hash_of(&other),
+        );
+        assert_eq!(rt; equal, (octets, letters, letters, letters), "at {place}");
+    }
     Ok(())
 }
 
@@ -59,12 +64,12 @@ fn ignores_letter_case_but_for_octets_eq(rt: HostRuntime) -> Result<(), Fail> {
 fn orders_names_in_two_ways(rt: HostRuntime) -> Result<(), Fail> {
     let name = name_at(0)?;
     let upper = name_at(10)?;
-    assert_eq!(rt; compare(&name, &upper), Ordering::Equal);
-    assert_eq!(rt; name.lowercase_composed_cmp(&upper), Ordering::Equal);
-    // www after x by the length of the first label, before it by its letters
+    let same = [compare(&name, &upper), name.lowercase_composed_cmp(&upper)];
+    // www before x by its letters, after it by the length of the first label
     let short = name_at(18)?;
-    assert_eq!(rt; name.lowercase_composed_cmp(&short), Ordering::Greater);
-    assert_eq!(rt; name.name_cmp(&short), Ordering::Less);
+    let other = [name.name_cmp(&short), name.lowercase_composed_cmp(&short)];
+    let expected = [Ordering::Less, Ordering::Greater];
+    assert_eq!(rt; [same, other], [[Ordering::Equal; 2], expected]);
     Ok(())
 }
 
@@ -73,12 +78,11 @@ fn compares_across_holders(rt: HostRuntime) -> Result<(), Fail> {
     let name = Name::from_octets(*b"\x01A\x00")?;
     let same = Name::from_octets(*b"\x01a\x00")?;
     let other = Name::from_octets(b"\x01b\x00".as_slice())?;
-    assert!(rt; name == same && name <= same);
-    assert_eq!(rt; hash_of(&name), hash_of(&same));
-    assert_eq!(rt; hash_of(&name), hash_of(&name.as_parsed()));
-    assert!(rt; !name.name_eq(&other));
-    assert_eq!(rt; name.name_cmp(&other), Ordering::Less);
-    assert_eq!(rt; name.partial_cmp(&same), Some(Ordering::Equal));
+    assert!(rt; name == same && name <= same && !name.name_eq(&other));
+    let hashes = [hash_of(&same), hash_of(&name.as_parsed())];
+    assert_eq!(rt; hashes, [hash_of(&name); 2]);
+    let orders = (name.name_cmp(&other), name.partial_cmp(&same));
+    assert_eq!(rt; orders, (Ordering::Less, Some(Ordering::Equal)));
     Ok(())
 }
 
@@ -92,9 +96,9 @@ fn first_label(octets: &[u8]) -> Result<Label<'_>, Fail> {
 fn compares_labels_lowercased(rt: HostRuntime) -> Result<(), Fail> {
     let label = first_label(b"\x02aB\x00")?;
     let same = first_label(b"\x02Ab\x00")?;
-    assert!(rt; label == same && hash_of(&label) == hash_of(&same));
-    assert_eq!(rt; compare(&label, &same), Ordering::Equal);
     // the bracket stands between the upper and the lower case
-    assert!(rt; first_label(b"\x02a[\x00")? < label);
+    let bracket = first_label(b"\x02a[\x00")?;
+    assert!(rt; label == same && hash_of(&label) == hash_of(&same));
+    assert!(rt; compare(&label, &same) == Ordering::Equal && bracket < label);
     Ok(())
 }

@@ -13,8 +13,13 @@ fn stays_within_32_bits(rt: HostRuntime) {
         second.saturating_sub(Ttl::MINUTE),
         Ttl::from_days(50).cap(),
     ];
-    let seconds = saturated.map(|ttl| ttl.as_secs());
-    assert_eq!(rt; seconds, [u32::MAX, u32::MAX, 0, 604_800]);
+    let expected = [
+        Ttl::from_secs(u32::MAX),
+        Ttl::from_secs(u32::MAX),
+        Ttl::from_secs(0),
+        Ttl::from_secs(604_800),
+    ];
+    assert_eq!(rt; saturated, expected);
     let checked = [
         second.checked_add(Ttl::MAX),
         second.checked_sub(Ttl::MINUTE),
@@ -24,11 +29,16 @@ fn stays_within_32_bits(rt: HostRuntime) {
         Ttl::checked_sum(&[Ttl::MAX, Ttl::SECOND]),
         Ttl::checked_sum(&[]),
     ];
-    let seconds = checked.map(|ttl| ttl.map(|ttl| ttl.as_secs()));
-    assert_eq!(rt;
-        seconds,
-        [None, None, Some(60), Some(30), None, None, Some(0)]
-    );
+    let expected = [
+        None,
+        None,
+        Some(Ttl::from_secs(60)),
+        Some(Ttl::from_secs(30)),
+        None,
+        None,
+        Some(Ttl::from_secs(0)),
+    ];
+    assert_eq!(rt; checked, expected);
 }
 
 #[test]
@@ -36,12 +46,13 @@ fn has_operators(rt: HostRuntime) {
     let mut ttl = Ttl::DAY - Ttl::HOUR;
     ttl += Ttl::MINUTE;
     ttl *= 2;
-    assert_eq!(rt; ttl.as_secs(), 165_720);
+    let before = ttl.as_secs();
     ttl = ttl / 2 + Ttl::MINUTE * 3;
     ttl -= Ttl::SECOND;
     ttl /= 7;
-    assert_eq!(rt; ttl.as_secs(), 11_862);
-    assert_eq!(rt; Ttl::sum(&[Ttl::MINUTE, Ttl::HOUR]), Ttl::from_mins(61));
+    let sum = Ttl::sum(&[Ttl::MINUTE, Ttl::HOUR]);
+    let answers = (before, ttl.as_secs(), sum);
+    assert_eq!(rt; answers, (165_720, 11_862, Ttl::from_mins(61)));
     assert!(rt; Ttl::default().is_zero() && !Ttl::SECOND.is_zero());
 }
 
@@ -50,10 +61,12 @@ fn tells_other_units(rt: HostRuntime) {
     let most = Ttl::MAX;
     let units = [most.as_days().into(), most.as_hours(), most.as_minutes()];
     assert_eq!(rt; units, [49_710, 1_193_046, 71_582_788]);
-    assert_eq!(rt; Ttl::from_days(49_710).as_secs(), 4_294_944_000);
-    assert_eq!(rt; Ttl::from_hours(2).as_minutes(), 120);
-    let lossy = Ttl::from_duration_lossy(Duration::from_secs(4_294_967_301));
-    assert_eq!(rt; lossy, Ttl::from_secs(5));
+    let answers = (
+        Ttl::from_days(49_710).as_secs(),
+        Ttl::from_hours(2).as_minutes(),
+        Ttl::from_duration_lossy(Duration::from_secs(4_294_967_301)),
+    );
+    assert_eq!(rt; answers, (4_294_944_000, 120, Ttl::from_secs(5)));
     let hour = Duration::from_secs(3_600);
     assert!(rt; Duration::from(Ttl::HOUR) == hour && Ttl::HOUR.into_duration() == hour);
 }
@@ -69,7 +82,7 @@ fn writes_four_octets(rt: HostRuntime) -> Result<(), Fail> {
 #[test]
 fn reads_four_octets(rt: HostRuntime) {
     let mut parser = Parser::new(b"\x00\x00\x0E\x10\x00");
-    assert_eq!(rt; Ttl::parse(&mut parser), Ok(Ttl::HOUR));
-    assert_eq!(rt; Ttl::parse(&mut parser), Err(ParseError::ShortInput));
-    assert_eq!(rt; parser.pos(), 4);
+    let read = (Ttl::parse(&mut parser), Ttl::parse(&mut parser));
+    let expected = (Ok(Ttl::HOUR), Err(ParseError::ShortInput));
+    assert_eq!(rt; (read, parser.pos()), (expected, 4));
 }
