@@ -22,7 +22,7 @@ typedef size_t writer(uint32_t target, const struct work *work, uint8_t *out, si
 uint64_t dns_bench_walk(const uint8_t *octets, size_t octets_len);
 writer dns_bench_response, dns_bench_zone;
 
-enum { BATCH = 64, VARIANTS = 13, OWNERS = 500 };
+enum { BATCH = 64, VARIANTS = 14, OWNERS = 500 };
 
 struct written {
     size_t calls[VARIANTS];
@@ -55,7 +55,7 @@ const char *peer_variant(int32_t variant)
     static const char *const variants[VARIANTS] = {
         "plain",        "static",        "tree",        "hash",        "index",
         "plain, fresh", "static, fresh", "tree, fresh", "hash, fresh", "index, fresh",
-        "static, lent", "index, lent",   "array, fresh",
+        "static, lent", "index, lent",   "array, fresh", "static, fresh, lent",
     };
     return variant < VARIANTS ? variants[variant] : NULL;
 }

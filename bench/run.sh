@@ -104,6 +104,7 @@ tree, fresh:w3:64:192
 hash, fresh:w3:64:192
 index, fresh:w3:64:192
 array, fresh:w3:64:192
+static, fresh, lent:w3:64:192
 plain:w4:64:128
 static:w4:64:128
 tree:w4:64:128
@@ -113,6 +114,7 @@ static, lent:w4:64:128
 index, lent:w4:64:128
 plain, fresh:w4:64:128
 static, fresh:w4:64:128
+static, fresh, lent:w4:64:128
 tree, fresh:w4:64:128
 hash, fresh:w4:64:128
 index, fresh:w4:64:128

@@ -198,7 +198,7 @@ pub(crate) fn write_with(
 }
 
 /// Writes each message with a new target, the same five in the same order; and behind them with a static and an index
-/// compressor that are lent, and with an array.
+/// compressor that are lent, and with new static ones over an array and over a vector, which are lent.
 fn write_otherwise(alloc: Global, kind: Kind, target: u32, work: &Work<'_>, out: &mut [u8]) -> usize
     ensures { HandsOut out.old out.new result }
 {
@@ -217,6 +217,7 @@ fn write_otherwise(alloc: Global, kind: Kind, target: u32, work: &Work<'_>, out:
         10 => write_lent(alloc, kind, fixed(), work, out),
         11 => write_lent(alloc, kind, index(), work, out),
         12 => write_fresh_lent(alloc, kind, array, work, out),
+        13 => write_fresh_lent(alloc, kind, fixed, work, out),
         _ => 0,
     }
 }
