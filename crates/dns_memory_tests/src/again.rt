@@ -36,9 +36,11 @@ pub(crate) fn assert_unchanged<R: Abort, T: Composer, S: BuilderStage>(
     builder: &Builder<T, S>,
     before: &Standing,
 ) {
-    assert_eq!(rt; builder.header(), before.header);
-    assert_eq!(rt; builder.counts(), before.counts);
-    assert_eq!(rt; builder.as_slice(), before.octets.as_slice());
+    let now = (builder.header(), builder.counts(), builder.as_slice());
+    assert_eq!(rt;
+        now,
+        (before.header, before.counts, before.octets.as_slice())
+    );
 }
 
 /// Pushes a question, a second time where the first is refused for memory.

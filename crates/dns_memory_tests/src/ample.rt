@@ -1,4 +1,5 @@
 //! Calls that take memory, each with enough of it.
+use crate::written::assert_octets;
 use dns_message::code::{Class, Rtype};
 use dns_message::data::{
     Cname, Opt, UnknownRecordData, compose_canonical_len_rdata, compose_len_rdata,
@@ -33,9 +34,9 @@ fn flatten<T, S: FlattenInto<T>>(alloc: Global, source: S) -> Result<T, AppendEr
 fn converts(rt: HostRuntime) -> Result<(), Fail> {
     let alloc = rt.alloc();
     let cname: Cname<VecName> = convert(alloc, Cname::new(Name::from_octets(NAME)?))?;
-    assert_eq!(rt; cname.cname().as_slice(), NAME);
+    assert_octets(&rt, cname.cname().as_slice(), NAME, "alias");
     let opt: Opt<Vec<u8>> = convert(alloc, Opt::from_octets(*OPTION)?)?;
-    assert_eq!(rt; opt.data().as_slice(), OPTION.as_slice());
+    assert_octets(&rt, opt.data().as_slice(), OPTION, "OPT data");
     Ok(())
 }
 
@@ -44,9 +45,9 @@ fn flattens_names(rt: HostRuntime) -> Result<(), Fail> {
     let alloc = rt.alloc();
     let name = ParsedName::parse(&mut Parser::new(QUESTION))?;
     let question: Question<VecName> = flatten(alloc, Question::new_in(name, Rtype::CNAME))?;
-    assert_eq!(rt; question.qname().as_slice(), NAME);
+    assert_octets(&rt, question.qname().as_slice(), NAME, "name of a question");
     let cname: Cname<VecName> = flatten(alloc, Cname::new(name))?;
-    assert_eq!(rt; cname.cname().as_slice(), NAME);
+    assert_octets(&rt, cname.cname().as_slice(), NAME, "alias");
     Ok(())
 }
 
@@ -55,9 +56,14 @@ fn flattens_octets(rt: HostRuntime) -> Result<(), Fail> {
     let alloc = rt.alloc();
     let opaque = UnknownRecordData::from_octets(Rtype::TXT, *b"\x01a")?;
     let opaque: UnknownRecordData<Vec<u8>> = flatten(alloc, opaque)?;
-    assert_eq!(rt; opaque.clone()?.data().as_slice(), b"\x01a".as_slice());
+    assert_octets(
+        &rt,
+        opaque.clone()?.data().as_slice(),
+        b"\x01a",
+        "opaque data",
+    );
     let opt: Opt<Vec<u8>> = flatten(alloc, Opt::from_octets(*OPTION)?)?;
-    assert_eq!(rt; opt.data().as_slice(), OPTION.as_slice());
+    assert_octets(&rt, opt.data().as_slice(), OPTION, "OPT data");
     Ok(())
 }
 
@@ -66,12 +72,15 @@ fn composes_items(rt: HostRuntime) -> Result<(), Fail> {
     let name = Name::from_octets(NAME)?;
     let mut target = Vec::new(rt.alloc());
     Question::new_in(name, Rtype::CNAME).compose(&mut target)?;
-    assert_eq!(rt; target.as_slice(), QUESTION.as_slice());
+    assert_octets(&rt, target.as_slice(), QUESTION, "question");
     let root = Cname::new(Name::root_slice());
     Record::new(Name::root_slice(), Class::IN, Ttl::MINUTE, root).compose(&mut target)?;
-    assert_eq!(rt;
-        target.get(17..),
-        Some(b"\x00\x00\x05\x00\x01\x00\x00\x00\x3C\x00\x01\x00".as_slice())
+    let record = target.get(17..).ok_or("no record")?;
+    assert_octets(
+        &rt,
+        record,
+        b"\x00\x00\x05\x00\x01\x00\x00\x00\x3C\x00\x01\x00",
+        "record",
     );
     Ok(())
 }
@@ -81,15 +90,19 @@ fn composes_data_behind_its_length(rt: HostRuntime) -> Result<(), Fail> {
     let data = Cname::new(Name::from_octets(NAME)?);
     let mut target = Vec::new(rt.alloc());
     compose_len_rdata(&data, &mut target)?;
-    assert_eq!(rt;
+    assert_octets(
+        &rt,
         target.as_slice(),
-        b"\x00\x0D\x07Example\x03com\x00".as_slice()
+        b"\x00\x0D\x07Example\x03com\x00",
+        "data",
     );
     let mut target = Vec::new(rt.alloc());
     compose_canonical_len_rdata(&data, &mut target)?;
-    assert_eq!(rt;
+    assert_octets(
+        &rt,
         target.as_slice(),
-        b"\x00\x0D\x07example\x03com\x00".as_slice()
+        b"\x00\x0D\x07example\x03com\x00",
+        "canonical data",
     );
     Ok(())
 }
@@ -97,6 +110,11 @@ fn composes_data_behind_its_length(rt: HostRuntime) -> Result<(), Fail> {
 #[test]
 fn clones_a_stream(rt: HostRuntime) -> Result<(), Fail> {
     let stream = StreamTarget::new_vec(rt.alloc())?;
-    assert_eq!(rt; stream.clone()?.as_stream_slice(), b"\x00\x00".as_slice());
+    assert_octets(
+        &rt,
+        stream.clone()?.as_stream_slice(),
+        b"\x00\x00",
+        "stream",
+    );
     Ok(())
 }

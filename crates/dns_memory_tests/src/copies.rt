@@ -1,5 +1,6 @@
 //! Records copied, into another builder where the first is refused for memory.
 use crate::fresh::{Fresh, started};
+use crate::written::assert_octets;
 use dns_message::builder::{AdditionalBuilder, CopyRecordsError, PushError, copy_records};
 use dns_message::data::UnknownRecordData;
 use dns_message::message::Message;
@@ -40,11 +41,11 @@ pub(crate) fn assert_copies<R: Abort + Print, T: Fresh>(
     let copied: AdditionalBuilder<T> = match copy(rt, alloc, &source)? {
         Err(CopyRecordsError::Push(PushError::OutOfMemory)) => {
             println!(rt; "refused copy")?;
-            assert_eq!(rt; source.as_slice(), SOURCE.as_slice());
+            assert_octets(rt, source.as_slice(), SOURCE, "source");
             copy(rt, alloc, &source)??
         }
         answer => answer?,
     };
-    assert_eq!(rt; copied.as_slice(), expected);
+    assert_octets(rt, copied.as_slice(), expected, "copy");
     Ok(())
 }

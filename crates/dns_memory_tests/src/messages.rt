@@ -1,6 +1,7 @@
 //! A positive response, a negative one, and a name in data.
 use crate::again::{push_question, push_record};
 use crate::fresh::{Fresh, started};
+use crate::written::assert_octets;
 use dns_message::builder::{AnswerBuilder, QuestionBuilder};
 use dns_message::code::{Rcode, Rtype};
 use dns_message::data::{A, Ns, Soa};
@@ -45,11 +46,10 @@ fn asked<R: Abort + Print, T: Fresh>(
     rt: &R,
     alloc: Global,
     header: Header,
-    qname: &[u8],
-    qtype: Rtype,
+    question: &(Name<&[u8]>, Rtype),
 ) -> Result<AnswerBuilder<T>, Fail> {
     let mut builder = headed(rt, alloc, header)?;
-    push_question(rt, &mut builder, &(Name::from_octets(qname)?, qtype))?;
+    push_question(rt, &mut builder, question)?;
     Ok(builder.answer())
 }
 
@@ -59,15 +59,12 @@ pub(crate) fn assert_positive<R: Abort + Print, T: Fresh>(
     alloc: Global,
     expected: &[u8],
 ) -> Result<(), Fail> {
+    let name = Name::from_octets(EXAMPLE_COM)?;
     let header = response_header(Rcode::NOERROR, true);
-    let mut builder: AnswerBuilder<T> = asked(rt, alloc, header, EXAMPLE_COM, Rtype::A)?;
+    let mut builder: AnswerBuilder<T> = asked(rt, alloc, header, &(name, Rtype::A))?;
     let address = A::from_octets(203, 0, 113, 1);
-    push_record(
-        rt,
-        &mut builder,
-        &(Name::from_octets(EXAMPLE_COM)?, 3600, address),
-    )?;
-    assert_eq!(rt; builder.as_slice(), expected);
+    push_record(rt, &mut builder, &(name, 3600, address))?;
+    assert_octets(rt, builder.as_slice(), expected, "positive response");
     Ok(())
 }
 
@@ -83,11 +80,18 @@ pub(crate) fn assert_negative<R: Abort + Print, T: Fresh>(
     rt: &R,
     alloc: Global,
 ) -> Result<(), Fail> {
+    let question = (Name::from_octets(b"\x07example\x00".as_slice())?, Rtype::NS);
+    let record = (Name::root_slice(), 86_390, soa()?);
     let header = response_header(Rcode::NXDOMAIN, false);
-    let answers: AnswerBuilder<T> = asked(rt, alloc, header, b"\x07example\x00", Rtype::NS)?;
+    let answers: AnswerBuilder<T> = asked(rt, alloc, header, &question)?;
     let mut builder = answers.authority();
-    push_record(rt, &mut builder, &(Name::root_slice(), 86_390, soa()?))?;
-    assert_eq!(rt; builder.as_slice(), NEGATIVE_RESPONSE);
+    push_record(rt, &mut builder, &record)?;
+    assert_octets(
+        rt,
+        builder.as_slice(),
+        NEGATIVE_RESPONSE,
+        "negative response",
+    );
     Ok(())
 }
 
@@ -97,13 +101,10 @@ pub(crate) fn assert_name_in_data<R: Abort + Print, T: Fresh>(
     alloc: Global,
     expected: &[u8],
 ) -> Result<(), Fail> {
-    let mut builder: AnswerBuilder<T> = asked(rt, alloc, Header::new(), EXAMPLE_COM, Rtype::NS)?;
+    let name = Name::from_octets(EXAMPLE_COM)?;
     let server = Ns::new(Name::from_octets(b"\x02ns\x07example\x03com\x00".as_slice())?);
-    push_record(
-        rt,
-        &mut builder,
-        &(Name::from_octets(EXAMPLE_COM)?, 60, server),
-    )?;
-    assert_eq!(rt; builder.as_slice(), expected);
+    let mut builder: AnswerBuilder<T> = asked(rt, alloc, Header::new(), &(name, Rtype::NS))?;
+    push_record(rt, &mut builder, &(name, 60, server))?;
+    assert_octets(rt, builder.as_slice(), expected, "name in data");
     Ok(())
 }

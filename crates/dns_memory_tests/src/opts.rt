@@ -1,6 +1,7 @@
 //! OPT records whose closure pushes an option, and whose closure errs.
 use crate::again::{assert_unchanged, standing_of};
 use crate::fresh::{Fresh, started};
+use crate::written::assert_octets;
 use dns_message::builder::{AdditionalBuilder, PushError};
 use dns_message::code::{OptRcode, OptionCode, Rcode};
 use dns_message::target::Composer;
@@ -35,7 +36,7 @@ pub(crate) fn assert_option<R: Abort + Print, T: Fresh>(rt: &R, alloc: Global) -
         }
         answer => answer?,
     }
-    assert_eq!(rt; builder.as_slice(), ONE_OPTION);
+    assert_octets(rt, builder.as_slice(), ONE_OPTION, "option");
     Ok(())
 }
 
@@ -49,6 +50,6 @@ pub(crate) fn assert_error<R: Abort + Print, T: Fresh>(rt: &R, alloc: Global) ->
     });
     assert!(rt; matches!(answer, Err(PushError::ShortBuf)));
     assert_unchanged(rt, &builder, &before);
-    assert_eq!(rt; builder.as_slice(), [0; 12].as_slice());
+    assert_octets(rt, builder.as_slice(), &[0; 12], "closure that errs");
     Ok(())
 }

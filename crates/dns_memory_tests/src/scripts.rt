@@ -1,6 +1,7 @@
 //! A list of calls that has each move, made call by call, each again where memory was refused.
 use crate::again::Array;
 use crate::fresh::{Fresh, started};
+use crate::written::assert_octets;
 use dns_message::builder::PushError;
 use dns_message::code::Rtype;
 use dns_message::data::{A, Ns, UnknownRecordData};
@@ -51,7 +52,7 @@ fn make<R: Abort + Print, T: Composer, Q: ComposeQuestion, D: ComposeRecord>(
         Some(Reply::Refused(PushError::OutOfMemory)) => println!(rt; "refused call")?,
         _ => panic!(rt; "refused for another cause"),
     }
-    assert_eq!(rt; stage.as_slice(), before.as_slice());
+    assert_octets(rt, stage.as_slice(), &before, "refused call");
     let (stage, reply) = replied(rt, alloc, stage, call);
     assert!(rt; matches!(reply, Some(Reply::Done)));
     Ok(stage)
@@ -116,9 +117,7 @@ pub(crate) fn assert_moves<R: Abort + Print, T: Fresh>(
     let stage = make_each(rt, alloc, stage, &first_calls()?, first)?;
     let stage = make_each(rt, alloc, stage, &middle_calls()?, middle)?;
     let stage = make_each(rt, alloc, stage, &last_calls()?, last)?;
-    assert_eq!(rt;
-        stage.as_slice(),
-        b"\x00\x00\x02\x00\x00\x00\x00\x00\x00\x00\x00\x00".as_slice()
-    );
+    let expected = b"\x00\x00\x02\x00\x00\x00\x00\x00\x00\x00\x00\x00";
+    assert_octets(rt, stage.as_slice(), expected, "all moves");
     Ok(())
 }
