@@ -1,6 +1,7 @@
 #!/usr/bin/env bash
 # Builds crates/dns_bench, which proves it and the crates below it, and prints times and allocations: of whole messages
 # that are walked over and built, of names that are written by the four compressors, and of a walk over two messages.
+# Whole messages are timed by four programs, whose code lies 16 octets apart (shift.c): the least is the one to go by.
 # With COUNT=1 it also prints instructions, by valgrind. Another library is put beside this one by
 #   PEER=ARCHIVE.a [PEER_NAME=NAME] [PEER_FLAGS='-lm ..'] ./run.sh
 # where the archive has the calls of peer.h.
@@ -21,11 +22,14 @@ compile() {
 compile "$build/times" "$here/driver.c"
 compile "$build/allocations" -DCOUNT_ALLOCATIONS "$here/count.c" "$here/driver.c"
 compile "$build/walk" "$here/walk.c"
-compile "$build/messages" "$here/ours.c" "$here/messages.c"
+shifts=(0 16 32 48)
+for shift in "${shifts[@]}"; do
+  compile "$build/messages$shift" "$here/ours.c" "$here/messages.c" -DSHIFT="$shift" "$here/shift.c"
+done
 compile "$build/messages_allocations" -DCOUNT_ALLOCATIONS "$here/count.c" "$here/ours.c" "$here/messages.c"
 python3 "$here/inputs.py" >"$build/inputs"
 
-peers=(messages)
+peers=("${shifts[@]/#/messages}")
 if [ "${PEER:-}" ]; then
   # The driver asks for the names of the ways weakly, which takes nothing from an archive.
   force=
@@ -38,7 +42,7 @@ if [ "${PEER:-}" ]; then
   done
   peers+=(peer)
 fi
-name_of() { [ "$1" = messages ] && echo ours || echo "${PEER_NAME:-peer}"; }
+name_of() { case $1 in messages*) echo ours ;; *) echo "${PEER_NAME:-peer}" ;; esac; }
 
 printf '%-12s %-15s %-6s %12s %12s\n' library way work 'ns, median' 'ns, least'
 for _ in $(seq "${ROUNDS:-1}"); do
@@ -46,7 +50,7 @@ for _ in $(seq "${ROUNDS:-1}"); do
 done
 echo
 printf '%-12s %-15s %-6s %12s\n' library way work allocations
-for peer in "${peers[@]}"; do "$build/${peer}_allocations" "$(name_of "$peer")" "$build/inputs"; done
+for peer in messages ${PEER:+peer}; do "$build/${peer}_allocations" "$(name_of "$peer")" "$build/inputs"; done
 echo
 
 printf '%-14s %-9s %12s %12s\n' compressor workload 'ns, median' 'ns, least'
@@ -76,8 +80,8 @@ for message in answer servers; do
   printf '%-14s %-9s %12d\n' walk "$message" $(((more - few) / 1000))
 done
 while IFS=: read -r way work few more; do
-  less=$(instructions "$build/messages" ours "$build/inputs" "$work" "$way" "$few")
-  all=$(instructions "$build/messages" ours "$build/inputs" "$work" "$way" "$more")
+  less=$(instructions "$build/messages0" ours "$build/inputs" "$work" "$way" "$few")
+  all=$(instructions "$build/messages0" ours "$build/inputs" "$work" "$way" "$more")
   printf '%-14s %-9s %12d\n' "$way" "$work" $(((all - less) / (more - few)))
 done <<'ROWS'
 walk:w1:64:192
