@@ -1,5 +1,6 @@
 //! Records of a section, read with their data.
-use crate::records::next_start;
+use crate::messages::message_of;
+use crate::records::{answers_of, next_start};
 use dns_data::{A, Cname, Ns, UnknownRecordData};
 use dns_read::{AnyRecordIter, Message, RecordIter, RecordSection};
 use dns_wire::{FormError, Name, ParseError, ParsedName, ToNameExt};
@@ -84,37 +85,33 @@ fn addresses_of(mut addresses: RecordIter<'_, A>) -> (Addresses, usize) {
 }
 
 #[test]
-fn reads_addresses(rt: HostRuntime) -> Result<(), Fail> {
+fn reads_addresses(rt: HostRuntime) {
     for &(row, octets, in_any_class, in_class_in, end) in ROWS {
-        let message = Message::from_slice(octets)?;
-        let answers = message.answer()?;
+        let message = message_of(&rt, octets);
+        let answers = answers_of(&rt, &message);
         assert!(rt;
-            addresses_of(answers.limit_to()) == (in_any_class, end),
-            "{row}"
-        );
-        assert!(rt;
-            addresses_of(answers.limit_to_in()) == (in_class_in, end),
+            addresses_of(answers.limit_to()) == (in_any_class, end)
+                && addresses_of(answers.limit_to_in()) == (in_class_in, end),
             "{row}"
         );
     }
-    Ok(())
 }
 
-/// Whether an iterator over aliases gives one `ShortInput`, and then nothing.
-fn is_short<'a>(mut aliases: RecordIter<'a, Cname<ParsedName<'a>>>) -> bool {
-    matches!(aliases.next(), Some(Err(ParseError::ShortInput)))
+/// Whether the first record can be read, and an iterator over aliases gives one `ShortInput`, and then nothing.
+fn is_short(mut records: RecordSection<'_>) -> bool {
+    let mut aliases = records.limit_to::<Cname<ParsedName<'_>>>();
+    matches!(records.next(), Some(Ok(_)))
+        && matches!(aliases.next(), Some(Err(ParseError::ShortInput)))
         && aliases.next().is_none()
         && aliases.next().is_none()
 }
 
 #[test]
-fn reads_no_name_past_the_end_of_data(rt: HostRuntime) -> Result<(), Fail> {
+fn reads_no_name_past_the_end_of_data(rt: HostRuntime) {
     let octets =
         b"\x00\x00\x00\x00\x00\x00\x00\x01\x00\x00\x00\x00\x00\x00\x05\x00\x01\x00\x00\x00\x00\x00\x01\xC0\x0C";
-    let message = Message::from_slice(octets)?;
-    assert!(rt; matches!(message.answer()?.next(), Some(Ok(_))));
-    assert!(rt; is_short(message.answer()?.limit_to()));
-    Ok(())
+    let message = message_of(&rt, octets);
+    assert!(rt; is_short(answers_of(&rt, &message)));
 }
 
 /// The cursor of a clone, behind the first address, and where the section behind it starts.
@@ -150,30 +147,31 @@ fn opaque_places(answers: RecordSection<'_>) -> Result<(usize, Option<usize>), F
 }
 
 #[test]
-fn moves_on_behind_the_records_that_are_left(rt: HostRuntime) -> Result<(), Fail> {
-    let message = Message::from_slice(ADDRESS_BETWEEN)?;
-    assert_eq!(rt; behind_first(message.answer()?.limit_to())?, (39, Some(51)));
-    assert_eq!(rt; opaque_places(message.answer()?)?, (12, Some(51)));
+fn reads_every_record_and_moves_on_behind_them(rt: HostRuntime) -> Result<(), Fail> {
+    let message = message_of(&rt, ADDRESS_BETWEEN);
+    let answers = answers_of(&rt, &message);
+    let root = Some(b"\x00".as_slice());
+    let address = Some(FIRST.as_slice());
+    assert!(rt; data_of(answers.into_records()) == [root, address, root, None]);
+    assert!(rt; behind_first(answers.limit_to())? == (39, Some(51)));
+    assert!(rt; opaque_places(answers)? == (12, Some(51)));
     Ok(())
 }
 
-#[test]
-fn reads_every_record(rt: HostRuntime) -> Result<(), Fail> {
-    let message = Message::from_slice(ADDRESS_BETWEEN)?;
-    let [alias, address, other, end] = data_of(message.answer()?.into_records());
-    assert!(rt; alias == Some(b"\x00") && other == Some(b"\x00"));
-    assert!(rt; address == Some(FIRST.as_slice()) && end.is_none());
-    Ok(())
+/// Whether the first authority record says that the name server of a name has that name.
+fn serves_itself(message: &Message<&[u8]>, name: &[u8]) -> Result<bool, Fail> {
+    let name = Name::from_octets(name)?;
+    match message.authority()?.limit_to::<Ns<ParsedName<'_>>>().next() {
+        Some(Ok(server)) => {
+            Ok(server.owner().octets_eq(&name) && server.data().nsdname().octets_eq(&name))
+        }
+        _ => Ok(false),
+    }
 }
 
 #[test]
 fn reads_the_name_server(rt: HostRuntime) -> Result<(), Fail> {
-    let message = Message::from_slice(ALL_SECTIONS)?;
-    let name = Name::from_octets(*b"\x07example\x03com\x00")?;
-    let mut servers = message.authority()?.limit_to::<Ns<ParsedName<'_>>>();
-    let Some(Ok(server)) = servers.next() else {
-        panic!(rt; "no server")
-    };
-    assert!(rt; server.owner().octets_eq(&name) && server.data().nsdname().octets_eq(&name));
+    let message = message_of(&rt, ALL_SECTIONS);
+    assert!(rt; serves_itself(&message, b"\x07example\x03com\x00")?);
     Ok(())
 }

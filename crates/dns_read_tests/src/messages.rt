@@ -11,15 +11,19 @@ use std::test::Fail;
 pub(crate) const POSITIVE_RESPONSE: &[u8; 45] =
     b"\x00\x00\x81\xA0\x00\x01\x00\x01\x00\x00\x00\x00\x07example\x03com\x00\x00\x01\x00\x01\xC0\x0C\x00\x01\x00\x01\x00\x00\x0E\x10\x00\x04\xCB\x00\x71\x01";
 
+/// A message over octets, of which there are twelve or more.
+pub(crate) fn message_of<'a>(rt: &impl Abort, octets: &'a [u8]) -> Message<&'a [u8]> {
+    match Message::from_slice(octets) {
+        Ok(message) => message,
+        Err(_) => panic!(rt; "short message"),
+    }
+}
+
 #[test]
 fn takes_twelve_octets(rt: HostRuntime) -> Result<(), Fail> {
-    assert!(rt; Message::from_octets([0; 12]).is_ok());
-    assert!(rt; Message::from_octets([0; 11]).is_err());
-    assert_eq!(rt; Message::try_from_octets([1; 11]).err(), Some([1; 11]));
-    assert_eq!(rt;
-        format!(in rt.alloc(); "{ShortMessage}")?.as_str(),
-        "short message"
-    );
+    assert!(rt; Message::from_octets([0; 12]).is_ok() && Message::from_octets([0; 11]).is_err());
+    assert!(rt; Message::try_from_octets([1; 11]).err() == Some([1; 11]));
+    assert!(rt; format!(in rt.alloc(); "{ShortMessage}")?.as_str() == "short message");
     Ok(())
 }
 
@@ -47,18 +51,6 @@ fn has_header(message: &Message<&[u8]>, octets: &[u8; 12]) -> bool {
         && !message.is_error()
 }
 
-#[test]
-fn has_a_header(rt: HostRuntime) -> Result<(), Fail> {
-    let message = Message::from_slice(POSITIVE_RESPONSE)?;
-    assert!(rt;
-        has_header(
-            &message,
-            b"\x00\x00\x81\xA0\x00\x01\x00\x01\x00\x00\x00\x00"
-        )
-    );
-    Ok(())
-}
-
 /// The octets of a message whose header is written anew.
 fn with_new_header(mut message: Message<[u8; 12]>) -> [u8; 12] {
     message.set_header(Header::new());
@@ -69,8 +61,7 @@ fn with_new_header(mut message: Message<[u8; 12]>) -> [u8; 12] {
 fn takes_another_header(rt: HostRuntime) -> Result<(), Fail> {
     let message = Message::from_octets([7; 12])?;
     assert!(rt; message.is_error() && !message.no_error());
-    let octets = with_new_header(message);
-    assert_eq!(rt; octets, [0, 0, 0, 0, 7, 7, 7, 7, 7, 7, 7, 7]);
+    assert!(rt; with_new_header(message) == [0, 0, 0, 0, 7, 7, 7, 7, 7, 7, 7, 7]);
     Ok(())
 }
 
@@ -98,12 +89,13 @@ fn second_section(message: &Message<&[u8]>) -> Result<Section, ParseError> {
 }
 
 #[test]
-fn starts_its_sections(rt: HostRuntime) -> Result<(), Fail> {
-    let message = Message::from_slice(POSITIVE_RESPONSE)?;
-    assert_eq!(rt; starts_of(&message)?, [12, 29, 45, 45]);
-    assert_eq!(rt; update_starts(&message)?, [12, 29, 45]);
-    assert_eq!(rt; second_section(&message)?, Section::Answer);
-    Ok(())
+fn has_a_header_and_sections(rt: HostRuntime) {
+    let message = message_of(&rt, POSITIVE_RESPONSE);
+    let header = b"\x00\x00\x81\xA0\x00\x01\x00\x01\x00\x00\x00\x00";
+    assert!(rt; has_header(&message, header));
+    assert!(rt; starts_of(&message) == Ok([12, 29, 45, 45]));
+    assert!(rt; update_starts(&message) == Ok([12, 29, 45]));
+    assert!(rt; second_section(&message) == Ok(Section::Answer));
 }
 
 /// Whether a message has the octets of `POSITIVE_RESPONSE`.
@@ -116,15 +108,15 @@ fn is_response<Octs: Octets>(message: &Message<Octs>) -> bool {
 
 #[test]
 fn changes_holders(rt: HostRuntime) -> Result<(), Fail> {
-    let message = Message::from_slice(POSITIVE_RESPONSE)?;
+    let message = message_of(&rt, POSITIVE_RESPONSE);
     let lent = Message::<&[u8]>::try_octets_from(rt.alloc(), message)?;
+    let refused = Message::<ArrayVec<u8, 44>>::try_octets_from(rt.alloc(), lent).err();
+    assert!(rt; refused == Some(AppendError::ShortBuf));
     let array = Message::<ArrayVec<u8, 45>>::try_octets_from(rt.alloc(), lent)?;
     assert!(rt; is_response(&array));
-    let refused = Message::<ArrayVec<u8, 44>>::try_octets_from(rt.alloc(), lent).err();
-    assert_eq!(rt; refused, Some(AppendError::ShortBuf));
     let owned = Message::<Vec<u8>>::try_octets_from(rt.alloc(), array)?;
-    assert!(rt; is_response(&owned.clone()?));
-    assert!(rt; is_response(&Message::<&[u8]>::try_octets_from(rt.alloc(), &owned)?));
+    let lent = Message::<&[u8]>::try_octets_from(rt.alloc(), &owned)?;
+    assert!(rt; is_response(&lent) && is_response(&owned.clone()?));
     Ok(())
 }
 

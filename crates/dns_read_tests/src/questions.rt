@@ -1,5 +1,5 @@
 //! Questions of messages, and where the answers behind them start.
-use crate::messages::POSITIVE_RESPONSE;
+use crate::messages::{POSITIVE_RESPONSE, message_of};
 use dns_code::{Class, Rtype};
 use dns_read::{Message, QuestionSection, RecordSection};
 use dns_wire::{FormError, Name, ParseError, ToNameExt};
@@ -84,50 +84,45 @@ fn is_faulty(
         && message.iter().next().is_none()
 }
 
-/// Whether a cursor gives the question for this name, its type A, in the class IN, and nothing more, and is then here.
-pub(crate) fn is_sole(
-    mut questions: QuestionSection<'_>,
-    name: &[u8],
-    end: usize,
-) -> Result<bool, Fail> {
+/// Whether a message has one question, for this name, its type A, in the class IN, and its answers start here behind it.
+pub(crate) fn has_sole(message: &Message<&[u8]>, name: &[u8], end: usize) -> Result<bool, Fail> {
     let expected = Name::from_octets(name)?;
+    let mut questions = message.question();
     let Some(Ok(question)) = questions.next() else {
         return Ok(false);
     };
     let is_same = question.qname().octets_eq(&expected)
         && question.qtype() == Rtype::A
         && question.qclass() == Class::IN;
-    Ok(is_same && questions.next().is_none() && questions.pos() == end)
+    Ok(
+        is_same
+            && questions.next().is_none()
+            && questions.pos() == end
+            && start_of(message.answer()) == Ok(end),
+    )
 }
 
 #[test]
-fn ends_at_the_first_fault(rt: HostRuntime) -> Result<(), Fail> {
+fn ends_at_the_first_fault(rt: HostRuntime) {
     for &(row, octets, fault, start) in FAULTY {
-        assert!(rt;
-            is_faulty(&Message::from_slice(octets)?, fault, start),
-            "{row}"
-        );
+        assert!(rt; is_faulty(&message_of(&rt, octets), fault, start), "{row}");
     }
-    Ok(())
 }
 
 #[test]
-fn reads_messages_that_are_cut_in_the_question(rt: HostRuntime) -> Result<(), Fail> {
+fn reads_messages_that_are_cut_in_the_question(rt: HostRuntime) {
     let short = ParseError::ShortInput;
     for n in 12..29 {
-        let message = Message::from_slice(&POSITIVE_RESPONSE[..n])?;
+        let message = message_of(&rt, &POSITIVE_RESPONSE[..n]);
         assert!(rt; is_faulty(&message, short, Err(short)), "{n}");
     }
-    Ok(())
 }
 
 #[test]
 fn follows_a_pointer_into_the_header(rt: HostRuntime) -> Result<(), Fail> {
     // octet 4 is zero
     let octets = b"\x00\x00\x00\x00\x00\x01\x00\x00\x00\x00\x00\x00\xC0\x04\x00\x01\x00\x01";
-    let message = Message::from_slice(octets)?;
-    assert!(rt; is_sole(message.question(), b"\x00", 18)?);
-    assert_eq!(rt; start_of(message.answer()), Ok(18));
+    assert!(rt; has_sole(&message_of(&rt, octets), b"\x00", 18)?);
     Ok(())
 }
 
@@ -147,11 +142,9 @@ fn long_question(last: u8) -> [u8; 272] {
 #[test]
 fn reads_a_name_of_255_octets_and_no_longer_one(rt: HostRuntime) -> Result<(), Fail> {
     let octets = long_question(61);
-    let message = Message::from_slice(&octets)?;
-    assert!(rt; is_sole(message.question(), &octets[12..267], 271)?);
-    assert_eq!(rt; start_of(message.answer()), Ok(271));
+    assert!(rt; has_sole(&message_of(&rt, &octets), &octets[12..267], 271)?);
     let octets = long_question(62);
-    assert!(rt; is_faulty(&Message::from_slice(&octets)?, LONG_NAME, Err(LONG_NAME)));
+    assert!(rt; is_faulty(&message_of(&rt, &octets), LONG_NAME, Err(LONG_NAME)));
     Ok(())
 }
 
@@ -159,18 +152,21 @@ fn reads_a_name_of_255_octets_and_no_longer_one(rt: HostRuntime) -> Result<(), F
 const QUESTIONS: &[u8; 32] =
     b"\x00\x00\x00\x00\x00\x03\x00\x00\x00\x00\x00\x00\x01a\x00\x00\x01\x00\x01\x01b\x00\x00\x01\x00\x01\xC0\x1A\x00\x01\x00\x01";
 
-#[test]
-fn goes_over_questions(rt: HostRuntime) -> Result<(), Fail> {
-    let message = Message::from_slice(QUESTIONS)?;
-    let questions = message.question();
+/// How many questions can be read.
+fn readable(questions: QuestionSection<'_>) -> u32 {
     let mut readable = 0_u32;
     for question in questions {
         if question.is_ok() {
             readable = readable.wrapping_add(1);
         }
     }
-    assert_eq!(rt; readable, 2);
-    // it was a copy that went on
-    assert_eq!(rt; questions.pos(), 12);
-    Ok(())
+    readable
+}
+
+#[test]
+fn goes_over_questions(rt: HostRuntime) {
+    let message = message_of(&rt, QUESTIONS);
+    let questions = message.question();
+    // it is a copy that goes on
+    assert!(rt; readable(questions) == 2 && questions.pos() == 12);
 }

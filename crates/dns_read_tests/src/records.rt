@@ -1,6 +1,6 @@
 //! Sections of records: what their cursors and the iterator over all of them give.
-use crate::messages::POSITIVE_RESPONSE;
-use crate::questions::{EXAMPLE, is_sole, start_of};
+use crate::messages::{POSITIVE_RESPONSE, message_of};
+use crate::questions::{EXAMPLE, has_sole, start_of};
 use dns_code::{Class, Rtype};
 use dns_data::{A, Cname, UnknownRecordData};
 use dns_item::ParsedRecord;
@@ -36,6 +36,14 @@ const FAULTY: &[(&str, &[u8], ParseError, Result<usize, ParseError>)] = &[
 /// An additional section with one record whose owner is a pointer to its own place.
 const UNREADABLE_ADDITIONAL: &[u8; 24] =
     b"\x00\x00\x00\x00\x00\x00\x00\x00\x00\x00\x00\x01\xC0\x0C\x00\x01\x00\x01\x00\x00\x00\x00\x00\x00";
+
+/// The answer section of a message, whose questions can be skipped.
+pub(crate) fn answers_of<'a>(rt: &impl Abort, message: &'a Message<&[u8]>) -> RecordSection<'a> {
+    match message.answer() {
+        Ok(answers) => answers,
+        Err(_) => panic!(rt; "no answer section"),
+    }
+}
 
 /// Where the section that a cursor moves on to starts.
 pub(crate) fn next_start(
@@ -92,37 +100,33 @@ fn is_faulty(
 }
 
 #[test]
-fn ends_at_an_answer_that_cant_be_read(rt: HostRuntime) -> Result<(), Fail> {
+fn ends_at_an_answer_that_cant_be_read(rt: HostRuntime) {
     for &(row, octets, fault, authority) in FAULTY {
-        let message = Message::from_slice(octets)?;
+        let message = message_of(&rt, octets);
         assert!(rt; is_faulty(&message, 12, fault, authority), "{row}");
     }
-    Ok(())
 }
 
 #[test]
 fn reads_messages_that_are_cut_in_the_answer(rt: HostRuntime) -> Result<(), Fail> {
     let short = ParseError::ShortInput;
     for n in 29..45 {
-        let message = Message::from_slice(&POSITIVE_RESPONSE[..n])?;
-        assert!(rt; is_sole(message.question(), EXAMPLE, 29)?, "{n}");
-        assert!(rt; is_faulty(&message, 29, short, Err(short)), "{n}");
+        let message = message_of(&rt, &POSITIVE_RESPONSE[..n]);
+        let is_whole_question = has_sole(&message, EXAMPLE, 29)?;
+        assert!(rt;
+            is_whole_question && is_faulty(&message, 29, short, Err(short)),
+            "{n}"
+        );
     }
     Ok(())
 }
 
 #[test]
 fn ends_at_an_additional_record_that_cant_be_read(rt: HostRuntime) -> Result<(), Fail> {
-    let message = Message::from_slice(UNREADABLE_ADDITIONAL)?;
-    assert_eq!(rt;
-        sole_fault(message.additional()?),
-        Some((BAD_POINTER, Ok(None)))
-    );
-    let missing = Message::from_slice(&UNREADABLE_ADDITIONAL[..12])?;
-    assert_eq!(rt;
-        given(missing.iter()),
-        [Some(Err(ParseError::ShortInput)), None, None]
-    );
+    let message = message_of(&rt, UNREADABLE_ADDITIONAL);
+    assert!(rt; sole_fault(message.additional()?) == Some((BAD_POINTER, Ok(None))));
+    let missing = message_of(&rt, &UNREADABLE_ADDITIONAL[..12]);
+    assert!(rt; given(missing.iter()) == [Some(Err(ParseError::ShortInput)), None, None]);
     Ok(())
 }
 
@@ -139,18 +143,26 @@ fn is_address(record: &ParsedRecord<'_>) -> Result<bool, Fail> {
     Ok(fields && record.owner().octets_eq(&owner) && read.data().octets() == [203, 0, 113, 1])
 }
 
+/// Whether a record is no alias, and has these octets as data of any type.
+fn is_opaque(record: &ParsedRecord<'_>, data: &[u8]) -> bool {
+    match record.to_any_record::<UnknownRecordData<&[u8]>>() {
+        Ok(opaque) => {
+            *opaque.data().data() == data
+                && matches!(record.to_record::<Cname<ParsedName<'_>>>(), Ok(None))
+        }
+        Err(_) => false,
+    }
+}
+
 #[test]
 fn reads_an_answer(rt: HostRuntime) -> Result<(), Fail> {
-    let message = Message::from_slice(POSITIVE_RESPONSE)?;
-    let mut answers = message.answer()?;
+    let message = message_of(&rt, POSITIVE_RESPONSE);
+    let mut answers = answers_of(&rt, &message);
     let Some(Ok(answer)) = answers.next() else {
         panic!(rt; "no record")
     };
+    assert!(rt; answers.pos() == 45 && is_opaque(&answer, &[203, 0, 113, 1]));
     assert!(rt; is_address(&answer)? && is_address(&answer.clone()?)?);
-    assert!(rt; matches!(answer.to_record::<Cname<ParsedName<'_>>>(), Ok(None)));
-    let opaque = answer.to_any_record::<UnknownRecordData<&[u8]>>()?;
-    assert_eq!(rt; *opaque.data().data(), [203, 0, 113, 1].as_slice());
-    assert_eq!(rt; answers.pos(), 45);
     Ok(())
 }
 
@@ -164,27 +176,23 @@ fn next_item(items: &mut MessageIter<'_>) -> Option<(Section, u32)> {
     Some((section, record.ttl().as_secs()))
 }
 
-#[test]
-fn iterates_over_sections(rt: HostRuntime) -> Result<(), Fail> {
-    let message = Message::from_slice(TWO_SECTIONS)?;
-    let mut items = (&message).into_iter();
-    assert_eq!(rt; next_item(&mut items), Some((Section::Answer, 86000)));
-    assert_eq!(rt; next_item(&mut items), Some((Section::Authority, 86000)));
-    assert!(rt; items.next().is_none() && items.next().is_none());
-    Ok(())
-}
-
-/// What the first record of a message is an alias of.
-fn first_alias<'a>(message: &'a Message<&[u8]>) -> Option<ParsedName<'a>> {
+/// Whether the first record of a message is an alias of this name, if it is an alias.
+fn is_alias_of(message: &Message<&[u8]>, target: &[u8]) -> Option<bool> {
+    let target = Name::from_octets(target).ok()?;
     let (record, _) = message.iter().next()?.ok()?;
-    let alias = record.into_record::<Cname<ParsedName<'a>>>().ok()??;
-    Some(alias.into_data().into_cname())
+    let alias = record.into_record::<Cname<ParsedName<'_>>>().ok()??;
+    Some(alias.into_data().into_cname().octets_eq(&target))
 }
 
 #[test]
-fn reads_an_alias(rt: HostRuntime) -> Result<(), Fail> {
-    let message = Message::from_slice(TWO_SECTIONS)?;
-    let target = first_alias(&message).ok_or("no alias")?;
-    assert!(rt; target.octets_eq(&Name::from_octets(*b"\x03baz\x07example\x03com\x00")?));
-    Ok(())
+fn iterates_over_sections(rt: HostRuntime) {
+    let message = message_of(&rt, TWO_SECTIONS);
+    let mut items = (&message).into_iter();
+    let given = [next_item(&mut items), next_item(&mut items)];
+    let expected = [
+        Some((Section::Answer, 86000)),
+        Some((Section::Authority, 86000)),
+    ];
+    assert!(rt; given == expected && items.next().is_none() && items.next().is_none());
+    assert!(rt; is_alias_of(&message, b"\x03baz\x07example\x03com\x00") == Some(true));
 }

@@ -1,4 +1,5 @@
 //! What is looked for in messages: their questions, their OPT record, and records of a type.
+use crate::messages::message_of;
 use dns_code::Rtype;
 use dns_data::{A, Ns};
 use dns_read::Message;
@@ -34,30 +35,24 @@ fn sole_type(message: &Message<&[u8]>) -> Result<u16, ParseError> {
 }
 
 #[test]
-fn has_a_sole_question(rt: HostRuntime) -> Result<(), Fail> {
+fn has_a_sole_question(rt: HostRuntime) {
     for &(row, octets, expected) in SOLE {
-        assert!(rt;
-            sole_type(&Message::from_slice(octets)?) == expected,
-            "{row}"
-        );
+        assert!(rt; sole_type(&message_of(&rt, octets)) == expected, "{row}");
     }
-    Ok(())
 }
 
 #[test]
-fn has_a_first_question(rt: HostRuntime) -> Result<(), Fail> {
+fn has_a_first_question(rt: HostRuntime) {
     // AXFR of a. in the class CH
     let octets =
         b"\x00\x00\x00\x00\x00\x02\x00\x00\x00\x00\x00\x00\x01a\x00\x00\xFC\x00\x03\x00\x00\x02\x00\x01";
-    let message = Message::from_slice(octets)?;
-    let question = message.first_question().ok_or("no question")?;
-    assert_eq!(rt; question.qname().compose_len(), 3);
-    assert_eq!(rt;
-        (question.qtype().to_int(), question.qclass().to_int()),
-        (252, 3)
-    );
+    let message = message_of(&rt, octets);
     assert!(rt; message.qtype() == Some(Rtype::AXFR) && message.is_xfr());
-    Ok(())
+    let Some(question) = message.first_question() else {
+        panic!(rt; "no question")
+    };
+    let (qtype, qclass) = (question.qtype().to_int(), question.qclass().to_int());
+    assert!(rt; question.qname().compose_len() == 3 && (qtype, qclass) == (252, 3));
 }
 
 /// A response of the ID 7 whose question points to its own place.
@@ -65,27 +60,19 @@ const BROKEN: &[u8; 18] =
     b"\x00\x07\x80\x00\x00\x01\x00\x00\x00\x00\x00\x00\xC0\x0C\x00\x01\x00\x01";
 
 /// Whether the questions of two messages are the same.
-fn ask_the_same(octets: &[u8], others: &[u8]) -> Result<bool, Fail> {
-    let message = Message::from_slice(octets)?;
-    let other = Message::from_slice(others)?;
-    Ok(message.question().same_questions(&other.question()))
-}
-
-/// Whether octets are an answer to a query.
-fn answers(octets: &[u8], query: &[u8]) -> Result<bool, Fail> {
-    let message = Message::from_slice(octets)?;
-    Ok(message.is_answer(&Message::from_slice(query)?))
+fn ask_the_same(message: &Message<&[u8]>, other: &Message<&[u8]>) -> bool {
+    message.question().same_questions(&other.question())
 }
 
 #[test]
-fn knows_an_answer(rt: HostRuntime) -> Result<(), Fail> {
+fn knows_an_answer(rt: HostRuntime) {
     let query = b"\x00\x07\x00\x00\x00\x01\x00\x00\x00\x00\x00\x00\x01a\x00\x00\x01\x00\x01";
     let answer = b"\x00\x07\x80\x00\x00\x01\x00\x00\x00\x00\x00\x00\x01A\x00\x00\x01\x00\x01";
-    assert!(rt; answers(answer, query)?);
-    assert!(rt; !answers(query, query)?);
-    assert!(rt; !answers(BROKEN, BROKEN)?);
-    assert!(rt; ask_the_same(query, answer)? && !ask_the_same(BROKEN, BROKEN)?);
-    Ok(())
+    let (query, answer) = (message_of(&rt, query), message_of(&rt, answer));
+    assert!(rt; answer.is_answer(&query) && !query.is_answer(&query));
+    let broken = message_of(&rt, BROKEN);
+    assert!(rt; !broken.is_answer(&broken));
+    assert!(rt; ask_the_same(&query, &answer) && !ask_the_same(&broken, &broken));
 }
 
 /// Messages, and the UDP payload size and the rcode that their OPT record tells.
@@ -117,14 +104,10 @@ fn has_opt(message: &Message<&[u8]>, size: Option<u16>, rcode: u16) -> bool {
 }
 
 #[test]
-fn has_an_opt_record(rt: HostRuntime) -> Result<(), Fail> {
+fn has_an_opt_record(rt: HostRuntime) {
     for &(row, octets, size, rcode) in OPTS {
-        assert!(rt;
-            has_opt(&Message::from_slice(octets)?, size, rcode),
-            "{row}"
-        );
+        assert!(rt; has_opt(&message_of(&rt, octets), size, rcode), "{row}");
     }
-    Ok(())
 }
 
 /// An answer whose owner points to its own place.
@@ -136,11 +119,10 @@ const ANSWER: &[u8; 27] =
     b"\x00\x00\x00\x00\x00\x00\x00\x01\x00\x00\x00\x00\x00\x00\x01\x00\x01\x00\x00\x00\x00\x00\x04\x01\x02\x03\x04";
 
 #[test]
-fn a_faulty_answer_counts(rt: HostRuntime) -> Result<(), Fail> {
-    assert!(rt; Message::from_slice(FAULTY_ANSWER)?.contains_answer::<A>());
-    assert!(rt; Message::from_slice(ANSWER)?.contains_answer::<A>());
-    assert!(rt; !Message::from_slice(ANSWER)?.contains_answer::<Ns<ParsedName<'_>>>());
-    Ok(())
+fn a_faulty_answer_counts(rt: HostRuntime) {
+    assert!(rt; message_of(&rt, FAULTY_ANSWER).contains_answer::<A>());
+    let message = message_of(&rt, ANSWER);
+    assert!(rt; message.contains_answer::<A>() && !message.contains_answer::<Ns<ParsedName<'_>>>());
 }
 
 /// ARCOUNT 2; a record whose owner points to its own place, and the address 1.2.3.4 of the root.
@@ -155,13 +137,12 @@ fn last_address(octets: &[u8]) -> Option<[u8; 4]> {
 }
 
 #[test]
-fn has_a_last_additional(rt: HostRuntime) -> Result<(), Fail> {
-    assert_eq!(rt; last_address(&LAST_ADDITIONAL), None);
+fn has_a_last_additional(rt: HostRuntime) {
     let mut octets = *ANSWER;
     octets[7] = 0;
     octets[11] = 1;
-    assert_eq!(rt; last_address(&octets), Some([1, 2, 3, 4]));
-    Ok(())
+    assert!(rt; last_address(&LAST_ADDITIONAL).is_none());
+    assert!(rt; last_address(&octets) == Some([1, 2, 3, 4]));
 }
 
 /// The octets of a message without its last additional record, if it has one.
