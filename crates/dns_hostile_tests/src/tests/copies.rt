@@ -1,5 +1,5 @@
 //! Records that are copied and read with their data, and answers told from other messages, beside plain readings.
-use crate::tests::given::{assert_name, fault_of};
+use crate::tests::given::{assert_fault, assert_fields, assert_name, assert_place};
 use crate::tests::octets::{BOUNDS, NAME_IN_DATA, POSITIVE_RESPONSE};
 use crate::tests::plain::{Entry, Fault, Fields, Reading, labels_at};
 use crate::tests::plain_searches::{count_records, is_answer};
@@ -26,7 +26,7 @@ fn assert_same_record(
         end: copy.fields.end,
         ..record.fields
     };
-    assert_eq!(rt; copy.fields, expected);
+    assert_fields(rt, "copy", copy.fields, expected);
     assert_eq!(rt;
         labels_at(copied, copy.name),
         labels_at(source, record.name)
@@ -73,11 +73,11 @@ pub(crate) fn assert_copies(
             }
         }
         (Err(CopyRecordsError::Parse(error)), Err(fault)) => {
-            assert_eq!(rt; fault_of(error), fault);
+            assert_fault(rt, "copy", error, fault);
         }
         _ => panic!(rt; "a copy or a fault"),
     }
-    assert_eq!(rt; given, records);
+    assert_place(rt, "records that were given", given, records);
     Ok(())
 }
 
@@ -97,11 +97,11 @@ fn assert_any_record<'a>(
                 data: record.data().data(),
                 end: entry.fields.end,
             };
-            assert_eq!(rt; fields, entry.fields);
+            assert_fields(rt, "record with its data", fields, entry.fields);
             assert_name(rt, octets, entry.name, *record.owner())
         }
         (Err(error), Err(fault)) => {
-            assert_eq!(rt; fault_of(error), fault);
+            assert_fault(rt, "record with its data", error, fault);
             Ok(())
         }
         _ => panic!(rt; "a record or a fault"),
@@ -122,7 +122,12 @@ fn assert_any_records<'a>(
             _ => panic!(rt; "as many records"),
         }
     }
-    assert_eq!(rt; records.unwrap().pos(), reading.place);
+    assert_place(
+        rt,
+        "end of the records",
+        records.unwrap().pos(),
+        reading.place,
+    );
     Ok(())
 }
 
@@ -153,13 +158,11 @@ pub(crate) fn assert_opaque_records(rt: &impl Abort, message: &Message<&[u8]>) -
 /// Whether one message is the answer to the other, and the other to the first.
 fn assert_answers_of(rt: &impl Abort, message: &Message<&[u8]>, octets: &[u8]) -> Result<(), Fail> {
     let other = Message::from_octets(octets)?;
+    let answers = [message.is_answer(&other), other.is_answer(message)];
+    let source = message.as_slice();
     assert_eq!(rt;
-        message.is_answer(&other),
-        is_answer(message.as_slice(), octets)
-    );
-    assert_eq!(rt;
-        other.is_answer(message),
-        is_answer(octets, message.as_slice())
+        answers,
+        [is_answer(source, octets), is_answer(octets, source)]
     );
     Ok(())
 }

@@ -1,5 +1,5 @@
 //! Where each cursor moves on to, before and behind each entry that it gives, beside plain readings.
-use crate::tests::given::fault_of;
+use crate::tests::given::{assert_end, fault_of};
 use crate::tests::plain::{Fault, start};
 use dns_data::{A, UnknownRecordData};
 use dns_read::{Message, RecordSection};
@@ -19,8 +19,13 @@ pub(crate) fn assert_moves_to_answers(rt: &impl Abort, message: &Message<&[u8]>)
     let mut questions = message.question();
     let mut expected = start(message.as_slice(), 1);
     for _ in 0..=u16::MAX {
-        assert_eq!(rt; start_of(questions.answer()), expected);
-        assert_eq!(rt; start_of(questions.next_section()), expected);
+        assert_end(rt, "answers", start_of(questions.answer()), expected);
+        assert_end(
+            rt,
+            "next section",
+            start_of(questions.next_section()),
+            expected,
+        );
         match questions.next() {
             Some(Ok(_)) => {}
             Some(Err(error)) => expected = Err(fault_of(error)),
@@ -46,17 +51,14 @@ fn assert_moves(
     records: RecordSection<'_>,
     expected: Option<Result<usize, Fault>>,
 ) {
-    assert_eq!(rt; next_start(records.next_section()), expected);
-    assert_eq!(rt;
-        next_start(records.limit_to::<A>().next_section()),
-        expected
-    );
-    assert_eq!(rt;
-        next_start(records.limit_to_in::<A>().next_section()),
-        expected
-    );
     let all = records.into_records::<UnknownRecordData<&[u8]>>();
-    assert_eq!(rt; next_start(all.next_section()), expected);
+    let starts = [
+        next_start(records.next_section()),
+        next_start(records.limit_to::<A>().next_section()),
+        next_start(records.limit_to_in::<A>().next_section()),
+        next_start(all.next_section()),
+    ];
+    assert_eq!(rt; starts, [expected; 4]);
 }
 
 /// A cursor over records moves to the start of the next section. Once it gave a fault, it answers that, save at the last

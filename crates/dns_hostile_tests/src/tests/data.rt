@@ -1,5 +1,5 @@
 //! The data of records, read from each place of octets, beside plain data.
-use crate::tests::given::fault_of;
+use crate::tests::given::{assert_fault, assert_place, assert_stays, fault_of};
 use crate::tests::plain::{Fault, read_entry};
 use crate::tests::plain_data::{Expanded, read_data, typed_answer};
 use crate::tests::plain_searches::has_options;
@@ -35,11 +35,11 @@ fn assert_data<'a, D: ParseRecordData<'a> + ComposeRecordData + Drop>(
     let data = D::parse_rdata(rtype, &mut parser);
     match (data, read_data(octets, place, rtype.to_int())) {
         (Ok(Some(data)), Ok((expanded, end))) => {
-            assert_eq!(rt; parser.pos(), end);
+            assert_place(rt, "end of the data", parser.pos(), end);
             assert_expanded(rt, &data, &expanded)
         }
         (Err(error), Err(fault)) => {
-            assert_eq!(rt; (fault_of(error), parser.pos()), (fault, place));
+            assert_stays(rt, "data", (error, parser.pos()), (fault, place));
             Ok(())
         }
         _ => panic!(rt; "data or a fault at {place}"),
@@ -56,7 +56,7 @@ fn assert_answer<'a, D: ComposeRecordData + Drop>(
         (Ok(Some(record)), Some(Ok(expanded))) => assert_expanded(rt, record.data(), expanded),
         (Ok(None), None) => Ok(()),
         (Err(error), Some(Err(fault))) => {
-            assert_eq!(rt; fault_of(error), *fault);
+            assert_fault(rt, "record with its data", error, *fault);
             Ok(())
         }
         _ => panic!(rt; "one answer"),
@@ -74,7 +74,8 @@ fn assert_records<'a, D: ParseRecordData<'a> + ComposeRecordData + Drop>(
     let expected = typed_answer(octets, entry, rtype.to_int());
     let mut parser = parser_at(octets, place)?;
     assert_answer::<D>(rt, Record::parse(&mut parser), &expected)?;
-    assert_eq!(rt; parser.pos(), entry.map_or(place, |entry| entry.fields.end));
+    let end = entry.map_or(place, |entry| entry.fields.end);
+    assert_place(rt, "end of the record", parser.pos(), end);
     let mut parser = parser_at(octets, place)?;
     if let Ok(header) = RecordHeader::parse(&mut parser) {
         assert_answer::<D>(rt, header.parse_into_record(&mut parser), &expected)?;
@@ -99,19 +100,25 @@ fn opaque_of<'a>(
     }
 }
 
+/// The record is of these octets, or of the fault in their stead.
+fn assert_opaque_record(
+    rt: &impl Abort,
+    record: Result<Record<ParsedName<'_>, Opaque<'_>>, ParseError>,
+    expected: Result<&[u8], Fault>,
+) {
+    assert_eq!(rt; opaque_of(record), expected);
+}
+
 /// The record at this place with its data, of any type.
 fn assert_opaque(rt: &impl Abort, octets: &[u8], place: usize) -> Result<(), Fail> {
     let expected = read_entry(octets, 1, place).map(|entry| entry.fields.data);
     let mut parser = parser_at(octets, place)?;
     if let Ok(header) = RecordHeader::parse(&mut parser) {
-        assert_eq!(rt;
-            opaque_of(header.parse_into_any_record(&mut parser)),
-            expected
-        );
+        assert_opaque_record(rt, header.parse_into_any_record(&mut parser), expected);
     }
     let mut parser = parser_at(octets, place)?;
     if let Ok(record) = ParsedRecord::parse(&mut parser) {
-        assert_eq!(rt; opaque_of(record.into_any_record()), expected);
+        assert_opaque_record(rt, record.into_any_record(), expected);
     }
     Ok(())
 }
@@ -136,7 +143,7 @@ fn assert_options(rt: &impl Abort, octets: &[u8]) {
                 len = len.saturating_add(4).saturating_add(option.len());
             }
             assert!(rt; has_options(octets));
-            assert_eq!(rt; len, octets.len());
+            assert_place(rt, "options", len, octets.len());
         }
         Err(_) => assert!(rt; !has_options(octets)),
     }

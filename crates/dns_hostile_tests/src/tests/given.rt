@@ -78,6 +78,51 @@ pub(crate) fn given_record<'a>(
     }
 }
 
+/// A place is the expected one.
+pub(crate) fn assert_place(rt: &impl Abort, what: &str, place: usize, expected: usize) {
+    assert_eq!(rt; place, expected, "{what}");
+}
+
+/// A place, or the fault in its stead, is the expected one.
+pub(crate) fn assert_end(
+    rt: &impl Abort,
+    what: &str,
+    end: Result<usize, Fault>,
+    expected: Result<usize, Fault>,
+) {
+    assert_eq!(rt; end, expected, "{what}");
+}
+
+/// The error is of this kind.
+pub(crate) fn assert_fault(rt: &impl Abort, what: &str, error: ParseError, fault: Fault) {
+    assert_eq!(rt; fault_of(error), fault, "{what}");
+}
+
+/// The error is of this kind, and the parser, which is here, stayed at its place.
+pub(crate) fn assert_stays(
+    rt: &impl Abort,
+    what: &str,
+    (error, here): (ParseError, usize),
+    (fault, place): (Fault, usize),
+) {
+    assert_eq!(rt; (fault_of(error), here), (fault, place), "{what}");
+}
+
+/// The fields are the expected ones.
+pub(crate) fn assert_fields(rt: &impl Abort, what: &str, fields: Fields<'_>, expected: Fields<'_>) {
+    assert_eq!(rt; fields, expected, "{what}");
+}
+
+/// The labels of the name are these.
+pub(crate) fn assert_labels(
+    rt: &impl Abort,
+    name: ParsedName<'_>,
+    labels: &Labels,
+) -> Result<(), Fail> {
+    assert_eq!(rt; labels_of(name)?.as_slice(), labels.as_slice());
+    Ok(())
+}
+
 /// The name that is given is the one that stands at this place.
 pub(crate) fn assert_name(
     rt: &impl Abort,
@@ -86,10 +131,9 @@ pub(crate) fn assert_name(
     name: ParsedName<'_>,
 ) -> Result<(), Fail> {
     match labels_at(octets, place) {
-        Ok(labels) => assert_eq!(rt; labels_of(name)?.as_slice(), labels.as_slice()),
+        Ok(labels) => assert_labels(rt, name, &labels),
         Err(_) => panic!(rt; "a name at {place}"),
     }
-    Ok(())
 }
 
 /// What is given is the entry, or the fault.
@@ -101,7 +145,7 @@ pub(crate) fn assert_given(
 ) -> Result<(), Fail> {
     match (given, expected) {
         (Ok((name, fields)), Ok(entry)) => {
-            assert_eq!(rt; fields, entry.fields);
+            assert_fields(rt, "entry", fields, entry.fields);
             assert_name(rt, octets, entry.name, name)
         }
         (Err(given), Err(fault)) => {

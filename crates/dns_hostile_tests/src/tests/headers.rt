@@ -1,5 +1,5 @@
 //! Record headers, TTLs, header sections, and names of octets of their own, read from each place of octets.
-use crate::tests::given::{assert_name, fault_of, labels_of};
+use crate::tests::given::{assert_name, assert_stays, fault_of, labels_of};
 use crate::tests::plain::{Fault, HeaderFields, check_name, header_fields, read_entry};
 use crate::tests::walks::parser_at;
 use dns_code::HeaderSection;
@@ -36,7 +36,7 @@ fn assert_header(
             assert_name(rt, octets, place, *header.owner())
         }
         (Err(error), Err(fault)) => {
-            assert_eq!(rt; (fault_of(error), end), (fault, place));
+            assert_stays(rt, "header", (error, end), (fault, place));
             Ok(())
         }
         _ => panic!(rt; "a header or a fault at {place}"),
@@ -83,11 +83,11 @@ fn assert_ttl(rt: &impl Abort, octets: &[u8], place: usize, behind: &[u8]) -> Re
     let mut parser = parser_at(octets, place)?;
     match Ttl::parse(&mut parser) {
         Ok(ttl) => {
-            assert_eq!(rt; Some(ttl.as_secs()), first_number(behind));
-            assert_eq!(rt; parser.pos(), place.saturating_add(4));
+            let expected = (first_number(behind), place.saturating_add(4));
+            assert_eq!(rt; (Some(ttl.as_secs()), parser.pos()), expected);
         }
         Err(error) => {
-            assert_eq!(rt; (fault_of(error), parser.pos()), (Fault::Short, place));
+            assert_stays(rt, "TTL", (error, parser.pos()), (Fault::Short, place));
             assert!(rt; behind.len() < 4);
         }
     }
@@ -104,11 +104,16 @@ fn assert_header_section(
     let mut parser = parser_at(octets, place)?;
     match HeaderSection::parse(&mut parser) {
         Ok(section) => {
-            assert_eq!(rt; Some(section.as_slice()), behind.get(..12));
-            assert_eq!(rt; parser.pos(), place.saturating_add(12));
+            let expected = (behind.get(..12), place.saturating_add(12));
+            assert_eq!(rt; (Some(section.as_slice()), parser.pos()), expected);
         }
         Err(error) => {
-            assert_eq!(rt; (fault_of(error), parser.pos()), (Fault::Short, place));
+            assert_stays(
+                rt,
+                "header section",
+                (error, parser.pos()),
+                (Fault::Short, place),
+            );
             assert!(rt; behind.len() < 12);
         }
     }
@@ -117,15 +122,17 @@ fn assert_header_section(
 
 /// The name of all of these octets.
 fn assert_whole_name(rt: &impl Abort, octets: &[u8]) -> Result<(), Fail> {
+    let checked = check_name(octets, 0);
     match Name::from_octets(octets) {
         Ok(name) => {
-            assert_eq!(rt; check_name(octets, 0), Ok(()));
-            assert_eq!(rt; name.as_slice(), octets);
             let labels = labels_of(name.as_parsed())?;
             let expected = octets.split_last().map(|(_root, labels)| labels);
-            assert_eq!(rt; Some(labels.as_slice()), expected);
+            assert_eq!(rt;
+                (checked, name.as_slice(), Some(labels.as_slice())),
+                (Ok(()), octets, expected)
+            );
         }
-        Err(error) => assert_eq!(rt; check_name(octets, 0), Err(fault_of(error))),
+        Err(error) => assert_eq!(rt; checked, Err(fault_of(error))),
     }
     Ok(())
 }

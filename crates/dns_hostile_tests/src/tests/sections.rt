@@ -1,5 +1,7 @@
 //! The cursors and iterators over sections, beside plain readings.
-use crate::tests::given::{assert_given, fault_of, given_question, given_record};
+use crate::tests::given::{
+    assert_end, assert_fault, assert_given, assert_place, fault_of, given_question, given_record,
+};
 use crate::tests::plain::{Fault, Reading, start};
 use dns_read::{Message, MessageIter, QuestionSection, RecordSection, Section};
 use dns_wire::ParseError;
@@ -13,7 +15,7 @@ fn assert_question(
     questions: &mut QuestionSection<'_>,
     reading: &mut Reading<'_>,
 ) -> Result<bool, Fail> {
-    assert_eq!(rt; questions.pos(), reading.place);
+    assert_place(rt, "question", questions.pos(), reading.place);
     match (questions.next(), reading.next()) {
         (Some(question), Some(entry)) => {
             let given = given_question(question, questions.pos());
@@ -47,7 +49,7 @@ fn assert_record(
     records: &mut RecordSection<'_>,
     reading: &mut Reading<'_>,
 ) -> Result<bool, Fail> {
-    assert_eq!(rt; records.pos(), reading.place);
+    assert_place(rt, "record", records.pos(), reading.place);
     match (records.next(), reading.next()) {
         (Some(record), Some(entry)) => {
             let given = given_record(record, records.pos());
@@ -74,7 +76,7 @@ fn assert_records(
                 }
             }
         }
-        (Err(error), Err(fault)) => assert_eq!(rt; fault_of(error), fault),
+        (Err(error), Err(fault)) => assert_fault(rt, "section", error, fault),
         _ => panic!(rt; "one start of section {section}"),
     }
     Ok(())
@@ -88,12 +90,12 @@ pub(crate) fn assert_sections(rt: &impl Abort, message: &Message<&[u8]>) -> Resu
     assert_records(rt, octets, 3, message.additional())?;
     match message.sections() {
         Ok((questions, answers, authorities, additionals)) => {
-            assert_eq!(rt; questions.pos(), 12);
-            assert_eq!(rt; Ok(answers.pos()), start(octets, 1));
-            assert_eq!(rt; Ok(authorities.pos()), start(octets, 2));
-            assert_eq!(rt; Ok(additionals.pos()), start(octets, 3));
+            assert_place(rt, "questions", questions.pos(), 12);
+            assert_end(rt, "answers", Ok(answers.pos()), start(octets, 1));
+            assert_end(rt, "authorities", Ok(authorities.pos()), start(octets, 2));
+            assert_end(rt, "additionals", Ok(additionals.pos()), start(octets, 3));
         }
-        Err(error) => assert_eq!(rt; Err(fault_of(error)), start(octets, 3)),
+        Err(error) => assert_end(rt, "sections", Err(fault_of(error)), start(octets, 3)),
     }
     Ok(())
 }
@@ -115,6 +117,11 @@ fn next_item(items: &mut MessageIter<'_>) -> Option<Result<(u8, u16), Fault>> {
     }
 }
 
+/// The iterator gives this item next.
+fn assert_item(rt: &impl Abort, items: &mut MessageIter<'_>, expected: Result<(u8, u16), Fault>) {
+    assert_eq!(rt; next_item(items), Some(expected));
+}
+
 /// The iterator gives the records of a section, and a fault once more where a section stands behind it. Answers whether the
 /// section had no fault.
 fn assert_items(
@@ -125,13 +132,11 @@ fn assert_items(
 ) -> bool {
     for _ in 0..u16::MAX {
         match reading.next() {
-            Some(Ok(entry)) => {
-                assert_eq!(rt; next_item(items), Some(Ok((section, entry.fields.rtype))));
-            }
+            Some(Ok(entry)) => assert_item(rt, items, Ok((section, entry.fields.rtype))),
             Some(Err(fault)) => {
-                assert_eq!(rt; next_item(items), Some(Err(fault)));
+                assert_item(rt, items, Err(fault));
                 if section < 3 {
-                    assert_eq!(rt; next_item(items), Some(Err(fault)));
+                    assert_item(rt, items, Err(fault));
                 }
                 return false;
             }

@@ -1,5 +1,7 @@
 //! Reading and passing names, questions and records from each place of octets.
-use crate::tests::given::{assert_given, assert_name, fault_of, given_question, given_record};
+use crate::tests::given::{
+    assert_end, assert_given, assert_name, fault_of, given_question, given_record,
+};
 use crate::tests::plain::{Fault, labels_at, name_end, read_entry, skip_entry};
 use dns_item::{ParsedRecord, Question};
 use dns_wire::{ParseError, ParsedName, Parser};
@@ -18,7 +20,7 @@ fn assert_parses_name(rt: &impl Abort, octets: &[u8], place: usize) -> Result<()
     let mut parser = parser_at(octets, place)?;
     match ParsedName::parse(&mut parser) {
         Ok(name) => {
-            assert_eq!(rt; Ok(parser.pos()), name_end(octets, place));
+            assert_end(rt, "name", Ok(parser.pos()), name_end(octets, place));
             assert_name(rt, octets, place, name)
         }
         Err(error) => {
@@ -52,13 +54,20 @@ fn end_of(answer: Result<(), ParseError>, parser: Parser<'_>) -> Result<usize, F
 fn assert_skips(rt: &impl Abort, octets: &[u8], place: usize) -> Result<(), Fail> {
     let mut parser = parser_at(octets, place)?;
     let answer = ParsedName::skip(&mut parser);
-    assert_eq!(rt; end_of(answer, parser), name_end(octets, place));
+    assert_end(
+        rt,
+        "name passed",
+        end_of(answer, parser),
+        name_end(octets, place),
+    );
     let mut parser = parser_at(octets, place)?;
     let answer = Question::skip(&mut parser);
-    assert_eq!(rt; end_of(answer, parser), entry_end(octets, 0, place));
+    let expected = entry_end(octets, 0, place);
+    assert_end(rt, "question passed", end_of(answer, parser), expected);
     let mut parser = parser_at(octets, place)?;
     let answer = ParsedRecord::skip(&mut parser);
-    assert_eq!(rt; end_of(answer, parser), entry_end(octets, 1, place));
+    let expected = entry_end(octets, 1, place);
+    assert_end(rt, "record passed", end_of(answer, parser), expected);
     Ok(())
 }
 
