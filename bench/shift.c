@@ -5,4 +5,4 @@
 #define TEXT(number) #number
 #define OCTETS(number) TEXT(number)
 
-__asm__(".text\n\t.skip " OCTETS(SHIFT) ", 0x90\n");
+__asm__(".text\n\t.fill " OCTETS(SHIFT) ", 1, 0x90\n");
