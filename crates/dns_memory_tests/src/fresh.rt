@@ -13,39 +13,44 @@ pub(crate) trait Fresh: Composer {
     fn fresh(alloc: Global) -> Result<Self, AppendError>;
 }
 
+/// A vector with room for one octet, which has to grow for more: without room it would pass a first refusal over.
+fn octets(alloc: Global) -> Result<Vec<u8>, AppendError> {
+    Ok(Vec::with_capacity(alloc, 1)?)
+}
+
 impl Fresh for Vec<u8> {
     fn fresh(alloc: Global) -> Result<Self, AppendError> {
-        Ok(Vec::new(alloc))
+        octets(alloc)
     }
 }
 
 impl Fresh for StreamTarget<Vec<u8>> {
     fn fresh(alloc: Global) -> Result<Self, AppendError> {
-        StreamTarget::new_vec(alloc)
+        StreamTarget::new(octets(alloc)?)
     }
 }
 
 impl Fresh for StaticCompressor<Vec<u8>> {
     fn fresh(alloc: Global) -> Result<Self, AppendError> {
-        Ok(StaticCompressor::new(Vec::new(alloc)))
+        Ok(StaticCompressor::new(octets(alloc)?))
     }
 }
 
 impl Fresh for TreeCompressor<Vec<u8>> {
     fn fresh(alloc: Global) -> Result<Self, AppendError> {
-        Ok(TreeCompressor::new(alloc, Vec::new(alloc)))
+        Ok(TreeCompressor::new(alloc, octets(alloc)?))
     }
 }
 
 impl Fresh for HashCompressor<Vec<u8>> {
     fn fresh(alloc: Global) -> Result<Self, AppendError> {
-        Ok(HashCompressor::new(alloc, Vec::new(alloc)))
+        Ok(HashCompressor::new(alloc, octets(alloc)?))
     }
 }
 
 impl Fresh for IndexCompressor<Vec<u8>> {
     fn fresh(alloc: Global) -> Result<Self, AppendError> {
-        Ok(IndexCompressor::new(alloc, Vec::new(alloc)))
+        Ok(IndexCompressor::new(alloc, octets(alloc)?))
     }
 }
 

@@ -2,3 +2,4 @@
 
 mod messages;
 mod moves;
+mod vectors;
