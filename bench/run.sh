@@ -42,7 +42,7 @@ if [ "${PEER:-}" ]; then
   done
   peers+=(peer)
 fi
-name_of() { case $1 in messages*) echo ours ;; *) echo "${PEER_NAME:-peer}" ;; esac; }
+name_of() { case $1 in messages*[1-9]*) echo "ours+${1#messages}" ;; messages*) echo ours ;; *) echo "${PEER_NAME:-peer}" ;; esac; }
 
 printf '%-12s %-15s %-6s %12s %12s\n' library way work 'ns, median' 'ns, least'
 for _ in $(seq "${ROUNDS:-1}"); do

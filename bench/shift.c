@@ -1,5 +1,5 @@
-/* Octets before the library's code, so that it lies SHIFT octets further: a loop takes up to half as
- * long again where its jumps cross or end at 32 octets on some processors, and where they lie is chance.
+/* Octets before the library's code, so that it lies SHIFT octets further: on some processors a loop takes up
+ * to a third more time where its jumps cross 32 octets or end at them, and where they lie is chance.
  */
 
 #define TEXT(number) #number
