@@ -153,8 +153,9 @@ pub extern "C" fn dns_bench_walk(octets: &[u8]) -> u64 {
 ///
 /// Targets 0 to 4 are octets, then static, tree, hash and index compressors over octets, emptied
 /// before each message; 5 to 9 are the same, new for each message. 10 and 11 are a static and an
-/// index compressor of which each builder has a reference, and 12 is a static compressor over an
-/// array of 512 octets, new for each message.
+/// index compressor, emptied before each message, of which each builder has a reference. 12 and 13
+/// are lent too, but new for each message: static compressors over an array of 512 octets, and over
+/// octets.
 #[unsafe(no_mangle)]
 pub extern "C" fn dns_bench_response(
     alloc: Global,

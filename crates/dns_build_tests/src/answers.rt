@@ -27,6 +27,10 @@ fn answers_the_readable_questions(rt: HostRuntime) -> Result<(), Fail> {
     let message = Message::from_slice(UNREADABLE.as_slice())?;
     let builder = MessageBuilder::new_vec(rt.alloc())?.start_answer(&message, Rcode::REFUSED)?;
     assert_eq!(rt; builder.as_slice(), REFUSED.as_slice());
+    let builder = MessageBuilder::new_vec(rt.alloc())?.start_error(&message, Rcode::REFUSED);
+    assert_eq!(rt; builder.as_slice(), REFUSED.as_slice());
+    let given = MessageBuilder::new_vec(rt.alloc())?.try_start_answer(&message, Rcode::REFUSED);
+    assert!(rt; given.is_ok_and(|builder| builder.as_slice() == REFUSED.as_slice()));
     Ok(())
 }
 

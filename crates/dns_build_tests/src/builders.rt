@@ -228,7 +228,11 @@ fn clones_over_compressors(rt: HostRuntime) -> Result<(), Fail> {
     assert_goes_on(&rt, StaticCompressor::new(Vec::new(alloc)), 25)?;
     assert_goes_on(&rt, TreeCompressor::new(alloc, Vec::new(alloc)), 25)?;
     assert_goes_on(&rt, HashCompressor::new(alloc, Vec::new(alloc)), 25)?;
-    assert_goes_on(&rt, IndexCompressor::new(alloc, Vec::new(alloc)), 25)
+    assert_goes_on(&rt, IndexCompressor::new(alloc, Vec::new(alloc)), 25)?;
+    let stream = StreamTarget::new_vec(alloc)?;
+    assert_goes_on(&rt, StaticCompressor::new(stream), 25)?;
+    let array = ArrayVec::<u8, 25>::new();
+    assert_goes_on(&rt, TreeCompressor::new(alloc, array), 25)
 }
 
 #[test]

@@ -75,7 +75,15 @@ fn an_error_has_the_text_of_its_part(rt: HostRuntime) -> Result<(), Fail> {
         .split_once(", ")
         .is_some_and(|(error, part)| error == part);
     assert!(rt; same);
-    let push = CopyRecordsError::from(PushError::LimitExceeded);
-    assert_eq!(rt; format!(in alloc; "{push}")?.as_str(), "limit exceeded");
+    let texts = [
+        (PushError::LimitExceeded, "limit exceeded"),
+        (PushError::CountOverflow, "counter overflow"),
+        (PushError::ShortBuf, "buffer size exceeded"),
+        (PushError::OutOfMemory, "out of memory"),
+    ];
+    for (error, text) in texts {
+        let push = CopyRecordsError::from(error);
+        assert_eq!(rt; format!(in alloc; "{push}")?.as_str(), text);
+    }
     Ok(())
 }

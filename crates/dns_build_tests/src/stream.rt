@@ -2,7 +2,7 @@
 use crate::rows::{Call, DONE, EXAMPLE_COM, ROOT, Row, SHORT, Step, asked, built, take_step};
 use arrayvec::ArrayVec;
 use dns_build::{Builder, BuilderStage, MessageBuilder};
-use dns_code::Rtype;
+use dns_code::{Class, Rtype};
 use dns_data::{A, Ns};
 use dns_item::Record;
 use dns_read::{Message, RecordIter};
@@ -126,6 +126,7 @@ fn is_address(record: Record<ParsedName<'_>, A>, address: [u8; 4]) -> Result<boo
     let name = Name::from_octets(EXAMPLE_COM)?;
     Ok(
         record.owner().octets_eq(&name)
+            && record.class() == Class::IN
             && record.ttl().as_secs() == 86_400
             && record.data().octets() == address,
     )
@@ -158,13 +159,15 @@ fn reads_the_question_and_the_server_back(rt: HostRuntime) -> Result<(), Fail> {
     let message = Message::from_slice(MESSAGE)?;
     let name = Name::from_octets(EXAMPLE_COM)?;
     let question = message.first_question().ok_or("question")?;
-    assert!(rt; question.qname().octets_eq(&name) && question.qtype() == Rtype::A);
-    let server = message.authority()?.limit_to::<Ns<_>>().next();
-    let server = server.ok_or("server")??;
-    assert!(rt;
-        server.owner().octets_eq(&name)
-            && server.ttl().as_secs() == 0
-            && server.data().nsdname().octets_eq(&name)
+    assert!(rt; question.qname().octets_eq(&name));
+    assert_eq!(rt;
+        (question.qtype(), question.qclass()),
+        (Rtype::A, Class::IN)
     );
+    let mut servers = message.authority()?.limit_to::<Ns<_>>();
+    let server = servers.next().ok_or("server")??;
+    assert_eq!(rt; (server.class(), server.ttl().as_secs()), (Class::IN, 0));
+    assert!(rt; server.owner().octets_eq(&name) && server.data().nsdname().octets_eq(&name));
+    assert!(rt; servers.next().is_none());
     Ok(())
 }

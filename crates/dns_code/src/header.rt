@@ -1,7 +1,11 @@
+//! The header of a message; and its flags, its counts, and the section that it begins.
 ghost use Rattle.std.specs.Prelude.{◌≡◌, ◌≤◌, ◌%◌, length, take, replicate};
 
 use crate::bits::{is_bit_set, with_bit};
-use crate::flags::Flags;
+pub use crate::counts::HeaderCounts;
+pub use crate::error::{CountOverflow, FlagsFromStrError};
+pub use crate::flags::Flags;
+pub use crate::section::HeaderSection;
 use dns_number::{Opcode, Rcode};
 
 /// The first four octets of a message: its ID, opcode, flags and rcode (RFC 1035 section 4.1.1; RFC 4035 section 3).

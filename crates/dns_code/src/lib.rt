@@ -8,7 +8,7 @@ mod bits;
 mod counts;
 mod error;
 mod flags;
-mod header;
+pub mod header;
 pub mod laws;
 mod section;
 

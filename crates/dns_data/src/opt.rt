@@ -5,7 +5,7 @@ ghost use Rattle.dns_opt.specs.OptionsOf.{are_options};
 
 use crate::record_data::{ComposeRecordData, ParseRecordData, RecordData};
 use dns_code::Rtype;
-use dns_opt::{OptionIter, are_options};
+use dns_opt::{OptionIter, are_options, known_options};
 use dns_wire::{AppendError, Composer, Octets, ParseError, Parser};
 use std::alloc::AllocError;
 
@@ -48,7 +48,7 @@ impl<Octs: Octets> Opt<Octs> {
     pub fn iter(&self) -> OptionIter<'_>
         ensures { options_left result ≡ opt_options self.now }
     {
-        OptionIter::of_options(self.octets.octets())
+        known_options(self.octets.octets())
     }
 
     /// The data of octets that are known to be a list of options, and at most 65,535.
@@ -116,9 +116,13 @@ impl<'a> ParseRecordData<'a> for Opt<&'a [u8]> {
 /// A clone of the holder. One that doesn't hold the same octets is answered by `AllocError`.
 impl<Octs: Octets + Clone> Clone for Opt<Octs> {
     ghost use Rattle.std.specs.Prelude.{◌≡◌};
-    ghost use Rattle.dns_data.specs.Opt.{opt_octets};
+    ghost use Rattle.dns_octets.specs.Octets.{ClonesSurely};
+    ghost use Rattle.dns_data.specs.Opt.{opt_holder_of, opt_octets};
 
     ghost is_clone = { λ opt clone. opt_octets clone ≡ opt_octets opt };
+
+    ghost is_infallible = { λ opt. ClonesSurely Octs.is_infallible Octs.is_clone Octs.octets
+        (opt_holder_of opt) };
 
     fn clone(&self) -> Result<Self, AllocError> {
         let octets = self.octets.clone()?;

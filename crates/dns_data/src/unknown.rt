@@ -124,9 +124,13 @@ impl<'a> ParseRecordData<'a> for UnknownRecordData<&'a [u8]> {
 /// A clone of the holder. One that doesn't hold the same octets is answered by `AllocError`.
 impl<Octs: Octets + Clone> Clone for UnknownRecordData<Octs> {
     ghost use Rattle.std.specs.Prelude.{◌≡◌};
-    ghost use Rattle.dns_data.specs.UnknownData.{unknown_rtype_of, unknown_octets};
+    ghost use Rattle.dns_octets.specs.Octets.{ClonesSurely};
+    ghost use Rattle.dns_data.specs.UnknownData.{unknown_holder_of, unknown_rtype_of, unknown_octets};
 
     ghost is_clone = { λ unknown clone. (unknown_rtype_of clone ≡ unknown_rtype_of unknown) × (unknown_octets clone ≡ unknown_octets unknown) };
+
+    ghost is_infallible = { λ unknown. ClonesSurely Octs.is_infallible Octs.is_clone Octs.octets
+        (unknown_holder_of unknown) };
 
     fn clone(&self) -> Result<Self, AllocError> {
         let octets = self.octets.clone()?;

@@ -16,6 +16,7 @@ pub(crate) type Array = ArrayVec<u8, 128>;
 pub(crate) struct Standing {
     header: Header,
     counts: HeaderCounts,
+    limit: Option<usize>,
     octets: Array,
 }
 
@@ -26,6 +27,7 @@ pub(crate) fn standing_of<T: Composer, S: BuilderStage>(
     Ok(Standing {
         header: builder.header(),
         counts: builder.counts(),
+        limit: builder.push_limit(),
         octets: Array::try_from(builder.as_slice())?,
     })
 }
@@ -36,11 +38,9 @@ pub(crate) fn assert_unchanged<R: Abort, T: Composer, S: BuilderStage>(
     builder: &Builder<T, S>,
     before: &Standing,
 ) {
-    let now = (builder.header(), builder.counts(), builder.as_slice());
-    assert_eq!(rt;
-        now,
-        (before.header, before.counts, before.octets.as_slice())
-    );
+    let now = (builder.header(), builder.counts(), builder.push_limit());
+    assert_eq!(rt; now, (before.header, before.counts, before.limit));
+    assert_eq!(rt; builder.as_slice(), before.octets.as_slice());
 }
 
 /// Pushes a question, a second time where the first is refused for memory.

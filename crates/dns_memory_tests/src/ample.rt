@@ -2,7 +2,8 @@
 use crate::written::assert_octets;
 use dns_message::code::{Class, Rtype};
 use dns_message::data::{
-    Cname, Opt, UnknownRecordData, compose_canonical_len_rdata, compose_len_rdata,
+    A, Cname, ComposeRecordData, Opt, Soa, UnknownRecordData, compose_canonical_len_rdata,
+    compose_len_rdata,
 };
 use dns_message::name::{Name, ParsedName};
 use dns_message::question::Question;
@@ -103,6 +104,42 @@ fn composes_data_behind_its_length(rt: HostRuntime) -> Result<(), Fail> {
         target.as_slice(),
         b"\x00\x0D\x07example\x03com\x00",
         "canonical data",
+    );
+    Ok(())
+}
+
+/// The canonical form of data.
+fn canonical<D: ComposeRecordData>(alloc: Global, data: &D) -> Result<Vec<u8>, AppendError> {
+    let mut target = Vec::new(alloc);
+    data.compose_canonical_rdata(&mut target)?;
+    Ok(target)
+}
+
+#[test]
+fn composes_canonical_data(rt: HostRuntime) -> Result<(), Fail> {
+    let alloc = rt.alloc();
+    let address = canonical(alloc, &A::from_octets(1, 2, 3, 4))?;
+    assert_octets(&rt, address.as_slice(), &[1, 2, 3, 4], "address");
+    let opaque = UnknownRecordData::from_octets(Rtype::TXT, *b"\x01A")?;
+    let opaque = canonical(alloc, &opaque)?;
+    assert_octets(&rt, opaque.as_slice(), b"\x01A", "opaque data");
+    let opt = canonical(alloc, &Opt::from_octets(*OPTION)?)?;
+    assert_octets(&rt, opt.as_slice(), OPTION, "OPT data");
+    let start = Soa::new(
+        Name::from_octets(NAME)?,
+        Name::from_octets(NAME)?,
+        1,
+        2,
+        3,
+        4,
+        5,
+    );
+    let start = canonical(alloc, &start)?;
+    assert_octets(
+        &rt,
+        start.as_slice(),
+        b"\x07example\x03com\x00\x07example\x03com\x00\x00\x00\x00\x01\x00\x00\x00\x02\x00\x00\x00\x03\x00\x00\x00\x04\x00\x00\x00\x05",
+        "start of a zone",
     );
     Ok(())
 }

@@ -36,6 +36,12 @@ impl Fresh for StaticCompressor<Vec<u8>> {
     }
 }
 
+impl Fresh for StaticCompressor<StreamTarget<Vec<u8>>> {
+    fn fresh(alloc: Global) -> Result<Self, AppendError> {
+        Ok(StaticCompressor::new(StreamTarget::fresh(alloc)?))
+    }
+}
+
 impl Fresh for TreeCompressor<Vec<u8>> {
     fn fresh(alloc: Global) -> Result<Self, AppendError> {
         Ok(TreeCompressor::new(alloc, octets(alloc)?))

@@ -9,6 +9,10 @@ use Rattle.dns_name.specs.declared.name_error.PresentationError.{PresentationErr
 use Rattle.dns_name.specs.declared.name_error.FromStrError.{FromStrError}
 use Rattle.dns_name.specs.declared.name_error.FromStrError.TheVariants.{Presentation, ShortBuf, OutOfMemory}
 
+-- the holder of a name's octets
+abbrev pub name_holder_of : {X : Type 0} {holder : Ghosts X} → Name X holder → X
+name_holder_of name = name.octets
+
 -- the labels of a name in octets of its own
 abbrev pub name_labels : {X : Type 0} {holder : Ghosts X} → Name X holder → Labels
 name_labels name = name.whole.0.0

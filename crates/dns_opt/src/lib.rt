@@ -14,4 +14,4 @@ mod split;
 pub use error::LongOptData;
 pub use header::OptHeader;
 pub use option::{ComposeOptData, SubnetAddr, UnknownOptData};
-pub use options::{OptionIter, are_options};
+pub use options::{OptionIter, are_options, known_options};

@@ -1,6 +1,6 @@
 //! What is gathered for an OPT record (RFC 6891 section 6.1).
 use dns_code::{Header, OptRcode, OptionCode};
-use dns_opt::UnknownOptData;
+use dns_opt::{LongOptData, UnknownOptData};
 use dns_opt_builder::OptBuilder;
 use dns_wire::AppendError;
 use std::process::Abort;
@@ -36,5 +36,7 @@ fn takes_65535_octets(rt: HostRuntime) -> Result<(), Fail> {
     let refused = opt.push_raw_option(OptionCode::from_int(65_001), &[]);
     let answers = (before, refused, opt.option_octets().len());
     assert_eq!(rt; answers, (65_535, Err(AppendError::ShortBuf), 65_535));
+    let text = format!(in rt.alloc(); "{LongOptData}")?;
+    assert_eq!(rt; text.as_str(), "option data too long");
     Ok(())
 }

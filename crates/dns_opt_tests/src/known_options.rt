@@ -29,7 +29,7 @@ fn adds_one_behind_the_other(rt: HostRuntime) {
     assert_eq!(rt; added, [Ok(()); 4]);
     let expected =
         b"\x00\x03\x00\x00\x00\x05\x00\x02\x08\x0D\x00\x09\x00\x00\x00\x0B\x00\x02\x01\x2C";
-    assert_options(&rt, &opt, expected, "questions");
+    assert_options(&rt, &opt, expected, "options");
 }
 
 #[test]

@@ -17,6 +17,7 @@ fn gives_each_option(rt: HostRuntime) {
         assert_eq!(rt; options.next(), Some((OptionCode::from_int(code), octets)));
     }
     assert!(rt; options.next().is_none() && options.next().is_none());
+    assert!(rt; OptionCode::from_int(3) != OptionCode::from_int(5));
 }
 
 #[test]

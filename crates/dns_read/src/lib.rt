@@ -7,7 +7,7 @@
 
 mod error;
 mod holders;
-mod message;
+pub mod message;
 mod message_iter;
 mod opt_searches;
 mod record_searches;

@@ -1,9 +1,12 @@
+//! Messages over octets: their calls, and their contracts; and the cursors and iterators that they give.
 ghost use Rattle.std.specs.Prelude.{◌≡◌, ◌≢◌, ◌↔◌, ◌<◌, ◌≤◌, ◌-◌, length, take, drop, slice_range, IsTrue, Ok, IfOk, IfErr, IsErr};
 ghost use Rattle.dns_code.specs.HeaderSection.{header_size};
 
-use crate::error::ShortMessage;
+pub use crate::error::ShortMessage;
+pub use crate::message_iter::MessageIter;
 use dns_code::{Header, HeaderCounts, HeaderSection, Rcode};
-use dns_section::{QuestionSection, RecordSection, first_section, following};
+pub use dns_section::{AnyRecordIter, QuestionSection, RecordIter, RecordSection, Section};
+use dns_section::{first_section, following};
 use dns_wire::{Octets, OctetsMut, ParseError};
 use std::alloc::AllocError;
 use std::convert::AsSlice;
@@ -281,9 +284,13 @@ impl<Octs: OctetsMut> Message<Octs> {
 
 /// A clone of the holder. One that doesn't hold the same octets is answered by `AllocError`.
 impl<Octs: Octets + Clone> Clone for Message<Octs> {
-    ghost use Rattle.dns_read.specs.Message.{message_octets};
+    ghost use Rattle.dns_octets.specs.Octets.{ClonesSurely};
+    ghost use Rattle.dns_read.specs.Message.{holder_of, message_octets};
 
     ghost is_clone = { λ message clone. message_octets clone ≡ message_octets message };
+
+    ghost is_infallible = { λ message. ClonesSurely Octs.is_infallible Octs.is_clone Octs.octets
+        (holder_of message) };
 
     fn clone(&self) -> Result<Self, AllocError> {
         let octets = self.octets.clone()?;

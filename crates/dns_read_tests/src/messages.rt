@@ -13,7 +13,7 @@ pub(crate) const POSITIVE_RESPONSE: &[u8; 45] =
 
 /// A message over octets, of which there are twelve or more.
 pub(crate) fn message_of<'a>(rt: &impl Abort, octets: &'a [u8]) -> Message<&'a [u8]> {
-    match Message::from_slice(octets) {
+    match Message::from_octets(octets) {
         Ok(message) => message,
         Err(_) => panic!(rt; "short message"),
     }
@@ -30,7 +30,7 @@ fn takes_twelve_octets(rt: HostRuntime) -> Result<(), Fail> {
 /// Whether the first octets are taken as a message.
 fn is_taken(octets: &[u8], len: usize) -> bool {
     match octets.get(..len) {
-        Some(first) => Message::from_slice(first).is_ok(),
+        Some(first) => Message::from_octets(first).is_ok(),
         None => false,
     }
 }
@@ -117,6 +117,8 @@ fn changes_holders(rt: HostRuntime) -> Result<(), Fail> {
     let owned = Message::<Vec<u8>>::try_octets_from(rt.alloc(), array)?;
     let lent = Message::<&[u8]>::try_octets_from(rt.alloc(), &owned)?;
     assert!(rt; is_response(&lent) && is_response(&owned.clone()?));
+    let copied = Message::<Vec<u8>>::try_octets_from(rt.alloc(), &owned)?;
+    assert!(rt; is_response(&copied));
     Ok(())
 }
 

@@ -71,7 +71,10 @@ pub(crate) fn take<T: Composer>(rt: &impl Abort, target: &mut T, step: Step) -> 
             assert_written(rt, target, len, answer, written);
         }
         Step::Fill(len) => fill(target, len)?,
-        Step::Cut(len) => target.truncate(len),
+        Step::Cut(len) => {
+            target.truncate(len);
+            assert_eq!(rt; target.as_slice().len(), len);
+        }
     }
     Ok(())
 }

@@ -4,6 +4,7 @@
 //! as four octets (RFC 1035 section 4.1.3).
 #![tactic(auto)]
 
+pub mod laws;
 mod ttl;
 
 pub use ttl::Ttl;

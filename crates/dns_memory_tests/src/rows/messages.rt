@@ -43,6 +43,12 @@ fn over_a_static_compressor(rt: HostRuntime) -> Result<(), Fail> {
 }
 
 #[test]
+fn over_a_static_compressor_over_a_stream(rt: HostRuntime) -> Result<(), Fail> {
+    type Target = StaticCompressor<StreamTarget<Vec<u8>>>;
+    assert_messages::<HostRuntime, Target>(&rt, rt.alloc(), COMPRESSED)
+}
+
+#[test]
 fn over_a_tree_compressor(rt: HostRuntime) -> Result<(), Fail> {
     assert_messages::<HostRuntime, TreeCompressor<Vec<u8>>>(&rt, rt.alloc(), COMPRESSED)
 }

@@ -22,6 +22,12 @@ fn over_a_static_compressor(rt: HostRuntime) -> Result<(), Fail> {
 }
 
 #[test]
+fn over_a_static_compressor_over_a_stream(rt: HostRuntime) -> Result<(), Fail> {
+    type Target = StaticCompressor<StreamTarget<Vec<u8>>>;
+    assert_moves::<HostRuntime, Target>(&rt, rt.alloc(), COMPRESSED.lengths)
+}
+
+#[test]
 fn over_a_tree_compressor(rt: HostRuntime) -> Result<(), Fail> {
     assert_moves::<HostRuntime, TreeCompressor<Vec<u8>>>(&rt, rt.alloc(), COMPRESSED.lengths)
 }

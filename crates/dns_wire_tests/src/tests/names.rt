@@ -255,6 +255,7 @@ fn goes_over_labels_from_both_ends(rt: HostRuntime) -> Result<(), Fail> {
     assert_label(&rt, labels.next_back(), b"com");
     assert_label(&rt, labels.next(), b"example");
     assert!(rt; labels.next().is_none() && labels.next_back().is_none());
+    assert_eq!(rt; name.iter_labels().map(|label| label.len()).max(), Some(7));
     Ok(())
 }
 

@@ -39,6 +39,7 @@ fn stays_within_32_bits(rt: HostRuntime) {
         Some(Ttl::from_secs(0)),
     ];
     assert_eq!(rt; checked, expected);
+    assert!(rt; Ttl::SECOND != Ttl::MINUTE);
 }
 
 #[test]
