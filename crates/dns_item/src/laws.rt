@@ -4,6 +4,8 @@ ghost use Rattle.dns_item.specs.Items.{HeaderOrFault, RecordOrFault, RecordEndOr
 ghost use Rattle.dns_item.specs.TypedRecords.{DataIsAnswered};
 ghost use Rattle.dns_question.specs.QuestionTexts.{EachTextAnswered, OneTextAnswer, EachWordsAnswered, OneWordsAnswer};
 
+pub use dns_ttl::laws::ttl_units;
+
 /// At each place exactly one question can be read or exactly one fault is met, never both; so for records and their headers.
 pub fn one_entry_or_fault()
     ensures questions { QuestionOrFault }

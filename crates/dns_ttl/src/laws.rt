@@ -4,7 +4,7 @@ ghost use Rattle.std.specs.Prelude.{◌≡◌, ◌∷◌, []};
 use crate::ttl::Ttl;
 
 /// The seconds of `SECOND`, `MINUTE`, `HOUR` and `DAY`.
-pub fn units() -> [u32; 4]
+pub fn ttl_units() -> [u32; 4]
     ensures { result ≡ 1 ∷ 60 ∷ 3600 ∷ 86400 ∷ [] }
 {
     [
