@@ -6,6 +6,7 @@
 
 mod error;
 mod header;
+mod known;
 pub mod laws;
 mod option;
 mod options;
@@ -13,5 +14,6 @@ mod split;
 
 pub use error::LongOptData;
 pub use header::OptHeader;
+pub use known::known_options;
 pub use option::{ComposeOptData, SubnetAddr, UnknownOptData};
-pub use options::{OptionIter, are_options, known_options};
+pub use options::{OptionIter, are_options};

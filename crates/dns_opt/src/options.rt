@@ -1,7 +1,6 @@
 //! Lists of options (RFC 6891 section 6.1.2).
 ghost use Rattle.std.specs.Prelude.{◌≡◌, IsTrue, IfSome, is_some};
-ghost use Rattle.dns_opt.specs.OptionsOf.{are_options, options_in};
-ghost use Rattle.dns_opt.specs.OptionIter.{options_left};
+ghost use Rattle.dns_opt.specs.OptionsOf.{are_options};
 
 use crate::split::split_option;
 use dns_code::OptionCode;
@@ -29,30 +28,33 @@ pub struct OptionIter<'a> {
 }
 
 impl<'a> OptionIter<'a> {
+    ghost use Rattle.dns_opt.specs.OptionsOf.{options_in};
+    ghost use Rattle.dns_opt.specs.OptionIter.{options_left};
+
     /// The options of octets that are a list of them.
     pub fn new(octets: &'a [u8]) -> Option<Self>
         ensures list { is_some result ≡ are_options octets.now }
         ensures options { IfSome result (λ it. options_left it ≡ options_in octets.now) }
     {
         if are_options(octets) {
-            Some(known_options(octets))
+            Some(OptionIter::of_options(octets))
         } else {
             None
         }
     }
-}
 
-/// The options of octets that are known to be a list of them.
-pub fn known_options(octets: &[u8]) -> OptionIter<'_>
-    requires { IsTrue (are_options octets.now) }
-    ensures { options_left result ≡ options_in octets.now }
-{
-    OptionIter { left: octets }
+    /// The options of octets that are known to be a list of them.
+    pub(crate) fn of_options(octets: &'a [u8]) -> Self
+        requires { IsTrue (are_options octets.now) }
+        ensures { options_left result ≡ options_in octets.now }
+    {
+        OptionIter { left: octets }
+    }
 }
 
 impl<'a> Iterator for OptionIter<'a> {
     ghost use Rattle.std.specs.Iterator.{YieldsFirstBy, item_count};
-    ghost use Rattle.dns_opt.specs.OptionIter.{option_item};
+    ghost use Rattle.dns_opt.specs.OptionIter.{option_item, options_left};
 
     type Item = (OptionCode, &'a [u8]);
 

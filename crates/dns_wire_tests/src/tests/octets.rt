@@ -1,7 +1,9 @@
 //! Holders of octets, and conversions that keep what they hold.
-ghost use Rattle.std.specs.Prelude.{◌≤◌, length};
+ghost use Rattle.std.specs.Prelude.{◌≤◌, length, IsOk};
 
 use arrayvec::ArrayVec;
+use dns_code::Rtype;
+use dns_item::Question;
 use dns_wire::{
     AppendError, FlattenInto, Name, Octets, OctetsFrom, OctetsMut, ParsedName, Parser, ToName,
     ToNameExt,
@@ -159,10 +161,19 @@ fn copy_of<T: Copy>(value: &T) -> T {
     *value
 }
 
+/// A clone of a question for a borrowed name: there always is one.
+fn clone_of<'a>(question: &Question<Name<&'a [u8]>>) -> Result<Question<Name<&'a [u8]>>, AllocError>
+    ensures { IsOk result }
+{
+    question.clone()
+}
+
 #[test]
 fn clones_names(rt: HostRuntime) -> Result<(), Fail> {
     let slice = Name::from_octets(PLAIN.as_slice())?;
     assert!(rt; copy_of(&slice).octets_eq(&slice));
+    let question = Question::new_in(slice, Rtype::A);
+    assert_eq!(rt; clone_of(&question), Ok(question));
     let answers = [
         clones(&slice),
         clones(&held()?),
