@@ -385,33 +385,22 @@ fn over_array<const N: usize>() -> StaticCompressor<ArrayVec<u8, N>> {
     StaticCompressor::new(ArrayVec::new())
 }
 
-/// A builder has no room over arrays of these sizes.
-macro_rules! assert_no_builder {
-    ($rt:expr; $($size:literal)*) => {
-        $(assert_eq!($rt;
-            MessageBuilder::from_target(over_array::<$size>()).err(),
-            Some(AppendError::ShortBuf)
-        );)*
-    };
-}
-
-/// Makes the calls of a row over arrays of these sizes.
-macro_rules! run_over_arrays {
-    ($rt:expr, $alloc:expr, $row:expr; $($size:literal)*) => {
-        $(run($rt, $alloc, over_array::<$size>(), $row)?;)*
-    };
-}
-
 #[test]
 fn has_no_room_for_the_header(rt: HostRuntime) {
-    assert_no_builder!(rt; 0 1 2 3 4 5 6 7 8 9 10 11);
+    let refused = [
+        MessageBuilder::from_target(over_array::<0>()).err(),
+        MessageBuilder::from_target(over_array::<11>()).err(),
+    ];
+    assert_eq!(rt; refused, [Some(AppendError::ShortBuf); 2]);
 }
 
 #[test]
 fn refuses_what_has_no_room(rt: HostRuntime) -> Result<(), Fail> {
     let alloc = rt.alloc();
-    run_over_arrays!(&rt, alloc, &NO_QUESTION; 12 13 14 15 16 17 18 19 20 21 22 23 24 25 26 27 28);
-    run_over_arrays!(&rt, alloc, &NO_ANSWER; 29 30 31 32 33 34 35 36 37 38 39 40 41 42 43 44);
+    run(&rt, alloc, over_array::<12>(), &NO_QUESTION)?;
+    run(&rt, alloc, over_array::<28>(), &NO_QUESTION)?;
+    run(&rt, alloc, over_array::<29>(), &NO_ANSWER)?;
+    run(&rt, alloc, over_array::<44>(), &NO_ANSWER)?;
     run(&rt, alloc, over_array::<45>(), &POSITIVE_RESPONSE)
 }
 
