@@ -168,12 +168,20 @@ fn clone_of<'a>(question: &Question<Name<&'a [u8]>>) -> Result<Question<Name<&'a
     question.clone()
 }
 
+/// A clone of a name in an array vector: there always is one.
+fn held_clone_of(name: &Name<ArrayVec<u8, 13>>) -> Result<Name<ArrayVec<u8, 13>>, AllocError>
+    ensures { IsOk result }
+{
+    name.clone()
+}
+
 #[test]
 fn clones_names(rt: HostRuntime) -> Result<(), Fail> {
     let slice = Name::from_octets(PLAIN.as_slice())?;
     assert!(rt; copy_of(&slice).octets_eq(&slice));
     let question = Question::new_in(slice, Rtype::A);
     assert_eq!(rt; clone_of(&question), Ok(question));
+    assert!(rt; held_clone_of(&held()?)?.octets_eq(&slice));
     let answers = [
         clones(&slice),
         clones(&held()?),
