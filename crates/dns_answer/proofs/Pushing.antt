@@ -1,17 +1,16 @@
 -- How the records that a question asks for are pushed one by one.
-use Rattle.std.proofs.Common.{◌≡◌, ◌∙◌, ℕ, ◌+◌, ◌<◌, ◌≤◌, Bool, true, false, cond, List, [], ◌∷◌, ◌++◌, length, length-append, take, drop, get_or, append_assoc, ap, sym, refl, subst, arith, None}
+use Rattle.std.proofs.Common.{◌≡◌, ◌∙◌, ℕ, ◌+◌, ◌<◌, ◌≤◌, Bool, true, false, cond, List, [], ◌∷◌, ◌++◌, length, length-append, take, drop, get_or, append_assoc, ap, sym, subst, arith, None}
 use Rattle.std.proofs.lemmas.Bool.{le-leb, lt-leb}
 use Rattle.std.proofs.Math.Seq.{take-length}
 use Rattle.std.proofs.lemmas.List.{take_more, append-nil, map-append, take-append-drop}
 use Rattle.std.proofs.lemmas.List.Elements.{filter-append}
-use Rattle.std.specs.Prelude.{map, filter, nat_le, Result, Ok, Err}
+use Rattle.std.specs.Prelude.{map, nat_le, Result, Ok, Err}
 use Rattle.dns_wire.specs.Pieces.{Plain}
 use Rattle.dns_wire.specs.Targets.{Fits, Passes}
-use Rattle.dns_code.specs.Header.{header_octets}
 use Rattle.dns_question.specs.Questions.{QuestionItem}
 use Rattle.dns_item.specs.Items.{RecordItem}
 use Rattle.dns_build.specs.Standing.{Built, StandsFor, MovesState, InEach, size_after}
-use Rattle.dns_build.specs.State.{InAnswer, State, with_record, most_entries, tc_rewound, up_to}
+use Rattle.dns_build.specs.State.{InAnswer, State, with_record, most_entries, tc_rewound}
 use Rattle.dns_build.specs.declared.push_error.PushError.{PushError}
 use Rattle.dns_build.specs.declared.push_error.PushError.TheVariants.{CountOverflow, LimitExceeded, ShortBuf, OutOfMemory}
 use Rattle.dns_answer.specs.Answering.{is_asked, asked_records, with_answers, size, all_or_none}

@@ -1,5 +1,5 @@
 -- How a reply is started: which questions it has, and how many octets.
-use Rattle.std.proofs.Common.{◌≡◌, ◌∙◌, ℕ, ◌+◌, ◌<◌, ◌≤◌, List, [], ◌∷◌, ◌++◌, length, length-append, append_assoc, ap, cond, sym, refl, subst, inl, inr, arith, true, false, Bool}
+use Rattle.std.proofs.Common.{◌≡◌, ◌∙◌, ℕ, ◌<◌, ◌≤◌, List, [], ◌∷◌, ◌++◌, length, length-append, append_assoc, ap, cond, sym, refl, subst, inl, inr, arith, true, false, Bool}
 use Rattle.std.proofs.lemmas.Bool.{leb-true}
 use Rattle.std.proofs.lemmas.List.{append-nil}
 use Rattle.std.specs.List.{filter_map}
@@ -22,11 +22,11 @@ use Rattle.dns_section.proofs.theory.ReadingLemmas.{readings_of_questions_end}
 use Rattle.dns_build.specs.Answers.{PushesAll, StartsAnswer, GivesAnswer, IsEither, answering, readable_questions}
 use Rattle.dns_build.specs.MessageOf.{ReadsBack}
 use Rattle.dns_build.specs.Standing.{Built, InEach, PushAnswers, StandsFor, fresh}
-use Rattle.dns_build.specs.State.{InAnswer, InQuestion, State, fold, with_limit, move_to, up_to, tc_rewound}
+use Rattle.dns_build.specs.State.{InAnswer, InQuestion, State, with_limit, move_to, up_to, tc_rewound}
 use Rattle.dns_build.specs.declared.push_error.PushError.{PushError}
 use Rattle.dns_build.specs.declared.push_error.PushError.TheVariants.{CountOverflow, LimitExceeded, ShortBuf, OutOfMemory}
 use Rattle.dns_answer.specs.declared.answering.NoAnswer.TheVariants.{Refused}
-use Rattle.dns_answer.specs.Answering.{HasNoAnswer, IsMessage, all_or_none, answer_to, asked_again, asked_records, format_error, payload_size, size, size_said, with_answers}
+use Rattle.dns_answer.specs.Answering.{HasNoAnswer, IsMessage, answer_to, asked_again, asked_records, format_error, payload_size, size, size_said, with_answers}
 use Rattle.dns_answer.specs.Pushing.{AddsAll, RefusesMore}
 use Rattle.dns_answer.proofs.Sizes.{sized, size_moved, cut_within, longer_questions, items_within}
 

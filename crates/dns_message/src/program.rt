@@ -209,13 +209,23 @@ fn follow<T: Composer, W: Write>(
         return Err(Fault::BadLine(number));
     };
     let (stage, reply) = make(alloc, stage, call, replies)?;
-    let len = stage.as_slice().len();
+    print_reply(writer, reply, number, stage.as_slice().len())?;
+    Ok(stage)
+}
+
+/// Prints the reply to a call that stands in a line, behind which the message has so many octets.
+fn print_reply<W: Write>(
+    writer: &mut W,
+    reply: Reply,
+    number: usize,
+    len: usize,
+) -> Result<(), Fault> {
     match reply {
         Reply::Done => output::print_done(writer, len)?,
         Reply::Refused(error) => output::print_refused(writer, error, len)?,
         Reply::Misplaced => return Err(Fault::BadLine(number)),
     }
-    Ok(stage)
+    Ok(())
 }
 
 /// Makes one call, and gives the reply, which is the only one in `replies` then.

@@ -7,7 +7,7 @@ use Rattle.std.proofs.lemmas.Grind.{common_steps}
 use Rattle.std.proofs.lemmas.List.Elements.{All-append}
 use Rattle.dns_name.specs.Names.{Labels, IsLabel, name_size, max_size, framed}
 use Rattle.dns_name.specs.NameTexts.{dot, SpellsOctet, SpellsFirst, SpellsLabel, SpellsLabels, NameTextFaulty}
-use Rattle.dns_name.specs.NameReading.{EndsLabel, LabelFirst, AreOctets}
+use Rattle.dns_name.specs.NameReading.{LabelFirst, AreOctets}
 use Rattle.dns_name.specs.declared.name_error.PresentationError.{PresentationError}
 
 -- A front of the text spells the octets of a label that are read so far, behind labels of the size. A fault that is met behind them is one of the text.

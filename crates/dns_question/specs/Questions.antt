@@ -1,7 +1,7 @@
 -- A question as a value, and how it is written. RFC 1035 section 4.1.2.
-use Rattle.std.specs.Prelude.{ℕ, ◌<◌, ◌^◌, List, ◌++◌, ◌≡◌, ◌+◌, ◌≤◌, length}
+use Rattle.std.specs.Prelude.{ℕ, ◌<◌, ◌^◌, List, ◌++◌, ◌≡◌, ◌+◌, length}
 use Rattle.std.specs.Int.{to_be_bytes, w16}
-use Rattle.dns_name.specs.Names.{Labels, IsName, Fault, Stands, FaultAt, Walked, SkipFaultAt, ReadsOrFaults, EndsOrFaults}
+use Rattle.dns_name.specs.Names.{Labels, IsName, Fault, Stands, ReadsOrFaults, EndsOrFaults}
 use Rattle.dns_name.specs.Parsers.{number_at}
 use Rattle.dns_wire.specs.Pieces.{Rule, Piece, put_octets, both, put_name, IsGrowing}
 use Rattle.dns_wire.specs.Targets.{Written, IsTarget, lay}

@@ -9,12 +9,12 @@ use Rattle.dns_item.specs.declared.parsed_record.ParsedRecord.{ParsedRecord}
 use Rattle.dns_section.specs.Reading.{Reading}
 use Rattle.dns_section.specs.Reading.Reading.{none, entry, stop}
 use Rattle.dns_section.specs.RecordSection.{position, records_left, record_answer, BeginsSection}
-use Rattle.dns_section.specs.RecordsFrom.{in_octets, records_from, records_in}
+use Rattle.dns_section.specs.RecordsFrom.{in_octets, records_in}
 use Rattle.dns_section.specs.Sections.{answer_count, AnswersFault}
 use Rattle.dns_section.specs.declared.record_section.RecordSection.{RecordSection}
 use Rattle.dns_section.specs.declared.section.Section.TheVariants.{Answer}
 use Rattle.dns_section.proofs.theory.RecordsFromLemmas.{records_from_are_read}
-use Rattle.dns_transfer.specs.Transfer.{AreAnswersOf, AreTransferred, Taken, is_whole}
+use Rattle.dns_transfer.specs.Transfer.{AreTransferred, Taken}
 use Rattle.dns_transfer.specs.Transfer.AreAnswersOf.{section, no_section}
 use Rattle.dns_transfer.specs.Transfer.AreTransferred.{none as no_message, message, fault}
 use Rattle.dns_transfer.specs.Taking.{Takes, TakesAnswers, up_to_fault}

@@ -312,7 +312,6 @@ fn write_number<W: fmt::Write>(
     octets: &[u8],
 ) -> fmt::Result {
     let number = number_of(octets);
-    let seconds = second_count(number);
     match field {
         Field::Id => write!(f, "identifier {number}"),
         Field::Count(part) => {
@@ -327,14 +326,13 @@ fn write_number<W: fmt::Write>(
             let class = Class::from_int(short_of(octets));
             write!(f, "class {class}")
         }
-        Field::Ttl => write!(f, "TTL {seconds}"),
+        Field::Ttl => {
+            let seconds = second_count(number);
+            write!(f, "TTL {seconds}")
+        }
         Field::DataLength => write!(f, "data length {number}"),
         Field::Preference => write!(f, "preference {number}"),
-        Field::Zone(ZoneNumber::Serial) => write!(f, "serial {number}"),
-        Field::Zone(ZoneNumber::Refresh) => write!(f, "refresh {seconds}"),
-        Field::Zone(ZoneNumber::Retry) => write!(f, "retry {seconds}"),
-        Field::Zone(ZoneNumber::Expire) => write!(f, "expire {seconds}"),
-        Field::Zone(ZoneNumber::Minimum) => write!(f, "minimum {seconds}"),
+        Field::Zone(part) => write_zone_number(f, part, number),
         Field::PayloadSize => write!(f, "UDP payload size {number}"),
         Field::Version => write!(f, "EDNS version {number}"),
         Field::OptFlags => write_opt_flags(f, number),
@@ -342,6 +340,22 @@ fn write_number<W: fmt::Write>(
             let count = octet_count(octets.len());
             write!(f, "data, {count}")
         }
+    }
+}
+
+/// Prints one of the numbers of a zone: all but the serial are seconds (RFC 1035 section 3.3.13).
+fn write_zone_number<W: fmt::Write>(
+    f: &mut fmt::Formatter<W>,
+    part: ZoneNumber,
+    number: u32,
+) -> fmt::Result {
+    let seconds = second_count(number);
+    match part {
+        ZoneNumber::Serial => write!(f, "serial {number}"),
+        ZoneNumber::Refresh => write!(f, "refresh {seconds}"),
+        ZoneNumber::Retry => write!(f, "retry {seconds}"),
+        ZoneNumber::Expire => write!(f, "expire {seconds}"),
+        ZoneNumber::Minimum => write!(f, "minimum {seconds}"),
     }
 }
 

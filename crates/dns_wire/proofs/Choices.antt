@@ -6,7 +6,7 @@ use Rattle.std.proofs.lemmas.Bool.{and_parts}
 use Rattle.std.proofs.lemmas.Grind.{common_steps}
 use Rattle.std.specs.FinMap.{get, len}
 use Rattle.dns_name.specs.Names.{Labels, framed}
-use Rattle.dns_wire.specs.Pieces.{Memory, Spot, remember, Rule, Plain, Static, Tree, Hash, spell, spell_label, is_kept, put_name, pointer}
+use Rattle.dns_wire.specs.Pieces.{Memory, Spot, remember, Rule, Plain, Static, Tree, Hash, spell, is_kept, put_name, pointer}
 use Rattle.dns_wire.specs.Choice.{place_of, first_suffixes, IsFirstKnown, IsFar, Chooses, IsAmong, NamesByChoice}
 use Rattle.dns_wire.specs.Choice.Chooses.{shared, written_out}
 use Rattle.dns_wire.proofs.theory.PutNames.{SpellsAs, spells_as}

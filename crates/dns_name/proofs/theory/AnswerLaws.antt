@@ -1,14 +1,13 @@
 -- At each place one name stands or one fault is met.
 use Rattle.std.proofs.Common.{◌≡◌, ℕ, zero, suc, ◌+◌, ◌-◌, ◌*◌, ◌<◌, ◌≤◌, ◌⊎◌, inl, inr, List, [], ◌∷◌, length, arith, ap, sym, ◌∙◌, refl, subst}
-use Rattle.std.specs.Prelude.{Result, Ok, Err, All}
-use Rattle.std.proofs.lemmas.List.Elements.{All-cons}
+use Rattle.std.specs.Prelude.{Result, Ok, Err}
 use Rattle.std.proofs.lemmas.Bool.Decides.{leb_tells}
-use Rattle.dns_name.specs.Names.{Fault, Labels, IsLabel, IsName, name_size, max_size, head_at, Stands, Faulty, label_at}
+use Rattle.dns_name.specs.Names.{Fault, Labels, name_size, max_size, head_at, Stands, Faulty, label_at}
 use Rattle.dns_name.specs.Names.Fault.{ShortInput, Form}
 use Rattle.dns_name.specs.Names.Faulty.{head, long, cut, ahead, label, pointer}
 use Rattle.dns_name.specs.declared.head.Head.{Head}
 use Rattle.dns_name.specs.declared.head.Head.TheVariants.{Root, Label, Pointer}
-use Rattle.dns_name.specs.Unique.{name_size-label_at, length_label, label_head}
+use Rattle.dns_name.specs.Unique.{name_size-label_at, label_head}
 use Rattle.dns_name.proofs.theory.HeadLemmas.{at_label, at_pointer}
 
 module _ (b : List ℕ) where

@@ -1,7 +1,7 @@
 -- How many octets are written of a name.
-use Rattle.std.proofs.Common.{ℕ, ◌+◌, ◌≤◌, Bool, true, false, Option, Some, None, List, [], ◌∷◌, length, length-append, arith}
+use Rattle.std.proofs.Common.{ℕ, ◌+◌, ◌≤◌, List, [], ◌∷◌, length, length-append, arith}
 use Rattle.dns_name.specs.Names.{Labels, uncompressed}
-use Rattle.dns_wire.specs.Pieces.{Memory, Spot, Rule, Plain, Static, Tree, Hash, spell, spell_label, put_name}
+use Rattle.dns_wire.specs.Pieces.{Memory, Rule, Plain, Static, Tree, Hash, put_name}
 use Rattle.dns_wire.specs.Parts.{Part, Octets, CompressibleName, put_part, put_parts, part_size, parts_size}
 use Rattle.dns_wire.specs.TargetLaws.{NamesAreShort}
 use Rattle.dns_name.proofs.theory.LabelsLemmas.{length-uncompressed}

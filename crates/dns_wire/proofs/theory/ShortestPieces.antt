@@ -7,7 +7,7 @@ use Rattle.dns_name.specs.Names.{Labels, IsName, name_size, max_size, Walked}
 use Rattle.dns_wire.specs.Pieces.{Memory, Spot, nothing, suffix_cmp, remember, Rule, Plain, Static, Tree, Hash, Piece, Laid, put_octets, both, with_length, spell, kept, put_name}
 use Rattle.dns_wire.specs.Parts.{Part, Octets, CompressibleName, AreParts, put_parts, PartsNear}
 use Rattle.dns_wire.specs.Targets.{At, Remembers, Written, IsTarget, lay}
-use Rattle.dns_wire.specs.Spelling.{IsShared, Spelling, IsShortest, SharesAll, AddsShortest, PartsAreShortest}
+use Rattle.dns_wire.specs.Spelling.{IsShared, Spelling, SharesAll, AddsShortest, PartsAreShortest}
 use Rattle.dns_wire.specs.Spelling.Spelling.{none, octets, whole, shared}
 use Rattle.dns_wire.proofs.theory.TargetTheorems.{near_end}
 use Rattle.dns_wire.proofs.theory.PutNames.{put_name_grows, spells_as}

@@ -1,4 +1,4 @@
-use Rattle.std.proofs.Common.{inl, inr, Some, None, refl}
+use Rattle.std.proofs.Common.{Some, None, refl}
 use Rattle.dns_name.specs.Names.{fault_of}
 use Rattle.dns_read.specs.Message.{message_octets}
 use Rattle.dns_read.proofs.theory.SectionStartLemmas.{start_found, no_answers, no_authorities, no_additionals}

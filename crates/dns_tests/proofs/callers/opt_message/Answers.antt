@@ -7,7 +7,6 @@ use Rattle.dns_opt_builder.specs.declared.builder.OptBuilder.{OptBuilder}
 use Rattle.dns_build.specs.Opt.{Gathers, OptAnswers, PushesOpt, opt_record, with_opt}
 use Rattle.dns_build.specs.Standing.{Built, fresh, size_after}
 use Rattle.dns_build.specs.State.{State, InAdditional, move_to, with_record}
-use Rattle.dns_build.specs.declared.push_error.PushError.{PushError}
 use Rattle.dns_tests.proofs.callers.opt_message.Goals as goal
 
 -- what is accepted was gathered without an error

@@ -1,7 +1,4 @@
-use Rattle.std.proofs.Common.{◌≡◌, map, List}
 use Rattle.dns_read.specs.Message.{message_octets}
-use Rattle.dns_section.specs.RecordSection.{record_answer}
-use Rattle.dns_transfer.specs.Transfer.{AreTransferred}
 use Rattle.dns_transfer.proofs.Readings.{goes_on, ends, all_taken}
 use Rattle.dns_transfer.proofs.Unique.{one_transfer}
 use Rattle.dns_transfer.proofs.transfer.items.Goals as goal
