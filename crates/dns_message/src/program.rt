@@ -213,7 +213,7 @@ fn follow<T: Composer, W: Write>(
     Ok(stage)
 }
 
-/// Prints the reply to a call that stands in a line, behind which the message has so many octets.
+/// Prints the reply to the call of a line, after which the message has `len` octets. A misplaced call is a bad line.
 fn print_reply<W: Write>(
     writer: &mut W,
     reply: Reply,
