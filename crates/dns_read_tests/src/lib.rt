@@ -15,4 +15,5 @@ mod questions;
 mod records;
 #[cfg(test)]
 mod searches;
+#[cfg(test)]
 mod section_order;

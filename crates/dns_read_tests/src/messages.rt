@@ -1,8 +1,9 @@
 //! Messages over octets: their header, their holders, and where their sections start.
 use arrayvec::ArrayVec;
 use dns_code::Header;
-use dns_read::{Message, Section, ShortMessage};
-use dns_wire::{AppendError, Octets, OctetsFrom, ParseError};
+use dns_read::{Message, ShortMessage};
+use dns_wire::{AppendError, Name, OctetsFrom, ParseError, ParsedName, ToNameExt};
+use std::alloc::Global;
 use std::convert::AsSlice;
 use std::process::Abort;
 use std::test::Fail;
@@ -19,117 +20,138 @@ pub(crate) fn message_of<'a>(rt: &impl Abort, octets: &'a [u8]) -> Message<&'a [
     }
 }
 
+/// Whether a name has these octets, in full.
+pub(crate) fn is_name(name: &ParsedName<'_>, octets: &[u8]) -> bool {
+    match Name::from_octets(octets) {
+        Ok(expected) => name.octets_eq(&expected),
+        Err(_) => false,
+    }
+}
+
+/// Octets are these.
+fn assert_octets(rt: &impl Abort, octets: &[u8], expected: &[u8], row: &str) {
+    assert!(rt; octets == expected, "{row}");
+}
+
+/// Whether octets are too few for a message.
+fn is_short(octets: &[u8]) -> bool {
+    Message::from_octets(octets).is_err()
+}
+
 #[test]
 fn takes_twelve_octets(rt: HostRuntime) -> Result<(), Fail> {
-    assert!(rt; Message::from_octets([0; 12]).is_ok() && Message::from_octets([0; 11]).is_err());
+    for len in 0..12 {
+        assert!(rt;
+            is_short(&POSITIVE_RESPONSE[..len]),
+            "Cut in the header, {len}"
+        );
+    }
+    assert!(rt;
+        is_short(&[0; 11]) && !is_short(&[0; 12]),
+        "Twelve octets are a message"
+    );
     assert!(rt; Message::try_from_octets([1; 11]).err() == Some([1; 11]));
     assert!(rt; format!(in rt.alloc(); "{ShortMessage}")?.as_str() == "short message");
     Ok(())
 }
 
-/// Whether the first octets are taken as a message.
-fn is_taken(octets: &[u8], len: usize) -> bool {
-    match octets.get(..len) {
-        Some(first) => Message::from_octets(first).is_ok(),
-        None => false,
-    }
-}
-
-#[test]
-fn refuses_messages_that_are_cut_in_the_header(rt: HostRuntime) {
-    for len in 0..12 {
-        assert!(rt; !is_taken(POSITIVE_RESPONSE, len), "{len}");
-    }
-}
-
-/// Whether a message has this header section, in which there is one answer and no error.
-fn has_header(message: &Message<&[u8]>, octets: &[u8; 12]) -> bool {
-    message.header_section().as_slice() == octets.as_slice()
-        && Some(message.header().as_slice()) == octets.get(..4)
-        && message.header_counts().ancount() == 1
-        && message.no_error()
-        && !message.is_error()
-}
-
-/// The octets of a message whose header is written anew.
-fn with_new_header(mut message: Message<[u8; 12]>) -> [u8; 12] {
-    message.set_header(Header::new());
-    message.into_octets()
-}
-
 #[test]
 fn takes_another_header(rt: HostRuntime) -> Result<(), Fail> {
-    let message = Message::from_octets([7; 12])?;
+    let mut message = Message::from_octets([7; 12])?;
     assert!(rt; message.is_error() && !message.no_error());
-    assert!(rt; with_new_header(message) == [0, 0, 0, 0, 7, 7, 7, 7, 7, 7, 7, 7]);
+    message.set_header(Header::new());
+    assert!(rt; message.no_error() && !message.is_error());
+    let expected = [0, 0, 0, 0, 7, 7, 7, 7, 7, 7, 7, 7];
+    assert_octets(&rt, message.as_octets(), &expected, "holder");
+    let holder: &[u8; 12] = message.as_ref();
+    assert_octets(&rt, holder, &expected, "holder by reference");
+    assert_octets(&rt, &message.into_octets(), &expected, "holder taken out");
     Ok(())
 }
 
-/// Where the question, answer, authority and additional sections of a message start.
-fn starts_of(message: &Message<&[u8]>) -> Result<[usize; 4], ParseError> {
+/// Where the question, answer, authority and additional sections of a message start, and the zone, prerequisite and update
+/// sections.
+fn starts_of(message: &Message<&[u8]>) -> Result<[usize; 7], ParseError> {
     let (questions, answers, authorities, additionals) = message.sections()?;
     Ok([
         questions.pos(),
         answers.pos(),
         authorities.pos(),
         additionals.pos(),
+        message.zone().pos(),
+        message.prerequisite()?.pos(),
+        message.update()?.pos(),
     ])
-}
-
-/// Where the zone, prerequisite and update sections of a message start.
-fn update_starts(message: &Message<&[u8]>) -> Result<[usize; 3], ParseError> {
-    let zone = message.zone().pos();
-    let prerequisite = message.prerequisite()?.pos();
-    Ok([zone, prerequisite, message.update()?.pos()])
-}
-
-/// The section behind the questions of a message.
-fn second_section(message: &Message<&[u8]>) -> Result<Section, ParseError> {
-    Ok(message.question().next_section()?.section())
 }
 
 #[test]
 fn has_a_header_and_sections(rt: HostRuntime) {
     let message = message_of(&rt, POSITIVE_RESPONSE);
-    let header = b"\x00\x00\x81\xA0\x00\x01\x00\x01\x00\x00\x00\x00";
-    assert!(rt; has_header(&message, header));
-    assert!(rt; starts_of(&message) == Ok([12, 29, 45, 45]));
-    assert!(rt; update_starts(&message) == Ok([12, 29, 45]));
-    assert!(rt; second_section(&message) == Ok(Section::Answer));
+    let octets = b"\x00\x00\x81\xA0\x00\x01\x00\x01\x00\x00\x00\x00";
+    assert_octets(
+        &rt,
+        message.header_section().as_slice(),
+        octets,
+        "header section",
+    );
+    assert_octets(
+        &rt,
+        message.header().as_slice(),
+        b"\x00\x00\x81\xA0",
+        "header",
+    );
+    assert!(rt; message.header_counts().ancount() == 1);
+    assert!(rt; starts_of(&message) == Ok([12, 29, 45, 45, 12, 29, 45]));
 }
 
-/// Whether a message has the octets of `POSITIVE_RESPONSE`.
-fn is_response<Octs: Octets>(message: &Message<Octs>) -> bool {
-    message.as_slice() == POSITIVE_RESPONSE.as_slice()
-        && AsSlice::as_slice(message) == POSITIVE_RESPONSE.as_slice()
-        && message.for_slice_ref().as_slice() == POSITIVE_RESPONSE.as_slice()
-        && message.for_slice().as_slice() == POSITIVE_RESPONSE.as_slice()
+/// A message converted into another holder has the same octets.
+fn assert_converted<T: OctetsFrom<S> + AsSlice<u8> + Drop, S>(
+    rt: &impl Abort,
+    alloc: Global,
+    source: S,
+    row: &str,
+) {
+    match T::try_octets_from(alloc, source) {
+        Ok(message) => assert_octets(rt, message.as_slice(), POSITIVE_RESPONSE, row),
+        Err(_) => panic!(rt; "{row}"),
+    }
 }
 
 #[test]
-fn changes_holders(rt: HostRuntime) -> Result<(), Fail> {
+fn changes_holders(rt: HostRuntime) {
+    let alloc = rt.alloc();
     let message = message_of(&rt, POSITIVE_RESPONSE);
-    let lent = Message::<&[u8]>::try_octets_from(rt.alloc(), message)?;
-    let refused = Message::<ArrayVec<u8, 44>>::try_octets_from(rt.alloc(), lent).err();
+    assert_converted::<Message<&[u8]>, _>(&rt, alloc, message, "slice");
+    assert_converted::<Message<&[u8]>, _>(&rt, alloc, &message, "slice of a message");
+    assert_converted::<Message<Vec<u8>>, _>(&rt, alloc, message, "memory");
+    assert_converted::<Message<Vec<u8>>, _>(&rt, alloc, &message, "memory of a message");
+    assert_converted::<Message<ArrayVec<u8, 45>>, _>(&rt, alloc, message, "array");
+    assert_converted::<Message<ArrayVec<u8, 45>>, _>(&rt, alloc, &message, "array of a message");
+    let refused = Message::<ArrayVec<u8, 44>>::try_octets_from(alloc, message).err();
     assert!(rt; refused == Some(AppendError::ShortBuf));
-    let array = Message::<ArrayVec<u8, 45>>::try_octets_from(rt.alloc(), lent)?;
-    assert!(rt; is_response(&array));
-    let owned = Message::<Vec<u8>>::try_octets_from(rt.alloc(), array)?;
-    let lent = Message::<&[u8]>::try_octets_from(rt.alloc(), &owned)?;
-    assert!(rt; is_response(&lent) && is_response(&owned.clone()?));
-    let copied = Message::<Vec<u8>>::try_octets_from(rt.alloc(), &owned)?;
-    assert!(rt; is_response(&copied));
-    Ok(())
 }
 
-/// Whether a message lends its holder, which is all zero.
-fn lends_zeros(message: &Message<[u8; 12]>) -> bool {
-    let holder: &[u8; 12] = message.as_ref();
-    holder.as_slice() == [0; 12].as_slice() && message.as_octets() == holder
+/// A message and its clone have the octets of `POSITIVE_RESPONSE`.
+fn assert_cloned(rt: &impl Abort, message: &Message<Vec<u8>>) -> Result<(), Fail> {
+    let clone = message.clone()?;
+    assert_octets(rt, clone.as_slice(), POSITIVE_RESPONSE, "clone");
+    assert_octets(
+        rt,
+        message.for_slice().as_slice(),
+        POSITIVE_RESPONSE,
+        "for_slice",
+    );
+    assert_octets(
+        rt,
+        message.for_slice_ref().as_slice(),
+        POSITIVE_RESPONSE,
+        "for_slice_ref",
+    );
+    Ok(())
 }
 
 #[test]
-fn lends_its_holder(rt: HostRuntime) -> Result<(), Fail> {
-    assert!(rt; lends_zeros(&Message::from_octets([0; 12])?));
-    Ok(())
+fn clones_its_octets(rt: HostRuntime) -> Result<(), Fail> {
+    let octets = POSITIVE_RESPONSE.to_vec(rt.alloc())?;
+    assert_cloned(&rt, &Message::from_octets(octets)?)
 }

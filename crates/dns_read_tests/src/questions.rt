@@ -1,10 +1,9 @@
 //! Questions of messages, and where the answers behind them start.
-use crate::messages::{POSITIVE_RESPONSE, message_of};
+use crate::messages::{POSITIVE_RESPONSE, is_name, message_of};
 use dns_code::{Class, Rtype};
 use dns_read::{Message, QuestionSection, RecordSection};
-use dns_wire::{FormError, Name, ParseError, ToNameExt};
+use dns_wire::{FormError, ParseError};
 use std::process::Abort;
-use std::test::Fail;
 
 pub(crate) const EXAMPLE: &[u8] = b"\x07example\x03com\x00";
 
@@ -14,43 +13,45 @@ const BAD_POINTER: ParseError = ParseError::Form(FormError::BAD_POINTER);
 
 const LONG_NAME: ParseError = ParseError::Form(FormError::LONG_NAME);
 
+const SHORT: ParseError = ParseError::ShortInput;
+
 /// Messages whose first question can't be read, why, and where their answers start.
 const FAULTY: &[(&str, &[u8], ParseError, Result<usize, ParseError>)] = &[
     (
-        "compression loop",
+        "Compression loop",
         b"\x00\x00\x00\x00\x00\x01\x00\x00\x00\x00\x00\x00\x01\x61\xC0\x0C\x00\x01\x00\x01",
         LONG_NAME,
         Ok(20),
     ),
     (
-        "pointer to its own place",
+        "Pointer to its own place",
         b"\x00\x00\x00\x00\x00\x01\x00\x00\x00\x00\x00\x00\xC0\x0C\x00\x01\x00\x01",
         BAD_POINTER,
         Ok(18),
     ),
     (
-        "reserved label type 40",
+        "Reserved label types, 40",
         b"\x00\x00\x00\x00\x00\x01\x00\x00\x00\x00\x00\x00\x40\x00\x00\x01\x00\x01",
         BAD_LABEL,
         Err(BAD_LABEL),
     ),
     (
-        "reserved label type 80",
+        "Reserved label types, 80",
         b"\x00\x00\x00\x00\x00\x01\x00\x00\x00\x00\x00\x00\x80\x00\x00\x01\x00\x01",
         BAD_LABEL,
         Err(BAD_LABEL),
     ),
     (
-        "missing question",
+        "Missing question",
         b"\x00\x00\x00\x00\x00\x01\x00\x00\x00\x00\x00\x00",
-        ParseError::ShortInput,
-        Err(ParseError::ShortInput),
+        SHORT,
+        Err(SHORT),
     ),
     (
-        "counts without entries",
+        "Counts without entries",
         b"\x00\x00\x00\x00\xFF\xFF\x00\x00\x00\x00\x00\x00",
-        ParseError::ShortInput,
-        Err(ParseError::ShortInput),
+        SHORT,
+        Err(SHORT),
     ),
 ];
 
@@ -73,58 +74,66 @@ fn sole_fault(mut questions: QuestionSection<'_>) -> Option<ParseError> {
     fault
 }
 
-/// Whether a message without records has this fault in its first question, and its answers start here.
-fn is_faulty(
-    message: &Message<&[u8]>,
+/// A message without records has this fault in its first question, and its answers start here.
+fn assert_faulty(
+    rt: &impl Abort,
+    row: &str,
+    octets: &[u8],
     fault: ParseError,
     start: Result<usize, ParseError>,
-) -> bool {
-    sole_fault(message.question()) == Some(fault)
-        && start_of(message.answer()) == start
-        && message.iter().next().is_none()
-}
-
-/// Whether a message has one question, for this name, its type A, in the class IN, and its answers start here behind it.
-pub(crate) fn has_sole(message: &Message<&[u8]>, name: &[u8], end: usize) -> Result<bool, Fail> {
-    let expected = Name::from_octets(name)?;
-    let mut questions = message.question();
-    let Some(Ok(question)) = questions.next() else {
-        return Ok(false);
-    };
-    let is_same = question.qname().octets_eq(&expected)
-        && question.qtype() == Rtype::A
-        && question.qclass() == Class::IN;
-    Ok(
-        is_same
-            && questions.next().is_none()
-            && questions.pos() == end
-            && start_of(message.answer()) == Ok(end),
-    )
+) {
+    let message = message_of(rt, octets);
+    assert!(rt;
+        sole_fault(message.question()) == Some(fault)
+            && start_of(message.answer()) == start
+            && message.iter().next().is_none(),
+        "{row}, {} octets",
+        octets.len()
+    );
 }
 
 #[test]
 fn ends_at_the_first_fault(rt: HostRuntime) {
     for &(row, octets, fault, start) in FAULTY {
-        assert!(rt; is_faulty(&message_of(&rt, octets), fault, start), "{row}");
+        assert_faulty(&rt, row, octets, fault, start);
     }
-}
-
-#[test]
-fn reads_messages_that_are_cut_in_the_question(rt: HostRuntime) {
-    let short = ParseError::ShortInput;
+    let octets = long_question(62);
+    assert_faulty(
+        &rt,
+        "One octet too long",
+        &octets,
+        LONG_NAME,
+        Err(LONG_NAME),
+    );
     for n in 12..29 {
-        let message = message_of(&rt, &POSITIVE_RESPONSE[..n]);
-        assert!(rt; is_faulty(&message, short, Err(short)), "{n}");
+        assert_faulty(
+            &rt,
+            "Cut in the question",
+            &POSITIVE_RESPONSE[..n],
+            SHORT,
+            Err(SHORT),
+        );
     }
 }
 
-#[test]
-fn follows_a_pointer_into_the_header(rt: HostRuntime) -> Result<(), Fail> {
-    // octet 4 is zero
-    let octets = b"\x00\x00\x00\x00\x00\x01\x00\x00\x00\x00\x00\x00\xC0\x04\x00\x01\x00\x01";
-    assert!(rt; has_sole(&message_of(&rt, octets), b"\x00", 18)?);
-    Ok(())
+/// Whether a message has one question, for this name, its type A, in the class IN, and its answers start here behind it.
+pub(crate) fn has_sole(message: &Message<&[u8]>, name: &[u8], end: usize) -> bool {
+    let mut questions = message.question();
+    let Some(Ok(question)) = questions.next() else {
+        return false;
+    };
+    is_name(question.qname(), name)
+        && question.qtype() == Rtype::A
+        && question.qclass() == Class::IN
+        && questions.next().is_none()
+        && questions.pos() == end
+        && start_of(questions.next_section()) == Ok(end)
+        && start_of(message.answer()) == Ok(end)
 }
+
+/// A question for the name at octet 4, which is zero.
+const POINTER_INTO_THE_HEADER: &[u8] =
+    b"\x00\x00\x00\x00\x00\x01\x00\x00\x00\x00\x00\x00\xC0\x04\x00\x01\x00\x01";
 
 /// A message with one question for the addresses of a name with labels of 63, 63, 63 and `last` octets.
 fn long_question(last: u8) -> [u8; 272] {
@@ -140,33 +149,28 @@ fn long_question(last: u8) -> [u8; 272] {
 }
 
 #[test]
-fn reads_a_name_of_255_octets_and_no_longer_one(rt: HostRuntime) -> Result<(), Fail> {
+fn reads_a_sole_question(rt: HostRuntime) {
+    let message = message_of(&rt, POINTER_INTO_THE_HEADER);
+    assert!(rt; has_sole(&message, b"\x00", 18), "Pointer into the header");
     let octets = long_question(61);
-    assert!(rt; has_sole(&message_of(&rt, &octets), &octets[12..267], 271)?);
-    let octets = long_question(62);
-    assert!(rt; is_faulty(&message_of(&rt, &octets), LONG_NAME, Err(LONG_NAME)));
-    Ok(())
+    let message = message_of(&rt, &octets);
+    assert!(rt; has_sole(&message, &octets[12..267], 271), "Longest name");
 }
 
 /// Questions for a. and b., and one that can't be read.
 const QUESTIONS: &[u8; 32] =
     b"\x00\x00\x00\x00\x00\x03\x00\x00\x00\x00\x00\x00\x01a\x00\x00\x01\x00\x01\x01b\x00\x00\x01\x00\x01\xC0\x1A\x00\x01\x00\x01";
 
-/// How many questions can be read.
-fn readable(questions: QuestionSection<'_>) -> u32 {
+#[test]
+fn goes_over_questions(rt: HostRuntime) {
+    let message = message_of(&rt, QUESTIONS);
+    let questions = message.question();
     let mut readable = 0_u32;
     for question in questions {
         if question.is_ok() {
             readable = readable.wrapping_add(1);
         }
     }
-    readable
-}
-
-#[test]
-fn goes_over_questions(rt: HostRuntime) {
-    let message = message_of(&rt, QUESTIONS);
-    let questions = message.question();
     // it is a copy that goes on
-    assert!(rt; readable(questions) == 2 && questions.pos() == 12);
+    assert!(rt; readable == 2 && questions.pos() == 12);
 }

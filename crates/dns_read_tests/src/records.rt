@@ -1,35 +1,36 @@
 //! Sections of records: what their cursors and the iterator over all of them give.
-use crate::messages::{POSITIVE_RESPONSE, message_of};
+use crate::messages::{POSITIVE_RESPONSE, is_name, message_of};
 use crate::questions::{EXAMPLE, has_sole, start_of};
-use dns_code::{Class, Rtype};
 use dns_data::{A, Cname, UnknownRecordData};
 use dns_item::ParsedRecord;
 use dns_read::{Message, MessageIter, RecordSection, Section};
-use dns_wire::{FormError, Name, ParseError, ParsedName, ToNameExt};
+use dns_wire::{FormError, ParseError, ParsedName};
 use std::process::Abort;
 use std::test::Fail;
 
 const BAD_POINTER: ParseError = ParseError::Form(FormError::BAD_POINTER);
 
+const SHORT: ParseError = ParseError::ShortInput;
+
 /// Messages whose only answer can't be read, why, and where their authority section starts.
 const FAULTY: &[(&str, &[u8], ParseError, Result<usize, ParseError>)] = &[
     (
-        "pointer to its own place",
+        "Unreadable answer is passed over",
         b"\x00\x00\x00\x00\x00\x00\x00\x01\x00\x00\x00\x00\xC0\x0C\x00\x01\x00\x01\x00\x00\x00\x00\x00\x00",
         BAD_POINTER,
         Ok(24),
     ),
     (
-        "data cut off",
+        "Data cut off",
         b"\x00\x00\x00\x00\x00\x00\x00\x01\x00\x00\x00\x00\x00\x00\x01\x00\x01\x00\x00\x00\x00\x00\x05\x01\x02\x03\x04",
-        ParseError::ShortInput,
-        Err(ParseError::ShortInput),
+        SHORT,
+        Err(SHORT),
     ),
     (
-        "missing answer",
+        "Missing records in `iter`",
         b"\x00\x00\x00\x00\x00\x00\x00\x01\x00\x00\x00\x00",
-        ParseError::ShortInput,
-        Err(ParseError::ShortInput),
+        SHORT,
+        Err(SHORT),
     ),
 ];
 
@@ -67,8 +68,8 @@ fn sole_fault(
     Some((fault, next_start(records.next_section())))
 }
 
-/// What an iterator gives three times: whether it is a record, or the fault.
-fn given(mut items: MessageIter<'_>) -> [Option<Result<(), ParseError>>; 3] {
+/// What an iterator gives three times: the section of a record, or a fault.
+fn given(mut items: MessageIter<'_>) -> [Option<Result<Section, ParseError>>; 3] {
     [
         next_given(&mut items),
         next_given(&mut items),
@@ -76,9 +77,9 @@ fn given(mut items: MessageIter<'_>) -> [Option<Result<(), ParseError>>; 3] {
     ]
 }
 
-fn next_given(items: &mut MessageIter<'_>) -> Option<Result<(), ParseError>> {
+fn next_given(items: &mut MessageIter<'_>) -> Option<Result<Section, ParseError>> {
     match items.next()? {
-        Ok(_) => Some(Ok(())),
+        Ok((_, section)) => Some(Ok(section)),
         Err(fault) => Some(Err(fault)),
     }
 }
@@ -105,53 +106,48 @@ fn ends_at_an_answer_that_cant_be_read(rt: HostRuntime) {
         let message = message_of(&rt, octets);
         assert!(rt; is_faulty(&message, 12, fault, authority), "{row}");
     }
-}
-
-#[test]
-fn reads_messages_that_are_cut_in_the_answer(rt: HostRuntime) -> Result<(), Fail> {
-    let short = ParseError::ShortInput;
     for n in 29..45 {
         let message = message_of(&rt, &POSITIVE_RESPONSE[..n]);
-        let is_whole_question = has_sole(&message, EXAMPLE, 29)?;
-        assert!(rt;
-            is_whole_question && is_faulty(&message, 29, short, Err(short)),
-            "{n}"
-        );
+        let is_cut = has_sole(&message, EXAMPLE, 29) && is_faulty(&message, 29, SHORT, Err(SHORT));
+        assert!(rt; is_cut, "Cut in the answer, {n}");
     }
-    Ok(())
 }
 
 #[test]
 fn ends_at_an_additional_record_that_cant_be_read(rt: HostRuntime) -> Result<(), Fail> {
     let message = message_of(&rt, UNREADABLE_ADDITIONAL);
-    assert!(rt; sole_fault(message.additional()?) == Some((BAD_POINTER, Ok(None))));
-    let missing = message_of(&rt, &UNREADABLE_ADDITIONAL[..12]);
-    assert!(rt; given(missing.iter()) == [Some(Err(ParseError::ShortInput)), None, None]);
+    let fault = sole_fault(message.additional()?);
+    assert!(rt;
+        fault == Some((BAD_POINTER, Ok(None))),
+        "Unreadable additional record"
+    );
+    let message = message_of(&rt, &UNREADABLE_ADDITIONAL[..12]);
+    let items = given(message.iter());
+    assert!(rt;
+        items == [Some(Err(SHORT)), None, None],
+        "Missing records in `iter`"
+    );
     Ok(())
 }
 
-/// Whether a record is example.com. 3600 IN A 203.0.113.1.
-fn is_address(record: &ParsedRecord<'_>) -> Result<bool, Fail> {
-    let owner = Name::from_octets(EXAMPLE)?;
-    let Ok(Some(read)) = record.to_record::<A>() else {
-        return Ok(false);
-    };
-    let fields = record.rtype() == Rtype::A
-        && record.class() == Class::IN
-        && record.ttl().as_secs() == 3600
-        && record.rdlen() == 4;
-    Ok(fields && record.owner().octets_eq(&owner) && read.data().octets() == [203, 0, 113, 1])
-}
-
-/// Whether a record is no alias, and has these octets as data of any type.
-fn is_opaque(record: &ParsedRecord<'_>, data: &[u8]) -> bool {
-    match record.to_any_record::<UnknownRecordData<&[u8]>>() {
-        Ok(opaque) => {
-            *opaque.data().data() == data
-                && matches!(record.to_record::<Cname<ParsedName<'_>>>(), Ok(None))
-        }
-        Err(_) => false,
-    }
+/// Whether a record is example.com. 3600 IN A 203.0.113.1, and no alias.
+fn is_address(record: &ParsedRecord<'_>) -> Result<bool, ParseError> {
+    let fields = (
+        record.rtype().to_int(),
+        record.class().to_int(),
+        record.ttl().as_secs(),
+        record.rdlen(),
+    );
+    let address = record.to_record::<A>()?.map(|read| read.data().octets());
+    let opaque = record.to_any_record::<UnknownRecordData<&[u8]>>()?;
+    let is_alias = record.to_record::<Cname<ParsedName<'_>>>()?.is_some();
+    Ok(
+        fields == (1, 1, 3600, 4)
+            && is_name(&record.owner(), EXAMPLE)
+            && address == Some([203, 0, 113, 1])
+            && *opaque.data().data() == [203, 0, 113, 1].as_slice()
+            && !is_alias,
+    )
 }
 
 #[test]
@@ -161,7 +157,7 @@ fn reads_an_answer(rt: HostRuntime) -> Result<(), Fail> {
     let Some(Ok(answer)) = answers.next() else {
         panic!(rt; "no record")
     };
-    assert!(rt; answers.pos() == 45 && is_opaque(&answer, &[203, 0, 113, 1]));
+    assert!(rt; answers.pos() == 45 && answers.section() == Section::Answer);
     assert!(rt; is_address(&answer)? && is_address(&answer.clone()?)?);
     Ok(())
 }
@@ -170,29 +166,28 @@ fn reads_an_answer(rt: HostRuntime) -> Result<(), Fail> {
 const TWO_SECTIONS: &[u8; 100] =
     b"\x00\x00\x00\x00\x00\x00\x00\x01\x00\x01\x00\x00\x03foo\x07example\x03com\x00\x00\x05\x00\x01\x00\x01\x4F\xF0\x00\x11\x03baz\x07example\x03com\x00\x03bar\x07example\x03com\x00\x00\x02\x00\x01\x00\x01\x4F\xF0\x00\x11\x03baz\x07example\x03com\x00";
 
-/// The section and the TTL of the next record.
-fn next_item(items: &mut MessageIter<'_>) -> Option<(Section, u32)> {
-    let (record, section) = items.next()?.ok()?;
-    Some((section, record.ttl().as_secs()))
-}
-
-/// Whether the first record of a message is an alias of this name, if it is an alias.
-fn is_alias_of(message: &Message<&[u8]>, target: &[u8]) -> Option<bool> {
-    let target = Name::from_octets(target).ok()?;
-    let (record, _) = message.iter().next()?.ok()?;
-    let alias = record.into_record::<Cname<ParsedName<'_>>>().ok()??;
-    Some(alias.into_data().into_cname().octets_eq(&target))
+/// Whether the first record of a message is an alias of this name for 86,000 seconds.
+fn is_alias_of(message: &Message<&[u8]>, target: &[u8]) -> bool {
+    let Some(Ok((record, _))) = message.iter().next() else {
+        return false;
+    };
+    match record.into_record::<Cname<ParsedName<'_>>>() {
+        Ok(Some(alias)) => alias.ttl().as_secs() == 86_000 && is_name(alias.data().cname(), target),
+        _ => false,
+    }
 }
 
 #[test]
 fn iterates_over_sections(rt: HostRuntime) {
     let message = message_of(&rt, TWO_SECTIONS);
-    let mut items = (&message).into_iter();
-    let given = [next_item(&mut items), next_item(&mut items)];
-    let expected = [
-        Some((Section::Answer, 86000)),
-        Some((Section::Authority, 86000)),
+    let sections = [
+        Some(Ok(Section::Answer)),
+        Some(Ok(Section::Authority)),
+        None,
     ];
-    assert!(rt; given == expected && items.next().is_none() && items.next().is_none());
-    assert!(rt; is_alias_of(&message, b"\x03baz\x07example\x03com\x00") == Some(true));
+    assert!(rt; given((&message).into_iter()) == sections, "Copy records");
+    assert!(rt;
+        is_alias_of(&message, b"\x03baz\x07example\x03com\x00"),
+        "`into_record` to `Cname`"
+    );
 }
