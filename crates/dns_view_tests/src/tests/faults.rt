@@ -1,236 +1,234 @@
 //! Faults, each at the octet where it stands, and one row for what is behind.
-use crate::tests::printed::{Labels, Message, assert_items, assert_printed, printed, questions};
+use crate::tests::printed::{HEADER_LINES, Labels, Message, assert_messages, printed, questions};
 use std::alloc::Global;
 use std::process::Abort;
 use std::test::Fail;
 
 /// Fewer octets than a header section has (RFC 1035 section 4.1.1).
-const SHORT_MESSAGES: Message<'_> = (
+const SHORT_MESSAGE: Message<'_> = (
+    "short message",
     &[
         0x00, 0x01, 0x00, 0x00, 0x00, 0x01, 0x00, 0x00, 0x00, 0x00, 0x00,
     ],
-    &[
-        "     0  00 01 00 00 00 01 00 00  too short for a header section of 12 octets",
-        "        00 00 00",
-    ],
+    r#"     0  00 01 00 00 00 01 00 00  too short for a header section of 12 octets
+        00 00 00
+"#,
 );
 
 const POINTER_TO_ITSELF: Message<'_> = (
+    "pointer to itself",
     &[
         0x00, 0x00, 0x00, 0x00, 0x00, 0x01, 0x00, 0x00, 0x00, 0x00, 0x00, 0x00, 0xc0, 0x0c, 0x00,
         0x01, 0x00, 0x01,
     ],
-    &[
-        "question 1",
-        "    12                           FAULT: pointer to 12, which doesn't lead back",
-        "    12  c0 0c 00 01 00 01        unread, 6 octets",
-    ],
+    r#"question 1
+    12                           FAULT: pointer to 12, which doesn't lead back
+    12  c0 0c 00 01 00 01        unread, 6 octets
+"#,
 );
 
 const POINTER_BEHIND_LABELS: Message<'_> = (
+    "pointer behind labels",
     &[
         0x00, 0x00, 0x00, 0x00, 0x00, 0x01, 0x00, 0x00, 0x00, 0x00, 0x00, 0x00, 0x01, 0x61, 0xc0,
         0x0e, 0x00, 0x01, 0x00, 0x01,
     ],
-    &[
-        "question 1",
-        "    12  01 61                    name, label of 1 octet: \"a\"",
-        "    14                           FAULT: pointer to 14, which doesn't lead back",
-        "    14  c0 0e 00 01 00 01        unread, 6 octets",
-    ],
+    r#"question 1
+    12  01 61                    name, label of 1 octet: "a"
+    14                           FAULT: pointer to 14, which doesn't lead back
+    14  c0 0e 00 01 00 01        unread, 6 octets
+"#,
 );
 
 /// The pointer leads to an octet of the header that begins no label.
 const POINTER_TO_A_FAULT: Message<'_> = (
+    "pointer to a fault",
     &[
         0x00, 0x00, 0x00, 0x00, 0x00, 0x01, 0x00, 0x00, 0x00, 0x00, 0x00, 0x40, 0xc0, 0x0b, 0x00,
         0x01, 0x00, 0x01,
     ],
-    &[
-        "question 1",
-        "    12                           FAULT: pointer to 11, where no name can be",
-        "                                 read",
-        "    12  c0 0b 00 01 00 01        unread, 6 octets",
-    ],
+    r#"question 1
+    12                           FAULT: pointer to 11, where no name can be
+                                 read
+    12  c0 0b 00 01 00 01        unread, 6 octets
+"#,
 );
 
 /// The high bits 01 (RFC 1035 section 4.1.4).
 const OCTET_THAT_BEGINS_NO_LABEL: Message<'_> = (
+    "octet that begins no label",
     &[
         0x00, 0x00, 0x00, 0x00, 0x00, 0x01, 0x00, 0x00, 0x00, 0x00, 0x00, 0x00, 0x03, 0x77, 0x77,
         0x77, 0x40, 0x61, 0x00, 0x00, 0x01, 0x00, 0x01,
     ],
-    &[
-        "question 1",
-        "    12  03 77 77 77              name, label of 3 octets: \"www\"",
-        "    16                           FAULT: no label begins with the high bits 01",
-        "                                 or 10",
-        "    16  40 61 00 00 01 00 01     unread, 7 octets",
-    ],
+    r#"question 1
+    12  03 77 77 77              name, label of 3 octets: "www"
+    16                           FAULT: no label begins with the high bits 01
+                                 or 10
+    16  40 61 00 00 01 00 01     unread, 7 octets
+"#,
 );
 
 const LABEL_THAT_IS_CUT: Message<'_> = (
+    "label that is cut",
     &[
         0x00, 0x00, 0x00, 0x00, 0x00, 0x01, 0x00, 0x00, 0x00, 0x00, 0x00, 0x00, 0x03, 0x77, 0x77,
         0x77, 0x05, 0x61, 0x62,
     ],
-    &[
-        "question 1",
-        "    12  03 77 77 77              name, label of 3 octets: \"www\"",
-        "    16                           FAULT: the octets end before the name does",
-        "    16  05 61 62                 unread, 3 octets",
-    ],
+    r#"question 1
+    12  03 77 77 77              name, label of 3 octets: "www"
+    16                           FAULT: the octets end before the name does
+    16  05 61 62                 unread, 3 octets
+"#,
 );
 
 /// The header counts two questions, and one is there.
 const MISSING_QUESTION: Message<'_> = (
+    "missing question",
     &[
         0x00, 0x00, 0x00, 0x00, 0x00, 0x02, 0x00, 0x00, 0x00, 0x00, 0x00, 0x00, 0x00, 0x00, 0x01,
         0x00, 0x01,
     ],
-    &[
-        "question 1",
-        "    12  00                       name, root label: .",
-        "    13  00 01                    type A",
-        "    15  00 01                    class IN",
-        "question 2",
-        "    17                           FAULT: the octets end before the name does",
-    ],
+    r#"question 1
+    12  00                       name, root label: .
+    13  00 01                    type A
+    15  00 01                    class IN
+question 2
+    17                           FAULT: the octets end before the name does
+"#,
 );
 
 /// The TTL of four octets has three.
 const SHORT_RECORD: Message<'_> = (
+    "short record",
     &[
         0x00, 0x00, 0x00, 0x00, 0x00, 0x00, 0x00, 0x01, 0x00, 0x00, 0x00, 0x00, 0x00, 0x00, 0x01,
         0x00, 0x01, 0x00, 0x00, 0x0e,
     ],
-    &[
-        "answer 1",
-        "    12  00                       owner, root label: .",
-        "    13  00 01                    type A",
-        "    15  00 01                    class IN",
-        "    17                           FAULT: the octets end before the TTL does",
-        "    17  00 00 0e                 unread, 3 octets",
-    ],
+    r#"answer 1
+    12  00                       owner, root label: .
+    13  00 01                    type A
+    15  00 01                    class IN
+    17                           FAULT: the octets end before the TTL does
+    17  00 00 0e                 unread, 3 octets
+"#,
 );
 
 /// The data has four octets by its length, and one is there.
 const MISSING_DATA: Message<'_> = (
+    "missing data",
     &[
         0x00, 0x00, 0x00, 0x00, 0x00, 0x00, 0x00, 0x00, 0x00, 0x01, 0x00, 0x00, 0x00, 0x00, 0x01,
         0x00, 0x01, 0x00, 0x00, 0x00, 0x00, 0x00, 0x04, 0x7f,
     ],
-    &[
-        "authority 1",
-        "    12  00                       owner, root label: .",
-        "    13  00 01                    type A",
-        "    15  00 01                    class IN",
-        "    17  00 00 00 00              TTL 0 seconds",
-        "    21  00 04                    data length 4",
-        "    23                           FAULT: the octets end before the data does",
-        "    23  7f                       unread, 1 octet",
-    ],
+    r#"authority 1
+    12  00                       owner, root label: .
+    13  00 01                    type A
+    15  00 01                    class IN
+    17  00 00 00 00              TTL 0 seconds
+    21  00 04                    data length 4
+    23                           FAULT: the octets end before the data does
+    23  7f                       unread, 1 octet
+"#,
 );
 
 /// An address in three octets; what is behind the record isn't read.
 const DATA_THAT_IS_TOO_SHORT: Message<'_> = (
+    "data that is too short",
     &[
         0x00, 0x00, 0x00, 0x00, 0x00, 0x00, 0x00, 0x02, 0x00, 0x00, 0x00, 0x00, 0x00, 0x00, 0x01,
         0x00, 0x01, 0x00, 0x00, 0x00, 0x00, 0x00, 0x03, 0x7f, 0x00, 0x00, 0x00, 0x00, 0x01,
     ],
-    &[
-        "answer 1",
-        "    12  00                       owner, root label: .",
-        "    13  00 01                    type A",
-        "    15  00 01                    class IN",
-        "    17  00 00 00 00              TTL 0 seconds",
-        "    21  00 03                    data length 3",
-        "    23                           FAULT: the octets end before the address does",
-        "    23  7f 00 00 00 00 01        unread, 6 octets",
-    ],
+    r#"answer 1
+    12  00                       owner, root label: .
+    13  00 01                    type A
+    15  00 01                    class IN
+    17  00 00 00 00              TTL 0 seconds
+    21  00 03                    data length 3
+    23                           FAULT: the octets end before the address does
+    23  7f 00 00 00 00 01        unread, 6 octets
+"#,
 );
 
 /// An address in five octets.
 const OCTETS_BEHIND_THE_VALUE: Message<'_> = (
+    "octets behind the value",
     &[
         0x00, 0x00, 0x00, 0x00, 0x00, 0x00, 0x00, 0x01, 0x00, 0x00, 0x00, 0x00, 0x00, 0x00, 0x01,
         0x00, 0x01, 0x00, 0x00, 0x00, 0x00, 0x00, 0x05, 0x7f, 0x00, 0x00, 0x01, 0x02,
     ],
-    &[
-        "answer 1",
-        "    12  00                       owner, root label: .",
-        "    13  00 01                    type A",
-        "    15  00 01                    class IN",
-        "    17  00 00 00 00              TTL 0 seconds",
-        "    21  00 05                    data length 5",
-        "    23  7f 00 00 01              address 127.0.0.1",
-        "    27                           FAULT: octets are left behind the value of the",
-        "                                 data",
-        "    27  02                       unread, 1 octet",
-    ],
+    r#"answer 1
+    12  00                       owner, root label: .
+    13  00 01                    type A
+    15  00 01                    class IN
+    17  00 00 00 00              TTL 0 seconds
+    21  00 05                    data length 5
+    23  7f 00 00 01              address 127.0.0.1
+    27                           FAULT: octets are left behind the value of the
+                                 data
+    27  02                       unread, 1 octet
+"#,
 );
 
 /// The name of CNAME has a label that ends behind the data.
 const NAME_THAT_LEAVES_ITS_DATA: Message<'_> = (
+    "name that leaves its data",
     &[
         0x00, 0x00, 0x00, 0x00, 0x00, 0x00, 0x00, 0x01, 0x00, 0x00, 0x00, 0x00, 0x00, 0x00, 0x05,
         0x00, 0x01, 0x00, 0x00, 0x00, 0x00, 0x00, 0x02, 0x02, 0x61, 0x62, 0x00,
     ],
-    &[
-        "answer 1",
-        "    12  00                       owner, root label: .",
-        "    13  00 05                    type CNAME",
-        "    15  00 01                    class IN",
-        "    17  00 00 00 00              TTL 0 seconds",
-        "    21  00 02                    data length 2",
-        "    23                           FAULT: the octets end before the canonical",
-        "                                 name does",
-        "    23  02 61 62 00              unread, 4 octets",
-    ],
+    r#"answer 1
+    12  00                       owner, root label: .
+    13  00 05                    type CNAME
+    15  00 01                    class IN
+    17  00 00 00 00              TTL 0 seconds
+    21  00 02                    data length 2
+    23                           FAULT: the octets end before the canonical
+                                 name does
+    23  02 61 62 00              unread, 4 octets
+"#,
 );
 
 /// The option has four octets by its length, and two are there.
 const OPTION_THAT_IS_CUT: Message<'_> = (
+    "option that is cut",
     &[
         0x00, 0x00, 0x00, 0x00, 0x00, 0x00, 0x00, 0x00, 0x00, 0x00, 0x00, 0x01, 0x00, 0x00, 0x29,
         0x04, 0xd0, 0x00, 0x00, 0x00, 0x00, 0x00, 0x06, 0x00, 0x0a, 0x00, 0x04, 0x01, 0x02,
     ],
-    &[
-        "additional 1",
-        "    12  00                       owner, root label: .",
-        "    13  00 29                    type OPT",
-        "    15  04 d0                    UDP payload size 1232",
-        "    17  00                       extended rcode 0",
-        "    18  00                       EDNS version 0",
-        "    19  00 00                    EDNS flags 0000",
-        "    21  00 06                    data length 6",
-        "    23  00 0a                    COOKIE, option code 10",
-        "    25  00 04                    COOKIE, option length 4",
-        "    27                           FAULT: the octets end before the option data",
-        "                                 does",
-        "    27  01 02                    unread, 2 octets",
-    ],
+    r#"additional 1
+    12  00                       owner, root label: .
+    13  00 29                    type OPT
+    15  04 d0                    UDP payload size 1232
+    17  00                       extended rcode 0
+    18  00                       EDNS version 0
+    19  00 00                    EDNS flags 0000
+    21  00 06                    data length 6
+    23  00 0a                    COOKIE, option code 10
+    25  00 04                    COOKIE, option length 4
+    27                           FAULT: the octets end before the option data
+                                 does
+    27  01 02                    unread, 2 octets
+"#,
 );
 
 /// No fault: two octets are behind the last item.
 const OCTETS_BEHIND_THE_ITEMS_UNREAD: Message<'_> = (
+    "octets behind the items unread",
     &[
         0x00, 0x00, 0x00, 0x00, 0x00, 0x00, 0x00, 0x00, 0x00, 0x00, 0x00, 0x00, 0xff, 0xfe,
     ],
-    &["    12  ff fe                    unread, 2 octets"],
+    r#"    12  ff fe                    unread, 2 octets
+"#,
 );
 
-/// Faults in names, each behind the lines of the header.
-const FAULTY_NAMES: &[Message<'_>] = &[
+/// Each behind the lines of the header.
+const FAULTS: &[Message<'_>] = &[
     POINTER_TO_ITSELF,
     POINTER_BEHIND_LABELS,
     POINTER_TO_A_FAULT,
     OCTET_THAT_BEGINS_NO_LABEL,
     LABEL_THAT_IS_CUT,
-];
-
-/// Faults behind names, each behind the lines of the header.
-const FAULTY_ITEMS: &[Message<'_>] = &[
     MISSING_QUESTION,
     SHORT_RECORD,
     MISSING_DATA,
@@ -238,19 +236,8 @@ const FAULTY_ITEMS: &[Message<'_>] = &[
     OCTETS_BEHIND_THE_VALUE,
     NAME_THAT_LEAVES_ITS_DATA,
     OPTION_THAT_IS_CUT,
+    OCTETS_BEHIND_THE_ITEMS_UNREAD,
 ];
-
-#[test]
-fn marks_faults(rt: HostRuntime) -> Result<(), Fail> {
-    assert_items(&rt, rt.alloc(), FAULTY_NAMES)?;
-    assert_items(&rt, rt.alloc(), FAULTY_ITEMS)?;
-    assert_items(&rt, rt.alloc(), &[OCTETS_BEHIND_THE_ITEMS_UNREAD])
-}
-
-#[test]
-fn tells_short_messages(rt: HostRuntime) -> Result<(), Fail> {
-    assert_printed(&rt, rt.alloc(), &[SHORT_MESSAGES])
-}
 
 /// The count of questions, then for each name the lengths of its labels and the octets behind these, and the last lines.
 type Long<'a> = (u8, &'a [Labels<'a>], &'a str);
@@ -274,7 +261,9 @@ const LONG_NAMES: &[Long<'_>] = &[
 ];
 
 #[test]
-fn marks_where_a_name_is_too_long(rt: HostRuntime) -> Result<(), Fail> {
+fn marks_faults(rt: HostRuntime) -> Result<(), Fail> {
+    assert_messages(&rt, rt.alloc(), 0, &[SHORT_MESSAGE])?;
+    assert_messages(&rt, rt.alloc(), HEADER_LINES, FAULTS)?;
     assert_long(&rt, rt.alloc())
 }
 

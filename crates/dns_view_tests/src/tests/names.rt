@@ -1,81 +1,83 @@
 //! Names: their labels, and where pointers lead.
-use crate::tests::printed::{Message, assert_items, printed, questions};
+use crate::tests::printed::{
+    HEADER_LINES, Message, assert_messages, assert_narrow, printed, questions,
+};
 use std::alloc::Global;
 use std::process::Abort;
 use std::test::Fail;
 
 /// The names of RFC 1035 section 4.1.4: F.ISI.ARPA, FOO.F.ISI.ARPA, ARPA and the root.
 const POINTERS_LEAD: Message<'_> = (
+    "pointers lead",
     &[
         0x00, 0x00, 0x00, 0x00, 0x00, 0x04, 0x00, 0x00, 0x00, 0x00, 0x00, 0x00, 0x01, 0x46, 0x03,
         0x49, 0x53, 0x49, 0x04, 0x41, 0x52, 0x50, 0x41, 0x00, 0x00, 0x01, 0x00, 0x01, 0x03, 0x46,
         0x4f, 0x4f, 0xc0, 0x0c, 0x00, 0x01, 0x00, 0x01, 0xc0, 0x12, 0x00, 0x01, 0x00, 0x01, 0x00,
         0x00, 0x01, 0x00, 0x01,
     ],
-    &[
-        "question 1",
-        "    12  01 46                    name, label of 1 octet: \"F\"",
-        "    14  03 49 53 49              name, label of 3 octets: \"ISI\"",
-        "    18  04 41 52 50 41           name, label of 4 octets: \"ARPA\"",
-        "    23  00                       name, root label: F.ISI.ARPA.",
-        "    24  00 01                    type A",
-        "    26  00 01                    class IN",
-        "question 2",
-        "    28  03 46 4f 4f              name, label of 3 octets: \"FOO\"",
-        "    32  c0 0c                    name, pointer to 12: F.ISI.ARPA., whole name",
-        "                                 FOO.F.ISI.ARPA.",
-        "    34  00 01                    type A",
-        "    36  00 01                    class IN",
-        "question 3",
-        "    38  c0 12                    name, pointer to 18: ARPA.",
-        "    40  00 01                    type A",
-        "    42  00 01                    class IN",
-        "question 4",
-        "    44  00                       name, root label: .",
-        "    45  00 01                    type A",
-        "    47  00 01                    class IN",
-    ],
+    r#"question 1
+    12  01 46                    name, label of 1 octet: "F"
+    14  03 49 53 49              name, label of 3 octets: "ISI"
+    18  04 41 52 50 41           name, label of 4 octets: "ARPA"
+    23  00                       name, root label: F.ISI.ARPA.
+    24  00 01                    type A
+    26  00 01                    class IN
+question 2
+    28  03 46 4f 4f              name, label of 3 octets: "FOO"
+    32  c0 0c                    name, pointer to 12: F.ISI.ARPA., whole name
+                                 FOO.F.ISI.ARPA.
+    34  00 01                    type A
+    36  00 01                    class IN
+question 3
+    38  c0 12                    name, pointer to 18: ARPA.
+    40  00 01                    type A
+    42  00 01                    class IN
+question 4
+    44  00                       name, root label: .
+    45  00 01                    type A
+    47  00 01                    class IN
+"#,
 );
 
 /// A pointer to a pointer, and one to the root label of another name.
 const POINTER_TO_A_POINTER: Message<'_> = (
+    "pointer to a pointer",
     &[
         0x00, 0x00, 0x00, 0x00, 0x00, 0x03, 0x00, 0x00, 0x00, 0x00, 0x00, 0x00, 0x01, 0x61, 0x00,
         0x00, 0x01, 0x00, 0x01, 0x01, 0x62, 0xc0, 0x0c, 0x00, 0x01, 0x00, 0x01, 0xc0, 0x15, 0x00,
         0x01, 0x00, 0x01,
     ],
-    &[
-        "question 1",
-        "    12  01 61                    name, label of 1 octet: \"a\"",
-        "    14  00                       name, root label: a.",
-        "    15  00 01                    type A",
-        "    17  00 01                    class IN",
-        "question 2",
-        "    19  01 62                    name, label of 1 octet: \"b\"",
-        "    21  c0 0c                    name, pointer to 12: a., whole name b.a.",
-        "    23  00 01                    type A",
-        "    25  00 01                    class IN",
-        "question 3",
-        "    27  c0 15                    name, pointer to 21: a.",
-        "    29  00 01                    type A",
-        "    31  00 01                    class IN",
-    ],
+    r#"question 1
+    12  01 61                    name, label of 1 octet: "a"
+    14  00                       name, root label: a.
+    15  00 01                    type A
+    17  00 01                    class IN
+question 2
+    19  01 62                    name, label of 1 octet: "b"
+    21  c0 0c                    name, pointer to 12: a., whole name b.a.
+    23  00 01                    type A
+    25  00 01                    class IN
+question 3
+    27  c0 15                    name, pointer to 21: a.
+    29  00 01                    type A
+    31  00 01                    class IN
+"#,
 );
 
 /// A dot and octets that are no printable ASCII, in a label and in the name (RFC 1035 section 5.1).
 const ODD_OCTETS_OF_LABELS: Message<'_> = (
+    "odd octets of labels",
     &[
         0x00, 0x00, 0x00, 0x00, 0x00, 0x01, 0x00, 0x00, 0x00, 0x00, 0x00, 0x00, 0x05, 0x61, 0x2e,
         0x62, 0x00, 0xff, 0x01, 0x22, 0x00, 0x00, 0x01, 0x00, 0x01,
     ],
-    &[
-        "question 1",
-        "    12  05 61 2e 62 00 ff        name, label of 5 octets: \"a.b\\000\\255\"",
-        "    18  01 22                    name, label of 1 octet: \"\\\"\"",
-        "    20  00                       name, root label: a\\.b\\000\\255.\".",
-        "    21  00 01                    type A",
-        "    23  00 01                    class IN",
-    ],
+    r#"question 1
+    12  05 61 2e 62 00 ff        name, label of 5 octets: "a.b\000\255"
+    18  01 22                    name, label of 1 octet: "\""
+    20  00                       name, root label: a\.b\000\255.".
+    21  00 01                    type A
+    23  00 01                    class IN
+"#,
 );
 
 /// Each behind the lines of the header.
@@ -83,21 +85,15 @@ const NAMES: &[Message<'_>] = &[POINTERS_LEAD, POINTER_TO_A_POINTER, ODD_OCTETS_
 
 #[test]
 fn tells_names(rt: HostRuntime) -> Result<(), Fail> {
-    assert_items(&rt, rt.alloc(), NAMES)
-}
-
-/// A name of 255 octets, the most that there may be (RFC 1035 section 2.3.4): no line has more than 80 columns.
-#[test]
-fn keeps_the_longest_name_within_the_columns(rt: HostRuntime) -> Result<(), Fail> {
+    assert_messages(&rt, rt.alloc(), HEADER_LINES, NAMES)?;
     assert_longest(&rt, rt.alloc())
 }
 
+/// A name of 255 octets, the most that there may be (RFC 1035 section 2.3.4): no line has more than 80 columns.
 fn assert_longest(rt: &impl Abort, alloc: Global) -> Result<(), Fail> {
     let octets = questions(alloc, 1, &[(&[63, 63, 63, 61], &[0, 0, 1, 0, 1])])?;
     let printed = printed(alloc, &octets)?;
-    for line in printed.lines() {
-        assert!(rt; line.len() <= 80, "{line}");
-    }
+    assert_narrow(rt, "the longest name", &printed);
     // Each label is on nine lines or eight, the root label on seven: the words, and 255 octets at 46 a line.
     assert_eq!(rt; printed.lines().count(), 6 + 1 + 4 * 8 + 7 + 2);
     assert!(rt; !printed.contains("FAULT"));

@@ -1,6 +1,6 @@
 //! The page of HTML.
 use crate::tests::printed::page;
-use std::alloc::Global;
+use std::alloc::{AllocError, Global};
 use std::process::Abort;
 use std::test::Fail;
 
@@ -14,51 +14,55 @@ const MESSAGE: [u8; 58] = [
     0xc0, 0x00, 0x02, 0x01, 0xff,
 ];
 
-/// How often a text stands in another.
-fn count(text: &str, word: &str) -> usize {
-    text.split(word).skip(1).count()
-}
+/// Texts, and how often each stands in the page.
+const COUNTS: &[(&str, usize)] = &[
+    // It asks for no other file, and has no script.
+    ("http", 0),
+    ("<script", 0),
+    ("src=", 0),
+    ("href=", 0),
+    ("@import", 0),
+    ("//", 0),
+    // Each octet has one cell.
+    ("<rect ", MESSAGE.len()),
+    // Three pointers lead to 12, 18 and 37, and each has one arrow.
+    ("marker-end=", 3),
+    ("<title>25 points to 12</title>", 1),
+    ("<title>39 points to 18</title>", 1),
+    ("<title>41 points to 37</title>", 1),
+    // Labels are text, and never markup.
+    ("<b>", 0),
+];
 
 #[test]
 fn shows_a_message(rt: HostRuntime) -> Result<(), Fail> {
     let page = page(rt.alloc(), &MESSAGE)?;
-    assert_alone(&rt, &page);
-    assert_escaped(&rt, &page);
+    for (text, count) in COUNTS {
+        assert_count(&rt, &page, text, *count);
+    }
     assert_cells(&rt, rt.alloc(), &page)?;
-    assert_arrows(&rt, rt.alloc(), &page)
+    assert_whole(&rt, &page);
+    Ok(())
 }
 
-/// The page asks for no other file, and has no script.
-fn assert_alone(rt: &impl Abort, page: &str) {
-    assert!(rt; page.starts_with("<!DOCTYPE html>"));
-    assert!(rt; page.trim_end().ends_with("</html>"));
-    for word in ["http", "<script", "src=", "href=", "@import", "//"] {
-        assert!(rt; !page.contains(word), "{word}");
-    }
+/// A text stands in the page so often.
+fn assert_count(rt: &impl Abort, page: &str, text: &str, count: usize) {
+    assert!(rt; page.split(text).skip(1).count() == count, "{text}");
 }
 
-/// Each octet has one cell, with its digits, at its place in a grid of sixteen columns.
+/// Each octet has its digits at its place in a grid of sixteen columns.
 fn assert_cells(rt: &impl Abort, alloc: Global, page: &str) -> Result<(), Fail> {
-    assert_eq!(rt; count(page, "<rect "), MESSAGE.len());
     for (place, octet) in MESSAGE.iter().enumerate() {
-        let cell = format!(in alloc; "id=\"o{place}\">{octet:02x}</text>")?;
-        assert_eq!(rt; count(page, cell.as_str()), 1, "{cell}");
+        assert_count(rt, page, &cell(alloc, place, *octet)?, 1);
     }
     Ok(())
 }
 
-/// Three pointers lead to 12, 18 and 37, and each has one arrow.
-fn assert_arrows(rt: &impl Abort, alloc: Global, page: &str) -> Result<(), Fail> {
-    assert_eq!(rt; count(page, "marker-end="), 3);
-    for (from, to) in [(25, 12), (39, 18), (41, 37)] {
-        let title = format!(in alloc; "<title>{from} points to {to}</title>")?;
-        assert_eq!(rt; count(page, title.as_str()), 1, "{title}");
-    }
-    Ok(())
+fn cell(alloc: Global, place: usize, octet: u8) -> Result<String, AllocError> {
+    format!(in alloc; "id=\"o{place}\">{octet:02x}</text>")
 }
 
-/// Labels are text, and never markup.
-fn assert_escaped(rt: &impl Abort, page: &str) {
-    assert!(rt; !page.contains("<b>"));
+fn assert_whole(rt: &impl Abort, page: &str) {
+    assert!(rt; page.starts_with("<!DOCTYPE html>") && page.trim_end().ends_with("</html>"));
     assert!(rt; page.contains("name, root label: a&lt;b&gt;&amp;.c."));
 }

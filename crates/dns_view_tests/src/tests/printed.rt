@@ -1,14 +1,15 @@
 //! What is printed of the rows of a message.
+use crate::runs::assert_text;
 use dns_view::{print_page, print_text, rows};
 use std::alloc::Global;
 use std::process::Abort;
 use std::test::Fail;
 
-/// The octets of a message, and lines that are printed of it.
-pub(crate) type Message<'a> = (&'a [u8], &'a [&'a str]);
+/// What a message shows, its octets, and a text that is printed of it.
+pub(crate) type Message<'a> = (&'a str, &'a [u8], &'a str);
 
 /// The lines that `print_text` prints before those of the items, where each field of the header has one line.
-const HEADER_LINES: usize = 6;
+pub(crate) const HEADER_LINES: usize = 6;
 
 /// What is printed of a message as a text.
 pub(crate) fn printed(alloc: Global, octets: &[u8]) -> Result<String, Fail> {
@@ -49,46 +50,30 @@ fn push_labels(octets: &mut Vec<u8>, lens: &[u8]) -> Result<(), Fail> {
     Ok(())
 }
 
-/// The lines of each message are printed, none of more than 80 columns.
-pub(crate) fn assert_printed(
+/// The text of each message is printed behind so many lines, and no line has more than 80 columns.
+pub(crate) fn assert_messages(
     rt: &impl Abort,
     alloc: Global,
-    messages: &[Message<'_>],
-) -> Result<(), Fail> {
-    for message in messages {
-        assert_behind(rt, alloc, *message, 0)?;
-    }
-    Ok(())
-}
-
-/// The lines of each message are printed behind the six of the header, none of more than 80 columns.
-pub(crate) fn assert_items(
-    rt: &impl Abort,
-    alloc: Global,
-    messages: &[Message<'_>],
-) -> Result<(), Fail> {
-    for message in messages {
-        assert_behind(rt, alloc, *message, HEADER_LINES)?;
-    }
-    Ok(())
-}
-
-/// The lines of a message are printed behind so many.
-fn assert_behind(
-    rt: &impl Abort,
-    alloc: Global,
-    (octets, lines): Message<'_>,
     before: usize,
+    messages: &[Message<'_>],
 ) -> Result<(), Fail> {
-    let printed = printed(alloc, octets)?;
-    assert_eq!(rt;
-        printed.lines().count(),
-        lines.len().saturating_add(before),
-        "{printed}"
-    );
-    for (line, expected) in printed.lines().skip(before).zip(lines) {
-        assert_eq!(rt; line, *expected);
-        assert!(rt; line.len() <= 80, "{line}");
+    for (row, octets, text) in messages {
+        let printed = printed(alloc, octets)?;
+        assert_narrow(rt, row, &printed);
+        assert_text(rt, row, text_behind(&printed, before), text);
     }
     Ok(())
+}
+
+/// A text without so many lines at its start.
+fn text_behind(text: &str, lines: usize) -> &str {
+    text.splitn(lines.saturating_add(1), '\n')
+        .nth(lines)
+        .unwrap_or("")
+}
+
+pub(crate) fn assert_narrow(rt: &impl Abort, row: &str, printed: &str) {
+    for line in printed.lines() {
+        assert!(rt; line.len() <= 80, "{row}: {line}");
+    }
 }

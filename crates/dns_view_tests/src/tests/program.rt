@@ -1,4 +1,5 @@
 //! The program.
+use crate::runs::{Run, assert_status, assert_text, words_of};
 use dns_view::tool;
 use std::alloc::Global;
 use std::process::Abort;
@@ -6,61 +7,74 @@ use std::test::Fail;
 
 /// What the program prints for words and an input, and its status.
 fn run(alloc: Global, words: &[&str], input: &[u8]) -> Result<(u8, String), Fail> {
-    let mut args = Vec::new(alloc);
-    for word in words {
-        args.push(String::from_str(alloc, word)?)?;
-    }
     let mut output = Vec::new(alloc);
-    let status = tool(alloc, &args, input, &mut output);
+    let status = tool(alloc, &words_of(alloc, words)?, input, &mut output);
     Ok((status, String::from_utf8(output)?))
 }
 
-/// A question for the root in digits, with all that is white space between, and in octets: one text.
 #[test]
-fn reads_digits_and_octets(rt: HostRuntime) -> Result<(), Fail> {
-    assert_same_text(&rt, rt.alloc())
+fn answers_its_input(rt: HostRuntime) -> Result<(), Fail> {
+    assert_same_text(&rt, rt.alloc())?;
+    assert_runs(&rt, rt.alloc())?;
+    assert_page(&rt, rt.alloc())
 }
 
+/// A question for the root in octets, and in digits with all that is white space between.
+const QUESTION: [&[u8]; 4] = [
+    &[0, 1, 0, 0, 0, 1, 0, 0, 0, 0, 0, 0, 0, 0, 0xff, 0, 1],
+    b"0001000000010000000000000000FF0001",
+    b"0001000000010000000000000000ff0001\n",
+    b" 00 01\t0000\r\n0001 0000 0000 0000\x0c00 00fF 000 1",
+];
+
+/// The rows of the question behind its name.
+const END: &str =
+    "    13  00 ff                    type ANY\n    15  00 01                    class IN\n";
+
+/// Octets and digits give one text.
 fn assert_same_text(rt: &impl Abort, alloc: Global) -> Result<(), Fail> {
-    let octets = [0, 1, 0, 0, 0, 1, 0, 0, 0, 0, 0, 0, 0, 0, 0xff, 0, 1];
-    let digits: [&[u8]; 3] = [
-        b"0001000000010000000000000000FF0001",
-        b"0001000000010000000000000000ff0001\n",
-        b" 00 01\t0000\r\n0001 0000 0000 0000\x0c00 00fF 000 1",
-    ];
-    let (status, text) = run(alloc, &[], &octets)?;
-    assert_eq!(rt; status, 0);
-    assert!(rt;
-        text.ends_with(
-            "    13  00 ff                    type ANY\n    15  00 01                    class IN\n"
-        )
-    );
-    for digits in digits {
-        let (status, other) = run(alloc, &[], digits)?;
-        assert_eq!(rt; status, 0);
-        assert_eq!(rt; other, text);
+    let (_, first) = run(alloc, &[], QUESTION[0])?;
+    assert!(rt; first.ends_with(END));
+    for input in QUESTION {
+        let (status, text) = run(alloc, &[], input)?;
+        assert_status(rt, "a question", status, 0);
+        assert_text(rt, "a question", &text, &first);
     }
     Ok(())
 }
 
-/// Words for the program, its input, the status with which it ends, and what it prints.
-type Run<'a> = (&'a [&'a str], &'a [u8], u8, &'a str);
-
 const RUNS: &[Run<'_>] = &[
-    // an odd number of digits
-    (&[], b"000", 1, "bad hex\n"),
-    (&["--html"], b"0 0 0\n", 1, "bad hex\n"),
-    // other words
-    (&["--text"], b"00", 2, "usage: dnsview [--html]\n"),
-    (&["--html", "--html"], b"00", 2, "usage: dnsview [--html]\n"),
-    // an octet that is no digit, and no octet at all
+    ("an odd number of digits", &[], b"000", 1, "bad hex\n"),
     (
+        "an odd number of digits for a page",
+        &["--html"],
+        b"0 0 0\n",
+        1,
+        "bad hex\n",
+    ),
+    (
+        "another word",
+        &["--text"],
+        b"00",
+        2,
+        "usage: dnsview [--html]\n",
+    ),
+    (
+        "two words",
+        &["--html", "--html"],
+        b"00",
+        2,
+        "usage: dnsview [--html]\n",
+    ),
+    (
+        "an octet that is no digit",
         &[],
         b"g",
         0,
         "     0  67                       too short for a header section of 12 octets\n",
     ),
     (
+        "no octet",
         &[],
         b" \n",
         0,
@@ -68,24 +82,18 @@ const RUNS: &[Run<'_>] = &[
     ),
 ];
 
-#[test]
-fn answers_other_input(rt: HostRuntime) -> Result<(), Fail> {
-    assert_runs(&rt, rt.alloc())
-}
-
 fn assert_runs(rt: &impl Abort, alloc: Global) -> Result<(), Fail> {
-    for (words, input, status, text) in RUNS {
+    for (row, words, input, status, text) in RUNS {
         let (ended, printed) = run(alloc, words, input)?;
-        assert_eq!(rt; ended, *status, "after {printed}");
-        assert_eq!(rt; printed.as_str(), *text);
+        assert_text(rt, row, &printed, text);
+        assert_status(rt, row, ended, *status);
     }
     Ok(())
 }
 
-#[test]
-fn prints_a_page(rt: HostRuntime) -> Result<(), Fail> {
-    let (status, page) = run(rt.alloc(), &["--html"], b"000000000000000000000000")?;
-    assert_eq!(rt; status, 0);
+fn assert_page(rt: &impl Abort, alloc: Global) -> Result<(), Fail> {
+    let (status, page) = run(alloc, &["--html"], b"000000000000000000000000")?;
+    assert_status(rt, "a page", status, 0);
     assert!(rt; page.starts_with("<!DOCTYPE html>\n") && page.ends_with("</html>\n"));
     Ok(())
 }

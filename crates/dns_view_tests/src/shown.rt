@@ -1,0 +1,87 @@
+//! What `dnsmsg` prints.
+mod examples;
+mod knotd;
+mod named;
+mod nsd;
+
+use crate::runs::{Run, assert_status, assert_text, words_of};
+use dns_message::message::Message;
+use dns_message::tool;
+use std::alloc::Global;
+use std::process::Abort;
+use std::test::Fail;
+
+const SHOW: &[&str] = &["show"];
+
+#[test]
+fn shows_worked_examples(rt: HostRuntime) -> Result<(), Fail> {
+    for example in examples::EXAMPLES {
+        assert_run(&rt, rt.alloc(), *example)?;
+    }
+    Ok(())
+}
+
+#[test]
+fn shows_what_name_servers_sent(rt: HostRuntime) -> Result<(), Fail> {
+    assert_captures(&rt, rt.alloc(), knotd::CAPTURES)?;
+    assert_captures(&rt, rt.alloc(), named::CAPTURES)?;
+    assert_captures(&rt, rt.alloc(), nsd::CAPTURES)
+}
+
+fn assert_run(
+    rt: &impl Abort,
+    alloc: Global,
+    (row, words, input, status, text): Run<'_>,
+) -> Result<(), Fail> {
+    let mut output = Vec::new(alloc);
+    let ended = tool(alloc, &words_of(alloc, words)?, input, &mut output);
+    assert_text(rt, row, &String::from_utf8(output)?, text);
+    assert_status(rt, row, ended, status);
+    Ok(())
+}
+
+/// Each capture stands behind `> `: a line that says what it is, one of the octets in digits, and the lines that are printed.
+fn assert_captures(rt: &impl Abort, alloc: Global, captures: &str) -> Result<(), Fail> {
+    for capture in captures.split("> ").skip(1) {
+        assert_capture(rt, alloc, capture)?;
+    }
+    Ok(())
+}
+
+fn assert_capture(rt: &impl Abort, alloc: Global, capture: &str) -> Result<(), Fail> {
+    let (row, rest) = capture.split_once('\n').ok_or("no digits")?;
+    let (digits, text) = rest.split_once('\n').ok_or("no lines")?;
+    assert_run(rt, alloc, (row, SHOW, digits.as_bytes(), 0, text))?;
+    assert_opt(rt, alloc, row, digits, text)
+}
+
+/// `Message::opt` gives the record that is printed, where one is.
+fn assert_opt(
+    rt: &impl Abort,
+    alloc: Global,
+    row: &str,
+    digits: &str,
+    text: &str,
+) -> Result<(), Fail> {
+    let message = Message::from_octets(hex::decode(alloc, digits.as_bytes())?)?;
+    let line = opt_line(alloc, &message)?;
+    assert!(rt; text.contains(" OPT ") != line.is_empty(), "{row}: {line}");
+    assert!(rt; text.contains(line.as_str()), "{row}: {line}");
+    Ok(())
+}
+
+/// The line of the OPT record that `Message::opt` gives, and no text where it gives none.
+fn opt_line(alloc: Global, message: &Message<Vec<u8>>) -> Result<String, Fail> {
+    let Some(opt) = message.opt() else {
+        return Ok(String::new(alloc));
+    };
+    let data = opt.opt().data();
+    let space = if data.is_empty() { "" } else { " " };
+    let digits = hex::encode(alloc, data)?;
+    Ok(format!(in alloc;
+        "additional . {} CLASS{} OPT \\# {}{space}{digits}\n",
+        opt.as_record().ttl().as_secs(),
+        opt.udp_payload_size(),
+        data.len()
+    )?)
+}
