@@ -1,7 +1,38 @@
-//! Tests of the layers below items: octets, names, codes, headers and TTLs, with answers from outside.
+//! Tests of the layers below messages: octets, names, codes, headers and TTLs as they are read and printed, and targets to
+//! which names and octets are appended and from which they are cut away. The answers are from outside.
 //!
 //! Nothing is exported.
 #![tactic(auto)]
 
 #[cfg(test)]
-mod tests;
+mod assertions;
+#[cfg(test)]
+mod codes;
+#[cfg(test)]
+mod compressors;
+#[cfg(test)]
+mod errors;
+#[cfg(test)]
+mod header;
+#[cfg(test)]
+mod history;
+#[cfg(test)]
+mod name_texts;
+#[cfg(test)]
+mod names;
+#[cfg(test)]
+mod octets;
+#[cfg(test)]
+mod orders;
+#[cfg(test)]
+mod parser;
+#[cfg(test)]
+mod spellings;
+#[cfg(test)]
+mod steps;
+#[cfg(test)]
+mod stream;
+#[cfg(test)]
+mod targets;
+#[cfg(test)]
+mod ttl;

@@ -1,0 +1,53 @@
+//! Assertions that many tests make, and the octets and names that they make them of.
+ghost use Rattle.std.specs.Prelude.{◌≡◌};
+
+use dns_wire::{Name, ParsedName, Parser};
+use std::alloc::Global;
+use std::fmt::{Debug, Display};
+use std::process::Abort;
+
+/// Fails unless the value is the expected one.
+pub(crate) fn assert_same<T: PartialEq + Debug + Drop>(
+    rt: &impl Abort,
+    what: &str,
+    value: T,
+    expected: T,
+) {
+    assert_eq!(rt; value, expected, "{what}");
+}
+
+/// Fails unless the octets are the expected ones.
+pub(crate) fn assert_octets(rt: &impl Abort, what: &str, octets: &[u8], expected: &[u8]) {
+    assert_same(rt, what, octets, expected);
+}
+
+/// Fails unless the value is printed so.
+pub(crate) fn assert_prints<T: Display>(rt: &impl Abort, alloc: Global, value: &T, text: &str) {
+    let printed = value.to_string(alloc).expect(rt, text);
+    assert_same(rt, "printed", printed.as_str(), text);
+}
+
+/// The name that the octets spell without pointers.
+pub(crate) fn name_of<'a>(rt: &impl Abort, octets: &'a [u8]) -> Name<&'a [u8]> {
+    Name::from_octets(octets).expect(rt, "a name")
+}
+
+/// The name at a place of a message.
+pub(crate) fn name_at<'a>(rt: &impl Abort, message: &'a [u8], place: usize) -> ParsedName<'a> {
+    let mut parser = parser_at(rt, message, place);
+    ParsedName::parse(&mut parser).expect(rt, "a name in a message")
+}
+
+/// A parser at a place of a message.
+pub(crate) fn parser_at<'a>(rt: &impl Abort, message: &'a [u8], place: usize) -> Parser<'a> {
+    let mut parser = Parser::new(message);
+    parser.seek(place).expect(rt, "a place in a message");
+    parser
+}
+
+/// The octets in memory.
+pub(crate) fn in_memory(rt: &impl Abort, alloc: Global, octets: &[u8]) -> Vec<u8>
+    ensures { result.items ≡ octets.now }
+{
+    Vec::from_slice(alloc, octets).expect(rt, "memory")
+}

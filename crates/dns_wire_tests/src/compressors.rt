@@ -1,0 +1,288 @@
+//! Compressors: the example of RFC 1035 section 4.1.4, what a cut forgets, and what a refused name leaves.
+ghost use Rattle.std.specs.Prelude.{◌≡◌};
+ghost use Rattle.dns_wire.specs.Pieces.{Plain};
+
+use crate::assertions::{assert_octets, assert_same};
+use crate::steps::{Step, assert_row, assert_steps, take};
+use crate::targets::{Refusing, WANT};
+use arrayvec::ArrayVec;
+use dns_target::{HashCompressor, IndexCompressor, StaticCompressor, TreeCompressor};
+use dns_wire::{AppendError, CloneTarget, Composer, FreezeBuilder, Octets};
+use std::alloc::Global;
+use std::convert::AsSlice;
+use std::process::Abort;
+
+const A: &[u8] = b"\x01a\x00";
+
+const A_B: &[u8] = b"\x01a\x01b\x00";
+
+const A_BC_DE: &[u8] = b"\x01a\x02bc\x02de\x00";
+
+const BC_DE: &[u8] = b"\x02bc\x02de\x00";
+
+const DE: &[u8] = b"\x02de\x00";
+
+const F_ISI_ARPA: &[u8] = b"\x01F\x03ISI\x04ARPA\x00";
+
+const FOO_F_ISI_ARPA: &[u8] = b"\x03FOO\x01F\x03ISI\x04ARPA\x00";
+
+const ISI_ARPA: &[u8] = b"\x03ISI\x04ARPA\x00";
+
+const ARPA: &[u8] = b"\x04ARPA\x00";
+
+/// Steps on an empty target, with the length of its content then; and steps that a clone takes then, which the rules of the
+/// compressors answer in their own ways.
+pub(crate) struct Row {
+    pub(crate) name: &'static str,
+    pub(crate) steps: &'static [Step],
+    pub(crate) len: usize,
+    /// The steps of a static compressor.
+    pub(crate) by_place: &'static [Step],
+    /// The steps of a tree compressor and of an index compressor.
+    pub(crate) by_tree: &'static [Step],
+    /// The steps of a hash compressor.
+    pub(crate) by_hash: &'static [Step],
+}
+
+/// All compressors write the same.
+pub(crate) const ALIKE: Row = Row {
+    name: "",
+    steps: &[],
+    len: 0,
+    by_place: &[],
+    by_tree: &[],
+    by_hash: &[],
+};
+
+/// The name a. again, and octets behind it.
+const A_AGAIN: &[Step] = &[
+    Step::Name(A, Ok(b"\xc0\x0c")),
+    Step::Octets(b"\x00\x01\x00\x01", Ok(b"\x00\x01\x00\x01")),
+];
+
+/// Rows over an empty vector.
+const ROWS: &[Row] = &[
+    // the names of the RFC's example where they stand there; then a cut within the first of them, which is written out again,
+    // and other letters with it
+    Row {
+        name: "the example of RFC 1035",
+        steps: &[
+            Step::Fill(20),
+            Step::Name(F_ISI_ARPA, Ok(F_ISI_ARPA)),
+            Step::Fill(40),
+            Step::Name(FOO_F_ISI_ARPA, Ok(b"\x03FOO\xc0\x14")),
+            Step::Fill(64),
+            Step::Name(ARPA, Ok(b"\xc0\x1a")),
+            Step::Fill(92),
+            Step::Name(b"\x00", Ok(b"\x00")),
+            Step::Cut(31),
+            Step::Name(ARPA, Ok(ARPA)),
+            Step::Name(b"\x04arpa\x00", Ok(b"\x04arpa\x00")),
+            Step::Name(ISI_ARPA, Ok(b"\x03ISI\xc0\x1f")),
+        ],
+        len: 49,
+        ..ALIKE
+    },
+    Row {
+        name: "Cut inside a name",
+        steps: &[
+            Step::Name(A_BC_DE, Ok(A_BC_DE)),
+            Step::Cut(5),
+            Step::Name(BC_DE, Ok(BC_DE)),
+            Step::Name(A_BC_DE, Ok(b"\x01a\xc0\x05")),
+        ],
+        len: 16,
+        ..ALIKE
+    },
+    Row {
+        name: "Cut inside a pointer",
+        steps: &[
+            Step::Name(A_BC_DE, Ok(A_BC_DE)),
+            Step::Name(BC_DE, Ok(b"\xc0\x02")),
+            Step::Cut(10),
+            Step::Name(DE, Ok(b"\xc0\x05")),
+        ],
+        len: 12,
+        ..ALIKE
+    },
+    Row {
+        name: "Cut of the last octet",
+        steps: &[
+            Step::Name(A_BC_DE, Ok(A_BC_DE)),
+            Step::Cut(8),
+            Step::Name(DE, Ok(DE)),
+        ],
+        len: 12,
+        ..ALIKE
+    },
+    Row {
+        name: "Suffixes of suffixes",
+        steps: &[
+            Step::Fill(12),
+            Step::Name(b"\x01a\x01b\x01c\x00", Ok(b"\x01a\x01b\x01c\x00")),
+            Step::Fill(23),
+            Step::Name(b"\x01b\x01c\x00", Ok(b"\xc0\x0e")),
+            Step::Fill(29),
+            Step::Name(b"\x01x\x01b\x01c\x00", Ok(b"\x01x\xc0\x0e")),
+            Step::Fill(37),
+            Step::Name(b"\x01c\x00", Ok(b"\xc0\x10")),
+            Step::Fill(43),
+        ],
+        len: 43,
+        ..ALIKE
+    },
+    Row {
+        name: "Last place below the bound",
+        steps: &[
+            Step::Fill(16_383),
+            Step::Name(A, Ok(A)),
+            Step::Fill(16_400),
+            Step::Name(A, Ok(b"\xff\xff")),
+        ],
+        len: 16_402,
+        ..ALIKE
+    },
+    Row {
+        name: "First place at the bound",
+        steps: &[
+            Step::Fill(16_384),
+            Step::Name(A, Ok(A)),
+            Step::Fill(16_401),
+            Step::Name(A, Ok(A)),
+        ],
+        len: 16_404,
+        ..ALIKE
+    },
+    Row {
+        name: "Rewind across the bound",
+        steps: &[
+            Step::Fill(16_382),
+            Step::Name(A_B, Ok(A_B)),
+            Step::Cut(16_382),
+            Step::Name(A, Ok(A)),
+            Step::Fill(16_399),
+            Step::Name(A, Ok(b"\xff\xfe")),
+        ],
+        len: 16_401,
+        ..ALIKE
+    },
+    // the second label stands past the bound
+    Row {
+        name: "Second label past the bound",
+        steps: &[Step::Fill(16_383), Step::Name(A_B, Ok(A_B))],
+        len: 16_388,
+        by_place: &[Step::Name(A_B, Ok(b"\xff\xff"))],
+        by_tree: &[Step::Name(A_B, Ok(b"\xff\xff"))],
+        by_hash: &[Step::Name(A_B, Ok(A_B))],
+    },
+    Row {
+        name: "The 25th suffix",
+        steps: &[Step::Fill(12), Step::Letters],
+        len: 187,
+        by_place: &[Step::Name(b"\x01y\x00", Ok(b"\x01y\x00"))],
+        by_tree: &[Step::Name(b"\x01y\x00", Ok(b"\xc0\xb4"))],
+        by_hash: &[Step::Name(b"\x01y\x00", Ok(b"\xc0\xb4"))],
+    },
+    Row {
+        name: "Clones",
+        steps: &[Step::Fill(12), Step::Name(A, Ok(A)), Step::Fill(19)],
+        len: 19,
+        by_place: A_AGAIN,
+        by_tree: A_AGAIN,
+        by_hash: A_AGAIN,
+    },
+];
+
+/// Rows over an array vector of 11 octets. A name is refused for which they have no room behind another one, and a shorter
+/// one is taken.
+const SHORT_ROWS: &[Row] = &[Row {
+    name: "room for 11 octets",
+    steps: &[
+        Step::Name(b"\x02Ab\x00", Ok(b"\x02Ab\x00")),
+        Step::Name(b"\x05Short\x02Ab\x00", Err(AppendError::ShortBuf)),
+        Step::Name(b"\x04Fits\x02Ab\x00", Ok(b"\x04Fits\xc0\x00")),
+    ],
+    len: 11,
+    ..ALIKE
+}];
+
+/// Takes the steps of a row on the target, and then the others on a clone of it. The target stays as it was.
+fn assert_clone_row<T: CloneTarget + FreezeBuilder>(
+    rt: &impl Abort,
+    row: &Row,
+    mut target: T,
+    others: &[Step],
+) {
+    assert_steps(rt, row.name, &mut target, row.steps);
+    let mut clone = target.clone_target().expect(rt, "a clone");
+    assert_same(rt, row.name, clone.as_slice(), target.as_slice());
+    assert_steps(rt, row.name, &mut clone, others);
+    let frozen = target.freeze();
+    clone.truncate(row.len);
+    assert_octets(rt, row.name, frozen.octets(), clone.as_slice());
+}
+
+fn clone_of<T: CloneTarget>(rt: &impl Abort, target: &T) -> T {
+    target.clone_target().expect(rt, "a clone")
+}
+
+/// Takes the rows on each compressor over an empty target.
+pub(crate) fn assert_rows<T: CloneTarget + FreezeBuilder>(
+    rt: &impl Abort,
+    alloc: Global,
+    empty: &T,
+    rows: &[Row],
+)
+    requires { T.rule ≡ Plain }
+{
+    for row in rows {
+        let places = StaticCompressor::new(clone_of(rt, empty));
+        assert_clone_row(rt, row, places, row.by_place);
+        let tree = TreeCompressor::new(alloc, clone_of(rt, empty));
+        assert_clone_row(rt, row, tree, row.by_tree);
+        let index = IndexCompressor::new(alloc, clone_of(rt, empty));
+        assert_clone_row(rt, row, index, row.by_tree);
+        let hash = HashCompressor::new(alloc, clone_of(rt, empty));
+        assert_clone_row(rt, row, hash, row.by_hash);
+    }
+}
+
+#[test]
+fn each_writes_these_rows(rt: HostRuntime) {
+    assert_rows(&rt, rt.alloc(), &Vec::new(rt.alloc()), ROWS);
+    assert_rows(&rt, rt.alloc(), &ArrayVec::<u8, 11>::new(), SHORT_ROWS);
+}
+
+/// Where every growth of the target is refused.
+#[test]
+fn want_of_memory_is_told(rt: HostRuntime) {
+    let row = "no memory";
+    let alloc = rt.alloc();
+    assert_row(&rt, row, StaticCompressor::new(Refusing), WANT);
+    assert_row(&rt, row, TreeCompressor::new(alloc, Refusing), WANT);
+    assert_row(&rt, row, HashCompressor::new(alloc, Refusing), WANT);
+}
+
+fn octets_of<T: AsSlice<u8>>(target: &T) -> &[u8] {
+    target.as_slice()
+}
+
+/// No octets may be written over anywhere, inside a remembered name too.
+fn write_nothing<T: Composer>(target: &mut T) {
+    if !target.as_slice().is_empty() {
+        target.write_at(1, b"");
+    }
+}
+
+#[test]
+fn gives_its_target(rt: HostRuntime) {
+    let row = "a compressor's target";
+    let mut target = TreeCompressor::new(rt.alloc(), Vec::new(rt.alloc()));
+    take(&rt, row, &mut target, Step::Name(DE, Ok(DE)));
+    assert_same(&rt, row, target.can_compress(), true);
+    assert_same(&rt, row, octets_of(&target), DE);
+    assert_same(&rt, row, target.as_target().as_slice(), DE);
+    write_nothing(&mut target);
+    let clone = target.clone().expect(&rt, "a clone");
+    assert_same(&rt, row, clone.into_target().as_slice(), DE);
+}

@@ -1,0 +1,358 @@
+//! Headers, flags and counts of messages.
+use crate::assertions::{assert_octets, assert_prints, assert_same};
+use dns_code::{Flags, Header, HeaderCounts, HeaderSection, Opcode, Rcode};
+use dns_wire::{ParseError, Parser};
+use std::process::Abort;
+
+const SECTION: [u8; 12] = *b"\x01\x02\x00\x00\x12\x34\x56\x78\x9a\xbc\xde\xf0";
+
+const NO_FLAG: Flags = Flags {
+    qr: false,
+    aa: false,
+    tc: false,
+    rd: false,
+    ra: false,
+    ad: false,
+    cd: false,
+};
+
+const ALL_FLAGS: Flags = Flags {
+    qr: true,
+    aa: true,
+    tc: true,
+    rd: true,
+    ra: true,
+    ad: true,
+    cd: true,
+};
+
+#[test]
+fn takes_a_slice_of_a_message(rt: HostRuntime) {
+    let row = "Header and counts of a slice";
+    let section = HeaderSection::for_message_slice(&SECTION);
+    let header = Header::for_message_slice(&SECTION);
+    let counts = HeaderCounts::for_message_slice(&SECTION);
+    assert_octets(&rt, row, header.as_slice(), b"\x01\x02\x00\x00");
+    assert_octets(&rt, row, counts.as_slice(), &SECTION[4..]);
+    assert_octets(&rt, row, section.as_slice(), &SECTION);
+    let parts = (section.header(), section.counts());
+    assert_same(&rt, row, parts, (header, counts));
+}
+
+#[test]
+fn parses_a_section(rt: HostRuntime) {
+    let mut parser = Parser::new(&SECTION);
+    let parsed = HeaderSection::parse(&mut parser);
+    let section = HeaderSection::for_message_slice(&SECTION);
+    assert_same(&rt, "a section", (parsed, parser.pos()), (Ok(section), 12));
+    let missing = HeaderSection::parse(&mut parser).err();
+    let short = Some(ParseError::ShortInput);
+    assert_same(&rt, "no section", (missing, parser.pos()), (short, 12));
+}
+
+#[test]
+fn composes_a_section(rt: HostRuntime) {
+    let section = HeaderSection::for_message_slice(&SECTION);
+    let mut target = Vec::new(rt.alloc());
+    let answer = section.compose(&mut target);
+    let composed = (answer, target.as_slice());
+    let expected = (Ok(()), SECTION.as_slice());
+    assert_same(&rt, "a section", composed, expected);
+}
+
+#[test]
+fn replaces_the_parts_of_a_section(rt: HostRuntime) {
+    let mut section = HeaderSection::for_message_slice(&SECTION);
+    section.set_header(Header::new());
+    section.set_counts(HeaderCounts::new());
+    assert_same(&rt, "replaced parts", section, HeaderSection::new());
+}
+
+/// Fails unless these are the identifier, the opcode, the response code and the flags of the header, and its reserved bit is
+/// clear.
+fn assert_header(rt: &impl Abort, header: Header, id: u16, codes: (Opcode, Rcode), flags: Flags) {
+    let row = "each field";
+    assert_same(rt, row, (header.id(), header.z()), (id, false));
+    assert_same(rt, row, (header.opcode(), header.rcode()), codes);
+    assert_same(rt, row, header.flags(), flags);
+}
+
+#[test]
+fn keeps_each_field_apart(rt: HostRuntime) {
+    let mut header = Header::new();
+    let codes = (Opcode::QUERY, Rcode::NOERROR);
+    assert_header(&rt, header, 0, codes, Flags::new());
+    header.set_id(0x1234);
+    header.set_opcode(Opcode::NOTIFY);
+    header.set_rcode(Rcode::REFUSED);
+    let flags = Flags {
+        qr: true,
+        ..NO_FLAG
+    };
+    header.set_flags(flags);
+    let codes = (Opcode::NOTIFY, Rcode::REFUSED);
+    assert_header(&rt, header, 0x1234, codes, flags);
+    assert_octets(&rt, "each field", header.as_slice(), b"\x12\x34\xA0\x05");
+}
+
+/// Sets or clears each flag, and the reserved bit.
+fn set_all(header: &mut Header, set: bool) {
+    header.set_qr(set);
+    header.set_aa(set);
+    header.set_tc(set);
+    header.set_rd(set);
+    header.set_ra(set);
+    header.set_z(set);
+    header.set_ad(set);
+    header.set_cd(set);
+}
+
+/// Each flag, and the reserved bit.
+fn all_of(header: Header) -> [bool; 8] {
+    [
+        header.qr(),
+        header.aa(),
+        header.tc(),
+        header.rd(),
+        header.ra(),
+        header.z(),
+        header.ad(),
+        header.cd(),
+    ]
+}
+
+#[test]
+fn sets_each_flag(rt: HostRuntime) {
+    let mut header = Header::new();
+    set_all(&mut header, true);
+    assert_octets(&rt, "all set", header.as_slice(), b"\x00\x00\x87\xF0");
+    assert_same(&rt, "all set", all_of(header), [true; 8]);
+    set_all(&mut header, false);
+    assert_octets(&rt, "none set", header.as_slice(), b"\x00\x00\x00\x00");
+    assert_same(&rt, "none set", all_of(header), [false; 8]);
+}
+
+/// A header with each flag, and the reserved bit, set.
+fn with_all_flags() -> Header {
+    Header::for_message_slice(b"\x00\x00\x87\xF0\x00\x00\x00\x00\x00\x00\x00\x00")
+}
+
+#[test]
+fn clears_every_other_flag(rt: HostRuntime) {
+    let mut header = with_all_flags();
+    header.set_qr(false);
+    header.set_tc(false);
+    header.set_ra(false);
+    header.set_ad(false);
+    let octets = b"\x00\x00\x05\x50";
+    assert_octets(&rt, "AA, RD, Z and CD", header.as_slice(), octets);
+    let mut header = with_all_flags();
+    header.set_aa(false);
+    header.set_rd(false);
+    header.set_z(false);
+    header.set_cd(false);
+    let octets = b"\x00\x00\x82\xA0";
+    assert_octets(&rt, "QR, TC, RA and AD", header.as_slice(), octets);
+}
+
+#[test]
+fn writes_four_bits_of_an_opcode(rt: HostRuntime) {
+    let row = "Opcode keeps to four bits";
+    let mut header = Header::new();
+    header.set_opcode(Opcode::from_int(0x10));
+    assert_octets(&rt, row, header.as_slice(), b"\x00\x00\x00\x00");
+    header.set_opcode(Opcode::from_int(0x1f));
+    assert_octets(&rt, row, header.as_slice(), b"\x00\x00\x78\x00");
+}
+
+/// Rows, each with a text, and the flags that it spells with how they are printed.
+const FLAG_TEXTS: &[(&str, &str, Option<(Flags, &str)>)] = &[
+    (
+        "Flags texts",
+        "tC Aa CD rd",
+        Some((
+            Flags {
+                aa: true,
+                tc: true,
+                rd: true,
+                cd: true,
+                ..NO_FLAG
+            },
+            "AA TC RD CD",
+        )),
+    ),
+    ("Flags texts", "XXXX", None),
+    ("Flags texts", "", Some((NO_FLAG, ""))),
+    (
+        "Flags texts",
+        "QR AA TC RD RA AD CD",
+        Some((ALL_FLAGS, "QR AA TC RD RA AD CD")),
+    ),
+    (
+        "Flags with extra spaces",
+        "  qr  aa ",
+        Some((
+            Flags {
+                qr: true,
+                aa: true,
+                ..NO_FLAG
+            },
+            "QR AA",
+        )),
+    ),
+    ("Flags with other separators", "QR,AA", None),
+    ("Flags with other separators", "QR\tAA", None),
+    (
+        "two flags",
+        "RD CD",
+        Some((
+            Flags {
+                rd: true,
+                cd: true,
+                ..NO_FLAG
+            },
+            "RD CD",
+        )),
+    ),
+];
+
+#[test]
+fn reads_and_prints_flags(rt: HostRuntime) {
+    for &(row, text, answer) in FLAG_TEXTS {
+        let read = text.parse::<Flags>().ok();
+        assert_same(&rt, row, read, answer.map(|(flags, _)| flags));
+        if let Some((flags, printed)) = answer {
+            assert_prints(&rt, rt.alloc(), &flags, printed);
+        }
+    }
+}
+
+/// Counts of 0x0102, 0x0304, 0x0506 and 0x0708.
+fn some_counts() -> HeaderCounts {
+    HeaderCounts::for_message_slice(b"\x00\x00\x00\x00\x01\x02\x03\x04\x05\x06\x07\x08")
+}
+
+#[test]
+fn has_counts_by_two_names(rt: HostRuntime) {
+    let counts = some_counts();
+    let expected = [0x0102, 0x0304, 0x0506, 0x0708];
+    let query = [
+        counts.qdcount(),
+        counts.ancount(),
+        counts.nscount(),
+        counts.arcount(),
+    ];
+    assert_same(&rt, "counts of a query", query, expected);
+    let update = [
+        counts.zocount(),
+        counts.prcount(),
+        counts.upcount(),
+        counts.adcount(),
+    ];
+    assert_same(&rt, "counts of an update", update, expected);
+}
+
+#[test]
+fn sets_counts_by_two_names(rt: HostRuntime) {
+    let expected = b"\x08\x07\x06\x05\x04\x03\x02\x01";
+    let mut counts = HeaderCounts::new();
+    counts.set_qdcount(0x0807);
+    counts.set_ancount(0x0605);
+    counts.set_nscount(0x0403);
+    counts.set_arcount(0x0201);
+    assert_octets(&rt, "counts of a query", counts.as_slice(), expected);
+    let mut update = HeaderCounts::new();
+    update.set_zocount(0x0807);
+    update.set_prcount(0x0605);
+    update.set_upcount(0x0403);
+    update.set_adcount(0x0201);
+    assert_octets(&rt, "counts of an update", update.as_slice(), expected);
+    update.set(HeaderCounts::new());
+    assert_octets(&rt, "no counts", update.as_slice(), &[0; 8]);
+}
+
+/// Raises each count, and says which of them were refused.
+fn raise(counts: &mut HeaderCounts) -> [bool; 4] {
+    [
+        counts.inc_qdcount().is_err(),
+        counts.inc_ancount().is_err(),
+        counts.inc_nscount().is_err(),
+        counts.inc_arcount().is_err(),
+    ]
+}
+
+/// Counts down, which asks for a count above 0.
+fn lower(counts: &mut HeaderCounts) {
+    if counts.qdcount() > 0 {
+        counts.dec_qdcount();
+    }
+    if counts.ancount() > 0 {
+        counts.dec_ancount();
+    }
+    if counts.nscount() > 0 {
+        counts.dec_nscount();
+    }
+    if counts.arcount() > 0 {
+        counts.dec_arcount();
+    }
+}
+
+#[test]
+fn counts_up_and_down(rt: HostRuntime) {
+    let row = "Counts go up";
+    let mut counts = some_counts();
+    assert_same(&rt, row, raise(&mut counts), [false; 4]);
+    let raised = b"\x01\x03\x03\x05\x05\x07\x07\x09";
+    assert_octets(&rt, row, counts.as_slice(), raised);
+    let mut counts = some_counts();
+    lower(&mut counts);
+    let lowered = b"\x01\x01\x03\x03\x05\x05\x07\x07";
+    assert_octets(&rt, "counts go down", counts.as_slice(), lowered);
+}
+
+/// Messages in which one count is 65,534 and the others are 65,535, each with the counts that are refused to go up.
+const NEARLY_FULL: &[(&str, &[u8; 12], [bool; 4])] = &[
+    (
+        "Counts go up: QDCOUNT",
+        b"\x00\x00\x00\x00\xff\xfe\xff\xff\xff\xff\xff\xff",
+        [false, true, true, true],
+    ),
+    (
+        "Counts go up: ANCOUNT",
+        b"\x00\x00\x00\x00\xff\xff\xff\xfe\xff\xff\xff\xff",
+        [true, false, true, true],
+    ),
+    (
+        "Counts go up: NSCOUNT",
+        b"\x00\x00\x00\x00\xff\xff\xff\xff\xff\xfe\xff\xff",
+        [true, true, false, true],
+    ),
+    (
+        "Counts go up: ARCOUNT",
+        b"\x00\x00\x00\x00\xff\xff\xff\xff\xff\xff\xff\xfe",
+        [true, true, true, false],
+    ),
+];
+
+#[test]
+fn raises_each_count_to_65535(rt: HostRuntime) {
+    for &(row, message, refused) in NEARLY_FULL {
+        let mut counts = HeaderCounts::for_message_slice(message);
+        assert_same(&rt, row, raise(&mut counts), refused);
+        assert_same(&rt, row, raise(&mut counts), [true; 4]);
+        assert_octets(&rt, row, counts.as_slice(), &[0xff; 8]);
+    }
+}
+
+#[test]
+fn tells_what_is_wrong(rt: HostRuntime) {
+    let alloc = rt.alloc();
+    let overflow = HeaderCounts::for_message_slice(&[0xff; 12])
+        .inc_qdcount()
+        .err()
+        .expect(&rt, "no overflow");
+    let text = "increasing a header count lead to an overflow";
+    assert_prints(&rt, alloc, &overflow, text);
+    let token = "XXXX".parse::<Flags>().err().expect(&rt, "no error");
+    assert_prints(&rt, alloc, &token, "illegal flags token");
+}

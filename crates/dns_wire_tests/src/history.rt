@@ -1,0 +1,48 @@
+//! What was appended and cut away again leaves a target as if it had never been there.
+ghost use Rattle.std.specs.Prelude.{◌≡◌};
+
+use crate::assertions::name_of;
+use crate::compressors::{ALIKE, Row, assert_rows};
+use crate::steps::Step;
+use arrayvec::ArrayVec;
+use dns_wire::{Composer, ToName};
+use std::process::Abort;
+
+/// Appends names and octets behind each, whatever the answers, and cuts the content back to what it was.
+fn append_and_cut<T: Composer, N: ToName>(target: &mut T, names: &[N], octets: &[u8])
+    ensures { T.written target.new ≡ T.written target.old }
+{
+    let len = target.as_slice().len();
+    for name in names {
+        let _name = target.append_compressed_name(name);
+        let _octets = target.append_slice(octets);
+    }
+    target.truncate(len);
+}
+
+/// Takes such a history, of two names that end alike and octets that are a pointer's.
+pub(crate) fn take_history<T: Composer>(rt: &impl Abort, target: &mut T) {
+    let names = [
+        name_of(rt, b"\x01a\x02bc\x02de\x00"),
+        name_of(rt, b"\x01x\x02bc\x02de\x00"),
+    ];
+    append_and_cut(target, &names, b"\xC0\x00");
+}
+
+/// A name is written in the same octets before and behind such a history.
+const HISTORY: &[Row] = &[Row {
+    name: "a history cut away",
+    steps: &[
+        Step::Name(b"\x02de\x00", Ok(b"\x02de\x00")),
+        Step::History,
+        Step::Name(b"\x02bc\x02de\x00", Ok(b"\x02bc\xC0\x00")),
+    ],
+    len: 9,
+    ..ALIKE
+}];
+
+#[test]
+fn what_is_cut_away_is_forgotten(rt: HostRuntime) {
+    assert_rows(&rt, rt.alloc(), &Vec::new(rt.alloc()), HISTORY);
+    assert_rows(&rt, rt.alloc(), &ArrayVec::<u8, 12>::new(), HISTORY);
+}

@@ -1,0 +1,338 @@
+//! Names in octets: parsed, skipped, gone over from both ends, and held in octets of their own.
+use crate::assertions::{assert_same, name_at, name_of, parser_at};
+use dns_wire::{
+    Composer, FormError, Label, LabelIter, Name, ParseError, ParsedName, Parser, ToName, ToNameExt,
+};
+use std::process::Abort;
+
+const BAD_LABEL: ParseError = ParseError::Form(FormError::BAD_LABEL);
+
+const BAD_POINTER: ParseError = ParseError::Form(FormError::BAD_POINTER);
+
+const LONG_NAME: ParseError = ParseError::Form(FormError::LONG_NAME);
+
+const SHORT: ParseError = ParseError::ShortInput;
+
+/// A message of a question and an answer, both for example.com.
+const POSITIVE_RESPONSE: &[u8] =
+    b"\x00\x00\x81\xA0\x00\x01\x00\x01\x00\x00\x00\x00\x07example\x03com\x00\x00\x01\x00\x01\xC0\x0C\x00\x01\x00\x01\x00\x00\x0E\x10\x00\x04\xCB\x00\x71\x01";
+
+/// A place in a message, and what parsing and skipping a name there answer. A parsed name ends where the skipped one does.
+struct Case {
+    row: &'static str,
+    message: &'static [u8],
+    place: usize,
+    /// The octets of the name without pointers.
+    parsed: Result<&'static [u8], ParseError>,
+    /// The place behind the name.
+    skipped: Result<usize, ParseError>,
+}
+
+const CASES: &[Case] = &[
+    Case {
+        row: "Positive response: the name of the question",
+        message: POSITIVE_RESPONSE,
+        place: 12,
+        parsed: Ok(b"\x07example\x03com\x00"),
+        skipped: Ok(25),
+    },
+    Case {
+        row: "Positive response: the owner, which points there",
+        message: POSITIVE_RESPONSE,
+        place: 29,
+        parsed: Ok(b"\x07example\x03com\x00"),
+        skipped: Ok(31),
+    },
+    Case {
+        row: "a pointer to the middle of a name",
+        message: b"\x07example\x03com\x00\x01a\xC0\x08",
+        place: 13,
+        parsed: Ok(b"\x01a\x03com\x00"),
+        skipped: Ok(17),
+    },
+    Case {
+        row: "Compression loop",
+        message: b"\x00\x00\x00\x00\x00\x01\x00\x00\x00\x00\x00\x00\x01\x61\xC0\x0C\x00\x01\x00\x01",
+        place: 12,
+        parsed: Err(LONG_NAME),
+        skipped: Ok(16),
+    },
+    Case {
+        row: "Pointer to its own place",
+        message: b"\x00\x00\x00\x00\x00\x01\x00\x00\x00\x00\x00\x00\xC0\x0C\x00\x01\x00\x01",
+        place: 12,
+        parsed: Err(BAD_POINTER),
+        skipped: Ok(14),
+    },
+    // octet 4 of the header is zero
+    Case {
+        row: "Pointer into the header",
+        message: b"\x00\x00\x00\x00\x00\x01\x00\x00\x00\x00\x00\x00\xC0\x04\x00\x01\x00\x01",
+        place: 12,
+        parsed: Ok(b"\x00"),
+        skipped: Ok(14),
+    },
+    Case {
+        row: "Reserved label types: 01",
+        message: b"\x00\x00\x00\x00\x00\x01\x00\x00\x00\x00\x00\x00\x40\x00\x00\x01\x00\x01",
+        place: 12,
+        parsed: Err(BAD_LABEL),
+        skipped: Err(BAD_LABEL),
+    },
+    Case {
+        row: "Reserved label types: 10",
+        message: b"\x00\x00\x00\x00\x00\x01\x00\x00\x00\x00\x00\x00\x80\x00\x00\x01\x00\x01",
+        place: 12,
+        parsed: Err(BAD_LABEL),
+        skipped: Err(BAD_LABEL),
+    },
+    Case {
+        row: "Missing question",
+        message: b"\x00\x00\x00\x00\x00\x01\x00\x00\x00\x00\x00\x00",
+        place: 12,
+        parsed: Err(SHORT),
+        skipped: Err(SHORT),
+    },
+    Case {
+        row: "half a pointer",
+        message: b"\x00\xC0",
+        place: 1,
+        parsed: Err(SHORT),
+        skipped: Err(SHORT),
+    },
+    Case {
+        row: "a label that runs past the end",
+        message: b"\x03co",
+        place: 0,
+        parsed: Err(SHORT),
+        skipped: Err(SHORT),
+    },
+];
+
+/// Parses a name, of these octets without pointers, and finds the parser at this place behind it.
+fn assert_parsed(
+    rt: &impl Abort,
+    row: &str,
+    parser: &mut Parser<'_>,
+    expected: Result<&[u8], ParseError>,
+    place: usize,
+) {
+    match ParsedName::parse(parser) {
+        Ok(name) => {
+            let octets = name.uncompressed();
+            assert_same(rt, row, Ok(octets.as_slice()), expected);
+            let is_root = octets.as_slice() == b"\x00".as_slice();
+            let shape = (name.compose_len(), name.is_root());
+            assert_same(rt, row, shape, (octets.len(), is_root));
+        }
+        Err(fault) => assert_same(rt, row, Err(fault), expected),
+    }
+    assert_same(rt, row, parser.pos(), place);
+}
+
+/// Skips a name, and finds the parser at this place behind it.
+fn assert_skipped(
+    rt: &impl Abort,
+    row: &str,
+    parser: &mut Parser<'_>,
+    fault: Option<ParseError>,
+    place: usize,
+) {
+    let skipped = ParsedName::skip(parser).err();
+    assert_same(rt, row, (skipped, parser.pos()), (fault, place));
+}
+
+#[test]
+fn parses_and_skips(rt: HostRuntime) {
+    for case in CASES {
+        let row = case.row;
+        let behind = case.skipped.unwrap_or(case.place);
+        let parsed = if case.parsed.is_ok() {
+            behind
+        } else {
+            case.place
+        };
+        let mut parser = parser_at(&rt, case.message, case.place);
+        assert_parsed(&rt, row, &mut parser, case.parsed, parsed);
+        let mut parser = parser_at(&rt, case.message, case.place);
+        assert_skipped(&rt, row, &mut parser, case.skipped.err(), behind);
+    }
+}
+
+/// Fails unless parsing and skipping a name answer this fault, and the parser stays at this place.
+fn assert_refused(
+    rt: &impl Abort,
+    row: &str,
+    parser: &mut Parser<'_>,
+    fault: ParseError,
+    place: usize,
+) {
+    assert_parsed(rt, row, parser, Err(fault), place);
+    assert_skipped(rt, row, parser, Some(fault), place);
+}
+
+/// A CNAME record whose data of one octet, at 23, is the first of a pointer.
+const HALF_A_POINTER: &[u8; 25] =
+    b"\x00\x00\x00\x00\x00\x00\x00\x01\x00\x00\x00\x00\x00\x00\x05\x00\x01\x00\x00\x00\x00\x00\x01\xC0\x0C";
+
+#[test]
+fn sees_no_further_than_the_data(rt: HostRuntime) {
+    let mut parser = parser_at(&rt, HALF_A_POINTER, 23);
+    let mut inner = parser.parse_parser(1).expect(&rt, "the data");
+    let row = "Name past the data's end";
+    assert_refused(&rt, row, &mut inner, SHORT, 23);
+}
+
+/// A name of labels of 63, 63, 63 and 61 octets.
+fn longest_name() -> [u8; 255] {
+    let mut octets = [b'a'; 255];
+    octets[0] = 63;
+    octets[64] = 63;
+    octets[128] = 63;
+    octets[192] = 61;
+    octets[254] = 0;
+    octets
+}
+
+/// The same with a last label of 62 octets.
+fn longer_name() -> [u8; 256] {
+    let mut octets = [b'a'; 256];
+    octets[0] = 63;
+    octets[64] = 63;
+    octets[128] = 63;
+    octets[192] = 62;
+    octets[255] = 0;
+    octets
+}
+
+#[test]
+fn has_at_most_255_octets(rt: HostRuntime) {
+    let longest = longest_name();
+    let mut parser = Parser::new(&longest);
+    assert_parsed(&rt, "Longest name", &mut parser, Ok(&longest), 255);
+    let row = "One octet too long";
+    let longer = longer_name();
+    let refused = Name::from_octets(longer.as_slice()).err();
+    assert_same(&rt, row, refused, Some(LONG_NAME));
+    // the size is tested before the octets are asked for
+    for len in [256, 200] {
+        let mut parser = Parser::new(&longer[..len]);
+        assert_refused(&rt, row, &mut parser, LONG_NAME, 0);
+    }
+}
+
+/// Fails unless there is a label, of these octets.
+fn assert_label(rt: &impl Abort, label: Option<Label<'_>>, octets: &[u8]) {
+    let label = label.expect(rt, "a label");
+    assert_same(rt, "a label", label.as_slice(), octets);
+    let shape = (label.len(), label.is_root());
+    assert_same(rt, "a label", shape, (octets.len(), octets.is_empty()));
+}
+
+fn assert_no_label(rt: &impl Abort, labels: &mut LabelIter<'_>) {
+    let ends = [labels.next().is_none(), labels.next_back().is_none()];
+    assert_same(rt, "no label", ends, [true; 2]);
+}
+
+/// com., example.com. at 5, and at 15 a.example.com., behind two pointers.
+const EXAMPLE: &[u8] = b"\x03com\x00\x07example\xC0\x00\x01a\xC0\x05";
+
+const LABELS: &[&[u8]] = &[b"a", b"example", b"com", b""];
+
+#[test]
+fn goes_over_labels(rt: HostRuntime) {
+    let name = name_at(&rt, EXAMPLE, 15);
+    let mut labels = name.iter_labels();
+    for &text in LABELS {
+        assert_label(&rt, labels.next(), text);
+    }
+    assert_no_label(&rt, &mut labels);
+    let longest = name.iter_labels().map(|label| label.len()).max();
+    assert_same(&rt, "the longest label", longest, Some(7));
+}
+
+#[test]
+fn goes_over_labels_from_both_ends(rt: HostRuntime) {
+    let mut labels = name_at(&rt, EXAMPLE, 15).iter_labels();
+    assert_label(&rt, labels.next(), b"a");
+    assert_label(&rt, labels.next_back(), b"");
+    assert_label(&rt, labels.next_back(), b"com");
+    assert_label(&rt, labels.next(), b"example");
+    assert_no_label(&rt, &mut labels);
+}
+
+/// Octets, each with the fault for which they are no name without pointers.
+const WHOLE: &[(&[u8], Option<ParseError>)] = &[
+    (b"\x00", None),
+    (b"\x02Ab\x00", None),
+    (b"\x02Ab\x00\x00", Some(LONG_NAME)),
+    (b"\x02Ab\xC0\x00", Some(BAD_POINTER)),
+    (b"\x40\x00", Some(BAD_LABEL)),
+    (b"\x80\x00", Some(BAD_LABEL)),
+    (b"\x02Ab", Some(SHORT)),
+    (b"\x02A", Some(SHORT)),
+    (b"\xC0", Some(SHORT)),
+    (b"", Some(SHORT)),
+];
+
+#[test]
+fn takes_whole_octets_alone(rt: HostRuntime) {
+    for &(octets, fault) in WHOLE {
+        let answer = Name::from_octets(octets).err();
+        assert_same(&rt, "whole octets", (octets, answer), (octets, fault));
+    }
+    let name = name_of(&rt, b"\x02Ab\x00");
+    assert_same(&rt, "a name", name.as_slice(), b"\x02Ab\x00".as_slice());
+    let root = Name::root_slice();
+    assert_same(&rt, "the root", root.as_slice(), b"\x00".as_slice());
+}
+
+/// The value stands for Ab., and lends its octets without pointers where it has them so.
+fn assert_is_ab<N: ToName>(rt: &impl Abort, name: &N, lent: Option<&[u8]>) {
+    let parsed = name.as_parsed();
+    assert_label(rt, parsed.iter_labels().next(), b"Ab");
+    assert_same(rt, "the length", parsed.compose_len(), 4);
+    assert_same(rt, "octets lent", name.as_flat_slice(), lent);
+}
+
+#[test]
+fn stands_for_a_name(rt: HostRuntime) {
+    let octets = b"\x02Ab\x00\xC0\x00".as_slice();
+    let ab = Some(b"\x02Ab\x00".as_slice());
+    let name = name_of(&rt, b"\x02Ab\x00");
+    assert_is_ab(&rt, &name, ab);
+    assert_is_ab(&rt, &&name, ab);
+    assert_is_ab(&rt, &name_at(&rt, octets, 0), ab);
+    assert_is_ab(&rt, &name_at(&rt, octets, 4), None);
+    assert_is_ab(&rt, &Alias { target: name }, ab);
+}
+
+/// What stands for a name and is none of the library's: it holds one.
+#[derive(Drop)]
+struct Alias<N> {
+    target: N,
+}
+
+impl<N: ToName> ToName for Alias<N> {
+    ghost name = { λ alias. N.name alias.target };
+
+    ghost is_name = { λ alias. N.is_name alias.target };
+
+    fn as_parsed(&self) -> ParsedName<'_> {
+        self.target.as_parsed()
+    }
+}
+
+#[test]
+fn another_type_stands_for_a_name(rt: HostRuntime) {
+    let alias = Alias {
+        target: name_of(&rt, b"\x01A\x00"),
+    };
+    let mut target = Vec::new(rt.alloc());
+    let answer = target.append_compressed_name(&alias);
+    let appended = (answer, target.as_slice());
+    let expected = (Ok(()), b"\x01A\x00".as_slice());
+    assert_same(&rt, "an alias appended", appended, expected);
+    let is_equal = alias.name_eq(&name_of(&rt, b"\x01a\x00"));
+    assert_same(&rt, "an alias compared", is_equal, true);
+}

@@ -1,0 +1,115 @@
+//! Comparisons and hashes of labels and names.
+use crate::assertions::{assert_same, name_at, name_of};
+use dns_wire::{Label, Name, ParsedName, Parser, ToName, ToNameExt};
+use std::cmp::Ordering;
+use std::hash::{DefaultHasher, Hash, Hasher};
+use std::process::Abort;
+
+fn hash_of<T: Hash>(value: &T) -> u64 {
+    let mut state = DefaultHasher::new();
+    value.hash(&mut state);
+    state.finish()
+}
+
+fn compare<T: Ord>(value: &T, other: &T) -> Ordering {
+    value.cmp(other)
+}
+
+/// The names of RFC 4034 section 6.1 in canonical order, one behind the other.
+const CANONICAL_ORDER: &[u8] =
+    b"\x07example\x00\x01a\x07example\x00\x08yljkjljk\x01a\x07example\x00\x01Z\x01a\x07example\x00\x04zABC\x01a\x07EXAMPLE\x00\x01z\x07example\x00\x01\x01\x01z\x07example\x00\x01*\x01z\x07example\x00\x01\xC8\x01z\x07example\x00";
+
+/// The next name in canonical order.
+fn next_name(rt: &impl Abort, parser: &mut Parser<'static>) -> ParsedName<'static> {
+    ParsedName::parse(parser).expect(rt, "a name of the RFC")
+}
+
+#[test]
+fn orders_names_from_the_root(rt: HostRuntime) {
+    let mut parser = Parser::new(CANONICAL_ORDER);
+    let mut before = next_name(&rt, &mut parser);
+    for _ in 0..8 {
+        let name = next_name(&rt, &mut parser);
+        let orders = [
+            before.name_cmp(&name),
+            compare(&before, &name),
+            name.name_cmp(&before),
+        ];
+        let expected = [Ordering::Less, Ordering::Less, Ordering::Greater];
+        assert_same(&rt, "RFC 4034", (orders, before < name), (expected, true));
+        before = name;
+    }
+    assert_same(&rt, "octets left over", parser.remaining(), 0);
+}
+
+/// www.dE., a pointer to it, WwW.De. and x.de.
+const NAMES: &[u8] = b"\x03www\x02dE\x00\xC0\x00\x03WwW\x02De\x00\x01x\x02de\x00";
+
+/// Places of names, each with whether it is equal to www.dE. octet for octet and up to letter case, and how that one stands to
+/// it: by labels from the root, and by octets.
+const COMPARED: &[(usize, bool, bool, Ordering, Ordering)] = &[
+    (8, true, true, Ordering::Equal, Ordering::Equal),
+    (10, false, true, Ordering::Equal, Ordering::Equal),
+    // www before x by its letters, after it by the length of the first label
+    (18, false, false, Ordering::Less, Ordering::Greater),
+];
+
+#[test]
+fn ignores_letter_case_but_for_octets_eq(rt: HostRuntime) {
+    let name = name_at(&rt, NAMES, 0);
+    for &(place, octets, letters, from_root, composed) in COMPARED {
+        let other = name_at(&rt, NAMES, place);
+        let equal = [
+            name.octets_eq(&other),
+            name.name_eq(&other),
+            name == other,
+            hash_of(&name) == hash_of(&other),
+        ];
+        let expected = [octets, letters, letters, letters];
+        assert_same(&rt, "equality", (place, equal), (place, expected));
+        let orders = [
+            name.name_cmp(&other),
+            compare(&name, &other),
+            name.lowercase_composed_cmp(&other),
+        ];
+        let expected = [from_root, from_root, composed];
+        assert_same(&rt, "order", (place, orders), (place, expected));
+    }
+}
+
+/// The name that an array of octets spells, which it holds.
+fn held_name(rt: &impl Abort, octets: [u8; 3]) -> Name<[u8; 3]> {
+    Name::from_octets(octets).expect(rt, "a name")
+}
+
+#[test]
+fn compares_across_holders(rt: HostRuntime) {
+    let name = held_name(&rt, *b"\x01A\x00");
+    let same = held_name(&rt, *b"\x01a\x00");
+    let other = name_of(&rt, b"\x01b\x00");
+    let answers = [name == same, name <= same, name.name_eq(&other)];
+    assert_same(&rt, "equality", answers, [true, true, false]);
+    let hashes = [hash_of(&same), hash_of(&name.as_parsed())];
+    assert_same(&rt, "hashes", hashes, [hash_of(&name); 2]);
+    let orders = (name.name_cmp(&other), name.partial_cmp(&same));
+    let expected = (Ordering::Less, Some(Ordering::Equal));
+    assert_same(&rt, "order", orders, expected);
+}
+
+/// The first label of the name that the octets are.
+fn first_label<'a>(rt: &impl Abort, octets: &'a [u8]) -> Label<'a> {
+    let mut labels = name_at(rt, octets, 0).iter_labels();
+    labels.next().expect(rt, "a label")
+}
+
+#[test]
+fn compares_labels_lowercased(rt: HostRuntime) {
+    let label = first_label(&rt, b"\x02aB\x00");
+    let same = first_label(&rt, b"\x02Ab\x00");
+    // the bracket stands between the upper and the lower case
+    let bracket = first_label(&rt, b"\x02a[\x00");
+    let equal = [label == same, hash_of(&label) == hash_of(&same)];
+    assert_same(&rt, "equality", equal, [true; 2]);
+    let order = (compare(&label, &same), bracket < label);
+    assert_same(&rt, "order", order, (Ordering::Equal, true));
+}

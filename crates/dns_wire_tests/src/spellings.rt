@@ -1,0 +1,179 @@
+//! The compressors beside every spelling of small lists of names (RFC 1035 section 4.1.4).
+//!
+//! A spelling is one free choice for each name, with no place and no memory: all its labels, or some first ones of them,
+//! perhaps none, and a pointer in place of the rest, which is a suffix of an earlier name.
+use crate::assertions::assert_same;
+use crate::steps::append_name;
+use dns_target::{HashCompressor, IndexCompressor, StaticCompressor, TreeCompressor};
+use dns_wire::Composer;
+use std::alloc::{AllocError, Global};
+use std::process::Abort;
+use std::test::Fail;
+
+const ROOT: &[u8] = b"\x00";
+
+const A: &[u8] = b"\x01a\x00";
+
+const B: &[u8] = b"\x01b\x00";
+
+const UPPER_A: &[u8] = b"\x01A\x00";
+
+const A_B: &[u8] = b"\x01a\x01b\x00";
+
+const B_B: &[u8] = b"\x01b\x01b\x00";
+
+/// The names of at most two labels a, b and A. A letter in two cases is two labels.
+const NAMES: &[&[u8]] = &[
+    ROOT,
+    A,
+    B,
+    UPPER_A,
+    b"\x01a\x01a\x00",
+    A_B,
+    b"\x01a\x01A\x00",
+    b"\x01b\x01a\x00",
+    B_B,
+    b"\x01b\x01A\x00",
+    b"\x01A\x01a\x00",
+    b"\x01A\x01b\x00",
+    b"\x01A\x01A\x00",
+];
+
+/// How many octets a label of one octet has, with its length octet.
+const LABEL_LEN: usize = 2;
+
+/// How many octets a pointer has.
+const POINTER_LEN: usize = 2;
+
+/// How many octets a name has by each choice for it behind earlier names, all of labels of one octet: a cut before each label
+/// whose rest ends an earlier name, and no cut.
+fn choice_lens(alloc: Global, earlier: &[&[u8]], name: &[u8]) -> Result<Vec<usize>, AllocError> {
+    let mut lens = Vec::new(alloc);
+    for count in 0..name.len() / LABEL_LEN {
+        let place = count * LABEL_LEN;
+        if earlier.iter().any(|other| other.ends_with(&name[place..])) {
+            lens.push(place + POINTER_LEN)?;
+        }
+    }
+    lens.push(name.len())?;
+    Ok(lens)
+}
+
+/// Each of the lengths with each of those of the choices behind it.
+fn longer_lens(alloc: Global, lens: &[usize], choices: &[usize]) -> Result<Vec<usize>, AllocError> {
+    let mut longer = Vec::new(alloc);
+    for len in lens {
+        for choice in choices {
+            longer.push(len.saturating_add(*choice))?;
+        }
+    }
+    Ok(longer)
+}
+
+/// How many octets each spelling of a list of names has: a choice for each of them.
+fn spelling_lens(alloc: Global, names: &[&[u8]]) -> Result<Vec<usize>, AllocError> {
+    let mut lens = vec![in alloc; 0]?;
+    for count in 0..names.len() {
+        let choices = choice_lens(alloc, &names[..count], names[count])?;
+        lens = longer_lens(alloc, &lens, &choices)?;
+    }
+    Ok(lens)
+}
+
+/// Fails unless the names have so many octets, one after another on an empty target.
+fn assert_written<T: Composer>(
+    rt: &impl Abort,
+    mut target: T,
+    names: &[&[u8]],
+    len: Option<usize>,
+) {
+    for name in names {
+        let answer = append_name(rt, &mut target, name);
+        assert_same(rt, "a name appended", answer, Ok(()));
+    }
+    let written = (names, Some(target.as_slice().len()));
+    assert_same(rt, "the shortest spelling", written, (names, len));
+}
+
+/// Each compressor writes the names in as many octets as their shortest spelling has. It gives the number of the spellings.
+fn assert_shortest(rt: &impl Abort, alloc: Global, names: &[&[u8]]) -> Result<usize, AllocError> {
+    let lens = spelling_lens(alloc, names)?;
+    let least = lens.iter().min().copied();
+    assert_written(rt, StaticCompressor::new(Vec::new(alloc)), names, least);
+    assert_written(
+        rt,
+        TreeCompressor::new(alloc, Vec::new(alloc)),
+        names,
+        least,
+    );
+    assert_written(
+        rt,
+        HashCompressor::new(alloc, Vec::new(alloc)),
+        names,
+        least,
+    );
+    assert_written(
+        rt,
+        IndexCompressor::new(alloc, Vec::new(alloc)),
+        names,
+        least,
+    );
+    Ok(lens.len())
+}
+
+/// The same of each list of these names and one more, and the number of their spellings.
+fn assert_longer(rt: &impl Abort, alloc: Global, names: &[&[u8]]) -> Result<usize, AllocError> {
+    let mut count: usize = 0;
+    for &name in NAMES {
+        let mut list = Vec::from_slice(alloc, names)?;
+        list.push(name)?;
+        count = count.saturating_add(assert_shortest(rt, alloc, &list)?);
+    }
+    Ok(count)
+}
+
+/// How many spellings the lists of no name, of one, of two and of three have, counted by hand.
+///
+/// A list of no name or of one has one spelling. Each of the 169 lists of two has one; those 48 whose names end with the same
+/// label have one more, and those 9 with the same two labels twice yet another. Behind two names, the 13 third names have 13
+/// choices in all, 4 more for each label that ends one of the two, and 1 more for each name of two labels among them. Such a
+/// sum, times the spellings of the two, adds up to 4519 over all pairs of first names.
+const SPELLINGS: [usize; 4] = [1, 13, 226, 4519];
+
+#[test]
+fn none_is_shorter_than_what_is_written(rt: HostRuntime) -> Result<(), Fail> {
+    let alloc = rt.alloc();
+    let none = assert_shortest(&rt, alloc, &[])?;
+    let one = assert_longer(&rt, alloc, &[])?;
+    let mut two: usize = 0;
+    let mut three: usize = 0;
+    for &first in NAMES {
+        two = two.saturating_add(assert_longer(&rt, alloc, &[first])?);
+        for &second in NAMES {
+            three = three.saturating_add(assert_longer(&rt, alloc, &[first, second])?);
+        }
+    }
+    assert_same(&rt, "spellings", [none, one, two, three], SPELLINGS);
+    Ok(())
+}
+
+/// Lists of names, each with how many octets its spellings have.
+const BY_HAND: &[(&[&[u8]], &[usize])] = &[
+    (&[], &[0]),
+    (&[ROOT, ROOT], &[2]),
+    (&[A_B], &[5]),
+    (&[A_B, A_B], &[7, 9, 10]),
+    (&[A, UPPER_A], &[6]),
+    (&[A_B, A], &[8]),
+    (&[B_B], &[5]),
+    (&[B, A_B, B_B], &[11, 12, 12, 13]),
+];
+
+#[test]
+fn spellings_by_hand(rt: HostRuntime) -> Result<(), Fail> {
+    for &(names, expected) in BY_HAND {
+        let lens = spelling_lens(rt.alloc(), names)?;
+        assert_same(&rt, "spellings by hand", lens.as_slice(), expected);
+    }
+    Ok(())
+}

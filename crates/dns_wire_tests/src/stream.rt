@@ -1,0 +1,132 @@
+//! Messages behind their length, as they go over a stream.
+ghost use Rattle.std.specs.Prelude.{◌≡◌, []};
+
+use crate::assertions::{assert_octets, assert_same};
+use crate::steps::{Step, assert_steps, take};
+use arrayvec::ArrayVec;
+use dns_target::StreamTarget;
+use dns_wire::{AppendError, CloneTarget, Composer};
+use std::alloc::Global;
+use std::convert::AsSlice;
+use std::process::Abort;
+
+const SHORT: AppendError = AppendError::ShortBuf;
+
+/// The message of a target, alone and behind its length.
+fn assert_message<T: Composer>(
+    rt: &impl Abort,
+    target: &StreamTarget<T>,
+    message: &[u8],
+    stream: &[u8],
+) {
+    assert_octets(rt, "the message", target.as_dgram_slice(), message);
+    assert_octets(rt, "the message", target.as_slice(), message);
+    let row = "behind its length";
+    assert_octets(rt, row, target.as_stream_slice(), stream);
+    assert_octets(rt, row, target.as_target().as_slice(), stream);
+}
+
+/// A target over an array vector.
+fn fixed<const N: usize>(
+    rt: &impl Abort,
+    target: ArrayVec<u8, N>,
+) -> StreamTarget<ArrayVec<u8, N>> {
+    StreamTarget::new(target).expect(rt, "room for the length")
+}
+
+/// A target over a vector.
+fn growing(rt: &impl Abort, alloc: Global) -> StreamTarget<Vec<u8>>
+    ensures { result ≡ [] }
+{
+    StreamTarget::new_vec(alloc).expect(rt, "memory for the length")
+}
+
+#[test]
+fn has_room_for_the_length(rt: HostRuntime) {
+    let refused = StreamTarget::new(ArrayVec::<u8, 1>::new()).err();
+    let row = "No room for prefix or header";
+    assert_same(&rt, row, refused, Some(SHORT));
+    let target = fixed(&rt, ArrayVec::<u8, 2>::from(*b"ab"));
+    assert_message(&rt, &target, b"", b"\x00\x00");
+}
+
+const ABC: &[Step] = &[
+    Step::Octets(b"ab", Ok(b"ab")),
+    Step::Name(b"\x01C\x00", Ok(b"\x01C\x00")),
+];
+
+#[test]
+fn tells_its_length(rt: HostRuntime) {
+    let row = "the length of a message";
+    let mut target = growing(&rt, rt.alloc());
+    assert_steps(&rt, row, &mut target, ABC);
+    assert_same(&rt, row, target.can_compress(), false);
+    assert_message(&rt, &target, b"ab\x01C\x00", b"\x00\x05ab\x01C\x00");
+    target.truncate(usize::MAX);
+    target.truncate(usize::MAX - 1);
+    target.truncate(5);
+    assert_message(&rt, &target, b"ab\x01C\x00", b"\x00\x05ab\x01C\x00");
+    target.truncate(1);
+    assert_message(&rt, &target, b"a", b"\x00\x01a");
+    let target = target.into_target();
+    assert_same(&rt, row, target.as_slice(), b"\x00\x01a".as_slice());
+}
+
+#[test]
+fn writes_over_its_message(rt: HostRuntime) {
+    let row = "a message written over";
+    let mut target = growing(&rt, rt.alloc());
+    target.append_slice(b"ab").expect(&rt, "memory");
+    target.write_at(1, b"d");
+    let clone = target.clone_target().expect(&rt, "a clone");
+    target.truncate(1);
+    assert_message(&rt, &target, b"a", b"\x00\x01a");
+    assert_message(&rt, &clone, b"ad", b"\x00\x02ad");
+    assert_same(&rt, row, AsSlice::as_slice(&clone), b"ad".as_slice());
+}
+
+/// One octet more has room, and no other behind it.
+const ONE_MORE: &[Step] = &[Step::Octets(b"b", Ok(b"b")), Step::Octets(b"c", Err(SHORT))];
+
+/// A clone of a target of fixed size knows its length, and goes on alone.
+#[test]
+fn clones_a_target_of_fixed_size(rt: HostRuntime) {
+    let row = "a clone of fixed size";
+    let mut target = fixed(&rt, ArrayVec::<u8, 4>::new());
+    take(&rt, row, &mut target, Step::Octets(b"a", Ok(b"a")));
+    let mut clone = target.clone().expect(&rt, "a clone");
+    assert_steps(&rt, row, &mut clone, ONE_MORE);
+    assert_message(&rt, &clone, b"ab", b"\x00\x02ab");
+    assert_message(&rt, &target, b"a", b"\x00\x01a");
+}
+
+/// All octets but one that a message may have, and two that pass them.
+const NEARLY_FULL: &[Step] = &[Step::Fill(65_534), Step::Octets(b"ab", Err(SHORT))];
+
+#[test]
+fn is_full_at_65535_octets(rt: HostRuntime) {
+    let row = "the most octets of a message";
+    let mut target = growing(&rt, rt.alloc());
+    assert_steps(&rt, row, &mut target, NEARLY_FULL);
+    let is_prefix = target.as_stream_slice().starts_with(b"\xFF\xFE");
+    assert_same(&rt, row, is_prefix, true);
+    assert_steps(&rt, row, &mut target, ONE_MORE);
+    let is_prefix = target.as_stream_slice().starts_with(b"\xFF\xFF");
+    let full = (is_prefix, target.as_dgram_slice().len());
+    assert_same(&rt, row, full, (true, 65_535));
+}
+
+const AB: &[Step] = &[
+    Step::Octets(b"ab", Ok(b"ab")),
+    Step::Octets(b"cd", Err(SHORT)),
+];
+
+#[test]
+fn is_full_where_its_target_is(rt: HostRuntime) {
+    let row = "a full target of fixed size";
+    let mut target = fixed(&rt, ArrayVec::<u8, 5>::new());
+    assert_steps(&rt, row, &mut target, AB);
+    assert_message(&rt, &target, b"ab", b"\x00\x02ab");
+    take(&rt, row, &mut target, Step::Octets(b"c", Ok(b"c")));
+    assert_message(&rt, &target, b"abc", b"\x00\x03abc");
+}

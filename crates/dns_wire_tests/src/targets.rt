@@ -1,0 +1,126 @@
+//! Targets: octets and names appended, cut and written over, and what a refused append leaves.
+ghost use Rattle.std.specs.Prelude.{◌≤◌, length};
+ghost use Rattle.dns_wire.specs.Pieces.{IsClear};
+
+use crate::assertions::{assert_same, in_memory};
+use crate::steps::{Step, assert_row, assert_steps};
+use arrayvec::ArrayVec;
+use dns_wire::{AppendError, CloneTarget, Composer, FreezeBuilder, Octets, ToName};
+use std::process::Abort;
+
+const AB: &[u8] = b"\x02Ab\x00";
+
+const SHORT: AppendError = AppendError::ShortBuf;
+
+/// Octets, a name and a canonical name appended to an empty target, and cuts back to three octets.
+const WRITES: &[Step] = &[
+    Step::Octets(b"\x00\x01", Ok(b"\x00\x01")),
+    Step::Name(AB, Ok(AB)),
+    Step::Canonical(b"\x01C\x02Ab\x00", Ok(b"\x01c\x02ab\x00")),
+    Step::Cut(12),
+    Step::Cut(3),
+];
+
+/// Takes the steps on an empty target, and freezes a clone of it.
+fn assert_writes<T: CloneTarget + FreezeBuilder>(rt: &impl Abort, mut target: T) {
+    let row = "a plain target";
+    assert_steps(rt, row, &mut target, WRITES);
+    assert_same(rt, row, target.can_compress(), false);
+    let clone = target.clone_target().expect(rt, "a clone");
+    assert_freezes(rt, clone, b"\x00\x01\x02");
+    let octets = b"\x00\x01\x02".as_slice();
+    assert_same(rt, row, target.as_slice(), octets);
+}
+
+fn assert_freezes<T: FreezeBuilder>(rt: &impl Abort, target: T, octets: &[u8]) {
+    let frozen = target.freeze();
+    assert_same(rt, "a frozen target", frozen.octets(), octets);
+}
+
+#[test]
+fn writes_to_a_vec_and_to_an_array_vec(rt: HostRuntime) {
+    assert_writes(&rt, Vec::new(rt.alloc()));
+    assert_writes(&rt, ArrayVec::<u8, 12>::new());
+}
+
+fn assert_written_over<T: Composer>(rt: &impl Abort, target: &mut T)
+    requires within { 4 ≤ length (T.written target.old).octets }
+    requires clear { IsClear (T.written target.old).memory 1 2 }
+{
+    target.write_at(1, b"XY");
+    let octets = b"aXYd".as_slice();
+    assert_same(rt, "a target written over", target.as_slice(), octets);
+}
+
+#[test]
+fn writes_over_octets(rt: HostRuntime) {
+    assert_written_over(&rt, &mut in_memory(&rt, rt.alloc(), b"abcd"));
+    assert_written_over(&rt, &mut ArrayVec::<u8, 4>::from(*b"abcd"));
+}
+
+/// Appends to an array vector of five octets.
+const ROOM: &[Step] = &[
+    Step::Octets(b"\x00\x01", Ok(b"\x00\x01")),
+    Step::Name(AB, Err(SHORT)),
+    Step::Canonical(AB, Err(SHORT)),
+    Step::Octets(b"\x02\x03\x04\x05", Err(SHORT)),
+    Step::Octets(b"\x02\x03\x04", Ok(b"\x02\x03\x04")),
+    Step::Octets(b"\x05", Err(SHORT)),
+    Step::Octets(b"", Ok(b"")),
+    Step::Cut(1),
+    Step::Name(AB, Ok(AB)),
+];
+
+/// Appends for which there is no memory.
+pub(crate) const WANT: &[Step] = &[
+    Step::Name(AB, Err(AppendError::OutOfMemory)),
+    Step::Name(AB, Err(AppendError::OutOfMemory)),
+    Step::Octets(AB, Err(AppendError::OutOfMemory)),
+    Step::Canonical(AB, Err(AppendError::OutOfMemory)),
+];
+
+#[test]
+fn refuses_what_passes_the_room_or_the_memory(rt: HostRuntime) {
+    assert_row(&rt, "room for five octets", ArrayVec::<u8, 5>::new(), ROOM);
+    assert_row(&rt, "no memory", Refusing, WANT);
+}
+
+/// A target whose every growth is refused.
+#[derive(Drop)]
+pub(crate) struct Refusing;
+
+impl Composer for Refusing {
+    ghost use Rattle.std.specs.Prelude.{None, true, [], refl};
+    ghost use Rattle.dns_wire.specs.Pieces.{nothing, Plain};
+
+    ghost rule = { Plain };
+
+    ghost room = { None };
+
+    ghost grows = { true };
+
+    ghost written = { λ _. record { octets = []; memory = nothing } };
+
+    ghost plain_forgets = { λ _ _. refl };
+
+    fn as_slice(&self) -> &[u8] {
+        &[]
+    }
+
+    fn append_slice(&mut self, _octets: &[u8]) -> Result<(), AppendError> {
+        Err(AppendError::OutOfMemory)
+    }
+
+    fn append_compressed_name<N: ToName>(&mut self, _name: &N) -> Result<(), AppendError> {
+        Err(AppendError::OutOfMemory)
+    }
+
+    fn can_compress(&self) -> bool {
+        false
+    }
+
+    #[tactic(auto, using(dns_wire::proofs::theory::Memories::cut_nothing, dns_wire::proofs::theory::Memories::nothing_is_kept))]
+    fn truncate(&mut self, _len: usize) {}
+
+    fn write_at(&mut self, _place: usize, _octets: &[u8]) {}
+}

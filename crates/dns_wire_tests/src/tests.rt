@@ -1,9 +1,0 @@
-mod codes;
-mod error;
-mod header;
-mod name_texts;
-mod names;
-mod octets;
-mod orders;
-mod parser;
-mod ttl;

@@ -1,0 +1,81 @@
+//! TTLs: arithmetic, other units, and reading them.
+use crate::assertions::assert_same;
+use dns_item::Ttl;
+use dns_wire::{ParseError, Parser};
+use std::time::Duration;
+
+#[test]
+fn stays_within_32_bits(rt: HostRuntime) {
+    let row = "TTL arithmetic";
+    let product = Ttl::from_secs(u32::MAX - 1).saturating_mul(2);
+    assert_same(&rt, row, product, Ttl::MAX);
+    let capped = Ttl::from_days(50).cap().as_secs();
+    assert_same(&rt, row, capped, 604_800);
+    let second = Ttl::from_secs(1);
+    let sums = (
+        second.checked_add(Ttl::MAX),
+        second.saturating_add(Ttl::MAX),
+    );
+    assert_same(&rt, row, sums, (None, Ttl::MAX));
+    let minute = Ttl::from_mins(1);
+    let quotients = [minute.checked_div(2), minute.checked_div(0)];
+    assert_same(&rt, row, quotients, [Some(Ttl::from_secs(30)), None]);
+    let products = [second.checked_mul(60), minute.checked_mul(u32::MAX)];
+    assert_same(&rt, "products", products, [Some(Ttl::from_secs(60)), None]);
+    let differences = (second.checked_sub(minute), second.saturating_sub(minute));
+    assert_same(&rt, "differences", differences, (None, Ttl::ZERO));
+}
+
+#[test]
+fn sums_up(rt: HostRuntime) {
+    let row = "Checked sums";
+    let sums = [
+        Ttl::checked_sum(&[Ttl::MAX, Ttl::SECOND]),
+        Ttl::checked_sum(&[]),
+    ];
+    assert_same(&rt, row, sums, [None, Some(Ttl::ZERO)]);
+    let sum = Ttl::sum(&[Ttl::MINUTE, Ttl::HOUR]);
+    assert_same(&rt, "a sum", sum.as_secs(), 3_660);
+}
+
+#[test]
+fn has_operators(rt: HostRuntime) {
+    let mut ttl = Ttl::DAY - Ttl::HOUR;
+    ttl += Ttl::MINUTE;
+    ttl *= 2;
+    assert_same(&rt, "of the left side", ttl.as_secs(), 165_720);
+    ttl = ttl / 2 + Ttl::MINUTE * 3;
+    ttl -= Ttl::SECOND;
+    ttl /= 7;
+    assert_same(&rt, "of both sides", ttl.as_secs(), 11_862);
+    let zeros = [Ttl::default().is_zero(), Ttl::SECOND.is_zero()];
+    assert_same(&rt, "no seconds", zeros, [true, false]);
+}
+
+#[test]
+fn tells_other_units(rt: HostRuntime) {
+    let most = Ttl::MAX;
+    let units = [most.as_days().into(), most.as_hours(), most.as_minutes()];
+    let row = "Largest TTL in other units";
+    assert_same(&rt, row, units, [49_710, 1_193_046, 71_582_788]);
+    let days = Ttl::from_days(49_710).as_secs();
+    assert_same(&rt, "Most days", days, 4_294_944_000);
+    let lossy = Ttl::from_duration_lossy(Duration::from_secs(4_294_967_301));
+    assert_same(&rt, "Duration past 32 bits", lossy.as_secs(), 5);
+    assert_same(&rt, "hours", Ttl::from_hours(2).as_minutes(), 120);
+    let hour = [Duration::from(Ttl::HOUR), Ttl::HOUR.into_duration()];
+    assert_same(&rt, "an hour", hour, [Duration::from_secs(3_600); 2]);
+}
+
+#[test]
+fn writes_and_reads_four_octets(rt: HostRuntime) {
+    let mut target = Vec::new(rt.alloc());
+    let answer = Ttl::HOUR.compose(&mut target);
+    assert_same(&rt, "composing", answer, Ok(()));
+    let octets = b"\x00\x00\x0E\x10".as_slice();
+    assert_same(&rt, "composed", target.as_slice(), octets);
+    let mut parser = Parser::new(b"\x00\x00\x0E\x10\x00");
+    let read = [Ttl::parse(&mut parser), Ttl::parse(&mut parser)];
+    let expected = [Ok(Ttl::HOUR), Err(ParseError::ShortInput)];
+    assert_same(&rt, "read", (read, parser.pos()), (expected, 4));
+}
