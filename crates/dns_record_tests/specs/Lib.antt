@@ -1,3 +1,2 @@
-pub mod CharStr
 pub mod FieldOrders
 pub mod Naptr

@@ -1,25 +1,103 @@
-//! Comparisons that many tests make.
+//! Values that many tests need, and comparisons that many tests make.
+use arrayvec::ArrayVec;
+use dns_code::Rtype;
+use dns_data::{ComposeRecordData, Opt, UnknownRecordData};
+use dns_item::{ComposeQuestion, ComposeRecord};
+use dns_wire::Name;
 use std::alloc::Global;
 use std::cmp::Ordering;
 use std::fmt::Display;
 use std::hash::{DefaultHasher, Hash, Hasher};
 use std::process::Abort;
-use std::test::Fail;
+
+/// A name over octets of the source.
+pub(crate) type SliceName = Name<&'static [u8]>;
+
+/// The name of these octets.
+pub(crate) fn name(rt: &impl Abort, octets: &'static [u8]) -> SliceName {
+    let Ok(name) = Name::from_octets(octets) else {
+        panic!(rt; "no name");
+    };
+    name
+}
+
+/// Opaque data.
+pub(crate) fn opaque(
+    rt: &impl Abort,
+    rtype: Rtype,
+    octets: &'static [u8],
+) -> UnknownRecordData<&'static [u8]> {
+    let Ok(data) = UnknownRecordData::from_octets(rtype, octets) else {
+        panic!(rt; "no data");
+    };
+    data
+}
+
+/// The data of an OPT record with these options.
+pub(crate) fn options(rt: &impl Abort, octets: &'static [u8]) -> Opt<&'static [u8]> {
+    let Ok(options) = Opt::from_octets(octets) else {
+        panic!(rt; "no options");
+    };
+    options
+}
+
+/// This holds.
+pub(crate) fn assert_holds(rt: &impl Abort, what: &str, holds: bool) {
+    assert!(rt; holds, "{what}");
+}
 
 /// These octets are as expected.
 pub(crate) fn assert_octets(rt: &impl Abort, what: &str, octets: &[u8], expected: &[u8]) {
     assert_eq!(rt; octets, expected, "{what}");
 }
 
-/// The value is printed so.
-pub(crate) fn assert_printed<T: Display>(
+/// These numbers are as expected.
+pub(crate) fn assert_numbers(rt: &impl Abort, what: &str, numbers: &[u32], expected: &[u32]) {
+    assert_eq!(rt; numbers, expected, "{what}");
+}
+
+/// The question has these octets.
+pub(crate) fn assert_question<Q: ComposeQuestion>(
     rt: &impl Abort,
-    alloc: Global,
-    value: &T,
-    text: &str,
-) -> Result<(), Fail> {
-    assert_eq!(rt; value.to_string(alloc)?.as_str(), text);
-    Ok(())
+    what: &str,
+    question: &Q,
+    expected: &[u8],
+) {
+    let mut target = ArrayVec::<u8, 64>::new();
+    assert!(rt; question.compose_question(&mut target).is_ok(), "{what}");
+    assert_octets(rt, what, target.as_slice(), expected);
+}
+
+/// The record has these octets.
+pub(crate) fn assert_record<R: ComposeRecord>(
+    rt: &impl Abort,
+    what: &str,
+    record: &R,
+    expected: &[u8],
+) {
+    let mut target = ArrayVec::<u8, 64>::new();
+    assert!(rt; record.compose_record(&mut target).is_ok(), "{what}");
+    assert_octets(rt, what, target.as_slice(), expected);
+}
+
+/// The data has these octets.
+pub(crate) fn assert_data<D: ComposeRecordData>(
+    rt: &impl Abort,
+    what: &str,
+    data: &D,
+    expected: &[u8],
+) {
+    let mut target = ArrayVec::<u8, 64>::new();
+    assert!(rt; data.compose_rdata(&mut target).is_ok(), "{what}");
+    assert_octets(rt, what, target.as_slice(), expected);
+}
+
+/// The value is printed so.
+pub(crate) fn assert_printed<T: Display>(rt: &impl Abort, alloc: Global, value: &T, text: &str) {
+    let Ok(printed) = value.to_string(alloc) else {
+        panic!(rt; "{text}");
+    };
+    assert_eq!(rt; printed.as_str(), text);
 }
 
 fn hash_of<T: Hash>(value: &T) -> u64 {
@@ -28,12 +106,14 @@ fn hash_of<T: Hash>(value: &T) -> u64 {
     state.finish()
 }
 
-/// Whether two values are equal, of equal order and of equal hash.
-pub(crate) fn are_same<T: Ord + Hash>(first: &T, second: &T) -> bool {
-    first == second && first.cmp(second) == Ordering::Equal && hash_of(first) == hash_of(second)
+/// The two values are equal, of equal order and of equal hash.
+pub(crate) fn assert_same<T: Ord + Hash>(rt: &impl Abort, what: &str, first: &T, second: &T) {
+    let is_same = first == second && first.cmp(second) == Ordering::Equal;
+    assert!(rt; is_same && hash_of(first) == hash_of(second), "{what}");
 }
 
-/// Whether the first value stands before the second, and differs from it.
-pub(crate) fn is_less<T: Ord>(first: &T, second: &T) -> bool {
-    first < second && first != second
+/// The first value stands before the second, and differs from it.
+pub(crate) fn assert_less<T: Ord>(rt: &impl Abort, what: &str, first: &T, second: &T) {
+    let is_less = first.cmp(second) == Ordering::Less;
+    assert!(rt; is_less && first < second && first != second, "{what}");
 }

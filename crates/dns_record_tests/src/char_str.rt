@@ -3,11 +3,13 @@ ghost use Rattle.std.specs.Prelude.{◌≡◌, ◌+◌, ◌≤◌, length};
 ghost use Rattle.dns_data.specs.Layout.{string_size};
 
 use dns_message::wire::{ParseError, Parser};
+use std::process::Abort;
 
 /// A character string as it stands in a message: a length octet and so many octets (RFC 1035 section 3.3).
-#[derive(Clone, Copy, Debug)]
+#[derive(Clone, Copy)]
 pub struct CharStr<'a> {
-    octets: &'a [u8],
+    /// The length octet and the octets behind it.
+    pub octets: &'a [u8],
     ghost is_string: { length octets.now ≡ string_size octets.now 0 },
     ghost short: { length octets.now ≤ 256 },
 }
@@ -15,12 +17,11 @@ pub struct CharStr<'a> {
 impl<'a> CharStr<'a> {
     ghost use Rattle.std.specs.Prelude.{◌↔◌, slice_range, IfSome, IsSome};
     ghost use Rattle.dns_name.specs.Parsers.{seen, place, Takes};
-    ghost use Rattle.dns_record_tests.specs.CharStr.{string_octets};
 
     /// The character string of these octets, of which the first has to say how many others there are.
     pub fn from_octets(octets: &'a [u8]) -> Option<Self>
         ensures accepts { IsSome result ↔ (length octets.now ≡ string_size octets.now 0) }
-        ensures octets { IfSome result (λ string. string_octets string ≡ octets.now) }
+        ensures octets { IfSome result (λ string. string.octets.now ≡ octets.now) }
     {
         let [len, text @ ..] = octets else {
             return None;
@@ -33,7 +34,7 @@ impl<'a> CharStr<'a> {
 
     /// The length octet and the octets behind it.
     pub fn as_slice(&self) -> &'a [u8]
-        ensures octets { result.now ≡ string_octets self.now }
+        ensures octets { result.now ≡ self.now.octets.now }
         ensures short { length result.now ≤ 256 }
     {
         self.octets
@@ -42,7 +43,7 @@ impl<'a> CharStr<'a> {
     /// Reads a character string and passes it.
     pub fn parse(parser: &mut Parser<'a>) -> Result<Self, ParseError>
         ensures { let n = string_size (seen parser.old) (place parser.old) in
-            Takes parser.old parser.new n result (λ string. string_octets string
+            Takes parser.old parser.new n result (λ string. string.octets.now
             ≡ slice_range (seen parser.old) (place parser.old) (place parser.old + n)) }
     {
         let size = 1 + usize::from(parser.peek(1)?[0]);
@@ -50,4 +51,12 @@ impl<'a> CharStr<'a> {
         parser.advance(size)?;
         Ok(CharStr { octets })
     }
+}
+
+/// The character string of these octets.
+pub(crate) fn string(rt: &impl Abort, octets: &'static [u8]) -> CharStr<'static> {
+    let Some(string) = CharStr::from_octets(octets) else {
+        panic!(rt; "no string");
+    };
+    string
 }

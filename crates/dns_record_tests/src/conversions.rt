@@ -1,182 +1,181 @@
 //! Questions, records and their data, converted between holders, read out of a message, and cloned.
-use crate::asserts::assert_octets;
+use crate::asserts::{
+    SliceName, assert_data, assert_holds, assert_octets, assert_question, assert_record, name,
+    opaque, options,
+};
 use arrayvec::ArrayVec;
 use dns_code::{Class, Rtype};
 use dns_data::{A, Cname, Ns, Opt, Soa, UnknownRecordData};
 use dns_item::{ParsedRecord, Question, Record, RecordHeader, Ttl};
 use dns_wire::{AppendError, FlattenInto, Name, OctetsFrom, ParsedName, Parser, ToNameExt};
-use std::alloc::{AllocError, Global};
+use std::alloc::Global;
 use std::process::Abort;
 use std::test::Fail;
 
 const EXAMPLE_COM: &[u8; 13] = b"\x07example\x03com\x00";
-
-type SliceName = Name<&'static [u8]>;
 
 type VecName = Name<Vec<u8>>;
 
 /// A name that has room for 12 octets, one less than example.com. takes.
 type ShortName = Name<ArrayVec<u8, 12>>;
 
-fn example_com() -> Result<SliceName, Fail> {
-    Ok(Name::from_octets(EXAMPLE_COM.as_slice())?)
+/// The value in another holder.
+fn converted<T: OctetsFrom<S>, S>(rt: &impl Abort, alloc: Global, source: S) -> T {
+    let Ok(value) = T::try_octets_from(alloc, source) else {
+        panic!(rt; "not converted");
+    };
+    value
 }
 
-fn convert<T: OctetsFrom<S>, S>(alloc: Global, source: S) -> Result<T, AppendError> {
-    T::try_octets_from(alloc, source)
-}
-
-fn flatten<T, S: FlattenInto<T>>(alloc: Global, source: S) -> Result<T, AppendError> {
-    source.try_flatten_into(alloc)
+/// The value without what it borrows from a message.
+fn flattened<T, S: FlattenInto<T>>(rt: &impl Abort, alloc: Global, source: S) -> T {
+    let Ok(value) = source.try_flatten_into(alloc) else {
+        panic!(rt; "not flattened");
+    };
+    value
 }
 
 /// The record of example.com. NS example.com.
-fn server(class: Class) -> Result<Record<SliceName, Ns<SliceName>>, Fail> {
-    let name = example_com()?;
-    Ok(Record::new(name, class, Ttl::MINUTE, Ns::new(name)))
+fn server(rt: &impl Abort) -> Record<SliceName, Ns<SliceName>> {
+    let name = name(rt, EXAMPLE_COM);
+    Record::new(name, Class::CH, Ttl::MINUTE, Ns::new(name))
 }
 
-/// The record is of example.com. and this server.
-fn assert_server(rt: &impl Abort, record: &Record<VecName, Ns<VecName>>, server: &[u8]) {
-    assert_octets(rt, "owner", record.owner().as_slice(), EXAMPLE_COM);
-    assert_octets(rt, "server", record.data().nsdname().as_slice(), server);
-}
-
-#[test]
-fn converts_a_question(rt: HostRuntime) -> Result<(), Fail> {
-    let source = Question::new(example_com()?, Rtype::NS, Class::CH);
-    let question: Question<VecName> = convert(rt.alloc(), source)?;
-    assert_octets(&rt, "name", question.qname().as_slice(), EXAMPLE_COM);
-    assert!(rt; question.qtype() == Rtype::NS && question.qclass() == Class::CH);
-    Ok(())
+fn question(rt: &impl Abort) -> Question<SliceName> {
+    Question::new(name(rt, EXAMPLE_COM), Rtype::NS, Class::CH)
 }
 
 #[test]
-fn converts_a_record(rt: HostRuntime) -> Result<(), Fail> {
-    let record: Record<VecName, Ns<VecName>> = convert(rt.alloc(), server(Class::CH)?)?;
-    assert_server(&rt, &record, EXAMPLE_COM);
-    assert!(rt; record.class() == Class::CH && record.ttl() == Ttl::MINUTE);
-    Ok(())
-}
-
-#[test]
-fn refuses_names_that_are_too_long(rt: HostRuntime) -> Result<(), Fail> {
-    let source = Question::new(example_com()?, Rtype::NS, Class::CH);
-    let short: Result<Question<ShortName>, AppendError> = convert(rt.alloc(), source);
-    assert!(rt; matches!(short, Err(AppendError::ShortBuf)));
-    let short: Result<Record<VecName, Ns<ShortName>>, AppendError> = convert(
-        rt.alloc(),
-        server(Class::IN)?,
+fn converts_items(rt: HostRuntime) {
+    let question: Question<VecName> = converted(&rt, rt.alloc(), question(&rt));
+    assert_question(
+        &rt,
+        "question",
+        &question,
+        b"\x07example\x03com\x00\x00\x02\x00\x03",
     );
-    assert!(rt; matches!(short, Err(AppendError::ShortBuf)));
-    Ok(())
-}
-
-/// The zone is of example.com. and this second name, with the numbers 1 to 5.
-fn assert_zone(rt: &impl Abort, soa: &Soa<VecName>, rname: &[u8]) {
-    assert_octets(rt, "first name", soa.mname().as_slice(), EXAMPLE_COM);
-    assert_octets(rt, "second name", soa.rname().as_slice(), rname);
-    assert_eq!(rt;
-        [
-            soa.serial(),
-            soa.refresh(),
-            soa.retry(),
-            soa.expire(),
-            soa.minimum()
-        ],
-        [1, 2, 3, 4, 5]
+    let record: Record<VecName, Ns<VecName>> = converted(&rt, rt.alloc(), server(&rt));
+    assert_record(
+        &rt,
+        "record",
+        &record,
+        b"\x07example\x03com\x00\x00\x02\x00\x03\x00\x00\x00\x3C\x00\x0D\x07example\x03com\x00",
     );
 }
 
 #[test]
-fn converts_data(rt: HostRuntime) -> Result<(), Fail> {
-    let address: A = convert(rt.alloc(), A::from_octets(1, 2, 3, 4))?;
+fn refuses_names_that_are_too_long(rt: HostRuntime) {
+    let short = Question::<ShortName>::try_octets_from(rt.alloc(), question(&rt));
+    assert!(rt; matches!(short, Err(AppendError::ShortBuf)));
+    let short = Record::<VecName, Ns<ShortName>>::try_octets_from(rt.alloc(), server(&rt));
+    assert!(rt; matches!(short, Err(AppendError::ShortBuf)));
+}
+
+#[test]
+fn converts_data(rt: HostRuntime) {
+    let address: A = converted(&rt, rt.alloc(), A::from_octets(1, 2, 3, 4));
+    let address: A = flattened(&rt, rt.alloc(), address);
     assert_octets(&rt, "address", &address.octets(), &[1, 2, 3, 4]);
-    let source = Soa::new(example_com()?, Name::root_slice(), 1, 2, 3, 4, 5);
-    assert_zone(&rt, &convert(rt.alloc(), source)?, &[0]);
-    Ok(())
+    let source = Soa::new(name(&rt, EXAMPLE_COM), Name::root_slice(), 1, 2, 3, 4, 5);
+    let zone: Soa<VecName> = converted(&rt, rt.alloc(), source);
+    assert_data(
+        &rt,
+        "zone",
+        &zone,
+        b"\x07example\x03com\x00\x00\x00\x00\x00\x01\x00\x00\x00\x02\x00\x00\x00\x03\x00\x00\x00\x04\x00\x00\x00\x05",
+    );
 }
 
 #[test]
-fn converts_data_of_octets(rt: HostRuntime) -> Result<(), Fail> {
-    let source = Opt::from_octets(*b"\x00\x03\x00\x00")?;
-    let opt: Opt<ArrayVec<u8, 4>> = convert(rt.alloc(), source)?;
-    assert_octets(&rt, "options", opt.data().as_slice(), b"\x00\x03\x00\x00");
-    let source = UnknownRecordData::from_octets(Rtype::TXT, *b"\x01a")?;
-    let opaque: UnknownRecordData<Vec<u8>> = convert(rt.alloc(), source)?;
-    assert_octets(&rt, "opaque", opaque.data().as_slice(), b"\x01a");
-    Ok(())
+fn converts_data_of_octets(rt: HostRuntime) {
+    let source = options(&rt, b"\x00\x03\x00\x00");
+    let held: Opt<ArrayVec<u8, 4>> = converted(&rt, rt.alloc(), source);
+    assert_octets(&rt, "options", held.data().as_slice(), b"\x00\x03\x00\x00");
+    let source = opaque(&rt, Rtype::TXT, b"\x01a");
+    let held: UnknownRecordData<Vec<u8>> = converted(&rt, rt.alloc(), source);
+    assert_octets(&rt, "opaque", held.data().as_slice(), b"\x01a");
 }
 
-/// example.com. NS ns.example.com. in its own octets.
-const NS_RECORD: &[u8; 28] =
-    b"\x07example\x03com\x00\x00\x02\x00\x01\x00\x00\x0E\x10\x00\x05\x02ns\xC0\x00";
+/// The names example.com. and ns.example.com.
+const NAMES: &[u8; 18] = b"\x07example\x03com\x00\x02ns\xC0\x00";
 
-#[test]
-fn flattens_a_record(rt: HostRuntime) -> Result<(), Fail> {
-    let mut parser = Parser::new(NS_RECORD);
-    let Some(source) = Record::<ParsedName<'_>, Ns<ParsedName<'_>>>::parse(&mut parser)? else {
-        panic!(rt; "no record");
+/// The name that stands next.
+fn next_name(rt: &impl Abort, parser: &mut Parser<'static>) -> ParsedName<'static> {
+    let Ok(name) = ParsedName::parse(parser) else {
+        panic!(rt; "no name");
     };
-    let record = flatten(rt.alloc(), source)?;
-    assert_server(&rt, &record, b"\x02ns\x07example\x03com\x00");
-    Ok(())
+    name
 }
 
 #[test]
-fn flattens_data(rt: HostRuntime) -> Result<(), Fail> {
-    let address: A = flatten(rt.alloc(), A::from_octets(1, 2, 3, 4))?;
-    assert_octets(&rt, "address", &address.octets(), &[1, 2, 3, 4]);
-    let name = ParsedName::parse(&mut Parser::new(EXAMPLE_COM))?;
-    let soa = flatten(rt.alloc(), Soa::new(name, name, 1, 2, 3, 4, 5))?;
-    assert_zone(&rt, &soa, EXAMPLE_COM);
-    Ok(())
-}
-
-/// Whether a clone of the value is equal to it.
-fn is_cloned<T: Clone + PartialEq + Drop>(value: T) -> Result<bool, AllocError> {
-    Ok(value.clone()? == value)
-}
-
-fn vec_name(alloc: Global) -> Result<VecName, Fail> {
-    Ok(convert(alloc, example_com()?)?)
+fn flattens_a_record(rt: HostRuntime) {
+    let mut parser = Parser::new(NAMES);
+    let owner = next_name(&rt, &mut parser);
+    let server = Ns::new(next_name(&rt, &mut parser));
+    let source = Record::new(owner, Class::IN, Ttl::MINUTE, server);
+    let record: Record<VecName, Ns<VecName>> = flattened(&rt, rt.alloc(), source);
+    assert_octets(&rt, "owner", record.owner().as_slice(), EXAMPLE_COM);
+    assert_octets(
+        &rt,
+        "server",
+        record.data().nsdname().as_slice(),
+        b"\x02ns\x07example\x03com\x00",
+    );
 }
 
 #[test]
-fn clones_data(rt: HostRuntime) -> Result<(), Fail> {
-    assert!(rt; is_cloned(Cname::new(vec_name(rt.alloc())?))?, "alias");
-    assert!(rt; is_cloned(Ns::new(vec_name(rt.alloc())?))?, "server");
-    Ok(())
+fn flattens_a_zone(rt: HostRuntime) {
+    let mut parser = Parser::new(NAMES);
+    let mname = next_name(&rt, &mut parser);
+    let rname = next_name(&rt, &mut parser);
+    let source = Soa::new(mname, rname, 1, 2, 3, 4, 5);
+    let zone: Soa<VecName> = flattened(&rt, rt.alloc(), source);
+    assert_data(
+        &rt,
+        "zone",
+        &zone,
+        b"\x07example\x03com\x00\x02ns\x07example\x03com\x00\x00\x00\x00\x01\x00\x00\x00\x02\x00\x00\x00\x03\x00\x00\x00\x04\x00\x00\x00\x05",
+    );
+}
+
+/// A clone of the value is equal to it.
+fn assert_cloned<T: Clone + PartialEq + Drop>(rt: &impl Abort, what: &str, value: T) {
+    let Ok(clone) = value.clone() else {
+        panic!(rt; "{what}");
+    };
+    assert!(rt; clone == value, "{what}");
+}
+
+fn vec_name(rt: &impl Abort, alloc: Global) -> VecName {
+    converted(rt, alloc, name(rt, EXAMPLE_COM))
 }
 
 #[test]
-fn clones_a_zone(rt: HostRuntime) -> Result<(), Fail> {
-    let cname = Cname::new(vec_name(rt.alloc())?);
-    let soa = Soa::new(vec_name(rt.alloc())?, cname.into_cname(), 1, 2, 3, 4, 5);
-    let clone = soa.clone()?;
-    assert!(rt; clone == soa);
-    assert_zone(&rt, &clone, EXAMPLE_COM);
-    Ok(())
+fn clones_data(rt: HostRuntime) {
+    assert_cloned(&rt, "server", Ns::new(vec_name(&rt, rt.alloc())));
+    let alias = Cname::new(vec_name(&rt, rt.alloc()));
+    assert_cloned(&rt, "alias", Cname::new(alias.into_cname()));
+    let mname = vec_name(&rt, rt.alloc());
+    let rname = vec_name(&rt, rt.alloc());
+    assert_cloned(&rt, "zone", Soa::new(mname, rname, 1, 2, 3, 4, 5));
 }
 
+/// The clones of "Name conversions and clones".
 #[test]
-fn clones_items(rt: HostRuntime) -> Result<(), Fail> {
-    let name = vec_name(rt.alloc())?;
-    assert!(rt; name.clone()?.octets_eq(&name));
-    assert!(rt; is_cloned(Question::new_in(name, Rtype::A))?);
-    let name = vec_name(rt.alloc())?;
-    assert!(rt; is_cloned(RecordHeader::new(name, Rtype::A, Class::IN, Ttl::HOUR, 4))?);
-    Ok(())
-}
-
-#[test]
-fn clones_a_record(rt: HostRuntime) -> Result<(), Fail> {
-    let owner = vec_name(rt.alloc())?;
-    let record = Record::new(owner, Class::IN, Ttl::HOUR, A::from_octets(1, 2, 3, 4));
-    let clone = record.clone()?;
-    let lent: &Record<VecName, A> = clone.as_ref();
-    assert!(rt; clone == record && clone.ttl() == Ttl::HOUR && *lent == record);
-    Ok(())
+fn clones_items(rt: HostRuntime) {
+    let what = "Name conversions and clones";
+    assert_cloned(&rt, what, vec_name(&rt, rt.alloc()));
+    let qname = vec_name(&rt, rt.alloc());
+    assert_cloned(&rt, what, Question::new_in(qname, Rtype::A));
+    let owner = vec_name(&rt, rt.alloc());
+    assert_cloned(
+        &rt,
+        what,
+        RecordHeader::new(owner, Rtype::A, Class::IN, Ttl::HOUR, 4),
+    );
+    let owner = vec_name(&rt, rt.alloc());
+    let data = A::from_octets(1, 2, 3, 4);
+    assert_cloned(&rt, what, Record::new(owner, Class::IN, Ttl::HOUR, data));
 }
 
 /// Three records at the places 0, 15 and 30: the second has its owner in another case, and the pointer in the data of the third
@@ -184,28 +183,31 @@ fn clones_a_record(rt: HostRuntime) -> Result<(), Fail> {
 const POINTING: &[u8; 45] =
     b"\x01a\x00\x00\x02\x00\x01\x00\x00\x0E\x10\x00\x02\xC0\x00\x01A\x00\x00\x02\x00\x01\x00\x00\x0E\x10\x00\x02\xC0\x00\x01a\x00\x00\x02\x00\x01\x00\x00\x0E\x10\x00\x02\xC0\x0F";
 
-/// The record at a place.
-fn record_at(place: usize) -> Result<ParsedRecord<'static>, Fail> {
-    let mut parser = Parser::new(POINTING);
-    parser.seek(place)?;
-    Ok(ParsedRecord::parse(&mut parser)?)
+/// The record that stands next.
+fn next_record(rt: &impl Abort, parser: &mut Parser<'static>) -> ParsedRecord<'static> {
+    let Ok(record) = ParsedRecord::parse(parser) else {
+        panic!(rt; "no record");
+    };
+    record
 }
 
 #[test]
-fn compares_unread_records_by_their_octets(rt: HostRuntime) -> Result<(), Fail> {
-    let record = record_at(0)?;
-    // the owner up to its letter case
-    assert!(rt; record == record_at(15)?);
-    // the pointers lead to the same name, and differ
-    assert!(rt; record != record_at(30)?);
-    Ok(())
+fn compares_unread_records_by_their_octets(rt: HostRuntime) {
+    let mut parser = Parser::new(POINTING);
+    let record = next_record(&rt, &mut parser);
+    let same = next_record(&rt, &mut parser);
+    assert_holds(&rt, "owner up to its letter case", record == same);
+    let other = next_record(&rt, &mut parser);
+    assert_holds(&rt, "another pointer to the same name", record != other);
 }
 
 #[test]
 fn compares_records_without_data(rt: HostRuntime) -> Result<(), Fail> {
     let header = RecordHeader::parse(&mut Parser::new(POINTING))?;
     let missing = ParsedRecord::new(header, Parser::new(b"\xC0"));
-    assert!(rt; missing == ParsedRecord::new(header, Parser::new(b"")));
-    assert!(rt; missing != record_at(0)?);
+    let also_missing = ParsedRecord::new(header, Parser::new(b""));
+    assert_holds(&rt, "missing data", missing == also_missing);
+    let present = ParsedRecord::new(header, Parser::new(b"\xC0\x00"));
+    assert_holds(&rt, "data", missing != present);
     Ok(())
 }

@@ -4,7 +4,6 @@ ghost use Rattle.std.specs.Prelude.{[], ◌∷◌};
 ghost use Rattle.dns_wire.specs.Parts.{Octets};
 ghost use Rattle.dns_data.specs.Layout.{CharacterString, End};
 ghost use Rattle.dns_data.specs.RecordData.{only};
-ghost use Rattle.dns_record_tests.specs.CharStr.{string_octets};
 
 use crate::char_str::CharStr;
 use crate::fields::compose_fields;
@@ -14,7 +13,7 @@ use dns_message::target::Composer;
 use dns_message::wire::{AppendError, ParseError, Parser};
 
 /// The kind of a host's hardware, and of its operating system (RFC 1035 section 3.3.2).
-#[derive(Clone, Copy, Debug)]
+#[derive(Clone, Copy)]
 pub struct Hinfo<'a> {
     cpu: CharStr<'a>,
     os: CharStr<'a>,
@@ -23,7 +22,7 @@ pub struct Hinfo<'a> {
 impl RecordData for Hinfo<'_> {
     ghost rtype_of = { λ _. 13 };
 
-    ghost parts = { λ hinfo. Octets (string_octets hinfo.cpu) ∷ Octets (string_octets hinfo.os) ∷ [] };
+    ghost parts = { λ hinfo. Octets hinfo.cpu.octets.now ∷ Octets hinfo.os.octets.now ∷ [] };
 
     fn rtype(&self) -> Rtype {
         Rtype::from_int(13)
@@ -57,81 +56,35 @@ impl<'a> ParseRecordData<'a> for Hinfo<'a> {
     ghost laid_out = { Prim.search rules };
 }
 
-#[cfg(test)]
 mod tests {
     use super::*;
-    use crate::asserts::assert_octets;
-    use dns_message::builder::MessageBuilder;
+    use crate::answers::{assert_answer, first_data, message};
+    use crate::asserts::{assert_octets, name};
+    use crate::char_str::string;
     use dns_message::code::Class;
-    use dns_message::message::Message;
-    use dns_message::name::Name;
     use dns_message::record::{Record, Ttl};
-    use std::alloc::Global;
-    use std::process::Abort;
     use std::test::Fail;
 
-    const OCTETS: [u8; 16] = *b"\x08DEC-2060\x06TOPS20";
+    /// An answer with the host of host.example., a DEC-2060 with TOPS20.
+    const MESSAGE: &[u8; 52] =
+        b"\x00\x00\x00\x00\x00\x00\x00\x01\x00\x00\x00\x00\x04host\x07example\x00\x00\x0D\x00\x01\x00\x00\x0E\x10\x00\x10\x08DEC-2060\x06TOPS20";
 
-    /// Whether the first octets are refused as too few.
-    fn is_short(octets: &[u8]) -> bool {
-        matches!(
-            Hinfo::parse_rdata(Rtype::from_int(13), &mut Parser::new(octets)),
-            Err(ParseError::ShortInput)
-        )
-    }
-
-    /// The host is a DEC-2060 with TOPS20.
-    fn assert_host(rt: &impl Abort, hinfo: &Hinfo<'_>) {
-        assert_octets(rt, "hardware", hinfo.cpu.as_slice(), b"\x08DEC-2060");
-        assert_octets(rt, "system", hinfo.os.as_slice(), b"\x06TOPS20");
+    #[test]
+    fn composes_its_strings(rt: HostRuntime) -> Result<(), Fail> {
+        let hinfo = Hinfo {
+            cpu: string(&rt, b"\x08DEC-2060"),
+            os: string(&rt, b"\x06TOPS20"),
+        };
+        let owner = name(&rt, b"\x04host\x07example\x00");
+        let record = Record::new(owner, Class::IN, Ttl::HOUR, hinfo);
+        assert_answer(&rt, rt.alloc(), record, MESSAGE)
     }
 
     #[test]
-    fn reads_hosts(rt: HostRuntime) {
-        let mut parser = Parser::new(&OCTETS);
-        let Ok(Some(hinfo)) = Hinfo::parse_rdata(Rtype::from_int(13), &mut parser) else {
-            panic!(rt; "no host")
-        };
-        assert_host(&rt, &hinfo);
-        assert!(rt; parser.remaining() == 0);
-        assert!(rt;
-            matches!(
-                Hinfo::parse_rdata(Rtype::A, &mut Parser::new(&OCTETS)),
-                Ok(None)
-            )
-        );
-    }
-
-    #[test]
-    fn refuses_missing_octets(rt: HostRuntime) {
-        // Both length octets, the octets behind the first, and the last octet of all.
-        for len in [0, 9, 5, 15] {
-            assert!(rt; is_short(&OCTETS[..len]));
-        }
-        assert!(rt; !is_short(&OCTETS));
-    }
-
-    /// A message with an answer of this host for host.example.
-    fn message(alloc: Global) -> Result<Message<Vec<u8>>, Fail> {
-        let name = Name::from_octets(*b"\x04host\x07example\x00")?;
-        let cpu = CharStr::from_octets(b"\x08DEC-2060").ok_or("cpu")?;
-        let os = CharStr::from_octets(b"\x06TOPS20").ok_or("os")?;
-        let mut builder = MessageBuilder::new_vec(alloc)?.answer();
-        builder.push(Record::new(name, Class::IN, Ttl::HOUR, Hinfo { cpu, os }))?;
-        Ok(builder.into_message())
-    }
-
-    #[test]
-    fn reads_its_own_data_back(rt: HostRuntime) -> Result<(), Fail> {
-        let message = message(rt.alloc())?;
-        let Some(Ok(answer)) = message.answer()?.next() else {
-            panic!(rt; "no record")
-        };
-        assert!(rt; answer.rdlen() == 16);
-        let Ok(Some(record)) = answer.to_record::<Hinfo<'_>>() else {
-            panic!(rt; "no host")
-        };
-        assert_host(&rt, record.data());
-        Ok(())
+    fn reads_its_own_data_back(rt: HostRuntime) {
+        let message = message(&rt, MESSAGE);
+        let hinfo: Hinfo<'_> = first_data(&rt, &message);
+        assert_octets(&rt, "hardware", hinfo.cpu.as_slice(), b"\x08DEC-2060");
+        assert_octets(&rt, "system", hinfo.os.as_slice(), b"\x06TOPS20");
     }
 }

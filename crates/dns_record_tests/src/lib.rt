@@ -1,10 +1,14 @@
-//! Tests of items: questions, record data, and data types that are none of the library's, with answers from outside.
+//! Tests of items and OPT records: questions, record data, data types that are none of the library's, OPT records and what is
+//! gathered for one, with answers from outside.
 //!
 //! Nothing is exported.
 #![tactic(auto)]
 
 #[cfg(test)]
+mod answers;
+#[cfg(test)]
 mod asserts;
+#[cfg(test)]
 mod char_str;
 #[cfg(test)]
 mod comparisons;
@@ -12,14 +16,20 @@ mod comparisons;
 mod conversions;
 #[cfg(test)]
 mod data;
+#[cfg(test)]
 mod field_orders;
+#[cfg(test)]
 mod fields;
+#[cfg(test)]
 mod hinfo;
 #[cfg(test)]
 mod items;
 #[cfg(test)]
 mod mx;
+#[cfg(test)]
 mod naptr;
+#[cfg(test)]
+mod opt;
 #[cfg(test)]
 mod orders;
 #[cfg(test)]

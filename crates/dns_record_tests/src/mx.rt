@@ -6,20 +6,19 @@ ghost use Rattle.dns_wire.specs.Parts.{Octets, CompressibleName};
 ghost use Rattle.dns_data.specs.Layout.{Fixed, DomainName, End};
 ghost use Rattle.dns_data.specs.RecordData.{only};
 
-use dns_message::builder::MessageBuilder;
+use crate::answers::{assert_answer, first_data, message};
+use crate::asserts::{assert_holds, assert_numbers, name};
 use dns_message::code::{Class, Rtype};
 use dns_message::data::laws::{names_are_short, parts_compose};
 use dns_message::data::{ComposeRecordData, ParseRecordData, RecordData};
-use dns_message::message::Message;
-use dns_message::name::{Name, ParsedName, ToName, ToNameExt};
+use dns_message::name::{ParsedName, ToName, ToNameExt};
 use dns_message::record::{Record, Ttl};
-use dns_message::target::{Composer, StaticCompressor};
+use dns_message::target::Composer;
 use dns_message::wire::{AppendError, ParseError, Parser};
-use std::process::Abort;
 use std::test::Fail;
 
 /// A mail exchanger and its preference, of which the lowest is tried first (RFC 1035 section 3.3.9).
-#[derive(Clone, Copy, Debug, Drop)]
+#[derive(Clone, Copy, Drop)]
 struct Mx<N> {
     preference: u16,
     exchange: N,
@@ -85,29 +84,19 @@ const MESSAGE: &[u8; 40] =
 
 #[test]
 fn compresses_its_exchange(rt: HostRuntime) -> Result<(), Fail> {
-    let name = Name::from_octets(*b"\x04mail\x07example\x00")?;
     let mx = Mx {
         preference: 10,
-        exchange: &name,
+        exchange: name(&rt, b"\x04mail\x07example\x00"),
     };
-    let target = StaticCompressor::new(Vec::new(rt.alloc()));
-    let mut builder = MessageBuilder::from_target(target)?.answer();
-    builder.push(Record::new(&name, Class::IN, Ttl::HOUR, mx))?;
-    assert_eq!(rt; builder.as_slice(), MESSAGE.as_slice());
-    Ok(())
+    let record = Record::new(mx.exchange, Class::IN, Ttl::HOUR, mx);
+    assert_answer(&rt, rt.alloc(), record, MESSAGE)
 }
 
 #[test]
-fn reads_its_own_data_back(rt: HostRuntime) -> Result<(), Fail> {
-    let message = Message::from_octets(*MESSAGE)?;
-    let Some(Ok(answer)) = message.answer()?.next() else {
-        panic!(rt; "no record")
-    };
-    let Ok(Some(record)) = answer.to_record::<Mx<ParsedName<'_>>>() else {
-        panic!(rt; "no mail exchanger")
-    };
-    let mx = record.data();
-    let exchange = Name::from_octets(*b"\x04mail\x07example\x00")?;
-    assert!(rt; mx.preference == 10 && mx.exchange.octets_eq(&exchange));
-    Ok(())
+fn reads_its_own_data_back(rt: HostRuntime) {
+    let message = message(&rt, MESSAGE);
+    let mx: Mx<ParsedName<'_>> = first_data(&rt, &message);
+    assert_numbers(&rt, "preference", &[u32::from(mx.preference)], &[10]);
+    let exchange = name(&rt, b"\x04mail\x07example\x00");
+    assert_holds(&rt, "exchange", mx.exchange.octets_eq(&exchange));
 }

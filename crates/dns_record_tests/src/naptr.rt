@@ -22,7 +22,7 @@ use dns_message::wire::{AppendError, Octets, ParseError, Parser};
 ///
 /// Its replacement is never compressed where it is composed, and may be where it is read. So what is composed is over a name
 /// of its own octets, which are a part like others, and what is read is over a parsed name.
-#[derive(Clone, Copy, Debug, Drop)]
+#[derive(Drop)]
 pub struct Naptr<'a, N> {
     order: u16,
     preference: u16,
@@ -35,7 +35,8 @@ pub struct Naptr<'a, N> {
 impl<Octs: Octets> RecordData for Naptr<'_, Name<Octs>> {
     ghost rtype_of = { λ _. 35 };
 
-    ghost parts = { λ naptr. naptr_parts naptr (verbatim (name_labels naptr.replacement)) };
+    ghost parts = { λ naptr. naptr_parts naptr.order naptr.preference naptr.flags.octets.now
+        naptr.services.octets.now naptr.regexp.octets.now (verbatim (name_labels naptr.replacement)) };
 
     fn rtype(&self) -> Rtype {
         Rtype::from_int(35)
@@ -68,7 +69,8 @@ impl<Octs: Octets> ComposeRecordData for Naptr<'_, Name<Octs>> {
 impl<'a> RecordData for Naptr<'a, ParsedName<'a>> {
     ghost rtype_of = { λ _. 35 };
 
-    ghost parts = { λ naptr. naptr_parts naptr (CompressibleName (labels naptr.replacement)) };
+    ghost parts = { λ naptr. naptr_parts naptr.order naptr.preference naptr.flags.octets.now
+        naptr.services.octets.now naptr.regexp.octets.now (CompressibleName (labels naptr.replacement)) };
 
     fn rtype(&self) -> Rtype {
         Rtype::from_int(35)
@@ -113,107 +115,58 @@ impl<'a> ParseRecordData<'a> for Naptr<'a, ParsedName<'a>> {
     ghost laid_out = { Prim.search rules };
 }
 
-#[cfg(test)]
 mod tests {
     use super::*;
-    use crate::asserts::assert_octets;
-    use dns_message::builder::MessageBuilder;
+    use crate::answers::{assert_answer, first_data, message};
+    use crate::asserts::{assert_holds, assert_numbers, assert_octets, name};
+    use crate::char_str::string;
     use dns_message::code::Class;
-    use dns_message::message::Message;
     use dns_message::name::ToNameExt;
     use dns_message::record::{Record, Ttl};
-    use dns_message::target::StaticCompressor;
     use std::process::Abort;
     use std::test::Fail;
-
-    /// A name, and a pointer whose replacement ends in this name.
-    const OCTETS: [u8; 38] =
-        *b"\x07example\x00\x00\x64\x00\x32\x01s\x0Dz3950+N2L+N2C\x00\x05z3950\xC0\x00";
-
-    /// What reading the data in the first octets answers.
-    fn read(octets: &[u8]) -> Result<Option<Naptr<'_, ParsedName<'_>>>, ParseError> {
-        let mut parser = Parser::new(octets);
-        parser.advance(9)?;
-        Naptr::parse_rdata(Rtype::from_int(35), &mut parser)
-    }
-
-    /// The pointer has these fields.
-    fn assert_pointer(rt: &impl Abort, naptr: &Naptr<'_, ParsedName<'_>>) -> Result<(), Fail> {
-        assert!(rt; naptr.order == 100 && naptr.preference == 50);
-        assert_octets(rt, "flags", naptr.flags.as_slice(), b"\x01s");
-        assert_octets(
-            rt,
-            "services",
-            naptr.services.as_slice(),
-            b"\x0Dz3950+N2L+N2C",
-        );
-        assert_octets(rt, "expression", naptr.regexp.as_slice(), b"\x00");
-        let replacement = Name::from_octets(*b"\x05z3950\x07example\x00")?;
-        assert!(rt; naptr.replacement.octets_eq(&replacement));
-        Ok(())
-    }
-
-    #[test]
-    fn reads_a_compressed_replacement(rt: HostRuntime) -> Result<(), Fail> {
-        let Ok(Some(naptr)) = read(&OCTETS) else {
-            panic!(rt; "no pointer")
-        };
-        assert_pointer(&rt, &naptr)
-    }
-
-    #[test]
-    fn refuses_missing_octets(rt: HostRuntime) {
-        // Numbers, the first length octet, octets behind one, the last length octet, and octets of the replacement.
-        for len in [10, 12, 13, 14, 20, 29, 30, 33, 37] {
-            assert!(rt; matches!(read(&OCTETS[..len]), Err(ParseError::ShortInput)));
-        }
-    }
-
-    #[test]
-    fn refuses_a_faulty_replacement(rt: HostRuntime) {
-        let mut octets = OCTETS;
-        // A pointer to itself.
-        octets[37] = 36;
-        assert!(rt; matches!(read(&octets), Err(ParseError::Form(_))));
-    }
 
     /// An answer with the pointer for example., without compression.
     const MESSAGE: &[u8; 67] =
         b"\x00\x00\x00\x00\x00\x00\x00\x01\x00\x00\x00\x00\x07example\x00\x00\x23\x00\x01\x00\x00\x0E\x10\x00\x24\x00\x64\x00\x32\x01s\x0Dz3950+N2L+N2C\x00\x05z3950\x07example\x00";
 
-    const REPLACEMENT: &[u8] = b"\x05z3950\x07example\x00";
+    /// The same with a compressed replacement.
+    const COMPRESSED: &[u8; 60] =
+        b"\x00\x00\x00\x00\x00\x00\x00\x01\x00\x00\x00\x00\x07example\x00\x00\x23\x00\x01\x00\x00\x0E\x10\x00\x1D\x00\x64\x00\x32\x01s\x0Dz3950+N2L+N2C\x00\x05z3950\xC0\x0C";
 
-    fn pointer() -> Result<Naptr<'static, Name<&'static [u8]>>, Fail> {
-        Ok(Naptr {
-            order: 100,
-            preference: 50,
-            flags: CharStr::from_octets(b"\x01s").ok_or("flags")?,
-            services: CharStr::from_octets(b"\x0Dz3950+N2L+N2C").ok_or("services")?,
-            regexp: CharStr::from_octets(b"\x00").ok_or("regexp")?,
-            replacement: Name::from_octets(REPLACEMENT)?,
-        })
+    /// The pointer has these fields.
+    fn assert_pointer(rt: &impl Abort, naptr: &Naptr<'_, ParsedName<'_>>) {
+        let numbers = [u32::from(naptr.order), u32::from(naptr.preference)];
+        assert_numbers(rt, "numbers", &numbers, &[100, 50]);
+        assert_octets(rt, "flags", naptr.flags.as_slice(), b"\x01s");
+        let services = naptr.services.as_slice();
+        assert_octets(rt, "services", services, b"\x0Dz3950+N2L+N2C");
+        assert_octets(rt, "expression", naptr.regexp.as_slice(), b"\x00");
+        let replacement = name(rt, b"\x05z3950\x07example\x00");
+        assert_holds(rt, "replacement", naptr.replacement.octets_eq(&replacement));
+    }
+
+    #[test]
+    fn reads_its_own_data_back(rt: HostRuntime) {
+        for octets in [MESSAGE.as_slice(), COMPRESSED.as_slice()] {
+            let message = message(&rt, octets);
+            let naptr: Naptr<'_, ParsedName<'_>> = first_data(&rt, &message);
+            assert_pointer(&rt, &naptr);
+        }
     }
 
     #[test]
     fn never_compresses_its_replacement(rt: HostRuntime) -> Result<(), Fail> {
-        let name = Name::from_octets(*b"\x07example\x00")?;
-        let naptr = pointer()?;
-        let target = StaticCompressor::new(Vec::new(rt.alloc()));
-        let mut builder = MessageBuilder::from_target(target)?.answer();
-        builder.push(Record::new(name, Class::IN, Ttl::HOUR, naptr))?;
-        assert_eq!(rt; builder.as_slice(), MESSAGE.as_slice());
-        Ok(())
-    }
-
-    #[test]
-    fn reads_its_own_data_back(rt: HostRuntime) -> Result<(), Fail> {
-        let message = Message::from_octets(*MESSAGE)?;
-        let Some(Ok(answer)) = message.answer()?.next() else {
-            panic!(rt; "no record")
+        let naptr = Naptr {
+            order: 100,
+            preference: 50,
+            flags: string(&rt, b"\x01s"),
+            services: string(&rt, b"\x0Dz3950+N2L+N2C"),
+            regexp: string(&rt, b"\x00"),
+            replacement: Name::from_octets(*b"\x05z3950\x07example\x00")?,
         };
-        let Ok(Some(record)) = answer.to_record::<Naptr<'_, ParsedName<'_>>>() else {
-            panic!(rt; "no pointer")
-        };
-        assert_pointer(&rt, record.data())
+        let owner = Name::from_octets(*b"\x07example\x00")?;
+        let record = Record::new(owner, Class::IN, Ttl::HOUR, naptr);
+        assert_answer(&rt, rt.alloc(), record, MESSAGE)
     }
 }

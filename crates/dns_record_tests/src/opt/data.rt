@@ -1,0 +1,68 @@
+//! The data of OPT records, and lists of options (RFC 6891 section 6.1.2).
+use crate::asserts::{assert_holds, assert_octets};
+use dns_code::{OptionCode, Rtype};
+use dns_data::{Opt, ParseRecordData};
+use dns_opt::{OptionIter, are_options};
+use dns_wire::Parser;
+use std::process::Abort;
+use std::test::Fail;
+
+/// NSID, the algorithms 8 and 13 of DAU, EXPIRE, and a keepalive of 30 seconds.
+const OPTIONS: [u8; 20] =
+    *b"\x00\x03\x00\x00\x00\x05\x00\x02\x08\x0D\x00\x09\x00\x00\x00\x0B\x00\x02\x01\x2C";
+
+/// The codes of these options, and their octets.
+const EXPECTED: &[(u16, &[u8])] = &[(3, b""), (5, b"\x08\x0D"), (9, b""), (11, b"\x01\x2C")];
+
+/// The iterator gives these options, and then none.
+fn assert_options(rt: &impl Abort, mut options: OptionIter<'_>) {
+    for &(code, expected) in EXPECTED {
+        let Some((option_code, octets)) = options.next() else {
+            panic!(rt; "no option {code}");
+        };
+        assert_holds(rt, "code", option_code == OptionCode::from_int(code));
+        assert_octets(rt, "option", octets, expected);
+    }
+    assert_holds(
+        rt,
+        "end",
+        options.next().is_none() && options.next().is_none(),
+    );
+}
+
+#[test]
+fn gives_each_option(rt: HostRuntime) {
+    let Some(options) = OptionIter::new(&OPTIONS) else {
+        panic!(rt; "no options")
+    };
+    assert_options(&rt, options);
+    let mut parser = Parser::new(&OPTIONS);
+    let Ok(Some(opt)) = Opt::parse_rdata(Rtype::OPT, &mut parser) else {
+        panic!(rt; "no data")
+    };
+    assert_options(&rt, opt.iter());
+    assert_holds(&rt, "octets left", parser.remaining() == 0);
+}
+
+#[test]
+fn refuses_a_torn_option_and_another_type(rt: HostRuntime) {
+    for len in 0..21 {
+        // at every other length, a code, a length or octets are torn
+        let whole = [0, 4, 10, 14, 20].contains(&len);
+        assert!(rt; are_options(&OPTIONS[..len]) == whole, "at {len}");
+    }
+    let torn = Opt::parse_rdata(Rtype::OPT, &mut Parser::new(&OPTIONS[..19]));
+    assert_holds(&rt, "torn", torn.is_err());
+    let other = Opt::parse_rdata(Rtype::A, &mut Parser::new(&OPTIONS));
+    assert_holds(&rt, "type", other == Ok(None));
+}
+
+#[test]
+fn clones(rt: HostRuntime) -> Result<(), Fail> {
+    let mut octets = Vec::new(rt.alloc());
+    octets.extend_from_slice(&OPTIONS)?;
+    let opt = Opt::from_octets(octets)?;
+    let clone = opt.clone()?;
+    assert_octets(&rt, "clone", clone.data().as_slice(), &OPTIONS);
+    Ok(())
+}

@@ -1,0 +1,131 @@
+//! The options that the RFCs give, as they are added.
+use crate::asserts::{assert_octets, name};
+use dns_code::Header;
+use dns_opt::SubnetAddr;
+use dns_opt_builder::OptBuilder;
+use dns_wire::AppendError;
+use std::process::Abort;
+use std::test::Fail;
+
+/// Eight octets of a client's cookie.
+const CLIENT: [u8; 8] = [1, 2, 3, 4, 5, 6, 7, 8];
+
+fn builder(rt: &HostRuntime) -> OptBuilder {
+    OptBuilder::new(rt.alloc(), Header::new())
+}
+
+#[test]
+fn adds_one_behind_the_other(rt: HostRuntime) -> Result<(), Fail> {
+    let mut opt = builder(&rt);
+    opt.client_nsid()?;
+    opt.dau(&[8, 13])?;
+    opt.expire(None)?;
+    opt.tcp_keepalive(Some(300))?;
+    assert_octets(
+        &rt,
+        "Several known options",
+        opt.option_octets(),
+        b"\x00\x03\x00\x00\x00\x05\x00\x02\x08\x0D\x00\x09\x00\x00\x00\x0B\x00\x02\x01\x2C",
+    );
+    Ok(())
+}
+
+/// Lengths of a source and a scope with an address, and the option: those of "Client subnets", and one of 16 octets.
+const SUBNETS: &[(u8, u8, SubnetAddr, &[u8])] = &[
+    (
+        20,
+        0,
+        SubnetAddr::V4([192, 0, 255, 1]),
+        b"\x00\x08\x00\x07\x00\x01\x14\x00\xC0\x00\xF0",
+    ),
+    (
+        40,
+        33,
+        SubnetAddr::V4([192, 0, 2, 1]),
+        b"\x00\x08\x00\x08\x00\x01\x20\x20\xC0\x00\x02\x01",
+    ),
+    (
+        0,
+        0,
+        SubnetAddr::V4([192, 0, 2, 1]),
+        b"\x00\x08\x00\x04\x00\x01\x00\x00",
+    ),
+    (
+        17,
+        200,
+        SubnetAddr::V6(*b"\x20\x01\xFF\x00\x00\x00\x00\x00\x00\x00\x00\x00\x00\x00\x00\x00"),
+        b"\x00\x08\x00\x07\x00\x02\x11\x80\x20\x01\x80",
+    ),
+];
+
+#[test]
+fn draws_subnets(rt: HostRuntime) -> Result<(), Fail> {
+    for &(source, scope, address, expected) in SUBNETS {
+        let mut opt = builder(&rt);
+        opt.client_subnet(source, scope, address)?;
+        assert_octets(&rt, "Client subnets", opt.option_octets(), expected);
+    }
+    Ok(())
+}
+
+#[test]
+fn draws_octets_and_numbers(rt: HostRuntime) -> Result<(), Fail> {
+    let mut opt = builder(&rt);
+    opt.nsid(b"a")?;
+    opt.n3u(&[1])?;
+    opt.dhu(&[2])?;
+    opt.expire(Some(258))?;
+    assert_octets(
+        &rt,
+        "NSID, N3U, DHU, EXPIRE",
+        opt.option_octets(),
+        b"\x00\x03\x00\x01a\x00\x07\x00\x01\x01\x00\x06\x00\x01\x02\x00\x09\x00\x04\x00\x00\x01\x02",
+    );
+    Ok(())
+}
+
+#[test]
+fn draws_cookies(rt: HostRuntime) -> Result<(), Fail> {
+    let mut opt = builder(&rt);
+    opt.initial_cookie(CLIENT)?;
+    opt.cookie(CLIENT, Some(&[0xFF; 8]))?;
+    assert_octets(
+        &rt,
+        "Cookies",
+        opt.option_octets(),
+        b"\x00\x0A\x00\x08\x01\x02\x03\x04\x05\x06\x07\x08\x00\x0A\x00\x10\x01\x02\x03\x04\x05\x06\x07\x08\xFF\xFF\xFF\xFF\xFF\xFF\xFF\xFF",
+    );
+    Ok(())
+}
+
+#[test]
+fn draws_names_and_texts(rt: HostRuntime) -> Result<(), Fail> {
+    let mut opt = builder(&rt);
+    opt.chain(&name(&rt, b"\x02Ab\x00"))?;
+    opt.key_tag(&[0x4F66])?;
+    opt.extended_error(18, Some("no"))?;
+    assert_octets(
+        &rt,
+        "Chain, key tag, extended error",
+        opt.option_octets(),
+        b"\x00\x0D\x00\x04\x02Ab\x00\x00\x0E\x00\x02\x4F\x66\x00\x0F\x00\x04\x00\x12no",
+    );
+    Ok(())
+}
+
+#[test]
+fn pads_with_zeros_or_given_octets(rt: HostRuntime) -> Result<(), Fail> {
+    let mut opt = builder(&rt);
+    // what is refused adds nothing
+    let refused = opt.padding(65_532);
+    assert!(rt; refused == Err(AppendError::ShortBuf), "Paddings");
+    opt.padding(3)?;
+    opt.random_padding(b"\xAA\xBB")?;
+    assert_octets(
+        &rt,
+        "Paddings",
+        opt.option_octets(),
+        b"\x00\x0C\x00\x03\x00\x00\x00\x00\x0C\x00\x02\xAA\xBB",
+    );
+    Ok(())
+}
