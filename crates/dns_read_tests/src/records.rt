@@ -68,8 +68,11 @@ fn sole_fault(
     Some((fault, next_start(records.next_section())))
 }
 
-/// What an iterator gives three times: the section of a record, or a fault.
-fn given(mut items: MessageIter<'_>) -> [Option<Result<Section, ParseError>>; 3] {
+/// The section and the TTL in seconds of a record, or a fault.
+type Given = Option<Result<(Section, u32), ParseError>>;
+
+/// What an iterator gives three times.
+fn given(mut items: MessageIter<'_>) -> [Given; 3] {
     [
         next_given(&mut items),
         next_given(&mut items),
@@ -77,9 +80,9 @@ fn given(mut items: MessageIter<'_>) -> [Option<Result<Section, ParseError>>; 3]
     ]
 }
 
-fn next_given(items: &mut MessageIter<'_>) -> Option<Result<Section, ParseError>> {
+fn next_given(items: &mut MessageIter<'_>) -> Given {
     match items.next()? {
-        Ok((_, section)) => Some(Ok(section)),
+        Ok((record, section)) => Some(Ok((section, record.ttl().as_secs()))),
         Err(fault) => Some(Err(fault)),
     }
 }
@@ -181,8 +184,8 @@ fn is_alias_of(message: &Message<&[u8]>, target: &[u8]) -> bool {
 fn iterates_over_sections(rt: HostRuntime) {
     let message = message_of(&rt, TWO_SECTIONS);
     let sections = [
-        Some(Ok(Section::Answer)),
-        Some(Ok(Section::Authority)),
+        Some(Ok((Section::Answer, 86_000))),
+        Some(Ok((Section::Authority, 86_000))),
         None,
     ];
     assert!(rt; given((&message).into_iter()) == sections, "Copy records");

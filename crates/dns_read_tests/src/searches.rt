@@ -57,6 +57,7 @@ fn asks_for_transfer(message: &Message<&[u8]>) -> bool {
     };
     is_name(question.qname(), b"\x01a\x00")
         && question.qclass().to_int() == 3
+        && question.qtype() == qtype
         && qtype.to_int() == 252
 }
 

@@ -1,7 +1,7 @@
 //! Questions, records and their data, converted between holders, read out of a message, and cloned.
 use crate::asserts::{
-    SliceName, assert_data, assert_holds, assert_octets, assert_question, assert_record, name,
-    opaque, options,
+    SliceName, assert_data, assert_holds, assert_numbers, assert_octets, assert_question,
+    assert_record, name, opaque, options,
 };
 use arrayvec::ArrayVec;
 use dns_code::{Class, Rtype};
@@ -78,12 +78,16 @@ fn converts_data(rt: HostRuntime) {
     assert_octets(&rt, "address", &address.octets(), &[1, 2, 3, 4]);
     let source = Soa::new(name(&rt, EXAMPLE_COM), Name::root_slice(), 1, 2, 3, 4, 5);
     let zone: Soa<VecName> = converted(&rt, rt.alloc(), source);
-    assert_data(
-        &rt,
-        "zone",
-        &zone,
-        b"\x07example\x03com\x00\x00\x00\x00\x00\x01\x00\x00\x00\x02\x00\x00\x00\x03\x00\x00\x00\x04\x00\x00\x00\x05",
-    );
+    assert_octets(&rt, "first name", zone.mname().as_slice(), EXAMPLE_COM);
+    assert_octets(&rt, "second name", zone.rname().as_slice(), b"\x00");
+    let numbers = [
+        zone.serial(),
+        zone.refresh(),
+        zone.retry(),
+        zone.expire(),
+        zone.minimum(),
+    ];
+    assert_numbers(&rt, "numbers", &numbers, &[1, 2, 3, 4, 5]);
 }
 
 #[test]
@@ -146,6 +150,29 @@ fn assert_cloned<T: Clone + PartialEq + Drop>(rt: &impl Abort, what: &str, value
     assert!(rt; clone == value, "{what}");
 }
 
+/// A clone of the name has the same octets.
+fn assert_name_cloned(rt: &impl Abort, what: &str, name: &VecName) {
+    let Ok(clone) = name.clone() else {
+        panic!(rt; "{what}");
+    };
+    assert_octets(rt, what, clone.as_slice(), EXAMPLE_COM);
+}
+
+/// A clone of the record of example.com. 3600 IN A 1.2.3.4 is equal to it, and has its octets.
+fn assert_record_cloned(rt: &impl Abort, what: &str, record: &Record<VecName, A>) {
+    let Ok(clone) = record.clone() else {
+        panic!(rt; "{what}");
+    };
+    let lent: &Record<VecName, A> = clone.as_ref();
+    assert_holds(rt, what, lent == record);
+    assert_record(
+        rt,
+        what,
+        lent,
+        b"\x07example\x03com\x00\x00\x01\x00\x01\x00\x00\x0E\x10\x00\x04\x01\x02\x03\x04",
+    );
+}
+
 fn vec_name(rt: &impl Abort, alloc: Global) -> VecName {
     converted(rt, alloc, name(rt, EXAMPLE_COM))
 }
@@ -164,7 +191,7 @@ fn clones_data(rt: HostRuntime) {
 #[test]
 fn clones_items(rt: HostRuntime) {
     let what = "Name conversions and clones";
-    assert_cloned(&rt, what, vec_name(&rt, rt.alloc()));
+    assert_name_cloned(&rt, what, &vec_name(&rt, rt.alloc()));
     let qname = vec_name(&rt, rt.alloc());
     assert_cloned(&rt, what, Question::new_in(qname, Rtype::A));
     let owner = vec_name(&rt, rt.alloc());
@@ -175,7 +202,8 @@ fn clones_items(rt: HostRuntime) {
     );
     let owner = vec_name(&rt, rt.alloc());
     let data = A::from_octets(1, 2, 3, 4);
-    assert_cloned(&rt, what, Record::new(owner, Class::IN, Ttl::HOUR, data));
+    let record = Record::new(owner, Class::IN, Ttl::HOUR, data);
+    assert_record_cloned(&rt, what, &record);
 }
 
 /// Three records at the places 0, 15 and 30: the second has its owner in another case, and the pointer in the data of the third

@@ -62,10 +62,14 @@ fn address_in(parser: &mut Parser<'_>) -> Result<Option<[u8; 4]>, ParseError> {
 fn reads_data_behind_a_header(rt: HostRuntime) -> Result<(), Fail> {
     let address = address_in(&mut Parser::new(ADDRESS));
     assert_holds(&rt, "address", address == Ok(Some([203, 0, 113, 1])));
+    let mut parser = Parser::new(&ADDRESS[..16]);
+    let is_short = address_in(&mut parser) == Err(ParseError::ShortInput);
+    assert_holds(&rt, "data that is cut", is_short && parser.pos() == 13);
     let mut parser = Parser::new(ADDRESS);
     let header = RecordHeader::parse(&mut parser)?;
     let record = header.parse_into_any_record::<UnknownRecordData<&[u8]>>(&mut parser)?;
     assert_octets(&rt, "opaque", record.data().data(), &[203, 0, 113, 1]);
+    assert_holds(&rt, "opaque data is passed", parser.pos() == 17);
     Ok(())
 }
 

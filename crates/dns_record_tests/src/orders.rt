@@ -40,6 +40,8 @@ fn orders_records_in_two_ways(rt: HostRuntime) {
     let last_class = record(&rt, b"\x01a\x00", Class::CH);
     assert_less(&rt, "Two orders of records", &last_class, &last_name);
     assert_canonical_order(&rt, "Two orders of records", &last_name, &last_class);
+    let first_class = record(&rt, b"\x01A\x00", Class::IN);
+    assert_less(&rt, "classes of one owner", &first_class, &last_class);
     let ending = record(&rt, b"\x01b\x00", Class::IN);
     let longer = record(&rt, b"\x01a\x01b\x00", Class::IN);
     assert_canonical_order(&rt, "owners from the root leftwards", &ending, &longer);

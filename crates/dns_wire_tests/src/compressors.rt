@@ -214,6 +214,7 @@ fn assert_clone_row<T: CloneTarget + FreezeBuilder>(
     others: &[Step],
 ) {
     assert_steps(rt, row.name, &mut target, row.steps);
+    assert_same(rt, row.name, target.as_slice().len(), row.len);
     let mut clone = target.clone_target().expect(rt, "a clone");
     assert_same(rt, row.name, clone.as_slice(), target.as_slice());
     assert_steps(rt, row.name, &mut clone, others);

@@ -11,7 +11,10 @@ fn stays_within_32_bits(rt: HostRuntime) {
     assert_same(&rt, row, product, Ttl::MAX);
     let capped = Ttl::from_days(50).cap().as_secs();
     assert_same(&rt, row, capped, 604_800);
+    let bounds = [Ttl::ZERO.as_secs(), Ttl::MAX.as_secs()];
+    assert_same(&rt, "bounds", bounds, [0, u32::MAX]);
     let second = Ttl::from_secs(1);
+    assert_same(&rt, "unequal", second == Ttl::MINUTE, false);
     let sums = (
         second.checked_add(Ttl::MAX),
         second.saturating_add(Ttl::MAX),

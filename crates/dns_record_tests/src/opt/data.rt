@@ -3,7 +3,7 @@ use crate::asserts::{assert_holds, assert_octets};
 use dns_code::{OptionCode, Rtype};
 use dns_data::{Opt, ParseRecordData};
 use dns_opt::{OptionIter, are_options};
-use dns_wire::Parser;
+use dns_wire::{ParseError, Parser};
 use std::process::Abort;
 use std::test::Fail;
 
@@ -51,10 +51,13 @@ fn refuses_a_torn_option_and_another_type(rt: HostRuntime) {
         let whole = [0, 4, 10, 14, 20].contains(&len);
         assert!(rt; are_options(&OPTIONS[..len]) == whole, "at {len}");
     }
-    let torn = Opt::parse_rdata(Rtype::OPT, &mut Parser::new(&OPTIONS[..19]));
-    assert_holds(&rt, "torn", torn.is_err());
-    let other = Opt::parse_rdata(Rtype::A, &mut Parser::new(&OPTIONS));
-    assert_holds(&rt, "type", other == Ok(None));
+    let mut parser = Parser::new(&OPTIONS[..19]);
+    let torn = Opt::parse_rdata(Rtype::OPT, &mut parser);
+    let is_short = torn == Err(ParseError::ShortInput);
+    assert_holds(&rt, "torn", is_short && parser.remaining() == 19);
+    let mut parser = Parser::new(&OPTIONS);
+    let other = Opt::parse_rdata(Rtype::A, &mut parser);
+    assert_holds(&rt, "type", other == Ok(None) && parser.remaining() == 20);
 }
 
 #[test]
