@@ -1,60 +1,94 @@
 //! Answers that are started from a message: the header, the questions that can be read, and a refused one.
+use crate::rows::{assert_holds, assert_octets};
 use arrayvec::ArrayVec;
 use dns_build::{AnswerBuilder, MessageBuilder, PushError};
 use dns_code::Rcode;
 use dns_read::Message;
-use dns_wire::AppendError;
-use std::test::Fail;
+use dns_wire::Composer;
+use std::process::Abort;
 
 /// ID 0x1234, RD, a question for the A records of example.com., and one whose name is a pointer to itself.
-const UNREADABLE: &[u8; 35] =
-    b"\x12\x34\x01\x00\x00\x02\x00\x00\x00\x00\x00\x00\x07example\x03com\x00\x00\x01\x00\x01\xC0\x1D\x00\x01\x00\x01";
+static UNREADABLE: [u8; 35] =
+    *b"\x12\x34\x01\x00\x00\x02\x00\x00\x00\x00\x00\x00\x07example\x03com\x00\x00\x01\x00\x01\xC0\x1D\x00\x01\x00\x01";
 
 /// As `UNREADABLE`, but the second question is for the A records of example.net.
-const READABLE: &[u8; 46] =
-    b"\x12\x34\x01\x00\x00\x02\x00\x00\x00\x00\x00\x00\x07example\x03com\x00\x00\x01\x00\x01\x07example\x03net\x00\x00\x01\x00\x01";
+static READABLE: [u8; 46] =
+    *b"\x12\x34\x01\x00\x00\x02\x00\x00\x00\x00\x00\x00\x07example\x03com\x00\x00\x01\x00\x01\x07example\x03net\x00\x00\x01\x00\x01";
 
 /// An answer with the first question and the rcode REFUSED.
-const REFUSED: &[u8; 29] =
-    b"\x12\x34\x81\x05\x00\x01\x00\x00\x00\x00\x00\x00\x07example\x03com\x00\x00\x01\x00\x01";
+static REFUSED: [u8; 29] =
+    *b"\x12\x34\x81\x05\x00\x01\x00\x00\x00\x00\x00\x00\x07example\x03com\x00\x00\x01\x00\x01";
 
 /// As `REFUSED`, with the rcode SERVFAIL.
-const SERVFAIL: &[u8; 29] =
-    b"\x12\x34\x81\x02\x00\x01\x00\x00\x00\x00\x00\x00\x07example\x03com\x00\x00\x01\x00\x01";
+static SERVFAIL: [u8; 29] =
+    *b"\x12\x34\x81\x02\x00\x01\x00\x00\x00\x00\x00\x00\x07example\x03com\x00\x00\x01\x00\x01";
+
+/// The octets of a builder are those that are expected.
+fn assert_builder<T: Composer>(
+    rt: &impl Abort,
+    row: &str,
+    builder: Option<AnswerBuilder<T>>,
+    expected: &[u8],
+) {
+    let builder = builder.expect(rt, row);
+    assert_octets(rt, row, builder.as_slice(), expected);
+}
+
+/// A builder over an empty target.
+fn over<T: Composer>(rt: &impl Abort, target: T) -> MessageBuilder<T> {
+    MessageBuilder::from_target(target).expect(rt, "room for the header")
+}
+
+const READ: &str = "Start an answer";
+
+/// The readable questions are answered by `start_answer`, and by `start_error`.
+fn assert_answers<T: Composer>(rt: &impl Abort, first: T, second: T) {
+    let message = Message::from_slice(&UNREADABLE).expect(rt, READ);
+    let given = over(rt, first).start_answer(&message, Rcode::REFUSED);
+    assert_builder(rt, READ, given.ok(), &REFUSED);
+    let given = over(rt, second).start_error(&message, Rcode::REFUSED);
+    assert_builder(rt, READ, Some(given), &REFUSED);
+}
+
+/// The readable questions are answered by `try_start_answer`.
+fn assert_tries<T: Composer>(rt: &impl Abort, target: T) {
+    let message = Message::from_slice(&UNREADABLE).expect(rt, READ);
+    let given = over(rt, target).try_start_answer(&message, Rcode::REFUSED);
+    assert_builder(rt, READ, given.ok(), &REFUSED);
+}
 
 #[test]
-fn answers_the_readable_questions(rt: HostRuntime) -> Result<(), Fail> {
-    let message = Message::from_slice(UNREADABLE.as_slice())?;
-    let builder = MessageBuilder::new_vec(rt.alloc())?.start_answer(&message, Rcode::REFUSED)?;
-    assert_eq!(rt; builder.as_slice(), REFUSED.as_slice());
-    let builder = MessageBuilder::new_vec(rt.alloc())?.start_error(&message, Rcode::REFUSED);
-    assert_eq!(rt; builder.as_slice(), REFUSED.as_slice());
-    let given = MessageBuilder::new_vec(rt.alloc())?.try_start_answer(&message, Rcode::REFUSED);
-    assert!(rt; given.is_ok_and(|builder| builder.as_slice() == REFUSED.as_slice()));
-    Ok(())
+fn answers_the_readable_questions(rt: HostRuntime) {
+    let alloc = rt.alloc();
+    assert_answers(&rt, Vec::new(alloc), Vec::new(alloc));
+    assert_tries(&rt, Vec::new(alloc));
 }
 
-type Small = AnswerBuilder<ArrayVec<u8, 40>>;
+const NO_ROOM: &str = "Start an answer without room";
 
-/// A builder with room for one question of `READABLE`, but not for two.
-fn small() -> Result<MessageBuilder<ArrayVec<u8, 40>>, AppendError> {
-    MessageBuilder::from_target(ArrayVec::new())
+/// One question of `READABLE` has room, but not two.
+fn assert_refuses<T: Composer>(rt: &impl Abort, first: T, second: T) {
+    let message = Message::from_slice(&READABLE).expect(rt, NO_ROOM);
+    let given = over(rt, first).try_start_answer(&message, Rcode::NOERROR);
+    assert_builder(rt, NO_ROOM, given.err(), &SERVFAIL);
+    let given = over(rt, second).start_answer(&message, Rcode::NOERROR);
+    assert_holds(
+        rt,
+        NO_ROOM,
+        matches!(given.err(), Some(PushError::ShortBuf)),
+    );
 }
 
-/// Whether the first question was answered with SERVFAIL, and the second one refused.
-fn is_servfail(given: Result<Small, Small>) -> bool {
-    match given {
-        Ok(_) => false,
-        Err(builder) => builder.as_slice() == SERVFAIL.as_slice(),
-    }
+/// As `assert_refuses`, by `start_error`.
+fn assert_tells<T: Composer>(rt: &impl Abort, target: T) {
+    let message = Message::from_slice(&READABLE).expect(rt, NO_ROOM);
+    let given = over(rt, target).start_error(&message, Rcode::NOERROR);
+    assert_builder(rt, NO_ROOM, Some(given), &SERVFAIL);
 }
 
 #[test]
-fn keeps_the_questions_before_a_refused_one(rt: HostRuntime) -> Result<(), Fail> {
-    let message = Message::from_slice(READABLE.as_slice())?;
-    assert!(rt; is_servfail(small()?.try_start_answer(&message, Rcode::NOERROR)));
-    assert!(rt; is_servfail(Err(small()?.start_error(&message, Rcode::NOERROR))));
-    let refusal = small()?.start_answer(&message, Rcode::NOERROR).err();
-    assert!(rt; matches!(refusal, Some(PushError::ShortBuf)));
-    Ok(())
+fn keeps_the_questions_before_a_refused_one(rt: HostRuntime) {
+    let target = ArrayVec::<u8, 40>::new;
+    assert_refuses(&rt, target(), target());
+    assert_tells(&rt, target());
 }

@@ -1,13 +1,16 @@
 //! Rows over compressors: which name becomes a pointer, what a rewind or a refused push forgets, and how room runs out.
-use crate::rows::{Call, DONE, EMPTY, EXAMPLE_COM, ROOT, Row, SHORT, run};
+use crate::rows::Answer::{Done, ShortBuf};
+use crate::rows::{
+    ADDRESS, Ask, Call, EMPTY, EXAMPLE_COM, LETTER_A, ROOT, Row, assert_holds, assert_octets,
+    push_question, run,
+};
 use arrayvec::ArrayVec;
 use dns_build::{MessageBuilder, QuestionBuilder};
 use dns_code::Rtype;
-use dns_target::{HashCompressor, IndexCompressor, StaticCompressor, TreeCompressor};
-use dns_wire::{AppendError, FreezeBuilder, Name};
+use dns_target::{HashCompressor, IndexCompressor, StaticCompressor, StreamTarget, TreeCompressor};
+use dns_wire::{AppendError, Composer, FreezeBuilder, Name};
 use std::alloc::Global;
 use std::process::Abort;
-use std::test::Fail;
 
 /// A target.
 #[derive(Clone, Copy)]
@@ -17,16 +20,15 @@ enum Target {
     Tree,
     Hash,
     Index,
-    /// A compressor over an array of 60 octets.
-    Static60,
-    Tree60,
-    Hash60,
 }
 
 const ANY: &[Target] = &[Target::Static, Target::Tree, Target::Hash, Target::Index];
 
+/// The compressors that remember each suffix by its own place.
+const BY_SUFFIX: &[Target] = &[Target::Static, Target::Tree, Target::Index];
+
 /// Makes the calls of a row on an empty target.
-fn run_over(rt: &impl Abort, alloc: Global, target: Target, row: &Row) -> Result<(), Fail> {
+fn run_over(rt: &impl Abort, alloc: Global, target: Target, row: &Row) {
     let vector = Vec::new(alloc);
     match target {
         Target::Plain => run(rt, alloc, vector, row),
@@ -34,114 +36,115 @@ fn run_over(rt: &impl Abort, alloc: Global, target: Target, row: &Row) -> Result
         Target::Tree => run(rt, alloc, TreeCompressor::new(alloc, vector), row),
         Target::Hash => run(rt, alloc, HashCompressor::new(alloc, vector), row),
         Target::Index => run(rt, alloc, IndexCompressor::new(alloc, vector), row),
-        _ => run_in_60(rt, alloc, target, row),
     }
 }
 
-/// As `run_over`, over an array of 60 octets.
-fn run_in_60(rt: &impl Abort, alloc: Global, target: Target, row: &Row) -> Result<(), Fail> {
-    let array = ArrayVec::<u8, 60>::new();
-    match target {
-        Target::Tree60 => run(rt, alloc, TreeCompressor::new(alloc, array), row),
-        Target::Hash60 => run(rt, alloc, HashCompressor::new(alloc, array), row),
-        _ => run(rt, alloc, StaticCompressor::new(array), row),
+/// Makes the calls of each row on each of its targets.
+fn run_rows(rt: &impl Abort, alloc: Global, rows: &[(&[Target], Row)]) {
+    for (targets, row) in rows {
+        for target in *targets {
+            run_over(rt, alloc, *target, row);
+        }
     }
-}
-
-/// Makes the calls of a row on each of the targets.
-fn run_row(
-    rt: &impl Abort,
-    alloc: Global,
-    (targets, row): &(&'static [Target], Row),
-) -> Result<(), Fail> {
-    for target in *targets {
-        run_over(rt, alloc, *target, row)?;
-    }
-    Ok(())
-}
-
-fn run_rows(rt: &impl Abort, alloc: Global, rows: &[(&'static [Target], Row)]) -> Result<(), Fail> {
-    for row in rows {
-        run_row(rt, alloc, row)?;
-    }
-    Ok(())
 }
 
 /// A message of a question and an answer, both for example.com.
 const POSITIVE_RESPONSE: Row = Row {
+    name: "Positive response",
     questions: &[
-        (Call::Header([0, 0, 0x81, 0xA0]), DONE, 12, b""),
-        (Call::Question(EXAMPLE_COM), DONE, 29, EXAMPLE_COM),
+        (Ask::Header([0, 0, 0x81, 0xA0]), Done, 12, b""),
+        (Ask::Question(EXAMPLE_COM), Done, 29, EXAMPLE_COM),
     ],
-    answers: &[(Call::Address(EXAMPLE_COM), DONE, 45, b"\xC0\x0C")],
+    answers: &[(Call::Address(EXAMPLE_COM, ADDRESS), Done, 45, b"\xC0\x0C")],
     start: b"\x00\x00\x81\xA0\x00\x01\x00\x01\x00\x00\x00\x00\x07example\x03com\x00\x00\x01\x00\x01\xC0\x0C\x00\x01\x00\x01\x00\x00\x0E\x10\x00\x04\xCB\x00\x71\x01",
     ..EMPTY
 };
 
 /// That a name doesn't exist, with the start of the zone above it.
 const NEGATIVE_RESPONSE: Row = Row {
+    name: "Negative response",
     questions: &[
-        (Call::Header([0, 0, 0x81, 0x83]), DONE, 12, b""),
-        (Call::Servers(b"\x07example\x00"), DONE, 25, b""),
+        (Ask::Header([0, 0, 0x81, 0x83]), Done, 12, b""),
+        (Ask::Servers(b"\x07example\x00"), Done, 25, b""),
     ],
-    authorities: &[(Call::Start, DONE, 100, b"")],
+    authorities: &[(Call::Start, Done, 100, b"")],
     start: b"\x00\x00\x81\x83\x00\x01\x00\x00\x00\x01\x00\x00\x07example\x00\x00\x02\x00\x01\x00\x00\x06\x00\x01\x00\x01\x51\x76\x00\x40\x01a\x0Croot-servers\x03net\x00\x05nstld\x0Cverisign-grs\x03com\x00\x78\x68\x00\x25\x00\x00\x07\x08\x00\x00\x03\x84\x00\x09\x3A\x80\x00\x01\x51\x80",
     ..EMPTY
 };
 
-const RESPONSES: &[(&[Target], Row)] = &[(ANY, POSITIVE_RESPONSE), (ANY, NEGATIVE_RESPONSE)];
+static RESPONSES: [(&[Target], Row); 2] = [(ANY, POSITIVE_RESPONSE), (ANY, NEGATIVE_RESPONSE)];
 
 #[test]
-fn compresses_responses(rt: HostRuntime) -> Result<(), Fail> {
-    run_rows(&rt, rt.alloc(), RESPONSES)
+fn compresses_responses(rt: HostRuntime) {
+    run_rows(&rt, rt.alloc(), &RESPONSES);
+}
+
+/// Makes the calls of "Positive response" twice on a target that is kept.
+fn assert_kept<T: Composer>(rt: &impl Abort, alloc: Global, mut target: T) {
+    for _ in 0..2 {
+        run(rt, alloc, &mut target, &ROOM_FOR_ALL);
+        assert_octets(
+            rt,
+            "a target that is kept",
+            target.as_slice(),
+            ROOM_FOR_ALL.start,
+        );
+    }
 }
 
 #[test]
-fn writes_twice_to_a_target_that_is_kept(rt: HostRuntime) -> Result<(), Fail> {
-    let mut target = StaticCompressor::new(Vec::new(rt.alloc()));
-    for _ in 0..2 {
-        run(&rt, rt.alloc(), &mut target, &POSITIVE_RESPONSE)?;
-        assert_eq!(rt; target.as_slice(), POSITIVE_RESPONSE.start);
-    }
-    Ok(())
+fn writes_twice_to_a_target_that_is_kept(rt: HostRuntime) {
+    let target = StaticCompressor::new(Vec::new(rt.alloc()));
+    assert_kept(&rt, rt.alloc(), target);
 }
 
 /// A suffix is known only in its own letter case, and a name in data is compressed too.
-const NAMES: &[(&[Target], Row)] = &[
+static NAMES: [(&[Target], Row); 3] = [
     (
         ANY,
         Row {
-            questions: &[(Call::Question(b"\x07Example\x03COM\x00"), DONE, 29, b"")],
-            answers: &[(Call::Address(EXAMPLE_COM), DONE, 56, EXAMPLE_COM)],
+            name: "Letter case is kept",
+            questions: &[(Ask::Question(b"\x07Example\x03COM\x00"), Done, 29, b"")],
+            answers: &[(Call::Address(EXAMPLE_COM, ADDRESS), Done, 56, EXAMPLE_COM)],
+            start: b"\x00\x00\x00\x00\x00\x01\x00\x01\x00\x00\x00\x00\x07Example\x03COM\x00",
             ..EMPTY
         },
     ),
     (
         ANY,
         Row {
-            questions: &[(Call::Question(b"\x07Example\x03com\x00"), DONE, 29, b"")],
-            answers: &[(Call::Address(EXAMPLE_COM), DONE, 53, b"\x07example\xC0\x14")],
+            name: "Letter case of one label",
+            questions: &[(Ask::Question(b"\x07Example\x03com\x00"), Done, 29, b"")],
+            answers: &[(
+                Call::Address(EXAMPLE_COM, ADDRESS),
+                Done,
+                53,
+                b"\x07example\xC0\x14",
+            )],
+            start: b"\x00\x00\x00\x00\x00\x01\x00\x01\x00\x00\x00\x00\x07Example\x03com\x00",
             ..EMPTY
         },
     ),
     (
         ANY,
         Row {
-            questions: &[(Call::Servers(EXAMPLE_COM), DONE, 29, b"")],
+            name: "Name in data",
+            questions: &[(Ask::Servers(EXAMPLE_COM), Done, 29, b"")],
             answers: &[(
                 Call::Server(EXAMPLE_COM, 60, b"\x02ns\x07example\x03com\x00"),
-                DONE,
+                Done,
                 46,
                 b"\xC0\x0C\x00\x02\x00\x01\x00\x00\x00\x3C\x00\x05\x02ns\xC0\x0C",
             )],
+            start: b"\x00\x00\x00\x00\x00\x01\x00\x01\x00\x00\x00\x00",
             ..EMPTY
         },
     ),
 ];
 
 #[test]
-fn compresses_names(rt: HostRuntime) -> Result<(), Fail> {
-    run_rows(&rt, rt.alloc(), NAMES)
+fn compresses_names(rt: HostRuntime) {
+    run_rows(&rt, rt.alloc(), &NAMES);
 }
 
 const A_B: &[u8] = b"\x01a\x01b\x00";
@@ -157,201 +160,175 @@ const C: &[u8] = b"\x01c\x00";
 const Y: &[u8] = b"\x01y\x00";
 
 /// Suffixes of suffixes, and the 25th suffix, which a static compressor doesn't hold.
-const SUFFIXES: &[(&[Target], Row)] = &[
+static SUFFIXES: [(&[Target], Row); 4] = [
     (
         ANY,
         Row {
+            name: "Suffixes of suffixes",
             questions: &[
-                (Call::Question(A_B_C), DONE, 23, A_B_C),
-                (Call::Question(B_C), DONE, 29, b"\xC0\x0E"),
-                (Call::Question(X_B_C), DONE, 37, b"\x01x\xC0\x0E"),
-                (Call::Question(C), DONE, 43, b"\xC0\x10"),
+                (Ask::Question(A_B_C), Done, 23, A_B_C),
+                (Ask::Question(B_C), Done, 29, b"\xC0\x0E"),
+                (Ask::Question(X_B_C), Done, 37, b"\x01x\xC0\x0E"),
+                (Ask::Question(C), Done, 43, b"\xC0\x10"),
             ],
+            start: b"\x00\x00\x00\x00\x00\x04\x00\x00\x00\x00\x00\x00",
             ..EMPTY
         },
     ),
     (
         &[Target::Plain],
         Row {
+            name: "Suffixes of suffixes, over a plain target",
             questions: &[
-                (Call::Question(A_B_C), DONE, 23, A_B_C),
-                (Call::Question(B_C), DONE, 32, B_C),
-                (Call::Question(X_B_C), DONE, 43, X_B_C),
-                (Call::Question(C), DONE, 50, C),
+                (Ask::Question(A_B_C), Done, 23, A_B_C),
+                (Ask::Question(B_C), Done, 32, B_C),
+                (Ask::Question(X_B_C), Done, 43, X_B_C),
+                (Ask::Question(C), Done, 50, C),
             ],
+            start: b"\x00\x00\x00\x00\x00\x04\x00\x00\x00\x00\x00\x00",
             ..EMPTY
         },
     ),
     (
         &[Target::Static],
         Row {
+            name: "The 25th suffix, over a static compressor",
             questions: &[
-                (Call::Letters, DONE, 180, b""),
-                (Call::Question(Y), DONE, 187, Y),
-                (Call::Question(Y), DONE, 194, Y),
+                (Ask::Letters, Done, 180, b""),
+                (Ask::Question(Y), Done, 187, Y),
+                (Ask::Question(Y), Done, 194, Y),
             ],
+            start: b"\x00\x00\x00\x00\x00\x1A\x00\x00\x00\x00\x00\x00",
             ..EMPTY
         },
     ),
     (
         &[Target::Tree, Target::Hash, Target::Index],
         Row {
+            name: "The 25th suffix",
             questions: &[
-                (Call::Letters, DONE, 180, b""),
-                (Call::Question(Y), DONE, 187, Y),
-                (Call::Question(Y), DONE, 193, b"\xC0\xB4"),
+                (Ask::Letters, Done, 180, b""),
+                (Ask::Question(Y), Done, 187, Y),
+                (Ask::Question(Y), Done, 193, b"\xC0\xB4"),
             ],
+            start: b"\x00\x00\x00\x00\x00\x1A\x00\x00\x00\x00\x00\x00",
             ..EMPTY
         },
     ),
 ];
 
 #[test]
-fn compresses_suffixes(rt: HostRuntime) -> Result<(), Fail> {
-    run_rows(&rt, rt.alloc(), SUFFIXES)
+fn compresses_suffixes(rt: HostRuntime) {
+    run_rows(&rt, rt.alloc(), &SUFFIXES);
 }
 
-const LETTER_A: &[u8] = b"\x01a\x00";
-
 /// A suffix that begins at the bound of 16,384 octets or behind it isn't remembered.
-const AT_THE_BOUND: &[(&[Target], Row)] = &[
+static AT_THE_BOUND: [(&[Target], Row); 3] = [
     (
         ANY,
         Row {
+            name: "Names past the bound",
             answers: &[
                 (
                     Call::Opaque(b"\x03pad\x07example\x03com\x00", 16_400),
-                    DONE,
+                    Done,
                     16_439,
                     b"",
                 ),
-                (Call::Address(A_B_C), DONE, 16_460, A_B_C),
-                (Call::Address(A_B_C), DONE, 16_481, A_B_C),
+                (Call::Address(A_B_C, [1, 2, 3, 4]), Done, 16_460, A_B_C),
+                (Call::Address(A_B_C, [5, 6, 7, 8]), Done, 16_481, A_B_C),
             ],
+            start: b"\x00\x00\x00\x00\x00\x00\x00\x03\x00\x00\x00\x00",
             ..EMPTY
         },
     ),
     (
         ANY,
         Row {
+            name: "Last place below the bound",
             answers: &[
-                (Call::Opaque(ROOT, 16_360), DONE, 16_383, b""),
-                (Call::Address(LETTER_A), DONE, 16_400, LETTER_A),
-                (Call::Address(LETTER_A), DONE, 16_416, b"\xFF\xFF"),
+                (Call::Opaque(ROOT, 16_360), Done, 16_383, b""),
+                (Call::Address(LETTER_A, ADDRESS), Done, 16_400, LETTER_A),
+                (Call::Address(LETTER_A, ADDRESS), Done, 16_416, b"\xFF\xFF"),
             ],
+            start: b"\x00\x00\x00\x00\x00\x00\x00\x03\x00\x00\x00\x00",
             ..EMPTY
         },
     ),
     (
         ANY,
         Row {
+            name: "First place at the bound",
             answers: &[
-                (Call::Opaque(ROOT, 16_361), DONE, 16_384, b""),
-                (Call::Address(LETTER_A), DONE, 16_401, LETTER_A),
-                (Call::Address(LETTER_A), DONE, 16_418, LETTER_A),
+                (Call::Opaque(ROOT, 16_361), Done, 16_384, b""),
+                (Call::Address(LETTER_A, ADDRESS), Done, 16_401, LETTER_A),
+                (Call::Address(LETTER_A, ADDRESS), Done, 16_418, LETTER_A),
             ],
+            start: b"\x00\x00\x00\x00\x00\x00\x00\x03\x00\x00\x00\x00",
             ..EMPTY
         },
     ),
 ];
 
 #[test]
-fn remembers_places_below_the_bound(rt: HostRuntime) -> Result<(), Fail> {
-    run_rows(&rt, rt.alloc(), AT_THE_BOUND)
+fn remembers_places_below_the_bound(rt: HostRuntime) {
+    run_rows(&rt, rt.alloc(), &AT_THE_BOUND);
 }
 
 /// Names across the bound: one pushed twice, and one with a known suffix behind labels past the bound.
-const ACROSS_THE_BOUND: &[(&[Target], Row)] = &[
+static ACROSS_THE_BOUND: [(&[Target], Row); 4] = [
     (
-        &[Target::Static, Target::Tree, Target::Index],
+        BY_SUFFIX,
         Row {
+            name: "Second label past the bound",
             answers: &[
-                (Call::Opaque(ROOT, 16_359), DONE, 16_382, b""),
-                (Call::Address(A_B), DONE, 16_401, A_B),
-                (Call::Address(A_B), DONE, 16_417, b"\xFF\xFE"),
+                (Call::Opaque(ROOT, 16_359), Done, 16_382, b""),
+                (Call::Address(A_B, [1, 2, 3, 4]), Done, 16_401, A_B),
+                (Call::Address(A_B, [1, 2, 3, 4]), Done, 16_417, b"\xFF\xFE"),
             ],
+            start: b"\x00\x00\x00\x00\x00\x00\x00\x03\x00\x00\x00\x00",
             ..EMPTY
         },
     ),
     (
         &[Target::Hash],
         Row {
+            name: "Second label past the bound, over a hash compressor",
             answers: &[
-                (Call::Opaque(ROOT, 16_359), DONE, 16_382, b""),
-                (Call::Address(A_B), DONE, 16_401, A_B),
-                (Call::Address(A_B), DONE, 16_420, A_B),
+                (Call::Opaque(ROOT, 16_359), Done, 16_382, b""),
+                (Call::Address(A_B, [1, 2, 3, 4]), Done, 16_401, A_B),
+                (Call::Address(A_B, [1, 2, 3, 4]), Done, 16_420, A_B),
             ],
+            start: b"\x00\x00\x00\x00\x00\x00\x00\x03\x00\x00\x00\x00",
             ..EMPTY
         },
     ),
     (
-        &[Target::Static, Target::Tree, Target::Index],
+        BY_SUFFIX,
         Row {
-            questions: &[(Call::Question(C), DONE, 19, b"")],
+            name: "Known suffix past the bound",
+            questions: &[(Ask::Question(C), Done, 19, b"")],
             answers: &[
-                (Call::Opaque(ROOT, 16_354), DONE, 16_384, b""),
-                (Call::Address(A_B_C), DONE, 16_405, A_B_C),
+                (Call::Opaque(ROOT, 16_354), Done, 16_384, b""),
+                (Call::Address(A_B_C, ADDRESS), Done, 16_405, A_B_C),
             ],
+            start: b"\x00\x00\x00\x00\x00\x01\x00\x02\x00\x00\x00\x00",
             ..EMPTY
         },
     ),
     (
         &[Target::Hash],
         Row {
-            questions: &[(Call::Question(C), DONE, 19, b"")],
+            name: "Known suffix past the bound, over a hash compressor",
+            questions: &[(Ask::Question(C), Done, 19, b"")],
             answers: &[
-                (Call::Opaque(ROOT, 16_354), DONE, 16_384, b""),
-                (Call::Address(A_B_C), DONE, 16_404, b"\x01a\x01b\xC0\x0C"),
-            ],
-            ..EMPTY
-        },
-    ),
-];
-
-#[test]
-fn writes_names_across_the_bound(rt: HostRuntime) -> Result<(), Fail> {
-    run_rows(&rt, rt.alloc(), ACROSS_THE_BOUND)
-}
-
-const WWW: &[u8] = b"\x03www\x07example\x03com\x00";
-
-/// Names that a rewind takes out, across the bound too, or that are refused.
-const FORGOTTEN: &[(&[Target], Row)] = &[
-    (
-        ANY,
-        Row {
-            answers: &[
-                (Call::Address(EXAMPLE_COM), DONE, 39, EXAMPLE_COM),
-                (Call::Rewind, DONE, 12, b""),
-                (Call::Address(EXAMPLE_COM), DONE, 39, EXAMPLE_COM),
-                (Call::Address(EXAMPLE_COM), DONE, 55, b"\xC0\x0C"),
-            ],
-            start: b"\x00\x00\x00\x00\x00\x00\x00\x02\x00\x00\x00\x00",
-            ..EMPTY
-        },
-    ),
-    (
-        ANY,
-        Row {
-            answers: &[(Call::Opaque(ROOT, 16_359), DONE, 16_382, b"")],
-            authorities: &[
-                (Call::Address(A_B), DONE, 16_401, A_B),
-                (Call::Rewind, DONE, 16_382, b""),
-                (Call::Address(LETTER_A), DONE, 16_399, LETTER_A),
-                (Call::Address(LETTER_A), DONE, 16_415, b"\xFF\xFE"),
-            ],
-            start: b"\x00\x00\x00\x00\x00\x00\x00\x01\x00\x02\x00\x00",
-            ..EMPTY
-        },
-    ),
-    (
-        &[Target::Static60, Target::Tree60, Target::Hash60],
-        Row {
-            questions: &[(Call::Question(EXAMPLE_COM), DONE, 29, b"")],
-            answers: &[
-                (Call::Opaque(WWW, 30), SHORT, 29, b""),
-                (Call::Opaque(ROOT, 0), DONE, 40, b""),
-                (Call::Opaque(WWW, 0), DONE, 56, b"\x03www\xC0\x0C"),
+                (Call::Opaque(ROOT, 16_354), Done, 16_384, b""),
+                (
+                    Call::Address(A_B_C, ADDRESS),
+                    Done,
+                    16_404,
+                    b"\x01a\x01b\xC0\x0C",
+                ),
             ],
             start: b"\x00\x00\x00\x00\x00\x01\x00\x02\x00\x00\x00\x00",
             ..EMPTY
@@ -360,24 +337,103 @@ const FORGOTTEN: &[(&[Target], Row)] = &[
 ];
 
 #[test]
-fn forgets_names(rt: HostRuntime) -> Result<(), Fail> {
-    run_rows(&rt, rt.alloc(), FORGOTTEN)
+fn writes_names_across_the_bound(rt: HostRuntime) {
+    run_rows(&rt, rt.alloc(), &ACROSS_THE_BOUND);
 }
 
-/// The pushes of the positive response, where the question has no room.
-const NO_QUESTION: Row = Row {
-    questions: &[(Call::Question(EXAMPLE_COM), SHORT, 12, b"")],
-    answers: &[(Call::Address(EXAMPLE_COM), SHORT, 12, b"")],
-    start: b"\x00\x00\x00\x00\x00\x00\x00\x00\x00\x00\x00\x00",
+const WWW: &[u8] = b"\x03www\x07example\x03com\x00";
+
+/// Names that a rewind takes out, across the bound too.
+static FORGOTTEN: [(&[Target], Row); 2] = [
+    (
+        ANY,
+        Row {
+            name: "Rewind forgets",
+            answers: &[
+                (Call::Address(EXAMPLE_COM, ADDRESS), Done, 39, EXAMPLE_COM),
+                (Call::Rewind, Done, 12, b""),
+                (Call::Address(EXAMPLE_COM, ADDRESS), Done, 39, EXAMPLE_COM),
+                (Call::Address(EXAMPLE_COM, ADDRESS), Done, 55, b"\xC0\x0C"),
+            ],
+            start: b"\x00\x00\x00\x00\x00\x00\x00\x02\x00\x00\x00\x00",
+            ..EMPTY
+        },
+    ),
+    (
+        ANY,
+        Row {
+            name: "Rewind across the bound",
+            answers: &[(Call::Opaque(ROOT, 16_359), Done, 16_382, b"")],
+            authorities: &[
+                (Call::Address(A_B, ADDRESS), Done, 16_401, A_B),
+                (Call::Rewind, Done, 16_382, b""),
+                (Call::Address(LETTER_A, ADDRESS), Done, 16_399, LETTER_A),
+                (Call::Address(LETTER_A, ADDRESS), Done, 16_415, b"\xFF\xFE"),
+            ],
+            start: b"\x00\x00\x00\x00\x00\x00\x00\x01\x00\x02\x00\x00",
+            ..EMPTY
+        },
+    ),
+];
+
+#[test]
+fn forgets_names(rt: HostRuntime) {
+    run_rows(&rt, rt.alloc(), &FORGOTTEN);
+}
+
+static REFUSED_RECORD: Row = Row {
+    name: "A refused record forgets only itself",
+    questions: &[(Ask::Question(EXAMPLE_COM), Done, 29, b"")],
+    answers: &[
+        (Call::Opaque(WWW, 30), ShortBuf, 29, b""),
+        (Call::Opaque(ROOT, 0), Done, 40, b""),
+        (Call::Opaque(WWW, 0), Done, 56, b"\x03www\xC0\x0C"),
+    ],
+    start: b"\x00\x00\x00\x00\x00\x01\x00\x02\x00\x00\x00\x00",
     ..EMPTY
 };
 
-/// The pushes of the positive response, where the answer has no room.
-const NO_ANSWER: Row = Row {
-    questions: &[(Call::Question(EXAMPLE_COM), DONE, 29, b"")],
-    answers: &[(Call::Address(EXAMPLE_COM), SHORT, 29, b"")],
+#[test]
+fn forgets_a_refused_record(rt: HostRuntime) {
+    let alloc = rt.alloc();
+    let room = ArrayVec::<u8, 60>::new;
+    run(&rt, alloc, StaticCompressor::new(room()), &REFUSED_RECORD);
+    run(
+        &rt,
+        alloc,
+        TreeCompressor::new(alloc, room()),
+        &REFUSED_RECORD,
+    );
+    run(
+        &rt,
+        alloc,
+        HashCompressor::new(alloc, room()),
+        &REFUSED_RECORD,
+    );
+}
+
+/// The pushes of "Positive response", where the question has no room.
+static NO_QUESTION: Row = Row {
+    name: "No room for the question",
+    questions: &[(Ask::Question(EXAMPLE_COM), ShortBuf, 12, b"")],
+    answers: &[(Call::Address(EXAMPLE_COM, ADDRESS), ShortBuf, 12, b"")],
+    start: &[0; 12],
+    ..EMPTY
+};
+
+/// The pushes of "Positive response", where the answer has no room.
+static NO_ANSWER: Row = Row {
+    name: "No room for the answer",
+    questions: &[(Ask::Question(EXAMPLE_COM), Done, 29, b"")],
+    answers: &[(Call::Address(EXAMPLE_COM, ADDRESS), ShortBuf, 29, b"")],
     start: b"\x00\x00\x00\x00\x00\x01\x00\x00\x00\x00\x00\x00",
     ..EMPTY
+};
+
+/// The pushes of "Positive response", where all have room.
+static ROOM_FOR_ALL: Row = Row {
+    name: "Room for all",
+    ..POSITIVE_RESPONSE
 };
 
 /// A static compressor over an array.
@@ -386,59 +442,77 @@ fn over_array<const N: usize>() -> StaticCompressor<ArrayVec<u8, N>> {
 }
 
 #[test]
-fn has_no_room_for_the_header(rt: HostRuntime) {
-    let refused = [
-        MessageBuilder::from_target(over_array::<0>()).err(),
-        MessageBuilder::from_target(over_array::<11>()).err(),
-    ];
-    assert_eq!(rt; refused, [Some(AppendError::ShortBuf); 2]);
+fn refuses_what_has_no_room(rt: HostRuntime) {
+    let alloc = rt.alloc();
+    run(&rt, alloc, over_array::<12>(), &NO_QUESTION);
+    run(&rt, alloc, over_array::<28>(), &NO_QUESTION);
+    run(&rt, alloc, over_array::<29>(), &NO_ANSWER);
+    run(&rt, alloc, over_array::<44>(), &NO_ANSWER);
+    run(&rt, alloc, over_array::<45>(), &ROOM_FOR_ALL);
+}
+
+/// A target has no room for the header.
+fn assert_no_header<T: Composer>(rt: &impl Abort, row: &str, target: T) {
+    let refused = MessageBuilder::from_target(target).err();
+    assert_holds(rt, row, refused == Some(AppendError::ShortBuf));
 }
 
 #[test]
-fn refuses_what_has_no_room(rt: HostRuntime) -> Result<(), Fail> {
-    let alloc = rt.alloc();
-    run(&rt, alloc, over_array::<12>(), &NO_QUESTION)?;
-    run(&rt, alloc, over_array::<28>(), &NO_QUESTION)?;
-    run(&rt, alloc, over_array::<29>(), &NO_ANSWER)?;
-    run(&rt, alloc, over_array::<44>(), &NO_ANSWER)?;
-    run(&rt, alloc, over_array::<45>(), &POSITIVE_RESPONSE)
+fn has_no_room_for_the_header(rt: HostRuntime) {
+    assert_no_header(&rt, "No room for the header", over_array::<0>());
+    assert_no_header(&rt, "No room for the header", over_array::<11>());
+    let target = StreamTarget::new(ArrayVec::<u8, 13>::new()).expect(&rt, "room");
+    assert_no_header(&rt, "No room for prefix or header", target);
 }
 
 /// An empty message over a target is twelve zero octets.
-fn assert_frozen_empty<T: FreezeBuilder>(rt: &impl Abort, target: T) -> Result<(), Fail> {
-    let message = MessageBuilder::from_target(target)?.into_message();
-    assert_eq!(rt; message.as_slice(), [0; 12].as_slice());
-    Ok(())
+fn assert_frozen_empty<T: FreezeBuilder>(rt: &impl Abort, target: T) {
+    let message = MessageBuilder::from_target(target)
+        .expect(rt, "room")
+        .into_message();
+    assert_octets(
+        rt,
+        "into_message over a compressor",
+        message.as_slice(),
+        &[0; 12],
+    );
 }
 
 #[test]
-fn compressors_give_their_message(rt: HostRuntime) -> Result<(), Fail> {
+fn compressors_give_their_message(rt: HostRuntime) {
     let alloc = rt.alloc();
-    assert_frozen_empty(&rt, StaticCompressor::new(Vec::new(alloc)))?;
-    assert_frozen_empty(&rt, TreeCompressor::new(alloc, Vec::new(alloc)))?;
-    assert_frozen_empty(&rt, HashCompressor::new(alloc, Vec::new(alloc)))
+    assert_frozen_empty(&rt, StaticCompressor::new(Vec::new(alloc)));
+    assert_frozen_empty(&rt, TreeCompressor::new(alloc, Vec::new(alloc)));
+    assert_frozen_empty(&rt, HashCompressor::new(alloc, Vec::new(alloc)));
 }
 
 /// Pushes the questions for h0.example.com. to h1999.example.com., and gives the octets of the message.
-fn push_two_thousand(
+fn push_two_thousand<T: Composer>(
+    rt: &impl Abort,
     alloc: Global,
-    builder: &mut QuestionBuilder<TreeCompressor<Vec<u8>>>,
-) -> Result<Vec<u8>, Fail> {
+    builder: &mut QuestionBuilder<T>,
+) -> Vec<u8> {
     for number in 0..2000_u16 {
-        let text = format!(in alloc; "h{number}.example.com.")?;
-        builder.push((Name::vec_from_str(alloc, text.as_str())?, Rtype::A))?;
+        let text = format!(in alloc; "h{number}.example.com.").expect(rt, "memory");
+        let name = Name::vec_from_str(alloc, text.as_str()).expect(rt, "a name");
+        push_question(builder, name, Rtype::A).expect(rt, "memory");
     }
-    Ok(Vec::from_slice(alloc, builder.as_slice())?)
+    Vec::from_slice(alloc, builder.as_slice()).expect(rt, "memory")
+}
+
+/// The questions are pushed, taken out and pushed again.
+fn assert_pushed_again<T: Composer>(rt: &impl Abort, alloc: Global, target: T) {
+    let builder = MessageBuilder::from_target(target).expect(rt, "memory");
+    let mut builder = builder.question();
+    let first = push_two_thousand(rt, alloc, &mut builder);
+    builder.rewind();
+    let second = push_two_thousand(rt, alloc, &mut builder);
+    assert_octets(rt, "Two thousand questions", &second, &first);
 }
 
 #[test]
-fn two_thousand_questions_are_pushed_again(rt: HostRuntime) -> Result<(), Fail> {
+fn two_thousand_questions_are_pushed_again(rt: HostRuntime) {
     let alloc = rt.alloc();
     let target = TreeCompressor::new(alloc, Vec::new(alloc));
-    let mut builder = MessageBuilder::from_target(target)?.question();
-    let first = push_two_thousand(alloc, &mut builder)?;
-    builder.rewind();
-    let second = push_two_thousand(alloc, &mut builder)?;
-    assert_eq!(rt; first.as_slice(), second.as_slice());
-    Ok(())
+    assert_pushed_again(&rt, alloc, target);
 }

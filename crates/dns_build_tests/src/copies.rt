@@ -1,4 +1,5 @@
 //! Records that are copied from one message into another.
+use crate::rows::{assert_holds, assert_octets};
 use dns_build::{
     AdditionalBuilder, AnswerBuilder, CopyRecords, CopyRecordsError, MessageBuilder, PushError,
     copy_records,
@@ -6,14 +7,22 @@ use dns_build::{
 use dns_data::{A, Cname, UnknownRecordData};
 use dns_item::{ParsedRecord, Record};
 use dns_read::Message;
-use dns_wire::{Name, ParseError, ParsedName};
+use dns_wire::{Composer, Name, ParseError, ParsedName};
 use std::alloc::Global;
-use std::test::Fail;
+use std::process::Abort;
 
 /// One answer, foo.example.com. 86000 IN CNAME baz.example.com., and one authority record,
 /// bar.example.com. 86000 IN NS baz.example.com.
-const SOURCE: &[u8; 100] =
-    b"\x00\x00\x00\x00\x00\x00\x00\x01\x00\x01\x00\x00\x03foo\x07example\x03com\x00\x00\x05\x00\x01\x00\x01\x4f\xf0\x00\x11\x03baz\x07example\x03com\x00\x03bar\x07example\x03com\x00\x00\x02\x00\x01\x00\x01\x4f\xf0\x00\x11\x03baz\x07example\x03com\x00";
+static SOURCE: [u8; 100] =
+    *b"\x00\x00\x00\x00\x00\x00\x00\x01\x00\x01\x00\x00\x03foo\x07example\x03com\x00\x00\x05\x00\x01\x00\x01\x4f\xf0\x00\x11\x03baz\x07example\x03com\x00\x03bar\x07example\x03com\x00\x00\x02\x00\x01\x00\x01\x4f\xf0\x00\x11\x03baz\x07example\x03com\x00";
+
+/// The answer of `SOURCE` alone.
+static ANSWER: [u8; 56] =
+    *b"\x00\x00\x00\x00\x00\x00\x00\x01\x00\x00\x00\x00\x03foo\x07example\x03com\x00\x00\x05\x00\x01\x00\x01\x4f\xf0\x00\x11\x03baz\x07example\x03com\x00";
+
+/// Two addresses of the root, 203.0.113.1, in the sections of the records of `SOURCE`.
+static ADDRESSES: [u8; 42] =
+    *b"\x00\x00\x00\x00\x00\x00\x00\x01\x00\x01\x00\x00\x00\x00\x01\x00\x01\x00\x00\x0E\x10\x00\x04\xCB\x00\x71\x01\x00\x00\x01\x00\x01\x00\x00\x0E\x10\x00\x04\xCB\x00\x71\x01";
 
 type CnameRecord<'a> = Record<ParsedName<'a>, Cname<ParsedName<'a>>>;
 
@@ -29,61 +38,68 @@ fn keep_any(shown: ParsedRecord<'_>) -> Option<AnyRecord<'_>> {
     shown.into_any_record().ok()
 }
 
-fn answers(alloc: Global) -> Result<AnswerBuilder<Vec<u8>>, Fail> {
-    Ok(MessageBuilder::new_vec(alloc)?.answer())
+/// What is copied into a message over an empty target has these octets.
+fn assert_copied<T: Composer>(
+    rt: &impl Abort,
+    row: &str,
+    copied: Result<AdditionalBuilder<T>, CopyRecordsError>,
+    expected: &[u8],
+) {
+    let copied = copied.expect(rt, row);
+    assert_octets(rt, row, copied.as_slice(), expected);
 }
 
-/// How many records the message has in each of its three sections.
-fn counts(builder: &AdditionalBuilder<Vec<u8>>) -> (u16, u16, u16) {
-    let counts = builder.counts();
-    (counts.ancount(), counts.nscount(), counts.arcount())
+/// A builder at the answers of an empty message.
+fn answers<T: Composer>(rt: &impl Abort, target: T) -> AnswerBuilder<T> {
+    let builder = MessageBuilder::from_target(target).expect(rt, "memory");
+    builder.answer()
 }
 
-#[test]
-fn copies_the_records_of_one_type(rt: HostRuntime) -> Result<(), Fail> {
-    let source = Message::from_slice(SOURCE)?;
-    let copied = copy_records(&source, answers(rt.alloc())?, keep_cname)?;
-    assert_eq!(rt; counts(&copied), (1, 0, 0));
-    assert_eq!(rt; copied.as_slice().get(12..), SOURCE.get(12..56));
-    Ok(())
-}
-
-#[test]
-fn copies_the_records_of_all_types(rt: HostRuntime) -> Result<(), Fail> {
-    let source = Message::from_slice(SOURCE)?;
-    let copied = copy_records(&source, answers(rt.alloc())?, keep_any)?;
-    assert_eq!(rt; copied.as_slice(), SOURCE.as_slice());
-    Ok(())
-}
-
-#[test]
-fn copies_other_records_in_place_of_those_read(rt: HostRuntime) -> Result<(), Fail> {
-    let source = Message::from_slice(SOURCE)?;
-    let copied = source.copy_records(answers(rt.alloc())?, |_shown| {
-        Some((Name::root_slice(), 3600, A::from_octets(203, 0, 113, 1)))
-    })?;
-    assert_eq!(rt; counts(&copied), (1, 1, 0));
-    Ok(())
+/// The records of a message are copied: those that are a CNAME, and all.
+fn assert_copies<T: Composer>(rt: &impl Abort, first: T, second: T) {
+    let source = Message::from_slice(&SOURCE).expect(rt, "a message");
+    let copied = copy_records(&source, answers(rt, first), keep_cname);
+    assert_copied(rt, "Copy records, keeping CNAME", copied, &ANSWER);
+    let copied = copy_records(&source, answers(rt, second), keep_any);
+    assert_copied(rt, "Copy records, keeping both", copied, &SOURCE);
 }
 
 #[test]
-fn an_error_has_the_text_of_its_part(rt: HostRuntime) -> Result<(), Fail> {
+fn copies_the_records_of_a_message(rt: HostRuntime) {
     let alloc = rt.alloc();
-    let parse = CopyRecordsError::from(ParseError::ShortInput);
-    let text = format!(in alloc; "{parse}, {}", ParseError::ShortInput)?;
-    let same = text
-        .split_once(", ")
-        .is_some_and(|(error, part)| error == part);
-    assert!(rt; same);
-    let texts = [
+    assert_copies(&rt, Vec::new(alloc), Vec::new(alloc));
+}
+
+/// An address is pushed in place of each record of a message.
+fn assert_addresses<T: Composer>(rt: &impl Abort, target: T) {
+    let source = Message::from_slice(&SOURCE).expect(rt, "a message");
+    let copied = source.copy_records(answers(rt, target), |_shown| {
+        Some((Name::root_slice(), 3600, A::from_octets(203, 0, 113, 1)))
+    });
+    assert_copied(rt, "an address in place of each record", copied, &ADDRESSES);
+}
+
+#[test]
+fn copies_other_records_in_place_of_those_read(rt: HostRuntime) {
+    assert_addresses(&rt, Vec::new(rt.alloc()));
+}
+
+/// An error prints as this text.
+fn assert_text(rt: &impl Abort, alloc: Global, error: CopyRecordsError, text: &str) {
+    let shown = format!(in alloc; "{error}").expect(rt, "memory");
+    assert_holds(rt, text, shown.as_str() == text);
+}
+
+#[test]
+fn an_error_has_the_text_of_its_part(rt: HostRuntime) {
+    let unread = CopyRecordsError::from(ParseError::ShortInput);
+    assert_text(&rt, rt.alloc(), unread, "unexpected end of input");
+    for (error, text) in [
         (PushError::LimitExceeded, "limit exceeded"),
         (PushError::CountOverflow, "counter overflow"),
         (PushError::ShortBuf, "buffer size exceeded"),
         (PushError::OutOfMemory, "out of memory"),
-    ];
-    for (error, text) in texts {
-        let push = CopyRecordsError::from(error);
-        assert_eq!(rt; format!(in alloc; "{push}")?.as_str(), text);
+    ] {
+        assert_text(&rt, rt.alloc(), CopyRecordsError::from(error), text);
     }
-    Ok(())
 }

@@ -1,54 +1,105 @@
 //! OPT records that are pushed (RFC 6891 section 6.1).
+use crate::rows::{assert_holds, assert_octets};
 use dns_build::{AdditionalBuilder, MessageBuilder, OptBuilder, PushError};
 use dns_code::{Class, OptRcode, OptionCode, Rcode};
 use dns_data::{Opt, UnknownOptData};
 use dns_item::{OptRecord, Record, Ttl};
 use dns_target::StreamTarget;
-use dns_wire::{AppendError, Name};
+use dns_wire::{AppendError, Composer, Name};
 use std::alloc::Global;
 use std::process::Abort;
-use std::test::Fail;
 
-fn additional(alloc: Global) -> Result<AdditionalBuilder<Vec<u8>>, AppendError> {
-    Ok(MessageBuilder::new_vec(alloc)?.additional())
+/// A builder of the additional section, which is empty as those before it.
+fn additional<T: Composer>(rt: &impl Abort, target: T) -> AdditionalBuilder<T> {
+    let builder = MessageBuilder::from_target(target).expect(rt, "room for the header");
+    builder.additional()
 }
 
-/// The root, type 41, class 4096, TTL 0, and one option of code 3.
-const ONE_OPTION: &[u8] = b"\x00\x00\x29\x10\x00\x00\x00\x00\x00\x00\x0b\x00\x03\x00\x07example";
+/// The record that a closure gathers is pushed. The message then has these octets behind its first ones.
+fn assert_pushed<T: Composer, F: FnOnce(&mut OptBuilder) -> Result<(), AppendError>>(
+    rt: &impl Abort,
+    alloc: Global,
+    row: &str,
+    target: T,
+    gather: F,
+    first: usize,
+    expected: &[u8],
+)
+    requires { F.IsAlwaysCallable gather }
+{
+    let mut builder = additional(rt, target);
+    builder.opt(alloc, gather).expect(rt, row);
+    let octets = builder.as_slice().get(first..).unwrap_or(b"");
+    assert_octets(rt, row, octets, expected);
+}
+
+/// The record that a closure gathers is refused for want of room, and the message stays empty.
+fn assert_refused<T: Composer, F: FnOnce(&mut OptBuilder) -> Result<(), AppendError>>(
+    rt: &impl Abort,
+    alloc: Global,
+    row: &str,
+    target: T,
+    gather: F,
+) -> T
+    requires { F.IsAlwaysCallable gather }
+{
+    let mut builder = additional(rt, target);
+    let refused = builder.opt(alloc, gather).err();
+    assert_holds(rt, row, matches!(refused, Some(PushError::ShortBuf)));
+    assert_octets(rt, row, builder.as_slice(), &[0; 12]);
+    builder.finish()
+}
+
+/// One record: the root, type 41, class 4096, TTL 0, and one option of code 3.
+static ONE_OPTION: [u8; 34] =
+    *b"\x00\x00\x00\x00\x00\x00\x00\x00\x00\x00\x00\x01\x00\x00\x29\x10\x00\x00\x00\x00\x00\x00\x0b\x00\x03\x00\x07example";
 
 #[test]
-fn pushes_one_option(rt: HostRuntime) -> Result<(), Fail> {
-    let mut builder = additional(rt.alloc())?;
-    builder.opt(rt.alloc(), |opt| {
+fn pushes_one_option(rt: HostRuntime) {
+    let alloc = rt.alloc();
+    let gather = |opt: &mut OptBuilder| {
         opt.set_udp_payload_size(4096);
         opt.push_raw_option(OptionCode::from_int(3), b"example")
-    })?;
-    assert_eq!(rt; &builder.as_slice()[12..], ONE_OPTION);
-    Ok(())
+    };
+    assert_pushed(
+        &rt,
+        alloc,
+        "OPT with one option",
+        Vec::new(alloc),
+        gather,
+        0,
+        &ONE_OPTION,
+    );
 }
 
 #[test]
-fn pushes_one_typed_option(rt: HostRuntime) -> Result<(), Fail> {
-    let option = UnknownOptData::new(OptionCode::from_int(3), b"example".as_slice())?;
-    let mut builder = additional(rt.alloc())?;
-    builder.opt(rt.alloc(), |opt| {
+fn pushes_one_typed_option(rt: HostRuntime) {
+    let alloc = rt.alloc();
+    let option = UnknownOptData::new(OptionCode::from_int(3), b"example".as_slice());
+    let option = option.expect(&rt, "an option");
+    let gather = |opt: &mut OptBuilder| {
         opt.set_udp_payload_size(4096);
         opt.push(&option)
-    })?;
-    assert_eq!(rt; &builder.as_slice()[12..], ONE_OPTION);
-    Ok(())
+    };
+    assert_pushed(
+        &rt,
+        alloc,
+        "OPT with one option",
+        Vec::new(alloc),
+        gather,
+        0,
+        &ONE_OPTION,
+    );
 }
 
 #[test]
-fn answers_what_the_closure_answers(rt: HostRuntime) -> Result<(), Fail> {
-    let mut builder = additional(rt.alloc())?;
-    let refused = builder.opt(rt.alloc(), |opt| {
+fn answers_what_the_closure_answers(rt: HostRuntime) {
+    let alloc = rt.alloc();
+    let gather = |opt: &mut OptBuilder| {
         opt.set_rcode(OptRcode::from(Rcode::NXDOMAIN));
         Err(AppendError::ShortBuf)
-    });
-    let is_short = matches!(refused, Err(PushError::ShortBuf));
-    assert_eq!(rt; (is_short, builder.as_slice()), (true, [0; 12].as_slice()));
-    Ok(())
+    };
+    assert_refused(&rt, alloc, "Closure that errs", Vec::new(alloc), gather);
 }
 
 /// Options of 65,535 octets, and one more, whose refusal is dropped.
@@ -61,78 +112,93 @@ fn fill(opt: &mut OptBuilder, octets: &[u8]) -> Result<(), AppendError> {
 }
 
 /// The most octets that data has without its option's code and length.
-fn most_octets(alloc: Global) -> Result<Vec<u8>, Fail> {
-    let mut octets = Vec::new(alloc);
-    octets.resize(65_531, 0)?;
-    Ok(octets)
+fn most_octets(rt: &impl Abort, alloc: Global) -> Vec<u8> {
+    vec![in alloc; 0; 65_531].expect(rt, "memory")
 }
 
-#[test]
-fn pushes_the_most_options(rt: HostRuntime) -> Result<(), Fail> {
-    let octets = most_octets(rt.alloc())?;
-    let mut builder = additional(rt.alloc())?;
-    builder.opt(rt.alloc(), |opt| fill(opt, &octets))?;
-    assert_eq!(rt; builder.as_slice().len(), 65_558);
+/// A message of so many octets has an OPT record with one option.
+fn assert_one_option<T: Composer>(rt: &impl Abort, builder: &AdditionalBuilder<T>, len: usize) {
+    assert_holds(rt, "Most options", builder.as_slice().len() == len);
     let message = builder.as_message();
-    let opt = message.opt().ok_or("no record")?;
+    let opt = message.opt().expect(rt, "Most options");
     let mut options = opt.opt().iter();
-    assert!(rt; options.next().is_some());
-    assert!(rt; options.next().is_none());
-    Ok(())
+    let is_one = options.next().is_some() && options.next().is_none();
+    assert_holds(rt, "Most options", is_one);
 }
 
 #[test]
-fn refuses_the_most_options_in_a_stream(rt: HostRuntime) -> Result<(), Fail> {
-    let octets = most_octets(rt.alloc())?;
-    let mut stream = MessageBuilder::new_stream_vec(rt.alloc())?.additional();
-    let refused = stream.opt(rt.alloc(), |opt| fill(opt, &octets));
-    assert!(rt; matches!(refused, Err(PushError::ShortBuf)));
-    let target: StreamTarget<Vec<u8>> = stream.finish();
-    assert_eq!(rt;
-        target.as_stream_slice(),
-        b"\x00\x0c\x00\x00\x00\x00\x00\x00\x00\x00\x00\x00\x00\x00".as_slice()
-    );
-    Ok(())
+fn pushes_the_most_options(rt: HostRuntime) {
+    let octets = most_octets(&rt, rt.alloc());
+    let mut builder = additional(&rt, Vec::new(rt.alloc()));
+    let pushed = builder.opt(rt.alloc(), |opt| fill(opt, &octets));
+    pushed.expect(&rt, "memory");
+    assert_one_option(&rt, &builder, 65_558);
+}
+
+#[test]
+fn refuses_the_most_options_in_a_stream(rt: HostRuntime) {
+    let row = "Most options on a stream";
+    let alloc = rt.alloc();
+    let octets = most_octets(&rt, alloc);
+    let target = StreamTarget::new_vec(alloc).expect(&rt, "memory");
+    let gather = |opt: &mut OptBuilder| fill(opt, &octets);
+    let target = assert_refused(&rt, alloc, row, target, gather);
+    let empty = b"\x00\x0c\x00\x00\x00\x00\x00\x00\x00\x00\x00\x00\x00\x00";
+    assert_octets(&rt, row, target.as_stream_slice(), empty);
 }
 
 /// An OPT record for payloads of 512 octets, with DO, one bit of Z and one option.
-fn opt_record() -> Result<OptRecord<&'static [u8]>, Fail> {
-    let data = Opt::from_octets(b"\x00\x03\x00\x01a".as_slice())?;
+fn opt_record(rt: &impl Abort) -> OptRecord<&'static [u8]> {
+    let data = Opt::from_octets(b"\x00\x03\x00\x01a".as_slice()).expect(rt, "options");
     let ttl = Ttl::from_secs(0x8001);
-    Ok(OptRecord::from(Record::new(Name::root_slice(), Class::from_int(512), ttl, data)))
+    OptRecord::from(Record::new(Name::root_slice(), Class::from_int(512), ttl, data))
 }
 
+/// The rcode 3 in the header, and the record with the upper bits of the rcode 19.
+static CLONED: [u8; 28] =
+    *b"\x00\x00\x00\x03\x00\x00\x00\x00\x00\x00\x00\x01\x00\x00\x29\x02\x00\x00\x00\x80\x01\x00\x05\x00\x03\x00\x01a";
+
 #[test]
-fn takes_the_fields_of_a_record(rt: HostRuntime) -> Result<(), Fail> {
-    let record = opt_record()?;
-    let rcode = OptRcode::checked_from_int(19).ok_or("no rcode")?;
-    let mut builder = additional(rt.alloc())?;
-    builder.opt(rt.alloc(), |opt| {
+fn takes_the_fields_of_a_record(rt: HostRuntime) {
+    let alloc = rt.alloc();
+    let record = opt_record(&rt);
+    let rcode = OptRcode::checked_from_int(19).expect(&rt, "an rcode");
+    let gather = |opt: &mut OptBuilder| {
         opt.set_rcode(rcode);
         opt.push_raw_option(OptionCode::from_int(10), b"dropped")?;
         opt.clone_from(&record)
-    })?;
-    assert_eq!(rt; builder.header().rcode(), Rcode::NXDOMAIN);
-    assert_eq!(rt;
-        &builder.as_slice()[12..],
-        b"\x00\x00\x29\x02\x00\x00\x00\x80\x01\x00\x05\x00\x03\x00\x01a".as_slice()
+    };
+    assert_pushed(
+        &rt,
+        alloc,
+        "Clone from a record",
+        Vec::new(alloc),
+        gather,
+        0,
+        &CLONED,
     );
-    Ok(())
 }
 
+/// The options of NSID, of the algorithms 8 and 13, EXPIRE and a timeout of 30 seconds.
+static KNOWN: [u8; 20] =
+    *b"\x00\x03\x00\x00\x00\x05\x00\x02\x08\x0d\x00\x09\x00\x00\x00\x0b\x00\x02\x01\x2c";
+
 #[test]
-fn pushes_known_options(rt: HostRuntime) -> Result<(), Fail> {
-    let mut builder = additional(rt.alloc())?;
-    builder.opt(rt.alloc(), |opt| {
+fn pushes_known_options(rt: HostRuntime) {
+    let alloc = rt.alloc();
+    let gather = |opt: &mut OptBuilder| {
         opt.client_nsid()?;
         opt.dau(&[8, 13])?;
         opt.expire(None)?;
         opt.tcp_keepalive(Some(300))
-    })?;
-    assert_eq!(rt; builder.as_slice().len(), 43);
-    assert_eq!(rt;
-        &builder.as_slice()[23..],
-        b"\x00\x03\x00\x00\x00\x05\x00\x02\x08\x0d\x00\x09\x00\x00\x00\x0b\x00\x02\x01\x2c".as_slice()
+    };
+    assert_pushed(
+        &rt,
+        alloc,
+        "Several known options",
+        Vec::new(alloc),
+        gather,
+        23,
+        &KNOWN,
     );
-    Ok(())
 }

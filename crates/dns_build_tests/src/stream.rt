@@ -1,173 +1,195 @@
 //! Messages that are built behind their length, as they go over a stream.
-use crate::rows::{Call, DONE, EXAMPLE_COM, ROOT, Row, SHORT, Step, asked, built, take_step};
+use crate::rows::Answer::{Done, ShortBuf};
+use crate::rows::{
+    Ask, Call, EMPTY, EXAMPLE_COM, ROOT, Row, assert_holds, assert_octets, name, run_on,
+};
 use arrayvec::ArrayVec;
-use dns_build::{Builder, BuilderStage, MessageBuilder};
+use dns_build::MessageBuilder;
 use dns_code::{Class, Rtype};
 use dns_data::{A, Ns};
-use dns_item::Record;
+use dns_item::{Question, Record};
 use dns_read::{Message, RecordIter};
 use dns_target::{StaticCompressor, StreamTarget};
-use dns_wire::{AppendError, Composer, Name, ParsedName, ToNameExt};
+use dns_wire::{Composer, ParsedName, ToName, ToNameExt};
 use std::alloc::Global;
 use std::process::Abort;
-use std::test::Fail;
 
-#[test]
-fn has_no_room_for_the_header(rt: HostRuntime) -> Result<(), Fail> {
-    let target = StreamTarget::new(ArrayVec::<u8, 13>::new())?;
-    assert!(rt;
-        matches!(
-            MessageBuilder::from_target(target),
-            Err(AppendError::ShortBuf)
-        )
-    );
-    Ok(())
+/// A message begins behind this length.
+fn assert_prefix<T: Composer>(rt: &impl Abort, row: &str, target: &StreamTarget<T>, prefix: &[u8]) {
+    let length = target.as_stream_slice().get(..2).unwrap_or(b"");
+    assert_octets(rt, row, length, prefix);
 }
 
-/// The octets of the length before the message.
-fn prefix<T: Composer, S: BuilderStage>(builder: &Builder<StreamTarget<T>, S>) -> Option<[u8; 2]> {
-    let octets = builder.as_target().as_stream_slice();
-    octets.first_chunk::<2>().copied()
+/// Makes the calls of a row, whose message is then behind this length.
+fn run_behind<T: Composer>(
+    rt: &impl Abort,
+    alloc: Global,
+    builder: MessageBuilder<StreamTarget<T>>,
+    row: &Row,
+    prefix: &[u8],
+) {
+    let target = run_on(rt, alloc, builder, row);
+    assert_prefix(rt, row.name, &target, prefix);
 }
 
 /// Two questions for the root, of which one has room.
-const TWO_QUESTIONS: &[Step] = &[
-    (Call::Question(ROOT), DONE, 17, b""),
-    (Call::Question(ROOT), SHORT, 17, b""),
-];
-
-#[test]
-fn fills_an_array(rt: HostRuntime) -> Result<(), Fail> {
-    let target = StreamTarget::new(ArrayVec::<u8, 20>::new())?;
-    let builder = asked(&rt, target, TWO_QUESTIONS)?;
-    assert_eq!(rt;
-        (prefix(&builder), builder.counts().qdcount()),
-        (Some([0, 17]), 1)
-    );
-    Ok(())
-}
-
-/// A message has at most 65,535 octets.
-fn assert_full(
-    rt: &impl Abort,
-    alloc: Global,
-    builder: MessageBuilder<StreamTarget<Vec<u8>>>,
-) -> Result<(), Fail> {
-    let mut builder = builder.answer();
-    take_step(
-        rt,
-        alloc,
-        &mut builder,
-        &(Call::Opaque(ROOT, 65_513), SHORT, 12, b""),
-    )?;
-    let before = prefix(&builder);
-    take_step(
-        rt,
-        alloc,
-        &mut builder,
-        &(Call::Opaque(ROOT, 65_512), DONE, 65_535, b""),
-    )?;
-    assert_eq!(rt;
-        (before, prefix(&builder)),
-        (Some([0, 12]), Some([0xFF, 0xFF]))
-    );
-    Ok(())
-}
-
-#[test]
-fn fills_a_message(rt: HostRuntime) -> Result<(), Fail> {
-    let alloc = rt.alloc();
-    assert_full(&rt, alloc, MessageBuilder::new_stream_vec(alloc)?)?;
-    let target = StreamTarget::new_vec(alloc)?;
-    assert_full(&rt, alloc, MessageBuilder::from_target(target)?)
-}
-
-/// A message of example.com with a record in each section, over a static compressor over a stream.
-const MESSAGE: &[u8; 91] =
-    b"\x00\x00\x01\x00\x00\x01\x00\x02\x00\x01\x00\x01\x07example\x03com\x00\x00\x01\x00\x01\xC0\x0C\x00\x01\x00\x01\x00\x01\x51\x80\x00\x04\xC0\x00\x02\x01\xC0\x0C\x00\x01\x00\x01\x00\x01\x51\x80\x00\x04\xC0\x00\x02\x02\xC0\x0C\x00\x02\x00\x01\x00\x00\x00\x00\x00\x02\xC0\x0C\xC0\x0C\x00\x01\x00\x01\x00\x01\x51\x80\x00\x04\xC0\x00\x02\x01";
-
-/// The calls that give `MESSAGE`.
-const CALLS: Row = Row {
+static FULL_ARRAY: Row = Row {
+    name: "Full stream target of fixed size",
     questions: &[
-        (Call::Header([0, 0, 1, 0]), DONE, 12, b""),
-        (Call::Question(EXAMPLE_COM), DONE, 29, EXAMPLE_COM),
+        (Ask::Question(ROOT), Done, 17, b""),
+        (Ask::Question(ROOT), ShortBuf, 17, b""),
     ],
-    answers: &[
-        (Call::Day(EXAMPLE_COM, 1), DONE, 45, b"\xC0\x0C"),
-        (Call::Day(EXAMPLE_COM, 2), DONE, 61, b"\xC0\x0C"),
-    ],
-    authorities: &[(
-        Call::Server(EXAMPLE_COM, 0, EXAMPLE_COM),
-        DONE,
-        75,
-        b"\xC0\x0C",
-    )],
-    additionals: &[(Call::Day(EXAMPLE_COM, 1), DONE, 91, b"\xC0\x0C")],
-    start: b"",
+    start: b"\x00\x00\x00\x00\x00\x01\x00\x00\x00\x00\x00\x00",
+    ..EMPTY
 };
 
 #[test]
-fn compresses_behind_the_length(rt: HostRuntime) -> Result<(), Fail> {
-    let target = StaticCompressor::new(StreamTarget::new_vec(rt.alloc())?);
-    let target = built(&rt, rt.alloc(), target, &CALLS)?
-        .finish()
-        .into_target();
-    assert_eq!(rt; target.as_dgram_slice(), MESSAGE.as_slice());
-    let stream = target.as_stream_slice();
-    assert_eq!(rt;
-        (stream.get(..2), stream.len()),
-        (Some(b"\x00\x5B".as_slice()), 93)
-    );
-    Ok(())
+fn fills_an_array(rt: HostRuntime) {
+    let target = StreamTarget::new(ArrayVec::<u8, 20>::new()).expect(&rt, "room");
+    let builder = MessageBuilder::from_target(target).expect(&rt, "room");
+    run_behind(&rt, rt.alloc(), builder, &FULL_ARRAY, b"\x00\x11");
 }
 
-/// Whether the record is this address of example.com, which may be kept for a day.
-fn is_address(record: Record<ParsedName<'_>, A>, address: [u8; 4]) -> Result<bool, Fail> {
-    let name = Name::from_octets(EXAMPLE_COM)?;
-    Ok(
-        record.owner().octets_eq(&name)
-            && record.class() == Class::IN
-            && record.ttl().as_secs() == 86_400
-            && record.data().octets() == address,
-    )
-}
+/// A record that makes the message longer than 65,535 octets.
+static TOO_LONG: Row = Row {
+    name: "Full stream message, refused",
+    answers: &[(Call::Opaque(ROOT, 65_513), ShortBuf, 12, b"")],
+    start: &[0; 12],
+    ..EMPTY
+};
 
-/// The iterator gives these addresses.
-fn assert_addresses(
-    rt: &impl Abort,
-    mut records: RecordIter<'_, A>,
-    addresses: &[[u8; 4]],
-) -> Result<(), Fail> {
-    for address in addresses {
-        let record = records.next().ok_or("record")??;
-        assert!(rt; is_address(record, *address)?);
+/// As `TOO_LONG`, then a record that makes it as long.
+static FULL: Row = Row {
+    name: "Full stream message",
+    answers: &[
+        (Call::Opaque(ROOT, 65_513), ShortBuf, 12, b""),
+        (Call::Opaque(ROOT, 65_512), Done, 65_535, b""),
+    ],
+    start: b"\x00\x00\x00\x00\x00\x00\x00\x01\x00\x00\x00\x00",
+    ..EMPTY
+};
+
+#[test]
+fn fills_a_message(rt: HostRuntime) {
+    let alloc = rt.alloc();
+    for (row, prefix) in [(&TOO_LONG, b"\x00\x0C"), (&FULL, b"\xFF\xFF")] {
+        let builder = MessageBuilder::new_stream_vec(alloc).expect(&rt, "memory");
+        run_behind(&rt, alloc, builder, row, prefix);
+        let target = StreamTarget::new_vec(alloc).expect(&rt, "memory");
+        let builder = MessageBuilder::from_target(target).expect(&rt, "memory");
+        run_behind(&rt, alloc, builder, row, prefix);
     }
-    assert!(rt; records.next().is_none());
-    Ok(())
+}
+
+/// A message of example.com with a record in each section, over a static compressor over a stream.
+static MESSAGE: [u8; 91] =
+    *b"\x00\x00\x01\x00\x00\x01\x00\x02\x00\x01\x00\x01\x07example\x03com\x00\x00\x01\x00\x01\xC0\x0C\x00\x01\x00\x01\x00\x01\x51\x80\x00\x04\xC0\x00\x02\x01\xC0\x0C\x00\x01\x00\x01\x00\x01\x51\x80\x00\x04\xC0\x00\x02\x02\xC0\x0C\x00\x02\x00\x01\x00\x00\x00\x00\x00\x02\xC0\x0C\xC0\x0C\x00\x01\x00\x01\x00\x01\x51\x80\x00\x04\xC0\x00\x02\x01";
+
+/// The calls that give `MESSAGE`.
+static CALLS: Row = Row {
+    name: "Static compressor over a stream",
+    questions: &[
+        (Ask::Header([0, 0, 1, 0]), Done, 12, b""),
+        (Ask::Question(EXAMPLE_COM), Done, 29, EXAMPLE_COM),
+    ],
+    answers: &[
+        (Call::Day(EXAMPLE_COM, 1), Done, 45, b"\xC0\x0C"),
+        (Call::Day(EXAMPLE_COM, 2), Done, 61, b"\xC0\x0C"),
+    ],
+    authorities: &[(
+        Call::Server(EXAMPLE_COM, 0, EXAMPLE_COM),
+        Done,
+        75,
+        b"\xC0\x0C",
+    )],
+    additionals: &[(Call::Day(EXAMPLE_COM, 1), Done, 91, b"\xC0\x0C")],
+    start: b"\x00\x00\x01\x00\x00\x01\x00\x02\x00\x01\x00\x01",
+};
+
+/// The message and its length are those of the row.
+fn assert_message<T: Composer>(rt: &impl Abort, target: &StreamTarget<T>) {
+    assert_octets(rt, CALLS.name, target.as_dgram_slice(), &MESSAGE);
+    assert_prefix(rt, CALLS.name, target, b"\x00\x5B");
+    assert_holds(rt, CALLS.name, target.as_stream_slice().len() == 93);
 }
 
 #[test]
-fn reads_the_addresses_back(rt: HostRuntime) -> Result<(), Fail> {
-    let message = Message::from_slice(MESSAGE)?;
+fn compresses_behind_the_length(rt: HostRuntime) {
+    let target = StreamTarget::new_vec(rt.alloc()).expect(&rt, "memory");
+    let target = StaticCompressor::new(target);
+    let builder = MessageBuilder::from_target(target).expect(&rt, "memory");
+    let target = run_on(&rt, rt.alloc(), builder, &CALLS);
+    assert_message(&rt, target.as_target());
+}
+
+/// The name is example.com., and the class IN.
+fn assert_example_com<N: ToName>(rt: &impl Abort, found: &N, class: Class) {
+    let is_it = found.octets_eq(&name(rt, EXAMPLE_COM)) && class == Class::IN;
+    assert_holds(rt, CALLS.name, is_it);
+}
+
+/// A record is an address of example.com, which may be kept for a day.
+fn assert_address(rt: &impl Abort, record: &Record<ParsedName<'_>, A>, address: [u8; 4]) {
+    assert_example_com(rt, record.owner(), record.class());
+    let is_it = record.ttl().as_secs() == 86_400 && record.data().octets() == address;
+    assert_holds(rt, CALLS.name, is_it);
+}
+
+/// The records are these addresses of example.com.
+fn assert_addresses(rt: &impl Abort, mut records: RecordIter<'_, A>, addresses: &[[u8; 4]]) {
+    for address in addresses {
+        let record = records
+            .next()
+            .expect(rt, "a record")
+            .expect(rt, "an address");
+        assert_address(rt, &record, *address);
+    }
+    assert_holds(rt, CALLS.name, records.next().is_none());
+}
+
+#[test]
+fn reads_the_addresses_back(rt: HostRuntime) {
+    let message = Message::from_slice(&MESSAGE).expect(&rt, "a message");
     let addresses = [[192, 0, 2, 1], [192, 0, 2, 2]];
-    assert_addresses(&rt, message.answer()?.limit_to(), &addresses)?;
-    assert_addresses(&rt, message.additional()?.limit_to(), &addresses[..1])
+    let records = message.answer().expect(&rt, "answers").limit_to();
+    assert_addresses(&rt, records, &addresses);
+    let records = message
+        .additional()
+        .expect(&rt, "additional records")
+        .limit_to();
+    assert_addresses(&rt, records, &addresses[..1]);
+}
+
+/// The question is that for the addresses of example.com.
+fn assert_question(rt: &impl Abort, question: &Question<ParsedName<'_>>) {
+    assert_example_com(rt, question.qname(), question.qclass());
+    assert_holds(rt, CALLS.name, question.qtype() == Rtype::A);
+}
+
+/// A record is the server of example.com, which may not be kept.
+fn assert_server(rt: &impl Abort, record: &Record<ParsedName<'_>, Ns<ParsedName<'_>>>) {
+    assert_example_com(rt, record.owner(), record.class());
+    assert_example_com(rt, record.data().nsdname(), record.class());
+    assert_holds(rt, CALLS.name, record.ttl().as_secs() == 0);
 }
 
 #[test]
-fn reads_the_question_and_the_server_back(rt: HostRuntime) -> Result<(), Fail> {
-    let message = Message::from_slice(MESSAGE)?;
-    let name = Name::from_octets(EXAMPLE_COM)?;
-    let question = message.first_question().ok_or("question")?;
-    assert!(rt; question.qname().octets_eq(&name));
-    assert_eq!(rt;
-        (question.qtype(), question.qclass()),
-        (Rtype::A, Class::IN)
-    );
-    let mut servers = message.authority()?.limit_to::<Ns<_>>();
-    let server = servers.next().ok_or("server")??;
-    assert_eq!(rt; (server.class(), server.ttl().as_secs()), (Class::IN, 0));
-    assert!(rt; server.owner().octets_eq(&name) && server.data().nsdname().octets_eq(&name));
-    assert!(rt; servers.next().is_none());
-    Ok(())
+fn reads_the_question_back(rt: HostRuntime) {
+    let message = Message::from_slice(&MESSAGE).expect(&rt, "a message");
+    assert_question(&rt, &message.first_question().expect(&rt, "a question"));
+}
+
+#[test]
+fn reads_the_server_back(rt: HostRuntime) {
+    let message = Message::from_slice(&MESSAGE).expect(&rt, "a message");
+    let mut servers = message
+        .authority()
+        .expect(&rt, "servers")
+        .limit_to::<Ns<_>>();
+    let server = servers
+        .next()
+        .expect(&rt, "a record")
+        .expect(&rt, "a server");
+    assert_server(&rt, &server);
+    assert_holds(&rt, CALLS.name, servers.next().is_none());
 }

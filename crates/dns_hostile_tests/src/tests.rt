@@ -1,8 +1,6 @@
-mod copies;
-mod cursors;
+mod buffer;
 mod data;
 mod given;
-mod headers;
 mod hostile;
 mod octets;
 mod plain;

@@ -17,7 +17,7 @@ ghost use Rattle.dns_tests.specs.Callers.{IsShortMessage, StandsFirst, AreAnswer
 
 use dns_message::builder::laws::{opts_read_back, rcode_is_set};
 use dns_message::builder::{MessageBuilder, OptBuilder, PushError};
-use dns_message::code::{Class, OptRcode, OptionCode, Rtype};
+use dns_message::code::{OptRcode, OptionCode, Rtype};
 use dns_message::data::{A, ParseRecordData, UnknownRecordData};
 use dns_message::header::Header;
 use dns_message::message::{Message, RecordIter, Section};
@@ -49,9 +49,7 @@ fn replies_with_the_id(rt: HostRuntime) {
     query.set_id(0x1234);
     query.set_rd(true);
     let reply = reply_header(query);
-    assert_eq!(rt; reply.id(), 0x1234);
-    assert!(rt; reply.rd());
-    assert!(rt; reply.qr());
+    assert!(rt; reply.id() == 0x1234 && reply.rd() && reply.qr());
 }
 
 /// Octets as the data of a record, if a record can have so many.
@@ -63,9 +61,8 @@ fn opaque(rtype: Rtype, octets: &[u8]) -> Option<UnknownRecordData<&[u8]>>
 
 #[test]
 fn takes_opaque_data(rt: HostRuntime) -> Result<(), Fail> {
-    assert!(rt; opaque(Rtype::TXT, b"\x01a").is_some());
     let long = vec![in rt.alloc(); 0; 65536]?;
-    assert!(rt; opaque(Rtype::TXT, &long).is_none());
+    assert!(rt; opaque(Rtype::TXT, &long).is_none() && opaque(Rtype::TXT, b"\x01a").is_some());
     Ok(())
 }
 
@@ -78,9 +75,10 @@ fn kept_for(ttl: Ttl, least: Ttl) -> Ttl
 
 #[test]
 fn keeps_for_a_week(rt: HostRuntime) {
-    let minute = Ttl::from_secs(60);
-    assert_eq!(rt; kept_for(Ttl::from_secs(5), minute), minute);
-    assert_eq!(rt; kept_for(Ttl::MAX, minute), Ttl::CAP);
+    let minute = Ttl::MINUTE;
+    assert!(rt;
+        kept_for(Ttl::from_secs(5), minute) == minute && kept_for(Ttl::MAX, minute) == Ttl::CAP
+    );
 }
 
 /// Where the answers of a message begin, if each question can be skipped.
@@ -97,7 +95,7 @@ fn answers_start<Octs: Octets>(message: &Message<Octs>) -> Option<usize>
 fn finds_the_answers(rt: HostRuntime) -> Result<(), Fail> {
     let octets = b"\x00\x00\x00\x00\x00\x01\x00\x00\x00\x00\x00\x00\x01a\x00\x00\x01\x00\x01";
     let message = Message::from_octets(octets.as_slice())?;
-    assert_eq!(rt; answers_start(&message), Some(19));
+    assert!(rt; answers_start(&message) == Some(19));
     Ok(())
 }
 
@@ -121,7 +119,7 @@ fn reads_the_first_answer(rt: HostRuntime) -> Result<(), Fail> {
         b"\x00\x00\x81\xA0\x00\x00\x00\x01\x00\x00\x00\x00\x01a\x00\x00\x01\x00\x01\x00\x00\x0E\x10\x00\x04\xCB\x00\x71\x01";
     let message = Message::from_octets(octets.as_slice())?;
     let address = first_answer::<_, A>(&message).ok_or("address")?;
-    assert_eq!(rt; address.data().octets(), [203, 0, 113, 1]);
+    assert!(rt; address.data().octets() == [203, 0, 113, 1]);
     Ok(())
 }
 
@@ -163,8 +161,7 @@ fn collects_the_addresses(rt: HostRuntime) -> Result<(), Fail> {
         b"\x00\x00\x81\xA0\x00\x00\x00\x01\x00\x00\x00\x00\x01a\x00\x00\x01\x00\x01\x00\x00\x0E\x10\x00\x04\xCB\x00\x71\x01";
     let message = Message::from_octets(octets.as_slice())?;
     let addresses = data_of_answers::<_, A>(rt.alloc(), &message).ok_or("addresses")?;
-    assert_eq!(rt; addresses.len(), 1);
-    assert_eq!(rt; addresses[0].octets(), [203, 0, 113, 1]);
+    assert!(rt; addresses.len() == 1 && addresses[0].octets() == [203, 0, 113, 1]);
     Ok(())
 }
 
@@ -197,12 +194,9 @@ fn knows_the_sections(rt: HostRuntime) -> Result<(), Fail> {
     let octets =
         b"\x00\x00\x81\xA0\x00\x00\x00\x01\x00\x00\x00\x01\x00\x00\x01\x00\x01\x00\x00\x00\x00\x00\x04\xCB\x00\x71\x01\x00\x00\x02\x00\x01\x00\x00\x00\x00\x00\x01\x00";
     let message = Message::from_octets(octets.as_slice())?;
-    assert!(rt; has_address(&message));
     let sections = sections_of(rt.alloc(), &message)?;
-    assert_eq!(rt;
-        sections.as_slice(),
-        [Section::Answer, Section::Additional].as_slice()
-    );
+    let expected = [Section::Answer, Section::Additional];
+    assert!(rt; has_address(&message) && sections.as_slice() == expected.as_slice());
     Ok(())
 }
 
@@ -227,20 +221,14 @@ fn compressed<Q: ComposeQuestion, R: ComposeRecord>(
 #[test]
 fn spells_a_name_once(rt: HostRuntime) -> Result<(), Fail> {
     let name = Name::from_octets(*b"\x07example\x03com\x00")?;
-    let record = (
-        name,
-        Class::IN,
-        Ttl::from_secs(0),
-        opaque(Rtype::TXT, b"").ok_or("long")?,
-    );
     let calls = [
         Call::ToQuestion,
-        Call::PushQuestion((name, Rtype::TXT)),
+        Call::PushQuestion((name, Rtype::A)),
         Call::ToAnswer,
-        Call::PushRecord(record),
+        Call::PushRecord((name, 3600, A::from_octets(203, 0, 113, 1))),
     ];
     let stage = compressed(rt.alloc(), &calls).ok_or("memory")?;
-    assert_eq!(rt; stage.as_slice().len(), 12 + 13 + 4 + 2 + 10);
+    assert!(rt; stage.as_slice().len() == 12 + 13 + 4 + 2 + 10 + 4);
     Ok(())
 }
 
@@ -270,12 +258,9 @@ fn reads_what_was_gathered(rt: HostRuntime) -> Result<(), Fail> {
         opt.push_raw_option(OptionCode::from_int(3), b"")
     })?;
     let opt = message.opt().ok_or("no record")?;
-    assert_eq!(rt; opt.udp_payload_size(), 1232);
-    assert_eq!(rt; message.opt_rcode().to_int(), 23);
-    assert_eq!(rt; opt.version(), 0);
-    assert!(rt; opt.dnssec_ok());
+    assert!(rt; message.opt_rcode() == rcode && opt.udp_payload_size() == 1232);
+    assert!(rt; opt.version() == 0 && opt.dnssec_ok());
     let mut options = opt.opt().iter();
-    assert!(rt; options.next().is_some());
-    assert!(rt; options.next().is_none());
+    assert!(rt; options.next().is_some() && options.next().is_none());
     Ok(())
 }

@@ -1,4 +1,5 @@
-//! Input that comes in parts or fails, and output that fails: `dnsmsg` then ends with status 3, and says so where it can.
+//! Failing input and output: input that comes in parts or fails, and output that fails. The program `dnsmsg` then ends with
+//! status 3, and says so where it can.
 use crate::runs::{prints, run};
 use std::alloc::Global;
 use std::io;
@@ -8,35 +9,35 @@ use std::test::Fail;
 /// Words behind the program's name, standard input, what is printed, and the status.
 #[derive(Clone, Copy)]
 struct Run {
-    words: &'static [&'static str],
+    words: &'static str,
     input: &'static [u8],
     printed: &'static [u8],
     status: u8,
 }
 
 const BUILD: Run = Run {
-    words: &["build", "plain"],
+    words: "build plain",
     input: b"question\nlimit 17\npush . A\npush . A\n",
     printed: b"ok 12\nok 12\nok 17\nrefused limit 17\n0000000000010000000000000000010001\n",
     status: 0,
 };
 
 const BAD_LINE: Run = Run {
-    words: &["build", "static"],
+    words: "build static",
     input: b"question\nbogus\n",
     printed: b"ok 12\nbad line 2\n",
     status: 1,
 };
 
 const SHOW: Run = Run {
-    words: &["show"],
+    words: "show",
     input: b"000000000002000000000000076578616d706c6503636f6d0000010001",
     printed: b"header id=0 opcode=0 rcode=0 z=0 flags=\ncounts 2 0 0 0\nquestion example.com.\tA\tIN\nquestion error\nanswer missing\n",
     status: 0,
 };
 
 const USAGE: Run = Run {
-    words: &[],
+    words: "",
     input: b"",
     printed: b"usage: dnsmsg build TARGET | dnsmsg show\n",
     status: 2,
@@ -111,52 +112,39 @@ fn fails_where_input_is_cut(rt: HostRuntime) -> Result<(), Fail> {
     Ok(())
 }
 
-/// The octets taken by a writer whose steps with these numbers fail, its steps, and the status.
-fn run_with_gap(
+/// Whether what is printed before the steps that fail is taken, and this behind it, with this status.
+fn is_cut(
     alloc: Global,
     row: Run,
-    from: usize,
-    to: usize,
-) -> Result<(Vec<u8>, usize, u8), Fail> {
-    let taken = Vec::new(alloc);
+    gap: (usize, usize),
+    behind: &[u8],
+    status: u8,
+) -> Result<bool, Fail> {
+    let (from, to) = gap;
     let mut writer = Gap {
-        taken,
+        taken: Vec::new(alloc),
         steps: 0,
         from,
         to,
     };
-    let status = run(alloc, row.words, row.input, &mut writer)?;
-    Ok((writer.taken, writer.steps, status))
-}
-
-/// Whether all is printed where no step fails, and the number of steps: one for each octet, and the flush behind all.
-fn steps_of(alloc: Global, row: Run) -> Result<Option<usize>, Fail> {
-    let (taken, steps, status) = run_with_gap(alloc, row, usize::MAX, usize::MAX)?;
-    let is_whole = taken.as_slice() == row.printed && status == row.status;
-    Ok((is_whole && steps > row.printed.len()).then_some(steps))
-}
-
-/// Whether what was printed before the steps that fail stands, and this behind it, with status 3.
-fn is_cut(alloc: Global, row: Run, from: usize, to: usize, behind: &[u8]) -> Result<bool, Fail> {
+    let ended = run(alloc, row.words, row.input, &mut writer)?;
     let before = &row.printed[..from.min(row.printed.len())];
-    let (taken, _, status) = run_with_gap(alloc, row, from, to)?;
-    Ok(taken.strip_suffix(behind) == Some(before) && status == 3)
+    Ok(writer.taken.strip_suffix(behind) == Some(before) && ended == status)
 }
 
-/// One step fails, and then all from it on: `failed` is printed where it can be.
+/// One step fails, the write of an octet or the flush behind all, and then all from it on: `failed` is printed where it can
+/// be.
 #[test]
 fn fails_where_output_is_not_written(rt: HostRuntime) -> Result<(), Fail> {
     for row in [BUILD, BAD_LINE, SHOW, USAGE] {
-        let steps = steps_of(rt.alloc(), row)?.ok_or("not whole")?;
-        for step in 0..steps {
-            let next = step.saturating_add(1);
+        let whole = (usize::MAX, usize::MAX);
+        assert!(rt; is_cut(rt.alloc(), row, whole, b"", row.status)?);
+        for step in 0..=row.printed.len() {
+            let one = (step, step.saturating_add(1));
             assert!(rt;
-                is_cut(rt.alloc(), row, step, next, b"failed\n")?,
+                is_cut(rt.alloc(), row, one, b"failed\n", 3)?
+                    && is_cut(rt.alloc(), row, (step, usize::MAX), b"", 3)?,
                 "at {step}"
-            );
-            assert!(rt;
-                is_cut(rt.alloc(), row, step, usize::MAX, b"")?,
-                "from {step} on"
             );
         }
     }

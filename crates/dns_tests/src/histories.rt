@@ -1,4 +1,5 @@
-//! Ten lists of calls, from each stage and over each target, that end with the same items standing: the octets are the same.
+//! Histories: ten lists of calls, from each stage and over each target, that end with the same items standing. The octets are
+//! the same.
 ghost use Rattle.std.specs.Prelude.{◌≡◌};
 ghost use Rattle.dns_wire.specs.Pieces.Rule.{Plain};
 
@@ -17,7 +18,8 @@ use std::alloc::Global;
 use std::process::Abort;
 use std::test::Fail;
 
-type Owner = Name<&'static [u8]>;
+/// A name in an array, so that the calls borrow nothing.
+type Owner = Name<ArrayVec<u8, 22>>;
 
 type ServerCall = Call<(Owner, Rtype), (Owner, u32, Ns<Owner>)>;
 
@@ -80,15 +82,18 @@ const NS_WWW: &[u8] = b"\x02ns\x03www\x07example\x03com\x00";
 
 const A_NS_WWW: &[u8] = b"\x01a\x02ns\x03www\x07example\x03com\x00";
 
+fn name(octets: &[u8]) -> Result<Owner, Fail> {
+    Ok(Name::from_octets(ArrayVec::try_from(octets)?)?)
+}
+
 /// A question for a name server of a name.
-fn question(name: &'static [u8]) -> Result<ServerCall, Fail> {
-    Ok(Call::PushQuestion((Name::from_octets(name)?, Rtype::NS)))
+fn question(qname: &[u8]) -> Result<ServerCall, Fail> {
+    Ok(Call::PushQuestion((name(qname)?, Rtype::NS)))
 }
 
 /// A name server of an owner.
-fn server(owner: &'static [u8], nsdname: &'static [u8]) -> Result<ServerCall, Fail> {
-    let data = Ns::new(Name::from_octets(nsdname)?);
-    Ok(Call::PushRecord((Name::from_octets(owner)?, 60, data)))
+fn server(owner: &[u8], nsdname: &[u8]) -> Result<ServerCall, Fail> {
+    Ok(Call::PushRecord((name(owner)?, 60, Ns::new(name(nsdname)?))))
 }
 
 /// An OPT record with rcode 19 and DO.
@@ -247,16 +252,6 @@ fn assert_ends<T: CloneTarget>(
     assert_history(rt, alloc, &target, (OVERFULL, letters), octets)
 }
 
-/// The ten histories end alike over targets that don't compress, the arrays with room for the message and no more.
-fn assert_plain(rt: &impl Abort, alloc: Global) -> Result<(), Fail> {
-    assert_ends(rt, alloc, Vec::new(alloc), PLAIN, false)?;
-    assert_ends(rt, alloc, ArrayVec::<u8, 174>::new(), PLAIN, true)?;
-    let stream = StreamTarget::new_vec(alloc)?;
-    assert_ends(rt, alloc, stream, PLAIN, false)?;
-    let stream = StreamTarget::new(ArrayVec::<u8, 176>::new())?;
-    assert_ends(rt, alloc, stream, PLAIN, true)
-}
-
 /// The ten histories end alike over each compressor over a target.
 fn assert_compressed<T: CloneTarget>(
     rt: &impl Abort,
@@ -276,24 +271,23 @@ fn assert_compressed<T: CloneTarget>(
     assert_ends(rt, alloc, index, COMPRESSED, is_full)
 }
 
+/// The ten histories end alike over targets that don't compress, the arrays with room for the message and no more.
 #[test]
 fn over_targets_that_compress_nothing(rt: HostRuntime) -> Result<(), Fail> {
-    assert_plain(&rt, rt.alloc())
+    let alloc = rt.alloc();
+    assert_ends(&rt, alloc, Vec::new(alloc), PLAIN, false)?;
+    assert_ends(&rt, alloc, ArrayVec::<u8, 174>::new(), PLAIN, true)?;
+    let stream = StreamTarget::new_vec(alloc)?;
+    assert_ends(&rt, alloc, stream, PLAIN, false)?;
+    let stream = StreamTarget::new(ArrayVec::<u8, 176>::new())?;
+    assert_ends(&rt, alloc, stream, PLAIN, true)
 }
 
+/// Over vectors, streams, and arrays that have room for the message and no more.
 #[test]
-fn over_compressors_over_vectors(rt: HostRuntime) -> Result<(), Fail> {
-    assert_compressed(&rt, rt.alloc(), Vec::new(rt.alloc()), false)
-}
-
-/// Over arrays that have room for the message and no more.
-#[test]
-fn over_compressors_over_arrays(rt: HostRuntime) -> Result<(), Fail> {
-    assert_compressed(&rt, rt.alloc(), ArrayVec::<u8, 94>::new(), true)
-}
-
-#[test]
-fn over_compressors_over_streams(rt: HostRuntime) -> Result<(), Fail> {
-    let stream = StreamTarget::new_vec(rt.alloc())?;
-    assert_compressed(&rt, rt.alloc(), stream, false)
+fn over_compressors(rt: HostRuntime) -> Result<(), Fail> {
+    let alloc = rt.alloc();
+    assert_compressed(&rt, alloc, Vec::new(alloc), false)?;
+    assert_compressed(&rt, alloc, ArrayVec::<u8, 94>::new(), true)?;
+    assert_compressed(&rt, alloc, StreamTarget::new_vec(alloc)?, false)
 }

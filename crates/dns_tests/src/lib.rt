@@ -1,4 +1,5 @@
-//! Tests over `dns_message` alone: the examples of the pages, and the program `dnsmsg`, with answers from outside.
+//! Tests over `dns_message` alone: the examples of the pages, the program `dnsmsg` with answers from outside, lists of calls
+//! that end alike, and calls that take memory.
 //!
 //! Nothing is exported.
 #![tactic(auto)]
@@ -9,6 +10,8 @@ mod callers;
 mod failing;
 #[cfg(test)]
 mod histories;
+#[cfg(test)]
+mod memory;
 #[cfg(test)]
 mod program;
 #[cfg(test)]

@@ -4,170 +4,280 @@ use std::alloc::Global;
 use std::str;
 use std::test::Fail;
 
-/// Scripts, each with its target, and what is printed with status 0.
-const BUILT: &[(&str, &[u8], &str)] = &[
-    // first run
+/// A row's name, the words behind the program's name, standard input, what is printed, and the status.
+type Row = (&'static str, &'static str, &'static [u8], &'static str, u8);
+
+const ROWS: &[Row] = &[
     (
-        "plain",
+        "First run",
+        "build plain",
         b"question\npush example.com. A\n",
         "ok 12\nok 29\n000000000001000000000000076578616d706c6503636f6d0000010001\n",
+        0,
     ),
-    // root question
     (
-        "plain",
+        "Root question",
+        "build plain",
         b"question\npush . A\n",
         "ok 12\nok 17\n0000000000010000000000000000010001\n",
+        0,
     ),
-    // one answer
     (
-        "plain",
+        "One answer",
+        "build plain",
         b"answer\npush example.com. 3600 IN A 203.0.113.1\n",
         "ok 12\nok 39\n000000000000000100000000076578616d706c6503636f6d000001000100000e100004cb007101\n",
+        0,
     ),
-    // question and answer
     (
-        "plain",
+        "Question and answer",
+        "build plain",
         b"question\npush example.com. A\nanswer\npush example.com. 3600 IN A 203.0.113.1\n",
         "ok 12\nok 29\nok 29\nok 56\n000000000001000100000000076578616d706c6503636f6d0000010001076578616d706c6503636f6d000001000100000e100004cb007101\n",
+        0,
     ),
-    // header fields
     (
-        "plain",
+        "Header fields",
+        "build plain",
         b"id 4660\nopcode 4\nflags QR AA\nrcode 3\n",
         "ok 12\nok 12\nok 12\nok 12\n1234a4030000000000000000\n",
+        0,
     ),
-    // the same with leading zeros, and into an array
     (
-        "fixed",
+        "Header fields with leading zeros, into an array",
+        "build fixed",
         b"id 0000000000000000000000004660\nopcode 04\nflags qr Aa\nrcode 003\n",
         "ok 12\nok 12\nok 12\nok 12\n1234a4030000000000000000\n",
+        0,
     ),
-    // flags anew, a rewind and a move back
     (
-        "plain",
-        b"flags TC\nflags\nquestion\npush . A\nrewind\npush . A\nbuilder\n",
-        "ok 12\nok 12\nok 12\nok 17\nok 12\nok 17\nok 12\n000000000000000000000000\n",
+        "Rcode out of range",
+        "build plain",
+        b"rcode 16",
+        "bad line 1\n",
+        1,
     ),
-    // an answer taken out with TC set
     (
-        "plain",
-        b"answer\npush . 3600 IN A 203.0.113.1\ntcrewind\nbuilder\n",
-        "ok 12\nok 27\nok 12\nok 12\n000002000000000000000000\n",
+        "A push before any section",
+        "build plain",
+        b"push . A",
+        "bad line 1\n",
+        1,
     ),
-    // all moves
     (
-        "plain",
+        "All moves",
+        "build plain",
         b"question\npush example.com. A\nanswer\npush example.com. 3600 IN A 203.0.113.1\nauthority\npush . 60 IN NS ns.example.com.\nrewind\nadditional\npush . 0 IN TXT \\# 0\nanswer\ntcrewind\nbuilder\n",
         "ok 12\nok 29\nok 29\nok 56\nok 56\nok 83\nok 56\nok 56\nok 67\nok 56\nok 29\nok 12\n000002000000000000000000\n",
+        0,
     ),
-    // nothing
-    ("plain", b"", "000000000000000000000000\n"),
-    // a stream: the octets have the length before them, which the lengths of the replies leave out
     (
-        "stream",
+        "Flags set anew, a rewind and a move back",
+        "build plain",
+        b"flags TC\nflags\nquestion\npush . A\nrewind\npush . A\nbuilder\n",
+        "ok 12\nok 12\nok 12\nok 17\nok 12\nok 17\nok 12\n000000000000000000000000\n",
+        0,
+    ),
+    (
+        "An answer taken out with TC set",
+        "build plain",
+        b"answer\npush . 3600 IN A 203.0.113.1\ntcrewind\nbuilder\n",
+        "ok 12\nok 27\nok 12\nok 12\n000002000000000000000000\n",
+        0,
+    ),
+    (
+        "Misplaced rewinds: before any section",
+        "build plain",
+        b"rewind",
+        "bad line 1\n",
+        1,
+    ),
+    (
+        "Misplaced rewinds: TC behind questions",
+        "build plain",
+        b"question\ntcrewind\n",
+        "ok 12\nbad line 2\n",
+        1,
+    ),
+    (
+        "No lines",
+        "build plain",
+        b"",
+        "000000000000000000000000\n",
+        0,
+    ),
+    // the lengths of the replies leave out the length that a stream has before the message
+    (
+        "Root question on a stream",
+        "build stream",
         b"question\npush . A\n",
         "ok 12\nok 17\n00110000000000010000000000000000010001\n",
+        0,
     ),
-    // refusals by the limit
     (
-        "plain",
+        "Refusals by the limit",
+        "build plain",
         b"question\nlimit 16\npush . A\nlimit 17\npush . A\npush . A\n",
         "ok 12\nok 12\nrefused limit 12\nok 12\nok 17\nrefused limit 17\n0000000000010000000000000000010001\n",
+        0,
     ),
     (
-        "plain",
+        "The least and the greatest limit",
+        "build plain",
         b"limit 0\nquestion\npush . A\nnolimit\npush . A\nlimit 18446744073709551615\n",
         "ok 12\nok 12\nrefused limit 12\nok 12\nok 17\nok 17\n0000000000010000000000000000010001\n",
+        0,
     ),
-    // a rewind forgets the names that were taken out, over each compressor
-    ("static", REWOUND, COMPRESSED),
-    ("tree", REWOUND, COMPRESSED),
-    ("hash", REWOUND, COMPRESSED),
-    // data of each type
     (
-        "plain",
+        "Rewind over a static compressor",
+        "build static",
+        REWOUND,
+        COMPRESSED,
+        0,
+    ),
+    (
+        "Rewind over a tree compressor",
+        "build tree",
+        REWOUND,
+        COMPRESSED,
+        0,
+    ),
+    (
+        "Rewind over a hash compressor",
+        "build hash",
+        REWOUND,
+        COMPRESSED,
+        0,
+    ),
+    (
+        "Data NS",
+        "build plain",
         b"answer\npush . 60 IN NS ns.example\n",
         "ok 12\nok 35\n00000000000000010000000000000200010000003c000c026e73076578616d706c6500\n",
+        0,
     ),
-    // a label of a number sign
     (
-        "plain",
+        "Data CNAME: a label of a number sign",
+        "build plain",
         b"answer\npush . 60 CH CNAME \\#\n",
         "ok 12\nok 26\n00000000000000010000000000000500030000003c0003012300\n",
+        0,
     ),
     (
-        "plain",
+        "Data SOA",
+        "build plain",
         b"answer\npush . 0 IN SOA . . 1 2 3 4 4294967295\n",
         "ok 12\nok 45\n0000000000000001000000000000060001000000000016000000000001000000020000000300000004ffffffff\n",
+        0,
     ),
     (
-        "plain",
+        "Data without octets",
+        "build plain",
         b"answer\npush . 0 IN TXT \\# 0\n",
         "ok 12\nok 23\n0000000000000001000000000000100001000000000000\n",
+        0,
     ),
     (
-        "plain",
+        "Data of an unknown type",
+        "build plain",
         b"answer\npush . 0 IN TYPE65280 \\# 2 aB01\n",
         "ok 12\nok 25\n00000000000000010000000000ff000001000000000002ab01\n",
+        0,
     ),
     (
-        "plain",
+        "Data A of one octet",
+        "build plain",
         b"answer\npush . 0 IN A \\# 1 ff\n",
         "ok 12\nok 24\n0000000000000001000000000000010001000000000001ff\n",
+        0,
     ),
-    // OPT on a stream, at the limit and above it
     (
-        "stream",
+        "OPT on a stream",
+        "build stream",
         b"additional\nopt 1232 19 0 1\n",
         "ok 12\nok 23\n001700000003000000000000000100002904d0010080000000\n",
+        0,
     ),
     (
-        "stream",
+        "OPT at the limit",
+        "build stream",
         b"additional\nlimit 23\nopt 1232 19 0 1\n",
         "ok 12\nok 12\nok 23\n001700000003000000000000000100002904d0010080000000\n",
+        0,
     ),
     (
-        "stream",
+        "OPT above the limit",
+        "build stream",
         b"additional\nlimit 22\nopt 1232 19 0 1\n",
         "ok 12\nok 12\nrefused limit 12\n000c000000000000000000000000\n",
+        0,
     ),
-    // options, and the rcode of the header stays
     (
-        "plain",
+        "Options behind the rcode of the header",
+        "build plain",
         b"rcode 3\nadditional\nopt\t4096 - 2 00 3:6578616d706c65 10:\n",
         "ok 12\nok 12\nok 38\n000000030000000000000001000029100000020000000f000300076578616d706c65000a0000\n",
+        0,
     ),
-    // the greatest numbers, over a compressor
     (
-        "tree",
+        "The greatest numbers of OPT",
+        "build tree",
         b"additional\nopt 65535 4095 255 01 65535:FF\n",
         "ok 12\nok 28\n0000000f0000000000000001000029ffffffff80000005ffff0001ff\n",
+        0,
     ),
-    // empty lines and comments
     (
-        "plain",
+        "Empty lines and comments",
+        "build plain",
         b"# a\n\n#\nquestion\n\npush . A\n#b",
         ROOT_QUESTION,
+        0,
     ),
-    // spaces and tabs
-    ("plain", b" question\t\npush\t .\tA IN  \n", ROOT_QUESTION),
-    // no line feed behind the last line
-    ("plain", b"question\npush . A", ROOT_QUESTION),
-    // a carriage return is a character of its line, and white space of a question
-    ("plain", b"#\r\nquestion\npush . A\r\n", ROOT_QUESTION),
-    // a tab between flags
     (
-        "plain",
+        "Spaces and tabs",
+        "build plain",
+        b" question\t\npush\t .\tA IN  \n",
+        ROOT_QUESTION,
+        0,
+    ),
+    (
+        "No line feed behind a push",
+        "build plain",
+        b"question\npush . A",
+        ROOT_QUESTION,
+        0,
+    ),
+    // a carriage return is a character of its line, and white space of a question
+    (
+        "A carriage return",
+        "build plain",
+        b"#\r\nquestion\npush . A\r\n",
+        ROOT_QUESTION,
+        0,
+    ),
+    (
+        "A tab between flags",
+        "build plain",
         b"flags QR\tRD\n",
         "ok 12\n000081000000000000000000\n",
+        0,
     ),
-    // no line feed behind a move
     (
-        "plain",
+        "No line feed behind a move",
+        "build plain",
         b"question\nrewind",
         "ok 12\nok 12\n000000000000000000000000\n",
+        0,
     ),
+    ("No words", "", b"question\n", USAGE, 2),
+    ("No target", "build", b"question\n", USAGE, 2),
+    ("Another target", "build other", b"question\n", USAGE, 2),
+    ("Two targets", "build plain plain", b"question\n", USAGE, 2),
+    ("Another case", "Build plain", b"question\n", USAGE, 2),
+    ("A target to show", "show plain", b"question\n", USAGE, 2),
 ];
+
+const USAGE: &str = "usage: dnsmsg build TARGET | dnsmsg show\n";
 
 const REWOUND: &[u8] =
     b"answer\npush example.com. 3600 IN A 203.0.113.1\nrewind\npush example.com. 3600 IN A 203.0.113.1\npush example.com. 3600 IN A 203.0.113.1\n";
@@ -178,16 +288,10 @@ const COMPRESSED: &str =
 const ROOT_QUESTION: &str = "ok 12\nok 17\n0000000000010000000000000000010001\n";
 
 #[test]
-fn builds_messages(rt: HostRuntime) -> Result<(), Fail> {
-    for (target, script, printed) in BUILT {
-        let is_printed = prints(
-            rt.alloc(),
-            &["build", target],
-            *script,
-            printed.as_bytes(),
-            0,
-        )?;
-        assert!(rt; is_printed, "not {printed}");
+fn prints_rows(rt: HostRuntime) -> Result<(), Fail> {
+    for (row, words, input, printed, status) in ROWS {
+        let is_printed = prints(rt.alloc(), words, *input, printed.as_bytes(), *status)?;
+        assert!(rt; is_printed, "{row}");
     }
     Ok(())
 }
@@ -198,9 +302,6 @@ const BAD_LINES: &[(&str, &str, &[&[u8]])] = &[
         "",
         "bad line 1\n",
         &[
-            b"rcode 16",
-            b"push . A",
-            b"rewind",
             b"bogus",
             b" ",
             b"\t \t",
@@ -234,7 +335,6 @@ const BAD_LINES: &[(&str, &str, &[&[u8]])] = &[
             b"show",
         ],
     ),
-    ("question\n", "ok 12\nbad line 2\n", &[b"tcrewind\n"]),
     (
         "\n# a\nquestion\n",
         "ok 12\nbad line 4\n",
@@ -292,7 +392,7 @@ fn is_bad(alloc: Global, before: &str, line: &[u8], printed: &str) -> Result<boo
     script.extend_from_slice(line)?;
     prints(
         alloc,
-        &["build", "plain"],
+        "build plain",
         script.as_slice(),
         printed.as_bytes(),
         1,
@@ -312,122 +412,114 @@ fn refuses_bad_lines(rt: HostRuntime) -> Result<(), Fail> {
     Ok(())
 }
 
-/// Words that ask for nothing.
-const OTHER_WORDS: &[&[&str]] = &[
-    &[],
-    &["build"],
-    &["build", "other"],
-    &["build", "plain", "plain"],
-    &["Build", "plain"],
-    &["show", "plain"],
-];
-
-#[test]
-fn tells_its_usage(rt: HostRuntime) -> Result<(), Fail> {
-    let usage = b"usage: dnsmsg build TARGET | dnsmsg show\n";
-    for (index, words) in OTHER_WORDS.iter().enumerate() {
-        let input = b"question\n".as_slice();
-        assert!(rt;
-            prints(rt.alloc(), words, input, usage, 2)?,
-            "words {index}"
-        );
-    }
-    Ok(())
+/// A script for an array, which fills it, or whose options are too long together or alone, and a line that is printed.
+struct Long {
+    row: &'static str,
+    start: &'static str,
+    repeated: &'static str,
+    count: usize,
+    end: &'static str,
+    /// The line's place from 0.
+    place: usize,
+    line: &'static str,
+    status: u8,
 }
 
-/// The start of a script, what is repeated behind it, how often, and the end; then a place from 0, the line printed there, and the status.
-type Long = (
-    &'static str,
-    &'static str,
-    usize,
-    &'static str,
-    usize,
-    &'static str,
-    u8,
-);
-
-/// Scripts for an array: pushes that fill it, and options that are too long together and alone.
 const LONG: &[Long] = &[
-    ("question\n", "push . A\n", 101, "", 100, "ok 512", 0),
-    (
-        "question\n",
-        "push . A\n",
-        101,
-        "",
-        101,
-        "refused short 512",
-        0,
-    ),
-    (
-        "question\nlimit 512\n",
-        "push . A\n",
-        101,
-        "",
-        100,
-        "ok 507",
-        0,
-    ),
-    (
-        "question\nlimit 512\n",
-        "push . A\n",
-        101,
-        "",
-        101,
-        "ok 512",
-        0,
-    ),
-    (
-        "question\nlimit 512\n",
-        "push . A\n",
-        101,
-        "",
-        102,
-        "refused short 512",
-        0,
-    ),
-    (
-        "additional\nopt 1232 0 0 0 3:",
-        "00",
-        65_531,
-        " 3:",
-        1,
-        "refused short 12",
-        0,
-    ),
-    (
-        "additional\nopt 1232 0 0 0 3:",
-        "00",
-        65_536,
-        "",
-        1,
-        "bad line 2",
-        1,
-    ),
+    Long {
+        row: "Full fixed target: the 100th push",
+        start: "question\n",
+        repeated: "push . A\n",
+        count: 101,
+        end: "",
+        place: 100,
+        line: "ok 512",
+        status: 0,
+    },
+    Long {
+        row: "Full fixed target: the last push",
+        start: "question\n",
+        repeated: "push . A\n",
+        count: 101,
+        end: "",
+        place: 101,
+        line: "refused short 512",
+        status: 0,
+    },
+    Long {
+        row: "Limit equal to the room: the 99th push",
+        start: "question\nlimit 512\n",
+        repeated: "push . A\n",
+        count: 101,
+        end: "",
+        place: 100,
+        line: "ok 507",
+        status: 0,
+    },
+    Long {
+        row: "Limit equal to the room: the 100th push",
+        start: "question\nlimit 512\n",
+        repeated: "push . A\n",
+        count: 101,
+        end: "",
+        place: 101,
+        line: "ok 512",
+        status: 0,
+    },
+    Long {
+        row: "Limit equal to the room: the last push",
+        start: "question\nlimit 512\n",
+        repeated: "push . A\n",
+        count: 101,
+        end: "",
+        place: 102,
+        line: "refused short 512",
+        status: 0,
+    },
+    Long {
+        row: "Options that are too long together",
+        start: "additional\nopt 1232 0 0 0 3:",
+        repeated: "00",
+        count: 65_531,
+        end: " 3:",
+        place: 1,
+        line: "refused short 12",
+        status: 0,
+    },
+    Long {
+        row: "An option that is too long",
+        start: "additional\nopt 1232 0 0 0 3:",
+        repeated: "00",
+        count: 65_536,
+        end: "",
+        place: 1,
+        line: "bad line 2",
+        status: 1,
+    },
 ];
 
-fn script_of(alloc: Global, row: Long) -> Result<String, Fail> {
-    let (start, repeated, count, end, _, _, _) = row;
-    let mut script = String::from_str(alloc, start)?;
-    for _ in 0..count {
-        script.push_str(repeated)?;
+fn script_of(alloc: Global, long: &Long) -> Result<String, Fail> {
+    let mut script = String::from_str(alloc, long.start)?;
+    for _ in 0..long.count {
+        script.push_str(long.repeated)?;
     }
-    script.push_str(end)?;
+    script.push_str(long.end)?;
     Ok(script)
 }
 
 /// Whether a line is printed at its place, with its status.
-fn is_printed(alloc: Global, row: Long) -> Result<bool, Fail> {
-    let (_, _, _, _, place, line, wanted) = row;
-    let script = script_of(alloc, row)?;
+fn is_printed(alloc: Global, long: &Long) -> Result<bool, Fail> {
+    let script = script_of(alloc, long)?;
     let mut output = Vec::new(alloc);
-    let status = run(alloc, &["build", "fixed"], script.as_bytes(), &mut output)?;
-    Ok(status == wanted && str::from_utf8(&output)?.lines().nth(place) == Some(line))
+    let status = run(alloc, "build fixed", script.as_bytes(), &mut output)?;
+    let line = str::from_utf8(&output)?.lines().nth(long.place);
+    Ok(status == long.status && line == Some(long.line))
 }
 
 #[test]
 fn runs_long_scripts(rt: HostRuntime) -> Result<(), Fail> {
-    for (index, row) in LONG.iter().enumerate() {
-        assert!(rt; is_printed(rt.alloc(), *row)?, "row {index}");
+    for long in LONG {
+        assert!(rt; is_printed(rt.alloc(), long)?, "{}", long.row);
     }
     Ok(())
 }

@@ -4,15 +4,15 @@ use std::alloc::Global;
 use std::io::{Read, Write};
 use std::test::Fail;
 
-/// Runs the program for words, each made a string, and gives its status.
+/// Runs the program for words, with spaces between, and gives its status.
 pub(crate) fn run<R: Read + Drop, W: Write + Drop>(
     alloc: Global,
-    words: &[&str],
+    words: &str,
     reader: R,
     writer: W,
 ) -> Result<u8, Fail> {
     let mut strings = Vec::new(alloc);
-    for word in words {
+    for word in words.split_whitespace() {
         strings.push(String::from_str(alloc, word)?)?;
     }
     Ok(tool(alloc, &strings, reader, writer))
@@ -21,7 +21,7 @@ pub(crate) fn run<R: Read + Drop, W: Write + Drop>(
 /// Whether the program prints this, with this status.
 pub(crate) fn prints<R: Read + Drop>(
     alloc: Global,
-    words: &[&str],
+    words: &str,
     reader: R,
     printed: &[u8],
     status: u8,

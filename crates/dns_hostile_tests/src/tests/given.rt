@@ -1,14 +1,36 @@
-//! What the library gives, as the plain reader says it.
-use crate::tests::plain::{Entry, Fault, Fields, Labels, labels_at};
+//! What the library gives, as plain values, which the plain reader gives too.
+use crate::tests::buffer::{Buffer, ROOM};
+use crate::tests::plain::{Entry, Fault, Header, Standing};
 use arrayvec::ArrayVec;
-use dns_data::UnknownRecordData;
-use dns_item::{ParsedRecord, Question};
-use dns_wire::{ParseError, ParsedName};
+use dns_code::HeaderSection;
+use dns_data::{ComposeRecordData, UnknownRecordData};
+use dns_item::{ParsedRecord, Question, Record, RecordHeader, Ttl};
+use dns_read::{RecordSection, Section};
+use dns_wire::{Name, ParseError, ParsedName, ToName};
+use std::fmt::Debug;
 use std::process::Abort;
-use std::test::Fail;
 
-/// The name and the fields of a question or of a record, or why it can't be read.
-pub(crate) type Given<'a> = Result<(ParsedName<'a>, Fields<'a>), Fault>;
+/// Data that is kept as octets.
+pub(crate) type Opaque<'a> = UnknownRecordData<&'a [u8]>;
+
+/// What the library gives, and a plain value says.
+pub(crate) trait Given {
+    type Plain: Copy + Debug + PartialEq;
+
+    /// The plain value.
+    fn plain(&self) -> Self::Plain;
+}
+
+impl<T: Given> Given for Option<T> {
+    type Plain = Option<T::Plain>;
+
+    fn plain(&self) -> Self::Plain {
+        match self {
+            Some(given) => Some(given.plain()),
+            None => None,
+        }
+    }
+}
 
 /// The kind of an error.
 pub(crate) fn fault_of(error: ParseError) -> Fault {
@@ -18,140 +40,172 @@ pub(crate) fn fault_of(error: ParseError) -> Fault {
     }
 }
 
-/// The labels of a name.
-pub(crate) fn labels_of(name: ParsedName<'_>) -> Result<Labels, Fail> {
-    let mut labels = ArrayVec::new();
-    for label in name.iter_labels() {
-        if !label.is_root() {
-            labels.try_extend_from_slice(&[u8::try_from(label.len())?])?;
-            labels.try_extend_from_slice(label.as_slice())?;
+impl<T: Given> Given for Result<T, ParseError> {
+    type Plain = Result<T::Plain, Fault>;
+
+    fn plain(&self) -> Self::Plain {
+        match self {
+            Ok(given) => Ok(given.plain()),
+            Err(error) => Err(fault_of(*error)),
         }
     }
-    Ok(labels)
 }
 
-/// A question that ends here.
-pub(crate) fn given_question<'a>(
-    question: Result<Question<ParsedName<'a>>, ParseError>,
-    end: usize,
-) -> Given<'a> {
-    match question {
-        Ok(question) => {
-            let fields = Fields {
-                rtype: question.qtype().to_int(),
-                class: question.qclass().to_int(),
-                ttl: 0,
-                data: &[],
-                end,
-            };
-            Ok((*question.qname(), fields))
+impl Given for ParsedName<'_> {
+    type Plain = Buffer;
+
+    fn plain(&self) -> Buffer {
+        let mut name = Buffer::new();
+        for label in self.iter_labels() {
+            let len = (label.len() & 0xff) as u8;
+            name = name.with(&[len]).with(label.as_slice());
         }
-        Err(error) => Err(fault_of(error)),
+        name
     }
 }
 
-/// The octets of the data of a record.
-fn data_of<'a>(record: &ParsedRecord<'a>) -> &'a [u8] {
-    match record.to_any_record::<UnknownRecordData<&'a [u8]>>() {
-        Ok(record) => *record.data().data(),
-        Err(_) => b"none",
+/// A name is its labels, and its octets.
+impl Given for Name<&[u8]> {
+    type Plain = [Buffer; 2];
+
+    fn plain(&self) -> [Buffer; 2] {
+        [self.as_parsed().plain(), Buffer::of(self.as_slice())]
     }
 }
 
-/// A record that ends here.
-pub(crate) fn given_record<'a>(
-    record: Result<ParsedRecord<'a>, ParseError>,
-    end: usize,
-) -> Given<'a> {
-    match record {
-        Ok(record) => {
-            let fields = Fields {
-                rtype: record.rtype().to_int(),
-                class: record.class().to_int(),
-                ttl: record.ttl().as_secs(),
-                data: data_of(&record),
-                end,
-            };
-            Ok((record.owner(), fields))
+impl Given for Question<ParsedName<'_>> {
+    type Plain = Entry;
+
+    fn plain(&self) -> Entry {
+        Entry {
+            name: self.qname().plain(),
+            rtype: self.qtype().to_int(),
+            class: self.qclass().to_int(),
+            ttl: 0,
+            data: Buffer::new(),
         }
-        Err(error) => Err(fault_of(error)),
     }
 }
 
-/// A place is the expected one.
-pub(crate) fn assert_place(rt: &impl Abort, what: &str, place: usize, expected: usize) {
-    assert_eq!(rt; place, expected, "{what}");
+impl Given for RecordHeader<ParsedName<'_>> {
+    type Plain = Header;
+
+    fn plain(&self) -> Header {
+        let header = Entry {
+            name: self.owner().plain(),
+            rtype: self.rtype().to_int(),
+            class: self.class().to_int(),
+            ttl: self.ttl().as_secs(),
+            data: Buffer::new(),
+        };
+        (header, self.rdlen())
+    }
 }
 
-/// A place, or the fault in its stead, is the expected one.
-pub(crate) fn assert_end(
+/// The data, its names without pointers. No data of a message here is too long for a buffer.
+pub(crate) fn expanded<D: ComposeRecordData>(data: &D) -> Buffer {
+    let mut octets: ArrayVec<u8, ROOM> = ArrayVec::new();
+    match data.compose_rdata(&mut octets) {
+        Ok(()) => Buffer::of(octets.as_slice()),
+        Err(_) => Buffer::of(b"too long"),
+    }
+}
+
+impl<'a> Given for ParsedRecord<'a> {
+    type Plain = Entry;
+
+    fn plain(&self) -> Entry {
+        let data = match self.to_any_record::<Opaque<'a>>() {
+            Ok(record) => expanded(record.data()),
+            Err(_) => Buffer::of(b"no data"),
+        };
+        Entry {
+            name: self.owner().plain(),
+            rtype: self.rtype().to_int(),
+            class: self.class().to_int(),
+            ttl: self.ttl().as_secs(),
+            data,
+        }
+    }
+}
+
+impl<D: ComposeRecordData> Given for Record<ParsedName<'_>, D> {
+    type Plain = Entry;
+
+    fn plain(&self) -> Entry {
+        Entry {
+            name: self.owner().plain(),
+            rtype: self.rtype().to_int(),
+            class: self.class().to_int(),
+            ttl: self.ttl().as_secs(),
+            data: expanded(self.data()),
+        }
+    }
+}
+
+/// A TTL is its four octets.
+impl Given for Ttl {
+    type Plain = Buffer;
+
+    fn plain(&self) -> Buffer {
+        Buffer::of(&self.as_secs().to_be_bytes())
+    }
+}
+
+/// A header section is its twelve octets.
+impl Given for HeaderSection {
+    type Plain = Buffer;
+
+    fn plain(&self) -> Buffer {
+        Buffer::of(self.as_slice())
+    }
+}
+
+/// A cursor is its place.
+impl Given for RecordSection<'_> {
+    type Plain = usize;
+
+    fn plain(&self) -> usize {
+        self.pos()
+    }
+}
+
+/// A record of a message has the number of its section before it.
+impl Given for (ParsedRecord<'_>, Section) {
+    type Plain = (u8, Entry);
+
+    fn plain(&self) -> (u8, Entry) {
+        let section = match self.1 {
+            Section::Answer => 1,
+            Section::Authority => 2,
+            Section::Additional => 3,
+        };
+        (section, self.0.plain())
+    }
+}
+
+/// What was found is the expected value.
+pub(crate) fn assert_same<T: Copy + Debug + PartialEq>(
     rt: &impl Abort,
     what: &str,
-    end: Result<usize, Fault>,
-    expected: Result<usize, Fault>,
+    found: T,
+    expected: T,
 ) {
-    assert_eq!(rt; end, expected, "{what}");
+    assert_eq!(rt; found, expected, "{what}");
 }
 
-/// The error is of this kind.
-pub(crate) fn assert_fault(rt: &impl Abort, what: &str, error: ParseError, fault: Fault) {
-    assert_eq!(rt; fault_of(error), fault, "{what}");
-}
-
-/// The error is of this kind, and the parser, which is here, stayed at its place.
-pub(crate) fn assert_stays(
+/// What was read from a place stands there, and the parser, which is here, stands behind it; or there is the fault, and the
+/// parser stayed.
+pub(crate) fn assert_read<T: Copy + Debug + PartialEq>(
     rt: &impl Abort,
     what: &str,
-    (error, here): (ParseError, usize),
-    (fault, place): (Fault, usize),
-) {
-    assert_eq!(rt; (fault_of(error), here), (fault, place), "{what}");
-}
-
-/// The fields are the expected ones.
-pub(crate) fn assert_fields(rt: &impl Abort, what: &str, fields: Fields<'_>, expected: Fields<'_>) {
-    assert_eq!(rt; fields, expected, "{what}");
-}
-
-/// The labels of the name are these.
-pub(crate) fn assert_labels(
-    rt: &impl Abort,
-    name: ParsedName<'_>,
-    labels: &Labels,
-) -> Result<(), Fail> {
-    assert_eq!(rt; labels_of(name)?.as_slice(), labels.as_slice());
-    Ok(())
-}
-
-/// The name that is given is the one that stands at this place.
-pub(crate) fn assert_name(
-    rt: &impl Abort,
-    octets: &[u8],
     place: usize,
-    name: ParsedName<'_>,
-) -> Result<(), Fail> {
-    match labels_at(octets, place) {
-        Ok(labels) => assert_labels(rt, name, &labels),
-        Err(_) => panic!(rt; "a name at {place}"),
-    }
-}
-
-/// What is given is the entry, or the fault.
-pub(crate) fn assert_given(
-    rt: &impl Abort,
-    octets: &[u8],
-    given: Given<'_>,
-    expected: Result<Entry<'_>, Fault>,
-) -> Result<(), Fail> {
-    match (given, expected) {
-        (Ok((name, fields)), Ok(entry)) => {
-            assert_fields(rt, "entry", fields, entry.fields);
-            assert_name(rt, octets, entry.name, name)
-        }
-        (Err(given), Err(fault)) => {
-            assert_eq!(rt; given, fault);
-            Ok(())
-        }
-        _ => panic!(rt; "an entry or a fault"),
-    }
+    (found, here): (Result<T, Fault>, usize),
+    expected: Standing<T>,
+) {
+    let expected = match expected {
+        Ok((standing, end)) => (Ok(standing), end),
+        Err(fault) => (Err(fault), place),
+    };
+    assert_same(rt, what, (found, here), expected);
 }

@@ -1,6 +1,5 @@
 //! Octets to be read: messages with replaced octets, messages that are cut, and octets drawn at random.
-use arrayvec::ArrayVec;
-use std::test::Fail;
+use crate::tests::buffer::Buffer;
 
 /// A message whose additional section has an OPT record with one option.
 pub(crate) const OPT: &[u8; 34] =
@@ -17,8 +16,11 @@ pub(crate) const POSITIVE_RESPONSE: &[u8; 45] =
 /// What octets are replaced by.
 pub(crate) const REPLACEMENTS: [u8; 6] = [0x00, 0x3F, 0x40, 0x80, 0xC0, 0xFF];
 
-/// Messages of one to three entries that can't be read, or stand at a bound.
-pub(crate) const BOUNDS: [&[u8]; 15] = [
+/// Messages of one to three entries, most of which can't be read, or stand at a bound.
+pub(crate) const BOUNDS: [&[u8]; 17] = [
+    // a question and its answer
+    POSITIVE_RESPONSE,
+    NAME_IN_DATA,
     // a label behind which a pointer leads back to it
     b"\x00\x00\x00\x00\x00\x01\x00\x00\x00\x00\x00\x00\x01\x61\xC0\x0C\x00\x01\x00\x01",
     // a pointer to its own place
@@ -102,36 +104,33 @@ const DATA: [&[u8]; 8] = [
     b"\x00\x06\x01\x02\x03",
 ];
 
-/// Octets of a message that are put together.
-pub(crate) type Octets = ArrayVec<u8, 512>;
-
-/// Adds one of the pieces.
-fn add_piece(octets: &mut Octets, pieces: &[&[u8]], number: u64) -> Result<(), Fail> {
-    if let Some(piece) = pieces.get((number & 7) as usize) {
-        octets.try_extend_from_slice(piece)?;
-    }
-    Ok(())
+/// One of the pieces, by the low bits of a number.
+fn piece(pieces: [&'static [u8]; 8], number: u64) -> &'static [u8] {
+    pieces[(number & 7) as usize]
 }
 
 /// An odd number whose multiples differ in their higher bits too.
 const SPREAD: u64 = 0x9E37_79B9_7F4A_7C15;
 
 /// A message of up to one question and six records, whose pieces are drawn at random.
-pub(crate) fn random_message(seed: u64) -> Result<Octets, Fail> {
+pub(crate) fn random_message(seed: u64) -> Buffer {
     let mut state = next_state(seed.wrapping_mul(SPREAD));
-    let mut octets = ArrayVec::new();
     let [flags, questions, answers, others, ..] = state.to_be_bytes();
-    octets.try_extend_from_slice(&[0, 0, flags, 0, 0, questions & 1, 0, answers & 3])?;
-    octets.try_extend_from_slice(&[0, others & 1, 0, others >> 1 & 3])?;
+    let mut octets = Buffer::of(&[0, 0, flags, 0, 0, questions & 1, 0, answers & 3]).with(&[
+        0,
+        others & 1,
+        0,
+        others >> 1 & 3,
+    ]);
     if questions & 1 == 1 {
-        add_piece(&mut octets, &NAMES, state)?;
-        octets.try_extend_from_slice(&[0, 1, 0, 1])?;
+        octets = octets.with(piece(NAMES, state)).with(&[0, 1, 0, 1]);
     }
     for _ in 0..6 {
         state = next_state(state);
-        add_piece(&mut octets, &NAMES, state)?;
-        add_piece(&mut octets, &FIELDS, state >> 8)?;
-        add_piece(&mut octets, &DATA, state >> 16)?;
+        octets = octets
+            .with(piece(NAMES, state))
+            .with(piece(FIELDS, state >> 8))
+            .with(piece(DATA, state >> 16));
     }
-    Ok(octets)
+    octets
 }

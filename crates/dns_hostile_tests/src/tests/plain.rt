@@ -2,7 +2,7 @@
 //! library.
 ghost use Rattle.std.specs.Prelude.{◌≤◌};
 
-use arrayvec::ArrayVec;
+use crate::tests::buffer::Buffer;
 
 /// Why something can't be read.
 #[derive(Clone, Copy, Debug, PartialEq, Eq)]
@@ -13,11 +13,12 @@ pub(crate) enum Fault {
     Form,
 }
 
-/// The labels of a name, each behind its length, without the root.
-pub(crate) type Labels = ArrayVec<u8, 255>;
+/// What stands at a place and the place behind it, or why it can't be read.
+pub(crate) type Standing<T> = Result<(T, usize), Fault>;
 
-/// Adds the labels of the name at this place to the labels before it, which have this size (RFC 1035 section 4.1.4).
-fn add_labels(octets: &[u8], place: usize, size: usize, mut labels: Labels) -> Result<Labels, Fault>
+/// Adds the labels of the name at this place, each behind its length, to the labels before it, which have this size
+/// (RFC 1035 section 4.1.4).
+fn add_labels(octets: &[u8], place: usize, size: usize, labels: Buffer) -> Result<Buffer, Fault>
     requires { size ≤ 254 }
 {
     let Some(first) = octets.get(place).copied() else {
@@ -25,7 +26,7 @@ fn add_labels(octets: &[u8], place: usize, size: usize, mut labels: Labels) -> R
     };
     let len = usize::from(first);
     match first {
-        0 => Ok(labels),
+        0 => Ok(labels.with(&[0])),
         1..=63 => {
             if size + len + 1 > 254 {
                 return Err(Fault::Form);
@@ -34,9 +35,7 @@ fn add_labels(octets: &[u8], place: usize, size: usize, mut labels: Labels) -> R
                 return Err(Fault::Short);
             }
             let behind = place + 1 + len;
-            let Ok(()) = labels.try_extend_from_slice(&octets[place..behind]) else {
-                return Err(Fault::Form);
-            };
+            let labels = labels.with(&octets[place..behind]);
             add_labels(octets, behind, size + len + 1, labels)
         }
         64..=191 => Err(Fault::Form),
@@ -56,11 +55,6 @@ fn pointer_target(octets: &[u8], place: usize) -> Result<usize, Fault> {
         Some([high, low, ..]) => Ok(usize::from(u16::from_be_bytes([high & 0x3f, *low]))),
         _ => Err(Fault::Short),
     }
-}
-
-/// The labels of the name that stands at this place, or its leftmost fault.
-pub(crate) fn labels_at(octets: &[u8], place: usize) -> Result<Labels, Fault> {
-    add_labels(octets, place, 0, ArrayVec::new())
 }
 
 /// The place behind the octets that a name takes, before which labels of this size stand. No pointer is followed.
@@ -97,6 +91,12 @@ pub(crate) fn name_end(octets: &[u8], place: usize) -> Result<usize, Fault> {
     end_of_labels(octets, place, 0)
 }
 
+/// The name that stands at this place without pointers, or its leftmost fault.
+pub(crate) fn name_at(octets: &[u8], place: usize) -> Standing<Buffer> {
+    let name = add_labels(octets, place, 0, Buffer::new())?;
+    Ok((name, name_end(octets, place)?))
+}
+
 /// The octets are all of one name without pointers (RFC 1035 section 3.1), before which labels of this size stand.
 pub(crate) fn check_name(octets: &[u8], size: usize) -> Result<(), Fault>
     requires { size ≤ 254 }
@@ -118,104 +118,84 @@ pub(crate) fn check_name(octets: &[u8], size: usize) -> Result<(), Fault>
     }
 }
 
-/// What stands behind the name of a question or of a record. A question has no TTL and no data.
+/// A question or a record. A question has no TTL and no data.
 #[derive(Clone, Copy, Debug, PartialEq, Eq)]
-pub(crate) struct Fields<'a> {
+pub(crate) struct Entry {
+    /// The name without pointers.
+    pub(crate) name: Buffer,
     pub(crate) rtype: u16,
     pub(crate) class: u16,
     pub(crate) ttl: u32,
-    pub(crate) data: &'a [u8],
-    /// The place behind all of it.
-    pub(crate) end: usize,
+    pub(crate) data: Buffer,
 }
 
-/// The fields of a question, behind its name (RFC 1035 section 4.1.2).
-fn question_fields(octets: &[u8], place: usize) -> Option<Fields<'_>> {
+/// The question of a name behind which the octets go on at this place (RFC 1035 section 4.1.2).
+fn question_of(name: Buffer, octets: &[u8], place: usize) -> Option<(Entry, usize)> {
     let [type_high, type_low, class_high, class_low, ..] = octets.get(place..)? else {
         return None;
     };
-    Some(Fields {
+    let question = Entry {
+        name,
         rtype: u16::from_be_bytes([*type_high, *type_low]),
         class: u16::from_be_bytes([*class_high, *class_low]),
         ttl: 0,
-        data: &[],
-        end: place + 4,
-    })
+        data: Buffer::new(),
+    };
+    Some((question, place + 4))
 }
 
-/// The fields of a record's header: all of a record but its owner and its data.
-#[derive(Clone, Copy, Debug, PartialEq, Eq)]
-pub(crate) struct HeaderFields {
-    pub(crate) rtype: u16,
-    pub(crate) class: u16,
-    pub(crate) ttl: u32,
-    /// How many octets the data has.
-    pub(crate) rdlen: u16,
-    /// The place behind all of it.
-    pub(crate) end: usize,
-}
+/// The header of a record: all of it but its data, and how many octets that has (RFC 1035 section 4.1.3).
+pub(crate) type Header = (Entry, u16);
 
-/// The fields of a record's header, behind its owner (RFC 1035 section 4.1.3).
-fn fields_behind(octets: &[u8], place: usize) -> Option<HeaderFields> {
-    let question = question_fields(octets, place)?;
-    let [first, second, third, fourth, high, low, ..] = octets.get(question.end..)? else {
+/// The header of an owner behind which the octets go on at this place. Its data need not be there.
+fn header_of(owner: Buffer, octets: &[u8], place: usize) -> Option<(Header, usize)> {
+    let (question, place) = question_of(owner, octets, place)?;
+    let [first, second, third, fourth, high, low, ..] = octets.get(place..)? else {
         return None;
     };
-    Some(HeaderFields {
-        rtype: question.rtype,
-        class: question.class,
-        ttl: u32::from_be_bytes([*first, *second, *third, *fourth]),
-        rdlen: u16::from_be_bytes([*high, *low]),
-        end: question.end + 6,
-    })
+    let ttl = u32::from_be_bytes([*first, *second, *third, *fourth]);
+    let rdlen = u16::from_be_bytes([*high, *low]);
+    Some(((Entry { ttl, ..question }, rdlen), place + 6))
 }
 
-/// The fields of the record header at this place, whose owner has to stand. Its data need not be there.
-pub(crate) fn header_fields(octets: &[u8], place: usize) -> Result<HeaderFields, Fault> {
-    let _labels = labels_at(octets, place)?;
+/// The record of an owner behind which the octets go on at this place.
+fn record_of(owner: Buffer, octets: &[u8], place: usize) -> Option<(Entry, usize)> {
+    let ((header, rdlen), place) = header_of(owner, octets, place)?;
+    let len = usize::from(rdlen);
+    let data = Buffer::of(octets.get(place..)?.get(..len)?);
+    Some((Entry { data, ..header }, place + len))
+}
+
+/// The entry of a section: a question in the section 0, a record in the sections 1 to 3.
+fn entry_of(
+    name: Buffer,
+    octets: &[u8],
+    section: u8,
+    place: usize,
+) -> Result<(Entry, usize), Fault> {
+    match section {
+        0 => question_of(name, octets, place),
+        _ => record_of(name, octets, place),
+    }
+    .ok_or(Fault::Short)
+}
+
+/// The place behind the entry of a section at this place, whose name need not stand.
+pub(crate) fn skip_entry(octets: &[u8], section: u8, place: usize) -> Result<usize, Fault> {
     let behind = name_end(octets, place)?;
-    fields_behind(octets, behind).ok_or(Fault::Short)
-}
-
-/// The fields of a record and its data, behind its owner (RFC 1035 section 4.1.3).
-fn record_fields(octets: &[u8], place: usize) -> Option<Fields<'_>> {
-    let header = fields_behind(octets, place)?;
-    let len = usize::from(header.rdlen);
-    Some(Fields {
-        rtype: header.rtype,
-        class: header.class,
-        ttl: header.ttl,
-        data: octets.get(header.end..)?.get(..len)?,
-        end: header.end + len,
-    })
-}
-
-/// The fields of the entry of a section: a question in the section 0, a record in the sections 1 to 3.
-pub(crate) fn skip_entry(octets: &[u8], section: u8, place: usize) -> Result<Fields<'_>, Fault> {
-    let behind = name_end(octets, place)?;
-    let fields = match section {
-        0 => question_fields(octets, behind),
-        _ => record_fields(octets, behind),
-    };
-    fields.ok_or(Fault::Short)
-}
-
-/// An entry whose name stands.
-#[derive(Clone, Copy, Debug)]
-pub(crate) struct Entry<'a> {
-    /// The place of its name.
-    pub(crate) name: usize,
-    pub(crate) fields: Fields<'a>,
+    Ok(entry_of(Buffer::new(), octets, section, behind)?.1)
 }
 
 /// The entry of a section at this place.
-pub(crate) fn read_entry(octets: &[u8], section: u8, place: usize) -> Result<Entry<'_>, Fault> {
-    let _labels = labels_at(octets, place)?;
-    let fields = skip_entry(octets, section, place)?;
-    Ok(Entry {
-        name: place,
-        fields,
-    })
+pub(crate) fn entry_at(octets: &[u8], section: u8, place: usize) -> Standing<Entry> {
+    let (name, behind) = name_at(octets, place)?;
+    entry_of(name, octets, section, behind)
+}
+
+/// The record header at this place.
+pub(crate) fn header_at(octets: &[u8], place: usize) -> Standing<Header> {
+    let (owner, behind) = name_at(octets, place)?;
+    header_of(owner, octets, behind).ok_or(Fault::Short)
 }
 
 /// How many entries a section has by the header section.
@@ -233,40 +213,62 @@ pub(crate) fn start(octets: &[u8], section: u8) -> Result<usize, Fault> {
     }
     let mut place = start(octets, section - 1)?;
     for _ in 0..count(octets, section - 1) {
-        place = skip_entry(octets, section - 1, place)?.end;
+        place = skip_entry(octets, section - 1, place)?;
     }
     Ok(place)
 }
 
 /// Reads the entries of a section one after another, up to the first that can't be read.
-#[derive(Clone, Copy, Debug)]
+#[derive(Clone, Copy)]
 pub(crate) struct Reading<'a> {
     octets: &'a [u8],
-    section: u8,
+    pub(crate) section: u8,
     /// Behind the entries that were read.
     pub(crate) place: usize,
     left: u16,
+    /// Why no more entries can be read.
+    fault: Option<Fault>,
 }
 
 impl<'a> Reading<'a> {
-    /// The reading of a section, or the fault of the entry for which it has no start.
-    pub(crate) fn of(octets: &'a [u8], section: u8) -> Result<Self, Fault> {
-        Ok(Reading {
+    /// The reading of a section that starts at this place.
+    pub(crate) fn at(octets: &'a [u8], section: u8, place: usize) -> Self {
+        Reading {
             octets,
             section,
-            place: start(octets, section)?,
+            place,
             left: count(octets, section),
-        })
+            fault: None,
+        }
+    }
+
+    /// The reading of a section, or the fault of the entry for which it has no start.
+    pub(crate) fn of(octets: &'a [u8], section: u8) -> Result<Self, Fault> {
+        Ok(Reading::at(octets, section, start(octets, section)?))
     }
 
     /// The next entry, or the fault of the first that can't be read, behind which there are no more.
-    pub(crate) fn next(&mut self) -> Option<Result<Entry<'a>, Fault>> {
+    pub(crate) fn next(&mut self) -> Option<Result<Entry, Fault>> {
         self.left = self.left.checked_sub(1)?;
-        let entry = read_entry(self.octets, self.section, self.place);
-        match entry {
-            Ok(entry) => self.place = entry.fields.end,
-            Err(_) => self.left = 0,
+        match entry_at(self.octets, self.section, self.place) {
+            Ok((entry, end)) => {
+                self.place = end;
+                Some(Ok(entry))
+            }
+            Err(fault) => {
+                self.left = 0;
+                self.fault = Some(fault);
+                Some(Err(fault))
+            }
         }
-        Some(entry)
+    }
+
+    /// Where the section behind this one starts, or the fault in its stead: the one that was met, else that of the entry for
+    /// which the section has no start.
+    pub(crate) fn start_behind(&self) -> Result<usize, Fault> {
+        match self.fault {
+            Some(fault) => Err(fault),
+            None => start(self.octets, self.section.saturating_add(1)),
+        }
     }
 }

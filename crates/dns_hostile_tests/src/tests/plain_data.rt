@@ -1,85 +1,86 @@
 //! Plain data of records, as RFC 1035 sections 3.3 and 3.4 and RFC 6891 section 6.1.2 lay it out.
-use crate::tests::plain::{Entry, Fault, labels_at, name_end};
-use crate::tests::plain_searches::has_options;
-use arrayvec::ArrayVec;
+use crate::tests::buffer::Buffer;
+use crate::tests::plain::{
+    Entry, Fault, Header, Standing, check_name, entry_at, header_at, name_at,
+};
 
-/// Data whose names have no pointers.
-pub(crate) type Expanded = ArrayVec<u8, 1024>;
-
-/// Adds octets.
-fn add(data: &mut Expanded, octets: &[u8]) -> Result<(), Fault> {
-    match data.try_extend_from_slice(octets) {
-        Ok(()) => Ok(()),
-        Err(_) => Err(Fault::Form),
+/// The octets are a list of options, each of them a code, a length and so many octets (RFC 6891 section 6.1.2).
+pub(crate) fn has_options(octets: &[u8]) -> bool {
+    let [_, _, high, low, rest @ ..] = octets else {
+        return octets.is_empty();
+    };
+    match rest.get(usize::from(u16::from_be_bytes([*high, *low]))..) {
+        Some(behind) => has_options(behind),
+        None => false,
     }
 }
 
-/// Adds the name at this place, and answers the place behind it.
-fn add_name(seen: &[u8], place: usize, data: &mut Expanded) -> Result<usize, Fault> {
-    add(data, labels_at(seen, place)?.as_slice())?;
-    add(data, &[0])?;
-    name_end(seen, place)
-}
-
-/// Adds the octets from this place on, so many of them, and answers the place behind them.
-fn add_octets(seen: &[u8], place: usize, len: usize, data: &mut Expanded) -> Result<usize, Fault> {
-    let Some(octets) = seen.get(place..).and_then(|behind| behind.get(..len)) else {
-        return Err(Fault::Short);
-    };
-    add(data, octets)?;
-    Ok(place.saturating_add(len))
-}
-
-/// Adds all octets from this place on, which for the type OPT have to be options.
-fn add_rest(seen: &[u8], place: usize, rtype: u16, data: &mut Expanded) -> Result<usize, Fault> {
-    let Some(octets) = seen.get(place..) else {
-        return Err(Fault::Short);
-    };
-    if rtype == 41 && !has_options(octets) {
-        return Err(Fault::Short);
+/// So many octets from this place on.
+pub(crate) fn octets_at(octets: &[u8], place: usize, len: usize) -> Standing<Buffer> {
+    match octets.get(place..).and_then(|behind| behind.get(..len)) {
+        Some(octets) => Ok((Buffer::of(octets), place.saturating_add(len))),
+        None => Err(Fault::Short),
     }
-    add(data, octets)?;
-    Ok(seen.len())
 }
 
-/// The data of this record type that stands from this place on, and the place behind it, or its leftmost fault.
-pub(crate) fn read_data(seen: &[u8], place: usize, rtype: u16) -> Result<(Expanded, usize), Fault> {
-    let mut data = ArrayVec::new();
-    let end = match rtype {
-        1 => add_octets(seen, place, 4, &mut data)?,
-        2 | 5 => add_name(seen, place, &mut data)?,
-        6 => {
-            let rname = add_name(seen, place, &mut data)?;
-            let numbers = add_name(seen, rname, &mut data)?;
-            add_octets(seen, numbers, 20, &mut data)?
-        }
-        _ => add_rest(seen, place, rtype, &mut data)?,
-    };
-    Ok((data, end))
+/// The names of the start of a zone, and its five numbers.
+fn soa_at(seen: &[u8], place: usize) -> Standing<Buffer> {
+    let (mname, place) = name_at(seen, place)?;
+    let (rname, place) = name_at(seen, place)?;
+    let (numbers, end) = octets_at(seen, place, 20)?;
+    let names = mname.with(rname.as_slice());
+    Ok((names.with(numbers.as_slice()), end))
 }
 
-/// The data of a record, which has to be all of it. Names in it end before it does.
-fn whole_data(octets: &[u8], entry: Entry<'_>) -> Result<Expanded, Fault> {
-    let end = entry.fields.end;
-    let start = end.saturating_sub(entry.fields.data.len());
+/// All octets from this place on, which have to be options.
+fn options_at(seen: &[u8], place: usize) -> Standing<Buffer> {
+    match seen.get(place..) {
+        Some(options) if has_options(options) => Ok((Buffer::of(options), seen.len())),
+        _ => Err(Fault::Short),
+    }
+}
+
+/// The data of this record type that stands from this place on, its names without pointers, or its leftmost fault. The types
+/// are A, NS, CNAME, SOA and OPT.
+pub(crate) fn data_at(seen: &[u8], place: usize, rtype: u16) -> Standing<Buffer> {
+    match rtype {
+        1 => octets_at(seen, place, 4),
+        2 | 5 => name_at(seen, place),
+        6 => soa_at(seen, place),
+        _ => options_at(seen, place),
+    }
+}
+
+/// The record that stands in the octets with its data, whose names have no pointers, or nothing, where it has another type. The
+/// data has to be all of it, and names in it end before it does.
+pub(crate) fn typed_of(
+    octets: &[u8],
+    record: Standing<Entry>,
+    rtype: u16,
+) -> Result<Option<Entry>, Fault> {
+    let (entry, end) = record?;
+    if entry.rtype != rtype {
+        return Ok(None);
+    }
+    let start = end.saturating_sub(entry.data.as_slice().len());
     let seen = octets.get(..end).ok_or(Fault::Short)?;
-    let (data, behind) = read_data(seen, start, entry.fields.rtype)?;
+    let (data, behind) = data_at(seen, start, rtype)?;
     if behind == end {
-        Ok(data)
+        Ok(Some(Entry { data, ..entry }))
     } else {
         Err(Fault::Form)
     }
 }
 
-/// What data of this type is answered to a record, or to the fault in its place: nothing, where the record has another type.
-pub(crate) fn typed_answer(
-    octets: &[u8],
-    record: Result<Entry<'_>, Fault>,
-    rtype: u16,
-) -> Option<Result<Expanded, Fault>> {
-    match record {
-        Ok(entry) if entry.fields.rtype != rtype => None,
-        Ok(entry) => Some(whole_data(octets, entry)),
-        Err(fault) => Some(Err(fault)),
-    }
+/// The record header at this place, whose data has to be there, and the place behind the data.
+pub(crate) fn header_passed(octets: &[u8], place: usize) -> Standing<Header> {
+    let (header, _) = header_at(octets, place)?;
+    let (_, end) = entry_at(octets, 1, place)?;
+    Ok((header, end))
+}
+
+/// The name of all of these octets: its labels, and the octets themselves.
+pub(crate) fn whole_name(octets: &[u8]) -> Result<[Buffer; 2], Fault> {
+    check_name(octets, 0)?;
+    Ok([Buffer::of(octets); 2])
 }

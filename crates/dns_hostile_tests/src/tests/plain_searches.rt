@@ -1,77 +1,73 @@
 //! Plain searches in messages, over the readings of their sections.
-use crate::tests::plain::{Entry, Fault, Labels, Reading, count, labels_at, name_end};
+use crate::tests::buffer::Buffer;
+use crate::tests::plain::{Entry, Fault, Reading, count, start};
+use crate::tests::plain_data::{has_options, typed_of};
 
 /// The first question, where it can be read.
-pub(crate) fn first_question(octets: &[u8]) -> Option<Entry<'_>> {
+pub(crate) fn first_question(octets: &[u8]) -> Option<Entry> {
     Reading::of(octets, 0).ok()?.next()?.ok()
 }
 
-/// The data is a list of options, each of them a code, a length and so many octets (RFC 6891 section 6.1.2).
-pub(crate) fn has_options(data: &[u8]) -> bool {
-    let [_, _, high, low, rest @ ..] = data else {
-        return data.is_empty();
-    };
-    match rest.get(usize::from(u16::from_be_bytes([*high, *low]))..) {
-        Some(behind) => has_options(behind),
-        None => false,
+/// The question that a message is about, where it has one.
+pub(crate) fn sole_question(octets: &[u8]) -> Result<Entry, Fault> {
+    match Reading::of(octets, 0)?.next() {
+        Some(question) if count(octets, 0) == 1 => question,
+        _ => Err(Fault::Form),
     }
 }
 
 /// The first OPT record of the additional section, unless a fault is met before or in it.
-pub(crate) fn opt(octets: &[u8]) -> Option<Entry<'_>> {
+pub(crate) fn opt(octets: &[u8]) -> Option<Entry> {
     let mut reading = Reading::of(octets, 3).ok()?;
     for _ in 0..u16::MAX {
         let entry = reading.next()?.ok()?;
-        if entry.fields.rtype == 41 {
-            return has_options(entry.fields.data).then_some(entry);
+        if entry.rtype == 41 {
+            return has_options(entry.data.as_slice()).then_some(entry);
         }
     }
     None
 }
 
-/// The name that is all of the data of a record.
-fn name_of_data(octets: &[u8], entry: Entry<'_>) -> Option<Labels> {
-    let end = entry.fields.end;
-    let place = end.checked_sub(entry.fields.data.len())?;
-    let seen = octets.get(..end)?;
-    let labels = labels_at(seen, place).ok()?;
-    (name_end(seen, place) == Ok(end)).then_some(labels)
-}
-
-/// The alias that an entry gives for a name.
-fn alias_of(octets: &[u8], entry: Entry<'_>, labels: &Labels) -> Option<Labels> {
-    if entry.fields.rtype != 5 {
-        return None;
+/// The next record of this type in a reading with its data, or the next fault, also that of the data. Where only the class IN
+/// counts, records of another class are passed.
+pub(crate) fn next_typed(
+    octets: &[u8],
+    reading: &mut Reading<'_>,
+    rtype: u16,
+    in_only: bool,
+) -> Option<Result<Entry, Fault>> {
+    for _ in 0..=u16::MAX {
+        match reading.next()? {
+            Ok(entry) if entry.rtype != rtype || in_only && entry.class != 1 => {}
+            Ok(entry) => return typed_of(octets, Ok((entry, reading.place)), rtype).transpose(),
+            Err(fault) => return Some(Err(fault)),
+        }
     }
-    let owner = labels_at(octets, entry.name).ok()?;
-    if owner.eq_ignore_ascii_case(labels) {
-        name_of_data(octets, entry)
-    } else {
-        None
-    }
+    None
 }
 
 /// The name of the first alias of a name in the answer section.
-fn next_name(octets: &[u8], labels: &Labels) -> Option<Labels> {
+fn next_name(octets: &[u8], name: &Buffer) -> Option<Buffer> {
     let mut reading = Reading::of(octets, 1).ok()?;
     for _ in 0..u16::MAX {
         let entry = reading.next()?.ok()?;
-        let alias = alias_of(octets, entry, labels);
-        if alias.is_some() {
-            return alias;
+        if entry.name.as_slice().eq_ignore_ascii_case(name.as_slice()) {
+            if let Ok(Some(alias)) = typed_of(octets, Ok((entry, reading.place)), 5) {
+                return Some(alias.data);
+            }
         }
     }
     None
 }
 
 /// The name that the aliases from the question's name lead to, in fewer than twenty steps.
-pub(crate) fn canonical_name(octets: &[u8]) -> Option<Labels> {
-    let mut labels = labels_at(octets, first_question(octets)?.name).ok()?;
-    Reading::of(octets, 1).ok()?;
+pub(crate) fn canonical_name(octets: &[u8]) -> Option<Buffer> {
+    let mut name = first_question(octets)?.name;
+    start(octets, 1).ok()?;
     for _ in 0..20 {
-        match next_name(octets, &labels) {
-            Some(alias) => labels = alias,
-            None => return Some(labels),
+        match next_name(octets, &name) {
+            Some(alias) => name = alias,
+            None => return Some(name),
         }
     }
     None
@@ -84,7 +80,7 @@ pub(crate) fn contains_answer(octets: &[u8], rtype: u16) -> bool {
     };
     for _ in 0..u16::MAX {
         match reading.next() {
-            Some(Ok(entry)) if entry.fields.rtype != rtype => {}
+            Some(Ok(entry)) if entry.rtype != rtype => {}
             Some(_) => return true,
             None => return false,
         }
@@ -92,40 +88,74 @@ pub(crate) fn contains_answer(octets: &[u8], rtype: u16) -> bool {
     false
 }
 
-/// The last additional record, where all of them can be read.
-pub(crate) fn last_additional(octets: &[u8]) -> Option<Entry<'_>> {
+/// The last additional record with its data, where all of them can be read and it has this type.
+pub(crate) fn last_additional(octets: &[u8], rtype: u16) -> Option<Entry> {
     let mut reading = Reading::of(octets, 3).ok()?;
-    let mut last = None;
+    let mut last = Err(Fault::Short);
     for _ in 0..u16::MAX {
         match reading.next() {
-            Some(Ok(entry)) => last = Some(entry),
-            Some(Err(_)) => return None,
-            None => return last,
+            Some(entry) => last = Ok((entry.ok()?, reading.place)),
+            None => break,
         }
     }
-    None
+    typed_of(octets, last, rtype).ok()?
 }
 
-/// How many lines are printed of a section: one for each entry, and one for a fault.
-pub(crate) fn lines_of(octets: &[u8], section: u8) -> Result<usize, Fault> {
-    let mut reading = Reading::of(octets, section)?;
-    for lines in 0..usize::from(u16::MAX) {
-        if reading.next().is_none() {
-            return Ok(lines);
-        }
-    }
-    Ok(usize::from(u16::MAX))
-}
-
-/// Both questions can be read, and ask the same, where the letter case of names plays no part.
-fn is_same_question(octets: &[u8], entry: Entry<'_>, others: &[u8], other: Entry<'_>) -> bool {
-    let (Ok(name), Ok(other_name)) = (labels_at(octets, entry.name), labels_at(others, other.name))
-    else {
-        return false;
+/// How many entries of a section can be read, and the fault behind them or at the start of the section.
+pub(crate) fn readable(octets: &[u8], section: u8) -> (usize, Option<Fault>) {
+    let mut reading = match Reading::of(octets, section) {
+        Ok(reading) => reading,
+        Err(fault) => return (0, Some(fault)),
     };
-    name.eq_ignore_ascii_case(&other_name)
-        && entry.fields.rtype == other.fields.rtype
-        && entry.fields.class == other.fields.class
+    let mut entries = 0_usize;
+    for _ in 0..=u16::MAX {
+        match reading.next() {
+            Some(Ok(_)) => entries = entries.saturating_add(1),
+            Some(Err(fault)) => return (entries, Some(fault)),
+            None => break,
+        }
+    }
+    (entries, None)
+}
+
+/// How many records of the three sections are before the first fault, also that of a section without a start, and that fault.
+pub(crate) fn readable_records(octets: &[u8]) -> (usize, Option<Fault>) {
+    let mut records = 0_usize;
+    for section in 1..=3 {
+        let (more, fault) = readable(octets, section);
+        records = records.saturating_add(more);
+        if fault.is_some() {
+            return (records, fault);
+        }
+    }
+    (records, None)
+}
+
+/// How many lines are printed of a message: two, one for each entry, one for each fault, and one for the first section without
+/// a start.
+pub(crate) fn line_count(octets: &[u8]) -> usize {
+    let mut lines = 2_usize;
+    for section in 0..=3 {
+        let (entries, fault) = readable(octets, section);
+        lines = lines.saturating_add(entries);
+        if fault.is_some() {
+            lines = lines.saturating_add(1);
+        }
+        if start(octets, section).is_err() {
+            break;
+        }
+    }
+    lines
+}
+
+/// Both are the same question, where the letter case of names plays no part.
+fn is_same_question(question: Entry, other: Entry) -> bool {
+    question
+        .name
+        .as_slice()
+        .eq_ignore_ascii_case(other.name.as_slice())
+        && question.rtype == other.rtype
+        && question.class == other.class
 }
 
 /// The questions of two messages can all be read, and are the same in order.
@@ -135,8 +165,8 @@ fn same_questions(octets: &[u8], others: &[u8]) -> bool {
     };
     for _ in 0..=u16::MAX {
         match (reading.next(), other.next()) {
-            (Some(Ok(entry)), Some(Ok(another))) => {
-                if !is_same_question(octets, entry, others, another) {
+            (Some(Ok(question)), Some(Ok(another))) => {
+                if !is_same_question(question, another) {
                     return false;
                 }
             }
@@ -153,27 +183,4 @@ pub(crate) fn is_answer(octets: &[u8], query: &[u8]) -> bool {
         && octets.get(..2) == query.get(..2)
         && count(octets, 0) == count(query, 0)
         && same_questions(octets, query)
-}
-
-/// Counts the records of a section up to its fault.
-fn count_section(octets: &[u8], section: u8, records: &mut usize) -> Result<(), Fault> {
-    let mut reading = Reading::of(octets, section)?;
-    for _ in 0..=u16::MAX {
-        match reading.next() {
-            Some(entry) => {
-                let _entry = entry?;
-                *records = records.saturating_add(1);
-            }
-            None => return Ok(()),
-        }
-    }
-    Ok(())
-}
-
-/// Counts the records of the three sections up to the first fault, also that of a section without a start.
-pub(crate) fn count_records(octets: &[u8], records: &mut usize) -> Result<(), Fault> {
-    for section in 1..=3 {
-        count_section(octets, section, records)?;
-    }
-    Ok(())
 }

@@ -1,146 +1,148 @@
 //! The cursors and iterators over sections, beside plain readings.
-use crate::tests::given::{
-    assert_end, assert_fault, assert_given, assert_place, fault_of, given_question, given_record,
-};
-use crate::tests::plain::{Fault, Reading, start};
-use dns_read::{Message, MessageIter, QuestionSection, RecordSection, Section};
+use crate::tests::given::{Given, Opaque, assert_same, fault_of};
+use crate::tests::plain::{Entry, Fault, Reading, start};
+use crate::tests::plain_searches::next_typed;
+use dns_data::A;
+use dns_read::{Message, MessageIter, RecordIter, RecordSection};
 use dns_wire::ParseError;
 use std::process::Abort;
-use std::test::Fail;
 
-/// What is given next is the next of the reading. Answers whether there was one.
-fn assert_question(
-    rt: &impl Abort,
-    octets: &[u8],
-    questions: &mut QuestionSection<'_>,
-    reading: &mut Reading<'_>,
-) -> Result<bool, Fail> {
-    assert_place(rt, "question", questions.pos(), reading.place);
-    match (questions.next(), reading.next()) {
-        (Some(question), Some(entry)) => {
-            let given = given_question(question, questions.pos());
-            assert_given(rt, octets, given, entry)?;
-            Ok(true)
-        }
-        (None, None) => Ok(false),
-        _ => panic!(rt; "as many questions"),
-    }
-}
-
-/// The questions of a message.
-pub(crate) fn assert_questions(rt: &impl Abort, message: &Message<&[u8]>) -> Result<(), Fail> {
-    let octets = message.as_slice();
+/// The questions, and before and behind each of them the places of the cursor and of the answer section.
+pub(crate) fn assert_questions(rt: &impl Abort, message: &Message<&[u8]>) {
+    let mut reading = Reading::at(message.as_slice(), 0, 12);
     let mut questions = message.question();
-    let Ok(mut reading) = Reading::of(octets, 0) else {
-        panic!(rt; "no start");
-    };
     for _ in 0..=u16::MAX {
-        if !assert_question(rt, octets, &mut questions, &mut reading)? {
+        assert_same(rt, "place of a question", questions.pos(), reading.place);
+        let starts = [questions.answer().plain(), questions.next_section().plain()];
+        assert_same(rt, "answer section", starts, [reading.start_behind(); 2]);
+        let expected = reading.next();
+        assert_same(rt, "question", questions.next().plain(), expected);
+        if expected.is_none() {
             break;
         }
     }
-    Ok(())
 }
 
-/// What is given next is the next of the reading. Answers whether there was one.
-fn assert_record(
+/// Where the next section starts behind a reading. There is none behind the last.
+fn next_start(reading: &Reading<'_>) -> Result<Option<usize>, Fault> {
+    match reading.section {
+        3 => Ok(None),
+        _ => Ok(Some(reading.start_behind()?)),
+    }
+}
+
+/// A cursor stands behind a reading, and it and each iterator over it move on to the next section.
+fn assert_cursor(rt: &impl Abort, records: RecordSection<'_>, reading: &Reading<'_>) {
+    assert_same(rt, "place of a record", records.pos(), reading.place);
+    let all = records.into_records::<Opaque<'_>>();
+    let starts = [
+        records.next_section().plain(),
+        records.limit_to::<A>().next_section().plain(),
+        records.limit_to_in::<A>().next_section().plain(),
+        all.next_section().plain(),
+    ];
+    assert_same(rt, "next section", starts, [next_start(reading); 4]);
+}
+
+/// A cursor over records, and an iterator over them with their data, give what a reading has.
+fn assert_records(rt: &impl Abort, mut records: RecordSection<'_>, mut reading: Reading<'_>) {
+    let mut all = records.into_records::<Opaque<'_>>();
+    for _ in 0..=u16::MAX {
+        assert_cursor(rt, records, &reading);
+        let expected = reading.next();
+        assert_same(rt, "record", records.next().plain(), expected);
+        assert_same(rt, "record with its data", all.next().plain(), expected);
+        if expected.is_none() {
+            break;
+        }
+    }
+    assert_same(rt, "end of the records", all.unwrap().pos(), reading.place);
+}
+
+/// An iterator over addresses gives those of a reading.
+fn assert_addresses(
     rt: &impl Abort,
     octets: &[u8],
-    records: &mut RecordSection<'_>,
-    reading: &mut Reading<'_>,
-) -> Result<bool, Fail> {
-    assert_place(rt, "record", records.pos(), reading.place);
-    match (records.next(), reading.next()) {
-        (Some(record), Some(entry)) => {
-            let given = given_record(record, records.pos());
-            assert_given(rt, octets, given, entry)?;
-            Ok(true)
+    mut addresses: RecordIter<'_, A>,
+    mut reading: Reading<'_>,
+    in_only: bool,
+) {
+    for _ in 0..=u16::MAX {
+        let expected = next_typed(octets, &mut reading, 1, in_only);
+        assert_same(rt, "address", addresses.next().plain(), expected);
+        if expected.is_none() {
+            break;
         }
-        (None, None) => Ok(false),
-        _ => panic!(rt; "as many records"),
     }
 }
 
 /// The records of a section, or why it has no start.
-fn assert_records(
+fn assert_section(
     rt: &impl Abort,
     octets: &[u8],
     section: u8,
     records: Result<RecordSection<'_>, ParseError>,
-) -> Result<(), Fail> {
-    match (records, Reading::of(octets, section)) {
-        (Ok(mut records), Ok(mut reading)) => {
-            for _ in 0..=u16::MAX {
-                if !assert_record(rt, octets, &mut records, &mut reading)? {
-                    break;
-                }
-            }
-        }
-        (Err(error), Err(fault)) => assert_fault(rt, "section", error, fault),
-        _ => panic!(rt; "one start of section {section}"),
+) {
+    let place = start(octets, section);
+    assert_same(rt, "section", records.plain(), place);
+    if let (Ok(records), Ok(place)) = (records, place) {
+        let reading = Reading::at(octets, section, place);
+        assert_records(rt, records, reading);
+        assert_addresses(rt, octets, records.limit_to(), reading, false);
+        assert_addresses(rt, octets, records.limit_to_in(), reading, true);
     }
-    Ok(())
+}
+
+/// The starts of all sections.
+fn starts(octets: &[u8]) -> Result<[usize; 4], Fault> {
+    Ok([12, start(octets, 1)?, start(octets, 2)?, start(octets, 3)?])
 }
 
 /// The three sections of records, and the starts of all sections.
-pub(crate) fn assert_sections(rt: &impl Abort, message: &Message<&[u8]>) -> Result<(), Fail> {
+pub(crate) fn assert_sections(rt: &impl Abort, message: &Message<&[u8]>) {
     let octets = message.as_slice();
-    assert_records(rt, octets, 1, message.answer())?;
-    assert_records(rt, octets, 2, message.authority())?;
-    assert_records(rt, octets, 3, message.additional())?;
-    match message.sections() {
-        Ok((questions, answers, authorities, additionals)) => {
-            assert_place(rt, "questions", questions.pos(), 12);
-            assert_end(rt, "answers", Ok(answers.pos()), start(octets, 1));
-            assert_end(rt, "authorities", Ok(authorities.pos()), start(octets, 2));
-            assert_end(rt, "additionals", Ok(additionals.pos()), start(octets, 3));
-        }
-        Err(error) => assert_end(rt, "sections", Err(fault_of(error)), start(octets, 3)),
-    }
-    Ok(())
+    assert_section(rt, octets, 1, message.answer());
+    assert_section(rt, octets, 2, message.authority());
+    assert_section(rt, octets, 3, message.additional());
+    let found = match message.sections() {
+        Ok((questions, answers, authorities, additionals)) => Ok([
+            questions.pos(),
+            answers.pos(),
+            authorities.pos(),
+            additionals.pos(),
+        ]),
+        Err(error) => Err(fault_of(error)),
+    };
+    assert_same(rt, "sections", found, starts(octets));
 }
 
-/// The section with this number.
-fn number_of(section: Section) -> u8 {
-    match section {
-        Section::Answer => 1,
-        Section::Authority => 2,
-        Section::Additional => 3,
-    }
-}
-
-/// What an iterator over a message gives next: the section and type of a record, or a fault.
-fn next_item(items: &mut MessageIter<'_>) -> Option<Result<(u8, u16), Fault>> {
-    match items.next()? {
-        Ok((record, section)) => Some(Ok((number_of(section), record.rtype().to_int()))),
-        Err(error) => Some(Err(fault_of(error))),
-    }
-}
-
-/// The iterator gives this item next.
-fn assert_item(rt: &impl Abort, items: &mut MessageIter<'_>, expected: Result<(u8, u16), Fault>) {
-    assert_eq!(rt; next_item(items), Some(expected));
+/// The iterator gives the entry, or the fault, of this section next.
+fn assert_item(
+    rt: &impl Abort,
+    items: &mut MessageIter<'_>,
+    section: u8,
+    entry: Result<Entry, Fault>,
+) {
+    let expected = match entry {
+        Ok(entry) => Ok((section, entry)),
+        Err(fault) => Err(fault),
+    };
+    assert_same(rt, "item", items.next().plain(), Some(expected));
 }
 
 /// The iterator gives the records of a section, and a fault once more where a section stands behind it. Answers whether the
 /// section had no fault.
-fn assert_items(
-    rt: &impl Abort,
-    items: &mut MessageIter<'_>,
-    mut reading: Reading<'_>,
-    section: u8,
-) -> bool {
-    for _ in 0..u16::MAX {
-        match reading.next() {
-            Some(Ok(entry)) => assert_item(rt, items, Ok((section, entry.fields.rtype))),
-            Some(Err(fault)) => {
-                assert_item(rt, items, Err(fault));
-                if section < 3 {
-                    assert_item(rt, items, Err(fault));
-                }
-                return false;
+fn assert_items(rt: &impl Abort, items: &mut MessageIter<'_>, mut reading: Reading<'_>) -> bool {
+    for _ in 0..=u16::MAX {
+        let Some(entry) = reading.next() else {
+            break;
+        };
+        assert_item(rt, items, reading.section, entry);
+        if entry.is_err() {
+            if reading.section < 3 {
+                assert_item(rt, items, reading.section, entry);
             }
-            None => return true,
+            return false;
         }
     }
     true
@@ -153,7 +155,7 @@ pub(crate) fn assert_iter(rt: &impl Abort, message: &Message<&[u8]>) {
         let Ok(reading) = Reading::of(message.as_slice(), section) else {
             break;
         };
-        if !assert_items(rt, &mut items, reading, section) {
+        if !assert_items(rt, &mut items, reading) {
             break;
         }
     }

@@ -1,49 +1,70 @@
-//! Reading and passing names, questions and records from each place of octets.
-use crate::tests::given::{
-    assert_end, assert_given, assert_name, fault_of, given_question, given_record,
-};
-use crate::tests::plain::{Fault, labels_at, name_end, read_entry, skip_entry};
-use dns_item::{ParsedRecord, Question};
-use dns_wire::{ParseError, ParsedName, Parser};
+//! What is read and passed from each place of octets, beside what stands there.
+use crate::tests::data::assert_data;
+use crate::tests::given::{Given, assert_read, assert_same, fault_of};
+use crate::tests::plain::{Fault, entry_at, header_at, name_at, name_end, skip_entry};
+use crate::tests::plain_data::{header_passed, octets_at, whole_name};
+use dns_code::HeaderSection;
+use dns_item::{ParsedRecord, Question, RecordHeader, Ttl};
+use dns_wire::{Name, ParseError, ParsedName, Parser};
 use std::process::Abort;
-use std::test::Fail;
 
-/// A parser at this place.
-pub(crate) fn parser_at(octets: &[u8], place: usize) -> Result<Parser<'_>, Fail> {
-    let mut parser = Parser::new(octets);
-    parser.seek(place)?;
-    Ok(parser)
+/// The name, the question and the record that are read from this place.
+fn assert_entries(rt: &impl Abort, octets: &[u8], parser: Parser<'_>) {
+    let place = parser.pos();
+    let mut behind = parser;
+    let name = ParsedName::parse(&mut behind).plain();
+    let expected = name_at(octets, place);
+    assert_read(rt, "name", place, (name, behind.pos()), expected);
+    let mut behind = parser;
+    let question = Question::parse(&mut behind).plain();
+    let expected = entry_at(octets, 0, place);
+    assert_read(rt, "question", place, (question, behind.pos()), expected);
+    let mut behind = parser;
+    let record = ParsedRecord::parse(&mut behind).plain();
+    let expected = entry_at(octets, 1, place);
+    assert_read(rt, "record", place, (record, behind.pos()), expected);
 }
 
-/// The name that is read from this place.
-fn assert_parses_name(rt: &impl Abort, octets: &[u8], place: usize) -> Result<(), Fail> {
-    let mut parser = parser_at(octets, place)?;
-    match ParsedName::parse(&mut parser) {
-        Ok(name) => {
-            assert_end(rt, "name", Ok(parser.pos()), name_end(octets, place));
-            assert_name(rt, octets, place, name)
-        }
-        Err(error) => {
-            assert_eq!(rt; labels_at(octets, place).err(), Some(fault_of(error)));
-            Ok(())
-        }
-    }
+/// The record header that is read from this place, whether its data is passed or not.
+fn assert_headers(rt: &impl Abort, octets: &[u8], parser: Parser<'_>) {
+    let place = parser.pos();
+    let expected = header_at(octets, place);
+    let mut behind = parser;
+    let header = RecordHeader::parse(&mut behind).plain();
+    assert_read(rt, "header", place, (header, behind.pos()), expected);
+    let mut behind = parser;
+    let header = RecordHeader::parse_ref(&mut behind).plain();
+    assert_read(rt, "header", place, (header, behind.pos()), expected);
+    let mut behind = parser;
+    let header = RecordHeader::parse_and_skip(&mut behind).plain();
+    let expected = header_passed(octets, place);
+    assert_read(rt, "header", place, (header, behind.pos()), expected);
 }
 
-/// The question and the record that are read from this place.
-fn assert_parses(rt: &impl Abort, octets: &[u8], place: usize) -> Result<(), Fail> {
-    let mut parser = parser_at(octets, place)?;
-    let question = Question::parse(&mut parser);
-    let given = given_question(question, parser.pos());
-    assert_given(rt, octets, given, read_entry(octets, 0, place))?;
-    let mut parser = parser_at(octets, place)?;
-    let record = ParsedRecord::parse(&mut parser);
-    let given = given_record(record, parser.pos());
-    assert_given(rt, octets, given, read_entry(octets, 1, place))
+/// The TTL, the header section and the name of all octets from this place on.
+fn assert_fixed(rt: &impl Abort, octets: &[u8], parser: Parser<'_>) {
+    let place = parser.pos();
+    let mut behind = parser;
+    let ttl = Ttl::parse(&mut behind).plain();
+    let expected = octets_at(octets, place, 4);
+    assert_read(rt, "TTL", place, (ttl, behind.pos()), expected);
+    let mut behind = parser;
+    let section = HeaderSection::parse(&mut behind).plain();
+    let expected = octets_at(octets, place, 12);
+    assert_read(
+        rt,
+        "header section",
+        place,
+        (section, behind.pos()),
+        expected,
+    );
+    let rest = octets.get(place..).unwrap_or(b"");
+    let name = Name::from_octets(rest).plain();
+    assert_same(rt, "whole name", name, whole_name(rest));
 }
 
-/// Where the parser is after an answer.
-fn end_of(answer: Result<(), ParseError>, parser: Parser<'_>) -> Result<usize, Fault> {
+/// Where the parser is after it passed something.
+fn passed(answer: Result<(), ParseError>, parser: Parser<'_>) -> Result<usize, Fault> {
     match answer {
         Ok(()) => Ok(parser.pos()),
         Err(error) => Err(fault_of(error)),
@@ -51,37 +72,39 @@ fn end_of(answer: Result<(), ParseError>, parser: Parser<'_>) -> Result<usize, F
 }
 
 /// What is passed from this place.
-fn assert_skips(rt: &impl Abort, octets: &[u8], place: usize) -> Result<(), Fail> {
-    let mut parser = parser_at(octets, place)?;
-    let answer = ParsedName::skip(&mut parser);
-    assert_end(
-        rt,
-        "name passed",
-        end_of(answer, parser),
+fn assert_skips(rt: &impl Abort, octets: &[u8], parser: Parser<'_>) {
+    let place = parser.pos();
+    let mut behind = parser;
+    let answer = ParsedName::skip(&mut behind);
+    let name = passed(answer, behind);
+    let mut behind = parser;
+    let answer = Question::skip(&mut behind);
+    let question = passed(answer, behind);
+    let mut behind = parser;
+    let answer = ParsedRecord::skip(&mut behind);
+    let record = passed(answer, behind);
+    let expected = [
         name_end(octets, place),
+        skip_entry(octets, 0, place),
+        skip_entry(octets, 1, place),
+    ];
+    assert_same(
+        rt,
+        "name, question and record passed",
+        [name, question, record],
+        expected,
     );
-    let mut parser = parser_at(octets, place)?;
-    let answer = Question::skip(&mut parser);
-    let expected = entry_end(octets, 0, place);
-    assert_end(rt, "question passed", end_of(answer, parser), expected);
-    let mut parser = parser_at(octets, place)?;
-    let answer = ParsedRecord::skip(&mut parser);
-    let expected = entry_end(octets, 1, place);
-    assert_end(rt, "record passed", end_of(answer, parser), expected);
-    Ok(())
-}
-
-/// The place behind the entry at this place.
-fn entry_end(octets: &[u8], section: u8, place: usize) -> Result<usize, Fault> {
-    Ok(skip_entry(octets, section, place)?.end)
 }
 
 /// Reads and passes from each place up to the end.
-pub(crate) fn assert_walks(rt: &impl Abort, octets: &[u8]) -> Result<(), Fail> {
+pub(crate) fn assert_walks(rt: &impl Abort, octets: &[u8]) {
     for place in 0..=octets.len() {
-        assert_parses_name(rt, octets, place)?;
-        assert_parses(rt, octets, place)?;
-        assert_skips(rt, octets, place)?;
+        let mut parser = Parser::new(octets);
+        assert!(rt; parser.seek(place).is_ok());
+        assert_entries(rt, octets, parser);
+        assert_headers(rt, octets, parser);
+        assert_fixed(rt, octets, parser);
+        assert_skips(rt, octets, parser);
+        assert_data(rt, octets, parser);
     }
-    Ok(())
 }

@@ -1,6 +1,6 @@
 -- The options behind the first are fewer octets.
 use Rattle.std.proofs.Common.{length}
-use Rattle.dns_hostile_tests.proofs.tests.plain_searches.+has_options.Given as goal
+use Rattle.dns_hostile_tests.proofs.tests.plain_data.+has_options.Given as goal
 
 abbrev pub decreases-has_options : goal.decreases-has_options
-decreases-has_options l = length l.«data».now
+decreases-has_options l = length l.octets.now

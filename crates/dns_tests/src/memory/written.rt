@@ -1,5 +1,5 @@
 //! The octets of messages that have a name more than once, with each name in full and with pointers.
-use crate::copies::SOURCE;
+use crate::memory::copies::SOURCE;
 use std::process::Abort;
 
 /// These octets are written.

@@ -1,7 +1,7 @@
 //! OPT records whose closure pushes an option, and whose closure errs.
-use crate::again::{assert_unchanged, standing_of};
-use crate::fresh::{Fresh, started};
-use crate::written::assert_octets;
+use crate::memory::again::{assert_unchanged, is_refused, standing_of};
+use crate::memory::fresh::{Fresh, started};
+use crate::memory::written::assert_octets;
 use dns_message::builder::{AdditionalBuilder, PushError};
 use dns_message::code::{OptRcode, OptionCode, Rcode};
 use dns_message::target::Composer;
@@ -24,23 +24,19 @@ fn push_option<T: Composer>(
     })
 }
 
-/// The message is `ONE_OPTION`.
+/// OPT with one option: the message is `ONE_OPTION`.
 pub(crate) fn assert_option<R: Abort + Print, T: Fresh>(rt: &R, alloc: Global) -> Result<(), Fail> {
     let mut builder: AdditionalBuilder<T> = started(rt, alloc)?.additional();
     let before = standing_of(&builder)?;
-    match push_option(alloc, &mut builder) {
-        Err(PushError::OutOfMemory) => {
-            println!(rt; "refused option")?;
-            assert_unchanged(rt, &builder, &before);
-            push_option(alloc, &mut builder)?;
-        }
-        answer => answer?,
+    if is_refused(rt, push_option(alloc, &mut builder), "option")? {
+        assert_unchanged(rt, &builder, &before);
+        push_option(alloc, &mut builder)?;
     }
-    assert_octets(rt, builder.as_slice(), ONE_OPTION, "option");
+    assert_octets(rt, builder.as_slice(), ONE_OPTION, "OPT with one option");
     Ok(())
 }
 
-/// Nothing changes where the closure errs, and its answer is given.
+/// Closure that errs: nothing changes, and its answer is given.
 pub(crate) fn assert_error<R: Abort + Print, T: Fresh>(rt: &R, alloc: Global) -> Result<(), Fail> {
     let mut builder: AdditionalBuilder<T> = started(rt, alloc)?.additional();
     let before = standing_of(&builder)?;
@@ -50,6 +46,6 @@ pub(crate) fn assert_error<R: Abort + Print, T: Fresh>(rt: &R, alloc: Global) ->
     });
     assert!(rt; matches!(answer, Err(PushError::ShortBuf)));
     assert_unchanged(rt, &builder, &before);
-    assert_octets(rt, builder.as_slice(), &[0; 12], "closure that errs");
+    assert_octets(rt, builder.as_slice(), &[0; 12], "Closure that errs");
     Ok(())
 }

@@ -1,17 +1,21 @@
 //! A positive response, a negative one, and a name in data.
-use crate::again::{push_question, push_record};
-use crate::fresh::{Fresh, started};
-use crate::written::assert_octets;
-use dns_message::builder::{AnswerBuilder, QuestionBuilder};
+use crate::memory::again::{push_question, push_record};
+use crate::memory::fresh::{Fresh, started};
+use crate::memory::written::assert_octets;
+use dns_message::builder::{AnswerBuilder, Builder, RecordStage};
 use dns_message::code::{Rcode, Rtype};
 use dns_message::data::{A, Ns, Soa};
 use dns_message::header::{Flags, Header};
 use dns_message::name::Name;
+use dns_message::record::ComposeRecord;
+use dns_message::target::Composer;
 use std::alloc::Global;
 use std::process::Abort;
 use std::test::Fail;
 
-const EXAMPLE_COM: &[u8] = b"\x07example\x03com\x00";
+pub(crate) const EXAMPLE_COM: &[u8; 13] = b"\x07example\x03com\x00";
+
+pub(crate) const NS_EXAMPLE_COM: &[u8; 16] = b"\x02ns\x07example\x03com\x00";
 
 /// Rcode 3, and SOA of a.root-servers.net. behind a question for example. NS.
 const NEGATIVE_RESPONSE: &[u8] =
@@ -30,27 +34,31 @@ pub(crate) fn response_header(rcode: Rcode, is_authentic: bool) -> Header {
     header
 }
 
-/// A builder of questions with a header.
-fn headed<R: Print, T: Fresh>(
-    rt: &R,
-    alloc: Global,
-    header: Header,
-) -> Result<QuestionBuilder<T>, Fail> {
-    let mut builder = started(rt, alloc)?.question();
-    builder.set_header(header);
-    Ok(builder)
-}
-
-/// A builder of answers behind a question.
+/// A builder of answers behind a question, with a header.
 fn asked<R: Abort + Print, T: Fresh>(
     rt: &R,
     alloc: Global,
     header: Header,
-    question: &(Name<&[u8]>, Rtype),
+    qname: &[u8],
+    qtype: Rtype,
 ) -> Result<AnswerBuilder<T>, Fail> {
-    let mut builder = headed(rt, alloc, header)?;
-    push_question(rt, &mut builder, question)?;
+    let mut builder = started(rt, alloc)?.question();
+    builder.set_header(header);
+    push_question(rt, &mut builder, &(Name::from_octets(qname)?, qtype))?;
     Ok(builder.answer())
+}
+
+/// The message with a record behind it has these octets.
+fn assert_record<R: Abort + Print, T: Composer, S: RecordStage, D: ComposeRecord>(
+    rt: &R,
+    mut builder: Builder<T, S>,
+    record: &D,
+    expected: &[u8],
+    row: &str,
+) -> Result<(), Fail> {
+    push_record(rt, &mut builder, record)?;
+    assert_octets(rt, builder.as_slice(), expected, row);
+    Ok(())
 }
 
 /// An address of example.com. behind a question for it.
@@ -59,13 +67,11 @@ pub(crate) fn assert_positive<R: Abort + Print, T: Fresh>(
     alloc: Global,
     expected: &[u8],
 ) -> Result<(), Fail> {
-    let name = Name::from_octets(EXAMPLE_COM)?;
     let header = response_header(Rcode::NOERROR, true);
-    let mut builder: AnswerBuilder<T> = asked(rt, alloc, header, &(name, Rtype::A))?;
+    let builder: AnswerBuilder<T> = asked(rt, alloc, header, EXAMPLE_COM, Rtype::A)?;
     let address = A::from_octets(203, 0, 113, 1);
-    push_record(rt, &mut builder, &(name, 3600, address))?;
-    assert_octets(rt, builder.as_slice(), expected, "positive response");
-    Ok(())
+    let record = (Name::from_octets(*EXAMPLE_COM)?, 3600, address);
+    assert_record(rt, builder, &record, expected, "Positive response")
 }
 
 /// The data of the authority record of `NEGATIVE_RESPONSE`.
@@ -80,19 +86,16 @@ pub(crate) fn assert_negative<R: Abort + Print, T: Fresh>(
     rt: &R,
     alloc: Global,
 ) -> Result<(), Fail> {
-    let question = (Name::from_octets(b"\x07example\x00".as_slice())?, Rtype::NS);
-    let record = (Name::root_slice(), 86_390, soa()?);
     let header = response_header(Rcode::NXDOMAIN, false);
-    let answers: AnswerBuilder<T> = asked(rt, alloc, header, &question)?;
-    let mut builder = answers.authority();
-    push_record(rt, &mut builder, &record)?;
-    assert_octets(
+    let builder: AnswerBuilder<T> = asked(rt, alloc, header, b"\x07example\x00", Rtype::NS)?;
+    let record = (Name::root_slice(), 86_390, soa()?);
+    assert_record(
         rt,
-        builder.as_slice(),
+        builder.authority(),
+        &record,
         NEGATIVE_RESPONSE,
-        "negative response",
-    );
-    Ok(())
+        "Negative response",
+    )
 }
 
 /// A name server of example.com. below it.
@@ -101,10 +104,8 @@ pub(crate) fn assert_name_in_data<R: Abort + Print, T: Fresh>(
     alloc: Global,
     expected: &[u8],
 ) -> Result<(), Fail> {
-    let name = Name::from_octets(EXAMPLE_COM)?;
-    let server = Ns::new(Name::from_octets(b"\x02ns\x07example\x03com\x00".as_slice())?);
-    let mut builder: AnswerBuilder<T> = asked(rt, alloc, Header::new(), &(name, Rtype::NS))?;
-    push_record(rt, &mut builder, &(name, 60, server))?;
-    assert_octets(rt, builder.as_slice(), expected, "name in data");
-    Ok(())
+    let builder: AnswerBuilder<T> = asked(rt, alloc, Header::new(), EXAMPLE_COM, Rtype::NS)?;
+    let server = Ns::new(Name::from_octets(*NS_EXAMPLE_COM)?);
+    let record = (Name::from_octets(*EXAMPLE_COM)?, 60, server);
+    assert_record(rt, builder, &record, expected, "Name in data")
 }

@@ -1,7 +1,7 @@
 //! Pushes that are made again where memory was refused.
+use crate::memory::written::assert_octets;
 use arrayvec::ArrayVec;
 use dns_message::builder::{Builder, BuilderStage, PushError, QuestionBuilder, RecordStage};
-use dns_message::header::{Header, HeaderCounts};
 use dns_message::question::ComposeQuestion;
 use dns_message::record::ComposeRecord;
 use dns_message::target::Composer;
@@ -11,11 +11,9 @@ use std::test::Fail;
 /// An array that no message of a test fills.
 pub(crate) type Array = ArrayVec<u8, 128>;
 
-/// What a builder shows.
+/// What a builder shows: its limit, and its octets, in which the header and the counts stand first.
 #[derive(Drop)]
 pub(crate) struct Standing {
-    header: Header,
-    counts: HeaderCounts,
     limit: Option<usize>,
     octets: Array,
 }
@@ -25,8 +23,6 @@ pub(crate) fn standing_of<T: Composer, S: BuilderStage>(
     builder: &Builder<T, S>,
 ) -> Result<Standing, Fail> {
     Ok(Standing {
-        header: builder.header(),
-        counts: builder.counts(),
         limit: builder.push_limit(),
         octets: Array::try_from(builder.as_slice())?,
     })
@@ -38,9 +34,26 @@ pub(crate) fn assert_unchanged<R: Abort, T: Composer, S: BuilderStage>(
     builder: &Builder<T, S>,
     before: &Standing,
 ) {
-    let now = (builder.header(), builder.counts(), builder.push_limit());
-    assert_eq!(rt; now, (before.header, before.counts, before.limit));
-    assert_eq!(rt; builder.as_slice(), before.octets.as_slice());
+    assert!(rt; builder.push_limit() == before.limit, "refused call: limit");
+    assert_octets(rt, builder.as_slice(), &before.octets, "refused call");
+}
+
+/// Whether a push was refused for memory, which is printed. It errs where the push was refused for another cause.
+pub(crate) fn is_refused<R: Print>(
+    rt: &R,
+    answer: Result<(), PushError>,
+    what: &str,
+) -> Result<bool, Fail> {
+    match answer {
+        Err(PushError::OutOfMemory) => {
+            println!(rt; "refused {what}")?;
+            Ok(true)
+        }
+        answer => {
+            answer?;
+            Ok(false)
+        }
+    }
 }
 
 /// Pushes a question, a second time where the first is refused for memory.
@@ -50,14 +63,11 @@ pub(crate) fn push_question<R: Abort + Print, T: Composer, Q: ComposeQuestion>(
     question: &Q,
 ) -> Result<(), Fail> {
     let before = standing_of(builder)?;
-    match builder.push(question) {
-        Err(PushError::OutOfMemory) => {
-            println!(rt; "refused question")?;
-            assert_unchanged(rt, builder, &before);
-            Ok(builder.push(question)?)
-        }
-        answer => Ok(answer?),
+    if is_refused(rt, builder.push(question), "question")? {
+        assert_unchanged(rt, builder, &before);
+        builder.push(question)?;
     }
+    Ok(())
 }
 
 /// Pushes a record, a second time where the first is refused for memory.
@@ -67,12 +77,9 @@ pub(crate) fn push_record<R: Abort + Print, T: Composer, S: RecordStage, D: Comp
     record: &D,
 ) -> Result<(), Fail> {
     let before = standing_of(builder)?;
-    match builder.push(record) {
-        Err(PushError::OutOfMemory) => {
-            println!(rt; "refused record")?;
-            assert_unchanged(rt, builder, &before);
-            Ok(builder.push(record)?)
-        }
-        answer => Ok(answer?),
+    if is_refused(rt, builder.push(record), "record")? {
+        assert_unchanged(rt, builder, &before);
+        builder.push(record)?;
     }
+    Ok(())
 }

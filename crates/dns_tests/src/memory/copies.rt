@@ -1,6 +1,6 @@
 //! Records copied, into another builder where the first is refused for memory.
-use crate::fresh::{Fresh, started};
-use crate::written::assert_octets;
+use crate::memory::fresh::{Fresh, started};
+use crate::memory::written::assert_octets;
 use dns_message::builder::{AdditionalBuilder, CopyRecordsError, PushError, copy_records};
 use dns_message::data::UnknownRecordData;
 use dns_message::message::Message;
@@ -46,6 +46,6 @@ pub(crate) fn assert_copies<R: Abort + Print, T: Fresh>(
         }
         answer => answer?,
     };
-    assert_octets(rt, copied.as_slice(), expected, "copy");
+    assert_octets(rt, copied.as_slice(), expected, "Copy records");
     Ok(())
 }

@@ -1,18 +1,18 @@
-//! Messages that are pushed, copied, and made by one list of calls.
-use crate::copies::assert_copies;
-use crate::fresh::Fresh;
-use crate::lists::assert_list;
-use crate::messages::{assert_name_in_data, assert_negative, assert_positive};
-use crate::opts::{assert_error, assert_option};
-use crate::written::{COMPRESSED, PLAIN, Written};
+//! Each growth refused in turn: each message over each target that takes memory.
+use crate::memory::calls::{assert_list, assert_moves};
+use crate::memory::copies::assert_copies;
+use crate::memory::fresh::Fresh;
+use crate::memory::messages::{assert_name_in_data, assert_negative, assert_positive};
+use crate::memory::opts::{assert_error, assert_option};
+use crate::memory::written::{COMPRESSED, PLAIN, Written, assert_octets};
 use dns_message::target::{
-    HashCompressor, IndexCompressor, StaticCompressor, StreamTarget, TreeCompressor,
+    Composer, HashCompressor, IndexCompressor, StaticCompressor, StreamTarget, TreeCompressor,
 };
 use std::alloc::Global;
 use std::process::Abort;
 use std::test::Fail;
 
-/// All messages, their names written so.
+/// All messages that are pushed, copied, and made by lists of calls, their names written so.
 fn assert_messages<R: Abort + Print, T: Fresh>(
     rt: &R,
     alloc: Global,
@@ -24,7 +24,8 @@ fn assert_messages<R: Abort + Print, T: Fresh>(
     assert_option::<R, T>(rt, alloc)?;
     assert_error::<R, T>(rt, alloc)?;
     assert_copies::<R, T>(rt, alloc, written.copied)?;
-    assert_list::<R, T>(rt, alloc, written.positive)
+    assert_list::<R, T>(rt, alloc, written.positive)?;
+    assert_moves::<R, T>(rt, alloc, written.lengths)
 }
 
 #[test]
@@ -61,4 +62,15 @@ fn over_a_hash_compressor(rt: HostRuntime) -> Result<(), Fail> {
 #[test]
 fn over_an_index_compressor(rt: HostRuntime) -> Result<(), Fail> {
     assert_messages::<HostRuntime, IndexCompressor<Vec<u8>>>(&rt, rt.alloc(), COMPRESSED)
+}
+
+/// The first octets of a vector without room.
+#[test]
+fn takes_what_it_needs_where_more_is_refused(rt: HostRuntime) -> Result<(), Fail> {
+    let mut target = Vec::new(rt.alloc());
+    target.append_slice(b"\x01a\x00")?;
+    assert_octets(&rt, target.as_slice(), b"\x01a\x00", "first octets");
+    let stream = StreamTarget::new_vec(rt.alloc())?;
+    assert_octets(&rt, stream.as_stream_slice(), b"\x00\x00", "stream");
+    Ok(())
 }

@@ -1,0 +1,49 @@
+//! Octets that are put together.
+use std::fmt;
+
+/// How many octets a buffer has room for: more than a name can have, and more than the messages here have.
+pub(crate) const ROOM: usize = 320;
+
+/// Octets that were put one behind another. What there is no room for is left out.
+#[derive(Clone, Copy, PartialEq, Eq)]
+pub(crate) struct Buffer {
+    octets: [u8; ROOM],
+    len: usize,
+}
+
+impl Buffer {
+    /// No octets.
+    pub(crate) fn new() -> Self {
+        Buffer {
+            octets: [0; ROOM],
+            len: 0,
+        }
+    }
+
+    /// These octets.
+    pub(crate) fn of(octets: &[u8]) -> Self {
+        Buffer::new().with(octets)
+    }
+
+    /// The octets with these behind them.
+    pub(crate) fn with(mut self, octets: &[u8]) -> Self {
+        for octet in octets {
+            if self.len < ROOM {
+                self.octets[self.len] = *octet;
+                self.len += 1;
+            }
+        }
+        self
+    }
+
+    /// The octets.
+    pub(crate) fn as_slice(&self) -> &[u8] {
+        self.octets.get(..self.len).unwrap_or(b"")
+    }
+}
+
+impl fmt::Debug for Buffer {
+    fn fmt<W: fmt::Write>(&self, f: &mut fmt::Formatter<W>) -> fmt::Result {
+        self.as_slice().fmt(f)
+    }
+}

@@ -1,0 +1,150 @@
+//! Ample memory: calls that take memory, each with enough of it.
+use crate::memory::written::assert_octets;
+use dns_message::code::{Class, Rtype};
+use dns_message::data::{
+    A, Cname, ComposeRecordData, Opt, Soa, UnknownRecordData, compose_canonical_len_rdata,
+    compose_len_rdata,
+};
+use dns_message::name::{Name, ParsedName};
+use dns_message::question::Question;
+use dns_message::record::{Record, Ttl};
+use dns_message::target::StreamTarget;
+use dns_message::wire::{FlattenInto, OctetsFrom, Parser};
+use std::alloc::Global;
+use std::process::Abort;
+use std::test::Fail;
+
+type VecName = Name<Vec<u8>>;
+
+/// A question for CNAME of Example.com.
+const QUESTION: &[u8; 17] = b"\x07Example\x03com\x00\x00\x05\x00\x01";
+
+const NAME: &[u8] = b"\x07Example\x03com\x00";
+
+/// The name as data, behind its length.
+const ALIAS: &[u8] = b"\x00\x0D\x07Example\x03com\x00";
+
+/// An option without data.
+const OPTION: &[u8; 4] = b"\x00\x03\x00\x00";
+
+/// The option as data, behind its length.
+const OPT: &[u8] = b"\x00\x04\x00\x03\x00\x00";
+
+/// Data is composed as these octets, behind its length.
+fn assert_data<D: ComposeRecordData>(
+    rt: &impl Abort,
+    alloc: Global,
+    data: &D,
+    expected: &[u8],
+    what: &str,
+) -> Result<(), Fail> {
+    let mut target = Vec::new(alloc);
+    compose_len_rdata(data, &mut target)?;
+    assert_octets(rt, target.as_slice(), expected, what);
+    Ok(())
+}
+
+/// A source is converted to data of these octets.
+fn assert_converts<D: OctetsFrom<S> + ComposeRecordData + Drop, S>(
+    rt: &impl Abort,
+    alloc: Global,
+    source: S,
+    expected: &[u8],
+    what: &str,
+) -> Result<(), Fail> {
+    let data = D::try_octets_from(alloc, source)?;
+    assert_data(rt, alloc, &data, expected, what)
+}
+
+/// A source is flattened into data of these octets.
+fn assert_flattens<D: ComposeRecordData + Drop, S: FlattenInto<D>>(
+    rt: &impl Abort,
+    alloc: Global,
+    source: S,
+    expected: &[u8],
+    what: &str,
+) -> Result<(), Fail> {
+    let data: D = source.try_flatten_into(alloc)?;
+    assert_data(rt, alloc, &data, expected, what)
+}
+
+#[test]
+fn converts_and_flattens_data(rt: HostRuntime) -> Result<(), Fail> {
+    let alloc = rt.alloc();
+    let alias = Cname::new(Name::from_octets(NAME)?);
+    assert_converts::<Cname<VecName>, _>(&rt, alloc, alias, ALIAS, "alias")?;
+    let opt = Opt::from_octets(*OPTION)?;
+    assert_converts::<Opt<Vec<u8>>, _>(&rt, alloc, opt, OPT, "OPT data")?;
+    assert_flattens::<Opt<Vec<u8>>, _>(&rt, alloc, opt, OPT, "flat OPT data")?;
+    let alias = Cname::new(ParsedName::parse(&mut Parser::new(QUESTION))?);
+    assert_flattens::<Cname<VecName>, _>(&rt, alloc, alias, ALIAS, "flat alias")?;
+    let opaque = UnknownRecordData::from_octets(Rtype::TXT, *b"\x01a")?;
+    let expected = b"\x00\x02\x01a";
+    assert_flattens::<UnknownRecordData<Vec<u8>>, _>(&rt, alloc, opaque, expected, "opaque data")
+}
+
+#[test]
+fn flattens_a_question(rt: HostRuntime) -> Result<(), Fail> {
+    let name = ParsedName::parse(&mut Parser::new(QUESTION))?;
+    let question = Question::new_in(name, Rtype::CNAME);
+    let question: Question<VecName> = question.try_flatten_into(rt.alloc())?;
+    assert_octets(&rt, question.qname().as_slice(), NAME, "name of a question");
+    Ok(())
+}
+
+#[test]
+fn clones(rt: HostRuntime) -> Result<(), Fail> {
+    let text = b"\x01a".to_vec(rt.alloc())?;
+    let opaque = UnknownRecordData::from_octets(Rtype::TXT, text)?.clone()?;
+    assert_octets(&rt, opaque.data().as_slice(), b"\x01a", "opaque data");
+    let stream = StreamTarget::new_vec(rt.alloc())?.clone()?;
+    assert_octets(&rt, stream.as_stream_slice(), b"\x00\x00", "stream");
+    Ok(())
+}
+
+#[test]
+fn composes_items(rt: HostRuntime) -> Result<(), Fail> {
+    let mut target = Vec::new(rt.alloc());
+    Question::new_in(Name::from_octets(NAME)?, Rtype::CNAME).compose(&mut target)?;
+    assert_octets(&rt, target.as_slice(), QUESTION, "question");
+    let mut target = Vec::new(rt.alloc());
+    let root = Cname::new(Name::root_slice());
+    Record::new(Name::root_slice(), Class::IN, Ttl::MINUTE, root).compose(&mut target)?;
+    let record = b"\x00\x00\x05\x00\x01\x00\x00\x00\x3C\x00\x01\x00";
+    assert_octets(&rt, target.as_slice(), record, "record");
+    Ok(())
+}
+
+/// The canonical form of data has these octets.
+fn assert_canonical<D: ComposeRecordData>(
+    rt: &impl Abort,
+    alloc: Global,
+    data: &D,
+    expected: &[u8],
+    what: &str,
+) -> Result<(), Fail> {
+    let mut target = Vec::new(alloc);
+    data.compose_canonical_rdata(&mut target)?;
+    assert_octets(rt, target.as_slice(), expected, what);
+    Ok(())
+}
+
+#[test]
+fn composes_canonical_data(rt: HostRuntime) -> Result<(), Fail> {
+    let alloc = rt.alloc();
+    let address = A::from_octets(1, 2, 3, 4);
+    assert_canonical(&rt, alloc, &address, &[1, 2, 3, 4], "address")?;
+    let opaque = UnknownRecordData::from_octets(Rtype::TXT, *b"\x01A")?;
+    assert_canonical(&rt, alloc, &opaque, b"\x01A", "opaque data")?;
+    assert_canonical(&rt, alloc, &Opt::from_octets(*OPTION)?, OPTION, "OPT data")?;
+    let name = Name::from_octets(NAME)?;
+    let start = Soa::new(name, name, 1, 2, 3, 4, 5);
+    let expected =
+        b"\x07example\x03com\x00\x07example\x03com\x00\x00\x00\x00\x01\x00\x00\x00\x02\x00\x00\x00\x03\x00\x00\x00\x04\x00\x00\x00\x05";
+    assert_canonical(&rt, alloc, &start, expected, "start of a zone")?;
+    let mut target = Vec::new(alloc);
+    compose_canonical_len_rdata(&Cname::new(name), &mut target)?;
+    let expected = b"\x00\x0D\x07example\x03com\x00";
+    assert_octets(&rt, target.as_slice(), expected, "alias behind its length");
+    Ok(())
+}

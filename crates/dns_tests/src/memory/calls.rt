@@ -1,0 +1,174 @@
+//! Lists of calls, made again where memory was refused.
+use crate::memory::again::Array;
+use crate::memory::fresh::{Fresh, started};
+use crate::memory::messages::{EXAMPLE_COM, NS_EXAMPLE_COM, response_header};
+use crate::memory::written::assert_octets;
+use dns_message::builder::PushError;
+use dns_message::code::{Rcode, Rtype};
+use dns_message::data::{A, Ns, UnknownRecordData};
+use dns_message::name::Name;
+use dns_message::question::ComposeQuestion;
+use dns_message::record::ComposeRecord;
+use dns_message::script::{Call, Reply, Stage, run};
+use dns_message::target::Composer;
+use std::alloc::Global;
+use std::process::Abort;
+use std::test::Fail;
+
+/// A call with a question for example.com., or with a record of such data, whose owner has so many octets.
+type CallWith<D, const N: usize> = Call<(Name<[u8; 13]>, Rtype), (Name<[u8; N]>, u32, D)>;
+
+/// How many calls of a list were done: all, or all but one that was refused for memory, or none, where the room for the
+/// replies was refused.
+fn count_done<R: Abort + Print>(rt: &R, replies: &[Reply], count: usize) -> Result<usize, Fail> {
+    let mut done = 0_usize;
+    for reply in replies {
+        match *reply {
+            Reply::Done => done = done.saturating_add(1),
+            Reply::Refused(PushError::OutOfMemory) => println!(rt; "refused call")?,
+            _ => panic!(rt; "refused for another cause"),
+        }
+    }
+    if replies.is_empty() {
+        println!(rt; "refused replies")?;
+    } else {
+        assert!(rt; replies.len() == count && done.saturating_add(1) >= count);
+    }
+    Ok(done)
+}
+
+/// Makes calls, and says how many were done. They are given up exactly where there is no reply.
+fn made<R: Abort + Print, T: Composer, Q: ComposeQuestion, D: ComposeRecord>(
+    rt: &R,
+    alloc: Global,
+    stage: Stage<T>,
+    calls: &[Call<Q, D>],
+) -> Result<(Stage<T>, usize), Fail> {
+    let mut replies = Vec::new(alloc);
+    let answer = run(alloc, stage, calls, &mut replies);
+    assert!(rt; answer.is_err() == replies.is_empty(), "replies");
+    let (Ok(stage) | Err(stage)) = answer;
+    Ok((stage, count_done(rt, &replies, calls.len())?))
+}
+
+/// Makes calls, a second time where memory was refused. The stage stood as it stood where none was done.
+fn make<R: Abort + Print, T: Composer, Q: ComposeQuestion, D: ComposeRecord>(
+    rt: &R,
+    alloc: Global,
+    stage: Stage<T>,
+    calls: &[Call<Q, D>],
+) -> Result<Stage<T>, Fail> {
+    let before = Array::try_from(stage.as_slice())?;
+    let (stage, done) = made(rt, alloc, stage, calls)?;
+    if done == calls.len() {
+        return Ok(stage);
+    }
+    if done == 0 {
+        assert_octets(rt, stage.as_slice(), &before, "refused call");
+    }
+    let (stage, done) = made(rt, alloc, stage, calls)?;
+    assert!(rt; done == calls.len());
+    Ok(stage)
+}
+
+/// Makes the calls one by one: behind each the message has so many octets.
+fn make_each<R: Abort + Print, T: Composer, Q: ComposeQuestion, D: ComposeRecord>(
+    rt: &R,
+    alloc: Global,
+    mut stage: Stage<T>,
+    calls: &[Call<Q, D>],
+    lengths: [usize; 4],
+) -> Result<Stage<T>, Fail> {
+    for (call, length) in calls.chunks(1).zip(lengths) {
+        stage = make(rt, alloc, stage, call)?;
+        assert!(rt; stage.as_slice().len() == length, "not {length} octets");
+    }
+    Ok(stage)
+}
+
+/// The calls that make a positive response, on any stage.
+fn positive_calls() -> Result<[CallWith<A, 13>; 6], Fail> {
+    let name = Name::from_octets(*EXAMPLE_COM)?;
+    Ok([
+        Call::ToBuilder,
+        Call::SetHeader(response_header(Rcode::NOERROR, true)),
+        Call::ToQuestion,
+        Call::PushQuestion((name, Rtype::A)),
+        Call::ToAnswer,
+        Call::PushRecord((name, 3600, A::from_octets(203, 0, 113, 1))),
+    ])
+}
+
+/// A question, and an answer of one address.
+fn add_address<R: Abort + Print, T: Composer>(
+    rt: &R,
+    alloc: Global,
+    stage: Stage<T>,
+    lengths: [usize; 4],
+) -> Result<Stage<T>, Fail> {
+    let calls = positive_calls()?;
+    let calls = calls.as_slice();
+    make_each(rt, alloc, stage, &calls[2..], lengths)
+}
+
+/// A name server of the root, taken out again.
+fn add_server<R: Abort + Print, T: Composer>(
+    rt: &R,
+    alloc: Global,
+    stage: Stage<T>,
+    lengths: [usize; 4],
+) -> Result<Stage<T>, Fail> {
+    let server = Ns::new(Name::from_octets(*NS_EXAMPLE_COM)?);
+    let calls: [CallWith<Ns<Name<[u8; 16]>>, 1>; 4] = [
+        Call::ToAuthority,
+        Call::PushRecord((Name::from_octets([0])?, 60, server)),
+        Call::Rewind,
+        Call::ToAdditional,
+    ];
+    make_each(rt, alloc, stage, &calls, lengths)
+}
+
+/// A record of no octets, and all taken out again.
+fn add_text<R: Abort + Print, T: Composer>(
+    rt: &R,
+    alloc: Global,
+    stage: Stage<T>,
+    lengths: [usize; 4],
+) -> Result<Stage<T>, Fail> {
+    let text = UnknownRecordData::from_octets(Rtype::TXT, [])?;
+    let calls: [CallWith<UnknownRecordData<[u8; 0]>, 1>; 4] = [
+        Call::PushRecord((Name::from_octets([0])?, 0, text)),
+        Call::ToAnswer,
+        Call::TcRewind,
+        Call::ToBuilder,
+    ];
+    make_each(rt, alloc, stage, &calls, lengths)
+}
+
+/// Positive response, by one list of calls.
+pub(crate) fn assert_list<R: Abort + Print, T: Fresh>(
+    rt: &R,
+    alloc: Global,
+    expected: &[u8],
+) -> Result<(), Fail> {
+    let stage: Stage<T> = Stage::Builder(started(rt, alloc)?);
+    let stage = make(rt, alloc, stage, &positive_calls()?)?;
+    assert_octets(rt, stage.as_slice(), expected, "Positive response");
+    Ok(())
+}
+
+/// All moves: the message has these lengths behind the calls, and in the end the bit TC alone.
+pub(crate) fn assert_moves<R: Abort + Print, T: Fresh>(
+    rt: &R,
+    alloc: Global,
+    lengths: [[usize; 4]; 3],
+) -> Result<(), Fail> {
+    let [address, server, text] = lengths;
+    let stage: Stage<T> = Stage::Builder(started(rt, alloc)?);
+    let stage = add_address(rt, alloc, stage, address)?;
+    let stage = add_server(rt, alloc, stage, server)?;
+    let stage = add_text(rt, alloc, stage, text)?;
+    let expected = b"\x00\x00\x02\x00\x00\x00\x00\x00\x00\x00\x00\x00";
+    assert_octets(rt, stage.as_slice(), expected, "All moves");
+    Ok(())
+}
