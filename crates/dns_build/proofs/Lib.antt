@@ -5,6 +5,7 @@ mod Moves
 mod Steps
 mod OptLemmas
 mod OptReading
+mod TypedReading
 mod AnswerLemmas
 mod CopyLemmas
 mod CopySections

@@ -42,11 +42,11 @@ use Rattle.dns_build.specs.State.{State}
 use Rattle.dns_build.proofs.OptLemmas.{same_item}
 
 -- entries that are read from octets, as the items of a reading
-abbrev items_of : List ℕ → List RecordEntry → List (Result StandingRecord Fault)
+abbrev pub items_of : List ℕ → List RecordEntry → List (Result StandingRecord Fault)
 items_of b entries = let read : List (Result RecordEntry Fault) = map Ok entries in map (in_octets b) read
 
 -- a reading of entries alone is what is read at its place
-records_in-entries : (b : List ℕ) (n p : ℕ) (entries : List RecordEntry) → ReadingRecords b n p (map Ok entries) → records_in b n p ≡ items_of b entries
+pub records_in-entries : (b : List ℕ) (n p : ℕ) (entries : List RecordEntry) → ReadingRecords b n p (map Ok entries) → records_in b n p ≡ items_of b entries
 unfolding records_in
 records_in-entries b n p entries reading = ap (map (in_octets b)) ((records_from_are_read b).only n p (map Ok entries) reading)
 
@@ -57,7 +57,7 @@ additionals_read s b h =
     ∙ records_in-entries b (additional_count b) h.additionals_start h.additionals.entries h.additionals.reading
 
 -- a reading that begins with an entry reads it there, and the rest behind it
-first_read : {b : List ℕ} {n p : ℕ} {e : RecordEntry} {xs : List (Result RecordEntry Fault)} → ReadingRecords b n p (Ok e ∷ xs)
+pub first_read : {b : List ℕ} {n p : ℕ} {e : RecordEntry} {xs : List (Result RecordEntry Fault)} → ReadingRecords b n p (Ok e ∷ xs)
     → (m : ℕ) × (q : ℕ) × ReadsRecord b p q e × ReadingRecords b m q xs
 first_read (entry {n = n} {q = q} reads rest) = (n, q, reads, rest)
 

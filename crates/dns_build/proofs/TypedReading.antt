@@ -1,0 +1,124 @@
+-- Records that were pushed are read back by a data type.
+use Rattle.std.proofs.Common.{◌≡◌, ◌∙◌, ap, sym, refl, subst, ℕ, List, [], ◌∷◌, map, arith}
+use Rattle.std.proofs.lemmas.List.Elements.{All-head, All-tail}
+use Rattle.std.specs.List.{All, cons_option}
+use Rattle.std.specs.Option.{option_map_or}
+use Rattle.std.specs.Prelude.{is_some, IfSome, if◌then◌else◌, Option, Some, None, option_map, Result, Ok, Err}
+use Rattle.dns_name.specs.Names.{Fault}
+use Rattle.dns_data.specs.Layout.{Layout, IsLaidOut}
+use Rattle.dns_data.proofs.theory.StandingParts.{standing_parts_read}
+use Rattle.dns_item.specs.Items.{RecordItem, RecordEntry, ReadsRecord, TellsRecord}
+use Rattle.dns_item.specs.DataAnswer.{HasSpan}
+use Rattle.dns_item.specs.DataAnswer.IsDataAnswer.{whole}
+use Rattle.dns_item.specs.ParsedRecord.{StandingRecord}
+use Rattle.dns_item.specs.RecordReading.{item_of}
+use Rattle.dns_item.specs.TypedRecords.{with_parts, laid_out, answer_to}
+use Rattle.dns_item.proofs.theory.TypedLemmas.{data_is_answered}
+use Rattle.dns_section.specs.AnyRecordIter.{every}
+use Rattle.dns_section.specs.Limited.{limited}
+use Rattle.dns_section.specs.RecordsFrom.{records_in}
+use Rattle.dns_section.specs.Sections.{record_count, StartsAt, ReadingRecords}
+use Rattle.dns_section.specs.declared.section.Section.{Section}
+use Rattle.dns_section.specs.declared.section.Section.TheVariants.{Answer, Authority, Additional}
+use Rattle.dns_read.specs.SectionStarts.{records_of}
+use Rattle.dns_read.proofs.theory.SectionStartLemmas.{start_found}
+use Rattle.dns_build.specs.MessageOf.{AllTell, GivesRecords, ReadsBack}
+use Rattle.dns_build.specs.State.{State}
+use Rattle.dns_build.specs.TypedReading.{pushed, IsLaidOutBy, taken, TypedRecordsReadBack, AnyRecordsReadBack, StandsAs, AllStandAs, PushedRecordsStand}
+use Rattle.dns_build.proofs.OptReading.{items_of, records_in-entries, first_read}
+
+-- where a section starts, and its records there
+section_read : (s : State) (b : List ℕ) (which : Section) → ReadsBack s b → (p : ℕ) × StartsAt which b p × GivesRecords b (record_count which b) p (pushed which s)
+section_read s b Answer h = (h.answers_start, h.answers_at, h.answers)
+section_read s b Authority h = (h.authorities_start, h.authorities_at, h.authorities)
+section_read s b Additional h = (h.additionals_start, h.additionals_at, h.additionals)
+
+-- a section that starts and gives records is read as the entries there
+section_is : (b : List ℕ) (which : Section) (p : ℕ) (xs : List RecordItem) → StartsAt which b p → (list : GivesRecords b (record_count which b) p xs) → records_of which b ≡ items_of b list.entries
+section_is b which p xs start list =
+    ap (λ (o : Option ℕ). option_map_or (records_in b (record_count which b)) o []) (start_found which b p start)
+    ∙ records_in-entries b (record_count which b) p list.entries list.reading
+
+-- a record with the fields and the parts of another is that
+same_record : (e : RecordEntry) (x : RecordItem) → e.owner ≡ x.owner → e.rtype ≡ x.rtype → e.class ≡ x.class → e.ttl ≡ x.ttl → item_of e x.parts ≡ x
+same_record e x owner rtype class ttl = λ i. record { owner = owner i; rtype = rtype i; class = class i; ttl = ttl i; parts = x.parts }
+
+-- a record that tells what was pushed
+module _ (x : RecordItem) (b : List ℕ) (p q : ℕ) (e : RecordEntry) (reads : ReadsRecord b p q e) (tells : TellsRecord b e x) where
+  -- its data lies within the octets
+  data_within : HasSpan (record { octets = b; entry = e })
+  data_within =
+      let start = reads.data_start in
+      let end = reads.data_end in
+      let size = reads.skips.end in
+      let within = reads.skips.within in
+      record { start = omega arith; end = omega arith }
+
+  -- a layout that its parts have answers it
+  told : (layout : Layout) → IsLaidOut layout x.parts → laid_out (record { octets = b; entry = e }) layout ≡ Ok x
+  told layout laid =
+      let stands = standing_parts_read b e.data_end e.data_start layout x.parts data_within.end tells.parts laid in
+      ap (with_parts e) (data_is_answered.only (record { octets = b; entry = e }) layout (Ok x.parts) (whole data_within stands))
+      ∙ ap (λ (y : RecordItem). let r : Result RecordItem Fault = Ok y in r) (same_record e x tells.owner tells.rtype tells.class tells.ttl)
+
+  stands_as : StandsAs b x (record { octets = b; entry = e })
+  stands_as = record { octets = refl; there = data_within; parts = tells.parts; item = same_record e x tells.owner tells.rtype tells.class tells.ttl; answer = told }
+
+-- so are all of them
+all_stand_as : (xs : List RecordItem) (b : List ℕ) (n p : ℕ) (entries : List RecordEntry) → ReadingRecords b n p (map Ok entries) → AllTell b entries xs
+    → AllStandAs b xs (items_of b entries)
+all_stand_as [] b n p [] reading tell = tt
+all_stand_as [] b n p (e ∷ entries) reading tell = absurd tell
+all_stand_as (x ∷ xs) b n p [] reading tell = absurd tell
+all_stand_as (x ∷ xs) b n p (e ∷ entries) reading tell =
+    let r = first_read reading in
+    (stands_as x b p r.1 e r.2 tell.0, all_stand_as xs b r.0 r.1 entries r.3 tell.1)
+
+pub pushed_records_stand : PushedRecordsStand
+pushed_records_stand s b h which =
+    let found = section_read s b which h in
+    subst (AllStandAs b (pushed which s)) (sym (section_is b which found.0 (pushed which s) found.1 found.2))
+    (all_stand_as (pushed which s) b (record_count which b) found.0 found.2.entries found.2.reading found.2.tell)
+
+module _ (layouts : ℕ → Option Layout) (b : List ℕ) where
+  -- what a data type answers to a record that stands so
+  answered : (x : RecordItem) (standing : StandingRecord) → StandsAs b x standing → IsLaidOutBy layouts x
+      → answer_to layouts standing ≡ option_map (λ (layout : Layout). let r : Result RecordItem Fault = Ok x in r) (layouts x.rtype)
+  answered x standing h laid =
+      ap (λ (y : RecordItem). option_map (laid_out standing) (layouts y.rtype)) h.item ∙ by (layouts x.rtype) laid
+    where
+      by : (o : Option Layout) → IfSome o (λ layout. IsLaidOut layout x.parts)
+          → option_map (laid_out standing) o ≡ option_map (λ (layout : Layout). let r : Result RecordItem Fault = Ok x in r) o
+      by None laid = refl
+      by (Some layout) laid = ap (λ (r : Result RecordItem Fault). Some r) (h.answer layout laid)
+
+  -- the first of the records that are taken
+  first_taken : (x : RecordItem) (xs : List RecordItem) (o : Option Layout)
+      → cons_option (option_map (λ (layout : Layout). let r : Result RecordItem Fault = Ok x in r) o) (map Ok xs) ≡ map Ok (if is_some o then x ∷ xs else xs)
+  first_taken x xs None = refl
+  first_taken x xs (Some layout) = refl
+
+  -- and to all of them
+  all_answered : (xs : List RecordItem) (items : List (Result StandingRecord Fault)) → AllStandAs b xs items → All (IsLaidOutBy layouts) xs
+      → limited layouts items ≡ map Ok (taken layouts xs)
+  all_answered [] [] h laid = refl
+  all_answered [] (item ∷ items) h laid = absurd h
+  all_answered (x ∷ xs) [] h laid = absurd h
+  all_answered (x ∷ xs) (Err f ∷ items) h laid = absurd h.0
+  all_answered (x ∷ xs) (Ok standing ∷ items) h laid =
+      let here = answered x standing h.0 (All-head (IsLaidOutBy layouts) x xs laid) in
+      let others = all_answered xs items h.1 (All-tail (IsLaidOutBy layouts) x xs laid) in
+      (λ i. cons_option (here i) (others i)) ∙ first_taken x (taken layouts xs) (layouts x.rtype)
+
+pub typed_records_read_back : TypedRecordsReadBack
+typed_records_read_back s b h which layouts laid =
+    all_answered layouts b (pushed which s) (records_of which b) (pushed_records_stand s b h which) laid
+
+-- a data type that takes every type takes all
+all_taken : (layouts : ℕ → Layout) (xs : List RecordItem) → taken (every layouts) xs ≡ xs
+all_taken layouts [] = refl
+all_taken layouts (x ∷ xs) = ap (λ (ys : List RecordItem). x ∷ ys) (all_taken layouts xs)
+
+pub any_records_read_back : AnyRecordsReadBack
+any_records_read_back s b h which layouts laid =
+    typed_records_read_back s b h which (every layouts) laid ∙ ap (λ (xs : List RecordItem). map Ok xs) (all_taken layouts (pushed which s))

@@ -1,0 +1,60 @@
+-- What a data type answers to the records that were pushed. RFC 1035 sections 3.3 and 4.1.3.
+use Rattle.std.specs.Prelude.{◌≡◌, ℕ, List, [], ◌∷◌, filter, map, is_some, IfSome, IsOkAnd, Option, Result, Ok}
+use Rattle.std.specs.List.{All}
+use Rattle.dns_name.specs.Names.{Fault}
+use Rattle.dns_wire.specs.Parts.{PartsStand}
+use Rattle.dns_data.specs.Layout.{Layout, IsLaidOut}
+use Rattle.dns_item.specs.DataAnswer.{HasSpan}
+use Rattle.dns_item.specs.Items.{RecordItem}
+use Rattle.dns_item.specs.ParsedRecord.{StandingRecord}
+use Rattle.dns_item.specs.RecordReading.{item_of}
+use Rattle.dns_item.specs.TypedRecords.{laid_out}
+use Rattle.dns_read.specs.SectionStarts.{records_of}
+use Rattle.dns_section.specs.AnyRecordIter.{every}
+use Rattle.dns_section.specs.Limited.{limited}
+use Rattle.dns_section.specs.declared.section.Section.{Section}
+use Rattle.dns_build.specs.MessageOf.{ReadsBack}
+use Rattle.dns_build.specs.State.{State, records_at, stage_of}
+
+-- the records of a section of a state
+abbrev pub pushed : Section → State → List RecordItem
+pushed which s = records_at (stage_of which) s
+
+-- the parts of the record are those that the data type lays out for its type, if it takes the type
+abbrev pub IsLaidOutBy : (ℕ → Option Layout) → RecordItem → Type 0
+IsLaidOutBy layouts x = IfSome (layouts x.rtype) (λ layout. IsLaidOut layout x.parts)
+
+-- the records whose types a data type takes
+abbrev pub taken : (ℕ → Option Layout) → List RecordItem → List RecordItem
+taken layouts = filter (λ x. is_some (layouts x.rtype))
+
+-- a record stands in octets as it was pushed: its fields are those of the record, whose parts fill the data, and each layout that the parts have answers with the record
+pub record StandsAs (b : List ℕ) (x : RecordItem) (standing : StandingRecord) : Type 0 where
+  pub octets : standing.octets ≡ b
+  pub there : HasSpan standing
+  pub parts : PartsStand standing.octets standing.entry.data_end standing.entry.data_start x.parts
+  pub item : item_of standing.entry x.parts ≡ x
+  pub answer : (layout : Layout) → IsLaidOut layout x.parts → laid_out standing layout ≡ Ok x
+
+-- the items of a reading are such records, one for each, without a fault
+abbrev pub AllStandAs : List ℕ → List RecordItem → List (Result StandingRecord Fault) → Type 0
+AllStandAs b [] [] = Unit {0}
+AllStandAs b [] (item ∷ items) = ⊥
+AllStandAs b (x ∷ xs) [] = ⊥
+AllStandAs b (x ∷ xs) (item ∷ items) = IsOkAnd item (StandsAs b x) × AllStandAs b xs items
+
+-- What holds of all octets that read back as a state. RFC 1035 section 4.1.3.
+
+-- each record that was pushed stands in its section
+abbrev pub PushedRecordsStand : Type 0
+PushedRecordsStand = (s : State) (b : List ℕ) → ReadsBack s b → (which : Section) → AllStandAs b (pushed which s) (records_of which b)
+
+-- Where the pushed records that a data type takes are laid out so, its reading of their section gives exactly these, in order and without a fault.
+abbrev pub TypedRecordsReadBack : Type 0
+TypedRecordsReadBack = (s : State) (b : List ℕ) → ReadsBack s b → (which : Section) (layouts : ℕ → Option Layout)
+    → All (IsLaidOutBy layouts) (pushed which s) → limited layouts (records_of which b) ≡ map Ok (taken layouts (pushed which s))
+
+-- the same of a data type that takes every type: all records of the section are given
+abbrev pub AnyRecordsReadBack : Type 0
+AnyRecordsReadBack = (s : State) (b : List ℕ) → ReadsBack s b → (which : Section) (layouts : ℕ → Layout)
+    → All (λ x. IsLaidOut (layouts x.rtype) x.parts) (pushed which s) → limited (every layouts) (records_of which b) ≡ map Ok (pushed which s)
