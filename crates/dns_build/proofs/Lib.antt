@@ -6,6 +6,7 @@ mod Steps
 mod OptLemmas
 mod OptReading
 mod TypedReading
+mod KnownByState
 mod AnswerLemmas
 mod CopyLemmas
 mod CopySections

@@ -1,21 +1,28 @@
 -- Records that were pushed are read back by a data type.
-use Rattle.std.proofs.Common.{◌≡◌, ◌∙◌, ap, sym, refl, subst, ℕ, List, [], ◌∷◌, map, arith}
+use Rattle.std.proofs.Common.{◌≡◌, ◌∙◌, ap, sym, refl, subst, ℕ, List, [], ◌∷◌, map, arith, Bool, true, false}
 use Rattle.std.proofs.lemmas.List.Elements.{All-head, All-tail}
 use Rattle.std.specs.List.{All, cons_option}
 use Rattle.std.specs.Option.{option_map_or}
-use Rattle.std.specs.Prelude.{is_some, IfSome, if◌then◌else◌, Option, Some, None, option_map, Result, Ok, Err}
+use Rattle.std.specs.Prelude.{◌==◌, is_some, IfSome, IsOkAnd, IsSomeAnd, if◌then◌else◌, Option, Some, None, option_map, Result, Ok, Err}
+use Rattle.std.specs.Result.{result_transpose}
+use Rattle.dns_octets.specs.declared.error.ParseError.{ParseError}
 use Rattle.dns_name.specs.Names.{Fault}
+use Rattle.dns_name.specs.ParsedName.{labels}
+use Rattle.dns_name.specs.declared.parsed_name.ParsedName.{ParsedName}
 use Rattle.dns_data.specs.Layout.{Layout, IsLaidOut}
 use Rattle.dns_data.proofs.theory.StandingParts.{standing_parts_read}
+use Rattle.dns_wire.specs.Parts.{Part}
 use Rattle.dns_item.specs.Items.{RecordItem, RecordEntry, ReadsRecord, TellsRecord}
 use Rattle.dns_item.specs.DataAnswer.{HasSpan}
 use Rattle.dns_item.specs.DataAnswer.IsDataAnswer.{whole}
 use Rattle.dns_item.specs.ParsedRecord.{StandingRecord}
+use Rattle.dns_item.specs.Record.{record_item}
 use Rattle.dns_item.specs.RecordReading.{item_of}
-use Rattle.dns_item.specs.TypedRecords.{with_parts, laid_out, answer_to}
-use Rattle.dns_item.proofs.theory.TypedLemmas.{data_is_answered}
+use Rattle.dns_item.specs.declared.record.Record.{Record}
+use Rattle.dns_item.specs.TypedRecords.{with_parts, laid_out, answer_to, typed_answer}
+use Rattle.dns_item.proofs.theory.TypedLemmas.{data_is_answered, laid_out-answered, answer_to-answered}
 use Rattle.dns_section.specs.AnyRecordIter.{every}
-use Rattle.dns_section.specs.Limited.{limited}
+use Rattle.dns_section.specs.Limited.{in_class_in, limited}
 use Rattle.dns_section.specs.RecordsFrom.{records_in}
 use Rattle.dns_section.specs.Sections.{record_count, StartsAt, ReadingRecords}
 use Rattle.dns_section.specs.declared.section.Section.{Section}
@@ -24,7 +31,7 @@ use Rattle.dns_read.specs.SectionStarts.{records_of}
 use Rattle.dns_read.proofs.theory.SectionStartLemmas.{start_found}
 use Rattle.dns_build.specs.MessageOf.{AllTell, GivesRecords, ReadsBack}
 use Rattle.dns_build.specs.State.{State}
-use Rattle.dns_build.specs.TypedReading.{pushed, IsLaidOutBy, taken, TypedRecordsReadBack, AnyRecordsReadBack, StandsAs, AllStandAs, PushedRecordsStand}
+use Rattle.dns_build.specs.TypedReading.{pushed, IsLaidOutBy, taken, TypedRecordsReadBack, AnyRecordsReadBack, StandsAs, AllStandAs, PushedRecordsStand, of_class_in, TypedRecordsInReadBack, ToRecordReadsBack, ToAnyRecordReadsBack}
 use Rattle.dns_build.proofs.OptReading.{items_of, records_in-entries, first_read}
 
 -- where a section starts, and its records there
@@ -122,3 +129,56 @@ all_taken layouts (x ∷ xs) = ap (λ (ys : List RecordItem). x ∷ ys) (all_tak
 pub any_records_read_back : AnyRecordsReadBack
 any_records_read_back s b h which layouts laid =
     typed_records_read_back s b h which (every layouts) laid ∙ ap (λ (xs : List RecordItem). map Ok xs) (all_taken layouts (pushed which s))
+
+-- records of class IN stand as such
+in_class_stand : (b : List ℕ) (xs : List RecordItem) (items : List (Result StandingRecord Fault)) → AllStandAs b xs items → AllStandAs b (of_class_in xs) (in_class_in items)
+in_class_stand b [] [] h = tt
+in_class_stand b [] (item ∷ items) h = absurd h
+in_class_stand b (x ∷ xs) [] h = absurd h
+in_class_stand b (x ∷ xs) (Err f ∷ items) h = absurd h.0
+in_class_stand b (x ∷ xs) (Ok standing ∷ items) h =
+    let class : standing.entry.class ≡ x.class = ap (λ (y : RecordItem). y.class) h.0.item in
+    let others = in_class_stand b xs items h.1 in
+    let item : Result StandingRecord Fault = Ok standing in
+    subst (λ (n : ℕ). AllStandAs b (of_class_in (x ∷ xs)) (if n == 1 then item ∷ in_class_in items else in_class_in items)) (sym class) (by (x.class == 1) others)
+  where
+    by : (t : Bool) → AllStandAs b (of_class_in xs) (in_class_in items)
+        → (let item : Result StandingRecord Fault = Ok standing in AllStandAs b (if t then x ∷ of_class_in xs else of_class_in xs) (if t then item ∷ in_class_in items else in_class_in items))
+    by true others = (h.0, others)
+    by false others = others
+
+pub typed_records_in_read_back : TypedRecordsInReadBack
+typed_records_in_read_back s b h which layouts laid =
+    all_answered layouts b (of_class_in (pushed which s)) (in_class_in (records_of which b)) (in_class_stand b (pushed which s) (records_of which b) (pushed_records_stand s b h which)) laid
+
+module _ {D : Type 0} (rtype_of : D → ℕ) (parts_of : D → List Part) where
+  -- what says the record is a record that says it
+  is_record : (x : RecordItem) (result : Result (Record ParsedName D) ParseError) → typed_answer rtype_of parts_of result ≡ Ok x
+      → IsOkAnd result (λ r. record_item labels rtype_of parts_of r ≡ x)
+  is_record x (Ok r) is = let item = record_item labels rtype_of parts_of r in let same : Ok item ≡ Ok x = is in cc
+  is_record x (Err e) is = absurd (cc)
+
+  is_taken : (x : RecordItem) (result : Result (Option (Record ParsedName D)) ParseError) → option_map (typed_answer rtype_of parts_of) (result_transpose result) ≡ Some (Ok x)
+      → IsOkAnd result (λ o. IsSomeAnd o (λ r. record_item labels rtype_of parts_of r ≡ x))
+  is_taken x (Ok None) is = absurd (cc)
+  is_taken x (Ok (Some r)) is = is_record x (Ok r) (let answer = typed_answer rtype_of parts_of (Ok r) in let same : Some answer ≡ Some (Ok x) = is in cc)
+  is_taken x (Err e) is = absurd (cc)
+
+  -- what a layout of its type answers
+  one_taken : (layouts : ℕ → Option Layout) (b : List ℕ) (x : RecordItem) (standing : StandingRecord) → StandsAs b x standing → IsSomeAnd (layouts x.rtype) (λ layout. IsLaidOut layout x.parts)
+      → answer_to layouts standing ≡ Some (Ok x)
+  one_taken layouts b x standing h laid = ap (λ (y : RecordItem). option_map (laid_out standing) (layouts y.rtype)) h.item ∙ by (layouts x.rtype) laid
+    where
+      by : (o : Option Layout) → IsSomeAnd o (λ layout. IsLaidOut layout x.parts) → option_map (laid_out standing) o ≡ Some (Ok x)
+      by None laid = absurd laid
+      by (Some layout) laid = ap (λ (r : Result RecordItem Fault). Some r) (h.answer layout laid)
+
+  pub to_record_reads_back : (layouts : ℕ → Option Layout) → ToRecordReadsBack rtype_of parts_of layouts
+  to_record_reads_back layouts b x standing result h laid answers =
+      is_taken x result (answer_to-answered rtype_of parts_of standing h.there (layouts standing.entry.rtype) result answers ∙ one_taken layouts b x standing h laid)
+
+  pub to_any_record_reads_back : (layouts : ℕ → Layout) → ToAnyRecordReadsBack rtype_of parts_of layouts
+  to_any_record_reads_back layouts b x standing result h laid answers =
+      is_record x result
+      (laid_out-answered rtype_of parts_of standing h.there (layouts standing.entry.rtype) result answers
+      ∙ ap (λ (y : RecordItem). laid_out standing (layouts y.rtype)) h.item ∙ h.answer (layouts x.rtype) laid)

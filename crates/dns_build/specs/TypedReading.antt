@@ -1,17 +1,22 @@
 -- What a data type answers to the records that were pushed. RFC 1035 sections 3.3 and 4.1.3.
-use Rattle.std.specs.Prelude.{◌≡◌, ℕ, List, [], ◌∷◌, filter, map, is_some, IfSome, IsOkAnd, Option, Result, Ok}
+use Rattle.std.specs.Prelude.{◌≡◌, ℕ, ◌==◌, List, [], ◌∷◌, filter, map, is_some, IfSome, IsOkAnd, IsSomeAnd, Option, Result, Ok}
 use Rattle.std.specs.List.{All}
+use Rattle.dns_octets.specs.declared.error.ParseError.{ParseError}
 use Rattle.dns_name.specs.Names.{Fault}
-use Rattle.dns_wire.specs.Parts.{PartsStand}
+use Rattle.dns_name.specs.ParsedName.{labels}
+use Rattle.dns_name.specs.declared.parsed_name.ParsedName.{ParsedName}
+use Rattle.dns_wire.specs.Parts.{Part, PartsStand}
 use Rattle.dns_data.specs.Layout.{Layout, IsLaidOut}
 use Rattle.dns_item.specs.DataAnswer.{HasSpan}
 use Rattle.dns_item.specs.Items.{RecordItem}
 use Rattle.dns_item.specs.ParsedRecord.{StandingRecord}
-use Rattle.dns_item.specs.RecordReading.{item_of}
+use Rattle.dns_item.specs.Record.{record_item}
+use Rattle.dns_item.specs.RecordReading.{item_of, AnswersLaidOut, AnswersTaken}
 use Rattle.dns_item.specs.TypedRecords.{laid_out}
+use Rattle.dns_item.specs.declared.record.Record.{Record}
 use Rattle.dns_read.specs.SectionStarts.{records_of}
 use Rattle.dns_section.specs.AnyRecordIter.{every}
-use Rattle.dns_section.specs.Limited.{limited}
+use Rattle.dns_section.specs.Limited.{in_class_in, limited}
 use Rattle.dns_section.specs.declared.section.Section.{Section}
 use Rattle.dns_build.specs.MessageOf.{ReadsBack}
 use Rattle.dns_build.specs.State.{State, records_at, stage_of}
@@ -27,6 +32,10 @@ IsLaidOutBy layouts x = IfSome (layouts x.rtype) (λ layout. IsLaidOut layout x.
 -- the records whose types a data type takes
 abbrev pub taken : (ℕ → Option Layout) → List RecordItem → List RecordItem
 taken layouts = filter (λ x. is_some (layouts x.rtype))
+
+-- the records of class IN, which is 1
+abbrev pub of_class_in : List RecordItem → List RecordItem
+of_class_in = filter (λ x. x.class == 1)
 
 -- a record stands in octets as it was pushed: its fields are those of the record, whose parts fill the data, and each layout that the parts have answers with the record
 pub record StandsAs (b : List ℕ) (x : RecordItem) (standing : StandingRecord) : Type 0 where
@@ -58,3 +67,24 @@ TypedRecordsReadBack = (s : State) (b : List ℕ) → ReadsBack s b → (which :
 abbrev pub AnyRecordsReadBack : Type 0
 AnyRecordsReadBack = (s : State) (b : List ℕ) → ReadsBack s b → (which : Section) (layouts : ℕ → Layout)
     → All (λ x. IsLaidOut (layouts x.rtype) x.parts) (pushed which s) → limited (every layouts) (records_of which b) ≡ map Ok (pushed which s)
+
+-- the same where records of other classes than IN are passed over; these may be of any layout
+abbrev pub TypedRecordsInReadBack : Type 0
+TypedRecordsInReadBack = (s : State) (b : List ℕ) → ReadsBack s b → (which : Section) (layouts : ℕ → Option Layout)
+    → All (IsLaidOutBy layouts) (of_class_in (pushed which s)) → limited layouts (in_class_in (records_of which b)) ≡ map Ok (taken layouts (of_class_in (pushed which s)))
+
+-- What holds of one record that stands as it was pushed, whatever reading its data with a data type answers. RFC 1035 section 4.1.3.
+module _ {D : Type 0} (rtype_of : D → ℕ) (parts_of : D → List Part) where
+  -- Where the data type takes its type, and lays out its parts so, that gives a record with the same owner, class, TTL and parts.
+  abbrev pub ToRecordReadsBack : (ℕ → Option Layout) → Type 0
+  ToRecordReadsBack layouts = (b : List ℕ) (x : RecordItem) (standing : StandingRecord) (result : Result (Option (Record ParsedName D)) ParseError)
+      → StandsAs b x standing → IsSomeAnd (layouts x.rtype) (λ layout. IsLaidOut layout x.parts)
+      → AnswersTaken rtype_of parts_of standing.octets standing.entry (layouts standing.entry.rtype) result
+      → IsOkAnd result (λ o. IsSomeAnd o (λ r. record_item labels rtype_of parts_of r ≡ x))
+
+  -- the same of a data type that takes every type
+  abbrev pub ToAnyRecordReadsBack : (ℕ → Layout) → Type 0
+  ToAnyRecordReadsBack layouts = (b : List ℕ) (x : RecordItem) (standing : StandingRecord) (result : Result (Record ParsedName D) ParseError)
+      → StandsAs b x standing → IsLaidOut (layouts x.rtype) x.parts
+      → AnswersLaidOut rtype_of parts_of standing.octets standing.entry (layouts standing.entry.rtype) result
+      → IsOkAnd result (λ r. record_item labels rtype_of parts_of r ≡ x)

@@ -1,0 +1,8 @@
+use Rattle.dns_build.proofs.KnownByState.{builders_are_known, rewinds_leave_nothing}
+use Rattle.dns_build.proofs.laws.builders_are_known_by_states.Goals as goal
+
+pub returns-clause-known : goal.returns-clause-known
+returns-clause-known c = builders_are_known
+
+pub returns-clause-rewound : goal.returns-clause-rewound
+returns-clause-rewound c = rewinds_leave_nothing

@@ -1,0 +1,5 @@
+use Rattle.dns_build.proofs.TypedReading.{to_any_record_reads_back}
+use Rattle.dns_build.proofs.laws.to_any_record_reads_back.Goals as goal
+
+pub returns : goal.returns
+returns g c = to_any_record_reads_back g.D.RecordData.rtype_of g.D.RecordData.parts g.D.ParseAnyRecordData.any_layout
