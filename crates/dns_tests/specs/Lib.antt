@@ -1,2 +1,3 @@
 pub mod Tour
 pub mod Callers
+pub mod Typed

@@ -18,3 +18,5 @@ mod program;
 mod runs;
 #[cfg(test)]
 mod tour;
+#[cfg(test)]
+mod typed;

@@ -1,0 +1,34 @@
+-- What the proved callers that read by data types say.
+use Rattle.std.specs.Prelude.{◌≡◌, ℕ, List, [], ◌∷◌, Option, Ok, IsSomeAnd}
+use Rattle.dns_name.specs.Names.{Labels}
+use Rattle.dns_wire.specs.Parts.{Octets, CompressibleName}
+use Rattle.dns_data.specs.Layout.{Layout, IsLaidOut}
+use Rattle.dns_item.specs.Items.{RecordItem}
+use Rattle.dns_read.specs.SectionStarts.{records_of}
+use Rattle.dns_section.specs.Limited.{limited}
+use Rattle.dns_section.specs.Sections.{AnswersStart}
+use Rattle.dns_section.specs.declared.section.Section.TheVariants.{Answer}
+use Rattle.dns_build.specs.MessageOf.{ReadsBack}
+use Rattle.dns_build.specs.State.{State}
+
+-- the answers start somewhere, and reading them with a data type gives this record and nothing else, without a fault
+pub record HasOneAnswer (layouts : ℕ → Option Layout) (b : List ℕ) (x : RecordItem) : Type 0 where
+  pub start : ℕ
+  pub starts : AnswersStart b start
+  pub only : limited layouts (records_of Answer b) ≡ Ok x ∷ []
+
+-- a record that says the name server of its owner
+abbrev pub server_record : Labels → ℕ → ℕ → Labels → RecordItem
+server_record owner class ttl server = record { owner = owner; rtype = 2; class = class; ttl = ttl; parts = CompressibleName server ∷ [] }
+
+-- a record that says the address of its owner
+abbrev pub address_record : Labels → ℕ → ℕ → List ℕ → RecordItem
+address_record owner class ttl octets = record { owner = owner; rtype = 1; class = class; ttl = ttl; parts = Octets octets ∷ [] }
+
+-- the octets read back as a state whose first answer is this record, of which the data type takes the type, and lays out the parts so
+pub record WasPushedFirst (layouts : ℕ → Option Layout) (b : List ℕ) (x : RecordItem) : Type 0 where
+  pub s : State
+  pub reads_back : ReadsBack s b
+  pub behind : List RecordItem
+  pub first : s.answers ≡ x ∷ behind
+  pub laid : IsSomeAnd (layouts x.rtype) (λ layout. IsLaidOut layout x.parts)
