@@ -47,7 +47,11 @@ pub record LabelFirst (text : List ℕ) (size : ℕ) (label rest : List ℕ) : T
 abbrev pub AreOctets : (Labels → Type 0) → List ℕ → Type 0
 AreOctets Spelled octets = (name : Labels) × Spelled name × IsName name × (uncompressed name ≡ octets)
 
--- The name that the text spells, or its fault. Nothing else is wrong but a want of memory, where memory is taken.
+-- the text spells a name
+abbrev pub SpellsSomeName : List ℕ → Type 0
+SpellsSomeName text = (name : Labels) × SpellsName text name
+
+-- The name that the text spells, or its fault. Nothing else is wrong but a want of memory, where it can be.
 abbrev pub ReadsName : {X : Type 0} {holder : Ghosts X} → Type 0 → List ℕ → Result (Name X holder) FromStrError → Type 0
 ReadsName Memory text (Ok name) = SpellsName text (name_labels name)
 ReadsName Memory text (Err (Presentation f)) = NameTextFault text f

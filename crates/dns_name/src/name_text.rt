@@ -1,8 +1,8 @@
 //! Names read from texts, in a profile of the master file format (RFC 1035 section 5.1).
-ghost use Rattle.std.specs.Prelude.{◌≡◌, ◌≤◌, ◌<◌, ◌≢◌, ◌+◌, ◌∷◌, ℕ, IsTrue, MatchResult, length, ⊤};
+ghost use Rattle.std.specs.Prelude.{◌≡◌, ◌≤◌, ◌<◌, ◌≢◌, ◌+◌, ◌∷◌, ℕ, IsTrue, MatchResult, length};
 ghost use Rattle.dns_name.specs.NameTexts.{backslash, dot, is_digit, NameTextFault, NameTextFaulty, SpellsLabels, SpellsName};
 ghost use Rattle.dns_name.specs.Names.{max_size};
-ghost use Rattle.dns_name.specs.NameReading.{AreOctets, LabelFirst, ReadsName, ReadsOctet, StepsLabel};
+ghost use Rattle.dns_name.specs.NameReading.{AreOctets, LabelFirst, ReadsName, ReadsOctet, SpellsSomeName, StepsLabel};
 
 use crate::flatten::append_label;
 use crate::label::Label;
@@ -169,10 +169,10 @@ impl FromStr for Name<ArrayVec<u8, 255>> {
 }
 
 impl Name<Vec<u8>> {
-    /// Reads a name into memory from `alloc`. It is `OutOfMemory` for want of that, and `Presentation` for each other
-    /// fault.
+    /// Reads a name into memory from `alloc`. It is `OutOfMemory` for want of that, where the text spells a name, and
+    /// `Presentation` for each fault of the text.
     pub fn vec_from_str(alloc: Global, text: &str) -> Result<Self, FromStrError>
-        ensures { ReadsName ⊤ text.now result }
+        ensures { ReadsName (SpellsSomeName text.now) text.now result }
     {
         let name = Name::<ArrayVec<u8, 255>>::from_str(text)?;
         Name::try_octets_from(alloc, &name).map_err(|_| FromStrError::OutOfMemory)
