@@ -2,7 +2,7 @@
 //! all octets, flags, numbers or texts.
 ghost use Rattle.dns_code.specs.Laws.{FieldsAreAllBits, CountsAreAllOctets, SectionIsHeaderAndCounts, FlagsReadBack, FlagsTexts};
 
-pub use dns_number::laws::{code_numbers, printed_numbers_read_back};
+pub use dns_number::laws::{code_numbers, named_classes, named_types, printed_numbers_read_back};
 
 /// Headers with the same fields have the same octets, and so have counts. A header section is both, one behind the other.
 pub fn octets_of_fields()

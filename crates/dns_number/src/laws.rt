@@ -1,9 +1,13 @@
 //! Theorems on numbers and their texts: the contracts are the theorems.
 ghost use Rattle.std.specs.Prelude.{◌≡◌, ◌∷◌, []};
 ghost use Rattle.dns_number.specs.Laws.{TypesReadBack, ClassesReadBack};
+ghost use Rattle.dns_number.specs.Mnemonics.{type_mnemonics, class_mnemonics};
+ghost use Rattle.dns_number.specs.Tables.{table};
 
+use crate::class::Class;
 use crate::opcode::Opcode;
 use crate::rcode::Rcode;
+use crate::rtype::Rtype;
 
 /// What is printed for a record type or a class is read as that number, for every number of 16 bits.
 pub fn printed_numbers_read_back()
@@ -25,4 +29,33 @@ pub fn code_numbers() -> ([u8; 2], [u8; 4])
         Rcode::REFUSED.to_int(),
     ];
     (opcodes, rcodes)
+}
+
+/// The record types that have names, each with its mnemonic: their numbers are those of the table of mnemonics.
+#[tactic(auto, unfolding(crate::specs::Mnemonics::type_mnemonics))]
+pub fn named_types() -> [(Rtype, &'static str); 12]
+    ensures { table result ≡ type_mnemonics }
+{
+    [
+        (Rtype::A, "A"),
+        (Rtype::NS, "NS"),
+        (Rtype::CNAME, "CNAME"),
+        (Rtype::SOA, "SOA"),
+        (Rtype::PTR, "PTR"),
+        (Rtype::MX, "MX"),
+        (Rtype::TXT, "TXT"),
+        (Rtype::AAAA, "AAAA"),
+        (Rtype::OPT, "OPT"),
+        (Rtype::IXFR, "IXFR"),
+        (Rtype::AXFR, "AXFR"),
+        (Rtype::ANY, "ANY"),
+    ]
+}
+
+/// The classes that have names, each with its mnemonic.
+#[tactic(auto, unfolding(crate::specs::Mnemonics::class_mnemonics))]
+pub fn named_classes() -> [(Class, &'static str); 3]
+    ensures { table result ≡ class_mnemonics }
+{
+    [(Class::IN, "IN"), (Class::CH, "CH"), (Class::HS, "HS")]
 }
