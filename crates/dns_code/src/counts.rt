@@ -6,9 +6,20 @@ use crate::error::CountOverflow;
 /// Octets 4 to 11 of a message: how many entries each section has (RFC 1035 section 4.1.1).
 ///
 /// In UPDATE messages the same counts go by other names (RFC 2136 section 2.2).
-#[derive(Clone, Copy, Debug, Default, PartialEq, Eq)]
+#[derive(Clone, Copy, Debug, PartialEq, Eq)]
 pub struct HeaderCounts {
     octets: [u8; 8],
+}
+
+/// All counts are 0, as of `HeaderCounts::new`.
+impl Default for HeaderCounts {
+    ghost use Rattle.dns_code.specs.HeaderCounts.{counts_octets};
+
+    ghost is_default = { λ counts. counts_octets counts ≡ replicate 8 0 };
+
+    fn default() -> Self {
+        HeaderCounts::new()
+    }
 }
 
 impl HeaderCounts {

@@ -9,9 +9,20 @@ pub use crate::section::HeaderSection;
 use dns_number::{Opcode, Rcode};
 
 /// The first four octets of a message: its ID, opcode, flags and rcode (RFC 1035 section 4.1.1; RFC 4035 section 3).
-#[derive(Clone, Copy, Debug, Default, PartialEq, Eq)]
+#[derive(Clone, Copy, Debug, PartialEq, Eq)]
 pub struct Header {
     octets: [u8; 4],
+}
+
+/// Zero bits, as `Header::new`.
+impl Default for Header {
+    ghost use Rattle.dns_code.specs.Header.{header_octets};
+
+    ghost is_default = { λ header. header_octets header ≡ replicate 4 0 };
+
+    fn default() -> Self {
+        Header::new()
+    }
 }
 
 impl Header {

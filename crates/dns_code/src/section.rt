@@ -5,9 +5,20 @@ use crate::header::Header;
 use dns_wire::{AppendError, Composer, ParseError, Parser};
 
 /// The first twelve octets of a message: the header and then the counts (RFC 1035 section 4.1.1).
-#[derive(Clone, Copy, Debug, Default, PartialEq, Eq)]
+#[derive(Clone, Copy, Debug, PartialEq, Eq)]
 pub struct HeaderSection {
     octets: [u8; 12],
+}
+
+/// Zero bits, as `HeaderSection::new`.
+impl Default for HeaderSection {
+    ghost use Rattle.dns_code.specs.HeaderSection.{header_size, section_octets};
+
+    ghost is_default = { λ section. section_octets section ≡ replicate header_size 0 };
+
+    fn default() -> Self {
+        HeaderSection::new()
+    }
 }
 
 impl HeaderSection {
