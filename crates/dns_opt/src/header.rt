@@ -6,11 +6,23 @@ ghost use Rattle.dns_opt.specs.OptHeader.{class_of, ttl_of, ttl_in, fields};
 use dns_code::{Class, Header, OptRcode};
 
 /// What the class and the TTL of an OPT record say (RFC 6891 section 6.1.3).
-#[derive(Clone, Copy, Debug, Default, PartialEq, Eq)]
+#[derive(Clone, Copy, Debug, PartialEq, Eq)]
 pub struct OptHeader {
     udp_payload_size: u16,
     /// From the highest octet on: the higher bits of the rcode, the version, and 16 bits, the first of them DO.
     ttl: u32,
+}
+
+/// The header of a class 0 and a TTL 0: each of its fields is 0.
+impl Default for OptHeader {
+    ghost is_default = { λ header. (class_of header ≡ 0) × (ttl_of header ≡ 0) };
+
+    fn default() -> Self {
+        OptHeader {
+            udp_payload_size: 0,
+            ttl: 0,
+        }
+    }
 }
 
 impl OptHeader {
