@@ -146,7 +146,11 @@ ReadsFields b (Some c) (Err f) = (more : List (List ℕ)) → ReadsBehindName (b
 abbrev pub ReadsTextBehindName : List ℕ → Fields → Type 0
 ReadsTextBehindName text fields = IsUtf8 text → (words : List (List ℕ)) × AreWords text words × ReadsBehindName words fields
 
--- What is wrong with the text. Nothing else is wrong but a want of memory, where memory is taken.
+-- the text is read as a question
+abbrev pub ReadsSomeQuestion : List ℕ → Type 0
+ReadsSomeQuestion text = (x : QuestionItem) × ReadsText text (Ok x)
+
+-- What is wrong with the text. Nothing else is wrong but a want of memory, where it can be.
 abbrev pub ReadsFault : Type 0 → List ℕ → FromStrError → Type 0
 ReadsFault Memory text (Presentation error) = ReadsText text (Err (kind_of error))
 ReadsFault Memory text ShortBuf = ⊥

@@ -6,6 +6,7 @@
 #![tactic(auto)]
 
 mod conversions;
+pub mod laws;
 pub mod question;
 mod question_error;
 mod question_order;

@@ -1,8 +1,8 @@
 //! Questions read from texts (RFC 1035 section 5.1).
-ghost use Rattle.std.specs.Prelude.{◌≡◌, ℕ, List, ⊤};
+ghost use Rattle.std.specs.Prelude.{◌≡◌, ℕ, List};
 ghost use Rattle.std.specs.Str.Iter.{split_whitespace_rest};
 ghost use Rattle.dns_number.specs.Classes.{SpellsClass};
-ghost use Rattle.dns_question.specs.QuestionTexts.{ReadsFields, ReadsQuestionText, ReadsTextBehindName, SpellsNoClass};
+ghost use Rattle.dns_question.specs.QuestionTexts.{ReadsFields, ReadsQuestionText, ReadsSomeQuestion, ReadsTextBehindName, SpellsNoClass};
 
 use crate::question::Question;
 use crate::question_error::{FromStrError, PresentationErrorEnum};
@@ -95,10 +95,10 @@ impl FromStr for Question<Name<ArrayVec<u8, 255>>> {
 }
 
 impl Question<Name<Vec<u8>>> {
-    /// Reads a question into memory from `alloc`. It is `OutOfMemory` for want of that, and `Presentation` for each other
-    /// fault.
+    /// Reads a question into memory from `alloc`. It is `OutOfMemory` for want of that, where the text is read as a
+    /// question, and `Presentation` for each fault of the text.
     pub fn vec_from_str(alloc: Global, text: &str) -> Result<Self, FromStrError>
-        ensures { ReadsQuestionText ⊤ text.now result }
+        ensures { ReadsQuestionText (ReadsSomeQuestion text.now) text.now result }
     {
         let question = Question::<Name<ArrayVec<u8, 255>>>::from_str(text)?;
         match Name::try_octets_from(alloc, question.qname()) {
