@@ -1,4 +1,4 @@
--- How opaque data and options compare, and what is hashed of them: the octets alone count, and not what holds them.
+-- How the start of a zone compares, field by field, and opaque data and options: of these the octets alone count, and not what holds them. And what is hashed of them.
 use Rattle.std.specs.Prelude.{ℕ, Bool, List, ◌==◌, ◌++◌}
 use Rattle.std.specs.Cmp.Lexicographic.{pointwise}
 use Rattle.std.specs.Ordering.{nat_cmp, on, then_cmp, eq_of_both}
@@ -7,8 +7,10 @@ use Rattle.std.specs.Hash as fed
 use Rattle.dns_octets.specs.declared.octets.Octets.{Ghosts}
 use Rattle.dns_data.specs.CanonicalOrders.{octet_order}
 use Rattle.dns_data.specs.Opt.{opt_octets}
+use Rattle.dns_data.specs.Soa.{mname_of, rname_of, serial_of, refresh_of, retry_of, expire_of, minimum_of}
 use Rattle.dns_data.specs.UnknownData.{unknown_rtype_of, unknown_octets}
 use Rattle.dns_data.specs.declared.opt.Opt.{Opt}
+use Rattle.dns_data.specs.declared.soa.Soa.{Soa}
 use Rattle.dns_data.specs.declared.unknown.UnknownRecordData.{UnknownRecordData}
 
 -- whether octets are the same
@@ -43,3 +45,28 @@ module _ {X : Type 0} {holds : Ghosts X} where
   -- what they feed a hasher: the octets
   abbrev pub opt_hash_input : Opt X holds → fed.HashWrites
   opt_hash_input opt = octets_hash_input (opt_octets opt)
+
+module _ {N : Type 0} where
+  -- the starts of two zones are equal where all fields are
+  abbrev pub zones_equal : (N → N → Bool) → Soa N → Soa N → Bool
+  zones_equal same_name =
+      eq_of_both (on mname_of same_name)
+      (eq_of_both (on rname_of same_name)
+      (eq_of_both (on serial_of ◌==◌)
+      (eq_of_both (on refresh_of ◌==◌) (eq_of_both (on retry_of ◌==◌) (eq_of_both (on expire_of ◌==◌) (on minimum_of ◌==◌))))))
+
+  -- their order: that of the two names, else of the five numbers, in the order of the wire (RFC 1035 section 3.3.13)
+  abbrev pub zone_order : (N → N → Ordering) → Soa N → Soa N → Ordering
+  zone_order name_order =
+      then_cmp (on mname_of name_order)
+      (then_cmp (on rname_of name_order)
+      (then_cmp (on serial_of nat_cmp)
+      (then_cmp (on refresh_of nat_cmp) (then_cmp (on retry_of nat_cmp) (then_cmp (on expire_of nat_cmp) (on minimum_of nat_cmp))))))
+
+  -- what the start of a zone feeds a hasher
+  abbrev pub zone_hash_input : (N → fed.HashWrites) → Soa N → fed.HashWrites
+  zone_hash_input of_name zone =
+      of_name (mname_of zone)
+      ++ (of_name (rname_of zone)
+      ++ (fed.u32 (serial_of zone)
+      ++ (fed.u32 (refresh_of zone) ++ (fed.u32 (retry_of zone) ++ (fed.u32 (expire_of zone) ++ fed.u32 (minimum_of zone))))))
