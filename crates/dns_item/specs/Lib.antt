@@ -1,6 +1,7 @@
 pub use Rattle.dns_ttl.specs.Ttl
 pub mod Items
 pub mod RecordHeader
+pub mod HeaderOrders
 pub mod ParsedRecord
 pub mod Record
 pub mod RecordOrders

@@ -1,10 +1,16 @@
-//! Theorems on questions and records where they stand and where they are put, and on questions as texts. The functions do nothing: each contract is a theorem over all octets, places, items and texts.
+//! Theorems on questions and records where they stand and where they are put, on questions as texts, and on how record
+//! headers compare. The functions do nothing: each contract is a theorem over all octets, places, items and texts.
+ghost use Rattle.std.specs.Prelude.{◌≡◌};
+ghost use Rattle.std.specs.Ordering.{as_partial_cmp};
 ghost use Rattle.dns_question.specs.Questions.{QuestionOrFault, QuestionEndOrFault, QuestionSkipAgrees, QuestionsGrow, QuestionsReadBack};
 ghost use Rattle.dns_item.specs.Items.{HeaderOrFault, RecordOrFault, RecordEndOrFault, RecordSkipAgrees, RecordsGrow, RecordsReadBack};
+ghost use Rattle.dns_item.specs.HeaderOrders.{headers_equal, header_order, header_hash_input};
 ghost use Rattle.dns_item.specs.TypedRecords.{DataIsAnswered};
 ghost use Rattle.dns_question.specs.QuestionTexts.{EachTextAnswered, OneTextAnswer, EachWordsAnswered, OneWordsAnswer};
 
+use crate::record_header::RecordHeader;
 pub use dns_ttl::laws::ttl_units;
+use std::hash::Hash;
 
 /// At each place exactly one question can be read or exactly one fault is met, never both; so for records and their headers.
 pub fn one_entry_or_fault()
@@ -44,4 +50,21 @@ pub fn questions_as_texts()
     ensures one_answer { OneTextAnswer }
     ensures each_words { EachWordsAnswered }
     ensures one_answer_of_words { OneWordsAnswer }
+{}
+
+/// Two record headers are equal where all fields are.
+pub fn header_equality<N: PartialEq>()
+    ensures { ⟦<RecordHeader<N> as PartialEq>⟧.eq ≡ headers_equal N.eq }
+{}
+
+/// Record headers compare by owner, type, class, TTL, then by the length of the data.
+pub fn header_orders<N: Ord>()
+    ensures total { ⟦<RecordHeader<N> as Ord>⟧.cmp ≡ header_order N.cmp }
+    ensures partial { (a : _) (b : _) →
+        ⟦<RecordHeader<N> as PartialOrd>⟧.partial_cmp a b ≡ as_partial_cmp (header_order N.cmp) a b }
+{}
+
+/// A record header feeds a hasher its fields in this order.
+pub fn header_hash<N: Hash>()
+    ensures { ⟦<RecordHeader<N> as Hash>⟧.hash_input ≡ header_hash_input N.hash_input }
 {}
