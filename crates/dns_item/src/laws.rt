@@ -9,6 +9,7 @@ ghost use Rattle.dns_item.specs.TypedRecords.{DataIsAnswered};
 ghost use Rattle.dns_question.specs.QuestionTexts.{EachTextAnswered, OneTextAnswer, EachWordsAnswered, OneWordsAnswer};
 
 use crate::record_header::RecordHeader;
+pub use dns_question::laws::{question_equality, question_hash, question_orders};
 pub use dns_ttl::laws::ttl_units;
 use std::hash::Hash;
 

@@ -1,2 +1,1 @@
-pub mod FieldOrders
 pub mod Naptr

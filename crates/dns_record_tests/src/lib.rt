@@ -17,8 +17,6 @@ mod conversions;
 #[cfg(test)]
 mod data;
 #[cfg(test)]
-mod field_orders;
-#[cfg(test)]
 mod fields;
 #[cfg(test)]
 mod hinfo;
