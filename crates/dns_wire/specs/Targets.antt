@@ -6,7 +6,7 @@ use Rattle.dns_octets.specs.Octets.{overwritten}
 use Rattle.dns_octets.specs.declared.error.AppendError.{AppendError}
 use Rattle.dns_octets.specs.declared.error.AppendError.TheVariants.{ShortBuf, OutOfMemory}
 use Rattle.dns_name.specs.Names.{Labels, IsLabel, name_size, max_size, framed, pointer_end}
-use Rattle.dns_wire.specs.Pieces.{Memory, Spot, pointer as pointer_octets, cut, Piece}
+use Rattle.dns_wire.specs.Pieces.{Memory, Spot, nothing, pointer as pointer_octets, cut, Piece}
 
 -- Names where they were written, with what a target remembers. RFC 1035 section 4.1.4.
 
@@ -40,6 +40,10 @@ pub record Remembers (b : List ℕ) (m : Memory) : Type 0 where
 pub record Written : Type 0 where
   pub octets : List ℕ
   pub memory : Memory
+
+-- octets of which nothing is remembered
+abbrev pub unremembered : List ℕ → Written
+unremembered octets = record { octets = octets; memory = nothing }
 
 -- what holds of every target: each suffix that it remembers stands where it says
 abbrev pub IsTarget : Written → Type 0

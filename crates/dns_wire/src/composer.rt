@@ -1,6 +1,7 @@
-ghost use Rattle.std.specs.Prelude.{◌≡◌, ◌+◌, ◌≤◌, ℕ, Bool, Option, Some, None, true, false, length, refl, IfOk, OnErr, IsTrue};
+ghost use Rattle.std.specs.Prelude.{◌≡◌, ◌+◌, ◌<◌, ◌≤◌, ℕ, Bool, Option, Some, None, true, false, length, refl, IfOk, OnErr, IsTrue, vec_len, vec_capacity};
+ghost use Rattle.dns_name.specs.Names.{uncompressed};
 ghost use Rattle.dns_wire.specs.Pieces.{IsClear, nothing, Rule, Plain, compresses, put_octets, put_name};
-ghost use Rattle.dns_wire.specs.Targets.{Written, IsTarget, Fits, Appends, cut_to, overwrite};
+ghost use Rattle.dns_wire.specs.Targets.{Written, IsTarget, Fits, Appends, cut_to, overwrite, unremembered};
 
 use arrayvec::ArrayVec;
 use dns_name::ToName;
@@ -96,7 +97,12 @@ impl Composer for Vec<u8> {
         self.as_slice()
     }
 
-    fn append_slice(&mut self, octets: &[u8]) -> Result<(), AppendError> {
+    fn append_slice(&mut self, octets: &[u8]) -> Result<(), AppendError>
+        ensures appends { Appends None true (put_octets octets.now)
+            (unremembered self.old.items) (unremembered self.new.items) result }
+        ensures full { result ≡ Err AppendError.OutOfMemory
+            → vec_capacity self.old < vec_len self.old + length octets.now }
+    {
         if self.capacity() == 0 {
             // Where this is refused, what `octets` take may still be had.
             let _ = self.reserve(FIRST_CAPACITY);
@@ -106,9 +112,14 @@ impl Composer for Vec<u8> {
     }
 
     #[tactic(auto, unfolding(crate::specs::Pieces::put_name))]
-    fn append_compressed_name<N: ToName>(&mut self, name: &N) -> Result<(), AppendError> {
+    fn append_compressed_name<N: ToName>(&mut self, name: &N) -> Result<(), AppendError>
+        ensures appends { Appends None true (put_name Plain (N.name name.now))
+            (unremembered self.old.items) (unremembered self.new.items) result }
+        ensures full { result ≡ Err AppendError.OutOfMemory → vec_capacity self.old
+            < vec_len self.old + length (uncompressed (N.name name.now)) }
+    {
         match name.as_flat_slice() {
-            Some(octets) => self.append_slice(octets),
+            Some(flat) => self.append_slice(flat),
             None => self.append_slice(name.as_parsed().uncompressed().as_slice()),
         }
     }
