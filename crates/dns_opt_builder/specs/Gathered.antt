@@ -1,5 +1,5 @@
 -- What an OPT builder has gathered. RFC 6891 section 6.1.
-use Rattle.std.specs.Prelude.{ℕ, ◌/◌, ◌%◌, ◌<◌, ◌≤◌, List, [], length, false}
+use Rattle.std.specs.Prelude.{vec_capacity, ℕ, ◌/◌, ◌%◌, ◌<◌, ◌≤◌, List, [], length, false}
 use Rattle.dns_code.specs.Header.{HeaderFields, fields as header_fields}
 use Rattle.dns_code.specs.declared.header.Header.{Header}
 use Rattle.dns_opt.specs.OptHeader.{OptFields, fields as opt_fields}
@@ -16,6 +16,10 @@ pub record Gathered : Type 0 where
 -- the octets of the options that a builder holds, one behind the other
 abbrev pub option_octets : OptBuilder → List ℕ
 option_octets builder = builder.octets.items
+
+-- for how many octets of options a builder has memory
+abbrev pub option_capacity : OptBuilder → ℕ
+option_capacity builder = vec_capacity builder.octets
 
 -- what a builder has gathered
 abbrev pub gathered : OptBuilder → Gathered

@@ -1,5 +1,5 @@
 //! Lists of options that grow (RFC 6891 section 6.1.2). What is refused changes nothing.
-ghost use Rattle.std.specs.Prelude.{◌≡◌, ◌+◌, ◌≤◌, ◌++◌, length, vec_len, vec_capacity, OnOk, OnErr, Some, true, replicate};
+ghost use Rattle.std.specs.Prelude.{◌≡◌, ◌+◌, ◌<◌, ◌≤◌, ◌++◌, length, vec_len, vec_capacity, OnOk, OnErr, Some, true, replicate};
 ghost use Rattle.std.specs.Int.{to_be_bytes, w16};
 ghost use Rattle.std.specs.List.{flat_map};
 ghost use Rattle.dns_wire.specs.Targets.{Answers};
@@ -17,7 +17,7 @@ const HEAD_LEN: usize = 4;
 pub(crate) fn append_option(list: &mut Vec<u8>, code: u16, octets: &[u8]) -> Result<(), AppendError>
     requires { length list.old.items ≤ 65535 }
     ensures { AppendsOption (record { code = code; octets = octets.now })
-        list.old.items list.new.items result }
+        (vec_capacity list.old) list.old.items list.new.items result }
 {
     begin_option(list, code, octets.len())?;
     append_reserved(list, octets);
@@ -33,7 +33,7 @@ pub(crate) fn append_joined_option(
 ) -> Result<(), AppendError>
     requires { length list.old.items ≤ 65535 }
     ensures { AppendsOption (record { code = code; octets = first.now ++ rest.now })
-        list.old.items list.new.items result }
+        (vec_capacity list.old) list.old.items list.new.items result }
 {
     begin_option(list, code, first.len() + rest.len())?;
     append_reserved(list, first);
@@ -49,7 +49,7 @@ pub(crate) fn append_zeros_option(
 ) -> Result<(), AppendError>
     requires { length list.old.items ≤ 65535 }
     ensures { AppendsOption (record { code = code; octets = replicate count 0 })
-        list.old.items list.new.items result }
+        (vec_capacity list.old) list.old.items list.new.items result }
 {
     let count = usize::from(count);
     begin_option(list, code, count)?;
@@ -67,7 +67,7 @@ pub(crate) fn append_numbers_option(
     requires { length list.old.items ≤ 65535 }
     ensures { AppendsOption
         (record { code = code; octets = flat_map (to_be_bytes w16) numbers.now })
-        list.old.items list.new.items result }
+        (vec_capacity list.old) list.old.items list.new.items result }
 {
     begin_option(list, code, numbers.len() * 2)?;
     for number in numbers {
@@ -84,6 +84,8 @@ fn begin_option(list: &mut Vec<u8>, code: u16, len: usize) -> Result<(), AppendE
     ensures reserved { OnOk result (vec_len list.new + len ≤ vec_capacity list.new) }
     ensures err { OnErr result (list.new.items ≡ list.old.items) }
     ensures answer { Answers (Some 65535) true (length list.old.items + 4 + len) result }
+    ensures full { result ≡ Err AppendError.OutOfMemory
+        → vec_capacity list.old < length list.old.items + 4 + len }
 {
     let room = MOST_OCTETS - list.len();
     if room < HEAD_LEN || len > room - HEAD_LEN {

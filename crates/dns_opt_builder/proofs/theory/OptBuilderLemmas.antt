@@ -13,7 +13,7 @@ use Rattle.dns_opt.specs.OptHeader.{fields_in}
 use Rattle.dns_opt.proofs.theory.OptionsLemmas.{one_more, options_of-nil}
 use Rattle.dns_opt_builder.specs.declared.builder.OptBuilder.{OptBuilder}
 use Rattle.dns_opt_builder.specs.OptionLists.{AppendsOption}
-use Rattle.dns_opt_builder.specs.Gathered.{Gathered, gathered, nothing_gathered, option_octets}
+use Rattle.dns_opt_builder.specs.Gathered.{Gathered, gathered, nothing_gathered, option_capacity, option_octets}
 use Rattle.dns_opt_builder.specs.Additions.{Adds}
 
 -- what a builder keeps true of the octets of its options
@@ -50,7 +50,7 @@ of_builder : (builder : OptBuilder) → AreKept (option_octets builder)
 of_builder builder = record { listed = builder.listed; whole = builder.whole; short = builder.short }
 
 -- an append keeps what is true, whatever it answers
-pub kept : (x : OptionItem) (old : OptBuilder) (c : List ℕ) (r : Result (Unit {0}) AppendError) → x.code < 65536 → AppendsOption x (option_octets old) c r → AreKept c
+pub kept : (x : OptionItem) (old : OptBuilder) (c : List ℕ) (r : Result (Unit {0}) AppendError) → x.code < 65536 → AppendsOption x (option_capacity old) (option_octets old) c r → AreKept c
 kept x old c (Ok _) code a = (grown x (option_octets old) c (of_builder old) code a.answer a.ok).kept
 kept x old c (Err e) code a = subst (λ (d : List ℕ). AreKept d) (sym a.err) (of_builder old)
 
@@ -67,7 +67,7 @@ holding old list h = record {
 
 -- an append to the octets is one to the options
 pub adds : (x : OptionItem) (old : OptBuilder) (list : Vec ℕ Global) (r : Result (Unit {0}) AppendError) (code : x.code < 65536)
-    (a : AppendsOption x (option_octets old) list.items r) → Adds x old (holding old list (kept x old list.items r code a)) r
+    (a : AppendsOption x (option_capacity old) (option_octets old) list.items r) → Adds x old (holding old list (kept x old list.items r code a)) r
 adds x old list (Ok _) code a =
     let g : List OptionItem → Gathered = λ xs. record (gathered old) { options = xs } in
     (ap g (grown x (option_octets old) list.items (of_builder old) code a.answer a.ok).options, omega (arith, ap length old.whole, a.answer))
@@ -76,7 +76,7 @@ adds x old list (Err ShortBuf) code a =
     (omega (arith, ap length old.whole, a.answer), ap g a.err)
 adds x old list (Err OutOfMemory) code a =
     let g : List ℕ → Gathered = λ c. record (gathered old) { options = options_in c } in
-    (omega (arith, ap length old.whole, a.answer.0), ap g a.err)
+    (omega (arith, ap length old.whole, a.answer.0), ap g a.err, omega (arith, ap length old.whole, a.full refl))
 
 -- what a builder has gathered, and behind its options those that are left
 abbrev pub with_left : OptBuilder → List OptionItem → Gathered
