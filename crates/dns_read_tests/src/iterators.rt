@@ -5,6 +5,7 @@ use dns_data::{A, Cname, UnknownRecordData};
 use dns_read::{AnyRecordIter, RecordIter, RecordSection};
 use dns_wire::{FormError, ParseError, ParsedName};
 use std::process::Abort;
+use std::test::Fail;
 
 /// What is answered where octets are left over behind the value of data.
 const LEFT_OVER: ParseError = ParseError::Form(FormError::TRAILING_DATA);
@@ -150,4 +151,45 @@ fn reads_data_of_a_type_and_of_any_type(rt: HostRuntime) {
     );
     let message = message_of(&rt, ADDRESS_BETWEEN);
     assert!(rt; gives_three(answers_of(&rt, &message).into_records()));
+}
+
+/// Three addresses of the root: 192.0.2.1 in class IN, 192.0.2.2 in class CH, and the first again.
+const TWO_CLASSES: &[u8; 57] =
+    b"\x00\x00\x00\x00\x00\x00\x00\x03\x00\x00\x00\x00\x00\x00\x01\x00\x01\x00\x00\x00\x00\x00\x04\xC0\x00\x02\x01\x00\x00\x01\x00\x03\x00\x00\x00\x00\x00\x04\xC0\x00\x02\x02\x00\x00\x01\x00\x01\x00\x00\x00\x00\x00\x04\xC0\x00\x02\x01";
+
+/// Behind the first address, an iterator and its clone each give these addresses.
+fn assert_cloned(
+    rt: &impl Abort,
+    row: &str,
+    mut given: RecordIter<'_, A>,
+    others: Addresses,
+) -> Result<(), Fail> {
+    assert!(rt; next_address(&mut given) == Some(Ok(FIRST)), "{row}");
+    let clone = given.clone()?;
+    assert_addresses(rt, row, given, others, 57);
+    assert_addresses(rt, row, clone, others, 57);
+    Ok(())
+}
+
+/// Whether an iterator gives the data of the last two addresses, and then nothing.
+fn gives_two(mut records: Opaque<'_>) -> bool {
+    gives(&mut records, &SECOND) && gives(&mut records, &FIRST) && records.next().is_none()
+}
+
+#[test]
+fn clones_give_the_same(rt: HostRuntime) -> Result<(), Fail> {
+    let message = message_of(&rt, TWO_CLASSES);
+    let answers = answers_of(&rt, &message);
+    assert_cloned(
+        &rt,
+        "limit_to",
+        answers.limit_to(),
+        &[Ok(SECOND), Ok(FIRST)],
+    )?;
+    assert_cloned(&rt, "limit_to_in", answers.limit_to_in(), &[Ok(FIRST)])?;
+    let mut records: Opaque<'_> = answers.into_records();
+    assert!(rt; gives(&mut records, &FIRST), "into_records");
+    let clone = records.clone()?;
+    assert!(rt; gives_two(records) && gives_two(clone), "into_records");
+    Ok(())
 }

@@ -1,6 +1,6 @@
 //! Proved callers: sections of records compare by their order in a message (RFC 1035 section 4.1).
 ghost use Rattle.std.specs.Prelude.{◌≡◌, ◌<◌, ◌↔◌, IsTrue, Some};
-ghost use Rattle.dns_read_tests.specs.SectionOrder.{sections_before, section_order};
+ghost use Rattle.dns_section.specs.SectionOrder.{sections_before, section_order};
 
 use dns_read::Section;
 use std::cmp::Ordering;

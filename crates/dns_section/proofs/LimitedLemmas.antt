@@ -1,5 +1,6 @@
 -- What a data type answers to lists of items that are joined, and how a cursor passes them.
-use Rattle.std.proofs.Common.{◌≡◌, ◌∙◌, ap, refl, ℕ, Bool, true, false, List, [], ◌∷◌, ◌++◌, length, arith}
+use Rattle.std.proofs.Common.{◌≡◌, ◌∙◌, ap, refl, ℕ, Bool, true, false, List, [], ◌∷◌, ◌++◌, length, append_assoc, arith}
+use Rattle.std.proofs.lemmas.List.{append-nil}
 use Rattle.std.proofs.lemmas.List.Elements.{filter-append, filter_map-append}
 use Rattle.std.specs.List.{cons_option}
 use Rattle.std.specs.Prelude.{◌==◌, if◌then◌else◌, Option, Some, None, option_to_list, Result, Ok}
@@ -11,7 +12,7 @@ use Rattle.dns_item.specs.DataAnswer.{HasSpan}
 use Rattle.dns_item.specs.ParsedRecord.{StandingRecord, standing_record}
 use Rattle.dns_item.specs.TypedRecords.{answer_to}
 use Rattle.dns_item.specs.declared.parsed_record.ParsedRecord.{ParsedRecord}
-use Rattle.dns_section.specs.Given.{Given, PassesToAnswer, PassesToEnd}
+use Rattle.dns_section.specs.Given.{Given, PassesToAnswer, PassesToEnd, YieldsAnswer}
 use Rattle.dns_section.specs.Given.Given.{none, more}
 use Rattle.dns_section.specs.Limited.{answer_to_item, limited, is_in_class_in, limited_by}
 use Rattle.dns_section.specs.RecordSection.{records_left, record_answer, GivesNext}
@@ -54,6 +55,30 @@ given_last : {old mid new : RecordSection} {items : List (Result StandingRecord 
     → Given old (items ++ record_answer answer ∷ []) new
 given_last answer none calls = more answer calls refl none
 given_last answer (more first call is rest) calls = more first call is (given_last answer rest calls)
+
+-- what is given was left before, in front of what is left behind it
+given_left : {old new : RecordSection} {items : List (Result StandingRecord Fault)} → Given old items new → records_left old ≡ items ++ records_left new
+given_left none = refl
+given_left (more answer calls is rest) = calls.steps ∙ (λ i. is i ∷ given_left rest i)
+
+-- the item that is answered is the first of what was left that is
+pub passed_yields : {answers : List (Result StandingRecord Fault) → List (Result RecordItem Fault)} {old new : RecordSection} {x : Result RecordItem Fault} → PassesToAnswer answers old new x
+    → YieldsAnswer answers (records_left old) (records_left new) x
+passed_yields {new = new} p = record {
+  skipped = p.passed;
+  last = p.last;
+  left = given_left p.given ∙ append_assoc p.passed (p.last ∷ []) (records_left new);
+  unanswered = p.unanswered;
+  answered = p.answered;
+}
+
+-- nothing of what was left is answered
+pub ended_yields : {answers : List (Result StandingRecord Fault) → List (Result RecordItem Fault)} {old new : RecordSection} → PassesToEnd answers old new
+    → (answers (records_left old) ≡ []) × (records_left new ≡ [])
+ended_yields {answers = answers} p = (
+  ap answers (given_left p.given ∙ ap (λ (ys : List (Result StandingRecord Fault)). p.passed ++ ys) p.ended.steps.0 ∙ append-nil p.passed) ∙ p.unanswered,
+  p.ended.steps.1,
+)
 
 -- the cursor gave items that aren't answered
 pub record Passing (answers : List (Result StandingRecord Fault) → List (Result RecordItem Fault)) (old now : RecordSection) : Type 0 where

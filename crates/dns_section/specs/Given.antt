@@ -34,3 +34,16 @@ pub record PassesToEnd (answers : List (Result StandingRecord Fault) → List (R
 abbrev pub PassesTo : {A : Type 0} → (A → Result RecordItem Fault) → (List (Result StandingRecord Fault) → List (Result RecordItem Fault)) → RecordSection → RecordSection → Option A → Type 0
 PassesTo answer_of answers old new (Some answer) = PassesToAnswer answers old new (answer_of answer)
 PassesTo answer_of answers old new None = PassesToEnd answers old new
+
+-- What was left before is items that are not answered, one that is, and what is left behind it: this is its answer.
+pub record YieldsAnswer (answers : List (Result StandingRecord Fault) → List (Result RecordItem Fault)) (before behind : List (Result StandingRecord Fault)) (answer : Result RecordItem Fault) : Type 0 where
+  pub skipped : List (Result StandingRecord Fault)
+  pub last : Result StandingRecord Fault
+  pub left : before ≡ skipped ++ last ∷ behind
+  pub unanswered : answers skipped ≡ []
+  pub answered : answers (last ∷ []) ≡ answer ∷ []
+
+-- So the first of what was left that is answered is yielded; or nothing, where nothing of it is answered, and then nothing is left.
+abbrev pub YieldsNext : {A : Type 0} → (A → Result RecordItem Fault) → (List (Result StandingRecord Fault) → List (Result RecordItem Fault)) → List (Result StandingRecord Fault) → List (Result StandingRecord Fault) → Option A → Type 0
+YieldsNext answer_of answers before behind (Some answer) = YieldsAnswer answers before behind (answer_of answer)
+YieldsNext answer_of answers before behind None = (answers before ≡ []) × (behind ≡ [])

@@ -1,5 +1,6 @@
 pub mod Reading
 pub mod Sections
+pub mod SectionOrder
 pub mod Readings
 pub mod Unique
 pub mod QuestionsFrom

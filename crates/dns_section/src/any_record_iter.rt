@@ -2,7 +2,7 @@ ghost use Rattle.std.specs.Prelude.{◌≡◌};
 ghost use Rattle.std.specs.Iterator.{YieldsFirstBy, item_count};
 ghost use Rattle.dns_item.specs.TypedRecords.{typed_answer};
 ghost use Rattle.dns_section.specs.AnyRecordIter.{every, cursor_of, typed_left, GivesNext};
-ghost use Rattle.dns_section.specs.Given.{PassesTo};
+ghost use Rattle.dns_section.specs.Given.{PassesTo, YieldsNext};
 ghost use Rattle.dns_section.specs.Limited.{limited};
 ghost use Rattle.dns_section.specs.RecordSection.{to_come, records_left, MovesOn};
 ghost use Rattle.dns_section.specs.Skipping.{KeepsError};
@@ -11,6 +11,7 @@ use crate::record_section::RecordSection;
 use dns_data::ParseAnyRecordData;
 use dns_item::Record;
 use dns_wire::{ParseError, ParsedName};
+use std::alloc::AllocError;
 use std::marker::PhantomData;
 
 /// An iterator over all records of a section, read with their data (RFC 1035 section 4.1.3).
@@ -18,7 +19,7 @@ use std::marker::PhantomData;
 /// Data that can't be read is answered by an error, and the iterator goes on behind it; a record that can't be read is
 /// answered by an error, and then there are no more.
 #[derive(Drop)]
-#[derive_where(Clone, Debug)]
+#[derive_where(Debug)]
 pub struct AnyRecordIter<'a, D> {
     cursor: RecordSection<'a>,
     marker: PhantomData<D>,
@@ -64,6 +65,8 @@ impl<'a, D: ParseAnyRecordData<'a> + Drop> AnyRecordIter<'a, D> {
             self.old result self.new }
         ensures moves { PassesTo (typed_answer D.rtype_of D.parts) (limited (every D.any_layout))
             (cursor_of self.old) (cursor_of self.new) result }
+        ensures yields { YieldsNext (typed_answer D.rtype_of D.parts) (limited (every D.any_layout))
+            (records_left (cursor_of self.old)) (records_left (cursor_of self.new)) result }
         ensures kept { KeepsError (to_come (cursor_of self.new)) result }
     {
         match self.cursor.next() {
@@ -71,6 +74,22 @@ impl<'a, D: ParseAnyRecordData<'a> + Drop> AnyRecordIter<'a, D> {
             Some(Err(error)) => Some(Err(error)),
             None => None,
         }
+    }
+}
+
+/// A clone goes on where the iterator stands. There always is one.
+impl<'a, D> Clone for AnyRecordIter<'a, D> {
+    ghost use Rattle.std.specs.Bool.{⊤};
+
+    ghost is_clone = { λ it clone. clone ≡ it };
+
+    ghost is_infallible = { λ _. ⊤ };
+
+    fn clone(&self) -> Result<Self, AllocError> {
+        Ok(AnyRecordIter {
+            cursor: self.cursor,
+            marker: PhantomData,
+        })
     }
 }
 

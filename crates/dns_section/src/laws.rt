@@ -1,8 +1,14 @@
-//! Theorems on what reading sections gives. The functions do nothing: each contract is a theorem over all octets.
+//! Theorems on what reading sections gives, and on their order. The functions do nothing: each contract is a theorem, over all
+//! octets or all sections.
+ghost use Rattle.std.specs.Prelude.{◌≡◌, Some};
 ghost use Rattle.dns_section.specs.QuestionsFrom.{QuestionsFromAreRead};
 ghost use Rattle.dns_section.specs.RecordsFrom.{RecordsFromAreRead};
 ghost use Rattle.dns_section.specs.Readings.{OneReadingOfQuestions, OneReadingOfRecords, OneStart, StartOrFault, ReadingsOfQuestionsEnd, ReadingsOfRecordsEnd};
 ghost use Rattle.dns_section.specs.Readings.{QuestionsPassOrStop, RecordsPassOrStop};
+ghost use Rattle.dns_section.specs.SectionOrder.{section_order};
+ghost use Rattle.dns_section.specs.declared.section.Section.{Section as AnySection};
+
+use crate::section::Section;
 
 /// From each place on, at most so many questions or records have exactly one reading.
 pub fn one_reading()
@@ -33,4 +39,10 @@ pub fn one_start()
 /// Each section starts at exactly one place or has exactly one fault, never both.
 pub fn start_or_fault()
     ensures { StartOrFault }
+{}
+
+/// Sections compare by the order in which they stand in a message.
+pub fn sections_compare()
+    ensures { (first second : AnySection) → ⟦<Section as PartialOrd>⟧.partial_cmp first second
+        ≡ Some (section_order first second) }
 {}

@@ -4,7 +4,7 @@ ghost use Rattle.std.specs.Result.{ForOk};
 ghost use Rattle.dns_item.specs.DataAnswer.{HasSpan};
 ghost use Rattle.dns_item.specs.ParsedRecord.{standing_record};
 ghost use Rattle.dns_item.specs.TypedRecords.{typed_answer};
-ghost use Rattle.dns_section.specs.Given.{PassesTo};
+ghost use Rattle.dns_section.specs.Given.{PassesTo, YieldsNext};
 ghost use Rattle.dns_section.specs.Limited.{limited, in_class_in, limited_by};
 ghost use Rattle.dns_section.specs.RecordIter.{cursor_of, takes_in_only, typed_left, GivesNext};
 ghost use Rattle.dns_section.specs.RecordSection.{to_come, record_answer, records_left, MovesOn};
@@ -15,6 +15,7 @@ use dns_code::Class;
 use dns_data::ParseRecordData;
 use dns_item::{ParsedRecord, Record};
 use dns_wire::{ParseError, ParsedName};
+use std::alloc::AllocError;
 use std::marker::PhantomData;
 
 /// An iterator over the records of a section that a data type takes, read with their data (RFC 1035 section 4.1.3).
@@ -22,7 +23,7 @@ use std::marker::PhantomData;
 /// Records of types that it doesn't take are passed over. Data that can't be read is answered by an error, and the
 /// iterator goes on behind it; a record that can't be read is answered by an error, and then there are no more.
 #[derive(Drop)]
-#[derive_where(Clone, Debug)]
+#[derive_where(Debug)]
 pub struct RecordIter<'a, D> {
     cursor: RecordSection<'a>,
     /// Whether records of other classes than IN are passed over too.
@@ -87,6 +88,9 @@ impl<'a, D: ParseRecordData<'a> + Drop> RecordIter<'a, D> {
         ensures moves { PassesTo (typed_answer D.rtype_of D.parts)
             (limited_by D.layout (takes_in_only self.old)) (cursor_of self.old)
             (cursor_of self.new) result }
+        ensures yields { YieldsNext (typed_answer D.rtype_of D.parts)
+            (limited_by D.layout (takes_in_only self.old)) (records_left (cursor_of self.old))
+            (records_left (cursor_of self.new)) result }
         ensures kept { KeepsError (to_come (cursor_of self.new)) result }
         ensures classes { takes_in_only self.new ≡ takes_in_only self.old }
     {
@@ -118,6 +122,23 @@ fn typed<'a, D: ParseRecordData<'a> + Drop>(
             record.to_record().transpose()
         }
         Err(error) => Some(Err(error)),
+    }
+}
+
+/// A clone goes on where the iterator stands, in the same classes. There always is one.
+impl<'a, D> Clone for RecordIter<'a, D> {
+    ghost use Rattle.std.specs.Bool.{⊤};
+
+    ghost is_clone = { λ it clone. clone ≡ it };
+
+    ghost is_infallible = { λ _. ⊤ };
+
+    fn clone(&self) -> Result<Self, AllocError> {
+        Ok(RecordIter {
+            cursor: self.cursor,
+            in_only: self.in_only,
+            marker: PhantomData,
+        })
     }
 }
 

@@ -17,7 +17,7 @@ use Rattle.dns_section.specs.Given.{PassesToAnswer}
 use Rattle.dns_section.specs.Limited.{limited}
 use Rattle.dns_section.specs.RecordSection.{records_left, GivesNext}
 use Rattle.dns_section.specs.declared.record_section.RecordSection.{RecordSection}
-use Rattle.dns_section.proofs.LimitedLemmas.{limited-append, given_span, passing_none, passing_answered, passing_ended}
+use Rattle.dns_section.proofs.LimitedLemmas.{limited-append, given_span, passing_none, passing_answered, passing_ended, passed_yields, ended_yields}
 use Rattle.dns_section.proofs.any_record_iter.AnyRecordIter.next.Goals as goal
 
 -- a record that the cursor gave is answered
@@ -57,3 +57,12 @@ returns-in-None-clause-moves g c =
     let answers = limited (every g.D.ParseAnyRecordData.any_layout) in
     (passing_ended answers refl (limited-append (every g.D.ParseAnyRecordData.any_layout)) c.args.self.now.cursor c.args.self.now.cursor c.next.new.self
     (passing_none answers refl (limited-append (every g.D.ParseAnyRecordData.any_layout)) c.args.self.now.cursor) calls).2
+
+pub returns-in-Some-Ok-clause-yields : goal.returns-in-Some-Ok-clause-yields
+returns-in-Some-Ok-clause-yields g c = passed_yields (returns-in-Some-Ok-clause-moves g c)
+
+pub returns-in-Some-Err-clause-yields : goal.returns-in-Some-Err-clause-yields
+returns-in-Some-Err-clause-yields g c = passed_yields (returns-in-Some-Err-clause-moves g c)
+
+pub returns-in-None-clause-yields : goal.returns-in-None-clause-yields
+returns-in-None-clause-yields g c = ended_yields (returns-in-None-clause-moves g c)
