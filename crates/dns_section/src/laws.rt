@@ -6,7 +6,7 @@ ghost use Rattle.dns_section.specs.RecordsFrom.{RecordsFromAreRead};
 ghost use Rattle.dns_section.specs.Readings.{OneReadingOfQuestions, OneReadingOfRecords, OneStart, StartOrFault, ReadingsOfQuestionsEnd, ReadingsOfRecordsEnd};
 ghost use Rattle.dns_section.specs.Readings.{QuestionsPassOrStop, RecordsPassOrStop};
 ghost use Rattle.dns_section.specs.SectionOrder.{section_order};
-ghost use Rattle.dns_section.specs.declared.section.Section.{Section as AnySection};
+ghost use Rattle.dns_section.specs.declared.section.Section.{Section};
 
 use crate::section::Section;
 
@@ -43,6 +43,6 @@ pub fn start_or_fault()
 
 /// Sections compare by the order in which they stand in a message.
 pub fn sections_compare()
-    ensures { (first second : AnySection) → ⟦<Section as PartialOrd>⟧.partial_cmp first second
+    ensures { (first second : Section) → ⟦<Section as PartialOrd>⟧.partial_cmp first second
         ≡ Some (section_order first second) }
 {}
