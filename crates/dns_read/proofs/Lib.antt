@@ -1,6 +1,7 @@
 mod HeaderLemmas
 pub mod theory
 mod MessageIterLemmas
+mod KeptErrorLemmas
 mod RecordSearchLemmas
 mod NthNameLemmas
 mod ReadingItems

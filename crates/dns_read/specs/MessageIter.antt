@@ -1,7 +1,9 @@
 -- What iterating over a message gives: its records, each with its section. RFC 1035 section 4.1.
 --
 -- `b` are the octets of the message.
-use Rattle.std.specs.Prelude.{◌≡◌, ℕ, List, [], ◌∷◌, Some, Result, Ok, Err, IsOk}
+use Rattle.std.specs.Bool.{⊤}
+use Rattle.std.specs.Iterator.{YieldsFirstBy}
+use Rattle.std.specs.Prelude.{◌≡◌, ℕ, ◌⊎◌, List, [], ◌∷◌, Option, Some, None, option_and_then, IfSome, Result, Ok, Err, IsOk}
 use Rattle.std.specs.List.{AllByRecursion}
 use Rattle.std.specs.Option.{option_map_or}
 use Rattle.dns_name.specs.Names.{Fault, fault_of}
@@ -78,6 +80,37 @@ cursor_items cursor = rest_of (section_of cursor) (octets_of cursor) (to_come cu
 -- what is left to be given
 abbrev pub items_left : MessageIter → List Item
 items_left it = option_map_or cursor_items it.cursor []
+
+-- the error that is given once more, by the section that gave it: not that of the last section
+abbrev pub error_again : Section → Result ℕ ParseError → Option ParseError
+error_again which (Ok n) = None
+error_again Answer (Err e) = Some e
+error_again Authority (Err e) = Some e
+error_again Additional (Err e) = None
+
+-- so of a cursor
+abbrev pub cursor_error : RecordSection → Option ParseError
+cursor_error cursor = error_again (section_of cursor) (to_come cursor)
+
+-- the error that an iterator gives next, if it is one that it gave before
+abbrev pub kept_error : MessageIter → Option ParseError
+kept_error it = option_and_then cursor_error it.cursor
+
+-- Behind an error nothing is left, or that error is kept.
+abbrev pub KeepsError : MessageIter → Option (Result (ParsedRecord × Section) ParseError) → Type 0
+KeepsError new (Some (Ok x)) = ⊤
+KeepsError new (Some (Err e)) = (items_left new ≡ []) ⊎ (kept_error new ≡ Some e)
+KeepsError new None = ⊤
+
+-- what a call of `next` answers, and where that leaves the iterator
+pub record GivesNext (old : MessageIter) (result : Option (Result (ParsedRecord × Section) ParseError)) (new : MessageIter) : Type 0 where
+  pub steps : YieldsFirstBy item_answer items_left old result new
+  pub again : IfSome (kept_error old) (λ e. result ≡ Some (Err e))
+  pub kept : KeepsError new result
+
+-- The second of two errors is the first one, with its text.
+abbrev pub SecondErrorIsFirst : Type 0
+SecondErrorIsFirst = (old mid new : MessageIter) (first second : ParseError) → GivesNext old (Some (Err first)) mid → GivesNext mid (Some (Err second)) new → second ≡ first
 
 -- a reading has no fault
 abbrev pub HasNoFault : List (Result StandingRecord Fault) → Type 0

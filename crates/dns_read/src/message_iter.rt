@@ -1,4 +1,4 @@
-ghost use Rattle.std.specs.Prelude.{◌≡◌, ◌≤◌, ◌+◌, length};
+ghost use Rattle.std.specs.Prelude.{◌≡◌, ◌≤◌, ◌+◌, length, Some, Err, IfSome};
 
 use crate::message::Message;
 use dns_item::ParsedRecord;
@@ -17,11 +17,13 @@ pub struct MessageIter<'a> {
 
 impl<'a> MessageIter<'a> {
     ghost use Rattle.std.specs.Iterator.{YieldsFirstBy};
-    ghost use Rattle.dns_read.specs.MessageIter.{item_answer, items_left};
+    ghost use Rattle.dns_read.specs.MessageIter.{item_answer, items_left, kept_error, KeepsError};
 
     /// The next record with its section, or the error of the first that can't be read.
     pub fn next(&mut self) -> Option<Result<(ParsedRecord<'a>, Section), ParseError>>
-        ensures { YieldsFirstBy item_answer items_left self.old result self.new }
+        ensures steps { YieldsFirstBy item_answer items_left self.old result self.new }
+        ensures again { IfSome (kept_error self.old) (λ e. result ≡ Some (Err e)) }
+        ensures kept { KeepsError self.new result }
     {
         while let Some(mut cursor) = self.cursor {
             match cursor.next() {
@@ -49,12 +51,12 @@ impl<'a> MessageIter<'a> {
 
 /// As the method `next`.
 impl<'a> Iterator for MessageIter<'a> {
-    ghost use Rattle.std.specs.Iterator.{YieldsFirstBy, item_count};
-    ghost use Rattle.dns_read.specs.MessageIter.{item_answer, items_left};
+    ghost use Rattle.std.specs.Iterator.{item_count};
+    ghost use Rattle.dns_read.specs.MessageIter.{items_left, GivesNext};
 
     type Item = Result<(ParsedRecord<'a>, Section), ParseError>;
 
-    ghost next_gives = { YieldsFirstBy item_answer items_left };
+    ghost next_gives = { GivesNext };
 
     ghost remaining = { item_count items_left };
 

@@ -1,7 +1,5 @@
 //! What is looked for in the questions of a message (RFC 1035 section 4.1).
-ghost use Rattle.std.specs.Prelude.{◌≡◌, ◌<◌, ◌↔◌, Some, option_map, IsTrue, IsErrAnd};
-ghost use Rattle.dns_name.specs.Names.{fault_of};
-ghost use Rattle.dns_name.specs.Names.Fault.{Form};
+ghost use Rattle.std.specs.Prelude.{◌≡◌, ◌<◌, ◌↔◌, Some, Err, option_map, IsTrue};
 ghost use Rattle.dns_question.specs.Question.{parsed_question};
 ghost use Rattle.dns_read.specs.Message.{message_octets};
 ghost use Rattle.dns_section.specs.QuestionSection.{question_answer};
@@ -58,13 +56,13 @@ impl<Octs: Octets> Message<Octs> {
 
     /// The question of a message that has to have one.
     ///
-    /// `Form` is answered where the header says that there are none or more than one, and else the fault of the question if
+    /// An error is answered where the header says that there are none or more than one, and else the fault of the question if
     /// it can't be read.
     pub fn sole_question(&self) -> Result<Question<ParsedName<'_>>, ParseError>
         ensures none { question_count (message_octets self.now) ≡ 0
-            → IsErrAnd result (λ e. fault_of e ≡ Form) }
+            → result ≡ Err (ParseError.Form FormError.NO_QUESTION) }
         ensures many { 1 < question_count (message_octets self.now)
-            → IsErrAnd result (λ e. fault_of e ≡ Form) }
+            → result ≡ Err (ParseError.Form FormError.MULTIPLE_QUESTIONS) }
         ensures one { question_count (message_octets self.now) ≡ 1
             → Some (question_answer result) ≡ first_item (questions_of (message_octets self.now)) }
     {

@@ -1,9 +1,13 @@
 use Rattle.std.proofs.Common.{◌∙◌, List, [], ap, sym}
-use Rattle.std.specs.Prelude.{Option}
+use Rattle.std.proofs.lemmas.Option.{IfSome_then}
+use Rattle.std.specs.Prelude.{Option, Some, None, Err}
 use Rattle.std.specs.Option.{option_map_or}
+use Rattle.dns_octets.specs.declared.error.ParseError.{ParseError}
+use Rattle.dns_section.specs.RecordSection.{GivesNext}
 use Rattle.dns_section.specs.declared.record_section.RecordSection.{RecordSection}
-use Rattle.dns_read.specs.MessageIter.{Item, cursor_items}
+use Rattle.dns_read.specs.MessageIter.{Item, cursor_items, kept_error}
 use Rattle.dns_read.proofs.MessageIterLemmas.{gave_nothing, moved_on, not_moved_on}
+use Rattle.dns_read.proofs.KeptErrorLemmas.{moves_nowhere, stops_again, keeps_on}
 use Rattle.dns_read.proofs.message_iter.MessageIter.next.Goals as goal
 
 -- what is left from a cursor on, if there is one
@@ -13,13 +17,26 @@ left_at o = option_map_or cursor_items o []
 pub loop-self-preserved : goal.loop-self-preserved
 unfolding left_at
 loop-self-preserved c =
-    let n = c.in-None.ensures in
-    moved_on c.next.new.self c.in-Ok.next n.steps.1 c.in-Ok.ensures ∙ gave_nothing c.in-Some.cursor c.next.new.self n.passes n.counts n.octets n.section
-    ∙ sym (ap left_at c.in-Some.is) ∙ c.loop-self.invariant
+    let n = c.in-None.ensures in record {
+      left =
+          moved_on c.next.new.self c.in-Ok.next n.steps.1 c.in-Ok.ensures ∙ gave_nothing c.in-Some.cursor c.next.new.self n.passes n.counts n.octets n.section
+          ∙ sym (ap left_at c.in-Some.is) ∙ c.loop-self.invariant.left;
+      kept =
+          let calls : GivesNext c.in-Some.cursor None c.next.new.self = record { steps = n.steps; passes = n.passes; counts = n.counts; octets = n.octets; section = n.section } in
+          IfSome_then (kept_error c.args.self.now) c.loop-self.invariant.kept
+          (λ e kept. absurd (moves_nowhere c.next.new.self e (keeps_on c.loop-self.self.cursor c.in-Some.cursor c.next.new.self e c.in-Some.is calls kept) c.in-Ok.next c.in-Ok.ensures));
+    }
 
-pub returns-in-Err : goal.returns-in-Err
+pub returns-in-Err-clause-steps : goal.returns-in-Err-clause-steps
 unfolding left_at
-returns-in-Err c =
+returns-in-Err-clause-steps c =
     let n = c.in-None.ensures in
-    sym c.loop-self.invariant ∙ ap left_at c.in-Some.is ∙ sym (gave_nothing c.in-Some.cursor c.next.new.self n.passes n.counts n.octets n.section)
+    sym c.loop-self.invariant.left ∙ ap left_at c.in-Some.is ∙ sym (gave_nothing c.in-Some.cursor c.next.new.self n.passes n.counts n.octets n.section)
     ∙ not_moved_on c.next.new.self c.in-Err.error n.steps.1 c.in-Err.ensures
+
+pub returns-in-Err-clause-again : goal.returns-in-Err-clause-again
+returns-in-Err-clause-again c =
+    let n = c.in-None.ensures in
+    let calls : GivesNext c.in-Some.cursor None c.next.new.self = record { steps = n.steps; passes = n.passes; counts = n.counts; octets = n.octets; section = n.section } in
+    IfSome_then (kept_error c.args.self.now) c.loop-self.invariant.kept
+    (λ e kept. ap (λ (x : ParseError). Some (Err x)) (stops_again c.next.new.self e (keeps_on c.loop-self.self.cursor c.in-Some.cursor c.next.new.self e c.in-Some.is calls kept) c.in-Err.error c.in-Err.ensures))
