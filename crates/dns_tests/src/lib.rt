@@ -9,6 +9,8 @@ mod callers;
 #[cfg(test)]
 mod failing;
 #[cfg(test)]
+mod filled;
+#[cfg(test)]
 mod histories;
 #[cfg(test)]
 mod memory;

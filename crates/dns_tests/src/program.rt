@@ -50,6 +50,28 @@ const ROWS: &[Row] = &[
         "ok 12\nok 12\nok 12\nok 12\n1234a4030000000000000000\n",
         0,
     ),
+    // the opcode is four bits from 0x0800 on, and the rcode the lowest four (RFC 1035 section 4.1.1)
+    (
+        "The greatest header fields",
+        "build plain",
+        b"id 65535\nopcode 15\nrcode 15\n",
+        "ok 12\nok 12\nok 12\nffff780f0000000000000000\n",
+        0,
+    ),
+    (
+        "An ID of the highest bit and the greatest opcode",
+        "build plain",
+        b"id 32768\nopcode 15\n",
+        "ok 12\nok 12\n800078000000000000000000\n",
+        0,
+    ),
+    (
+        "An ID of all other bits and the greatest rcode",
+        "build plain",
+        b"id 32767\nrcode 15\n",
+        "ok 12\nok 12\n7fff000f0000000000000000\n",
+        0,
+    ),
     (
         "Rcode out of range",
         "build plain",
@@ -128,6 +150,29 @@ const ROWS: &[Row] = &[
         "ok 12\nok 12\nrefused limit 12\nok 12\nok 17\nok 17\n0000000000010000000000000000010001\n",
         0,
     ),
+    // 4,294,967,312 is 2^32 + 16, and a question of the root has 5 octets
+    (
+        "Limits that need more than 32 bits",
+        "build plain",
+        b"limit 4294967312\nquestion\npush . A\nlimit 18446744073709551614\npush . A\n",
+        "ok 12\nok 12\nok 17\nok 17\nok 22\n00000000000200000000000000000100010000010001\n",
+        0,
+    ),
+    (
+        "A limit that is too big",
+        "build plain",
+        b"limit 18446744073709551615\nlimit 18446744073709551633\n",
+        "ok 12\nbad line 2\n",
+        1,
+    ),
+    (
+        "Octets of 255",
+        "build plain",
+        b"answer\npush \\255.\\254. 0 IN A 255.0.254.1\npush . 0 IN TXT \\# 3 ff00fe\n",
+        "ok 12\nok 31\nok 45\n00000000000000020000000001ff01fe000001000100000000\
+         0004ff00fe010000100001000000000003ff00fe\n",
+        0,
+    ),
     (
         "Rewind over a static compressor",
         "build static",
@@ -168,6 +213,15 @@ const ROWS: &[Row] = &[
         "build plain",
         b"answer\npush . 0 IN SOA . . 1 2 3 4 4294967295\n",
         "ok 12\nok 45\n0000000000000001000000000000060001000000000016000000000001000000020000000300000004ffffffff\n",
+        0,
+    ),
+    // the data: MNAME, RNAME, and 0x01020304, 0x05060708, 0x80000000, 0xFFFFFFFF and 0x12345678 (RFC 1035 section 3.3.13)
+    (
+        "Data SOA: two names and five numbers that differ",
+        "build plain",
+        b"answer\npush z. 2147483647 CH SOA m. r.a. 16909060 84281096 2147483648 4294967295 305419896\n",
+        "ok 12\nok 53\n000000000000000100000000017a00000600037fffffff001c\
+         016d000172016100010203040506070880000000ffffffff12345678\n",
         0,
     ),
     (
