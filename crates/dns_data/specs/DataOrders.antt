@@ -1,4 +1,4 @@
--- How the start of a zone compares, field by field, and opaque data and options: of these the octets alone count, and not what holds them. And what is hashed of them.
+-- How the start of a zone compares: field by field. How opaque data and options compare: by their octets, whatever holds them. What is hashed of all three.
 use Rattle.std.specs.Prelude.{ℕ, Bool, List, ◌==◌, ◌++◌}
 use Rattle.std.specs.Cmp.Lexicographic.{pointwise}
 use Rattle.std.specs.Ordering.{nat_cmp, on, then_cmp, eq_of_both}

@@ -40,8 +40,8 @@ pub fn zone_equality<N: PartialEq>()
 /// They compare by MNAME, RNAME, SERIAL, REFRESH, RETRY, EXPIRE and MINIMUM, in this order.
 pub fn zone_orders<N: Ord>()
     ensures total { ⟦<Soa<N> as Ord>⟧.cmp ≡ zone_order N.cmp }
-    ensures partial { (a : _) (b : _) →
-        ⟦<Soa<N> as PartialOrd>⟧.partial_cmp a b ≡ as_partial_cmp (zone_order N.cmp) a b }
+    ensures partial { (a : _) (b : _) → ⟦<Soa<N> as PartialOrd>⟧.partial_cmp a b
+        ≡ as_partial_cmp (zone_order N.cmp) a b }
 {}
 
 /// The start of a zone feeds a hasher its fields in this order.

@@ -1,5 +1,5 @@
 //! Theorems on questions and records where they stand and where they are put, on questions as texts, and on how record
-//! headers compare. The functions do nothing: each contract is a theorem over all octets, places, items and texts.
+//! headers compare. The functions do nothing: each contract is a theorem over all octets, places, items, texts or headers.
 ghost use Rattle.std.specs.Prelude.{◌≡◌};
 ghost use Rattle.std.specs.Ordering.{as_partial_cmp};
 ghost use Rattle.dns_question.specs.Questions.{QuestionOrFault, QuestionEndOrFault, QuestionSkipAgrees, QuestionsGrow, QuestionsReadBack};
@@ -61,8 +61,8 @@ pub fn header_equality<N: PartialEq>()
 /// Record headers compare by owner, type, class, TTL, then by the length of the data.
 pub fn header_orders<N: Ord>()
     ensures total { ⟦<RecordHeader<N> as Ord>⟧.cmp ≡ header_order N.cmp }
-    ensures partial { (a : _) (b : _) →
-        ⟦<RecordHeader<N> as PartialOrd>⟧.partial_cmp a b ≡ as_partial_cmp (header_order N.cmp) a b }
+    ensures partial { (a : _) (b : _) → ⟦<RecordHeader<N> as PartialOrd>⟧.partial_cmp a b
+        ≡ as_partial_cmp (header_order N.cmp) a b }
 {}
 
 /// A record header feeds a hasher its fields in this order.

@@ -51,7 +51,7 @@ AreOctets Spelled octets = (name : Labels) × Spelled name × IsName name × (un
 abbrev pub SpellsSomeName : List ℕ → Type 0
 SpellsSomeName text = (name : Labels) × SpellsName text name
 
--- The name that the text spells, or its fault. Nothing else is wrong but a want of memory, where it can be.
+-- The name that the text spells, or its fault. Nothing else is wrong but a want of memory, and `Memory` says when that may be.
 abbrev pub ReadsName : {X : Type 0} {holder : Ghosts X} → Type 0 → List ℕ → Result (Name X holder) FromStrError → Type 0
 ReadsName Memory text (Ok name) = SpellsName text (name_labels name)
 ReadsName Memory text (Err (Presentation f)) = NameTextFault text f

@@ -31,7 +31,8 @@ pub fn code_numbers() -> ([u8; 2], [u8; 4])
     (opcodes, rcodes)
 }
 
-/// The record types that have names, each with its mnemonic: their numbers are those of the table of mnemonics.
+/// The record types that have names, each with its mnemonic: their numbers are those of the table of mnemonics (RFC 1035
+/// section 3.2.2).
 #[tactic(auto, unfolding(crate::specs::Mnemonics::type_mnemonics))]
 pub fn named_types() -> [(Rtype, &'static str); 12]
     ensures { table result ≡ type_mnemonics }
@@ -52,7 +53,7 @@ pub fn named_types() -> [(Rtype, &'static str); 12]
     ]
 }
 
-/// The classes that have names, each with its mnemonic.
+/// The classes that have names, each with its mnemonic (RFC 1035 section 3.2.4).
 #[tactic(auto, unfolding(crate::specs::Mnemonics::class_mnemonics))]
 pub fn named_classes() -> [(Class, &'static str); 3]
     ensures { table result ≡ class_mnemonics }

@@ -150,7 +150,7 @@ ReadsTextBehindName text fields = IsUtf8 text → (words : List (List ℕ)) × A
 abbrev pub ReadsSomeQuestion : List ℕ → Type 0
 ReadsSomeQuestion text = (x : QuestionItem) × ReadsText text (Ok x)
 
--- What is wrong with the text. Nothing else is wrong but a want of memory, where it can be.
+-- What is wrong with the text. Nothing else is wrong but a want of memory, and `Memory` says when that may be.
 abbrev pub ReadsFault : Type 0 → List ℕ → FromStrError → Type 0
 ReadsFault Memory text (Presentation error) = ReadsText text (Err (kind_of error))
 ReadsFault Memory text ShortBuf = ⊥

@@ -14,8 +14,8 @@ pub fn question_equality<N: PartialEq>()
 /// Questions compare by name, then by type, then by class.
 pub fn question_orders<N: Ord>()
     ensures total { ⟦<Question<N> as Ord>⟧.cmp ≡ question_order N.cmp }
-    ensures partial { (a : _) (b : _) →
-        ⟦<Question<N> as PartialOrd>⟧.partial_cmp a b ≡ as_partial_cmp (question_order N.cmp) a b }
+    ensures partial { (a : _) (b : _) → ⟦<Question<N> as PartialOrd>⟧.partial_cmp a b
+        ≡ as_partial_cmp (question_order N.cmp) a b }
 {}
 
 /// A question feeds a hasher its name, type and class.

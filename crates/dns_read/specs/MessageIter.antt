@@ -96,17 +96,17 @@ cursor_error cursor = error_again (section_of cursor) (to_come cursor)
 abbrev pub kept_error : MessageIter → Option ParseError
 kept_error it = option_and_then cursor_error it.cursor
 
--- Behind an error nothing is left, or that error is kept.
-abbrev pub KeepsError : MessageIter → Option (Result (ParsedRecord × Section) ParseError) → Type 0
-KeepsError new (Some (Ok x)) = ⊤
-KeepsError new (Some (Err e)) = (items_left new ≡ []) ⊎ (kept_error new ≡ Some e)
-KeepsError new None = ⊤
+-- After an error nothing is left, or that error is given next.
+abbrev pub GivesErrorAgain : MessageIter → Option (Result (ParsedRecord × Section) ParseError) → Type 0
+GivesErrorAgain new (Some (Ok x)) = ⊤
+GivesErrorAgain new (Some (Err e)) = (items_left new ≡ []) ⊎ (kept_error new ≡ Some e)
+GivesErrorAgain new None = ⊤
 
 -- what a call of `next` answers, and where that leaves the iterator
 pub record GivesNext (old : MessageIter) (result : Option (Result (ParsedRecord × Section) ParseError)) (new : MessageIter) : Type 0 where
   pub steps : YieldsFirstBy item_answer items_left old result new
   pub again : IfSome (kept_error old) (λ e. result ≡ Some (Err e))
-  pub kept : KeepsError new result
+  pub kept : GivesErrorAgain new result
 
 -- The second of two errors is the first one, with its text.
 abbrev pub SecondErrorIsFirst : Type 0

@@ -56,8 +56,8 @@ impl<Octs: Octets> Message<Octs> {
 
     /// The question of a message that has to have one.
     ///
-    /// An error is answered where the header says that there are none or more than one, and else the fault of the question if
-    /// it can't be read.
+    /// `NO_QUESTION` is answered where the header says that there is none, `MULTIPLE_QUESTIONS` where it says more than one,
+    /// and else the fault of the question if it can't be read.
     pub fn sole_question(&self) -> Result<Question<ParsedName<'_>>, ParseError>
         ensures none { question_count (message_octets self.now) ≡ 0
             → result ≡ Err (ParseError.Form FormError.NO_QUESTION) }

@@ -43,7 +43,7 @@ pub record YieldsAnswer (answers : List (Result StandingRecord Fault) → List (
   pub unanswered : answers skipped ≡ []
   pub answered : answers (last ∷ []) ≡ answer ∷ []
 
--- So the first of what was left that is answered is yielded; or nothing, where nothing of it is answered, and then nothing is left.
+-- The answer to the first item that is answered is yielded. Where there is none, nothing is yielded, and nothing is left.
 abbrev pub YieldsNext : {A : Type 0} → (A → Result RecordItem Fault) → (List (Result StandingRecord Fault) → List (Result RecordItem Fault)) → List (Result StandingRecord Fault) → List (Result StandingRecord Fault) → Option A → Type 0
 YieldsNext answer_of answers before behind (Some answer) = YieldsAnswer answers before behind (answer_of answer)
 YieldsNext answer_of answers before behind None = (answers before ≡ []) × (behind ≡ [])

@@ -1,8 +1,8 @@
 //! A target for messages that go over a stream.
 ghost use Rattle.std.specs.Prelude.{◌≡◌, [], refl, IfOk, IfErr, OnErr, IsTrue};
 ghost use Rattle.dns_wire.specs.Pieces.{Plain};
-ghost use Rattle.dns_wire.specs.Targets.{Answers};
-ghost use Rattle.dns_stream.specs.Stream.{message_written, stream_room, with_prefix};
+ghost use Rattle.dns_wire.specs.Targets.{Answers, unremembered};
+ghost use Rattle.dns_stream.specs.Stream.{stream_room, with_prefix};
 
 use dns_wire::{AppendError, CloneTarget, Composer, ToName};
 use std::alloc::{AllocError, Global};
@@ -62,14 +62,14 @@ impl<T: Composer> StreamTarget<T> {
 
     /// The target, which holds the length of the message and the message.
     pub fn as_target(&self) -> &T
-        ensures { T.written result.now ≡ message_written (with_prefix self.now) }
+        ensures { T.written result.now ≡ unremembered (with_prefix self.now) }
     {
         &self.target
     }
 
     /// The target, which holds the length of the message and the message.
     pub fn into_target(self) -> T
-        ensures { T.written result ≡ message_written (with_prefix self) }
+        ensures { T.written result ≡ unremembered (with_prefix self) }
     {
         self.target
     }
@@ -115,7 +115,7 @@ impl<T: Composer> Composer for StreamTarget<T> {
 
     ghost grows = { T.grows };
 
-    ghost written = { message_written };
+    ghost written = { unremembered };
 
     ghost plain_forgets = { λ _ _. refl };
 

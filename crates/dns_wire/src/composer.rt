@@ -89,7 +89,7 @@ impl Composer for Vec<u8> {
 
     ghost grows = { true };
 
-    ghost written = { λ v. record { octets = v.items; memory = nothing } };
+    ghost written = { λ v. unremembered v.items };
 
     ghost plain_forgets = { λ _ _. refl };
 
@@ -159,7 +159,7 @@ impl<const N: usize> Composer for ArrayVec<u8, N> {
 
     ghost grows = { false };
 
-    ghost written = { λ v. record { octets = v.items; memory = nothing } };
+    ghost written = { λ v. unremembered v.items };
 
     ghost plain_forgets = { λ _ _. refl };
 
