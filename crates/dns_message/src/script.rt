@@ -1,5 +1,5 @@
 //! Lists of calls on the builders of a message.
-ghost use Rattle.std.specs.Prelude.{◌≡◌, true, false, IfOk, IfErr, OnErr, MatchResult};
+ghost use Rattle.std.specs.Prelude.{◌≡◌, ◌+◌, ◌<◌, true, false, length, vec_len, vec_capacity, IfOk, IfErr, OnErr, MatchResult};
 ghost use Rattle.dns_build.specs.State.{InQuestion, InAdditional};
 ghost use Rattle.dns_message.specs.Script.{Steps, StepsFrom, Stays, is_move, is_setting, has_opt, RunsAll, octets_of};
 
@@ -263,7 +263,7 @@ fn step<T: Composer, Q: ComposeQuestion, R: ComposeRecord>(
 
 /// Makes the calls in order, and appends a reply to each.
 ///
-/// Room for the replies is taken first. Where that is refused the stage is given back unchanged, with no reply.
+/// Memory for the replies is taken first. Where that is refused the stage is given back unchanged, with no reply.
 pub fn run<T: Composer, Q: ComposeQuestion, R: ComposeRecord>(
     alloc: Global,
     stage: Stage<T>,
@@ -272,6 +272,8 @@ pub fn run<T: Composer, Q: ComposeQuestion, R: ComposeRecord>(
 ) -> Result<Stage<T>, Stage<T>>
     ensures same { IfErr result (λ same. same ≡ stage) }
     ensures untold { OnErr result (replies.new.items ≡ replies.old.items) }
+    ensures full { OnErr result
+        (vec_capacity replies.old < vec_len replies.old + length calls.now) }
     ensures ran { IfOk result (λ new.
         RunsAll T.room T.grows Q.question R.item T.rule
         stage calls.now replies.old.items replies.new.items new) }
