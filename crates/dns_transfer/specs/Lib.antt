@@ -1,2 +1,3 @@
+pub mod Printed
 pub mod Taking
 pub mod Transfer

@@ -1,0 +1,90 @@
+//! The records of a transfer printed, one a line, and why it ends early.
+ghost use Rattle.std.specs.Prelude.{◌≡◌, map, is_ok, Ok, OnOk};
+ghost use Rattle.std.specs.Io.KnownBytes.{Appends};
+ghost use Rattle.std.specs.List.{list_all};
+ghost use Rattle.dns_item.specs.ParsedRecord.{standing_record};
+ghost use Rattle.dns_section.specs.RecordSection.{record_answer};
+ghost use Rattle.dns_transfer.specs.Printed.{ending, IsItemText, IsItemsText, IsTransferText, Prints};
+
+use crate::transfer::{Item, items, messages};
+use dns_message::data::{A, Cname, Ns, Soa, UnknownRecordData};
+use dns_message::name::ParsedName;
+use dns_message::record::ParsedRecord;
+use std::alloc::Global;
+use std::io;
+use std::io::Write;
+
+/// Prints the records that the messages of a stream transfer, and why they end early if they do.
+pub(crate) fn print_transfer<W: Write>(
+    alloc: Global,
+    stream: &[u8],
+    writer: &mut W,
+) -> io::Result<()>
+    ensures { OnOk result (Prints (IsTransferText stream.now)
+        (W.contents writer.old) (W.contents writer.new)) }
+{
+    let (messages, rest) = messages(alloc, stream)?;
+    let items = items(alloc, &messages)?;
+    print_items(writer, &items)?;
+    print_ending(writer, &items, rest)
+}
+
+/// Prints a line for each item.
+fn print_items<W: Write>(writer: &mut W, items: &[Item<'_>]) -> io::Result<()>
+    ensures { OnOk result (Prints (IsItemsText (map record_answer items.now))
+        (W.contents writer.old) (W.contents writer.new)) }
+{
+    for item in items {
+        print_item(writer, item)?;
+    }
+    Ok(())
+}
+
+/// Prints the line of a record, or of the first that can't be read.
+fn print_item<W: Write>(writer: &mut W, item: &Item<'_>) -> io::Result<()>
+    ensures { OnOk result (Prints (IsItemText (record_answer item.now))
+        (W.contents writer.old) (W.contents writer.new)) }
+{
+    match item {
+        Ok(record) => print_record(writer, record),
+        Err(_) => writer.write_all(b"unreadable record\n"),
+    }
+}
+
+/// Prints a record, with its data by its fields if it has data of one of these types that can be read, else as octets.
+fn print_record<W: Write>(writer: &mut W, record: &ParsedRecord<'_>) -> io::Result<()>
+    ensures { OnOk result (Prints (IsItemText (Ok (standing_record «record».now)))
+        (W.contents writer.old) (W.contents writer.new)) }
+{
+    if let Ok(Some(record)) = record.to_record::<A>() {
+        writeln!(writer, "{record}")
+    } else if let Ok(Some(record)) = record.to_record::<Ns<ParsedName<'_>>>() {
+        writeln!(writer, "{record}")
+    } else if let Ok(Some(record)) = record.to_record::<Cname<ParsedName<'_>>>() {
+        writeln!(writer, "{record}")
+    } else if let Ok(Some(record)) = record.to_record::<Soa<ParsedName<'_>>>() {
+        writeln!(writer, "{record}")
+    } else if let Ok(record) = record.to_any_record::<UnknownRecordData<&[u8]>>() {
+        writeln!(writer, "{record}")
+    } else {
+        writer.write_all(b"unreadable data\n")
+    }
+}
+
+/// Prints that octets are left over, where all records could be read.
+fn print_ending<W: Write>(writer: &mut W, items: &[Item<'_>], rest: &[u8]) -> io::Result<()>
+    ensures { OnOk result (Appends (W.contents writer.old) (W.contents writer.new)
+        (ending (map record_answer items.now) rest.now)) }
+{
+    if rest.is_empty() || !is_whole(items) {
+        return Ok(());
+    }
+    writer.write_all(b"unreadable message\n")
+}
+
+/// Whether all items are records.
+fn is_whole(items: &[Item<'_>]) -> bool
+    ensures { result ≡ list_all is_ok items.now }
+{
+    items.iter().all(|item| item.is_ok())
+}
