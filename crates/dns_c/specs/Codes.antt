@@ -23,6 +23,10 @@ number_of faults.BadSection = 10
 number_of faults.NoMemory = 11
 number_of faults.LongData = 12
 number_of faults.TooMany = 13
+number_of faults.IsResponse = 14
+number_of faults.OtherOpcode = 15
+number_of faults.OtherClass = 16
+number_of faults.OtherType = 17
 
 -- 0 where something is given, 1 at the end, else the number of the fault
 abbrev pub code_of : Result Bool Fault → ℕ

@@ -2,4 +2,5 @@ pub mod Walk
 pub mod Codes
 pub mod Steps
 pub mod Made
+pub mod Texts
 pub mod Built

@@ -48,19 +48,39 @@ pub record IsQuery (id : ℕ) (rd : Bool) (text : List ℕ) (qtype qclass : ℕ)
   pub spelled : SpellsName text name
   pub message : IsMessageOf Plain (asking header (record { name = name; rtype = qtype; class = qclass })) octets
 
--- the octets of a query with one question, and it can be read
-pub record Asks (b : List ℕ) (x : QuestionItem) : Type 0 where
+-- the octets have a header section, which is that of a query: QR isn't set. RFC 1035 section 4.1.1
+pub record HoldsQuery (b : List ℕ) : Type 0 where
   pub long : header_size ≤ length b
+  pub query : (fields_in (take 4 b)).qr ≡ false
+
+-- a standard query: the opcode is QUERY
+pub record HoldsStandardQuery (b : List ℕ) : Type 0 where
+  pub query : HoldsQuery b
+  pub opcode : (fields_in (take 4 b)).opcode ≡ 0
+
+-- with one question, and it can be read
+pub record AsksOne (b : List ℕ) (x : QuestionItem) : Type 0 where
+  pub standard : HoldsStandardQuery b
   pub one : question_count b ≡ 1
   pub behind : ℕ
   pub reads : ReadsQuestion b header_size behind x
 
--- They have none: they are fewer than a header section's, or have another count, or the question can't be read. The number tells which.
+-- it asks for addresses of the class IN: for type A, or for all types. RFC 1035 sections 3.2.2 to 3.2.4
+pub record Asks (b : List ℕ) (x : QuestionItem) : Type 0 where
+  pub question : AsksOne b x
+  pub class : x.class ≡ 1
+  pub rtype : (x.rtype ≡ 1) ⊎ (x.rtype ≡ 255)
+
+-- They don't: they are fewer than a header section's, or a response, or another opcode's; or there isn't one question, or it can't be read, or is of another class or type. The first of these is told.
 abbrev pub AsksNothing : List ℕ → ℕ → Type 0
 AsksNothing b n =
     ((length b < header_size) × (n ≡ number_of faults.ShortInput))
-    ⊎ ((header_size ≤ length b) × (question_count b ≢ 1) × (n ≡ number_of faults.NoQuestion))
-    ⊎ ((header_size ≤ length b) × (question_count b ≡ 1) × ((f : Fault) × QuestionFaultAt b header_size f × TellsFault f n))
+    ⊎ ((header_size ≤ length b) × ((fields_in (take 4 b)).qr ≡ true) × (n ≡ number_of faults.IsResponse))
+    ⊎ (HoldsQuery b × ((fields_in (take 4 b)).opcode ≢ 0) × (n ≡ number_of faults.OtherOpcode))
+    ⊎ (HoldsStandardQuery b × (question_count b ≢ 1) × (n ≡ number_of faults.NoQuestion))
+    ⊎ (HoldsStandardQuery b × (question_count b ≡ 1) × ((f : Fault) × QuestionFaultAt b header_size f × TellsFault f n))
+    ⊎ (((x : QuestionItem) × AsksOne b x × (x.class ≢ 1)) × (n ≡ number_of faults.OtherClass))
+    ⊎ (((x : QuestionItem) × AsksOne b x × (x.class ≡ 1) × (x.rtype ≢ 1) × (x.rtype ≢ 255)) × (n ≡ number_of faults.OtherType))
 
 -- The octets of the response to a query: its ID, opcode, RD and CD, QR and AA, and no other bit; its question; and the address. RFC 1035 section 4.1.1.
 pub record IsResponse (query : List ℕ) (aa : Bool) (ttl : ℕ) (address octets : List ℕ) : Type 0 where

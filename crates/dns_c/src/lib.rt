@@ -6,9 +6,12 @@
 
 mod build;
 mod code;
+mod data_text;
 mod make;
+mod pieces;
 mod text;
 mod walk;
+mod words;
 
 ghost use Rattle.std.specs.Prelude.{◌≡◌, ◌≢◌, ◌<◌, ◌≤◌, ◌+◌, ◌++◌, ◌∷◌, [], length, take, get_or};
 ghost use Rattle.dns_name.specs.NameTexts.{name_text};
@@ -20,11 +23,12 @@ ghost use Rattle.dns_c.specs.Built.{IsBuilt, IsUnbuilt};
 ghost use Rattle.dns_c.specs.Codes.{number_of};
 ghost use Rattle.dns_c.specs.Made.{AsksNothing, IsLonger, IsQuery, IsResponse, LacksName, SpellsNoName};
 ghost use Rattle.dns_c.specs.Steps.{IsOpen, Opens, Spans, GivesNext};
+ghost use Rattle.dns_c.specs.Texts.{NoRecordAt, RecordAt, data_text};
+ghost use Rattle.dns_item.specs.Items.{RecordEntry};
 
 use build::NewItem;
 use code::Fault;
 use std::alloc::Global;
-use text::Sink;
 use walk::{Cursor, Header, Item};
 
 /// Reads the header, and puts the cursor before the first question.
@@ -69,11 +73,13 @@ pub extern "C" fn dns_name_text(message: &[u8], place: usize, out: &mut [u8], le
     ensures empty { result ≢ 0 → len.new ≡ 0 }
     ensures text { result ≡ 0 → (name : Labels) × Stands message.now place name
         × (take (len.new + 1) out.new ≡ name_text name ++ 46 ∷ 0 ∷ []) }
+    ensures no_room { result ≡ number_of Fault.NoRoom → (name : Labels)
+        × Stands message.now place name × (length out.old < length (name_text name) + 2) }
     ensures no_name { result ≢ 0 → result ≢ number_of Fault.NoRoom
         → LacksName message.now place result }
 {
-    match text::name(message, place) {
-        Ok(text) => make::hand_out_text(text.as_str().as_bytes(), out, len),
+    match text::name(message, place, out) {
+        Ok(end) => text::finish(end, out, len),
         Err(fault) => make::refuse(fault, len),
     }
 }
@@ -108,13 +114,20 @@ pub extern "C" fn dns_data_text(message: &[u8], item: &Item, out: &mut [u8], len
     ensures length { length out.new ≡ length out.old }
     ensures empty { result ≢ 0 → len.new ≡ 0 }
     ensures ended { result ≡ 0 → (len.new < length out.new) × (get_or out.new len.new 1 ≡ 0) }
+    ensures text { result ≡ 0 → (x : RecordEntry) × RecordAt message.now item.now.place x
+        × (take (len.new + 1) out.new ≡ data_text message.now x ++ 0 ∷ []) }
+    ensures no_room { result ≡ number_of Fault.NoRoom → (x : RecordEntry)
+        × RecordAt message.now item.now.place x
+        × (length out.old < length (data_text message.now x) + 1) }
     ensures question { item.now.section ≡ 0 → result ≡ number_of Fault.BadSection }
+    ensures no_record { item.now.section ≢ 0 → result ≢ 0 → result ≢ number_of Fault.NoRoom
+        → NoRecordAt message.now item.now.place result }
     ensures told { result ≢ 0 → (fault : Fault) × (result ≡ number_of fault) }
 {
-    let mut sink = Sink::new(out);
-    let answer = text::data(message, item, &mut sink);
-    let written = sink.finish();
-    text::close(answer, written, out, len)
+    match data_text::data(message, item, out) {
+        Ok(end) => text::finish(end, out, len),
+        Err(fault) => make::refuse(fault, len),
+    }
 }
 
 /// Writes the name of a record type, and a zero octet.
@@ -124,12 +137,11 @@ pub extern "C" fn dns_type_text(rtype: u16, out: &mut [u8], len: &mut usize) -> 
     ensures within { result ≡ 0 → len.new < length out.new }
     ensures empty { result ≢ 0 → len.new ≡ 0 }
     ensures text { result ≡ 0 → take (len.new + 1) out.new ≡ type_text rtype ++ 0 ∷ [] }
-    ensures no_room { result ≢ 0 → result ≡ number_of Fault.NoRoom }
+    ensures no_room { result ≢ 0 → (result ≡ number_of Fault.NoRoom)
+        × (length out.old < length (type_text rtype) + 1) }
 {
-    match text::rtype(rtype) {
-        Ok(text) => make::hand_out_text(text.as_str().as_bytes(), out, len),
-        Err(fault) => make::refuse(fault, len),
-    }
+    let end = words::rtype(rtype, out);
+    text::finish(end, out, len)
 }
 
 /// Writes the name of a class, and a zero octet.
@@ -139,12 +151,11 @@ pub extern "C" fn dns_class_text(class: u16, out: &mut [u8], len: &mut usize) ->
     ensures within { result ≡ 0 → len.new < length out.new }
     ensures empty { result ≢ 0 → len.new ≡ 0 }
     ensures text { result ≡ 0 → take (len.new + 1) out.new ≡ class_text class ++ 0 ∷ [] }
-    ensures no_room { result ≢ 0 → result ≡ number_of Fault.NoRoom }
+    ensures no_room { result ≢ 0 → (result ≡ number_of Fault.NoRoom)
+        × (length out.old < length (class_text class) + 1) }
 {
-    match text::class(class) {
-        Ok(text) => make::hand_out_text(text.as_str().as_bytes(), out, len),
-        Err(fault) => make::refuse(fault, len),
-    }
+    let end = words::class(class, out);
+    text::finish(end, out, len)
 }
 
 /// Writes a query for the name that a text spells.
@@ -175,7 +186,7 @@ pub extern "C" fn dns_query(
     }
 }
 
-/// Writes the response to a query with one question: its header, its question, and one address.
+/// Writes the response to a query for addresses: its header, its question, and one address.
 #[unsafe(no_mangle)]
 pub extern "C" fn dns_respond_a(
     query: &[u8],

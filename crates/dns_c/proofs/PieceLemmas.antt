@@ -1,0 +1,76 @@
+-- Texts that a buffer holds, and the text of a name label by label.
+use Rattle.std.proofs.Common.{◌≡◌, ◌∙◌, ℕ, ◌+◌, ◌<◌, ◌≤◌, List, [], ◌∷◌, ◌++◌, length, take, get_or, flat_map, Some, None, ap, sym, subst, refl, arith, append_assoc, append-nil, length-append, ◌⊎◌, inl, inr, true, false}
+use Rattle.std.specs.Prelude.{Option, All}
+use Rattle.std.specs.Char.{is_ascii_graphic}
+use Rattle.std.proofs.lemmas.Bool.Decides.{nat_tests}
+use Rattle.std.proofs.lemmas.List.{flat_map_more, length-take-le, take_all, take_more}
+use Rattle.std.proofs.lemmas.List.Elements.{All-head, All-tail}
+use Rattle.dns_name.specs.Names.{Labels, IsLabel, with_root}
+use Rattle.dns_name.specs.NameTexts.{dot, decimal_text, octet_text, label_text}
+use Rattle.dns_c.specs.Texts.{Holds, absolute_name}
+
+-- a text is held behind which nothing is
+pub holds_as : (out text same : List ℕ) (end : Option ℕ) → text ≡ same → Holds out text end → Holds out same end
+holds_as out text same end is h = subst (λ (t : List ℕ). Holds out t end) is h
+
+-- nothing fits behind a text that has no room
+pub no_room : (old new text more : List ℕ) → length new ≡ length old → Holds old text None → Holds new (text ++ more) None
+no_room old new text more same h = let both = length-append text more in omega arith
+
+-- more is too long
+pub too_long : (old text more : List ℕ) (start : ℕ) → length old < start + length more → Holds old text (Some start) → Holds old (text ++ more) None
+too_long old text more start past h =
+    let both = length-append text more in
+    let size : length text ≡ start = ap length (sym h.1) ∙ length-take-le start old h.0 in
+    omega arith
+
+-- more is written behind it
+pub written : (old new text more : List ℕ) (start behind : ℕ) → behind ≤ length new → take behind new ≡ take start old ++ more → Holds old text (Some start) → Holds new (text ++ more) (Some behind)
+written old new text more start behind within is h = (within, is ∙ ap (λ (t : List ℕ). t ++ more) h.1)
+
+-- the text of a name label by label, with a dot behind each; the root label is passed over
+abbrev pub dotted : Labels → List ℕ
+dotted [] = []
+dotted ([] ∷ name) = dotted name
+dotted ((o ∷ label) ∷ name) = (label_text (o ∷ label) ++ dot ∷ []) ++ dotted name
+
+all_dotted : (label : List ℕ) (name : Labels) → All IsLabel (label ∷ name) → dotted (with_root (label ∷ name)) ≡ absolute_name (label ∷ name)
+all_dotted [] name h = let some = (All-head IsLabel [] name h).some in absurd (omega (arith, some))
+all_dotted (o ∷ label) [] h = append-nil (label_text (o ∷ label) ++ dot ∷ [])
+all_dotted (o ∷ label) (next ∷ name) h =
+    ap (λ (t : List ℕ). (label_text (o ∷ label) ++ dot ∷ []) ++ t) (all_dotted next name (All-tail IsLabel (o ∷ label) (next ∷ name) h))
+    ∙ simp append_assoc
+
+pub name_dotted : (name : Labels) → (name ≡ [] → ⊥) → All IsLabel name → dotted (with_root name) ≡ absolute_name name
+name_dotted [] some h = absurd (some refl)
+name_dotted (label ∷ name) some h = all_dotted label name h
+
+-- a label and a dot are written
+pub one_dotted : (text label : List ℕ) (behind : Labels) (whole : List ℕ) → (label ≡ [] → ⊥) → text ++ dotted (label ∷ behind) ≡ whole → ((text ++ label_text label) ++ dot ∷ []) ++ dotted behind ≡ whole
+one_dotted text [] behind whole some e = absurd (some refl)
+one_dotted text (o ∷ label) behind whole some e = simp append_assoc (simp append_assoc at e)
+
+-- the root label is passed over
+pub root_passed : (text label : List ℕ) (behind : Labels) (whole : List ℕ) → label ≡ [] → text ++ dotted (label ∷ behind) ≡ whole → text ++ dotted behind ≡ whole
+root_passed text [] behind whole none e = e
+root_passed text (o ∷ label) behind whole none e = absurd (cc)
+
+-- how an octet of a label is printed
+pub special_text : (o : ℕ) → (o ≡ 46) ⊎ ((o ≡ 46 → ⊥) × (o ≡ 92)) → 92 ∷ o ∷ [] ≡ octet_text o
+special_text o (inl is) = rw is refl
+special_text o (inr is) = rw is.1 refl
+
+pub graphic_text : (o : ℕ) → (o ≡ 46 → ⊥) → (o ≡ 92 → ⊥) → is_ascii_graphic o ≡ true → o ∷ [] ≡ octet_text o
+graphic_text o dot slash graphic = grind (arith, nat_tests)
+
+pub other_text : (o : ℕ) → (o ≡ 46 → ⊥) → (o ≡ 92 → ⊥) → is_ascii_graphic o ≡ false → decimal_text o ≡ octet_text o
+other_text o dot slash other = grind (arith, nat_tests)
+
+-- elements that are written one by one
+module _ (text_of : ℕ → List ℕ) (text : List ℕ) (octets : List ℕ) (i : ℕ) where
+  pub more_text : i < length octets → (text ++ flat_map text_of (take i octets)) ++ text_of (get_or octets i 0) ≡ text ++ flat_map text_of (take (i + 1) octets)
+  more_text within =
+      flat_map_more text_of text (take i octets) (get_or octets i 0) ∙ ap (λ (t : List ℕ). text ++ flat_map text_of t) (sym (take_more octets i 0 within))
+
+  pub all_text : length octets ≤ i → text ++ flat_map text_of (take i octets) ≡ text ++ flat_map text_of octets
+  all_text past = ap (λ (t : List ℕ). text ++ flat_map text_of t) (take_all i octets past)

@@ -1,0 +1,121 @@
+//! Texts written into a caller's buffer, piece by piece from its beginning on.
+//!
+//! What `Display` writes can't serve: its contract doesn't tell whether an error is the buffer's.
+ghost use Rattle.std.specs.Prelude.{◌≡◌, ◌<◌, false, ◌++◌, ◌∷◌, ℕ, List, [], decimal};
+ghost use Rattle.std.specs.Fmt.{digit_glyph};
+ghost use Rattle.dns_name.specs.NameTexts.{octet_text, label_text};
+ghost use Rattle.dns_name.specs.ParsedName.{labels};
+ghost use Rattle.dns_c.specs.Texts.{Holds, absolute_name, hex_octets};
+
+use dns_name::ParsedName;
+use itoa::Buffer;
+
+/// Where the text in a buffer ends; `None` where the buffer is too short for it.
+pub(crate) type End = Option<usize>;
+
+/// The end of a text without octets.
+pub(crate) const START: End = Some(0);
+
+/// Writes octets behind a text.
+pub(crate) fn put(octets: &[u8], out: &mut [u8], end: End) -> End
+    ensures { (text : List ℕ) → Holds out.old text end
+        → Holds out.new (text ++ octets.now) result }
+{
+    let Some(start) = end else {
+        return None;
+    };
+    if start > out.len() || octets.len() > out.len() - start {
+        return None;
+    }
+    let behind = start + octets.len();
+    out[start..behind].copy_from_slice(octets);
+    Some(behind)
+}
+
+/// Writes a number in decimal digits.
+pub(crate) fn put_number(number: u64, out: &mut [u8], end: End) -> End
+    ensures { (text : List ℕ) → Holds out.old text end
+        → Holds out.new (text ++ decimal number) result }
+{
+    let mut buffer = Buffer::new();
+    put(buffer.format(number).as_bytes(), out, end)
+}
+
+/// Writes a separator and a number in decimal digits.
+pub(crate) fn put_behind(separator: &[u8], number: u64, out: &mut [u8], end: End) -> End
+    ensures { (text : List ℕ) → Holds out.old text end
+        → Holds out.new (text ++ separator.now ++ decimal number) result }
+{
+    let end = put(separator, out, end);
+    put_number(number, out, end)
+}
+
+/// Writes one octet of a label.
+fn put_octet(octet: u8, out: &mut [u8], end: End) -> End
+    ensures { (text : List ℕ) → Holds out.old text end
+        → Holds out.new (text ++ octet_text octet) result }
+{
+    if octet == b'.' || octet == b'\\' {
+        return put(&[b'\\', octet], out, end);
+    }
+    if octet.is_ascii_graphic() {
+        return put(&[octet], out, end);
+    }
+    let hundreds = b'0' + octet / 100;
+    let tens = b'0' + octet / 10 % 10;
+    put(&[b'\\', hundreds, tens, b'0' + octet % 10], out, end)
+}
+
+/// Writes a label.
+fn put_label(label: &[u8], out: &mut [u8], end: End) -> End
+    ensures { (text : List ℕ) → Holds out.old text end
+        → Holds out.new (text ++ label_text label.now) result }
+{
+    let mut end = end;
+    for octet in label {
+        end = put_octet(*octet, out, end);
+    }
+    end
+}
+
+/// Writes a name with a dot behind each label; that of the root is a dot.
+pub(crate) fn put_name(name: &ParsedName<'_>, out: &mut [u8], end: End) -> End
+    ensures { (text : List ℕ) → Holds out.old text end
+        → Holds out.new (text ++ absolute_name (labels name.now)) result }
+{
+    if name.is_root() {
+        return put(b".", out, end);
+    }
+    let mut end = end;
+    for label in name.iter_labels() {
+        if !label.is_root() {
+            end = put_label(label.as_slice(), out, end);
+            end = put(b".", out, end);
+        }
+    }
+    end
+}
+
+/// The hexadecimal digit of a number below 16, of lower case.
+fn hex_digit(number: u8) -> u8
+    requires { number < 16 }
+    ensures { result ≡ digit_glyph false number }
+{
+    if number < 10 {
+        b'0' + number
+    } else {
+        b'a' - 10 + number
+    }
+}
+
+/// Writes octets in hexadecimal digits, two for each.
+pub(crate) fn put_hex(octets: &[u8], out: &mut [u8], end: End) -> End
+    ensures { (text : List ℕ) → Holds out.old text end
+        → Holds out.new (text ++ hex_octets octets.now) result }
+{
+    let mut end = end;
+    for octet in octets {
+        end = put(&[hex_digit(*octet / 16), hex_digit(*octet % 16)], out, end);
+    }
+    end
+}

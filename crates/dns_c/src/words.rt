@@ -1,0 +1,74 @@
+//! The texts of record types and classes.
+ghost use Rattle.std.specs.Prelude.{◌≡◌, ◌++◌, ℕ, List, [], ◌∷◌, decimal, option_map, unwrap_or};
+ghost use Rattle.dns_number.specs.Classes.{class_text};
+ghost use Rattle.dns_number.specs.Mnemonics.{mnemonic, type_mnemonics, class_mnemonics};
+ghost use Rattle.dns_number.specs.NumberTexts.{number_text};
+ghost use Rattle.dns_number.specs.Tables.{table};
+ghost use Rattle.dns_number.specs.Types.{type_text};
+ghost use Rattle.dns_c.specs.Texts.{Holds};
+
+use crate::pieces::{End, START, put, put_number};
+use dns_number::{Class, Rtype};
+
+/// The mnemonic of a record type, if it has one.
+#[tactic(auto, unfolding(std::specs::Prelude::find, dns_number::specs::Mnemonics::type_mnemonics))]
+fn type_word(rtype: Rtype) -> Option<&'static str>
+    ensures { option_map (λ word. word.now) result ≡ mnemonic type_mnemonics rtype }
+{
+    match rtype {
+        Rtype::A => Some("A"),
+        Rtype::NS => Some("NS"),
+        Rtype::CNAME => Some("CNAME"),
+        Rtype::SOA => Some("SOA"),
+        Rtype::PTR => Some("PTR"),
+        Rtype::MX => Some("MX"),
+        Rtype::TXT => Some("TXT"),
+        Rtype::AAAA => Some("AAAA"),
+        Rtype::OPT => Some("OPT"),
+        Rtype::IXFR => Some("IXFR"),
+        Rtype::AXFR => Some("AXFR"),
+        Rtype::ANY => Some("ANY"),
+        _ => None,
+    }
+}
+
+/// The mnemonic of a class, if it has one.
+#[tactic(auto, unfolding(dns_number::specs::Mnemonics::class_mnemonics))]
+fn class_word(class: Class) -> Option<&'static str>
+    ensures { option_map (λ word. word.now) result ≡ mnemonic class_mnemonics class }
+{
+    match class {
+        Class::IN => Some("IN"),
+        Class::CH => Some("CH"),
+        Class::HS => Some("HS"),
+        _ => None,
+    }
+}
+
+/// Writes a mnemonic, or a word and a number where there is none.
+fn put_word(word: Option<&str>, other: &[u8], number: u16, out: &mut [u8]) -> End
+    ensures { Holds out.new (unwrap_or (option_map (λ word. word.now) word.entry)
+        (other.now ++ decimal number)) result }
+{
+    match word {
+        Some(word) => put(word.as_bytes(), out, START),
+        None => {
+            let end = put(other, out, START);
+            put_number(u64::from(number), out, end)
+        }
+    }
+}
+
+/// Writes the name of a record type.
+pub(crate) fn rtype(number: u16, out: &mut [u8]) -> End
+    ensures { Holds out.new (type_text number) result }
+{
+    put_word(type_word(Rtype::from_int(number)), b"TYPE", number, out)
+}
+
+/// Writes the name of a class.
+pub(crate) fn class(number: u16, out: &mut [u8]) -> End
+    ensures { Holds out.new (class_text number) result }
+{
+    put_word(class_word(Class::from_int(number)), b"CLASS", number, out)
+}
