@@ -1,25 +1,43 @@
 #!/usr/bin/env bash
 # Builds crates/dns_c, which proves it and the crates below it, compares dns.h with its exports (header.sh), and compiles
 # and runs the examples in C, C++ and Rust: those in C and C++ by gcc and by clang, each where it is there, with the
-# address and undefined behaviour sanitizers. Debian has them as gcc, g++ and clang.
-# The last line is 'all examples ran'.
-set -eu
+# address and undefined behaviour sanitizers where the compiler has them. Debian has them as gcc, g++ and clang.
+# It prints 'test c::NAME ... ok' or 'test c::NAME ... FAILED' for each of these, and fails where one did.
+set -u
 here=$(cd "$(dirname "$0")" && pwd)
 crate=$here/../../crates/dns_c
 kit=$(dirname "$(rt doc)")
 build=$(mktemp -d)
 trap 'rm -rf "$build"' EXIT
+failed=0
 
-(cd "$crate" && rt lib) >"$build/proof" 2>&1 || { cat "$build/proof" >&2; exit 1; }
+# Runs a command, and tells what came of it; what it says is shown where it failed.
+outcome() {
+  local name=$1
+  shift
+  if "$@" >"$build/said" 2>&1; then
+    echo "test c::$name ... ok"
+  else
+    cat "$build/said"
+    echo "test c::$name ... FAILED"
+    failed=1
+  fi
+}
 
-"$here/header.sh"
-echo 'dns.h has the exports'
+library() {
+  cd "$crate" && rt lib
+}
 
-flags="-O1 -g -Wall -Wextra -pedantic -Werror -fsanitize=address,undefined -fno-sanitize-recover=all -I$crate"
+sanitizers='-fsanitize=address,undefined -fno-sanitize-recover=all'
+
+has_sanitizers() {
+  echo 'int main(void) { return 0; }' | $1 $sanitizers -x c - -o "$build/probe" && "$build/probe"
+} >/dev/null 2>&1
 
 compile() {
-  local compiler=$1 standard=$2 source=$3
-  $compiler "-std=$standard" $flags "$here/$source" "$crate/out/libdns_c.a" "$kit/c/liblibc_c.a" -o "$build/${source%.*}"
+  local compiler=$1 standard=$2 source=$3 flags="-O1 -g -Wall -Wextra -pedantic -Werror"
+  has_sanitizers "$compiler" && flags="$flags $sanitizers"
+  $compiler "-std=$standard" $flags "-I$crate" "$here/$source" "$crate/out/libdns_c.a" "$kit/c/liblibc_c.a" -o "$build/${source%.*}"
 }
 
 cat >"$build/expected" <<'EXPECTED'
@@ -42,30 +60,36 @@ additional . 0 CLASS1232 OPT \# 0
 
 EXPECTED
 
-run() {
-  "$build/edge"
-  "$build/each"
-  { "$build/ask"; "$build/build"; } >"$build/messages"
-  "$build/show" <"$build/messages" | diff "$build/expected" -
-  "$build/show" prefixes <"$build/messages"
-  "$build/show" changes <"$build/messages"
+# The messages that the examples make, in hexadecimal digits.
+messages() {
+  "$build/ask" && "$build/build"
 }
 
-for compilers in "gcc g++" "clang clang++"; do
-  set -- $compilers
-  command -v "$1" >/dev/null && command -v "$2" >/dev/null || continue
-  echo "$1 and $2"
+examples() {
+  local source
   for source in ask.c build.c edge.c show.c; do
-    compile "$1" c11 "$source"
+    compile "$1" c11 "$source" || return
   done
-  compile "$2" c++17 each.cpp
-  run
-done
+  "$build/edge" && messages >"$build/messages" && "$build/show" <"$build/messages" | diff "$build/expected" - &&
+    "$build/show" prefixes <"$build/messages" && "$build/show" changes <"$build/messages"
+}
 
-if command -v rustc >/dev/null; then
-  echo rustc
+examples_of_cpp() {
+  compile "$1" c++17 each.cpp && "$build/each"
+}
+
+examples_of_rust() {
   rustc --edition 2024 -O "$here/show.rs" -L "native=$crate/out" -L "native=$kit/c" -l static=dns_c -l static=libc_c \
-    -o "$build/show_rs"
-  "$build/show_rs" <"$build/messages"
-fi
-echo 'all examples ran'
+    -o "$build/show_rs" && "$build/show_rs" <"$build/messages"
+}
+
+outcome library library
+outcome header "$here/header.sh"
+for compiler in gcc clang; do
+  command -v $compiler >/dev/null && outcome $compiler examples $compiler
+done
+for compiler in g++ clang++; do
+  command -v $compiler >/dev/null && outcome $compiler examples_of_cpp $compiler
+done
+[ -e "$build/messages" ] && command -v rustc >/dev/null && outcome rustc examples_of_rust
+exit $failed
