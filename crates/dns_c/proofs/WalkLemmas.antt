@@ -1,13 +1,13 @@
 -- What is left of a walk, step by step.
 use Rattle.std.proofs.Common.{◌≡◌, ◌∙◌, ℕ, zero, suc, ◌+◌, ◌<◌, ◌≤◌, ◌⊎◌, inl, inr, List, [], ◌∷◌, length, map, ap, sym, refl, subst, arith}
 use Rattle.std.proofs.lemmas.Option.{slice_get_past}
-use Rattle.std.specs.Prelude.{Option, Some, None, Result, Ok, Err, slice_get, IfOk}
+use Rattle.std.specs.Prelude.{Option, Some, None, Result, Ok, Err, slice_get, IfOk, IfErr}
 use Rattle.std.specs.Option.{option_map_or}
 use Rattle.dns_octets.specs.declared.error.ParseError.{ParseError}
 use Rattle.dns_octets.specs.declared.error.ParseError.TheVariants as errors
 use Rattle.dns_name.specs.Names.{Fault, FaultAt, EndsOrFaults, fault_of, head_of, head_at}
 use Rattle.dns_name.specs.Names.Faulty.{head}
-use Rattle.dns_name.specs.Names.Fault.{ShortInput}
+use Rattle.dns_name.specs.Names.Fault.{ShortInput, Form}
 use Rattle.dns_code.specs.HeaderSection.{header_size}
 use Rattle.dns_question.specs.Questions.{QuestionItem, SkipsQuestion, ReadsQuestion, QuestionSkipFaultAt, QuestionFaultAt}
 use Rattle.dns_item.specs.Items.{SkipsRecord, RecordEntry, ReadsRecord, RecordFaultAt}
@@ -31,6 +31,7 @@ use Rattle.dns_read.specs.SectionStarts.{found, records_of}
 use Rattle.dns_section.proofs.theory.SectionLemmas.{starts_behind}
 use Rattle.dns_read.proofs.theory.SectionStartLemmas.{start_found, no_answers, no_authorities, no_additionals, no_reading}
 use Rattle.dns_question.specs.BehindNames.FieldsFaultAt.{name as in_name}
+use Rattle.dns_c.proofs.NameFaultLemmas.{form_in_name}
 use Rattle.dns_c.specs.Steps.{left_from, IsHeader, IsOpen, Opens, AnswersQuestion, AnswersRecord, AnswersEntry, Spans, Tells}
 use Rattle.dns_c.specs.declared.walk.Cursor.{Cursor}
 use Rattle.dns_c.specs.declared.walk.Header.{Header}
@@ -187,6 +188,16 @@ pub placed_record : (b : List ℕ) (cursor : Cursor) (r : Result (Item × ℕ) P
     → IfOk r (λ found. Spans found.0 cursor.place found.1) → IfOk r (λ found. Spans found.0 cursor.place found.1 × (found.0.section ≡ cursor.section))
 placed_record b cursor (Ok found) h spans = (spans, h.3)
 placed_record b cursor (Err e) h spans = tt
+
+-- A fault of its form is one of the name with which it begins.
+
+pub question_form : (b : List ℕ) (p : ℕ) (r : Result (Item × ℕ) ParseError) → AnswersQuestion b p r → IfErr r (λ e. fault_of e ≡ Form → FaultAt b p Form)
+question_form b p (Ok found) h = tt
+question_form b p (Err e) h = form_in_name b _ p (fault_of e) h
+
+pub record_form : (b : List ℕ) (section p : ℕ) (r : Result (Item × ℕ) ParseError) → AnswersRecord b section p r → IfErr r (λ e. fault_of e ≡ Form → FaultAt b p Form)
+record_form b section p (Ok found) h = tt
+record_form b section p (Err e) h = form_in_name b _ p (fault_of e) h
 
 -- A cursor that moved past empty sections.
 

@@ -34,10 +34,10 @@ code_of (Ok true) = 0
 code_of (Ok false) = 1
 code_of (Err fault) = number_of fault
 
--- a number that tells the fault of octets: 2 that one isn't there, 3 to 6 that they aren't as they have to be
+-- a number that tells the fault of octets: 2 that one isn't there, 3 to 5 that they aren't as they have to be
 abbrev pub TellsFault : FaultThere → ℕ → Type 0
 TellsFault ShortInput n = n ≡ 2
-TellsFault Form n = (3 ≤ n) × (n ≤ 6)
+TellsFault Form n = (3 ≤ n) × (n ≤ 5)
 
 -- the fault that a target's refusal is
 abbrev pub append_fault : AppendError → Fault

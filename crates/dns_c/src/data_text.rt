@@ -13,6 +13,7 @@ ghost use Rattle.dns_c.specs.Codes.{number_of};
 ghost use Rattle.dns_c.specs.Texts.{Holds, NoRecordAt, RecordAt, data_octets, data_text};
 
 use crate::code::Fault;
+use crate::name_fault::fault_at;
 use crate::pieces::{End, START, put, put_behind, put_hex, put_name, put_number};
 use crate::walk::{Item, parser_at};
 use dns_data::{A, Cname, Ns, ParseRecordData, Soa};
@@ -117,6 +118,8 @@ pub(crate) fn data(octets: &[u8], item: &Item, out: &mut [u8]) -> Result<End, Fa
     if item.section == 0 {
         return Err(Fault::BadSection);
     }
-    let (found, opaque) = record_at(octets, item.place)?;
-    Ok(put_data(&found, opaque, out))
+    match record_at(octets, item.place) {
+        Ok((found, opaque)) => Ok(put_data(&found, opaque, out)),
+        Err(error) => Err(fault_at(octets, item.place, error)),
+    }
 }

@@ -8,6 +8,7 @@ mod build;
 mod code;
 mod data_text;
 mod make;
+mod name_fault;
 mod pieces;
 mod text;
 mod walk;

@@ -1,6 +1,7 @@
 //! A walk over a message whose place the caller holds.
 ghost use Rattle.std.specs.Prelude.{◌≡◌, ◌≢◌, ◌+◌, ◌<◌, ◌≤◌, length, true, Ok, Err, IfOk, IfErr};
 ghost use Rattle.dns_name.specs.Names.{FaultAt, Stands, fault_of};
+ghost use Rattle.dns_name.specs.Names.Fault.{Form};
 ghost use Rattle.dns_name.specs.ParsedName.{labels};
 ghost use Rattle.dns_name.specs.Parsers as Parsers;
 ghost use Rattle.dns_name.specs.Parsers.{seen};
@@ -15,6 +16,7 @@ ghost use Rattle.dns_c.specs.Walk.{count_at};
 
 use crate::code;
 use crate::code::Fault;
+use crate::name_fault::fault_at;
 use dns_item::{Question, RecordHeader};
 use dns_read::Message;
 use dns_wire::{ParseError, ParsedName, Parser};
@@ -198,6 +200,8 @@ fn read(octets: &[u8], cursor: &Cursor) -> Result<(Item, usize), ParseError>
     ensures within { IfOk result (λ found. found.0.«data» + found.0.data_len ≤ length octets.now) }
     ensures place { IfOk result (λ found. Spans found.0 cursor.now.place found.1
         × (found.0.section ≡ cursor.now.section)) }
+    ensures form { IfErr result (λ error. fault_of error ≡ Form
+        → FaultAt octets.now cursor.now.place Form) }
 {
     if cursor.section == 0 {
         read_question(octets, cursor.place)
@@ -237,11 +241,20 @@ pub(crate) fn next(octets: &[u8], cursor: &mut Cursor, item: &mut Item) -> Resul
             Ok(true)
         }
         Err(error) => {
-            let fault = Fault::from(error);
+            let fault = fault_at(octets, cursor.place, error);
             cursor.status = code::of_fault(fault);
             Err(fault)
         }
     }
+}
+
+/// The name at a place, or the error of reading it.
+fn parse_name(octets: &[u8], place: usize) -> Result<ParsedName<'_>, ParseError>
+    ensures name { IfOk result (λ name. Stands octets.now place (labels name)) }
+    ensures none { IfErr result (λ error. FaultAt octets.now place (fault_of error)) }
+{
+    let mut parser = parser_at(octets, place)?;
+    ParsedName::parse(&mut parser)
 }
 
 /// The name at a place.
@@ -249,6 +262,8 @@ pub(crate) fn name_at(octets: &[u8], place: usize) -> Result<ParsedName<'_>, Fau
     ensures name { IfOk result (λ name. Stands octets.now place (labels name)) }
     ensures none { IfErr result (λ fault. LacksName octets.now place (number_of fault)) }
 {
-    let mut parser = parser_at(octets, place)?;
-    Ok(ParsedName::parse(&mut parser)?)
+    match parse_name(octets, place) {
+        Ok(name) => Ok(name),
+        Err(error) => Err(fault_at(octets, place, error)),
+    }
 }
