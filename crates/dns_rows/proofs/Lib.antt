@@ -1,1 +1,4 @@
+mod Items
+mod Names
+mod Stops
 mod Tilings

@@ -1,3 +1,5 @@
+pub mod Entries
+pub mod Fields
 pub mod Rows
 pub mod Shown
 pub mod Tiles

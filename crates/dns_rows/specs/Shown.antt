@@ -1,24 +1,18 @@
 -- The rows of a message: those of its header section, of other fields, of a fault and of what is behind one. RFC 1035 section 4.1.
-use Rattle.std.specs.Prelude.{◌≡◌, ℕ, ◌+◌, ◌<◌, ◌≤◌, nat_lt, if◌then◌else◌, List, [], ◌∷◌, ◌++◌, length, slice_range, All, Option, Some, None}
-use Rattle.std.specs.List.{sum_by}
+use Rattle.std.specs.Prelude.{◌≡◌, ℕ, ◌+◌, ◌≤◌, nat_lt, if◌then◌else◌, List, [], ◌∷◌, ◌++◌, length, slice_range, Option, Some, None}
 use Rattle.dns_code.specs.HeaderCounts.{Counts, counts_in}
 use Rattle.dns_code.specs.HeaderSection.{header_size}
 use Rattle.dns_rows.specs.declared.row.Row.{Row}
-use Rattle.dns_rows.specs.declared.row.Kind.{Kind}
 use Rattle.dns_rows.specs.declared.row.Kind.TheVariants as kinds
 use Rattle.dns_rows.specs.declared.row.Part.TheVariants.{Question, Answer, Authority, Additional}
-use Rattle.dns_rows.specs.declared.row.Field.{Field}
 use Rattle.dns_rows.specs.declared.row.Field.TheVariants as fields
 use Rattle.dns_rows.specs.declared.row.Fault.{Fault}
-use Rattle.dns_rows.specs.Tiles.{Tiles}
+use Rattle.dns_rows.specs.Entries.{parts_of, ShowsParts}
+use Rattle.dns_rows.specs.Fields.{field_row, item_count, AreFields}
 
 -- the row of octets that are fewer than a header section has
 abbrev pub short_header : ℕ → Row
 short_header len = record { start = 0; end = len; kind = kinds.ShortHeader }
-
--- the row of a field
-abbrev pub field_row : ℕ → ℕ → Field → Row
-field_row start end field = record { start = start; end = end; kind = kinds.Field field }
 
 -- the six rows of a header section, each of two octets. RFC 1035 section 4.1.1.
 abbrev pub header_rows : List Row
@@ -35,46 +29,24 @@ fault_rows (Some fault) place = record { start = place; end = place; kind = kind
 abbrev pub unread_rows : ℕ → ℕ → List Row
 unread_rows place end = if nat_lt place end then record { start = place; end = end; kind = kinds.Unread } ∷ [] else []
 
--- one where an item begins, and none at any other field
-abbrev pub items_at : Field → ℕ
-items_at (fields.Item _ _) = 1
-items_at _ = 0
-
--- a row of a field: where an item begins it has no octets, and else it has some
-pub record IsField (row : Row) : Type 0 where
-  pub field : Field
-  pub kind : row.kind ≡ kinds.Field field
-  pub some : items_at field ≡ 0 → row.start < row.end
-  pub none : items_at field ≡ 1 → row.start ≡ row.end
-
--- the same of a kind
-abbrev pub items_of : Kind → ℕ
-items_of (kinds.Field field) = items_at field
-items_of _ = 0
-
--- how many items begin at rows
-abbrev pub item_count : List Row → ℕ
-item_count rows = sum_by (λ row. items_of row.kind) rows
-
 -- how many items the four counts are, together
 abbrev pub sum_of : Counts → ℕ
 sum_of counts = counts.qdcount + counts.ancount + counts.nscount + counts.arcount
 
--- how many items the header section of a message counts. RFC 1035 section 4.1.1.
+-- what the header section of a message counts. RFC 1035 section 4.1.1.
+abbrev pub counts_of : List ℕ → Counts
+counts_of b = counts_in (slice_range b 4 header_size)
+
+-- how many items that is
 abbrev pub counted_items : List ℕ → ℕ
-counted_items b = sum_of (counts_in (slice_range b 4 header_size))
+counted_items b = sum_of (counts_of b)
 
 -- so many items begin: all of them, or with a fault no more
 abbrev pub Begins : Option Fault → ℕ → ℕ → Type 0
 Begins None n all = n ≡ all
 Begins (Some fault) n all = n ≤ all
 
--- rows of fields that cover the octets from a place to another
-pub record AreFields (rows : List Row) (from to : ℕ) : Type 0 where
-  pub tiles : Tiles rows from to
-  pub fields : All IsField rows
-
--- The rows of a message: those of its header section, those of the fields behind it up to a place, that of a fault there, if there is one, and that of what is left. Where there is no fault, each item that the header section counts begins at a row.
+-- The rows of a message: those of its header section, those of the fields behind it up to a place, that of a fault there, if there is one, and that of what is left. Where there is no fault, each item that the header section counts begins at a row. The fields are those of the items that can be read, in order, up to the first that can't.
 pub record ShowsMessage (b : List ℕ) (rows : List Row) : Type 0 where
   pub others : List Row
   pub stop : Option Fault
@@ -83,3 +55,4 @@ pub record ShowsMessage (b : List ℕ) (rows : List Row) : Type 0 where
   pub fields : AreFields others header_size place
   pub within : place ≤ length b
   pub items : Begins stop (item_count others) (counted_items b)
+  pub parts : ShowsParts b (parts_of (counts_of b)) stop header_size place others

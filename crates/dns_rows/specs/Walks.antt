@@ -1,13 +1,27 @@
 -- What the steps of a walk over a message keep.
-use Rattle.std.specs.Prelude.{◌≡◌, ℕ, ◌+◌, ◌≤◌}
-use Rattle.dns_name.specs.Parsers.{input, place}
+use Rattle.std.specs.Prelude.{◌≡◌, ℕ, ◌+◌, ◌≤◌, List, ◌++◌, [], ◌∷◌, length, ⊤, Option, Result, Ok, Err}
+use Rattle.std.specs.Int.{w16}
+use Rattle.dns_name.specs.Names.{head_at, max_size, Fault, FaultAt, Labels, Stands, Walked, WalkedBehind}
+use Rattle.dns_name.specs.Parsers.{input, place, number_at, seen}
+use Rattle.dns_name.specs.declared.head.Head.TheVariants.{Root, Label, Pointer}
 use Rattle.dns_code.specs.HeaderSection.{header_size}
-use Rattle.dns_rows.specs.Shown.{AreFields, item_count}
+use Rattle.dns_rows.specs.Entries.{item_row, number_rows, ArePlain, FirstItems, NameRows, ShowsItem, ShowsParts, StopsAmong, StopsItem}
+use Rattle.dns_rows.specs.Fields.{AreFields, item_count}
+use Rattle.dns_rows.specs.declared.row.Fault as rows
+use Rattle.dns_rows.specs.declared.row.NameOf.{NameOf}
+use Rattle.dns_rows.specs.declared.row.Part.{Part}
+use Rattle.dns_rows.specs.declared.row.Row.{Row}
+use Rattle.dns_rows.specs.declared.walk.Stop.{Stop}
+use Rattle.dns_rows.specs.declared.walk.Stop.TheVariants as stops
 use Rattle.dns_rows.specs.declared.walk.Walk.{Walk}
 
 -- the place of a walk
 abbrev pub at : Walk → ℕ
 at walk = place walk.parser
+
+-- the octets that a walk sees
+abbrev pub octets : Walk → List ℕ
+octets walk = seen walk.parser
 
 -- how many items have begun
 abbrev pub items : Walk → ℕ
@@ -23,3 +37,133 @@ pub record Comes (n : ℕ) (old new : Walk) : Type 0 where
   pub input : input new.parser ≡ input old.parser
   pub more : items old ≤ items new
   pub most : items new ≤ items old + n
+
+-- behind some rows come those of fields from a place to another, and no item begins there
+pub record Goes (front : List Row) (from : ℕ) (rows : List Row) (to : ℕ) : Type 0 where
+  pub others : List Row
+  pub made : rows ≡ front ++ others
+  pub plain : ArePlain others from to
+
+-- a walk goes on so, behind whatever rows it had before
+abbrev pub Keeps : Walk → Walk → Type 0
+Keeps old new = (front : List Row) (from : ℕ) → Goes front from old.rows.items (at old) → Goes front from new.rows.items (at new)
+
+-- a walk that sees the same octets, with these rows more, at a place
+pub record Adds (added : List Row) (to : ℕ) (old new : Walk) : Type 0 where
+  pub rows : new.rows.items ≡ old.rows.items ++ added
+  pub seen : octets new ≡ octets old
+  pub place : at new ≡ to
+
+-- if a step stops, it is for memory, or this holds
+abbrev pub OnStop : Stop → Type 0 → Type 0
+OnStop (stops.Fault fault) P = P
+OnStop stops.Memory P = ⊤
+
+-- the same of a result
+abbrev pub OnFault : {T : Type 0} → Result T Stop → Type 0 → Type 0
+OnFault (Ok _) P = ⊤
+OnFault (Err stop) P = OnStop stop P
+
+-- no name can be read at a place
+abbrev pub HasNoName : List ℕ → ℕ → Type 0
+HasNoName b p = (f : Fault) × FaultAt b p f
+
+-- where a name ends from p on, whose labels stand before p
+pub data IsEnd (b : List ℕ) (p : ℕ) : ℕ → Type 0 where
+  root : head_at b p ≡ Ok Root → IsEnd b p (p + 1)
+  pointer : {t : ℕ} → head_at b p ≡ Ok (Pointer t) → IsEnd b p (p + 2)
+
+-- a label begins at p, behind labels of the size
+pub record IsLabelAt (b : List ℕ) (p size n : ℕ) : Type 0 where
+  pub begins : head_at b p ≡ Ok (Label n)
+  pub short : size + n + 1 ≤ max_size
+  pub fits : p + 1 + n ≤ length b
+
+-- the rows of labels stand before those of what is behind them in a name
+abbrev pub AreLabelRows : List ℕ → NameOf → ℕ → ℕ → List Row → Type 0
+AreLabelRows b of p q rows = (start end : ℕ) (behind : List Row) → NameRows b of start q end behind → NameRows b of start p end (rows ++ behind)
+
+-- a walk that passed labels of the size
+pub record PassesLabels (of : NameOf) (size : ℕ) (old new : Walk) : Type 0 where
+  pub rows : List Row
+  pub adds : Adds rows (at new) old new
+  pub labels : AreLabelRows (octets old) of (at old) (at new) rows
+  pub ends : (q : ℕ) → Walked (octets old) (at old) q → WalkedBehind (octets old) (at new) size q
+
+-- a walk that passed all labels of a name
+pub record PassesAllLabels (of : NameOf) (old new : Walk) : Type 0 where
+  pub rows : List Row
+  pub adds : Adds rows (at new) old new
+  pub labels : AreLabelRows (octets old) of (at old) (at new) rows
+  pub ends : (q : ℕ) → Walked (octets old) (at old) q → IsEnd (octets old) (at new) q
+
+-- a walk that passed the root label or the pointer at which a name ends
+pub record PassesEnd (of : NameOf) (start to : ℕ) (old new : Walk) : Type 0 where
+  pub rows : List Row
+  pub adds : Adds rows to old new
+  pub shows : NameRows (octets old) of start (at old) to rows
+
+-- a walk that passed a name
+pub record PassesName (of : NameOf) (old new : Walk) : Type 0 where
+  pub rows : List Row
+  pub adds : Adds rows (at new) old new
+  pub labels : Labels
+  pub stands : Stands (octets old) (at old) labels
+  pub walked : Walked (octets old) (at old) (at new)
+  pub shows : NameRows (octets old) of (at old) (at old) (at new) rows
+
+-- a walk that passed the name at which an item begins, behind the row of the item
+pub record PassesItemName (of : NameOf) (row : Row) (old new : Walk) : Type 0 where
+  pub rows : List Row
+  pub adds : Adds (row ∷ rows) (at new) old new
+  pub labels : Labels
+  pub stands : Stands (octets old) (at old) labels
+  pub walked : Walked (octets old) (at old) (at new)
+  pub shows : NameRows (octets old) of (at old) (at old) (at new) rows
+
+-- a walk that began an item, and passed fields of it
+abbrev pub Begun : Part → ℕ → Walk → Walk → Type 0
+Begun part number old new = Goes (old.rows.items ++ item_row part number (at old) ∷ []) (at old) new.rows.items (at new)
+
+-- a walk that passed the numbers of a record: its type, and how many octets its data has
+pub record PassesNumbers (rtype len : ℕ) (old new : Walk) : Type 0 where
+  pub adds : Adds (number_rows rtype (at old)) (at old + 10) old new
+  pub within : at old + 10 ≤ length (octets old)
+  pub rtype_there : rtype ≡ number_at w16 (octets old) (at old)
+  pub len_there : len ≡ number_at w16 (octets old) (at old + 8)
+
+-- a walk that passed an item
+pub record MarksItem (part : Part) (number : ℕ) (old new : Walk) : Type 0 where
+  pub rows : List Row
+  pub adds : Adds rows (at new) old new
+  pub shows : ShowsItem (octets old) part number (at old) (at new) rows
+
+-- a walk that stopped in an item
+pub record MarksStop (part : Part) (number : ℕ) (old new : Walk) : Type 0 where
+  pub rows : List Row
+  pub adds : new.rows.items ≡ old.rows.items ++ rows
+  pub stops : StopsItem (octets old) part number (at old) (at new) rows
+
+-- a walk that passed the first n items of a part
+pub record MarksFirst (part : Part) (n : ℕ) (old new : Walk) : Type 0 where
+  pub rows : List Row
+  pub adds : Adds rows (at new) old new
+  pub first : FirstItems (octets old) part (at old) n (at new) rows
+
+-- a walk that stopped among n items of a part
+pub record MarksAmong (part : Part) (n : ℕ) (old new : Walk) : Type 0 where
+  pub rows : List Row
+  pub adds : new.rows.items ≡ old.rows.items ++ rows
+  pub stops : StopsAmong (octets old) part n (at old) (at new) rows
+
+-- a walk that passed parts, or stopped in one
+pub record MarksParts (parts : List (Part × ℕ)) (stop : Option rows.Fault) (old new : Walk) : Type 0 where
+  pub rows : List Row
+  pub adds : new.rows.items ≡ old.rows.items ++ rows
+  pub shows : ShowsParts (octets old) parts stop (at old) (at new) rows
+
+-- if a step stops for a fault, this holds of it
+abbrev pub OnFaultOf : {T : Type 0} → Result T Stop → (rows.Fault → Type 0) → Type 0
+OnFaultOf (Ok _) P = ⊤
+OnFaultOf (Err (stops.Fault fault)) P = P fault
+OnFaultOf (Err stops.Memory) P = ⊤

@@ -1,15 +1,16 @@
 //! The rows of a message.
 ghost use Rattle.std.specs.Prelude.{◌≡◌, ◌+◌, ◌<◌, ◌≤◌, ◌∷◌, [], IfOk, length, take};
 ghost use Rattle.dns_code.specs.HeaderSection.{header_size};
-ghost use Rattle.dns_code.specs.HeaderCounts.{counts as counts_of};
+ghost use Rattle.dns_code.specs.HeaderCounts.{counts};
 ghost use Rattle.dns_rows.specs.Shown.{Begins, header_rows, short_header, sum_of, ShowsMessage};
 ghost use Rattle.dns_rows.specs.Tiles.{Tiles};
-ghost use Rattle.dns_rows.specs.Walks.{items, Comes, IsMarked};
+ghost use Rattle.dns_rows.specs.Entries.{parts_of};
+ghost use Rattle.dns_rows.specs.Walks.{items, Comes, IsMarked, MarksParts};
 
 use crate::row::{Fault, Kind, Row};
 use crate::tile;
 use crate::walk::{Stop, Walk};
-use dns_message::header::HeaderCounts;
+use dns_code::HeaderCounts;
 use std::alloc::{AllocError, Global};
 
 /// How many octets a header section has.
@@ -62,13 +63,15 @@ fn message_rows(alloc: Global, octets: &[u8]) -> Result<Vec<Row>, AllocError>
 }
 
 /// Walks over the items of a message, and gives the fault that ends the walk, if one does.
-fn fault_of(walk: &mut Walk, counts: HeaderCounts) -> Result<Option<Fault>, AllocError>
+fn fault_of(walk: &mut Walk, all: HeaderCounts) -> Result<Option<Fault>, AllocError>
     requires { IsMarked walk.old }
-    ensures comes { Comes (sum_of (counts_of counts)) walk.old walk.new }
+    ensures comes { Comes (sum_of (counts all)) walk.old walk.new }
     ensures begins { IfOk result (λ stop.
-        Begins stop (items walk.new) (items walk.old + sum_of (counts_of counts))) }
+        Begins stop (items walk.new) (items walk.old + sum_of (counts all))) }
+    ensures shows { IfOk result (λ stop.
+        MarksParts (parts_of (counts all)) stop walk.old walk.new) }
 {
-    match walk.items(counts) {
+    match walk.items(all) {
         Ok(()) => Ok(None),
         Err(Stop::Fault(fault)) => Ok(Some(fault)),
         Err(Stop::Memory) => Err(AllocError),

@@ -1,6 +1,7 @@
 //! Rows put one behind the other.
 ghost use Rattle.std.specs.Prelude.{◌≡◌, ◌++◌, OnOk, IfOk};
-ghost use Rattle.dns_rows.specs.Shown.{field_row, header_rows, fault_rows, unread_rows};
+ghost use Rattle.dns_rows.specs.Fields.{field_row};
+ghost use Rattle.dns_rows.specs.Shown.{header_rows, fault_rows, unread_rows};
 
 use crate::row::{Fault, Field, Kind, Part, Row};
 use std::alloc::{AllocError, Global};

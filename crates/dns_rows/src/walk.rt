@@ -1,39 +1,29 @@
 //! A walk over a message that makes a row of each field (RFC 1035 sections 3.3 and 4.1, RFC 6891 section 6.1.2).
-ghost use Rattle.std.specs.Prelude.{◌≡◌, ◌+◌, ◌<◌, ◌≤◌, OnOk, IfSome, length};
-ghost use Rattle.dns_name.specs.Parsers.{input, place};
+ghost use Rattle.std.specs.Prelude.{◌≡◌, ◌+◌, ◌<◌, ◌≤◌, ◌∷◌, ◌++◌, ℕ, [], IsNone, OnOk, IfOk, IfSome, IfErr, IsTrue, length, slice_get, Some, None};
+ghost use Rattle.std.specs.Int.{w16};
+ghost use Rattle.dns_name.specs.Parsers.{input, place, seen, number_at};
 ghost use Rattle.dns_code.specs.HeaderCounts.{counts};
 ghost use Rattle.dns_code.specs.HeaderSection.{header_size};
-ghost use Rattle.dns_rows.specs.Shown.{items_at, sum_of, IsField, field_row};
-ghost use Rattle.dns_rows.specs.Walks.{at, items, IsMarked, Comes};
+ghost use Rattle.dns_rows.specs.Fields.{items_at, IsField, field_row};
+ghost use Rattle.dns_rows.specs.Shown.{sum_of};
+ghost use Rattle.dns_rows.specs.Entries.{class_rows, holds_records, item_row, parts_of};
+ghost use Rattle.dns_rows.specs.Walks.{at, octets, items, IsMarked, Comes, Keeps, Adds, OnFault, HasNoName, IsEnd, IsLabelAt, PassesLabels, PassesAllLabels, PassesEnd, PassesName, PassesItemName, Begun, PassesNumbers, MarksItem, MarksStop, MarksFirst, MarksAmong, MarksParts, OnFaultOf};
 
 use crate::octets::target_of;
 use crate::row::{Fault, Field, NameOf, Part, Row, ZoneNumber};
 use crate::tile;
-use dns_message::code::Rtype;
-use dns_message::header::HeaderCounts;
-use dns_message::name::ParsedName;
-use dns_message::wire::Parser;
-use std::alloc::{AllocError, Global};
+use dns_code::{HeaderCounts, Rtype};
+use dns_name::{ParsedName, Parser};
+use std::alloc::Global;
 
 /// The most octets that the labels of a name take: 255 less the root's zero octet (RFC 1035 section 2.3.4).
 const MAX_SIZE: usize = 254;
-
-/// A name of as many octets has no more labels.
-const MOST_LABELS: usize = 127;
 
 /// Why a walk ends early.
 #[derive(Clone, Copy, Debug)]
 pub(crate) enum Stop {
     Fault(Fault),
     Memory,
-}
-
-impl From<AllocError> for Stop {
-    fn from(_error: AllocError) -> Self
-        ensures { result ≡ Stop.Memory }
-    {
-        Stop::Memory
-    }
 }
 
 /// A place in a message behind its header section, and the rows of the fields before it.
@@ -49,6 +39,9 @@ impl<'a> Walk<'a> {
         requires { header_size ≤ length octets.now }
         ensures marked { IsMarked result }
         ensures items { items result ≡ 0 }
+        ensures rows { result.rows.items ≡ [] }
+        ensures place { at result ≡ header_size }
+        ensures seen { seen result.parser ≡ octets.now }
         ensures input { input result.parser ≡ octets.now }
     {
         let mut parser = Parser::new(octets);
@@ -60,16 +53,23 @@ impl<'a> Walk<'a> {
     }
 
     /// Marks a field from here up to where a parser stands, and goes on with that.
-    fn mark(&mut self, behind: Parser<'a>, field: Field) -> Result<(), AllocError>
+    fn mark(&mut self, behind: Parser<'a>, field: Field) -> Result<(), Stop>
         requires marked { IsMarked self.old }
         requires input { input behind ≡ input self.old.parser }
         requires order { at self.old ≤ place behind }
         requires is_field { IsField (field_row (at self.old) (place behind) field) }
         ensures comes { Comes (items_at field) self.old self.new }
         ensures begins { OnOk result (items self.new ≡ items self.old + items_at field) }
+        ensures keeps { items_at field ≡ 0 → Keeps self.old self.new }
+        ensures adds { OnOk result (self.new.rows.items
+            ≡ self.old.rows.items ++ field_row (at self.old) (place behind.entry) field ∷ []) }
+        ensures moves { OnOk result (self.new.parser ≡ behind.entry) }
+        ensures never { OnFault result ⊥ }
     {
         let row = tile::field(self.parser.pos(), behind.pos(), field);
-        self.rows.push(row)?;
+        let Ok(()) = self.rows.push(row) else {
+            return Err(Stop::Memory);
+        };
         self.parser = behind;
         Ok(())
     }
@@ -79,7 +79,12 @@ impl<'a> Walk<'a> {
         requires marked { IsMarked self.old }
         requires some { 0 < n }
         requires plain { items_at field ≡ 0 }
-        ensures { Comes 0 self.old self.new }
+        ensures comes { Comes 0 self.old self.new }
+        ensures keeps { Keeps self.old self.new }
+        ensures adds { OnOk result (Adds (field_row (at self.old) (at self.old + n) field ∷ [])
+            (at self.old + n) self.old self.new) }
+        ensures within { OnOk result (at self.old + n ≤ length (octets self.old)) }
+        ensures short { OnFault result (length (octets self.old) < at self.old + n) }
     {
         let mut behind = self.parser;
         if behind.advance(n).is_err() {
@@ -93,7 +98,13 @@ impl<'a> Walk<'a> {
     fn number(&mut self, field: Field) -> Result<u16, Stop>
         requires marked { IsMarked self.old }
         requires plain { items_at field ≡ 0 }
-        ensures { Comes 0 self.old self.new }
+        ensures comes { Comes 0 self.old self.new }
+        ensures keeps { Keeps self.old self.new }
+        ensures adds { OnOk result (Adds (field_row (at self.old) (at self.old + 2) field ∷ [])
+            (at self.old + 2) self.old self.new) }
+        ensures within { OnOk result (at self.old + 2 ≤ length (octets self.old)) }
+        ensures number { IfOk result (λ n. n ≡ number_at w16 (octets self.old) (at self.old)) }
+        ensures short { OnFault result (length (octets self.old) < at self.old + 2) }
     {
         let mut behind = self.parser;
         let Ok(number) = behind.parse_u16_be() else {
@@ -103,18 +114,25 @@ impl<'a> Walk<'a> {
         Ok(number)
     }
 
-    /// An item of a part begins here.
-    fn item(&mut self, part: Part, number: usize) -> Result<(), Stop>
+    /// An item of a part begins here with a name.
+    fn item(&mut self, part: Part, number: usize, name: NameOf) -> Result<(), Stop>
         requires { IsMarked self.old }
         ensures comes { Comes 1 self.old self.new }
         ensures begins { OnOk result (items self.new ≡ items self.old + 1) }
+        ensures begun { OnOk result (Begun part number self.old self.new) }
+        ensures passes { OnOk result
+            (PassesItemName name (item_row part number (at self.old)) self.old self.new) }
+        ensures stops { OnFault result (Begun part number self.old self.new) }
+        ensures fault { OnFault result (HasNoName (octets self.old) (at self.old)) }
     {
         self.mark(self.parser, Field::Item(part, number))?;
-        Ok(())
+        self.name(name)
     }
 
     /// The octet that stands here, if one does.
-    fn first(&self) -> Option<u8> {
+    fn first(&self) -> Option<u8>
+        ensures { slice_get (octets self.now) (at self.now) ≡ result }
+    {
         let octets = self.parser.peek(1).ok()?;
         Some(octets[0])
     }
@@ -122,14 +140,13 @@ impl<'a> Walk<'a> {
     /// The octets of the label that begins here, without its length octet; `None` where none begins, where it isn't all
     /// there, and where a name is too long with it, which has `size` octets before it.
     fn label_len(&self, size: usize) -> Option<usize>
-        ensures { IfSome result (λ len. len ≤ 63) }
+        requires { size ≤ MAX_SIZE }
+        ensures some { IfSome result (λ len. IsLabelAt (octets self.now) (at self.now) size len) }
+        ensures none { IsNone result → (len : ℕ)
+            → IsLabelAt (octets self.now) (at self.now) size len → ⊥ }
     {
         let len = usize::from(self.first()?);
-        if len == 0
-            || len > 63
-            || len >= self.parser.remaining()
-            || size.saturating_add(len) >= MAX_SIZE
-        {
+        if len == 0 || len > 63 || len >= self.parser.remaining() || size + len >= MAX_SIZE {
             return None;
         }
         Some(len)
@@ -138,15 +155,15 @@ impl<'a> Walk<'a> {
     /// The labels that begin here, up to what is no label of a name.
     fn labels(&mut self, name: NameOf) -> Result<(), Stop>
         requires { IsMarked self.old }
-        ensures { Comes 0 self.old self.new }
+        ensures comes { Comes 0 self.old self.new }
+        ensures keeps { Keeps self.old self.new }
+        ensures passes { OnOk result (PassesAllLabels name self.old self.new) }
+        ensures never { OnFault result ⊥ }
     {
         let mut size = 0;
-        for _ in 0..MOST_LABELS {
-            let Some(len) = self.label_len(size) else {
-                break;
-            };
+        'labels: while let Some(len) = self.label_len(size) {
             self.octets(len + 1, Field::Label(name))?;
-            size = size.saturating_add(len).saturating_add(1);
+            size += len + 1;
         }
         Ok(())
     }
@@ -154,26 +171,35 @@ impl<'a> Walk<'a> {
     /// A name: its labels, and the root label or the pointer that ends it.
     fn name(&mut self, name: NameOf) -> Result<(), Stop>
         requires { IsMarked self.old }
-        ensures { Comes 0 self.old self.new }
+        ensures comes { Comes 0 self.old self.new }
+        ensures keeps { Keeps self.old self.new }
+        ensures passes { OnOk result (PassesName name self.old self.new) }
+        ensures fault { OnFault result (HasNoName (octets self.old) (at self.old)) }
     {
         let start = self.parser.pos();
-        let is_readable = self.has_name(start);
+        let mut behind = self.parser;
+        let parsed = ParsedName::parse(&mut behind);
         self.labels(name)?;
-        if is_readable {
-            self.end_name(name, start)
-        } else {
-            Err(Stop::Fault(self.name_fault(name, start)))
+        if parsed.is_err() {
+            return Err(Stop::Fault(self.name_fault(name, start)));
         }
+        self.end_name(behind, name, start)
     }
 
     /// The root label or the pointer that ends a name here; the name begins at `start`.
-    fn end_name(&mut self, name: NameOf, start: usize) -> Result<(), Stop>
-        requires { IsMarked self.old }
-        ensures { Comes 0 self.old self.new }
+    fn end_name(&mut self, behind: Parser<'a>, name: NameOf, start: usize) -> Result<(), Stop>
+        requires marked { IsMarked self.old }
+        requires input { input behind ≡ input self.old.parser }
+        requires seen { seen behind ≡ octets self.old }
+        requires ends { IsEnd (octets self.old) (at self.old) (place behind) }
+        ensures comes { Comes 0 self.old self.new }
+        ensures keeps { Keeps self.old self.new }
+        ensures passes { OnOk result (PassesEnd name start (place behind.entry) self.old self.new) }
+        ensures never { OnFault result ⊥ }
     {
         match self.first() {
-            Some(0) => self.octets(1, Field::Root(name, start)),
-            _ => self.octets(2, Field::Pointer(name, start)),
+            Some(0) => self.mark(behind, Field::Root(name, start)),
+            _ => self.mark(behind, Field::Pointer(name, start)),
         }
     }
 
@@ -217,11 +243,15 @@ impl<'a> Walk<'a> {
         requires { IsMarked self.old }
         ensures comes { Comes (sum_of (counts all)) self.old self.new }
         ensures begins { OnOk result (items self.new ≡ items self.old + sum_of (counts all)) }
+        ensures shows { OnOk result (MarksParts (parts_of (counts all)) None self.old self.new) }
+        ensures stops { OnFaultOf result
+            (λ fault. MarksParts (parts_of (counts all)) (Some fault) self.old self.new) }
     {
         self.questions(all.qdcount())?;
         self.records(Part::Answer, all.ancount())?;
         self.records(Part::Authority, all.nscount())?;
-        self.records(Part::Additional, all.arcount())
+        self.records(Part::Additional, all.arcount())?;
+        Ok(())
     }
 
     /// The questions, as many as the header says.
@@ -229,6 +259,8 @@ impl<'a> Walk<'a> {
         requires { IsMarked self.old }
         ensures comes { Comes count self.old self.new }
         ensures begins { OnOk result (items self.new ≡ items self.old + count) }
+        ensures shows { OnOk result (MarksFirst Part.Question count self.old self.new) }
+        ensures stops { OnFault result (MarksAmong Part.Question count self.old self.new) }
     {
         for index in 0..usize::from(count) {
             self.question(index + 1)?;
@@ -240,9 +272,10 @@ impl<'a> Walk<'a> {
         requires { IsMarked self.old }
         ensures comes { Comes 1 self.old self.new }
         ensures begins { OnOk result (items self.new ≡ items self.old + 1) }
+        ensures shows { OnOk result (MarksItem Part.Question number self.old self.new) }
+        ensures stops { OnFault result (MarksStop Part.Question number self.old self.new) }
     {
-        self.item(Part::Question, number)?;
-        self.name(NameOf::Question)?;
+        self.item(Part::Question, number, NameOf::Question)?;
         self.number(Field::Type)?;
         self.number(Field::Class)?;
         Ok(())
@@ -250,9 +283,12 @@ impl<'a> Walk<'a> {
 
     /// The records of a part, as many as the header says.
     fn records(&mut self, part: Part, count: u16) -> Result<(), Stop>
-        requires { IsMarked self.old }
+        requires marked { IsMarked self.old }
+        requires part { IsTrue (holds_records part) }
         ensures comes { Comes count self.old self.new }
         ensures begins { OnOk result (items self.new ≡ items self.old + count) }
+        ensures shows { OnOk result (MarksFirst part count self.old self.new) }
+        ensures stops { OnFault result (MarksAmong part count self.old self.new) }
     {
         for index in 0..usize::from(count) {
             self.record(part, index + 1)?;
@@ -261,22 +297,43 @@ impl<'a> Walk<'a> {
     }
 
     fn record(&mut self, part: Part, number: usize) -> Result<(), Stop>
-        requires { IsMarked self.old }
+        requires marked { IsMarked self.old }
+        requires part { IsTrue (holds_records part) }
         ensures comes { Comes 1 self.old self.new }
         ensures begins { OnOk result (items self.new ≡ items self.old + 1) }
+        ensures shows { OnOk result (MarksItem part number self.old self.new) }
+        ensures stops { OnFault result (MarksStop part number self.old self.new) }
     {
-        self.item(part, number)?;
-        self.name(NameOf::Owner)?;
+        self.item(part, number, NameOf::Owner)?;
         let (rtype, len) = self.record_fields()?;
-        self.within(rtype, usize::from(len))
+        self.within(rtype, usize::from(len))?;
+        Ok(())
     }
 
     /// The ten octets behind the owner of a record; gives its type and the length of its data.
     fn record_fields(&mut self) -> Result<(Rtype, u16), Stop>
         requires { IsMarked self.old }
-        ensures { Comes 0 self.old self.new }
+        ensures comes { Comes 0 self.old self.new }
+        ensures keeps { Keeps self.old self.new }
+        ensures passes { IfOk result
+            (λ numbers. PassesNumbers numbers.0 numbers.1 self.old self.new) }
+        ensures short { OnFault result (length (octets self.old) < at self.old + 10) }
     {
         let rtype = Rtype::from_int(self.number(Field::Type)?);
+        self.class_and_ttl(rtype)?;
+        let len = self.number(Field::DataLength)?;
+        Ok((rtype, len))
+    }
+
+    /// What stands between the type of a record and the length of its data.
+    fn class_and_ttl(&mut self, rtype: Rtype) -> Result<(), Stop>
+        requires { IsMarked self.old }
+        ensures comes { Comes 0 self.old self.new }
+        ensures keeps { Keeps self.old self.new }
+        ensures adds { OnOk result (Adds (class_rows rtype (at self.old))
+            (at self.old + 6) self.old self.new) }
+        ensures short { OnFault result (length (octets self.old) < at self.old + 6) }
+    {
         if rtype == Rtype::OPT {
             self.number(Field::PayloadSize)?;
             self.octets(1, Field::ExtendedRcode)?;
@@ -286,14 +343,17 @@ impl<'a> Walk<'a> {
             self.number(Field::Class)?;
             self.octets(4, Field::Ttl)?;
         }
-        let len = self.number(Field::DataLength)?;
-        Ok((rtype, len))
+        Ok(())
     }
 
     /// The data of a record, which has `len` octets.
     fn within(&mut self, rtype: Rtype, len: usize) -> Result<(), Stop>
         requires { IsMarked self.old }
-        ensures { Comes 0 self.old self.new }
+        ensures comes { Comes 0 self.old self.new }
+        ensures keeps { Keeps self.old self.new }
+        ensures there { OnOk result (at self.old + len ≤ length (octets self.old)) }
+        ensures seen { OnOk result (octets self.new ≡ octets self.old) }
+        ensures place { OnOk result (at self.new ≡ at self.old + len) }
     {
         let mut behind = self.parser;
         let Ok(inner) = behind.parse_parser(len) else {
@@ -311,7 +371,8 @@ impl<'a> Walk<'a> {
     /// The data of a record, up to the end of the parser.
     fn data(&mut self, rtype: Rtype) -> Result<(), Stop>
         requires { IsMarked self.old }
-        ensures { Comes 0 self.old self.new }
+        ensures comes { Comes 0 self.old self.new }
+        ensures keeps { Keeps self.old self.new }
     {
         match rtype {
             Rtype::A => self.octets(4, Field::Address),
@@ -330,7 +391,8 @@ impl<'a> Walk<'a> {
     /// Data that is one field: the octets that are left, if there are any.
     fn rest(&mut self) -> Result<(), Stop>
         requires { IsMarked self.old }
-        ensures { Comes 0 self.old self.new }
+        ensures comes { Comes 0 self.old self.new }
+        ensures keeps { Keeps self.old self.new }
     {
         match self.parser.remaining() {
             0 => Ok(()),
@@ -341,7 +403,8 @@ impl<'a> Walk<'a> {
     /// The data of MX (RFC 1035 section 3.3.9).
     fn exchange(&mut self) -> Result<(), Stop>
         requires { IsMarked self.old }
-        ensures { Comes 0 self.old self.new }
+        ensures comes { Comes 0 self.old self.new }
+        ensures keeps { Keeps self.old self.new }
     {
         self.number(Field::Preference)?;
         self.name(NameOf::Exchange)
@@ -350,7 +413,8 @@ impl<'a> Walk<'a> {
     /// The data of SOA (RFC 1035 section 3.3.13).
     fn zone(&mut self) -> Result<(), Stop>
         requires { IsMarked self.old }
-        ensures { Comes 0 self.old self.new }
+        ensures comes { Comes 0 self.old self.new }
+        ensures keeps { Keeps self.old self.new }
     {
         self.name(NameOf::Primary)?;
         self.name(NameOf::Mailbox)?;
@@ -364,7 +428,8 @@ impl<'a> Walk<'a> {
     /// The data of TXT (RFC 1035 section 3.3.14).
     fn texts(&mut self) -> Result<(), Stop>
         requires { IsMarked self.old }
-        ensures { Comes 0 self.old self.new }
+        ensures comes { Comes 0 self.old self.new }
+        ensures keeps { Keeps self.old self.new }
     {
         for _ in 0..self.parser.remaining() {
             let Some(len) = self.first() else {
@@ -378,7 +443,8 @@ impl<'a> Walk<'a> {
     /// The options of OPT (RFC 6891 section 6.1.2).
     fn options(&mut self) -> Result<(), Stop>
         requires { IsMarked self.old }
-        ensures { Comes 0 self.old self.new }
+        ensures comes { Comes 0 self.old self.new }
+        ensures keeps { Keeps self.old self.new }
     {
         for _ in 0..self.parser.remaining() {
             if self.parser.remaining() == 0 {
@@ -391,7 +457,8 @@ impl<'a> Walk<'a> {
 
     fn option(&mut self) -> Result<(), Stop>
         requires { IsMarked self.old }
-        ensures { Comes 0 self.old self.new }
+        ensures comes { Comes 0 self.old self.new }
+        ensures keeps { Keeps self.old self.new }
     {
         let code = self.number(Field::OptionCode)?;
         match self.number(Field::OptionLength(code))? {

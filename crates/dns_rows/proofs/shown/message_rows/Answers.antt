@@ -1,8 +1,10 @@
 use Rattle.std.proofs.Common.{◌≡◌, ℕ, ◌+◌, length, ◌∙◌, ap, subst, arith}
 use Rattle.dns_name.specs.Parsers.{place}
 use Rattle.dns_code.specs.HeaderCounts.{counts, counts_in}
-use Rattle.dns_rows.specs.Shown.{counted_items, item_count, sum_of, Begins}
+use Rattle.dns_rows.specs.Fields.{item_count}
+use Rattle.dns_rows.specs.Shown.{counted_items, counts_of, sum_of, Begins}
 use Rattle.dns_rows.specs.Walks.{items}
+use Rattle.dns_rows.proofs.Items.{shows_octets}
 use Rattle.dns_rows.proofs.Tilings.{made_of, tiles_shown}
 use Rattle.dns_rows.proofs.shown.message_rows.Goals as goal
 
@@ -26,6 +28,8 @@ returns-clause-shows c =
       fields = c.fault_of.ensures.comes.marked;
       within = omega (arith, walk.parser.before_end, walk.parser.within);
       items = subst P all c.in_ok-stop.ensures.begins;
+      parts = shows_octets b (counts_of b) (counts c.for_message_slice.result) stop c.new-walk.result walk c.in_ok-stop.ensures.shows c.new-walk.ensures.seen c.new-walk.ensures.place
+          c.new-walk.ensures.rows (ap (λ octets. counts_in octets) c.for_message_slice.ensures);
     }
 
 pub returns-clause-tiles : goal.returns-clause-tiles

@@ -1,5 +1,14 @@
-use Rattle.dns_rows.specs.Walks.{Comes}
+use Rattle.std.proofs.Common.{◌≤◌, ◌-◌, length}
+use Rattle.dns_rows.specs.Walks.{at, octets, Comes, Keeps, PassesLabels}
 use Rattle.dns_rows.proofs.walk.Walk.labels.Given as goal
 
-abbrev pub invariant-loop : goal.invariant-loop
-invariant-loop l = Comes 0 l.fn.self l.self
+abbrev pub invariant-labels : goal.invariant-labels
+invariant-labels l = record {
+  comes : Comes 0 l.fn.self l.self;
+  keeps : Keeps l.fn.self l.self;
+  passes : PassesLabels l.fn.name l.size l.fn.self l.self;
+  short : l.size ≤ 254;
+}
+
+abbrev pub decreases-labels : goal.decreases-labels
+decreases-labels l = length (octets l.self) - at l.self

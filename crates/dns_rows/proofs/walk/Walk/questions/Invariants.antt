@@ -1,6 +1,11 @@
 use Rattle.std.proofs.Common.{◌≡◌, ◌+◌}
-use Rattle.dns_rows.specs.Walks.{items, Comes}
+use Rattle.dns_rows.specs.Walks.{items, Comes, MarksFirst}
+use Rattle.dns_rows.specs.declared.row.Part.TheVariants.{Question}
 use Rattle.dns_rows.proofs.walk.Walk.questions.Given as goal
 
 abbrev pub invariant-loop-index : goal.invariant-loop-index
-invariant-loop-index l = Comes l.index l.fn.self l.self × (items l.self ≡ items l.fn.self + l.index)
+invariant-loop-index l = record {
+  comes : Comes l.index l.fn.self l.self;
+  begun : items l.self ≡ items l.fn.self + l.index;
+  first : MarksFirst Question l.index l.fn.self l.self;
+}

@@ -1,5 +1,5 @@
-use Rattle.dns_rows.specs.Walks.{Comes}
+use Rattle.dns_rows.specs.Walks.{Comes, Keeps}
 use Rattle.dns_rows.proofs.walk.Walk.texts.Given as goal
 
 abbrev pub invariant-loop : goal.invariant-loop
-invariant-loop l = Comes 0 l.fn.self l.self
+invariant-loop l = record { comes : Comes 0 l.fn.self l.self; keeps : Keeps l.fn.self l.self }

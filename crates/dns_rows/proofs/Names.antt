@@ -1,0 +1,171 @@
+-- The rows of names.
+use Rattle.std.proofs.Common.{◌≡◌, ℕ, ◌+◌, ◌<◌, ◌≤◌, OnOk, Result, Err, ◌⊎◌, inl, inr, List, [], ◌∷◌, ◌++◌, length, slice_get, Option, Some, None, Ok, ◌∙◌, ap, subst, sym, refl, arith, append_assoc}
+use Rattle.dns_name.specs.Names.{head_at, max_size, Stands, Walked, WalkedBehind}
+use Rattle.dns_name.specs.Names.WalkedBehind.{root as root_walked, pointer as pointer_walked, label as label_walked}
+use Rattle.dns_name.specs.declared.head.Head.TheVariants.{Label}
+use Rattle.dns_name.specs.Unique.{label_of}
+use Rattle.dns_name.proofs.theory.HeadLemmas.{label_there, root_there, root_begins}
+use Rattle.dns_rows.specs.Entries.{NameRows}
+use Rattle.dns_rows.specs.Entries.NameRows.{root as root_rows, pointer as pointer_rows, label as label_rows}
+use Rattle.dns_rows.specs.Fields.{field_row}
+use Rattle.dns_rows.specs.Walks.{at, octets, Adds, IsEnd, IsLabelAt, PassesLabels, PassesAllLabels, PassesEnd, PassesName, PassesItemName}
+use Rattle.dns_rows.specs.Walks.IsEnd.{root as root_end, pointer as pointer_end}
+use Rattle.dns_rows.specs.declared.row.Field.{Field}
+use Rattle.dns_rows.specs.declared.row.Field.TheVariants as fields
+use Rattle.dns_rows.specs.declared.row.NameOf.{NameOf}
+use Rattle.dns_rows.specs.declared.row.Row.{Row}
+use Rattle.dns_rows.specs.declared.walk.Stop.{Stop}
+use Rattle.dns_rows.specs.declared.walk.Walk.{Walk}
+use Rattle.dns_name.specs.Parsers.{place, seen}
+use Rattle.dns_name.specs.declared.parser.Parser.{Parser}
+
+-- rows that a walk adds, and then others
+pub adds_then : (x y : List Row) (m n : ℕ) (a b c : Walk) → Adds x m a b → Adds y n b c → Adds (x ++ y) n a c
+adds_then x y m n a b c h k = record {
+  rows = k.rows ∙ ap (λ rows. rows ++ y) h.rows ∙ append_assoc a.rows.items x y;
+  seen = k.seen ∙ h.seen;
+  place = k.place;
+}
+
+-- a label has 1 to 63 octets
+label_long : (b : List ℕ) (p n : ℕ) → head_at b p ≡ Ok (Label n) → (0 < n) × (n < 64)
+unfolding head_at
+label_long b p n h = let l = label_of (slice_get b p) (slice_get b (p + 1)) n h in (l.1, l.2)
+
+-- an octet that begins no label, or one that is too long, or that isn't all there
+pub no_label : (b : List ℕ) (p size m : ℕ) → slice_get b p ≡ Some m → ((m ≡ 0) ⊎ (63 < m)) ⊎ ((length b ≤ p + m) ⊎ (max_size ≤ size + m))
+    → (n : ℕ) → IsLabelAt b p size n → ⊥
+no_label b p size m h wrong n label =
+    let same : m ≡ n = cc (h, label_there b p n label.begins) in
+    let long = label_long b p n label.begins in
+    elim wrong [
+      | inl w ↦ elim w [ inl e ↦ absurd (omega (arith, long.0)) | inr e ↦ absurd (omega (arith, long.1)) ]
+      | inr w ↦ elim w [ inl e ↦ absurd (omega (arith, label.fits)) | inr e ↦ absurd (omega (arith, label.short)) ]
+    ]
+
+-- behind a label that begins at p
+label_behind : (b : List ℕ) (p s n q : ℕ) → head_at b p ≡ Ok (Label n) → WalkedBehind b p s q → WalkedBehind b (p + 1 + n) (s + n + 1) q
+label_behind b p s n q h (root_walked k) = cc
+label_behind b p s n q h (pointer_walked k) = cc
+label_behind b p s n q h (label_walked {n = m} k short fits w) =
+    let same : m ≡ n = cc in
+    subst (λ n. WalkedBehind b (p + 1 + n) (s + n + 1) q) same w
+
+-- where no label begins, the name ends
+end_here : (b : List ℕ) (p s q : ℕ) → ((n : ℕ) → IsLabelAt b p s n → ⊥) → WalkedBehind b p s q → IsEnd b p q
+end_here b p s q none (root_walked k) = root_end k
+end_here b p s q none (pointer_walked k) = pointer_end k
+end_here b p s q none (label_walked {n = n} k short fits w) = absurd (none n (record { begins = k; short = short; fits = fits }))
+
+-- a walk that passed labels passes one more
+pub one_more_label : (of : NameOf) (size n : ℕ) (old mid new : Walk) → PassesLabels of size old mid → IsLabelAt (octets mid) (at mid) size n
+    → Adds (field_row (at mid) (at mid + (n + 1)) (fields.Label of) ∷ []) (at mid + (n + 1)) mid new → PassesLabels of (size + (n + 1)) old new
+one_more_label of size n old mid new h label k =
+    let b = octets old in
+    let row = field_row (at mid) (at mid + (n + 1)) (fields.Label of) in
+    let begins : head_at b (at mid) ≡ Ok (Label n) = subst (λ b. head_at b (at mid) ≡ Ok (Label n)) h.adds.seen label.begins in
+    let to : at new ≡ at mid + 1 + n = k.place ∙ omega arith in
+    let all = adds_then h.rows (row ∷ []) (at mid) (at mid + (n + 1)) old mid new h.adds k in
+    record {
+      rows = h.rows ++ row ∷ [];
+      adds = record { rows = all.rows; seen = all.seen; place = refl };
+      labels = λ start end behind r.
+          let there : NameRows b of start (at mid + 1 + n) end behind = subst (λ p. NameRows b of start p end behind) to r in
+          let whole = h.labels start end (field_row (at mid) (at mid + 1 + n) (fields.Label of) ∷ behind) (label_rows begins there) in
+          let same : at mid + 1 + n ≡ at mid + (n + 1) = omega arith in
+          let P : List Row → Type 0 = λ rows. NameRows b of start (at old) end rows in
+          subst P (ap (λ e. h.rows ++ field_row (at mid) e (fields.Label of) ∷ behind) same ∙ sym (append_assoc h.rows (row ∷ []) behind)) whole;
+      ends = λ q w.
+          let there = label_behind b (at mid) size n q begins (h.ends q w) in
+          let grown : size + n + 1 ≡ size + (n + 1) = omega arith in
+          subst (λ s. WalkedBehind b (at new) s q) grown (subst (λ p. WalkedBehind b p (size + n + 1) q) (sym to) there);
+    }
+
+-- a walk that passed labels passed them all where none begins
+pub all_labels : (of : NameOf) (size : ℕ) (old new : Walk) → PassesLabels of size old new → ((n : ℕ) → IsLabelAt (octets new) (at new) size n → ⊥) → PassesAllLabels of old new
+all_labels of size old new h none =
+    let none_there : (n : ℕ) → IsLabelAt (octets old) (at new) size n → ⊥ = subst (λ (b : List ℕ). (n : ℕ) → IsLabelAt b (at new) size n → ⊥) h.adds.seen none in
+    record { rows = h.rows; adds = h.adds; labels = h.labels; ends = λ q w. end_here (octets old) (at new) size q none_there (h.ends q w) }
+
+-- a name ends where a zero octet stands, and else with a pointer
+pub root_row : (b : List ℕ) (of : NameOf) (start p q : ℕ) → slice_get b p ≡ Some 0 → IsEnd b p q → NameRows b of start p q (field_row p q (fields.Root of start) ∷ [])
+root_row b of start p q h (root_end k) = root_rows k
+root_row b of start p q h (pointer_end {t = t} k) = let r = root_begins b p h in absurd (cc (r, k))
+
+pub pointer_row : (b : List ℕ) (of : NameOf) (start p q : ℕ) → (slice_get b p ≡ Some 0 → ⊥) → IsEnd b p q → NameRows b of start p q (field_row p q (fields.Pointer of start) ∷ [])
+pointer_row b of start p q h (root_end k) = absurd (h (root_there b p k))
+pointer_row b of start p q h (pointer_end k) = pointer_rows k
+
+pub end_behind : (b : List ℕ) (p q : ℕ) → IsEnd b p q → p < q
+end_behind b p q (root_end k) = omega arith
+end_behind b p q (pointer_end k) = omega arith
+
+-- the labels of a name, and what ends it
+pub whole_name : (of : NameOf) (old mid new : Walk) (labels : List (List ℕ)) (q : ℕ) → PassesAllLabels of old mid → PassesEnd of (at old) q mid new
+    → Stands (octets old) (at old) labels → Walked (octets old) (at old) q → PassesName of old new
+whole_name of old mid new labels q h k stands walked =
+    let b = octets old in
+    let all = adds_then h.rows k.rows (at mid) q old mid new h.adds k.adds in
+    let there : NameRows b of (at old) (at mid) q k.rows = subst (λ b. NameRows b of (at old) (at mid) q k.rows) h.adds.seen k.shows in
+    record {
+      rows = h.rows ++ k.rows;
+      adds = record { rows = all.rows; seen = all.seen; place = refl };
+      labels = labels;
+      stands = stands;
+      walked = subst (λ q. Walked b (at old) q) (sym k.adds.place) walked;
+      shows = subst (λ q. NameRows b of (at old) (at old) q (h.rows ++ k.rows)) (sym k.adds.place) (h.labels (at old) q k.rows there);
+    }
+
+-- the same where the end is passed, or not for want of memory
+pub whole_name_or_not : (of : NameOf) (old mid new : Walk) (labels : List (List ℕ)) (q : ℕ) (r : Result Unit Stop) → PassesAllLabels of old mid
+    → OnOk r (PassesEnd of (at old) q mid new) → Stands (octets old) (at old) labels → Walked (octets old) (at old) q → OnOk r (PassesName of old new)
+whole_name_or_not of old mid new labels q (Ok v) h k stands walked = whole_name of old mid new labels q h k stands walked
+whole_name_or_not of old mid new labels q (Err e) h k stands walked = tt
+
+-- a row for the end of a name, or none for want of memory
+pub end_passed : (of : NameOf) (start : ℕ) (row : Row) (old new : Walk) (behind : Parser) (r : Result Unit Stop) → seen behind ≡ octets old
+    → OnOk r (new.rows.items ≡ old.rows.items ++ row ∷ []) → OnOk r (new.parser ≡ behind)
+    → NameRows (octets old) of start (at old) (place behind) (row ∷ []) → OnOk r (PassesEnd of start (place behind) old new)
+end_passed of start row old new behind (Ok v) e h k shows = record {
+  rows = row ∷ [];
+  adds = record { rows = h; seen = ap (λ p. seen p) k ∙ e; place = ap (λ p. place p) k };
+  shows = shows;
+}
+end_passed of start row old new behind (Err stop) e h k shows = tt
+
+-- a row at the place that a walk has come to
+pub adds_row : (x : List Row) (old mid new : Walk) (p n e : ℕ) (field : Field) → Adds x p old mid
+    → Adds (field_row (at mid) (at mid + n) field ∷ []) (at mid + n) mid new → e ≡ p + n → Adds (x ++ field_row p e field ∷ []) e old new
+adds_row x old mid new p n e field h k same =
+    let P : ℕ → Type 0 = λ m. Adds (field_row m (m + n) field ∷ []) (m + n) mid new in
+    let there = subst P h.place k in
+    let Q : ℕ → Type 0 = λ e. Adds (x ++ field_row p e field ∷ []) e old new in
+    subst Q (sym same) (adds_then x (field_row p (p + n) field ∷ []) p (p + n) old mid new h there)
+
+-- the name of an item, behind the item's row
+pub item_name : (of : NameOf) (row : Row) (old mid new : Walk) → Adds (row ∷ []) (at old) old mid → PassesName of mid new → PassesItemName of row old new
+item_name of row old mid new h k =
+    let Seen : List ℕ → Type 0 = λ b. Stands b (at mid) k.labels × Walked b (at mid) (at new) × NameRows b of (at mid) (at mid) (at new) k.rows in
+    let seen_there = subst Seen h.seen (k.stands, k.walked, k.shows) in
+    let Placed : ℕ → Type 0 = λ p. Stands (octets old) p k.labels × Walked (octets old) p (at new) × NameRows (octets old) of p p (at new) k.rows in
+    let there = subst Placed h.place seen_there in
+    record {
+      rows = k.rows;
+      adds = adds_then (row ∷ []) k.rows (at old) (at new) old mid new h k.adds;
+      labels = k.labels;
+      stands = there.0;
+      walked = there.1;
+      shows = there.2;
+    }
+
+-- the same where the name is passed, or not
+pub item_name_or_not : (of : NameOf) (row : Row) (old mid new : Walk) (r : Result Unit Stop) → Adds (row ∷ []) (at old) old mid → OnOk r (PassesName of mid new)
+    → OnOk r (PassesItemName of row old new)
+item_name_or_not of row old mid new (Ok v) h k = item_name of row old mid new h k
+item_name_or_not of row old mid new (Err e) h k = tt
+
+pub some_same : (m n : ℕ) → Some m ≡ Some n → m ≡ n
+some_same m n e = cc
+
+pub not_none : (n : ℕ) → let none : Option ℕ = None in none ≡ Some n → ⊥
+not_none n e = cc

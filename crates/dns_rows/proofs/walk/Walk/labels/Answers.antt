@@ -1,0 +1,14 @@
+use Rattle.std.proofs.Common.{arith, rules}
+use Rattle.dns_rows.proofs.Names.{all_labels, one_more_label}
+use Rattle.dns_rows.proofs.walk.Walk.labels.Goals as goal
+
+pub labels-preserved : goal.labels-preserved
+labels-preserved c = record {
+  comes = search rules;
+  keeps = λ front from g. c.octets.ensures.keeps front from (c.labels.invariant.keeps front from g);
+  passes = one_more_label c.args.name c.labels.size c.in-Some.len c.args.self.now c.labels.self c.octets.new.self c.labels.invariant.passes c.in-Some.ensures.some c.in_ok-octets.ensures.adds;
+  short = omega (arith, c.in-Some.ensures.some.short);
+}
+
+pub returns-clause-passes : goal.returns-clause-passes
+returns-clause-passes c = all_labels c.args.name c.labels.size c.args.self.now c.labels.self c.labels.invariant.passes (c.in_default.ensures.none (search rules))

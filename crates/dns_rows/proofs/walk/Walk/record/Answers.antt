@@ -1,0 +1,48 @@
+use Rattle.std.proofs.Common.{ℕ, ◌+◌, ◌<◌, ◌++◌, ◌∷◌, [], ap, length, rules, subst, ◌≤◌, ◌∙◌}
+use Rattle.std.specs.Prelude.{⊤}
+use Rattle.dns_rows.specs.Entries.{item_row}
+use Rattle.dns_rows.specs.Walks.{at, octets, Begun, HasNoName, MarksStop}
+use Rattle.dns_rows.proofs.Items.{data_stops, marks_record, marks_stop, nothing_yet, record_short, record_stops, record_unnamed}
+use Rattle.dns_rows.proofs.Stops.{always, on_fault, on_fault_2}
+use Rattle.dns_rows.proofs.walk.Walk.record.Goals as goal
+
+pub returns-in_err-item-clause-stops : goal.returns-in_err-item-clause-stops
+returns-in_err-item-clause-stops c =
+    let old = c.args.self.now in
+    let new = c.item.new.self in
+    on_fault_2 c.from_residual.result (Begun c.args.part c.args.number old new) (HasNoName (octets old) (at old)) (MarksStop c.args.part c.args.number old new)
+    (λ g h. marks_stop c.args.part c.args.number old new g (record_stops (octets old) c.args.part (at old) (at new) c.requires.part (record_unnamed (octets old) (at old) (at new) h)))
+    (search rules) (search rules)
+
+pub returns-in_err-rtype-clause-stops : goal.returns-in_err-rtype-clause-stops
+returns-in_err-rtype-clause-stops c =
+    let old = c.args.self.now in
+    let mid = c.item.new.self in
+    let new = c.record_fields.new.self in
+    let row = item_row c.args.part c.args.number (at old) in
+    let begun : Begun c.args.part c.args.number old new = c.record_fields.ensures.keeps (old.rows.items ++ row ∷ []) (at old) c.in_ok-item.ensures.begun in
+    on_fault c.from_residual-in_err-rtype.result (length (octets mid) < at mid + 10) (MarksStop c.args.part c.args.number old new)
+    (λ h. marks_stop c.args.part c.args.number old new begun
+    (record_stops (octets old) c.args.part (at old) (at new) c.requires.part (record_short row old mid (at new) c.in_ok-item.ensures.passes h))) (search rules)
+
+pub returns-in_err-within-clause-stops : goal.returns-in_err-within-clause-stops
+returns-in_err-within-clause-stops c =
+    let old = c.args.self.now in
+    let a = c.item.new.self in
+    let b = c.record_fields.new.self in
+    let new = c.within.new.self in
+    let row = item_row c.args.part c.args.number (at old) in
+    let front = old.rows.items ++ row ∷ [] in
+    let begun : Begun c.args.part c.args.number old new = c.within.ensures.keeps front (at old) (c.record_fields.ensures.keeps front (at old) c.in_ok-item.ensures.begun) in
+    let goes = c.within.ensures.keeps b.rows.items (at b) (nothing_yet b) in
+    let stops = record_stops (octets old) c.args.part (at old) (at new) c.requires.part
+    (data_stops row c.in_ok-rtype.rtype c.in_ok-rtype.len old a b goes.others (at new) c.in_ok-item.ensures.passes c.in_ok-rtype.ensures.passes goes.plain) in
+    on_fault c.from_residual-in_err-within.result ⊤ (MarksStop c.args.part c.args.number old new) (λ _. marks_stop c.args.part c.args.number old new begun stops) (always c.from_residual-in_err-within.result)
+
+pub returns-clause-shows : goal.returns-clause-shows
+returns-clause-shows c =
+    let b = c.record_fields.new.self in
+    let P : ℕ → Type 0 = λ len. at b + len ≤ length (octets b) in
+    marks_record c.args.part c.args.number c.in_ok-rtype.rtype c.in_ok-rtype.len c.args.self.now c.item.new.self b c.within.new.self c.requires.part
+    c.in_ok-item.ensures.passes c.in_ok-rtype.ensures.passes (c.within.ensures.keeps b.rows.items (at b) (nothing_yet b)) c.in_ok-within.ensures.seen
+    (c.in_ok-within.ensures.place ∙ ap (λ n. at b + n) c.from.ensures) (subst P c.from.ensures c.in_ok-within.ensures.there)

@@ -1,0 +1,39 @@
+-- Rows of fields: their octets, and how many items begin at them.
+use Rattle.std.specs.Prelude.{◌≡◌, ℕ, ◌<◌, List, All}
+use Rattle.std.specs.List.{sum_by}
+use Rattle.dns_rows.specs.declared.row.Row.{Row}
+use Rattle.dns_rows.specs.declared.row.Kind.{Kind}
+use Rattle.dns_rows.specs.declared.row.Kind.TheVariants as kinds
+use Rattle.dns_rows.specs.declared.row.Field.{Field}
+use Rattle.dns_rows.specs.declared.row.Field.TheVariants as fields
+use Rattle.dns_rows.specs.Tiles.{Tiles}
+
+-- the row of a field
+abbrev pub field_row : ℕ → ℕ → Field → Row
+field_row start end field = record { start = start; end = end; kind = kinds.Field field }
+
+-- one where an item begins, and none at any other field
+abbrev pub items_at : Field → ℕ
+items_at (fields.Item _ _) = 1
+items_at _ = 0
+
+-- a row of a field: where an item begins it has no octets, and else it has some
+pub record IsField (row : Row) : Type 0 where
+  pub field : Field
+  pub kind : row.kind ≡ kinds.Field field
+  pub some : items_at field ≡ 0 → row.start < row.end
+  pub none : items_at field ≡ 1 → row.start ≡ row.end
+
+-- the same of a kind
+abbrev pub items_of : Kind → ℕ
+items_of (kinds.Field field) = items_at field
+items_of _ = 0
+
+-- how many items begin at rows
+abbrev pub item_count : List Row → ℕ
+item_count rows = sum_by (λ row. items_of row.kind) rows
+
+-- rows of fields that cover the octets from a place to another
+pub record AreFields (rows : List Row) (from to : ℕ) : Type 0 where
+  pub tiles : Tiles rows from to
+  pub fields : All IsField rows
