@@ -19,64 +19,17 @@ use Rattle.dns_section.specs.QuestionsFrom.{questions_from}
 use Rattle.dns_section.specs.Sections.{question_count}
 use Rattle.dns_section.proofs.theory.QuestionsFromLemmas.{questions_from_are_read}
 use Rattle.dns_section.proofs.theory.ReadingLemmas.{readings_of_questions_end}
-use Rattle.dns_build.specs.Answers.{PushesAll, StartsAnswer, GivesAnswer, IsEither, answering, readable_questions}
+use Rattle.dns_build.proofs.theory.Asking.{accepted_within}
+use Rattle.dns_build.specs.Answers.{AreAccepted, GivesAnswer, IsEither, answering, readable_questions}
 use Rattle.dns_build.specs.MessageOf.{ReadsBack}
-use Rattle.dns_build.specs.Standing.{Built, InEach, PushAnswers, StandsFor, fresh}
-use Rattle.dns_build.specs.State.{InAnswer, InQuestion, State, with_limit, move_to, up_to, tc_rewound}
+use Rattle.dns_build.specs.Standing.{Built, InEach, StandsFor, fresh}
+use Rattle.dns_build.specs.State.{InAnswer, State, with_limit, with_questions, tc_rewound}
 use Rattle.dns_build.specs.declared.push_error.PushError.{PushError}
 use Rattle.dns_build.specs.declared.push_error.PushError.TheVariants.{CountOverflow, LimitExceeded, ShortBuf, OutOfMemory}
 use Rattle.dns_answer.specs.declared.answering.NoAnswer.TheVariants.{Refused}
 use Rattle.dns_answer.specs.Answering.{HasNoAnswer, IsMessage, answer_to, asked_again, asked_records, format_error, payload_size, size, size_said, with_answers}
 use Rattle.dns_answer.specs.Pushing.{AddsAll, RefusesMore}
 use Rattle.dns_answer.proofs.Sizes.{sized, size_moved, cut_within, longer_questions, items_within}
-
--- questions that are pushed onto a state without items
-module _ (t : State) (four : length (header_octets t.header) ≡ 4) where
-  abbrev asking : List QuestionItem → State
-  asking xs = record (up_to InQuestion t) { questions = xs }
-
-  -- where none is refused, all are asked
-  asks_all : (xs ys : List QuestionItem) (left : State) → PushesAll None true Plain (asking xs) ys (Ok tt) left → left ≡ asking (xs ++ ys)
-  asks_all xs [] left p = p.1 ∙ ap asking (sym (append-nil xs))
-  asks_all xs (y ∷ ys) left (inl p) = asks_all (xs ++ y ∷ []) ys left p.1 ∙ ap asking (append_assoc xs (y ∷ []) ys)
-  asks_all xs (y ∷ ys) left (inr p) = let k : Ok tt ≡ Err p.0 = p.2 in absurd (cc)
-
-  -- and the message is within the limit
-  asks_within : (xs ys : List QuestionItem) (left : State) → PushesAll None true Plain (asking xs) ys (Ok tt) left → size (asking xs) ≤ t.limit → size (asking (xs ++ ys)) ≤ t.limit
-  asks_within xs [] left p l = subst (λ (zs : List QuestionItem). size (asking zs) ≤ t.limit) (sym (append-nil xs)) l
-  asks_within xs (y ∷ ys) left (inl p) l =
-      subst (λ (zs : List QuestionItem). size (asking zs) ≤ t.limit) (append_assoc xs (y ∷ []) ys) (asks_within (xs ++ y ∷ []) ys left p.1 p.0.1)
-  asks_within xs (y ∷ ys) left (inr p) l = let k : Ok tt ≡ Err p.0 = p.2 in absurd (cc)
-
-  -- why not all of some questions are asked
-  abbrev NotAsked : List QuestionItem → PushError → Type 0
-  NotAsked xs OutOfMemory = Unit {0}
-  NotAsked xs LimitExceeded = t.limit < size (asking xs)
-  NotAsked xs ShortBuf = ⊥
-  NotAsked xs CountOverflow = ⊥
-
-  not_asked_here : (xs : List QuestionItem) (y : QuestionItem) (ys : List QuestionItem) (e : PushError) → t.limit ≤ 65535
-      → PushAnswers None true t.limit (size (asking (xs ++ y ∷ []))) (length xs) (Err e) → NotAsked (xs ++ y ∷ ys) e
-  not_asked_here xs y ys OutOfMemory small p = tt
-  not_asked_here xs y ys ShortBuf small p = p
-  not_asked_here xs y ys LimitExceeded small p =
-      let l = longer_questions t (xs ++ y ∷ []) ys four in
-      let m : t.limit < size (asking ((xs ++ y ∷ []) ++ ys)) = omega (arith, l, p) in
-      subst (λ (zs : List QuestionItem). t.limit < size (asking zs)) (append_assoc xs (y ∷ []) ys) m
-  not_asked_here xs y ys CountOverflow small p =
-      let k = items_within (asking (xs ++ y ∷ [])) four in
-      let n = length-append xs (y ∷ []) in
-      omega (arith, k, n, p)
-
-  not_asked : (xs ys : List QuestionItem) (e : PushError) (left : State) → t.limit ≤ 65535
-      → PushesAll None true Plain (asking xs) ys (Err e) left → NotAsked (xs ++ ys) e
-  not_asked xs [] e left small p = let k : Err e ≡ Ok tt = p.0 in absurd (cc)
-  not_asked xs (y ∷ ys) e left small (inl p) =
-      subst (λ (zs : List QuestionItem). NotAsked zs e) (append_assoc xs (y ∷ []) ys) (not_asked (xs ++ y ∷ []) ys e left small p.1)
-  not_asked xs (y ∷ ys) e left small (inr p) =
-      let k : Err e ≡ Err p.0 = p.2 in
-      let same : p.0 ≡ e = cc in
-      not_asked_here xs y ys e small (subst (λ (f : PushError). PushAnswers None true t.limit (size (asking (xs ++ y ∷ []))) (length xs) (Err f)) same p.1)
 
 -- a fresh builder's state, limited to what the client of a query takes
 abbrev pub client : List ℕ → State
@@ -100,33 +53,36 @@ either_within all none limit l true is = leb-true (size all) limit is
 either_within all none limit l false is = l
 
 module _ (b : List ℕ) where
-  -- an answer that was started has the questions of the query
-  pub started : (mid : Built) → StartsAnswer None true Plain 0 b (client b) (GivesAnswer Plain (Ok mid)) → StandsFor InAnswer Plain (asked_again b) mid
-  started mid start =
-      let s = answering 0 b (client b) in
-      let all = asks_all s refl [] _ _ (subst (λ r. PushesAll None true Plain s (readable_questions b) r start.left) start.gives.0 start.pushes) in
-      subst (λ (t : State). StandsFor InAnswer Plain (move_to InAnswer t) mid) all start.gives.1
-
-  -- and is within the limit
-  pub started_within : (mid : Built) → StartsAnswer None true Plain 0 b (client b) (GivesAnswer Plain (Ok mid)) → size (asked_again b) ≤ payload_size b
-  started_within mid start =
-      let s = answering 0 b (client b) in
-      let l = asks_within s refl [] _ _ (subst (λ r. PushesAll None true Plain s (readable_questions b) r start.left) start.gives.0 start.pushes) (starts_within 0 b) in
-      let e = size_moved s (readable_questions b) in
+  -- an answer that asks all questions of the query is within the limit
+  pub started_within : AreAccepted None true Plain (answering 0 b (client b)) (readable_questions b) → size (asked_again b) ≤ payload_size b
+  started_within accepted =
+      let l = accepted_within None true Plain (answering 0 b (client b)) (readable_questions b) accepted (starts_within 0 b) in
+      let e = size_moved (answering 0 b (client b)) (readable_questions b) in
       omega (arith, e, l)
 
-  -- why not all of its questions are asked is why there is no answer
-  not_answered : (e : PushError) → NotAsked (answering 0 b (client b)) refl (readable_questions b) e → HasNoAnswer b (Refused e)
-  not_answered OutOfMemory h = tt
-  not_answered ShortBuf h = h
-  not_answered CountOverflow h = h
-  not_answered LimitExceeded h = let k = size_moved (answering 0 b (client b)) (readable_questions b) in omega (arith, k, h)
+  -- the reply with these questions
+  abbrev asking : List QuestionItem → State
+  asking xs = with_questions xs (answering 0 b (client b))
 
-  -- one that wasn't started has no answer
-  pub not_started : (e : PushError) → payload_size b ≤ 65535 → StartsAnswer None true Plain 0 b (client b) (GivesAnswer Plain (Err e)) → HasNoAnswer b (Refused e)
-  not_started e small start =
+  -- why one of its questions is refused is why there is no answer
+  pub not_started : (e : PushError) → payload_size b ≤ 65535 → GivesAnswer None true Plain (answering 0 b (client b)) (readable_questions b) (Err e) → HasNoAnswer b (Refused e)
+  not_started OutOfMemory small gives = tt
+  not_started ShortBuf small gives = gives.1.refused
+  not_started LimitExceeded small gives =
       let s = answering 0 b (client b) in
-      not_answered e (not_asked s refl [] _ e _ small (subst (λ r. PushesAll None true Plain s (readable_questions b) r start.left) start.gives start.pushes))
+      let p = gives.1 in
+      let xs = gives.0 ++ p.next ∷ [] in
+      let l = longer_questions s xs p.others refl in
+      let all : xs ++ p.others ≡ readable_questions b = append_assoc gives.0 (p.next ∷ []) p.others ∙ sym p.all in
+      let e = size_moved s (readable_questions b) ∙ ap (λ (zs : List QuestionItem). size (asking zs)) (sym all) in
+      let k = p.refused in
+      omega (arith, e, k, l)
+  not_started CountOverflow small gives =
+      let p = gives.1 in
+      let k = items_within (asking (gives.0 ++ p.next ∷ [])) refl in
+      let n = length-append gives.0 (p.next ∷ []) in
+      let q = p.refused in
+      omega (arith, k, n, q)
 
   -- nor has one whose records are refused
   pub no_records : (e : PushError) → payload_size b ≤ 65535 → RefusesMore (asked_again b) e → HasNoAnswer b (Refused e)
@@ -147,9 +103,9 @@ module _ (b : List ℕ) where
   error_within = let e = sized (format_error b) refl in let l = size_large (opt_of b) in omega (arith, e, l)
 
   -- an answer that was started and has what was found is the answer
-  pub answered : (table : List RecordItem) (asked : QuestionItem) (mid new : Built) → StartsAnswer None true Plain 0 b (client b) (GivesAnswer Plain (Ok mid))
+  pub answered : (table : List RecordItem) (asked : QuestionItem) (mid new : Built) → GivesAnswer None true Plain (answering 0 b (client b)) (readable_questions b) (Ok mid)
       → InEach InAnswer Plain mid (λ s. AddsAll (asked_records asked table) s (Ok new)) → StandsFor InAnswer Plain (answer_to b table asked) new
-  answered table asked mid new start adds = adds (asked_again b) (started mid start) (started_within mid start)
+  answered table asked mid new gives adds = adds (asked_again b) gives.1 (started_within gives.0)
 
   -- where the first question can't be read, none can
   readable : (xs : List (Result QuestionItem Fault)) → ((f : Fault) (ys : List (Result QuestionItem Fault)) → xs ≡ Err f ∷ ys → ys ≡ []) → first_value xs ≡ None → filter_map result_ok xs ≡ []
@@ -164,18 +120,22 @@ module _ (b : List ℕ) where
       readable (questions_from b (question_count b) header_size) (λ f ys e. end.last (question_count b) header_size _ [] ys f reading e) first
 
   -- then an error that was started has no question
-  pub error_started : (new : Built) → asked_first b ≡ None → StartsAnswer None true Plain 1 b (client b) (IsEither Plain new) → StandsFor InAnswer Plain (format_error b) new
-  error_started new first start =
-      let s = answering 1 b (client b) in
-      let none : PushesAll None true Plain s [] start.answer start.left = subst (λ xs. PushesAll None true Plain s xs start.answer start.left) (none_readable first) start.pushes in
-      let gives : IsEither Plain new (Ok tt) start.left = subst (λ r. IsEither Plain new r start.left) none.0 start.gives in
-      subst (λ (t : State). StandsFor InAnswer Plain (move_to InAnswer t) new) none.1 gives
+  pub error_started : (new : Built) → asked_first b ≡ None → IsEither None true Plain (answering 1 b (client b)) (readable_questions b) new → StandsFor InAnswer Plain (format_error b) new
+  error_started new first gives = by (subst (λ xs. IsEither None true Plain (answering 1 b (client b)) xs new) (none_readable first) gives)
+    where
+      by : IsEither None true Plain (answering 1 b (client b)) [] new → StandsFor InAnswer Plain (format_error b) new
+      by (inl p) = p.1
+      by (inr p) = absurd (none_refused p.1 p.2.next p.2.others p.2.all)
+
+      none_refused : (first : List QuestionItem) (x : QuestionItem) (others : List QuestionItem) → [] ≡ first ++ x ∷ others → ⊥
+      none_refused [] x others is = cc
+      none_refused (y ∷ first) x others is = cc
 
 -- what was started for a message is started for the query that it was made of
-pub for_query : (rcode : ℕ) (b m : List ℕ) (limit : ℕ) (Then : Result (Unit {0}) PushError → State → Type 0) → m ≡ b → limit ≡ payload_size m
-    → StartsAnswer None true Plain rcode m (with_limit limit fresh) Then → StartsAnswer None true Plain rcode b (client b) Then
-for_query rcode b m limit Then is taken start =
-    subst (λ (x : List ℕ). StartsAnswer None true Plain rcode x (client x) Then) is (subst (λ n. StartsAnswer None true Plain rcode m (with_limit n fresh) Then) taken start)
+pub for_query : (rcode : ℕ) (b m : List ℕ) (limit : ℕ) (Gives : State → List QuestionItem → Type 0) → m ≡ b → limit ≡ payload_size m
+    → Gives (answering rcode m (with_limit limit fresh)) (readable_questions m) → Gives (answering rcode b (client b)) (readable_questions b)
+for_query rcode b m limit Gives is taken gives =
+    subst (λ (x : List ℕ). Gives (answering rcode x (client x)) (readable_questions x)) is (subst (λ n. Gives (answering rcode m (with_limit n fresh)) (readable_questions m)) taken gives)
 
 -- what a builder stands for is the message of its octets
 pub message_of : (s : State) (new : Built) (octets : List ℕ) → StandsFor InAnswer Plain s new → octets ≡ new.written.octets → InEach InAnswer Plain new (λ t. ReadsBack t octets) → IsMessage s octets

@@ -1,5 +1,5 @@
 -- The questions that are pushed when an answer is started, and the answer's header.
-use Rattle.std.proofs.Common.{◌≡◌, ℕ, ◌+◌, ◌*◌, Bool, true, min, max, nat_eq, Option, Result, Ok, Err, List, [], ◌∷◌, length, bit_and, bit_or, slice_index, ap, sym, ◌∙◌, refl, subst, inl, inr, arith}
+use Rattle.std.proofs.Common.{◌≡◌, ◌⊎◌, ℕ, ◌+◌, ◌*◌, Bool, true, min, max, nat_eq, Option, Result, Ok, Err, List, [], ◌∷◌, ◌++◌, append_assoc, append-nil, length, bit_and, bit_or, slice_index, ap, sym, ◌∙◌, refl, subst, inl, inr, arith}
 use Rattle.std.proofs.lemmas.Nat.Bits.{bit_at_and, bit_at_or, bit_at-lt}
 use Rattle.std.specs.List.{filter_map}
 use Rattle.std.specs.Result.{result_ok}
@@ -12,52 +12,91 @@ use Rattle.dns_section.specs.QuestionSection.{questions_left, to_come, position,
 use Rattle.dns_section.specs.QuestionsFrom.{questions_from}
 use Rattle.dns_section.specs.Skipping.{items_left}
 use Rattle.dns_section.specs.declared.question_section.QuestionSection.{QuestionSection}
-use Rattle.dns_build.specs.Answers.{PushesAll, AsksAll, AnswerHeaderIsSet, StartsAnswer, IsEither, GivesEither}
-use Rattle.dns_build.specs.Standing.{Built, StandsFor, MovesState, InEach, PushAnswers, size_after}
-use Rattle.dns_build.specs.State.{State, InQuestion, with_question}
+use Rattle.dns_build.specs.Answers.{AnswersQuestion, AreAccepted, AnswerHeaderIsSet, Asks, GivesEither, IsEither}
+use Rattle.dns_build.specs.Standing.{Built, StandsFor, MovesState, InEach}
+use Rattle.dns_build.specs.State.{State, InQuestion, with_question, with_questions}
 use Rattle.dns_build.specs.declared.push_error.PushError.{PushError}
 
--- Where the pushes of questions onto a state have come to: the rest is pushed onto the state of the builder now.
-pub record Pushing (room : Option ℕ) (grows : Bool) (rule : Rule) (xs rest : List QuestionItem) (s : State) (now : Built) : Type 0 where
-  pub here : State
-  pub stands : StandsFor InQuestion rule here now
-  pub goes_on : (answer : Result (Unit {0}) PushError) (left : State) → PushesAll room grows rule here rest answer left → PushesAll room grows rule s xs answer left
+-- no list without elements has a place
+none_there : {X : Type 0} (before behind : List X) (x : X) → [] ≡ before ++ x ∷ behind → ⊥
+none_there [] behind x is = cc
+none_there (y ∷ before) behind x is = cc
 
-module _ (room : Option ℕ) (grows : Bool) (rule : Rule) (xs rest : List QuestionItem) (s : State) where
-  -- the rest is this list
-  along : (here : State) (ys : List QuestionItem) → rest ≡ ys → (answer : Result (Unit {0}) PushError) (left : State) → PushesAll room grows rule here ys answer left → PushesAll room grows rule here rest answer left
-  along here ys is answer left pushes = subst (λ (zs : List QuestionItem). PushesAll room grows rule here zs answer left) (sym is) pushes
+-- a place in a list with one element more is its end, or a place in the list
+at_end_or_before : {X : Type 0} (xs before behind : List X) (x y : X) → xs ++ x ∷ [] ≡ before ++ y ∷ behind
+    → ((before ≡ xs) × (y ≡ x)) ⊎ ((less : List X) × (xs ≡ before ++ y ∷ less))
+at_end_or_before [] [] behind x y is = inl (refl, cc)
+at_end_or_before [] (z ∷ before) behind x y is = let rest : [] ≡ before ++ y ∷ behind = cc in absurd (none_there before behind y rest)
+at_end_or_before (w ∷ xs) [] behind x y is = let same : w ≡ y = cc in inr (xs, ap (λ z. z ∷ xs) same)
+at_end_or_before {X} (w ∷ xs) (z ∷ before) behind x y is =
+    let same : w ≡ z = cc in
+    let rest : xs ++ x ∷ [] ≡ before ++ y ∷ behind = cc in
+    by (at_end_or_before xs before behind x y rest) same
+  where
+    by : ((before ≡ xs) × (y ≡ x)) ⊎ ((less : List X) × (xs ≡ before ++ y ∷ less)) → w ≡ z
+        → ((z ∷ before ≡ w ∷ xs) × (y ≡ x)) ⊎ ((less : List X) × (w ∷ xs ≡ (z ∷ before) ++ y ∷ less))
+    by (inl p) same = inl ((λ i. sym same i ∷ p.0 i), p.1)
+    by (inr p) same = inr (p.0, (λ i. same i ∷ p.1 i))
+
+module _ (room : Option ℕ) (grows : Bool) (rule : Rule) (s : State) where
+  -- no question is accepted
+  pub none_accepted : AreAccepted room grows rule s []
+  none_accepted before x behind is = absurd (none_there before behind x is)
+
+  -- and one more is
+  one_accepted : (xs : List QuestionItem) (x : QuestionItem) → AreAccepted room grows rule s xs → AnswersQuestion room grows rule x (with_questions xs s) (Ok tt)
+      → AreAccepted room grows rule s (xs ++ x ∷ [])
+  one_accepted xs x accepted more before y behind is = by (at_end_or_before xs before behind x y is)
+    where
+      by : ((before ≡ xs) × (y ≡ x)) ⊎ ((less : List QuestionItem) × (xs ≡ before ++ y ∷ less)) → AnswersQuestion room grows rule y (with_questions before s) (Ok tt)
+      by (inl p) = subst (λ (q : QuestionItem × List QuestionItem). AnswersQuestion room grows rule q.0 (with_questions q.1 s) (Ok tt)) (λ i. (sym p.1 i, sym p.0 i)) more
+      by (inr p) = accepted before y p.0 p.1
+
+  -- Where the pushes of questions have come to: the first are accepted, and the rest is left.
+  pub record Pushing (xs rest : List QuestionItem) (now : Built) : Type 0 where
+    pub first : List QuestionItem
+    pub all : xs ≡ first ++ rest
+    pub accepted : AreAccepted room grows rule s first
+    pub stands : StandsFor InQuestion rule (with_questions first s) now
 
   -- at first the rest is all
-  pub begins : (now : Built) → rest ≡ xs → StandsFor InQuestion rule s now → Pushing room grows rule xs rest s now
-  begins now is stands = record {
-    here = s;
-    stands = stands;
-    goes_on = λ answer left pushes. subst (λ (zs : List QuestionItem). PushesAll room grows rule s zs answer left) is pushes;
+  pub begins : (xs rest : List QuestionItem) (now : Built) → rest ≡ xs → StandsFor InQuestion rule s now → Pushing xs rest now
+  begins xs rest now is stands = record {
+    first = [];
+    all = sym is;
+    accepted = none_accepted;
+    stands = let same : s ≡ with_questions [] s = λ i. record s { questions = sym (append-nil s.questions) i } in subst (λ (t : State). StandsFor InQuestion rule t now) same stands;
   }
 
   -- at the end nothing is left
-  pub ends : (now : Built) → rest ≡ [] → Pushing room grows rule xs rest s now → AsksAll room grows rule s xs (Ok tt) now
-  ends now is p = record { left = p.here; pushes = p.goes_on (Ok tt) p.here (along p.here [] is (Ok tt) p.here (refl, refl)); stands = p.stands }
+  pub ends : (xs rest : List QuestionItem) (now : Built) → rest ≡ [] → Pushing xs rest now → Asks room grows rule s xs (Ok tt) now
+  ends xs rest now is p =
+      let all : p.first ≡ xs = sym (append-nil p.first) ∙ ap (λ (ys : List QuestionItem). p.first ++ ys) (sym is) ∙ sym p.all in
+      subst (λ (ys : List QuestionItem). AreAccepted room grows rule s ys × StandsFor InQuestion rule (with_questions ys s) now) all (p.accepted, p.stands)
 
-  module _ (x : QuestionItem) (less : List QuestionItem) (is : rest ≡ x ∷ less) (old new : Built) where
+  module _ (xs rest : List QuestionItem) (x : QuestionItem) (less : List QuestionItem) (is : rest ≡ x ∷ less) (old new : Built) where
+    behind : (p : Pushing xs rest old) → xs ≡ p.first ++ x ∷ less
+    behind p = p.all ∙ ap (λ (ys : List QuestionItem). p.first ++ ys) is
+
     -- a question is pushed
-    pub takes-next : InEach InQuestion rule old (λ t. PushAnswers room grows t.limit (size_after rule (with_question x) t) (length t.questions) (Ok tt)) → MovesState InQuestion InQuestion rule (with_question x) old new
-        → Pushing room grows rule xs rest s old → Pushing room grows rule xs less s new
+    pub takes-next : InEach InQuestion rule old (λ t. AnswersQuestion room grows rule x t (Ok tt)) → MovesState InQuestion InQuestion rule (with_question x) old new
+        → Pushing xs rest old → Pushing xs less new
     takes-next fits moves p = record {
-      here = with_question x p.here;
-      stands = moves p.here p.stands;
-      goes_on = λ answer left pushes. p.goes_on answer left (along p.here (x ∷ less) is answer left (inl (fits p.here p.stands, pushes)));
+      first = p.first ++ x ∷ [];
+      all = behind p ∙ sym (append_assoc p.first (x ∷ []) less);
+      accepted = one_accepted p.first x p.accepted (fits (with_questions p.first s) p.stands);
+      stands =
+          let same : with_question x (with_questions p.first s) ≡ with_questions (p.first ++ x ∷ []) s = λ i. record s { questions = append_assoc s.questions p.first (x ∷ []) i } in
+          subst (λ (t : State). StandsFor InQuestion rule t new) same (moves (with_questions p.first s) p.stands);
     }
 
     -- a question is refused
-    pub refuses-next : (e : PushError) → InEach InQuestion rule old (λ t. PushAnswers room grows t.limit (size_after rule (with_question x) t) (length t.questions) (Err e)) → new ≡ old
-        → Pushing room grows rule xs rest s old → AsksAll room grows rule s xs (Err e) new
-    refuses-next e refused same p = record {
-      left = p.here;
-      pushes = p.goes_on (Err e) p.here (along p.here (x ∷ less) is (Err e) p.here (inr (e, refused p.here p.stands, refl, refl)));
-      stands = subst (StandsFor InQuestion rule p.here) (sym same) p.stands;
-    }
+    pub refuses-next : (e : PushError) → InEach InQuestion rule old (λ t. AnswersQuestion room grows rule x t (Err e)) → new ≡ old → Pushing xs rest old → Asks room grows rule s xs (Err e) new
+    refuses-next e refused same p = (
+      p.first,
+      record { accepted = p.accepted; next = x; others = less; all = behind p; refused = refused (with_questions p.first s) p.stands },
+      subst (StandsFor InQuestion rule (with_questions p.first s)) (sym same) p.stands,
+    )
 
 -- behind a question that was read are the other readable ones
 pub readable-next : (rest left : List (Result QuestionItem Fault)) (x : QuestionItem) → rest ≡ Ok x ∷ left → filter_map result_ok rest ≡ x ∷ filter_map result_ok left
@@ -69,28 +108,11 @@ readable-fault rest new f e is faulted =
     ap (filter_map result_ok) is
     ∙ ap (λ (left : Result ℕ ParseError). filter_map result_ok (items_left (λ n. questions_from (octets_of new) n (position new)) left)) faulted
 
-module _ (room : Option ℕ) (grows : Bool) (rule : Rule) (rcode : ℕ) (b : List ℕ) (s : State) (built : Built) where
-  -- either builder is taken: that with all questions
-  pub takes-answer : (result : Result Built Built) → result ≡ Ok built → StartsAnswer room grows rule rcode b s (GivesEither rule result) → StartsAnswer room grows rule rcode b s (IsEither rule built)
-  takes-answer result is tries =
-      let gives = subst (λ (r : Result Built Built). GivesEither rule r tries.answer tries.left) is tries.gives in
-      record {
-        answer = tries.answer;
-        left = tries.left;
-        pushes = tries.pushes;
-        gives = subst (λ (a : Result (Unit {0}) PushError). IsEither rule built a tries.left) (sym gives.0) gives.1;
-      }
-
-  -- or that with those before the refused one
-  pub takes-failure : (result : Result Built Built) → result ≡ Err built → StartsAnswer room grows rule rcode b s (GivesEither rule result) → StartsAnswer room grows rule rcode b s (IsEither rule built)
-  takes-failure result is tries =
-      let gives = subst (λ (r : Result Built Built). GivesEither rule r tries.answer tries.left) is tries.gives in
-      record {
-        answer = tries.answer;
-        left = tries.left;
-        pushes = tries.pushes;
-        gives = subst (λ (a : Result (Unit {0}) PushError). IsEither rule built a tries.left) (sym gives.0.1) gives.1;
-      }
+-- either builder is taken
+pub takes_either : (room : Option ℕ) (grows : Bool) (rule : Rule) (s : State) (xs : List QuestionItem) (result : Result Built Built) (b : Built)
+    → (result ≡ Ok b) ⊎ (result ≡ Err b) → GivesEither room grows rule s xs result → IsEither room grows rule s xs b
+takes_either room grows rule s xs result b (inl is) gives = inl (subst (GivesEither room grows rule s xs) is gives)
+takes_either room grows rule s xs result b (inr is) gives = inr (subst (GivesEither room grows rule s xs) is gives)
 
 -- a bit of octet 2 of an answer's header
 second_bit : (own asked k : ℕ) → bits (bit_or (bit_or (bit_and own 6) (bit_and asked 121)) 128) k 1 ≡ max (max (min (bits own k 1) (bits 6 k 1)) (min (bits asked k 1) (bits 121 k 1))) (bits 128 k 1)

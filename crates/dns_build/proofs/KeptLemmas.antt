@@ -15,18 +15,11 @@ use Rattle.dns_build.specs.CopyRecords.CopiesSection.{started, unstarted}
 use Rattle.dns_build.specs.CopyRecords.CopiesSections.{none as no_section, copied as section_copied, stopped}
 use Rattle.dns_build.specs.KeptRecords.{with_copies, Keeps, KeepsSection, KeepsAll}
 use Rattle.dns_build.specs.KeptRecords.Keeps.{none, dropped, kept}
-use Rattle.dns_build.specs.State.{Stage, InBuilder, InQuestion, InAnswer, InAuthority, InAdditional, State, stage_of, with_record, move_to}
+use Rattle.dns_build.specs.State.{Stage, InBuilder, InQuestion, InAnswer, InAuthority, InAdditional, State, stage_of, with_record, with_records, move_to}
 use Rattle.dns_build.specs.Standing.{Built, StandsFor}
 use Rattle.dns_build.specs.declared.copy_records_error.CopyRecordsError.{CopyRecordsError}
 
--- with records at the end of a stage's own list
-abbrev with_records : Stage → List RecordItem → State → State
-with_records InBuilder xs s = s
-with_records InQuestion xs s = s
-with_records InAnswer xs s = record s { answers = s.answers ++ xs }
-with_records InAuthority xs s = record s { authorities = s.authorities ++ xs }
-with_records InAdditional xs s = record s { additionals = s.additionals ++ xs }
-
+-- with no records, and with the first of some
 no_records : (stage : Stage) (s : State) → s ≡ with_records stage [] s
 no_records InBuilder s = refl
 no_records InQuestion s = refl

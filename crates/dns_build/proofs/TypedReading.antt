@@ -31,7 +31,7 @@ use Rattle.dns_read.specs.SectionStarts.{records_of}
 use Rattle.dns_read.proofs.theory.SectionStartLemmas.{start_found}
 use Rattle.dns_build.specs.MessageOf.{AllTell, GivesRecords, ReadsBack}
 use Rattle.dns_build.specs.State.{State}
-use Rattle.dns_build.specs.TypedReading.{pushed, IsLaidOutBy, taken, TypedRecordsReadBack, AnyRecordsReadBack, StandsAs, AllStandAs, PushedRecordsStand, of_class_in, TypedRecordsInReadBack, ToRecordReadsBack, ToAnyRecordReadsBack}
+use Rattle.dns_build.specs.TypedReading.{pushed, IsLaidOutBy, IsTakenBy, taken, TypedRecordsReadBack, AnyRecordsReadBack, StandsAs, AllStandAs, PushedRecordsStand, of_class_in, TypedRecordsInReadBack, ToRecordReadsBack, ToAnyRecordReadsBack}
 use Rattle.dns_build.proofs.OptReading.{items_of, records_in-entries, first_read}
 
 -- where a section starts, and its records there
@@ -165,7 +165,7 @@ module _ {D : Type 0} (rtype_of : D → ℕ) (parts_of : D → List Part) where
   is_taken x (Err e) is = absurd (cc)
 
   -- what a layout of its type answers
-  one_taken : (layouts : ℕ → Option Layout) (b : List ℕ) (x : RecordItem) (standing : StandingRecord) → StandsAs b x standing → IsSomeAnd (layouts x.rtype) (λ layout. IsLaidOut layout x.parts)
+  one_taken : (layouts : ℕ → Option Layout) (b : List ℕ) (x : RecordItem) (standing : StandingRecord) → StandsAs b x standing → IsTakenBy layouts x
       → answer_to layouts standing ≡ Some (Ok x)
   one_taken layouts b x standing h laid = ap (λ (y : RecordItem). option_map (laid_out standing) (layouts y.rtype)) h.item ∙ by (layouts x.rtype) laid
     where

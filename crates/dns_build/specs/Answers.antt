@@ -1,5 +1,5 @@
 -- How an answer to a message is started: its header, and the questions that are asked. RFC 1035 section 4.1.
-use Rattle.std.specs.Prelude.{◌≡◌, ◌<◌, ◌⊎◌, ℕ, Bool, true, List, [], ◌∷◌, length, take, bit_and, bit_or, slice_index, Option, Result, Ok, Err}
+use Rattle.std.specs.Prelude.{◌≡◌, ◌<◌, ◌⊎◌, ℕ, Bool, true, List, [], ◌∷◌, ◌++◌, length, take, bit_and, bit_or, slice_index, Option, Result, Ok, Err}
 use Rattle.std.specs.List.{filter_map}
 use Rattle.std.specs.Result.{result_ok}
 use Rattle.dns_wire.specs.Pieces.{Rule}
@@ -11,7 +11,7 @@ use Rattle.dns_section.specs.QuestionsFrom.{questions_from}
 use Rattle.dns_section.specs.Sections.{question_count}
 use Rattle.dns_build.specs.Opt.{with_rcode}
 use Rattle.dns_build.specs.Standing.{Built, PushAnswers, StandsFor, size_after}
-use Rattle.dns_build.specs.State.{State, InQuestion, InAnswer, move_to, with_header, with_question}
+use Rattle.dns_build.specs.State.{State, InQuestion, InAnswer, move_to, with_header, with_question, with_questions}
 use Rattle.dns_build.specs.declared.push_error.PushError.{PushError}
 
 -- the questions of a message before the first that can't be read, whose fault is the last of the reading
@@ -34,49 +34,51 @@ answer_header rcode asked own = record {
 abbrev pub answering : ℕ → List ℕ → State → State
 answering rcode b s = move_to InQuestion (with_header (answer_header rcode (header_in b) s.header) s)
 
--- Questions are pushed one after another onto a state, until one is refused: the answer, and the state then.
-abbrev pub PushesAll : Option ℕ → Bool → Rule → State → List QuestionItem → Result (Unit {0}) PushError → State → Type 0
-PushesAll room grows rule s [] answer left = (answer ≡ Ok tt) × (left ≡ s)
-PushesAll room grows rule s (x ∷ xs) answer left =
-    let n = size_after rule (with_question x) s in
-    (PushAnswers room grows s.limit n (length s.questions) (Ok tt) × PushesAll room grows rule (with_question x s) xs answer left)
-    ⊎ ((e : PushError) × PushAnswers room grows s.limit n (length s.questions) (Err e) × (answer ≡ Err e) × (left ≡ s))
-
--- questions are pushed so, and a question builder stands for the state that is left
-pub record AsksAll (room : Option ℕ) (grows : Bool) (rule : Rule) (s : State) (xs : List QuestionItem) (answer : Result (Unit {0}) PushError) (new : Built) : Type 0 where
-  pub left : State
-  pub pushes : PushesAll room grows rule s xs answer left
-  pub stands : StandsFor InQuestion rule left new
+-- what a push of a question onto a state answers
+abbrev pub AnswersQuestion : Option ℕ → Bool → Rule → QuestionItem → State → Result (Unit {0}) PushError → Type 0
+AnswersQuestion room grows rule x s = PushAnswers room grows s.limit (size_after rule (with_question x) s) (length s.questions)
 
 -- an answer builder stands for the state, moved to the answer section
 abbrev pub IsAnswer : Rule → State → Built → Type 0
-IsAnswer rule left b = StandsFor InAnswer rule (move_to InAnswer left) b
+IsAnswer rule s b = StandsFor InAnswer rule (move_to InAnswer s) b
 
 -- it does so with the rcode SERVFAIL
 abbrev pub IsFailure : Rule → State → Built → Type 0
-IsFailure rule left b = IsAnswer rule (with_header (with_rcode 2 left.header) left) b
+IsFailure rule s b = IsAnswer rule (with_header (with_rcode 2 s.header) s) b
 
--- An answer to a message is started, for a state: its readable questions are pushed, and of the answer to that and of the state then this holds.
-pub record StartsAnswer (room : Option ℕ) (grows : Bool) (rule : Rule) (rcode : ℕ) (b : List ℕ) (s : State) (Then : Result (Unit {0}) PushError → State → Type 0) : Type 0 where
-  pub answer : Result (Unit {0}) PushError
-  pub left : State
-  pub pushes : PushesAll room grows rule (answering rcode b s) (readable_questions b) answer left
-  pub gives : Then answer left
+-- What pushing questions onto a state gives. Room, growth and rule are the target's.
+module _ (room : Option ℕ) (grows : Bool) (rule : Rule) (s : State) where
+  -- each of these questions, pushed behind those before it, is accepted
+  abbrev pub AreAccepted : List QuestionItem → Type 0
+  AreAccepted xs = (before : List QuestionItem) (x : QuestionItem) (behind : List QuestionItem) → xs ≡ before ++ x ∷ behind
+      → AnswersQuestion room grows rule x (with_questions before s) (Ok tt)
 
--- an answer builder with all of the questions, or the error of the one that was refused
-abbrev pub GivesAnswer : Rule → Result Built PushError → Result (Unit {0}) PushError → State → Type 0
-GivesAnswer rule (Ok b) answer left = (answer ≡ Ok tt) × IsAnswer rule left b
-GivesAnswer rule (Err e) answer left = answer ≡ Err e
+  -- the first questions are accepted, and the next one is refused
+  pub record RefusesBehind (xs first : List QuestionItem) (e : PushError) : Type 0 where
+    pub accepted : AreAccepted first
+    pub next : QuestionItem
+    pub others : List QuestionItem
+    pub all : xs ≡ first ++ next ∷ others
+    pub refused : AnswersQuestion room grows rule next (with_questions first s) (Err e)
 
--- an answer builder with all of the questions, or one with those before the refused one and SERVFAIL
-abbrev pub IsEither : Rule → Built → Result (Unit {0}) PushError → State → Type 0
-IsEither rule b (Ok _) left = IsAnswer rule left b
-IsEither rule b (Err _) left = IsFailure rule left b
+  -- a question builder with all of the questions, or with those before the refused one
+  abbrev pub Asks : List QuestionItem → Result (Unit {0}) PushError → Built → Type 0
+  Asks xs (Ok _) b = AreAccepted xs × StandsFor InQuestion rule (with_questions xs s) b
+  Asks xs (Err e) b = (first : List QuestionItem) × RefusesBehind xs first e × StandsFor InQuestion rule (with_questions first s) b
 
--- so too, the former as `Ok` and the latter as `Err`
-abbrev pub GivesEither : Rule → Result Built Built → Result (Unit {0}) PushError → State → Type 0
-GivesEither rule (Ok b) answer left = (answer ≡ Ok tt) × IsAnswer rule left b
-GivesEither rule (Err b) answer left = ((e : PushError) × (answer ≡ Err e)) × IsFailure rule left b
+  -- an answer builder with all of the questions, or the error of the one that is refused
+  abbrev pub GivesAnswer : List QuestionItem → Result Built PushError → Type 0
+  GivesAnswer xs (Ok b) = AreAccepted xs × IsAnswer rule (with_questions xs s) b
+  GivesAnswer xs (Err e) = (first : List QuestionItem) × RefusesBehind xs first e
+
+  -- an answer builder with all of the questions as `Ok`, or one with those before the refused one, and SERVFAIL, as `Err`
+  abbrev pub GivesEither : List QuestionItem → Result Built Built → Type 0
+  GivesEither xs (Ok b) = AreAccepted xs × IsAnswer rule (with_questions xs s) b
+  GivesEither xs (Err b) = (e : PushError) × (first : List QuestionItem) × RefusesBehind xs first e × IsFailure rule (with_questions first s) b
+
+  -- the former or the latter
+  abbrev pub IsEither : List QuestionItem → Built → Type 0
+  IsEither xs b = GivesEither xs (Ok b) ⊎ GivesEither xs (Err b)
 
 -- The header of an answer has ID, opcode and RD of the asked header, QR, and the rcode, and its own other fields.
 abbrev pub AnswerHeaderIsSet : Type 0

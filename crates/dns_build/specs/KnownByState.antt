@@ -1,24 +1,12 @@
 -- That a builder is known by the state that it stands for, and that what was pushed and rewound leaves nothing. RFC 1035 section 4.1.
-use Rattle.std.specs.Prelude.{◌≡◌, List, [], ◌∷◌}
+use Rattle.std.specs.Prelude.{◌≡◌, List}
 use Rattle.dns_wire.specs.Pieces.{Rule}
-use Rattle.dns_question.specs.Questions.{QuestionItem}
-use Rattle.dns_item.specs.Items.{RecordItem}
 use Rattle.dns_build.specs.Standing.{Built, StandsFor, MovesState}
-use Rattle.dns_build.specs.State.{Stage, InQuestion, State, with_question, with_record, rewound}
+use Rattle.dns_build.specs.State.{Stage, InQuestion, State, with_questions, with_records, rewound}
 
 -- builders of one stage that stand for one state are equal as contracts see them: octets, memory, limit and section starts
 abbrev pub BuildersAreKnown : Type 0
 BuildersAreKnown = (stage : Stage) (rule : Rule) (s : State) (a b : Built) → StandsFor stage rule s a → StandsFor stage rule s b → a ≡ b
-
--- with records at the end of a stage's own list
-abbrev pub with_records : Stage → List RecordItem → State → State
-with_records stage [] s = s
-with_records stage (x ∷ xs) s = with_records stage xs (with_record stage x s)
-
--- with questions at the end of their list
-abbrev pub with_questions : List QuestionItem → State → State
-with_questions [] s = s
-with_questions (x ∷ xs) s = with_questions xs (with_question x s)
 
 -- a rewind after pushes: the builder that stands for the state with these items more is rewound
 abbrev pub PushesLeaveNothing : {X : Type 0} → Stage → (List X → State → State) → Type 0

@@ -29,6 +29,10 @@ pushed which s = records_at (stage_of which) s
 abbrev pub IsLaidOutBy : (ℕ → Option Layout) → RecordItem → Type 0
 IsLaidOutBy layouts x = IfSome (layouts x.rtype) (λ layout. IsLaidOut layout x.parts)
 
+-- the data type takes its type, and they are
+abbrev pub IsTakenBy : (ℕ → Option Layout) → RecordItem → Type 0
+IsTakenBy layouts x = IsSomeAnd (layouts x.rtype) (λ layout. IsLaidOut layout x.parts)
+
 -- the records whose types a data type takes
 abbrev pub taken : (ℕ → Option Layout) → List RecordItem → List RecordItem
 taken layouts = filter (λ x. is_some (layouts x.rtype))
@@ -78,7 +82,7 @@ module _ {D : Type 0} (rtype_of : D → ℕ) (parts_of : D → List Part) where
   -- Where the data type takes its type, and lays out its parts so, that gives a record with the same owner, class, TTL and parts.
   abbrev pub ToRecordReadsBack : (ℕ → Option Layout) → Type 0
   ToRecordReadsBack layouts = (b : List ℕ) (x : RecordItem) (standing : StandingRecord) (result : Result (Option (Record ParsedName D)) ParseError)
-      → StandsAs b x standing → IsSomeAnd (layouts x.rtype) (λ layout. IsLaidOut layout x.parts)
+      → StandsAs b x standing → IsTakenBy layouts x
       → AnswersTaken rtype_of parts_of standing.octets standing.entry (layouts standing.entry.rtype) result
       → IsOkAnd result (λ o. IsSomeAnd o (λ r. record_item labels rtype_of parts_of r ≡ x))
 

@@ -3,7 +3,7 @@ ghost use Rattle.std.specs.Prelude.{◌≡◌};
 ghost use Rattle.dns_read.specs.Message.{message_octets};
 ghost use Rattle.dns_build.specs.State.{InBuilder, InQuestion};
 ghost use Rattle.dns_build.specs.Standing.{InEach, MovesState};
-ghost use Rattle.dns_build.specs.Answers.{answer_header, answering, readable_questions, AsksAll, StartsAnswer, GivesAnswer, IsEither, GivesEither};
+ghost use Rattle.dns_build.specs.Answers.{answer_header, answering, readable_questions, Asks, GivesAnswer, GivesEither, IsEither};
 
 use crate::builder::{AnswerBuilder, Builder, QuestionBuilder};
 use crate::opt::with_rcode;
@@ -25,8 +25,8 @@ impl<T: Composer> Builder<T, AtBuilder> {
         rcode: Rcode,
     ) -> Result<AnswerBuilder<T>, PushError>
         ensures { InEach InBuilder T.rule self (λ s.
-            StartsAnswer T.room T.grows T.rule rcode (message_octets msg.now) s
-            (GivesAnswer T.rule result)) }
+            let b = message_octets msg.now in
+            GivesAnswer T.room T.grows T.rule (answering rcode b s) (readable_questions b) result) }
     {
         let mut builder = self.answering(msg, rcode);
         match push_questions(&mut builder, msg) {
@@ -43,8 +43,8 @@ impl<T: Composer> Builder<T, AtBuilder> {
         rcode: Rcode,
     ) -> Result<AnswerBuilder<T>, AnswerBuilder<T>>
         ensures { InEach InBuilder T.rule self (λ s.
-            StartsAnswer T.room T.grows T.rule rcode (message_octets msg.now) s
-            (GivesEither T.rule result)) }
+            let b = message_octets msg.now in
+            GivesEither T.room T.grows T.rule (answering rcode b s) (readable_questions b) result) }
     {
         let mut builder = self.answering(msg, rcode);
         match push_questions(&mut builder, msg) {
@@ -61,8 +61,8 @@ impl<T: Composer> Builder<T, AtBuilder> {
     /// It is either builder that `try_start_answer` gives, so a question without room or memory is told as SERVFAIL.
     pub fn start_error<Octs: Octets>(self, msg: &Message<Octs>, rcode: Rcode) -> AnswerBuilder<T>
         ensures { InEach InBuilder T.rule self (λ s.
-            StartsAnswer T.room T.grows T.rule rcode (message_octets msg.now) s
-            (IsEither T.rule result)) }
+            let b = message_octets msg.now in
+            IsEither T.room T.grows T.rule (answering rcode b s) (readable_questions b) result) }
     {
         match self.try_start_answer(msg, rcode) {
             Ok(builder) => builder,
@@ -86,7 +86,7 @@ fn push_questions<T: Composer, Octs: Octets>(
     builder: &mut QuestionBuilder<T>,
     msg: &Message<Octs>,
 ) -> Result<(), PushError>
-    ensures { InEach InQuestion T.rule builder.old (λ s. AsksAll T.room T.grows T.rule s
+    ensures { InEach InQuestion T.rule builder.old (λ s. Asks T.room T.grows T.rule s
         (readable_questions (message_octets msg.now)) result builder.new) }
 {
     let mut asked = msg.question();

@@ -1,5 +1,5 @@
 -- Why a message has no copy with its TTLs cut.
-use Rattle.std.proofs.Common.{◌≡◌, ◌≤◌, ℕ, Bool, List, [], length, refl, arith, None, subst}
+use Rattle.std.proofs.Common.{◌≡◌, ◌≤◌, ℕ, Bool, List, [], length, refl, arith, None}
 use Rattle.std.specs.List.{filter_map}
 use Rattle.std.specs.Result.{result_ok}
 use Rattle.std.specs.Prelude.{Option, Result, Err}
@@ -18,7 +18,7 @@ use Rattle.dns_section.specs.Reading.{Reading}
 use Rattle.dns_section.specs.Reading.Reading.{none, entry, stop}
 use Rattle.dns_section.specs.Sections.{question_count}
 use Rattle.dns_section.proofs.theory.QuestionsFromLemmas.{questions_from_are_read}
-use Rattle.dns_build.specs.Answers.{GivesAnswer, StartsAnswer, PushesAll, answering, readable_questions}
+use Rattle.dns_build.specs.Answers.{GivesAnswer, answering, readable_questions}
 use Rattle.dns_build.specs.CopyRecords.{CopiesMessage, record_sections}
 use Rattle.dns_build.specs.Standing.{Built, StandsFor, fresh}
 use Rattle.dns_build.specs.State.{Every, InAnswer, most_entries}
@@ -62,8 +62,9 @@ module _ (b : List ℕ) where
   readable_few (stop faulty) = omega arith
 
   -- an answer isn't started for want of memory alone
-  pub not_begun : (grows : Bool) (e : PushError) → question_count b ≤ most_entries → StartsAnswer None grows Static 0 b fresh (GivesAnswer Static (Err e)) → e ≡ OutOfMemory
-  not_begun grows e few start =
+  pub not_begun : (grows : Bool) (e : PushError) → question_count b ≤ most_entries
+      → GivesAnswer None grows Static (answering 0 b fresh) (readable_questions b) (Err e) → e ≡ OutOfMemory
+  not_begun grows e few gives =
       let reading = (questions_from_are_read b).reading (question_count b) header_size in
       let s = answering 0 b fresh in
       let l = readable_few reading in
@@ -75,8 +76,7 @@ module _ (b : List ℕ) where
         authorities = omega arith;
         additionals = omega arith;
       } in
-      asking_refused grows s (readable_questions b) e start.left s_is_open (readable_named reading) (omega (arith, few, l))
-      (subst (λ r. PushesAll None grows Static s (readable_questions b) r start.left) start.gives start.pushes)
+      asking_refused grows s (readable_questions b) gives.0 e s_is_open (readable_named reading) (omega (arith, few, l)) gives.1
 
   -- a message with the questions of another is open
   begun_open : (new : Built) → question_count b ≤ most_entries → StandsFor InAnswer Static (begun b) new → IsOpen (begun b)

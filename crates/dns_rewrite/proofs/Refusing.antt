@@ -14,17 +14,18 @@ use Rattle.dns_section.specs.RecordsFrom.{in_octets, records_from, records_in}
 use Rattle.dns_section.specs.Sections.{record_count}
 use Rattle.dns_section.specs.declared.section.Section.{Section}
 use Rattle.dns_section.specs.declared.section.Section.TheVariants.{Answer, Authority, Additional}
-use Rattle.dns_build.specs.Answers.{PushesAll}
+use Rattle.dns_build.specs.Answers.{RefusesBehind}
 use Rattle.dns_build.specs.CopyRecords.{CopiesList, CopiesSection, CopiesSections, PushesKept, record_sections}
 use Rattle.dns_build.specs.CopyRecords.CopiesList.{none as no_record, copied as record_copied, refused, fault}
 use Rattle.dns_build.specs.CopyRecords.CopiesSection.{started, unstarted}
 use Rattle.dns_build.specs.CopyRecords.CopiesSections.{none as no_section, copied as section_copied, stopped}
 use Rattle.dns_build.specs.Standing.{PushAnswers, size_after}
-use Rattle.dns_build.specs.State.{Every, InAdditional, InAnswer, InAuthority, InBuilder, InQuestion, Stage, State, most_entries, move_to, no_limit, records_at, stage_of, up_to, with_question, with_record}
+use Rattle.dns_build.specs.State.{Every, InAdditional, InAnswer, InAuthority, InBuilder, InQuestion, Stage, State, most_entries, move_to, no_limit, records_at, stage_of, up_to, with_question, with_questions, with_record}
 use Rattle.dns_build.specs.declared.copy_records_error.CopyRecordsError.{CopyRecordsError}
 use Rattle.dns_build.specs.declared.copy_records_error.CopyRecordsError.TheVariants.{Push}
 use Rattle.dns_build.specs.declared.push_error.PushError.{PushError}
 use Rattle.dns_build.specs.declared.push_error.PushError.TheVariants.{CountOverflow, LimitExceeded, ShortBuf, OutOfMemory}
+use Rattle.dns_build.proofs.theory.Folds.{every_append}
 use Rattle.dns_rewrite.proofs.Sizes.{HasShortItems, IsNamed, IsShort, items_of, short_message}
 
 -- a state without a limit, with short items that can be counted
@@ -36,17 +37,18 @@ pub record IsOpen (s : State) : Type 0 where
   pub authorities : length s.authorities ≤ most_entries
   pub additionals : length s.additionals ≤ most_entries
 
-every_more : {X : Type 0} (P : X → Type 0) (xs : List X) (x : X) → Every P xs → P x → Every P (xs ++ x ∷ [])
-every_more P [] x all one = (one, tt)
-every_more P (y ∷ xs) x all one = (all.0, every_more P xs x all.1 one)
+-- what holds of each of two lists together holds of each of either
+every_parts : {X : Type 0} (P : X → Type 0) (xs ys : List X) → Every P (xs ++ ys) → Every P xs × Every P ys
+every_parts P [] ys all = (tt, all)
+every_parts P (x ∷ xs) ys all = let rest = every_parts P xs ys all.1 in ((all.0, rest.0), rest.1)
 
 -- with a short record more it still has short items
 more_short : (stage : Stage) (s : State) (x : RecordItem) → HasShortItems s → IsShort x → HasShortItems (with_record stage x s)
 more_short InBuilder s x is one = is
 more_short InQuestion s x is one = is
-more_short InAnswer s x is one = record { header = is.header; questions = is.questions; answers = every_more IsShort s.answers x is.answers one; authorities = is.authorities; additionals = is.additionals }
-more_short InAuthority s x is one = record { header = is.header; questions = is.questions; answers = is.answers; authorities = every_more IsShort s.authorities x is.authorities one; additionals = is.additionals }
-more_short InAdditional s x is one = record { header = is.header; questions = is.questions; answers = is.answers; authorities = is.authorities; additionals = every_more IsShort s.additionals x is.additionals one }
+more_short InAnswer s x is one = record { header = is.header; questions = is.questions; answers = every_append IsShort s.answers (x ∷ []) is.answers (one, tt); authorities = is.authorities; additionals = is.additionals }
+more_short InAuthority s x is one = record { header = is.header; questions = is.questions; answers = is.answers; authorities = every_append IsShort s.authorities (x ∷ []) is.authorities (one, tt); additionals = is.additionals }
+more_short InAdditional s x is one = record { header = is.header; questions = is.questions; answers = is.answers; authorities = is.authorities; additionals = every_append IsShort s.additionals (x ∷ []) is.additionals (one, tt) }
 
 -- and one item more
 more_items : (stage : Stage) (s : State) (x : RecordItem) → items_of (with_record stage x s) ≤ items_of s + 1
@@ -109,13 +111,13 @@ moved_open Additional s is = record {
   additionals = is.additionals;
 }
 
--- with a named question more
-asked_short : (s : State) (x : QuestionItem) → HasShortItems s → IsNamed x → HasShortItems (with_question x s)
-asked_short s x is one = record { header = is.header; questions = every_more IsNamed s.questions x is.questions one; answers = is.answers; authorities = is.authorities; additionals = is.additionals }
+-- with named questions more
+asked_short : (s : State) (xs : List QuestionItem) → HasShortItems s → Every IsNamed xs → HasShortItems (with_questions xs s)
+asked_short s xs is all = record { header = is.header; questions = every_append IsNamed s.questions xs is.questions all; answers = is.answers; authorities = is.authorities; additionals = is.additionals }
 
 asked_within : (s : State) (x : QuestionItem) → IsOpen s → IsNamed x → size_after Static (with_question x) s ≤ s.limit
 asked_within s x is one =
-    let a = short_message (with_question x s) (asked_short s x is.short one) in
+    let a = short_message (with_question x s) (asked_short s (x ∷ []) is.short (one, tt)) in
     let n = length-append s.questions (x ∷ []) in
     let c = is.questions in
     let d = is.answers in
@@ -124,10 +126,10 @@ asked_within s x is one =
     let l = is.limit in
     omega (arith, a, n, c, d, e, f, l)
 
-asked_open : (s : State) (x : QuestionItem) → IsOpen s → IsNamed x → length s.questions < most_entries → IsOpen (with_question x s)
-asked_open s x is one few =
-    let n = length-append s.questions (x ∷ []) in
-    record { limit = is.limit; short = asked_short s x is.short one; questions = omega (arith, n, few); answers = is.answers; authorities = is.authorities; additionals = is.additionals }
+asked_open : (s : State) (xs : List QuestionItem) → IsOpen s → Every IsNamed xs → length s.questions + length xs ≤ most_entries → IsOpen (with_questions xs s)
+asked_open s xs is all few =
+    let n = length-append s.questions xs in
+    record { limit = is.limit; short = asked_short s xs is.short all; questions = omega (arith, n, few); answers = is.answers; authorities = is.authorities; additionals = is.additionals }
 
 -- A state at a stage, without records of the sections behind, onto which so many records more can be pushed and counted.
 pub record CanTake (stage : Stage) (left : ℕ) (s : State) : Type 0 where
@@ -193,18 +195,15 @@ module _ (grows : Bool) where
   question_refused s x left LimitExceeded is one few p = let l = asked_within s x is one in let q = p.1 in absurd (omega (arith, l, q))
   question_refused s x left CountOverflow is one few p = let q = p.2 in absurd (omega (arith, few, q))
 
-  -- so where questions are pushed one after another
-  pub asking_refused : (s : State) (xs : List QuestionItem) (e : PushError) (left : State) → IsOpen s → Every IsNamed xs → length s.questions + length xs ≤ most_entries
-      → PushesAll None grows Static s xs (Err e) left → e ≡ OutOfMemory
-  asking_refused s [] e left is all few p = let k : Err e ≡ Ok tt = p.0 in absurd (cc)
-  asking_refused s (x ∷ xs) e left is all few (inl p) =
-      let n = length-append s.questions (x ∷ []) in
-      let one_fewer : length s.questions < most_entries = omega (arith, few) in
-      asking_refused (with_question x s) xs e left (asked_open s x is all.0 one_fewer) all.1 (omega (arith, few, n)) p.1
-  asking_refused s (x ∷ xs) e left is all few (inr p) =
-      let k : Err e ≡ Err p.0 = p.2 in
-      let same : e ≡ p.0 = cc in
-      same ∙ question_refused s x (length xs) p.0 is all.0 (omega (arith, few)) p.1
+  -- so where one is refused behind others
+  pub asking_refused : (s : State) (xs first : List QuestionItem) (e : PushError) → IsOpen s → Every IsNamed xs → length s.questions + length xs ≤ most_entries
+      → RefusesBehind None grows Static s xs first e → e ≡ OutOfMemory
+  asking_refused s xs first e is all few p =
+      let named = every_parts IsNamed first (p.next ∷ p.others) (subst (Every IsNamed) p.all all) in
+      let l = ap (λ (ys : List QuestionItem). length ys) p.all in
+      let m = length-append first (p.next ∷ p.others) in
+      let n = length-append s.questions first in
+      question_refused (with_questions first s) p.next (length p.others) e (asked_open s first is named.0 (omega (arith, few, l, m))) named.1.0 (omega (arith, few, l, m, n)) p.refused
 
   -- a push of a short record is refused for want of memory alone
   push_refused : (stage : Stage) (s : State) (x : RecordItem) (left : ℕ) (e : PushError) → CanTake stage (left + 1) s → IsShort x

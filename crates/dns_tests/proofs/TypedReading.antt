@@ -1,5 +1,6 @@
 -- What is read by data types of records that were pushed.
 use Rattle.std.proofs.Common.{◌≡◌, ◌∙◌, ap, sym, refl, subst, ℕ, List, [], ◌∷◌, length}
+use Rattle.std.proofs.lemmas.List.{append-nil}
 use Rattle.std.proofs.lemmas.List.Elements.{All-nil, All-cons}
 use Rattle.std.specs.Iterator.{YieldsFirstBy}
 use Rattle.std.specs.Option.{option_map_or}
@@ -30,7 +31,7 @@ use Rattle.dns_read.specs.SectionStarts.{records_of, StartsAreFound}
 use Rattle.dns_build.specs.KnownByState.{RewindsLeaveNothing}
 use Rattle.dns_build.specs.MessageOf.{ReadsBack}
 use Rattle.dns_build.specs.Standing.{Built, MovesState, StandsFor, fresh}
-use Rattle.dns_build.specs.State.{State, InAnswer, move_to, rewound, up_to, with_record}
+use Rattle.dns_build.specs.State.{State, InAnswer, move_to, rewound, up_to, with_record, with_records}
 use Rattle.dns_build.specs.declared.push_error.PushError.{PushError}
 use Rattle.dns_build.specs.TypedReading.{AllStandAs, IsLaidOutBy, PushedRecordsStand, StandsAs, taken, TypedRecordsReadBack}
 use Rattle.dns_tests.specs.Typed.{HasOneAnswer, WasPushedFirst, server_record, address_record}
@@ -77,7 +78,9 @@ in_vain law rule x old full new result refused accepted rewinds s stands none = 
 
     by : (result : Result (Unit {0}) PushError) → OnErr result (full ≡ old) → OnOk result (MovesState InAnswer InAnswer rule (with_record InAnswer x) old full) → new ≡ old
     by (Ok u) refused accepted = law.records InAnswer rule s (x ∷ []) old full new stands empty (accepted s stands) rewinds
-    by (Err e) refused accepted = law.records InAnswer rule s [] old full new stands empty (subst (StandsFor InAnswer rule s) (sym refused) stands) rewinds
+    by (Err e) refused accepted =
+        let same : s ≡ with_records InAnswer [] s = λ i. record s { answers = sym (append-nil s.answers) i } in
+        law.records InAnswer rule s [] old full new stands empty (subst (λ (q : State × Built). StandsFor InAnswer rule q.0 q.1) (λ i. (same i, sym refused i)) stands) rewinds
 
 module _ {D : Type 0} (rtype_of : D → ℕ) (parts_of : D → List Part) where
   -- where one record is left, it is what is given

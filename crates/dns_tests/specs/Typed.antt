@@ -1,8 +1,8 @@
 -- What the proved callers that read by data types say.
-use Rattle.std.specs.Prelude.{◌≡◌, ℕ, List, [], ◌∷◌, Option, Ok, IsSomeAnd}
+use Rattle.std.specs.Prelude.{◌≡◌, ℕ, List, [], ◌∷◌, Option, Ok}
 use Rattle.dns_name.specs.Names.{Labels}
 use Rattle.dns_wire.specs.Parts.{Octets, CompressibleName}
-use Rattle.dns_data.specs.Layout.{Layout, IsLaidOut}
+use Rattle.dns_data.specs.Layout.{Layout}
 use Rattle.dns_item.specs.Items.{RecordItem}
 use Rattle.dns_read.specs.SectionStarts.{records_of}
 use Rattle.dns_section.specs.Limited.{limited}
@@ -10,6 +10,7 @@ use Rattle.dns_section.specs.Sections.{AnswersStart}
 use Rattle.dns_section.specs.declared.section.Section.TheVariants.{Answer}
 use Rattle.dns_build.specs.MessageOf.{ReadsBack}
 use Rattle.dns_build.specs.State.{State}
+use Rattle.dns_build.specs.TypedReading.{IsTakenBy}
 
 -- the answers start somewhere, and reading them with a data type gives this record and nothing else, without a fault
 pub record HasOneAnswer (layouts : ℕ → Option Layout) (b : List ℕ) (x : RecordItem) : Type 0 where
@@ -31,4 +32,4 @@ pub record WasPushedFirst (layouts : ℕ → Option Layout) (b : List ℕ) (x : 
   pub reads_back : ReadsBack s b
   pub behind : List RecordItem
   pub first : s.answers ≡ x ∷ behind
-  pub laid : IsSomeAnd (layouts x.rtype) (λ layout. IsLaidOut layout x.parts)
+  pub laid : IsTakenBy layouts x

@@ -1,8 +1,9 @@
-use Rattle.dns_build.proofs.AnswerLemmas.{takes-answer, takes-failure}
+use Rattle.std.proofs.Common.{inl, inr}
+use Rattle.dns_build.proofs.AnswerLemmas.{takes_either}
 use Rattle.dns_build.proofs.answer.Builder+T+AtBuilder.start_error.Goals as goal
 
 pub returns-in-Ok : goal.returns-in-Ok
-returns-in-Ok g c s stands = takes-answer _ _ _ _ _ _ _ _ c.in-Ok.is (c.try_start_answer.ensures s stands)
+returns-in-Ok g c s stands = takes_either _ _ _ _ _ _ _ (inl c.in-Ok.is) (c.try_start_answer.ensures s stands)
 
 pub returns-in-Err : goal.returns-in-Err
-returns-in-Err g c s stands = takes-failure _ _ _ _ _ _ _ _ c.in-Err.is (c.try_start_answer.ensures s stands)
+returns-in-Err g c s stands = takes_either _ _ _ _ _ _ _ (inr c.in-Err.is) (c.try_start_answer.ensures s stands)

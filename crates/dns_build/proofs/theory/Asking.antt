@@ -1,0 +1,23 @@
+-- The messages of questions that are pushed.
+use Rattle.std.proofs.Common.{◌≡◌, ◌≤◌, ℕ, Bool, Option, List, [], ◌∷◌, ◌++◌, append_assoc, append-nil, sym, refl, subst}
+use Rattle.dns_wire.specs.Pieces.{Rule}
+use Rattle.dns_question.specs.Questions.{QuestionItem}
+use Rattle.dns_build.specs.Answers.{AreAccepted}
+use Rattle.dns_build.specs.Standing.{size_after}
+use Rattle.dns_build.specs.State.{State, with_question, with_questions}
+
+module _ (room : Option ℕ) (grows : Bool) (rule : Rule) (s : State) where
+  -- behind questions within the limit, all are within it
+  all_within : (xs ys : List QuestionItem) → AreAccepted room grows rule s (xs ++ ys) → size_after rule (with_questions xs) s ≤ s.limit → size_after rule (with_questions (xs ++ ys)) s ≤ s.limit
+  all_within xs [] accepted l = subst (λ (zs : List QuestionItem). size_after rule (with_questions zs) s ≤ s.limit) (sym (append-nil xs)) l
+  all_within xs (y ∷ ys) accepted l =
+      let e : with_question y (with_questions xs s) ≡ with_questions (xs ++ y ∷ []) s = λ i. record s { questions = append_assoc s.questions xs (y ∷ []) i } in
+      let m = subst (λ (t : State). size_after rule (λ u. u) t ≤ s.limit) e (accepted xs y ys refl).1 in
+      let others = all_within (xs ++ y ∷ []) ys (subst (AreAccepted room grows rule s) (sym (append_assoc xs (y ∷ []) ys)) accepted) m in
+      subst (λ (zs : List QuestionItem). size_after rule (with_questions zs) s ≤ s.limit) (append_assoc xs (y ∷ []) ys) others
+
+  -- where questions are accepted, a message within its limit stays so
+  pub accepted_within : (xs : List QuestionItem) → AreAccepted room grows rule s xs → size_after rule (λ t. t) s ≤ s.limit → size_after rule (with_questions xs) s ≤ s.limit
+  accepted_within xs accepted l =
+      let e : s ≡ with_questions [] s = λ i. record s { questions = sym (append-nil s.questions) i } in
+      all_within [] xs accepted (subst (λ (t : State). size_after rule (λ u. u) t ≤ s.limit) e l)
