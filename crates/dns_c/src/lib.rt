@@ -14,15 +14,17 @@ mod text;
 mod walk;
 mod words;
 
-ghost use Rattle.std.specs.Prelude.{◌≡◌, ◌≢◌, ◌<◌, ◌≤◌, ◌+◌, ◌++◌, ◌∷◌, [], length, take, get_or};
+ghost use Rattle.std.specs.Prelude.{◌≡◌, ◌≢◌, ◌<◌, ◌≤◌, ◌+◌, ◌++◌, ◌∷◌, [], length, take, get_or, true};
 ghost use Rattle.dns_name.specs.NameTexts.{name_text};
 ghost use Rattle.dns_name.specs.Names.{Labels, Stands, uncompressed};
+ghost use Rattle.dns_code.specs.Header.{fields_in};
 ghost use Rattle.dns_code.specs.HeaderSection.{header_size};
 ghost use Rattle.dns_number.specs.Classes.{class_text};
 ghost use Rattle.dns_number.specs.Types.{type_text};
+ghost use Rattle.dns_question.specs.Questions.{QuestionItem};
 ghost use Rattle.dns_c.specs.Built.{IsBuilt, IsUnbuilt};
 ghost use Rattle.dns_c.specs.Codes.{number_of};
-ghost use Rattle.dns_c.specs.Made.{AsksNothing, IsLonger, IsQuery, IsResponse, LacksName, SpellsNoName};
+ghost use Rattle.dns_c.specs.Made.{AsksNothing, AsksOne, HoldsQuery, IsLonger, IsQuery, IsResponse, LacksName, SpellsNoName};
 ghost use Rattle.dns_c.specs.Steps.{IsOpen, Opens, Spans, GivesNext};
 ghost use Rattle.dns_c.specs.Texts.{NoRecordAt, RecordAt, data_text};
 ghost use Rattle.dns_item.specs.Items.{RecordEntry};
@@ -76,6 +78,7 @@ pub extern "C" fn dns_name_text(message: &[u8], place: usize, out: &mut [u8], le
         × (take (len.new + 1) out.new ≡ name_text name ++ 46 ∷ 0 ∷ []) }
     ensures no_room { result ≡ number_of Fault.NoRoom → (name : Labels)
         × Stands message.now place name × (length out.old < length (name_text name) + 2) }
+    ensures short { result ≡ number_of Fault.NoRoom → length out.old < 1005 }
     ensures no_name { result ≢ 0 → result ≢ number_of Fault.NoRoom
         → LacksName message.now place result }
 {
@@ -207,6 +210,14 @@ pub extern "C" fn dns_respond_a(
     ensures short { result ≡ number_of Fault.NoRoom → length out.old < 512 }
     ensures no_question { result ≢ 0 → result ≢ number_of Fault.NoRoom
         → AsksNothing query.now result }
+    ensures is_response { header_size ≤ length query.now
+        → (fields_in (take 4 query.now)).qr ≡ true → result ≡ number_of Fault.IsResponse }
+    ensures other_opcode { HoldsQuery query.now → (fields_in (take 4 query.now)).opcode ≢ 0
+        → result ≡ number_of Fault.OtherOpcode }
+    ensures other_class { (x : QuestionItem) → AsksOne query.now x → x.class ≢ 1
+        → result ≡ number_of Fault.OtherClass }
+    ensures other_type { (x : QuestionItem) → AsksOne query.now x → x.class ≡ 1
+        → x.rtype ≢ 1 → x.rtype ≢ 255 → result ≡ number_of Fault.OtherType }
 {
     match make::respond_a(query, authoritative, ttl, address) {
         Ok(made) => make::hand_out(made.as_slice(), out, len),

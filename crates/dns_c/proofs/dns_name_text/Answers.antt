@@ -1,5 +1,7 @@
-use Rattle.std.proofs.Common.{◌∙◌, ◌∷◌, [], append_assoc}
+use Rattle.std.proofs.Common.{◌∙◌, ◌∷◌, [], append_assoc, arith, length-append, sym}
+use Rattle.dns_name.specs.Unique.{standing_name}
 use Rattle.dns_name.specs.NameTexts.{name_text}
+use Rattle.dns_c.proofs.TextSizes.{name_text_short}
 use Rattle.dns_c.proofs.dns_name_text.Goals as goal
 
 pub returns-in-Ok-clause-text : goal.returns-in-Ok-clause-text
@@ -7,3 +9,11 @@ returns-in-Ok-clause-text c =
     λ written.
     let name = c.in-Ok.ensures.text in
     (name.0, name.1, c.finish.ensures.text _ name.2 written ∙ append_assoc (name_text name.0) (46 ∷ []) (0 ∷ []))
+
+pub returns-in-Ok-clause-short : goal.returns-in-Ok-clause-short
+returns-in-Ok-clause-short c =
+    λ room.
+    let name = c.in-Ok.ensures.text in
+    let short = name_text_short name.0 (standing_name name.1) in
+    let both = length-append (name_text name.0) (46 ∷ []) in
+    omega (arith, c.finish.ensures.room _ name.2 (λ written. let none = sym written ∙ room in omega arith))
