@@ -1,20 +1,20 @@
 -- The rows of items.
-use Rattle.std.proofs.Common.{◌≡◌, ℕ, suc, ◌+◌, ◌<◌, ◌≤◌, inl, inr, List, [], ◌∷◌, ◌++◌, length, Option, Some, None, ◌∙◌, ap, subst, sym, refl, arith, add-one, append_assoc, append-nil, IsTrue}
+use Rattle.std.proofs.Common.{◌≡◌, ℕ, suc, ◌+◌, ◌<◌, ◌≤◌, inl, inr, List, [], ◌∷◌, ◌++◌, length, Option, Some, None, ◌∙◌, ap, subst, sym, refl, arith, add-one, append_assoc, append-nil, take, false, IsTrue}
 use Rattle.std.proofs.lemmas.List.Elements.{All-nil}
 use Rattle.std.specs.Int.{w16, w32}
 use Rattle.dns_name.specs.Names.Fault.{ShortInput}
 use Rattle.dns_name.specs.Parsers.{number_at}
-use Rattle.dns_question.proofs.theory.FieldsBehindNames.{long_or_short}
+use Rattle.dns_rows.specs.Data.{shape_of, ShowsData}
+use Rattle.dns_rows.specs.Walks.StopsWithin.{missing, stopped}
 use Rattle.dns_question.specs.BehindNames.FieldsFaultAt.{name as name_fault, short as short_fields}
 use Rattle.dns_code.specs.HeaderCounts.{Counts}
 use Rattle.dns_item.specs.Items.{RecordEntry, ReadsRecord}
 use Rattle.dns_item.specs.Items.LacksRecord.{fields as lacks_fields, rdata as lacks_data}
-use Rattle.dns_rows.specs.Entries.{holds_records, item_row, number_rows, ArePlain, FirstItems, ItemStops, parts_of, QuestionStops, RecordStops, ShowsItem, ShowsParts, ShowsQuestion, ShowsRecord, StopsItem}
+use Rattle.dns_rows.specs.Entries.{holds_records, item_row, number_rows, FirstItems, ItemStops, parts_of, QuestionStops, RecordStops, ShowsItem, ShowsParts, ShowsQuestion, ShowsRecord, StopsItem}
 use Rattle.dns_rows.specs.Entries.FirstItems.{none, next}
 use Rattle.dns_rows.specs.Entries.ShowsParts.{none as no_more, all, fault as fault_among}
 use Rattle.dns_rows.specs.Fields.{field_row, IsField}
-use Rattle.dns_rows.specs.Tiles.{Tiles}
-use Rattle.dns_rows.specs.Walks.{at, octets, Adds, Begun, Goes, HasNoName, MarksAmong, MarksFirst, MarksItem, MarksParts, MarksStop, PassesItemName, PassesNumbers}
+use Rattle.dns_rows.specs.Walks.{at, octets, Adds, Begun, Goes, HasNoName, MarksAmong, MarksFirst, MarksItem, MarksParts, MarksStop, PassesItemName, PassesNumbers, MarksWithin, StopsWithin}
 use Rattle.dns_rows.specs.declared.row.Fault.{Fault as RowFault}
 use Rattle.dns_rows.specs.declared.row.Field.TheVariants as fields
 use Rattle.dns_rows.specs.declared.row.NameOf.TheVariants as names
@@ -112,28 +112,32 @@ reads_record row rtype len old a b h k there =
     let end : at a + 10 + len ≡ at a + (10 + number_at w16 (octets old) (at a + 8)) = omega (arith, len_there) in
     record { skips = record { name_end = at a; walked = h.walked; end = end; within = there }; owner = h.stands; rtype = rtype_there; class = refl; ttl = refl; data_start = refl; data_end = refl }
 
-tiles_order : (rows : List Row) (from to : ℕ) → Tiles rows from to → from ≤ to
-tiles_order [] from to h = omega (arith, h)
-tiles_order (row ∷ rows) from to h = omega (arith, h.1, tiles_order rows row.end to h.2)
-
 -- a record whose data isn't all there, or can't be read
-pub data_stops : (row : Row) (rtype len : ℕ) (old a b : Walk) (others : List Row) (place : ℕ) → PassesItemName names.Owner row old a → PassesNumbers rtype len a b
-    → ArePlain others (at b) place → RecordStops (octets old) (at old) place
-data_stops row rtype len old a b others place h k plain =
-    let order = tiles_order others (at b) place plain.fields.tiles in
+pub data_stops : (row : Row) (rtype len : ℕ) (old a b new : Walk) → PassesItemName names.Owner row old a → PassesNumbers rtype len a b
+    → StopsWithin rtype len b new → RecordStops (octets old) (at old) (at new)
+data_stops row rtype len old a b new h k (missing short) =
     let len_there : len ≡ number_at w16 (octets old) (at a + 8) = subst (λ b. len ≡ number_at w16 b (at a + 8)) h.adds.seen k.len_there in
     let whole : at a + 10 ≤ length (octets old) = subst (λ (b : List ℕ). at a + 10 ≤ length b) h.adds.seen k.within in
-    elim (long_or_short (octets old) (at a + 10 + len)) [
-      | inl there ↦
-          let r = entry_of h.labels (octets old) (at a) rtype len in
-          let from : at a + 10 ≤ place = omega (arith, order, k.adds.place) in
-          inr (record { entry = r; end = at a + 10 + len; reads = reads_record row rtype len old a b h k there; from = from })
-      | inr short ↦ inl (ShortInput, short_fields h.stands h.walked (lacks_data whole (omega (arith, short, len_there))))
-    ]
+    let same : length (octets b) ≡ length (octets old) = ap length (k.adds.seen ∙ h.adds.seen) in
+    inl (ShortInput, short_fields h.stands h.walked (lacks_data whole (omega (arith, short, len_there, same, k.adds.place))))
+data_stops row rtype len old a b new h k (stopped stops there w left) =
+    let seen = k.adds.seen ∙ h.adds.seen in
+    let same = ap length seen in
+    let there_too : at a + 10 + len ≤ length (octets old) = omega (arith, there, same, k.adds.place) in
+    let P : List ℕ → ℕ → Type 0 = λ b p. ShowsData (take (p + len) b) (shape_of rtype) stops p (at new) w.rows in
+    inr (record {
+      entry = entry_of h.labels (octets old) (at a) rtype len;
+      end = at a + 10 + len;
+      reads = reads_record row rtype len old a b h k there_too;
+      data_rows = w.rows;
+      stops = stops;
+      value = subst (λ p. P (octets old) p) k.adds.place (subst (λ o. P o (at b)) seen w.shows);
+      left_over = λ e. omega (arith, left e, k.adds.place);
+    })
 
 -- a record of an owner, its numbers and its data
 pub marks_record : (part : Part) (number rtype len : ℕ) (old a b new : Walk) → IsTrue (holds_records part) → PassesItemName names.Owner (item_row part number (at old)) old a
-    → PassesNumbers rtype len a b → Goes b.rows.items (at b) new.rows.items (at new) → octets new ≡ octets b → at new ≡ at b + len → at b + len ≤ length (octets b)
+    → PassesNumbers rtype len a b → MarksWithin rtype len false b new → octets new ≡ octets b → at new ≡ at b + len → at b + len ≤ length (octets b)
     → MarksItem part number old new
 marks_record part number rtype len old a b new records h k g seen place within =
     let r = at a in
@@ -142,16 +146,17 @@ marks_record part number rtype len old a b new records h k g seen place within =
     let to : at new ≡ r + 10 + len = omega (arith, place, k.adds.place) in
     let named = adds_then (item_row part number (at old) ∷ h.rows) (number_rows rtype r) r (r + 10) old a b h.adds k.adds in
     let front = item_row part number (at old) ∷ h.rows in
-    let rows = front ++ (number_rows rtype r ++ g.others) in
-    let joined : (front ++ number_rows rtype r) ++ g.others ≡ rows = append_assoc front (number_rows rtype r) g.others in
-    let P : ℕ → ℕ → Type 0 = λ from to. ArePlain g.others from to in
-    let value : ArePlain g.others (r + 10) (r + 10 + len) = subst (λ from. P from (r + 10 + len)) k.adds.place (subst (λ to. P (at b) to) to g.plain) in
+    let rows = front ++ (number_rows rtype r ++ g.rows) in
+    let joined : (front ++ number_rows rtype r) ++ g.rows ≡ rows = append_assoc front (number_rows rtype r) g.rows in
+    let P : List ℕ → ℕ → ℕ → Type 0 = λ b from to. ShowsData (take (from + len) b) (shape_of rtype) false from to g.rows in
+    let value : P (octets old) (r + 10) (r + 10 + len) =
+    subst (λ from. P (octets old) from (r + 10 + len)) k.adds.place (subst (λ o. P o (at b) (r + 10 + len)) (k.adds.seen ∙ h.adds.seen) (subst (λ to. P (octets b) (at b) to) to g.shows)) in
     let shows : ShowsRecord (octets old) part number (at old) (r + 10 + len) rows = record {
       entry = entry_of h.labels (octets old) r rtype len;
       reads = reads_record (item_row part number (at old)) rtype len old a b h k there;
       owner_rows = h.rows;
       owner = h.shows;
-      data_rows = g.others;
+      data_rows = g.rows;
       value = value;
       made = refl;
     } in
@@ -159,7 +164,7 @@ marks_record part number rtype len old a b new records h k g seen place within =
     record {
       rows = rows;
       adds = record {
-        rows = g.made ∙ ap (λ rows. rows ++ g.others) named.rows ∙ append_assoc old.rows.items (front ++ number_rows rtype r) g.others ∙ ap (λ rows. old.rows.items ++ rows) joined;
+        rows = g.adds ∙ ap (λ rows. rows ++ g.rows) named.rows ∙ append_assoc old.rows.items (front ++ number_rows rtype r) g.rows ∙ ap (λ rows. old.rows.items ++ rows) joined;
         seen = seen ∙ k.adds.seen ∙ h.adds.seen;
         place = refl;
       };

@@ -1,3 +1,4 @@
+mod DataRows
 mod Items
 mod Names
 mod Stops

@@ -1,12 +1,12 @@
 -- The rows of names.
+use Rattle.dns_rows.specs.Named.{NameRows}
 use Rattle.std.proofs.Common.{◌≡◌, ℕ, ◌+◌, ◌<◌, ◌≤◌, OnOk, Result, Err, ◌⊎◌, inl, inr, List, [], ◌∷◌, ◌++◌, length, slice_get, Option, Some, None, Ok, ◌∙◌, ap, subst, sym, refl, arith, append_assoc}
 use Rattle.dns_name.specs.Names.{head_at, max_size, Stands, Walked, WalkedBehind}
 use Rattle.dns_name.specs.Names.WalkedBehind.{root as root_walked, pointer as pointer_walked, label as label_walked}
 use Rattle.dns_name.specs.declared.head.Head.TheVariants.{Label}
 use Rattle.dns_name.specs.Unique.{label_of}
 use Rattle.dns_name.proofs.theory.HeadLemmas.{label_there, root_there, root_begins}
-use Rattle.dns_rows.specs.Entries.{NameRows}
-use Rattle.dns_rows.specs.Entries.NameRows.{root as root_rows, pointer as pointer_rows, label as label_rows}
+use Rattle.dns_rows.specs.Named.NameRows.{root as root_rows, pointer as pointer_rows, label as label_rows}
 use Rattle.dns_rows.specs.Fields.{field_row}
 use Rattle.dns_rows.specs.Walks.{at, octets, Adds, IsEnd, IsLabelAt, PassesLabels, PassesAllLabels, PassesEnd, PassesName, PassesItemName}
 use Rattle.dns_rows.specs.Walks.IsEnd.{root as root_end, pointer as pointer_end}

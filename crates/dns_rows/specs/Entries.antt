@@ -1,32 +1,21 @@
 -- The rows of questions and records, one for each field, and where a fault ends them. RFC 1035 sections 4.1.2 to 4.1.4.
 --
 -- `b` are the octets of the message.
-use Rattle.std.specs.Prelude.{◌≡◌, ℕ, suc, ◌+◌, ◌<◌, ◌≤◌, ◌⊎◌, ◌==◌, Bool, true, false, if◌then◌else◌, List, [], ◌∷◌, ◌++◌, Option, Some, None, Ok}
-use Rattle.dns_name.specs.Names.{head_at, Fault}
-use Rattle.dns_name.specs.declared.head.Head.TheVariants.{Root, Label, Pointer}
+use Rattle.std.specs.Prelude.{◌≡◌, ℕ, suc, ◌+◌, ◌<◌, ◌⊎◌, ◌==◌, Bool, true, false, if◌then◌else◌, List, [], ◌∷◌, ◌++◌, Option, Some, None}
+use Rattle.dns_name.specs.Names.{Fault}
 use Rattle.dns_question.specs.Questions.{QuestionItem, ReadsQuestion, QuestionFaultAt}
 use Rattle.dns_item.specs.Items.{RecordEntry, ReadsRecord, RecordFaultAt}
 use Rattle.dns_code.specs.HeaderCounts.{Counts}
-use Rattle.dns_rows.specs.Fields.{field_row, item_count, AreFields}
+use Rattle.dns_item.specs.RecordReading.{up_to_data_end}
+use Rattle.dns_rows.specs.Data.{shape_of, ShowsData}
+use Rattle.dns_rows.specs.Fields.{field_row, ArePlain}
+use Rattle.dns_rows.specs.Named.{NameRows}
 use Rattle.dns_rows.specs.declared.row.Row.{Row}
 use Rattle.dns_rows.specs.declared.row.Part.{Part}
 use Rattle.dns_rows.specs.declared.row.Part.TheVariants.{Question, Answer, Authority, Additional}
-use Rattle.dns_rows.specs.declared.row.NameOf.{NameOf}
 use Rattle.dns_rows.specs.declared.row.NameOf.TheVariants as names
 use Rattle.dns_rows.specs.declared.row.Field.TheVariants as fields
 use Rattle.dns_rows.specs.declared.row.Fault as rows
-
--- The rows from a label of a name on, which begins at `start`: one for each label, and one for the root label or the pointer that ends it. RFC 1035 section 4.1.4.
-pub data NameRows (b : List ℕ) (of : NameOf) (start : ℕ) : ℕ → ℕ → List Row → Type 0 where
-  root : {p : ℕ} → head_at b p ≡ Ok Root → NameRows b of start p (p + 1) (field_row p (p + 1) (fields.Root of start) ∷ [])
-  pointer : {p t : ℕ} → head_at b p ≡ Ok (Pointer t) → NameRows b of start p (p + 2) (field_row p (p + 2) (fields.Pointer of start) ∷ [])
-  label : {p n q : ℕ} {rows : List Row} → head_at b p ≡ Ok (Label n) → NameRows b of start (p + 1 + n) q rows
-      → NameRows b of start p q (field_row p (p + 1 + n) (fields.Label of) ∷ rows)
-
--- rows of fields from p to q, none of which begins an item
-pub record ArePlain (rows : List Row) (p q : ℕ) : Type 0 where
-  pub fields : AreFields rows p q
-  pub plain : item_count rows ≡ 0
 
 -- the row where an item begins
 abbrev pub item_row : Part → ℕ → ℕ → Row
@@ -63,7 +52,7 @@ pub record ShowsRecord (b : List ℕ) (part : Part) (number p q : ℕ) (rows : L
   pub owner_rows : List Row
   pub owner : NameRows b names.Owner p p reads.skips.name_end owner_rows
   pub data_rows : List Row
-  pub value : ArePlain data_rows entry.data_start entry.data_end
+  pub value : ShowsData (up_to_data_end b entry) (shape_of entry.rtype) false entry.data_start entry.data_end data_rows
   pub made : let r = reads.skips.name_end in
       rows ≡ item_row part number p ∷ (owner_rows ++ (number_rows entry.rtype r ++ data_rows))
 
@@ -71,12 +60,15 @@ pub record ShowsRecord (b : List ℕ) (part : Part) (number p q : ℕ) (rows : L
 abbrev pub QuestionStops : List ℕ → ℕ → ℕ → Type 0
 QuestionStops b p place = (f : Fault) × QuestionFaultAt b p f
 
--- The fault stands in the data of a record at p that can be read.
+-- A record at p can be read, but not its data: a field of it stops at the place, or octets are left over behind all of them there.
 pub record DataStops (b : List ℕ) (p place : ℕ) : Type 0 where
   pub entry : RecordEntry
   pub end : ℕ
   pub reads : ReadsRecord b p end entry
-  pub from : entry.data_start ≤ place
+  pub data_rows : List Row
+  pub stops : Bool
+  pub value : ShowsData (up_to_data_end b entry) (shape_of entry.rtype) stops entry.data_start place data_rows
+  pub left_over : stops ≡ false → place < entry.data_end
 
 -- The fault of a record at p: it can't be read, or its data can't.
 abbrev pub RecordStops : List ℕ → ℕ → ℕ → Type 0

@@ -37,3 +37,8 @@ item_count rows = sum_by (λ row. items_of row.kind) rows
 pub record AreFields (rows : List Row) (from to : ℕ) : Type 0 where
   pub tiles : Tiles rows from to
   pub fields : All IsField rows
+
+-- rows of fields from p to q, none of which begins an item
+pub record ArePlain (rows : List Row) (p q : ℕ) : Type 0 where
+  pub fields : AreFields rows p q
+  pub plain : item_count rows ≡ 0

@@ -1,5 +1,7 @@
+pub mod Data
 pub mod Entries
 pub mod Fields
+pub mod Named
 pub mod Rows
 pub mod Shown
 pub mod Tiles

@@ -1,12 +1,14 @@
 -- What the steps of a walk over a message keep.
-use Rattle.std.specs.Prelude.{◌≡◌, ℕ, ◌+◌, ◌≤◌, List, ◌++◌, [], ◌∷◌, length, ⊤, Option, Result, Ok, Err}
+use Rattle.dns_rows.specs.Data.{shape_of, Shape, ShowsData}
+use Rattle.dns_rows.specs.Named.{NameRows}
+use Rattle.std.specs.Prelude.{◌<◌, Bool, ◌≡◌, ℕ, ◌+◌, ◌≤◌, List, ◌++◌, [], ◌∷◌, length, ⊤, Option, Result, Ok, Err, take, false}
 use Rattle.std.specs.Int.{w16}
 use Rattle.dns_name.specs.Names.{head_at, max_size, Fault, FaultAt, Labels, Stands, Walked, WalkedBehind}
 use Rattle.dns_name.specs.Parsers.{input, place, number_at, seen}
 use Rattle.dns_name.specs.declared.head.Head.TheVariants.{Root, Label, Pointer}
 use Rattle.dns_code.specs.HeaderSection.{header_size}
-use Rattle.dns_rows.specs.Entries.{item_row, number_rows, ArePlain, FirstItems, NameRows, ShowsItem, ShowsParts, StopsAmong, StopsItem}
-use Rattle.dns_rows.specs.Fields.{AreFields, item_count}
+use Rattle.dns_rows.specs.Entries.{item_row, number_rows, FirstItems, ShowsItem, ShowsParts, StopsAmong, StopsItem}
+use Rattle.dns_rows.specs.Fields.{AreFields, item_count, ArePlain}
 use Rattle.dns_rows.specs.declared.row.Fault as rows
 use Rattle.dns_rows.specs.declared.row.NameOf.{NameOf}
 use Rattle.dns_rows.specs.declared.row.Part.{Part}
@@ -167,3 +169,20 @@ abbrev pub OnFaultOf : {T : Type 0} → Result T Stop → (rows.Fault → Type 0
 OnFaultOf (Ok _) P = ⊤
 OnFaultOf (Err (stops.Fault fault)) P = P fault
 OnFaultOf (Err stops.Memory) P = ⊤
+
+-- a walk that passed the fields of data, or stopped in one
+pub record MarksData (shape : Shape) (stops : Bool) (old new : Walk) : Type 0 where
+  pub rows : List Row
+  pub adds : new.rows.items ≡ old.rows.items ++ rows
+  pub shows : ShowsData (octets old) shape stops (at old) (at new) rows
+
+-- a walk that passed the data of a record, which has so many octets, or stopped in it
+pub record MarksWithin (rtype len : ℕ) (stops : Bool) (old new : Walk) : Type 0 where
+  pub rows : List Row
+  pub adds : new.rows.items ≡ old.rows.items ++ rows
+  pub shows : ShowsData (take (at old + len) (octets old)) (shape_of rtype) stops (at old) (at new) rows
+
+-- why a walk stopped at the data of a record: it isn't all there, or a field of it stops, or octets are left over
+pub data StopsWithin (rtype len : ℕ) (old new : Walk) : Type 0 where
+  missing : length (octets old) < at old + len → StopsWithin rtype len old new
+  stopped : (stops : Bool) → at old + len ≤ length (octets old) → MarksWithin rtype len stops old new → (stops ≡ false → at new < at old + len) → StopsWithin rtype len old new

@@ -1,8 +1,8 @@
 //! The octets of a message as rows, one for each field.
 //!
 //! It promises that the rows of any octets cover them, each exactly once and in order. Fewer than twelve octets are one row; of
-//! others the first six rows are those of the header section, and behind them come those of fields, of a fault, if there is one,
-//! and of what is left. Which fields these are is tested.
+//! others the first six rows are those of the header section. Behind them come those of the questions and records that can be
+//! read, field by field and in order, up to the first that can't, then that of its fault, and that of what is left.
 #![tactic(auto)]
 
 mod octets;

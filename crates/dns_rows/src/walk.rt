@@ -1,13 +1,15 @@
 //! A walk over a message that makes a row of each field (RFC 1035 sections 3.3 and 4.1, RFC 6891 section 6.1.2).
-ghost use Rattle.std.specs.Prelude.{◌≡◌, ◌+◌, ◌<◌, ◌≤◌, ◌∷◌, ◌++◌, ℕ, [], IsNone, OnOk, IfOk, IfSome, IfErr, IsTrue, length, slice_get, Some, None};
+ghost use Rattle.std.specs.Prelude.{◌≡◌, ◌+◌, ◌<◌, ◌≤◌, ◌∷◌, ◌++◌, ℕ, [], IsNone, OnOk, IfOk, IfSome, IfErr, IsTrue, length, slice_get, Some, None, true, false};
 ghost use Rattle.std.specs.Int.{w16};
 ghost use Rattle.dns_name.specs.Parsers.{input, place, seen, number_at};
 ghost use Rattle.dns_code.specs.HeaderCounts.{counts};
 ghost use Rattle.dns_code.specs.HeaderSection.{header_size};
 ghost use Rattle.dns_rows.specs.Fields.{items_at, IsField, field_row};
 ghost use Rattle.dns_rows.specs.Shown.{sum_of};
+ghost use Rattle.dns_rows.specs.Data.{shape_of, zone_shape};
+ghost use Rattle.dns_rows.specs.Data.Shape.{End, Octets, Named, Repeated, Rest};
 ghost use Rattle.dns_rows.specs.Entries.{class_rows, holds_records, item_row, parts_of};
-ghost use Rattle.dns_rows.specs.Walks.{at, octets, items, IsMarked, Comes, Keeps, Adds, OnFault, HasNoName, IsEnd, IsLabelAt, PassesLabels, PassesAllLabels, PassesEnd, PassesName, PassesItemName, Begun, PassesNumbers, MarksItem, MarksStop, MarksFirst, MarksAmong, MarksParts, OnFaultOf};
+ghost use Rattle.dns_rows.specs.Walks.{at, octets, items, IsMarked, Comes, Keeps, Adds, OnFault, HasNoName, IsEnd, IsLabelAt, PassesLabels, PassesAllLabels, PassesEnd, PassesName, PassesItemName, Begun, PassesNumbers, MarksItem, MarksStop, MarksFirst, MarksAmong, MarksParts, MarksData, MarksWithin, StopsWithin, OnFaultOf};
 
 use crate::octets::target_of;
 use crate::row::{Fault, Field, NameOf, Part, Row, ZoneNumber};
@@ -85,6 +87,7 @@ impl<'a> Walk<'a> {
             (at self.old + n) self.old self.new) }
         ensures within { OnOk result (at self.old + n ≤ length (octets self.old)) }
         ensures short { OnFault result (length (octets self.old) < at self.old + n) }
+        ensures stays { OnFault result (self.new ≡ self.old) }
     {
         let mut behind = self.parser;
         if behind.advance(n).is_err() {
@@ -105,6 +108,7 @@ impl<'a> Walk<'a> {
         ensures within { OnOk result (at self.old + 2 ≤ length (octets self.old)) }
         ensures number { IfOk result (λ n. n ≡ number_at w16 (octets self.old) (at self.old)) }
         ensures short { OnFault result (length (octets self.old) < at self.old + 2) }
+        ensures stays { OnFault result (self.new ≡ self.old) }
     {
         let mut behind = self.parser;
         let Ok(number) = behind.parse_u16_be() else {
@@ -354,6 +358,8 @@ impl<'a> Walk<'a> {
         ensures there { OnOk result (at self.old + len ≤ length (octets self.old)) }
         ensures seen { OnOk result (octets self.new ≡ octets self.old) }
         ensures place { OnOk result (at self.new ≡ at self.old + len) }
+        ensures shows { OnOk result (MarksWithin rtype len false self.old self.new) }
+        ensures stops { OnFault result (StopsWithin rtype len self.old self.new) }
     {
         let mut behind = self.parser;
         let Ok(inner) = behind.parse_parser(len) else {
@@ -373,13 +379,16 @@ impl<'a> Walk<'a> {
         requires { IsMarked self.old }
         ensures comes { Comes 0 self.old self.new }
         ensures keeps { Keeps self.old self.new }
+        ensures sees { OnOk result (octets self.new ≡ octets self.old) }
+        ensures shows { OnOk result (MarksData (shape_of rtype) false self.old self.new) }
+        ensures stops { OnFault result (MarksData (shape_of rtype) true self.old self.new) }
     {
         match rtype {
-            Rtype::A => self.octets(4, Field::Address),
-            Rtype::AAAA => self.octets(16, Field::LongAddress),
-            Rtype::NS => self.name(NameOf::Server),
-            Rtype::CNAME => self.name(NameOf::Canonical),
-            Rtype::PTR => self.name(NameOf::Target),
+            Rtype::A => self.only_octets(4, Field::Address),
+            Rtype::AAAA => self.only_octets(16, Field::LongAddress),
+            Rtype::NS => self.only_name(NameOf::Server),
+            Rtype::CNAME => self.only_name(NameOf::Canonical),
+            Rtype::PTR => self.only_name(NameOf::Target),
             Rtype::MX => self.exchange(),
             Rtype::SOA => self.zone(),
             Rtype::TXT => self.texts(),
@@ -388,11 +397,42 @@ impl<'a> Walk<'a> {
         }
     }
 
+    /// Data that is a field of `n` octets.
+    fn only_octets(&mut self, n: usize, field: Field) -> Result<(), Stop>
+        requires marked { IsMarked self.old }
+        requires some { 0 < n }
+        requires plain { items_at field ≡ 0 }
+        ensures comes { Comes 0 self.old self.new }
+        ensures keeps { Keeps self.old self.new }
+        ensures sees { OnOk result (octets self.new ≡ octets self.old) }
+        ensures shows { OnOk result (MarksData (Octets n field End) false self.old self.new) }
+        ensures stops { OnFault result (MarksData (Octets n field End) true self.old self.new) }
+    {
+        self.octets(n, field)?;
+        Ok(())
+    }
+
+    /// Data that is a name.
+    fn only_name(&mut self, name: NameOf) -> Result<(), Stop>
+        requires { IsMarked self.old }
+        ensures comes { Comes 0 self.old self.new }
+        ensures keeps { Keeps self.old self.new }
+        ensures sees { OnOk result (octets self.new ≡ octets self.old) }
+        ensures shows { OnOk result (MarksData (Named name End) false self.old self.new) }
+        ensures stops { OnFault result (MarksData (Named name End) true self.old self.new) }
+    {
+        self.name(name)?;
+        Ok(())
+    }
+
     /// Data that is one field: the octets that are left, if there are any.
     fn rest(&mut self) -> Result<(), Stop>
         requires { IsMarked self.old }
         ensures comes { Comes 0 self.old self.new }
         ensures keeps { Keeps self.old self.new }
+        ensures sees { OnOk result (octets self.new ≡ octets self.old) }
+        ensures shows { OnOk result (MarksData Rest false self.old self.new) }
+        ensures stops { OnFault result (MarksData Rest true self.old self.new) }
     {
         match self.parser.remaining() {
             0 => Ok(()),
@@ -405,9 +445,13 @@ impl<'a> Walk<'a> {
         requires { IsMarked self.old }
         ensures comes { Comes 0 self.old self.new }
         ensures keeps { Keeps self.old self.new }
+        ensures sees { OnOk result (octets self.new ≡ octets self.old) }
+        ensures shows { OnOk result (MarksData (Octets 2 Field.Preference (Named NameOf.Exchange End)) false self.old self.new) }
+        ensures stops { OnFault result (MarksData (Octets 2 Field.Preference (Named NameOf.Exchange End)) true self.old self.new) }
     {
         self.number(Field::Preference)?;
-        self.name(NameOf::Exchange)
+        self.name(NameOf::Exchange)?;
+        Ok(())
     }
 
     /// The data of SOA (RFC 1035 section 3.3.13).
@@ -415,6 +459,9 @@ impl<'a> Walk<'a> {
         requires { IsMarked self.old }
         ensures comes { Comes 0 self.old self.new }
         ensures keeps { Keeps self.old self.new }
+        ensures sees { OnOk result (octets self.new ≡ octets self.old) }
+        ensures shows { OnOk result (MarksData zone_shape false self.old self.new) }
+        ensures stops { OnFault result (MarksData zone_shape true self.old self.new) }
     {
         self.name(NameOf::Primary)?;
         self.name(NameOf::Mailbox)?;
@@ -422,7 +469,8 @@ impl<'a> Walk<'a> {
         self.octets(4, Field::Zone(ZoneNumber::Refresh))?;
         self.octets(4, Field::Zone(ZoneNumber::Retry))?;
         self.octets(4, Field::Zone(ZoneNumber::Expire))?;
-        self.octets(4, Field::Zone(ZoneNumber::Minimum))
+        self.octets(4, Field::Zone(ZoneNumber::Minimum))?;
+        Ok(())
     }
 
     /// The data of TXT (RFC 1035 section 3.3.14).
@@ -430,6 +478,9 @@ impl<'a> Walk<'a> {
         requires { IsMarked self.old }
         ensures comes { Comes 0 self.old self.new }
         ensures keeps { Keeps self.old self.new }
+        ensures sees { OnOk result (octets self.new ≡ octets self.old) }
+        ensures shows { OnOk result (MarksData Repeated false self.old self.new) }
+        ensures stops { OnFault result (MarksData Repeated true self.old self.new) }
     {
         for _ in 0..self.parser.remaining() {
             let Some(len) = self.first() else {
@@ -445,6 +496,9 @@ impl<'a> Walk<'a> {
         requires { IsMarked self.old }
         ensures comes { Comes 0 self.old self.new }
         ensures keeps { Keeps self.old self.new }
+        ensures sees { OnOk result (octets self.new ≡ octets self.old) }
+        ensures shows { OnOk result (MarksData Repeated false self.old self.new) }
+        ensures stops { OnFault result (MarksData Repeated true self.old self.new) }
     {
         for _ in 0..self.parser.remaining() {
             if self.parser.remaining() == 0 {
@@ -459,6 +513,7 @@ impl<'a> Walk<'a> {
         requires { IsMarked self.old }
         ensures comes { Comes 0 self.old self.new }
         ensures keeps { Keeps self.old self.new }
+        ensures sees { OnOk result (octets self.new ≡ octets self.old) }
     {
         let code = self.number(Field::OptionCode)?;
         match self.number(Field::OptionLength(code))? {

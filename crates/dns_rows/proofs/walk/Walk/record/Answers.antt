@@ -1,9 +1,8 @@
-use Rattle.std.proofs.Common.{ℕ, ◌+◌, ◌<◌, ◌++◌, ◌∷◌, [], ap, length, rules, subst, ◌≤◌, ◌∙◌}
-use Rattle.std.specs.Prelude.{⊤}
+use Rattle.std.proofs.Common.{ℕ, ◌+◌, ◌<◌, ◌≤◌, ◌++◌, ◌∷◌, [], ◌∙◌, ap, subst, length, false, rules}
 use Rattle.dns_rows.specs.Entries.{item_row}
-use Rattle.dns_rows.specs.Walks.{at, octets, Begun, HasNoName, MarksStop}
-use Rattle.dns_rows.proofs.Items.{data_stops, marks_record, marks_stop, nothing_yet, record_short, record_stops, record_unnamed}
-use Rattle.dns_rows.proofs.Stops.{always, on_fault, on_fault_2}
+use Rattle.dns_rows.specs.Walks.{at, octets, Begun, HasNoName, MarksStop, MarksWithin, StopsWithin}
+use Rattle.dns_rows.proofs.Items.{data_stops, marks_record, marks_stop, record_short, record_stops, record_unnamed}
+use Rattle.dns_rows.proofs.Stops.{on_fault, on_fault_2}
 use Rattle.dns_rows.proofs.walk.Walk.record.Goals as goal
 
 pub returns-in_err-item-clause-stops : goal.returns-in_err-item-clause-stops
@@ -34,15 +33,20 @@ returns-in_err-within-clause-stops c =
     let row = item_row c.args.part c.args.number (at old) in
     let front = old.rows.items ++ row ∷ [] in
     let begun : Begun c.args.part c.args.number old new = c.within.ensures.keeps front (at old) (c.record_fields.ensures.keeps front (at old) c.in_ok-item.ensures.begun) in
-    let goes = c.within.ensures.keeps b.rows.items (at b) (nothing_yet b) in
-    let stops = record_stops (octets old) c.args.part (at old) (at new) c.requires.part
-    (data_stops row c.in_ok-rtype.rtype c.in_ok-rtype.len old a b goes.others (at new) c.in_ok-item.ensures.passes c.in_ok-rtype.ensures.passes goes.plain) in
-    on_fault c.from_residual-in_err-within.result ⊤ (MarksStop c.args.part c.args.number old new) (λ _. marks_stop c.args.part c.args.number old new begun stops) (always c.from_residual-in_err-within.result)
+    on_fault c.from_residual-in_err-within.result (StopsWithin c.in_ok-rtype.rtype c.from.result b new) (MarksStop c.args.part c.args.number old new)
+    (λ h.
+    let P : ℕ → Type 0 = λ len. StopsWithin c.in_ok-rtype.rtype len b new in
+    let stopped = subst P c.from.ensures h in
+    marks_stop c.args.part c.args.number old new begun
+    (record_stops (octets old) c.args.part (at old) (at new) c.requires.part
+    (data_stops row c.in_ok-rtype.rtype c.in_ok-rtype.len old a b new c.in_ok-item.ensures.passes c.in_ok-rtype.ensures.passes stopped))) (search rules)
 
 pub returns-clause-shows : goal.returns-clause-shows
 returns-clause-shows c =
     let b = c.record_fields.new.self in
+    let new = c.within.new.self in
     let P : ℕ → Type 0 = λ len. at b + len ≤ length (octets b) in
-    marks_record c.args.part c.args.number c.in_ok-rtype.rtype c.in_ok-rtype.len c.args.self.now c.item.new.self b c.within.new.self c.requires.part
-    c.in_ok-item.ensures.passes c.in_ok-rtype.ensures.passes (c.within.ensures.keeps b.rows.items (at b) (nothing_yet b)) c.in_ok-within.ensures.seen
+    let Q : ℕ → Type 0 = λ len. MarksWithin c.in_ok-rtype.rtype len false b new in
+    marks_record c.args.part c.args.number c.in_ok-rtype.rtype c.in_ok-rtype.len c.args.self.now c.item.new.self b new c.requires.part
+    c.in_ok-item.ensures.passes c.in_ok-rtype.ensures.passes (subst Q c.from.ensures c.in_ok-within.ensures.shows) c.in_ok-within.ensures.seen
     (c.in_ok-within.ensures.place ∙ ap (λ n. at b + n) c.from.ensures) (subst P c.from.ensures c.in_ok-within.ensures.there)

@@ -1,0 +1,94 @@
+-- The rows of data.
+use Rattle.std.proofs.Common.{◌≡◌, ℕ, ◌+◌, ◌<◌, ◌≤◌, List, [], ◌∷◌, ◌++◌, length, OnOk, Result, Ok, Err, Bool, true, false, ◌∙◌, ap, subst, sym, arith, append_assoc, append-nil, take, length-take}
+use Rattle.dns_rows.specs.Data.{shape_of, Shape, ShowsData}
+use Rattle.dns_rows.specs.Data.Shape.{End, Octets, Named, Repeated, Rest}
+use Rattle.dns_rows.specs.Data.ShowsData.{done, octets as more_octets, short, name, no_name, nothing, repeated, rest}
+use Rattle.dns_rows.specs.Fields.{field_row}
+use Rattle.dns_rows.specs.Walks.{at, octets, Adds, Goes, HasNoName, MarksData, MarksWithin, PassesName}
+use Rattle.dns_rows.specs.declared.row.Field.{Field}
+use Rattle.dns_rows.specs.declared.row.Field.TheVariants.{Data as DataField}
+use Rattle.dns_rows.specs.declared.walk.Stop.{Stop}
+use Rattle.dns_rows.specs.declared.row.NameOf.{NameOf}
+use Rattle.dns_rows.specs.declared.walk.Walk.{Walk}
+
+pub data_done : (old : Walk) → MarksData End false old old
+data_done old = record { rows = []; adds = sym (append-nil old.rows.items); shows = done }
+
+-- octets that are a field, and what is behind them
+pub octets_then : (n : ℕ) (field : Field) (shape : Shape) (stops : Bool) (old mid new : Walk) → Adds (field_row (at old) (at old + n) field ∷ []) (at old + n) old mid
+    → at old + n ≤ length (octets old) → MarksData shape stops mid new → MarksData (Octets n field shape) stops old new
+octets_then n field shape stops old mid new h within k =
+    let P : List ℕ → ℕ → Type 0 = λ b p. ShowsData b shape stops p (at new) k.rows in
+    let behind : P (octets old) (at old + n) = subst (λ b. P b (at old + n)) h.seen (subst (λ p. P (octets mid) p) h.place k.shows) in
+    record {
+      rows = field_row (at old) (at old + n) field ∷ k.rows;
+      adds = k.adds ∙ ap (λ rows. rows ++ k.rows) h.rows ∙ append_assoc old.rows.items (field_row (at old) (at old + n) field ∷ []) k.rows;
+      shows = more_octets within behind;
+    }
+
+-- octets that aren't all there
+pub octets_short : (n : ℕ) (field : Field) (shape : Shape) (old new : Walk) → length (octets old) < at old + n → new ≡ old → MarksData (Octets n field shape) true old new
+octets_short n field shape old new h same =
+    let here : MarksData (Octets n field shape) true old old = record { rows = []; adds = sym (append-nil old.rows.items); shows = short h } in
+    subst (λ new. MarksData (Octets n field shape) true old new) (sym same) here
+
+-- a name, and what is behind it
+pub name_then : (of : NameOf) (shape : Shape) (stops : Bool) (old mid new : Walk) → PassesName of old mid → MarksData shape stops mid new → MarksData (Named of shape) stops old new
+name_then of shape stops old mid new h k =
+    let behind : ShowsData (octets old) shape stops (at mid) (at new) k.rows = subst (λ b. ShowsData b shape stops (at mid) (at new) k.rows) h.adds.seen k.shows in
+    record {
+      rows = h.rows ++ k.rows;
+      adds = k.adds ∙ ap (λ rows. rows ++ k.rows) h.adds.rows ∙ append_assoc old.rows.items h.rows k.rows;
+      shows = name h.rows k.rows h.stands h.walked h.shows behind;
+    }
+
+-- a name that can't be read
+pub name_missing : (of : NameOf) (shape : Shape) (old new : Walk) → HasNoName (octets old) (at old) → Goes old.rows.items (at old) new.rows.items (at new) → MarksData (Named of shape) true old new
+name_missing of shape old new h g = record { rows = g.others; adds = g.made; shows = no_name h.1 g.plain }
+
+-- fields that are repeated up to the end, or up to a fault
+pub repeated_rows : (stops : Bool) (old new : Walk) → Goes old.rows.items (at old) new.rows.items (at new) → MarksData Repeated stops old new
+repeated_rows stops old new g = record { rows = g.others; adds = g.made; shows = repeated g.plain }
+
+-- no octets that are left
+pub rest_none : (old : Walk) → length (octets old) ≤ at old → MarksData Rest false old old
+rest_none old h = record { rows = []; adds = sym (append-nil old.rows.items); shows = nothing h }
+
+-- the octets that are left
+pub rest_rows : (n : ℕ) (old new : Walk) (r : Result Unit Stop) → 0 < n → at old + n ≡ length (octets old)
+    → OnOk r (Adds (field_row (at old) (at old + n) DataField ∷ []) (at old + n) old new) → OnOk r (MarksData Rest false old new)
+rest_rows n old new (Ok v) some end h =
+    let within : at old < length (octets old) = omega (arith, some, end) in
+    let P : ℕ → Type 0 = λ q. ShowsData (octets old) Rest false (at old) q (field_row (at old) q DataField ∷ []) in
+    let shows : P (at old + n) = subst P (sym end) (rest within) in
+    record {
+      rows = field_row (at old) (at old + n) DataField ∷ [];
+      adds = h.rows;
+      shows = subst (λ q. ShowsData (octets old) Rest false (at old) q (field_row (at old) (at old + n) DataField ∷ [])) (sym h.place) shows;
+    }
+rest_rows n old new (Err stop) some end h = tt
+
+-- what a walk up to the end of data shows, seen from the record
+pub within_rows : (rtype len : ℕ) (stops : Bool) (old mid new : Walk) → octets mid ≡ take (at old + len) (octets old) → at mid ≡ at old → mid.rows.items ≡ old.rows.items
+    → MarksData (shape_of rtype) stops mid new → MarksWithin rtype len stops old new
+within_rows rtype len stops old mid new seen place rows h =
+    let P : List ℕ → ℕ → Type 0 = λ b p. ShowsData b (shape_of rtype) stops p (at new) h.rows in
+    record {
+      rows = h.rows;
+      adds = h.adds ∙ ap (λ rows. rows ++ h.rows) rows;
+      shows = subst (λ p. P (take (at old + len) (octets old)) p) place (subst (λ b. P b (at mid)) seen h.shows);
+    }
+
+-- the same at another place that is equal, with the same rows
+pub within_to : (rtype len : ℕ) (stops : Bool) (old mid new : Walk) → at new ≡ at mid → new.rows.items ≡ mid.rows.items → MarksWithin rtype len stops old mid → MarksWithin rtype len stops old new
+within_to rtype len stops old mid new place rows h = record {
+  rows = h.rows;
+  adds = rows ∙ h.adds;
+  shows = subst (λ q. ShowsData (take (at old + len) (octets old)) (shape_of rtype) stops (at old) q h.rows) (sym place) h.shows;
+}
+
+-- a walk that sees so many octets more is at most behind them
+pub not_past : (old new : Walk) (len : ℕ) → octets new ≡ take (at old + len) (octets old) → at old + len ≤ length (octets old) → at new ≤ at old + len
+not_past old new len seen there =
+    let same = ap length seen in
+    omega (arith, same, length-take new.parser.end new.parser.octets.now, length-take (at old + len) (octets old), new.parser.before_end, new.parser.within)

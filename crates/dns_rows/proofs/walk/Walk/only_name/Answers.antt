@@ -1,0 +1,17 @@
+use Rattle.std.proofs.Common.{true, false, rules}
+use Rattle.dns_rows.specs.Data.Shape.{End, Named}
+use Rattle.dns_rows.specs.Walks.{at, octets, HasNoName, MarksData}
+use Rattle.dns_rows.proofs.DataRows.{data_done, name_missing, name_then}
+use Rattle.dns_rows.proofs.Items.{nothing_yet}
+use Rattle.dns_rows.proofs.Stops.{on_fault}
+use Rattle.dns_rows.proofs.walk.Walk.only_name.Goals as goal
+
+pub returns-in_err-name-clause-stops : goal.returns-in_err-name-clause-stops
+returns-in_err-name-clause-stops c =
+    on_fault c.from_residual.result (HasNoName (octets c.args.self.now) (at c.args.self.now)) (MarksData (Named c.args.name End) true c.args.self.now c.name.new.self)
+    (λ h. name_missing c.args.name End c.args.self.now c.name.new.self h (c.name.ensures.keeps c.args.self.now.rows.items (at c.args.self.now) (nothing_yet c.args.self.now))) (search rules)
+
+pub returns-clause-shows : goal.returns-clause-shows
+returns-clause-shows c =
+    name_then c.args.name End false c.args.self.now c.name.new.self c.name.new.self c.in_ok-name.ensures.passes
+    (data_done c.name.new.self)

@@ -1,0 +1,25 @@
+use Rattle.std.proofs.Common.{false, true}
+use Rattle.std.specs.Prelude.{⊤}
+use Rattle.dns_rows.specs.Data.Shape.{Repeated}
+use Rattle.dns_rows.specs.Walks.{at, MarksData}
+use Rattle.dns_rows.proofs.DataRows.{repeated_rows}
+use Rattle.dns_rows.proofs.Items.{nothing_yet}
+use Rattle.dns_rows.proofs.Stops.{always, on_fault}
+use Rattle.dns_rows.proofs.walk.Walk.texts.Goals as goal
+
+pub returns-in_err-octets-clause-stops : goal.returns-in_err-octets-clause-stops
+returns-in_err-octets-clause-stops c =
+    let old = c.args.self.now in
+    let new = c.octets.new.self in
+    let goes = c.octets.ensures.keeps old.rows.items (at old) (c.loop.invariant.keeps old.rows.items (at old) (nothing_yet old)) in
+    on_fault c.from_residual.result ⊤ (MarksData Repeated true old new) (λ _. repeated_rows true old new goes) (always c.from_residual.result)
+
+pub returns-after-loop-clause-shows : goal.returns-after-loop-clause-shows
+returns-after-loop-clause-shows c =
+    let old = c.args.self.now in
+    repeated_rows false old c.loop.self (c.loop.invariant.keeps old.rows.items (at old) (nothing_yet old))
+
+pub returns-in_default-clause-shows : goal.returns-in_default-clause-shows
+returns-in_default-clause-shows c =
+    let old = c.args.self.now in
+    repeated_rows false old c.loop.self (c.loop.invariant.keeps old.rows.items (at old) (nothing_yet old))

@@ -1,0 +1,33 @@
+use Rattle.std.proofs.Common.{◌≡◌, ◌+◌, ◌<◌, ◌≤◌, ◌∙◌, arith, false, length, refl, rules, take, true}
+use Rattle.dns_name.specs.Parsers.{place}
+use Rattle.dns_rows.specs.Data.{shape_of}
+use Rattle.dns_rows.specs.Walks.{at, octets, MarksData, StopsWithin}
+use Rattle.dns_rows.specs.Walks.StopsWithin.{stopped}
+use Rattle.dns_rows.specs.declared.walk.Walk.{Walk}
+use Rattle.dns_rows.proofs.DataRows.{not_past, within_rows}
+use Rattle.dns_rows.proofs.Stops.{on_fault}
+use Rattle.dns_rows.proofs.walk.Walk.within.Goals as goal
+
+pub returns-in_err-data-clause-stops : goal.returns-in_err-data-clause-stops
+returns-in_err-data-clause-stops c =
+    let old = c.args.self.now in
+    let new = c.data.new.self in
+    let mid : Walk = record { parser = c.in-Ok.inner; rows = old.rows } in
+    let there : at old + c.args.len ≤ length (octets old) = search rules in
+    let seen : octets mid ≡ take (at old + c.args.len) (octets old) = search rules in
+    let placed : at mid ≡ at old = search rules in
+    on_fault c.from_residual.result (MarksData (shape_of c.args.rtype) true mid new) (StopsWithin c.args.rtype c.args.len old new)
+    (λ h. stopped true there (within_rows c.args.rtype c.args.len true old mid new seen placed refl h) (λ e. absurd (cc e))) (search rules)
+
+pub returns-then-pos-clause-stops : goal.returns-then-pos-clause-stops
+returns-then-pos-clause-stops c =
+    let old = c.args.self.now in
+    let new = c.data.new.self in
+    let mid : Walk = record { parser = c.in-Ok.inner; rows = old.rows } in
+    let there : at old + c.args.len ≤ length (octets old) = search rules in
+    let seen : octets mid ≡ take (at old + c.args.len) (octets old) = search rules in
+    let placed : at mid ≡ at old = search rules in
+    let to : place c.parse_parser.new.self ≡ at old + c.args.len = search rules in
+    let past = not_past old new c.args.len (c.in_ok-data.ensures.sees ∙ seen) there in
+    let fewer : at new < at old + c.args.len = omega (arith, past, to) in
+    stopped false there (within_rows c.args.rtype c.args.len false old mid new seen placed refl c.in_ok-data.ensures.shows) (λ _. fewer)

@@ -1,0 +1,59 @@
+-- The rows of the data of a record, field by field, and where a fault ends them. RFC 1035 sections 3.3 and 3.4, RFC 3596 section 2.2.
+--
+-- `b` are the octets of the message up to the end of the data.
+use Rattle.std.specs.Prelude.{ℕ, ◌+◌, ◌<◌, ◌≤◌, ◌==◌, Bool, true, false, if◌then◌else◌, List, [], ◌∷◌, ◌++◌, length}
+use Rattle.dns_name.specs.Names.{Fault, FaultAt, Labels, Stands, Walked}
+use Rattle.dns_rows.specs.Fields.{field_row, ArePlain}
+use Rattle.dns_rows.specs.Named.{NameRows}
+use Rattle.dns_rows.specs.declared.row.Row.{Row}
+use Rattle.dns_rows.specs.declared.row.NameOf.{NameOf}
+use Rattle.dns_rows.specs.declared.row.NameOf.TheVariants.{Server, Canonical, Target, Exchange, Primary, Mailbox}
+use Rattle.dns_rows.specs.declared.row.Field.{Field}
+use Rattle.dns_rows.specs.declared.row.Field.TheVariants.{Address, LongAddress, Preference, Zone, Data}
+use Rattle.dns_rows.specs.declared.row.ZoneNumber.TheVariants.{Serial, Refresh, Retry, Expire, Minimum}
+
+-- the fields of data, one behind the other
+pub data Shape : Type 0 where
+  -- no more
+  End : Shape
+  -- so many octets that are a field, and the fields behind them
+  Octets : ℕ → Field → Shape → Shape
+  -- a name, and the fields behind it
+  Named : NameOf → Shape → Shape
+  -- character strings or options, up to the end
+  Repeated : Shape
+  -- one field of all octets that are left, if there are any
+  Rest : Shape
+
+-- the server, the mailbox and the five numbers of SOA. RFC 1035 section 3.3.13.
+abbrev pub zone_shape : Shape
+zone_shape =
+    Named Primary
+    (Named Mailbox (Octets 4 (Zone Serial) (Octets 4 (Zone Refresh) (Octets 4 (Zone Retry) (Octets 4 (Zone Expire) (Octets 4 (Zone Minimum) End))))))
+
+-- the fields of the data of a record type: A, NS, CNAME, SOA, PTR, MX, TXT, AAAA, OPT, and any other
+abbrev pub shape_of : ℕ → Shape
+shape_of rtype =
+    if rtype == 1 then Octets 4 Address End
+    else if rtype == 28 then Octets 16 LongAddress End
+    else if rtype == 2 then Named Server End
+    else if rtype == 5 then Named Canonical End
+    else if rtype == 12 then Named Target End
+    else if rtype == 15 then Octets 2 Preference (Named Exchange End)
+    else if rtype == 6 then zone_shape
+    else if rtype == 16 then Repeated
+    else if rtype == 41 then Repeated
+    else Rest
+
+-- The rows of data from p on. Where it stops (`true`), they end at q, where the field begins or is within the name that can't be read. Else all fields go from p to q.
+pub data ShowsData (b : List ℕ) : Shape → Bool → ℕ → ℕ → List Row → Type 0 where
+  done : {p : ℕ} → ShowsData b End false p p []
+  octets : {n p q : ℕ} {field : Field} {shape : Shape} {stops : Bool} {rows : List Row} → p + n ≤ length b → ShowsData b shape stops (p + n) q rows
+      → ShowsData b (Octets n field shape) stops p q (field_row p (p + n) field ∷ rows)
+  short : {n p : ℕ} {field : Field} {shape : Shape} → length b < p + n → ShowsData b (Octets n field shape) true p p []
+  name : {p q r : ℕ} {of : NameOf} {shape : Shape} {stops : Bool} {labels : Labels} (names rows : List Row) → Stands b p labels → Walked b p r → NameRows b of p p r names
+      → ShowsData b shape stops r q rows → ShowsData b (Named of shape) stops p q (names ++ rows)
+  no_name : {p q : ℕ} {of : NameOf} {shape : Shape} {f : Fault} {rows : List Row} → FaultAt b p f → ArePlain rows p q → ShowsData b (Named of shape) true p q rows
+  repeated : {p q : ℕ} {stops : Bool} {rows : List Row} → ArePlain rows p q → ShowsData b Repeated stops p q rows
+  nothing : {p : ℕ} → length b ≤ p → ShowsData b Rest false p p []
+  rest : {p : ℕ} → p < length b → ShowsData b Rest false p (length b) (field_row p (length b) Data ∷ [])

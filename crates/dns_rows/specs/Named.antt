@@ -1,0 +1,17 @@
+-- The rows of names. RFC 1035 section 4.1.4.
+--
+-- `b` are the octets of the message.
+use Rattle.std.specs.Prelude.{◌≡◌, ℕ, ◌+◌, List, [], ◌∷◌, Ok}
+use Rattle.dns_name.specs.Names.{head_at}
+use Rattle.dns_name.specs.declared.head.Head.TheVariants.{Root, Label, Pointer}
+use Rattle.dns_rows.specs.Fields.{field_row}
+use Rattle.dns_rows.specs.declared.row.Row.{Row}
+use Rattle.dns_rows.specs.declared.row.NameOf.{NameOf}
+use Rattle.dns_rows.specs.declared.row.Field.TheVariants as fields
+
+-- The rows from a label of a name on, which begins at `start`: one for each label, and one for the root label or the pointer that ends it. RFC 1035 section 4.1.4.
+pub data NameRows (b : List ℕ) (of : NameOf) (start : ℕ) : ℕ → ℕ → List Row → Type 0 where
+  root : {p : ℕ} → head_at b p ≡ Ok Root → NameRows b of start p (p + 1) (field_row p (p + 1) (fields.Root of start) ∷ [])
+  pointer : {p t : ℕ} → head_at b p ≡ Ok (Pointer t) → NameRows b of start p (p + 2) (field_row p (p + 2) (fields.Pointer of start) ∷ [])
+  label : {p n q : ℕ} {rows : List Row} → head_at b p ≡ Ok (Label n) → NameRows b of start (p + 1 + n) q rows
+      → NameRows b of start p q (field_row p (p + 1 + n) (fields.Label of) ∷ rows)
