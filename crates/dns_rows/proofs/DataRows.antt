@@ -1,15 +1,18 @@
 -- The rows of data.
-use Rattle.std.proofs.Common.{◌≡◌, ℕ, ◌+◌, ◌<◌, ◌≤◌, List, [], ◌∷◌, ◌++◌, length, OnOk, Result, Ok, Err, Bool, true, false, ◌∙◌, ap, subst, sym, arith, append_assoc, append-nil, take, length-take}
-use Rattle.dns_rows.specs.Data.{shape_of, Shape, ShowsData}
-use Rattle.dns_rows.specs.Data.Shape.{End, Octets, Named, Repeated, Rest}
-use Rattle.dns_rows.specs.Data.ShowsData.{done, octets as more_octets, short, name, no_name, nothing, repeated, rest}
+use Rattle.std.proofs.Common.{refl, ◌≡◌, ℕ, ◌+◌, ◌<◌, ◌≤◌, List, [], ◌∷◌, ◌++◌, length, OnOk, Result, Ok, Err, Bool, true, false, ◌∙◌, ap, subst, sym, arith, append_assoc, append-nil, take, length-take, slice_get, Some, None, inl, inr}
+use Rattle.std.proofs.lemmas.Option.{slice_get_cases}
+use Rattle.dns_rows.specs.Data.{shape_of, Shape, ShowsData, TextRows}
+use Rattle.dns_rows.specs.Data.TextRows.{none as no_text, text}
+use Rattle.dns_rows.specs.Data.Shape.{End, Octets, Named, Options, Rest, Texts}
+use Rattle.dns_rows.specs.Data.ShowsData.{done, octets as more_octets, short, name, no_name, nothing, options, rest, texts, text_short}
 use Rattle.dns_rows.specs.Fields.{field_row}
-use Rattle.dns_rows.specs.Walks.{at, octets, Adds, Goes, HasNoName, MarksData, MarksWithin, PassesName}
+use Rattle.dns_rows.specs.Walks.{at, octets, Adds, Goes, HasNoName, MarksData, MarksWithin, PassesName, PassesTexts}
 use Rattle.dns_rows.specs.declared.row.Field.{Field}
-use Rattle.dns_rows.specs.declared.row.Field.TheVariants.{Data as DataField}
+use Rattle.dns_rows.specs.declared.row.Field.TheVariants.{Data as DataField, Text}
 use Rattle.dns_rows.specs.declared.walk.Stop.{Stop}
 use Rattle.dns_rows.specs.declared.row.NameOf.{NameOf}
 use Rattle.dns_rows.specs.declared.walk.Walk.{Walk}
+use Rattle.dns_rows.proofs.Names.{adds_then}
 
 pub data_done : (old : Walk) → MarksData End false old old
 data_done old = record { rows = []; adds = sym (append-nil old.rows.items); shows = done }
@@ -46,9 +49,9 @@ name_then of shape stops old mid new h k =
 pub name_missing : (of : NameOf) (shape : Shape) (old new : Walk) → HasNoName (octets old) (at old) → Goes old.rows.items (at old) new.rows.items (at new) → MarksData (Named of shape) true old new
 name_missing of shape old new h g = record { rows = g.others; adds = g.made; shows = no_name h.1 g.plain }
 
--- fields that are repeated up to the end, or up to a fault
-pub repeated_rows : (stops : Bool) (old new : Walk) → Goes old.rows.items (at old) new.rows.items (at new) → MarksData Repeated stops old new
-repeated_rows stops old new g = record { rows = g.others; adds = g.made; shows = repeated g.plain }
+-- fields that are options up to the end, or up to a fault
+pub option_rows : (stops : Bool) (old new : Walk) → Goes old.rows.items (at old) new.rows.items (at new) → MarksData Options stops old new
+option_rows stops old new g = record { rows = g.others; adds = g.made; shows = options g.plain }
 
 -- no octets that are left
 pub rest_none : (old : Walk) → length (octets old) ≤ at old → MarksData Rest false old old
@@ -92,3 +95,34 @@ pub not_past : (old new : Walk) (len : ℕ) → octets new ≡ take (at old + le
 not_past old new len seen there =
     let same = ap length seen in
     omega (arith, same, length-take new.parser.end new.parser.octets.now, length-take (at old + len) (octets old), new.parser.before_end, new.parser.within)
+
+-- character strings one behind the other
+pub no_texts : (old : Walk) → PassesTexts old old
+no_texts old = record { rows = []; adds = record { rows = sym (append-nil old.rows.items); seen = refl; place = refl }; texts = no_text }
+
+pub one_more_text : (n : ℕ) (old mid new : Walk) → PassesTexts old mid → slice_get (octets mid) (at mid) ≡ Some n
+    → Adds (field_row (at mid) (at mid + (1 + n)) Text ∷ []) (at mid + (1 + n)) mid new → at mid + (1 + n) ≤ length (octets mid) → PassesTexts old new
+one_more_text n old mid new h there k within =
+    let row = field_row (at mid) (at mid + (1 + n)) Text in
+    let all = adds_then h.rows (row ∷ []) (at mid) (at mid + (1 + n)) old mid new h.adds k in
+    let there_too : slice_get (octets old) (at mid) ≡ Some n = subst (λ b. slice_get b (at mid) ≡ Some n) h.adds.seen there in
+    let within_too : at mid + (1 + n) ≤ length (octets old) = subst (λ (b : List ℕ). at mid + (1 + n) ≤ length b) h.adds.seen within in
+    let P : ℕ → Type 0 = λ q. TextRows (octets old) (at old) q (h.rows ++ row ∷ []) in
+    record {
+      rows = h.rows ++ row ∷ [];
+      adds = record { rows = all.rows; seen = all.seen; place = refl };
+      texts = subst P (sym k.place) (text h.rows h.texts there_too within_too);
+    }
+
+pub all_texts : (old new : Walk) → PassesTexts old new → slice_get (octets new) (at new) ≡ None → MarksData Texts false old new
+all_texts old new h none =
+    let none_too : slice_get (octets old) (at new) ≡ None = subst (λ b. slice_get b (at new) ≡ None) h.adds.seen none in
+    let end : length (octets old) ≤ at new = elim (slice_get_cases (octets old) (at new)).1 [ inl x ↦ absurd (cc (none_too, x.2)) | inr x ↦ x.0 ] in
+    record { rows = h.rows; adds = h.adds.rows; shows = texts h.texts end }
+
+pub text_stops : (n : ℕ) (old mid new : Walk) → PassesTexts old mid → slice_get (octets mid) (at mid) ≡ Some n → length (octets mid) < at mid + (1 + n) → new ≡ mid → MarksData Texts true old new
+text_stops n old mid new h there long same =
+    let there_too : slice_get (octets old) (at mid) ≡ Some n = subst (λ b. slice_get b (at mid) ≡ Some n) h.adds.seen there in
+    let long_too : length (octets old) < at mid + (1 + n) = subst (λ (b : List ℕ). length b < at mid + (1 + n)) h.adds.seen long in
+    let here : MarksData Texts true old mid = record { rows = h.rows; adds = h.adds.rows; shows = text_short h.texts there_too long_too } in
+    subst (λ new. MarksData Texts true old new) (sym same) here

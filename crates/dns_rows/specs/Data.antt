@@ -1,7 +1,7 @@
 -- The rows of the data of a record, field by field, and where a fault ends them. RFC 1035 sections 3.3 and 3.4, RFC 3596 section 2.2.
 --
 -- `b` are the octets of the message up to the end of the data.
-use Rattle.std.specs.Prelude.{ℕ, ◌+◌, ◌<◌, ◌≤◌, ◌==◌, Bool, true, false, if◌then◌else◌, List, [], ◌∷◌, ◌++◌, length}
+use Rattle.std.specs.Prelude.{◌≡◌, ℕ, ◌+◌, ◌<◌, ◌≤◌, ◌==◌, Bool, true, false, if◌then◌else◌, List, [], ◌∷◌, ◌++◌, length, slice_get, Some}
 use Rattle.dns_name.specs.Names.{Fault, FaultAt, Labels, Stands, Walked}
 use Rattle.dns_rows.specs.Fields.{field_row, ArePlain}
 use Rattle.dns_rows.specs.Named.{NameRows}
@@ -9,7 +9,7 @@ use Rattle.dns_rows.specs.declared.row.Row.{Row}
 use Rattle.dns_rows.specs.declared.row.NameOf.{NameOf}
 use Rattle.dns_rows.specs.declared.row.NameOf.TheVariants.{Server, Canonical, Target, Exchange, Primary, Mailbox}
 use Rattle.dns_rows.specs.declared.row.Field.{Field}
-use Rattle.dns_rows.specs.declared.row.Field.TheVariants.{Address, LongAddress, Preference, Zone, Data}
+use Rattle.dns_rows.specs.declared.row.Field.TheVariants.{Address, LongAddress, Preference, Zone, Data, Text}
 use Rattle.dns_rows.specs.declared.row.ZoneNumber.TheVariants.{Serial, Refresh, Retry, Expire, Minimum}
 
 -- the fields of data, one behind the other
@@ -20,8 +20,10 @@ pub data Shape : Type 0 where
   Octets : ℕ → Field → Shape → Shape
   -- a name, and the fields behind it
   Named : NameOf → Shape → Shape
-  -- character strings or options, up to the end
-  Repeated : Shape
+  -- character strings, up to the end
+  Texts : Shape
+  -- options, up to the end
+  Options : Shape
   -- one field of all octets that are left, if there are any
   Rest : Shape
 
@@ -41,9 +43,15 @@ shape_of rtype =
     else if rtype == 12 then Named Target End
     else if rtype == 15 then Octets 2 Preference (Named Exchange End)
     else if rtype == 6 then zone_shape
-    else if rtype == 16 then Repeated
-    else if rtype == 41 then Repeated
+    else if rtype == 16 then Texts
+    else if rtype == 41 then Options
     else Rest
+
+-- The rows of character strings from p to q: one for each, with its length octet. RFC 1035 section 3.3.14.
+pub data TextRows (b : List ℕ) (p : ℕ) : ℕ → List Row → Type 0 where
+  none : TextRows b p p []
+  text : {n q : ℕ} (rows : List Row) → TextRows b p q rows → slice_get b q ≡ Some n → q + (1 + n) ≤ length b
+      → TextRows b p (q + (1 + n)) (rows ++ field_row q (q + (1 + n)) Text ∷ [])
 
 -- The rows of data from p on. Where it stops (`true`), they end at q, where the field begins or is within the name that can't be read. Else all fields go from p to q.
 pub data ShowsData (b : List ℕ) : Shape → Bool → ℕ → ℕ → List Row → Type 0 where
@@ -54,6 +62,8 @@ pub data ShowsData (b : List ℕ) : Shape → Bool → ℕ → ℕ → List Row 
   name : {p q r : ℕ} {of : NameOf} {shape : Shape} {stops : Bool} {labels : Labels} (names rows : List Row) → Stands b p labels → Walked b p r → NameRows b of p p r names
       → ShowsData b shape stops r q rows → ShowsData b (Named of shape) stops p q (names ++ rows)
   no_name : {p q : ℕ} {of : NameOf} {shape : Shape} {f : Fault} {rows : List Row} → FaultAt b p f → ArePlain rows p q → ShowsData b (Named of shape) true p q rows
-  repeated : {p q : ℕ} {stops : Bool} {rows : List Row} → ArePlain rows p q → ShowsData b Repeated stops p q rows
+  texts : {p q : ℕ} {rows : List Row} → TextRows b p q rows → length b ≤ q → ShowsData b Texts false p q rows
+  text_short : {n p q : ℕ} {rows : List Row} → TextRows b p q rows → slice_get b q ≡ Some n → length b < q + (1 + n) → ShowsData b Texts true p q rows
+  options : {p q : ℕ} {stops : Bool} {rows : List Row} → ArePlain rows p q → ShowsData b Options stops p q rows
   nothing : {p : ℕ} → length b ≤ p → ShowsData b Rest false p p []
   rest : {p : ℕ} → p < length b → ShowsData b Rest false p (length b) (field_row p (length b) Data ∷ [])

@@ -1,5 +1,5 @@
 -- What the steps of a walk over a message keep.
-use Rattle.dns_rows.specs.Data.{shape_of, Shape, ShowsData}
+use Rattle.dns_rows.specs.Data.{shape_of, Shape, ShowsData, TextRows}
 use Rattle.dns_rows.specs.Named.{NameRows}
 use Rattle.std.specs.Prelude.{◌<◌, Bool, ◌≡◌, ℕ, ◌+◌, ◌≤◌, List, ◌++◌, [], ◌∷◌, length, ⊤, Option, Result, Ok, Err, take, false}
 use Rattle.std.specs.Int.{w16}
@@ -186,3 +186,9 @@ pub record MarksWithin (rtype len : ℕ) (stops : Bool) (old new : Walk) : Type 
 pub data StopsWithin (rtype len : ℕ) (old new : Walk) : Type 0 where
   missing : length (octets old) < at old + len → StopsWithin rtype len old new
   stopped : (stops : Bool) → at old + len ≤ length (octets old) → MarksWithin rtype len stops old new → (stops ≡ false → at new < at old + len) → StopsWithin rtype len old new
+
+-- a walk that passed character strings
+pub record PassesTexts (old new : Walk) : Type 0 where
+  pub rows : List Row
+  pub adds : Adds rows (at new) old new
+  pub texts : TextRows (octets old) (at old) (at new) rows

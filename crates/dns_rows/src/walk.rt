@@ -7,7 +7,7 @@ ghost use Rattle.dns_code.specs.HeaderSection.{header_size};
 ghost use Rattle.dns_rows.specs.Fields.{items_at, IsField, field_row};
 ghost use Rattle.dns_rows.specs.Shown.{sum_of};
 ghost use Rattle.dns_rows.specs.Data.{shape_of, zone_shape};
-ghost use Rattle.dns_rows.specs.Data.Shape.{End, Octets, Named, Repeated, Rest};
+ghost use Rattle.dns_rows.specs.Data.Shape.{End, Octets, Named, Options, Rest, Texts};
 ghost use Rattle.dns_rows.specs.Entries.{class_rows, holds_records, item_row, parts_of};
 ghost use Rattle.dns_rows.specs.Walks.{at, octets, items, IsMarked, Comes, Keeps, Adds, OnFault, HasNoName, IsEnd, IsLabelAt, PassesLabels, PassesAllLabels, PassesEnd, PassesName, PassesItemName, Begun, PassesNumbers, MarksItem, MarksStop, MarksFirst, MarksAmong, MarksParts, MarksData, MarksWithin, StopsWithin, OnFaultOf};
 
@@ -479,13 +479,10 @@ impl<'a> Walk<'a> {
         ensures comes { Comes 0 self.old self.new }
         ensures keeps { Keeps self.old self.new }
         ensures sees { OnOk result (octets self.new ≡ octets self.old) }
-        ensures shows { OnOk result (MarksData Repeated false self.old self.new) }
-        ensures stops { OnFault result (MarksData Repeated true self.old self.new) }
+        ensures shows { OnOk result (MarksData Texts false self.old self.new) }
+        ensures stops { OnFault result (MarksData Texts true self.old self.new) }
     {
-        for _ in 0..self.parser.remaining() {
-            let Some(len) = self.first() else {
-                break;
-            };
+        'texts: while let Some(len) = self.first() {
             self.octets(1 + usize::from(len), Field::Text)?;
         }
         Ok(())
@@ -497,8 +494,8 @@ impl<'a> Walk<'a> {
         ensures comes { Comes 0 self.old self.new }
         ensures keeps { Keeps self.old self.new }
         ensures sees { OnOk result (octets self.new ≡ octets self.old) }
-        ensures shows { OnOk result (MarksData Repeated false self.old self.new) }
-        ensures stops { OnFault result (MarksData Repeated true self.old self.new) }
+        ensures shows { OnOk result (MarksData Options false self.old self.new) }
+        ensures stops { OnFault result (MarksData Options true self.old self.new) }
     {
         for _ in 0..self.parser.remaining() {
             if self.parser.remaining() == 0 {

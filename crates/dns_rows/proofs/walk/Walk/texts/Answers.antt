@@ -1,25 +1,32 @@
-use Rattle.std.proofs.Common.{false, true}
-use Rattle.std.specs.Prelude.{⊤}
-use Rattle.dns_rows.specs.Data.Shape.{Repeated}
-use Rattle.dns_rows.specs.Walks.{at, MarksData}
-use Rattle.dns_rows.proofs.DataRows.{repeated_rows}
-use Rattle.dns_rows.proofs.Items.{nothing_yet}
-use Rattle.dns_rows.proofs.Stops.{always, on_fault}
+use Rattle.std.proofs.Common.{◌≡◌, ◌+◌, ◌<◌, ◌∙◌, ap, length, rules, slice_get, Some, sym, true, refl}
+use Rattle.dns_rows.specs.Data.Shape.{Texts}
+use Rattle.dns_rows.specs.Walks.{at, octets, MarksData}
+use Rattle.dns_rows.proofs.DataRows.{all_texts, no_texts, one_more_text, text_stops}
+use Rattle.dns_rows.proofs.Stops.{on_fault_2}
 use Rattle.dns_rows.proofs.walk.Walk.texts.Goals as goal
+
+pub texts-init : goal.texts-init
+texts-init c = record { comes = search rules; keeps = λ front from g. g; sees = refl; passes = no_texts c.args.self.now }
+
+pub texts-preserved : goal.texts-preserved
+texts-preserved c =
+    let mid = c.texts.self in
+    let there : slice_get (octets mid) (at mid) ≡ Some c.from.result = c.first.ensures ∙ c.in-Some.is ∙ ap (λ n. Some n) (sym c.from.ensures) in
+    record {
+      comes = search rules;
+      keeps = λ front from g. c.octets.ensures.keeps front from (c.texts.invariant.keeps front from g);
+      sees = c.in_ok-octets.ensures.adds.seen ∙ c.texts.invariant.sees;
+      passes = one_more_text c.from.result c.args.self.now mid c.octets.new.self c.texts.invariant.passes there c.in_ok-octets.ensures.adds c.in_ok-octets.ensures.within;
+    }
 
 pub returns-in_err-octets-clause-stops : goal.returns-in_err-octets-clause-stops
 returns-in_err-octets-clause-stops c =
     let old = c.args.self.now in
+    let mid = c.texts.self in
     let new = c.octets.new.self in
-    let goes = c.octets.ensures.keeps old.rows.items (at old) (c.loop.invariant.keeps old.rows.items (at old) (nothing_yet old)) in
-    on_fault c.from_residual.result ⊤ (MarksData Repeated true old new) (λ _. repeated_rows true old new goes) (always c.from_residual.result)
+    let there : slice_get (octets mid) (at mid) ≡ Some c.from.result = c.first.ensures ∙ c.in-Some.is ∙ ap (λ n. Some n) (sym c.from.ensures) in
+    on_fault_2 c.from_residual.result (length (octets mid) < at mid + (1 + c.from.result)) (new ≡ mid) (MarksData Texts true old new)
+    (λ long same. text_stops c.from.result old mid new c.texts.invariant.passes there long same) (search rules) (search rules)
 
-pub returns-after-loop-clause-shows : goal.returns-after-loop-clause-shows
-returns-after-loop-clause-shows c =
-    let old = c.args.self.now in
-    repeated_rows false old c.loop.self (c.loop.invariant.keeps old.rows.items (at old) (nothing_yet old))
-
-pub returns-in_default-clause-shows : goal.returns-in_default-clause-shows
-returns-in_default-clause-shows c =
-    let old = c.args.self.now in
-    repeated_rows false old c.loop.self (c.loop.invariant.keeps old.rows.items (at old) (nothing_yet old))
+pub returns-clause-shows : goal.returns-clause-shows
+returns-clause-shows c = all_texts c.args.self.now c.texts.self c.texts.invariant.passes (c.first.ensures ∙ c.in_default.is)
