@@ -1,14 +1,12 @@
 -- How a reply is started: which questions it has, and how many octets.
-use Rattle.std.proofs.Common.{◌≡◌, ◌∙◌, ℕ, ◌<◌, ◌≤◌, List, [], ◌∷◌, ◌++◌, length, length-append, append_assoc, ap, cond, sym, refl, subst, inl, inr, arith, true, false, Bool}
+use Rattle.std.proofs.Common.{◌≡◌, ◌∙◌, ℕ, ◌≤◌, List, [], ◌∷◌, ◌++◌, length, length-append, append_assoc, ap, cond, sym, refl, subst, inl, inr, arith, true, false, Bool}
 use Rattle.std.proofs.lemmas.Bool.{leb-true}
-use Rattle.std.proofs.lemmas.List.{append-nil}
 use Rattle.std.specs.List.{filter_map}
 use Rattle.std.specs.Result.{result_ok}
 use Rattle.std.specs.Prelude.{nat_le, Result, Ok, Err, Option, Some, None}
 use Rattle.dns_name.specs.Names.{Fault}
 use Rattle.dns_wire.specs.Pieces.{Plain}
 use Rattle.dns_wire.specs.Targets.{Written}
-use Rattle.dns_code.specs.Header.{header_octets}
 use Rattle.dns_code.specs.HeaderSection.{header_size}
 use Rattle.dns_question.specs.Questions.{QuestionItem}
 use Rattle.dns_item.specs.Items.{RecordItem}
@@ -123,13 +121,13 @@ module _ (b : List ℕ) where
   pub error_started : (new : Built) → asked_first b ≡ None → IsEither None true Plain (answering 1 b (client b)) (readable_questions b) new → StandsFor InAnswer Plain (format_error b) new
   error_started new first gives = by (subst (λ xs. IsEither None true Plain (answering 1 b (client b)) xs new) (none_readable first) gives)
     where
-      by : IsEither None true Plain (answering 1 b (client b)) [] new → StandsFor InAnswer Plain (format_error b) new
-      by (inl p) = p.1
-      by (inr p) = absurd (none_refused p.1 p.2.next p.2.others p.2.all)
-
       none_refused : (first : List QuestionItem) (x : QuestionItem) (others : List QuestionItem) → [] ≡ first ++ x ∷ others → ⊥
       none_refused [] x others is = cc
       none_refused (y ∷ first) x others is = cc
+
+      by : IsEither None true Plain (answering 1 b (client b)) [] new → StandsFor InAnswer Plain (format_error b) new
+      by (inl p) = p.1
+      by (inr p) = absurd (none_refused p.1 p.2.next p.2.others p.2.all)
 
 -- what was started for a message is started for the query that it was made of
 pub for_query : (rcode : ℕ) (b m : List ℕ) (limit : ℕ) (Gives : State → List QuestionItem → Type 0) → m ≡ b → limit ≡ payload_size m

@@ -1,5 +1,5 @@
 -- Why a push is refused, where there is no limit and no bound of room: for want of memory alone.
-use Rattle.std.proofs.Common.{◌≡◌, ◌∙◌, ℕ, ◌+◌, ◌<◌, ◌≤◌, Bool, List, [], ◌∷◌, ◌++◌, length, length-append, ap, sym, refl, subst, inl, inr, arith, None}
+use Rattle.std.proofs.Common.{◌≡◌, ◌∙◌, ℕ, ◌+◌, ◌<◌, ◌≤◌, Bool, List, [], ◌∷◌, ◌++◌, length, length-append, ap, sym, refl, subst, arith, None}
 use Rattle.std.proofs.lemmas.List.{length-map}
 use Rattle.std.specs.Prelude.{option_map, Option, Some, Result, Ok, Err}
 use Rattle.dns_name.specs.Names.{Fault}

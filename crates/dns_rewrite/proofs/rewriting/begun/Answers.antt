@@ -6,8 +6,8 @@ use Rattle.dns_rewrite.proofs.rewriting.begun.Goals as goal
 
 pub returns-clause-begun : goal.returns-clause-begun
 returns-clause-begun g c =
-    begins _ _ Static _ c.in_ok-builder.builder c.set_header.new.self c.header.result
-    (rw c.in_ok-builder.was at c.start_answer.ensures _ c.in_ok-from_target.ensures.fresh) c.header.ensures c.set_header.ensures
+    let gives = rw c.in_ok-builder.was at c.start_answer.ensures _ c.in_ok-from_target.ensures.fresh in
+    begins Static _ c.in_ok-builder.builder c.set_header.new.self c.header.result gives.1 c.header.ensures c.set_header.ensures
 
 pub returns-in_err-builder-clause-memory : goal.returns-in_err-builder-clause-memory
 returns-in_err-builder-clause-memory g c =
