@@ -23,8 +23,8 @@ records_rewound InAdditional xs s = refl
 -- items that a rewind takes out leave nothing
 leave_nothing : {X : Type 0} (stage : Stage) (with_items : List X → State → State) → ((xs : List X) (s : State) → rewound stage (with_items xs s) ≡ rewound stage s)
     → PushesLeaveNothing stage with_items
-leave_nothing stage with_items out rule s xs old full new before empty pushed moves =
-    builders_are_known stage rule s new old (subst (λ (t : State). StandsFor stage rule t new) (out xs s ∙ empty) (moves (with_items xs s) pushed)) before
+leave_nothing stage with_items out rule s xs empty full new emptied pushed moves =
+    builders_are_known stage rule (rewound stage s) new empty (subst (λ (t : State). StandsFor stage rule t new) (out xs s) (moves (with_items xs s) pushed)) emptied
 
 pub rewinds_leave_nothing : RewindsLeaveNothing
 rewinds_leave_nothing = record {

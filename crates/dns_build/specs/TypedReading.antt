@@ -29,7 +29,7 @@ pushed which s = records_at (stage_of which) s
 abbrev pub IsLaidOutBy : (ℕ → Option Layout) → RecordItem → Type 0
 IsLaidOutBy layouts x = IfSome (layouts x.rtype) (λ layout. IsLaidOut layout x.parts)
 
--- the data type takes its type, and they are
+-- the data type takes the type of the record, and lays out its parts
 abbrev pub IsTakenBy : (ℕ → Option Layout) → RecordItem → Type 0
 IsTakenBy layouts x = IsSomeAnd (layouts x.rtype) (λ layout. IsLaidOut layout x.parts)
 
@@ -62,7 +62,7 @@ AllStandAs b (x ∷ xs) (item ∷ items) = IsOkAnd item (StandsAs b x) × AllSta
 abbrev pub PushedRecordsStand : Type 0
 PushedRecordsStand = (s : State) (b : List ℕ) → ReadsBack s b → (which : Section) → AllStandAs b (pushed which s) (records_of which b)
 
--- Where the pushed records that a data type takes are laid out so, its reading of their section gives exactly these, in order and without a fault.
+-- Where a data type lays out the parts of each pushed record that it takes, it gives of their section exactly these records, in order and without a fault.
 abbrev pub TypedRecordsReadBack : Type 0
 TypedRecordsReadBack = (s : State) (b : List ℕ) → ReadsBack s b → (which : Section) (layouts : ℕ → Option Layout)
     → All (IsLaidOutBy layouts) (pushed which s) → limited layouts (records_of which b) ≡ map Ok (taken layouts (pushed which s))
@@ -79,7 +79,7 @@ TypedRecordsInReadBack = (s : State) (b : List ℕ) → ReadsBack s b → (which
 
 -- What holds of one record that stands as it was pushed, whatever reading its data with a data type answers. RFC 1035 section 4.1.3.
 module _ {D : Type 0} (rtype_of : D → ℕ) (parts_of : D → List Part) where
-  -- Where the data type takes its type, and lays out its parts so, that gives a record with the same owner, class, TTL and parts.
+  -- Where the data type takes the type of the record and lays out its parts, a record with the same owner, type, class, TTL and parts is read.
   abbrev pub ToRecordReadsBack : (ℕ → Option Layout) → Type 0
   ToRecordReadsBack layouts = (b : List ℕ) (x : RecordItem) (standing : StandingRecord) (result : Result (Option (Record ParsedName D)) ParseError)
       → StandsAs b x standing → IsTakenBy layouts x

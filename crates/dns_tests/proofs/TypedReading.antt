@@ -73,14 +73,14 @@ pub in_vain : (law : RewindsLeaveNothing) (rule : Rule) (x : RecordItem) (old fu
     → (s : State) → StandsFor InAnswer rule s old → s.answers ≡ [] → new ≡ old
 in_vain law rule x old full new result refused accepted rewinds s stands none = by result refused accepted
   where
-    empty : rewound InAnswer s ≡ s
-    empty = sym (stands.last ∙ (λ i. record (up_to InAnswer s) { answers = none i }))
+    emptied : StandsFor InAnswer rule (rewound InAnswer s) old
+    emptied = subst (λ (t : State). StandsFor InAnswer rule t old) (stands.last ∙ (λ i. record (up_to InAnswer s) { answers = none i })) stands
 
     by : (result : Result (Unit {0}) PushError) → OnErr result (full ≡ old) → OnOk result (MovesState InAnswer InAnswer rule (with_record InAnswer x) old full) → new ≡ old
-    by (Ok u) refused accepted = law.records InAnswer rule s (x ∷ []) old full new stands empty (accepted s stands) rewinds
+    by (Ok u) refused accepted = law.records InAnswer rule s (x ∷ []) old full new emptied (accepted s stands) rewinds
     by (Err e) refused accepted =
         let same : s ≡ with_records InAnswer [] s = λ i. record s { answers = sym (append-nil s.answers) i } in
-        law.records InAnswer rule s [] old full new stands empty (subst (λ (q : State × Built). StandsFor InAnswer rule q.0 q.1) (λ i. (same i, sym refused i)) stands) rewinds
+        law.records InAnswer rule s [] old full new emptied (subst (λ (q : State × Built). StandsFor InAnswer rule q.0 q.1) (λ i. (same i, sym refused i)) stands) rewinds
 
 module _ {D : Type 0} (rtype_of : D → ℕ) (parts_of : D → List Part) where
   -- where one record is left, it is what is given
