@@ -1,12 +1,13 @@
 -- The rows of data.
+use Rattle.dns_rows.specs.Data.OptionRows.{none as no_options_rows, option}
 use Rattle.std.proofs.Common.{refl, ◌≡◌, ℕ, ◌+◌, ◌<◌, ◌≤◌, List, [], ◌∷◌, ◌++◌, length, OnOk, Result, Ok, Err, Bool, true, false, ◌∙◌, ap, subst, sym, arith, append_assoc, append-nil, take, length-take, slice_get, Some, None, inl, inr}
 use Rattle.std.proofs.lemmas.Option.{slice_get_cases}
-use Rattle.dns_rows.specs.Data.{shape_of, Shape, ShowsData, TextRows}
+use Rattle.dns_rows.specs.Data.{shape_of, Shape, ShowsData, TextRows, LacksOption, ShowsOption}
 use Rattle.dns_rows.specs.Data.TextRows.{none as no_text, text}
 use Rattle.dns_rows.specs.Data.Shape.{End, Octets, Named, Options, Rest, Texts}
-use Rattle.dns_rows.specs.Data.ShowsData.{done, octets as more_octets, short, name, no_name, nothing, options, rest, texts, text_short}
+use Rattle.dns_rows.specs.Data.ShowsData.{done, octets as more_octets, short, name, no_name, no_option, nothing, options, rest, texts, text_short}
 use Rattle.dns_rows.specs.Fields.{field_row}
-use Rattle.dns_rows.specs.Walks.{at, octets, Adds, Goes, HasNoName, MarksData, MarksWithin, PassesName, PassesTexts}
+use Rattle.dns_rows.specs.Walks.{at, octets, Adds, Goes, HasNoName, MarksData, MarksWithin, PassesName, PassesTexts, PassesOption, PassesOptions}
 use Rattle.dns_rows.specs.declared.row.Field.{Field}
 use Rattle.dns_rows.specs.declared.row.Field.TheVariants.{Data as DataField, Text}
 use Rattle.dns_rows.specs.declared.walk.Stop.{Stop}
@@ -49,10 +50,6 @@ name_then of shape stops old mid new h k =
 pub name_missing : (of : NameOf) (shape : Shape) (old new : Walk) → HasNoName (octets old) (at old) → Goes old.rows.items (at old) new.rows.items (at new) → MarksData (Named of shape) true old new
 name_missing of shape old new h g = record { rows = g.others; adds = g.made; shows = no_name h.1 g.plain }
 
--- fields that are options up to the end, or up to a fault
-pub option_rows : (stops : Bool) (old new : Walk) → Goes old.rows.items (at old) new.rows.items (at new) → MarksData Options stops old new
-option_rows stops old new g = record { rows = g.others; adds = g.made; shows = options g.plain }
-
 -- no octets that are left
 pub rest_none : (old : Walk) → length (octets old) ≤ at old → MarksData Rest false old old
 rest_none old h = record { rows = []; adds = sym (append-nil old.rows.items); shows = nothing h }
@@ -82,14 +79,6 @@ within_rows rtype len stops old mid new seen place rows h =
       shows = subst (λ p. P (take (at old + len) (octets old)) p) place (subst (λ b. P b (at mid)) seen h.shows);
     }
 
--- the same at another place that is equal, with the same rows
-pub within_to : (rtype len : ℕ) (stops : Bool) (old mid new : Walk) → at new ≡ at mid → new.rows.items ≡ mid.rows.items → MarksWithin rtype len stops old mid → MarksWithin rtype len stops old new
-within_to rtype len stops old mid new place rows h = record {
-  rows = h.rows;
-  adds = rows ∙ h.adds;
-  shows = subst (λ q. ShowsData (take (at old + len) (octets old)) (shape_of rtype) stops (at old) q h.rows) (sym place) h.shows;
-}
-
 -- a walk that sees so many octets more is at most behind them
 pub not_past : (old new : Walk) (len : ℕ) → octets new ≡ take (at old + len) (octets old) → at old + len ≤ length (octets old) → at new ≤ at old + len
 not_past old new len seen there =
@@ -97,7 +86,7 @@ not_past old new len seen there =
     omega (arith, same, length-take new.parser.end new.parser.octets.now, length-take (at old + len) (octets old), new.parser.before_end, new.parser.within)
 
 -- character strings one behind the other
-pub no_texts : (old : Walk) → PassesTexts old old
+abbrev pub no_texts : (old : Walk) → PassesTexts old old
 no_texts old = record { rows = []; adds = record { rows = sym (append-nil old.rows.items); seen = refl; place = refl }; texts = no_text }
 
 pub one_more_text : (n : ℕ) (old mid new : Walk) → PassesTexts old mid → slice_get (octets mid) (at mid) ≡ Some n
@@ -126,3 +115,33 @@ text_stops n old mid new h there long same =
     let long_too : length (octets old) < at mid + (1 + n) = subst (λ (b : List ℕ). length b < at mid + (1 + n)) h.adds.seen long in
     let here : MarksData Texts true old mid = record { rows = h.rows; adds = h.adds.rows; shows = text_short h.texts there_too long_too } in
     subst (λ new. MarksData Texts true old new) (sym same) here
+
+-- options one behind the other
+pub no_options : (old : Walk) → PassesOptions old old
+no_options old = record { rows = []; adds = (no_texts old).adds; options = no_options_rows }
+
+pub one_more_option : (old mid new : Walk) → PassesOptions old mid → PassesOption mid new → PassesOptions old new
+one_more_option old mid new h k =
+    let P : List ℕ → Type 0 = λ b. ShowsOption b (at mid) (at new) k.rows in
+    record {
+      rows = h.rows ++ k.rows;
+      adds = adds_then h.rows k.rows (at mid) (at new) old mid new h.adds k.adds;
+      options = option h.rows k.rows h.options (subst P h.adds.seen k.shows);
+    }
+
+pub all_options : (old new : Walk) → PassesOptions old new → length (octets new) ≤ at new → MarksData Options false old new
+all_options old new h end =
+    let same = ap length h.adds.seen in
+    let end_too : length (octets old) ≤ at new = omega (arith, same, end) in
+    record { rows = h.rows; adds = h.adds.rows; shows = options h.options end_too }
+
+pub option_stops : (old mid new : Walk) → PassesOptions old mid → at mid < length (octets mid) → LacksOption (octets mid) (at mid) → Goes mid.rows.items (at mid) new.rows.items (at new)
+    → MarksData Options true old new
+option_stops old mid new h some lacks g =
+    let P : List ℕ → Type 0 = λ b. (at mid < length b) × LacksOption b (at mid) in
+    let there = subst P h.adds.seen (some, lacks) in
+    record {
+      rows = h.rows ++ g.others;
+      adds = g.made ∙ ap (λ rows. rows ++ g.others) h.adds.rows ∙ append_assoc old.rows.items h.rows g.others;
+      shows = no_option h.rows g.others h.options there.0 there.1 g.plain;
+    }

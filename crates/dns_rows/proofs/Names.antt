@@ -1,14 +1,14 @@
 -- The rows of names.
 use Rattle.dns_rows.specs.Named.{NameRows}
 use Rattle.std.proofs.Common.{◌≡◌, ℕ, ◌+◌, ◌<◌, ◌≤◌, OnOk, Result, Err, ◌⊎◌, inl, inr, List, [], ◌∷◌, ◌++◌, length, slice_get, Option, Some, None, Ok, ◌∙◌, ap, subst, sym, refl, arith, append_assoc}
-use Rattle.dns_name.specs.Names.{head_at, max_size, Stands, Walked, WalkedBehind}
+use Rattle.dns_name.specs.Names.{head_at, max_size, WalkedBehind}
 use Rattle.dns_name.specs.Names.WalkedBehind.{root as root_walked, pointer as pointer_walked, label as label_walked}
 use Rattle.dns_name.specs.declared.head.Head.TheVariants.{Label}
 use Rattle.dns_name.specs.Unique.{label_of}
 use Rattle.dns_name.proofs.theory.HeadLemmas.{label_there, root_there, root_begins}
 use Rattle.dns_rows.specs.Named.NameRows.{root as root_rows, pointer as pointer_rows, label as label_rows}
 use Rattle.dns_rows.specs.Fields.{field_row}
-use Rattle.dns_rows.specs.Walks.{at, octets, Adds, IsEnd, IsLabelAt, PassesLabels, PassesAllLabels, PassesEnd, PassesName, PassesItemName}
+use Rattle.dns_rows.specs.Walks.{at, octets, Adds, IsEnd, IsLabelAt, PassesLabels, PassesAllLabels, PassesEnd}
 use Rattle.dns_rows.specs.Walks.IsEnd.{root as root_end, pointer as pointer_end}
 use Rattle.dns_rows.specs.declared.row.Field.{Field}
 use Rattle.dns_rows.specs.declared.row.Field.TheVariants as fields
@@ -96,32 +96,6 @@ pub pointer_row : (b : List ℕ) (of : NameOf) (start p q : ℕ) → (slice_get 
 pointer_row b of start p q h (root_end k) = absurd (h (root_there b p k))
 pointer_row b of start p q h (pointer_end k) = pointer_rows k
 
-pub end_behind : (b : List ℕ) (p q : ℕ) → IsEnd b p q → p < q
-end_behind b p q (root_end k) = omega arith
-end_behind b p q (pointer_end k) = omega arith
-
--- the labels of a name, and what ends it
-pub whole_name : (of : NameOf) (old mid new : Walk) (labels : List (List ℕ)) (q : ℕ) → PassesAllLabels of old mid → PassesEnd of (at old) q mid new
-    → Stands (octets old) (at old) labels → Walked (octets old) (at old) q → PassesName of old new
-whole_name of old mid new labels q h k stands walked =
-    let b = octets old in
-    let all = adds_then h.rows k.rows (at mid) q old mid new h.adds k.adds in
-    let there : NameRows b of (at old) (at mid) q k.rows = subst (λ b. NameRows b of (at old) (at mid) q k.rows) h.adds.seen k.shows in
-    record {
-      rows = h.rows ++ k.rows;
-      adds = record { rows = all.rows; seen = all.seen; place = refl };
-      labels = labels;
-      stands = stands;
-      walked = subst (λ q. Walked b (at old) q) (sym k.adds.place) walked;
-      shows = subst (λ q. NameRows b of (at old) (at old) q (h.rows ++ k.rows)) (sym k.adds.place) (h.labels (at old) q k.rows there);
-    }
-
--- the same where the end is passed, or not for want of memory
-pub whole_name_or_not : (of : NameOf) (old mid new : Walk) (labels : List (List ℕ)) (q : ℕ) (r : Result Unit Stop) → PassesAllLabels of old mid
-    → OnOk r (PassesEnd of (at old) q mid new) → Stands (octets old) (at old) labels → Walked (octets old) (at old) q → OnOk r (PassesName of old new)
-whole_name_or_not of old mid new labels q (Ok v) h k stands walked = whole_name of old mid new labels q h k stands walked
-whole_name_or_not of old mid new labels q (Err e) h k stands walked = tt
-
 -- a row for the end of a name, or none for want of memory
 pub end_passed : (of : NameOf) (start : ℕ) (row : Row) (old new : Walk) (behind : Parser) (r : Result Unit Stop) → seen behind ≡ octets old
     → OnOk r (new.rows.items ≡ old.rows.items ++ row ∷ []) → OnOk r (new.parser ≡ behind)
@@ -141,28 +115,6 @@ adds_row x old mid new p n e field h k same =
     let there = subst P h.place k in
     let Q : ℕ → Type 0 = λ e. Adds (x ++ field_row p e field ∷ []) e old new in
     subst Q (sym same) (adds_then x (field_row p (p + n) field ∷ []) p (p + n) old mid new h there)
-
--- the name of an item, behind the item's row
-pub item_name : (of : NameOf) (row : Row) (old mid new : Walk) → Adds (row ∷ []) (at old) old mid → PassesName of mid new → PassesItemName of row old new
-item_name of row old mid new h k =
-    let Seen : List ℕ → Type 0 = λ b. Stands b (at mid) k.labels × Walked b (at mid) (at new) × NameRows b of (at mid) (at mid) (at new) k.rows in
-    let seen_there = subst Seen h.seen (k.stands, k.walked, k.shows) in
-    let Placed : ℕ → Type 0 = λ p. Stands (octets old) p k.labels × Walked (octets old) p (at new) × NameRows (octets old) of p p (at new) k.rows in
-    let there = subst Placed h.place seen_there in
-    record {
-      rows = k.rows;
-      adds = adds_then (row ∷ []) k.rows (at old) (at new) old mid new h k.adds;
-      labels = k.labels;
-      stands = there.0;
-      walked = there.1;
-      shows = there.2;
-    }
-
--- the same where the name is passed, or not
-pub item_name_or_not : (of : NameOf) (row : Row) (old mid new : Walk) (r : Result Unit Stop) → Adds (row ∷ []) (at old) old mid → OnOk r (PassesName of mid new)
-    → OnOk r (PassesItemName of row old new)
-item_name_or_not of row old mid new (Ok v) h k = item_name of row old mid new h k
-item_name_or_not of row old mid new (Err e) h k = tt
 
 pub some_same : (m n : ℕ) → Some m ≡ Some n → m ≡ n
 some_same m n e = cc

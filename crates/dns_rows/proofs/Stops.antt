@@ -1,5 +1,5 @@
 -- What holds where a step of a walk stops.
-use Rattle.std.specs.Prelude.{⊤, Result, Ok, Err}
+use Rattle.std.specs.Prelude.{Result, Ok, Err}
 use Rattle.dns_rows.specs.Walks.{OnFault, OnFaultOf}
 use Rattle.dns_rows.specs.declared.row.Fault.{Fault as RowFault}
 use Rattle.dns_rows.specs.declared.walk.Stop.{Stop}
@@ -19,8 +19,3 @@ pub on_fault_of : {T : Type 0} (r : Result T Stop) (P : Type 0) (Q : RowFault �
 on_fault_of (Ok v) P Q f h = tt
 on_fault_of (Err (Fault fault)) P Q f h = f h fault
 on_fault_of (Err Memory) P Q f h = tt
-
-pub always : {T : Type 0} (r : Result T Stop) → OnFault r ⊤
-always (Ok v) = tt
-always (Err (Fault fault)) = tt
-always (Err Memory) = tt

@@ -1,7 +1,9 @@
 -- The rows of the data of a record, field by field, and where a fault ends them. RFC 1035 sections 3.3 and 3.4, RFC 3596 section 2.2.
 --
 -- `b` are the octets of the message up to the end of the data.
-use Rattle.std.specs.Prelude.{◌≡◌, ℕ, ◌+◌, ◌<◌, ◌≤◌, ◌==◌, Bool, true, false, if◌then◌else◌, List, [], ◌∷◌, ◌++◌, length, slice_get, Some}
+use Rattle.dns_name.specs.Parsers.{number_at}
+use Rattle.std.specs.Int.{w16}
+use Rattle.std.specs.Prelude.{◌≡◌, ℕ, ◌+◌, ◌<◌, ◌≤◌, ◌==◌, Bool, true, false, if◌then◌else◌, List, [], ◌∷◌, ◌++◌, length, slice_get, Some, nat_lt}
 use Rattle.dns_name.specs.Names.{Fault, FaultAt, Labels, Stands, Walked}
 use Rattle.dns_rows.specs.Fields.{field_row, ArePlain}
 use Rattle.dns_rows.specs.Named.{NameRows}
@@ -9,7 +11,7 @@ use Rattle.dns_rows.specs.declared.row.Row.{Row}
 use Rattle.dns_rows.specs.declared.row.NameOf.{NameOf}
 use Rattle.dns_rows.specs.declared.row.NameOf.TheVariants.{Server, Canonical, Target, Exchange, Primary, Mailbox}
 use Rattle.dns_rows.specs.declared.row.Field.{Field}
-use Rattle.dns_rows.specs.declared.row.Field.TheVariants.{Address, LongAddress, Preference, Zone, Data, Text}
+use Rattle.dns_rows.specs.declared.row.Field.TheVariants.{Address, LongAddress, Preference, Zone, Data, Text, OptionCode, OptionLength, OptionData}
 use Rattle.dns_rows.specs.declared.row.ZoneNumber.TheVariants.{Serial, Refresh, Retry, Expire, Minimum}
 
 -- the fields of data, one behind the other
@@ -53,6 +55,30 @@ pub data TextRows (b : List ℕ) (p : ℕ) : ℕ → List Row → Type 0 where
   text : {n q : ℕ} (rows : List Row) → TextRows b p q rows → slice_get b q ≡ Some n → q + (1 + n) ≤ length b
       → TextRows b p (q + (1 + n)) (rows ++ field_row q (q + (1 + n)) Text ∷ [])
 
+-- the row of the data of an option, which goes from p to q; none, where it has no octets
+abbrev pub option_data_rows : ℕ → ℕ → ℕ → List Row
+option_data_rows code p q = if nat_lt p q then field_row p q (OptionData code) ∷ [] else []
+
+-- an option goes from p to q, and these are its rows: its code, its length, and its data. RFC 6891 section 6.1.2.
+pub record ShowsOption (b : List ℕ) (p q : ℕ) (rows : List Row) : Type 0 where
+  pub code : ℕ
+  pub len : ℕ
+  pub code_there : code ≡ number_at w16 b p
+  pub len_there : len ≡ number_at w16 b (p + 2)
+  pub end : q ≡ p + 4 + len
+  pub within : q ≤ length b
+  pub made : rows ≡ field_row p (p + 2) OptionCode ∷ field_row (p + 2) (p + 4) (OptionLength code) ∷ option_data_rows code (p + 4) (p + 4 + len)
+
+-- why no option can be read at p: its numbers aren't all there, or its data isn't
+pub data LacksOption (b : List ℕ) (p : ℕ) : Type 0 where
+  numbers : length b < p + 4 → LacksOption b p
+  value : length b < p + 4 + number_at w16 b (p + 2) → LacksOption b p
+
+-- the rows of options from p to q
+pub data OptionRows (b : List ℕ) (p : ℕ) : ℕ → List Row → Type 0 where
+  none : OptionRows b p p []
+  option : {q r : ℕ} (rows others : List Row) → OptionRows b p q rows → ShowsOption b q r others → OptionRows b p r (rows ++ others)
+
 -- The rows of data from p on. Where it stops (`true`), they end at q, where the field begins or is within the name that can't be read. Else all fields go from p to q.
 pub data ShowsData (b : List ℕ) : Shape → Bool → ℕ → ℕ → List Row → Type 0 where
   done : {p : ℕ} → ShowsData b End false p p []
@@ -64,6 +90,8 @@ pub data ShowsData (b : List ℕ) : Shape → Bool → ℕ → ℕ → List Row 
   no_name : {p q : ℕ} {of : NameOf} {shape : Shape} {f : Fault} {rows : List Row} → FaultAt b p f → ArePlain rows p q → ShowsData b (Named of shape) true p q rows
   texts : {p q : ℕ} {rows : List Row} → TextRows b p q rows → length b ≤ q → ShowsData b Texts false p q rows
   text_short : {n p q : ℕ} {rows : List Row} → TextRows b p q rows → slice_get b q ≡ Some n → length b < q + (1 + n) → ShowsData b Texts true p q rows
-  options : {p q : ℕ} {stops : Bool} {rows : List Row} → ArePlain rows p q → ShowsData b Options stops p q rows
+  options : {p q : ℕ} {rows : List Row} → OptionRows b p q rows → length b ≤ q → ShowsData b Options false p q rows
+  no_option : {p q place : ℕ} (rows others : List Row) → OptionRows b p q rows → q < length b → LacksOption b q → ArePlain others q place
+      → ShowsData b Options true p place (rows ++ others)
   nothing : {p : ℕ} → length b ≤ p → ShowsData b Rest false p p []
   rest : {p : ℕ} → p < length b → ShowsData b Rest false p (length b) (field_row p (length b) Data ∷ [])

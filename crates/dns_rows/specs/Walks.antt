@@ -1,5 +1,5 @@
 -- What the steps of a walk over a message keep.
-use Rattle.dns_rows.specs.Data.{shape_of, Shape, ShowsData, TextRows}
+use Rattle.dns_rows.specs.Data.{shape_of, Shape, ShowsData, TextRows, OptionRows, ShowsOption}
 use Rattle.dns_rows.specs.Named.{NameRows}
 use Rattle.std.specs.Prelude.{◌<◌, Bool, ◌≡◌, ℕ, ◌+◌, ◌≤◌, List, ◌++◌, [], ◌∷◌, length, ⊤, Option, Result, Ok, Err, take, false}
 use Rattle.std.specs.Int.{w16}
@@ -192,3 +192,15 @@ pub record PassesTexts (old new : Walk) : Type 0 where
   pub rows : List Row
   pub adds : Adds rows (at new) old new
   pub texts : TextRows (octets old) (at old) (at new) rows
+
+-- a walk that passed an option
+pub record PassesOption (old new : Walk) : Type 0 where
+  pub rows : List Row
+  pub adds : Adds rows (at new) old new
+  pub shows : ShowsOption (octets old) (at old) (at new) rows
+
+-- a walk that passed options
+pub record PassesOptions (old new : Walk) : Type 0 where
+  pub rows : List Row
+  pub adds : Adds rows (at new) old new
+  pub options : OptionRows (octets old) (at old) (at new) rows

@@ -6,10 +6,10 @@ ghost use Rattle.dns_code.specs.HeaderCounts.{counts};
 ghost use Rattle.dns_code.specs.HeaderSection.{header_size};
 ghost use Rattle.dns_rows.specs.Fields.{items_at, IsField, field_row};
 ghost use Rattle.dns_rows.specs.Shown.{sum_of};
-ghost use Rattle.dns_rows.specs.Data.{shape_of, zone_shape};
+ghost use Rattle.dns_rows.specs.Data.{shape_of, zone_shape, LacksOption};
 ghost use Rattle.dns_rows.specs.Data.Shape.{End, Octets, Named, Options, Rest, Texts};
 ghost use Rattle.dns_rows.specs.Entries.{class_rows, holds_records, item_row, parts_of};
-ghost use Rattle.dns_rows.specs.Walks.{at, octets, items, IsMarked, Comes, Keeps, Adds, OnFault, HasNoName, IsEnd, IsLabelAt, PassesLabels, PassesAllLabels, PassesEnd, PassesName, PassesItemName, Begun, PassesNumbers, MarksItem, MarksStop, MarksFirst, MarksAmong, MarksParts, MarksData, MarksWithin, StopsWithin, OnFaultOf};
+ghost use Rattle.dns_rows.specs.Walks.{at, octets, items, IsMarked, Comes, Keeps, Adds, OnFault, HasNoName, IsEnd, IsLabelAt, PassesLabels, PassesAllLabels, PassesEnd, PassesName, PassesItemName, Begun, PassesNumbers, MarksItem, MarksStop, MarksFirst, MarksAmong, MarksParts, MarksData, MarksWithin, StopsWithin, OnFaultOf, PassesOption};
 
 use crate::octets::target_of;
 use crate::row::{Fault, Field, NameOf, Part, Row, ZoneNumber};
@@ -497,10 +497,7 @@ impl<'a> Walk<'a> {
         ensures shows { OnOk result (MarksData Options false self.old self.new) }
         ensures stops { OnFault result (MarksData Options true self.old self.new) }
     {
-        for _ in 0..self.parser.remaining() {
-            if self.parser.remaining() == 0 {
-                break;
-            }
+        'options: while self.parser.remaining() > 0 {
             self.option()?;
         }
         Ok(())
@@ -511,11 +508,16 @@ impl<'a> Walk<'a> {
         ensures comes { Comes 0 self.old self.new }
         ensures keeps { Keeps self.old self.new }
         ensures sees { OnOk result (octets self.new ≡ octets self.old) }
+        ensures passes { OnOk result (PassesOption self.old self.new) }
+        ensures stops { OnFault result (LacksOption (octets self.old) (at self.old)) }
     {
         let code = self.number(Field::OptionCode)?;
         match self.number(Field::OptionLength(code))? {
             0 => Ok(()),
-            len => self.octets(usize::from(len), Field::OptionData(code)),
+            len => {
+                self.octets(usize::from(len), Field::OptionData(code))?;
+                Ok(())
+            }
         }
     }
 }

@@ -1,25 +1,38 @@
-use Rattle.std.proofs.Common.{false, true}
-use Rattle.std.specs.Prelude.{⊤}
+use Rattle.std.proofs.Common.{◌<◌, ◌≤◌, ◌∙◌, arith, ap, length, refl, rules, true}
+use Rattle.dns_rows.specs.Data.{LacksOption}
 use Rattle.dns_rows.specs.Data.Shape.{Options}
-use Rattle.dns_rows.specs.Walks.{at, MarksData}
-use Rattle.dns_rows.proofs.DataRows.{option_rows}
+use Rattle.dns_rows.specs.Walks.{at, octets, MarksData}
+use Rattle.dns_rows.proofs.DataRows.{all_options, no_options, one_more_option, option_stops}
 use Rattle.dns_rows.proofs.Items.{nothing_yet}
-use Rattle.dns_rows.proofs.Stops.{always, on_fault}
+use Rattle.dns_rows.proofs.Stops.{on_fault}
 use Rattle.dns_rows.proofs.walk.Walk.options.Goals as goal
+
+pub options-init : goal.options-init
+options-init c = record { comes = search rules; keeps = λ front from g. g; sees = refl; passes = no_options c.args.self.now }
+
+pub options-preserved : goal.options-preserved
+options-preserved c = record {
+  comes = search rules;
+  keeps = λ front from g. c.option.ensures.keeps front from (c.options.invariant.keeps front from g);
+  sees = c.in_ok-option.ensures.sees ∙ c.options.invariant.sees;
+  passes = one_more_option c.args.self.now c.options.self c.option.new.self c.options.invariant.passes c.in_ok-option.ensures.passes;
+}
+
+pub options-smaller : goal.options-smaller
+options-smaller c =
+    let same = ap length c.in_ok-option.ensures.sees in
+    omega (arith, same, c.in_ok-option.ensures.passes.shows.end)
 
 pub returns-in_err-option-clause-stops : goal.returns-in_err-option-clause-stops
 returns-in_err-option-clause-stops c =
     let old = c.args.self.now in
+    let mid = c.options.self in
     let new = c.option.new.self in
-    let goes = c.option.ensures.keeps old.rows.items (at old) (c.loop.invariant.keeps old.rows.items (at old) (nothing_yet old)) in
-    on_fault c.from_residual.result ⊤ (MarksData Options true old new) (λ _. option_rows true old new goes) (always c.from_residual.result)
+    let some : at mid < length (octets mid) = omega arith in
+    on_fault c.from_residual.result (LacksOption (octets mid) (at mid)) (MarksData Options true old new)
+    (λ lacks. option_stops old mid new c.options.invariant.passes some lacks (c.option.ensures.keeps mid.rows.items (at mid) (nothing_yet mid))) (search rules)
 
-pub returns-after-loop-clause-shows : goal.returns-after-loop-clause-shows
-returns-after-loop-clause-shows c =
-    let old = c.args.self.now in
-    option_rows false old c.loop.self (c.loop.invariant.keeps old.rows.items (at old) (nothing_yet old))
-
-pub returns-then-remaining-eq0-clause-shows : goal.returns-then-remaining-eq0-clause-shows
-returns-then-remaining-eq0-clause-shows c =
-    let old = c.args.self.now in
-    option_rows false old c.loop.self (c.loop.invariant.keeps old.rows.items (at old) (nothing_yet old))
+pub returns-clause-shows : goal.returns-clause-shows
+returns-clause-shows c =
+    let end : length (octets c.options.self) ≤ at c.options.self = omega arith in
+    all_options c.args.self.now c.options.self c.options.invariant.passes end

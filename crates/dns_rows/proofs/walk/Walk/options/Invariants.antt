@@ -1,10 +1,14 @@
-use Rattle.std.proofs.Common.{◌≡◌}
-use Rattle.dns_rows.specs.Walks.{octets, Comes, Keeps}
+use Rattle.std.proofs.Common.{◌-◌, ◌≡◌, length}
+use Rattle.dns_rows.specs.Walks.{at, octets, Comes, Keeps, PassesOptions}
 use Rattle.dns_rows.proofs.walk.Walk.options.Given as goal
 
-abbrev pub invariant-loop : goal.invariant-loop
-invariant-loop l = record {
+abbrev pub invariant-options : goal.invariant-options
+invariant-options l = record {
   comes : Comes 0 l.fn.self l.self;
   keeps : Keeps l.fn.self l.self;
   sees : octets l.self ≡ octets l.fn.self;
+  passes : PassesOptions l.fn.self l.self;
 }
+
+abbrev pub decreases-options : goal.decreases-options
+decreases-options l = length (octets l.self) - at l.self
