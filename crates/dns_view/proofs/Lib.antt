@@ -1,3 +1,4 @@
 mod Appended
 mod PageTexts
 mod TextLines
+mod Viewed

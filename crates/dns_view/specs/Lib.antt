@@ -2,3 +2,4 @@ pub mod Digits
 pub mod Pages
 pub mod Printed
 pub mod Texts
+pub mod Viewing
