@@ -1,5 +1,5 @@
 #!/usr/bin/env bash
-# Builds crates/dns_c, which proves it and the crates below it, compares dns.h with its exports (header.sh), and compiles
+# Builds crates/dns_c, which proves it (library), compares dns.h with its exports (header.sh), and compiles
 # and runs the examples in C, C++ and Rust: those in C and C++ by gcc and by clang, each where it is there, with the
 # address and undefined behaviour sanitizers where the compiler has them. Debian has them as gcc, g++ and clang.
 # It prints 'test c::NAME ... ok' or 'test c::NAME ... FAILED' for each of these, and fails where one did.
@@ -22,10 +22,6 @@ outcome() {
     echo "test c::$name ... FAILED"
     failed=1
   fi
-}
-
-library() {
-  cd "$crate" && rt lib
 }
 
 sanitizers='-fsanitize=address,undefined -fno-sanitize-recover=all'
@@ -83,7 +79,7 @@ examples_of_rust() {
     -o "$build/show_rs" && "$build/show_rs" <"$build/messages"
 }
 
-outcome library library
+outcome library "$here/library"
 outcome header "$here/header.sh"
 for compiler in gcc clang; do
   command -v $compiler >/dev/null && outcome $compiler examples $compiler
