@@ -13,14 +13,14 @@ use Rattle.dns_question.specs.Questions.{QuestionItem}
 use Rattle.dns_item.specs.Items.{RecordItem}
 use Rattle.dns_section.specs.declared.section.Section.{Section}
 use Rattle.dns_section.specs.declared.section.Section.TheVariants.{Answer, Authority, Additional}
-use Rattle.dns_build.specs.State.{State, Stage, InBuilder, InQuestion, InAnswer, InAuthority, InAdditional, stage_of, depth_of, with_question, with_record, records_at, most_entries}
+use Rattle.dns_build.specs.State.{State, Stage, InBuilder, InQuestion, InAnswer, InAuthority, InAdditional, stage_of, depth_of, with_question, with_questions, with_record, with_records, records_at, most_entries}
 use Rattle.dns_build.specs.Standing.{Built, StandsFor, MovesState, InEach, size_after}
 use Rattle.dns_build.specs.declared.push_error.PushError.{PushError}
 use Rattle.dns_build.specs.declared.push_error.PushError.TheVariants as pushing
 use Rattle.dns_c.specs.Codes.{append_fault, number_of, push_fault}
 use Rattle.dns_c.specs.Made.{SpellsNoName}
 use Rattle.dns_c.specs.Walk.{section_at}
-use Rattle.dns_c.specs.Built.{NewEntry, Question, Record, Means, AllMean, IsQuestionOf, IsRecordOf, LacksFields, IsRefused, FirstRefused, IsStopped, IsUnbuilt, questions_among, records_among, with_questions, with_records}
+use Rattle.dns_c.specs.Built.{NewEntry, Question, Record, Means, AllMean, IsQuestionOf, IsRecordOf, LacksFields, IsRefused, FirstRefused, IsStopped, IsUnbuilt, questions_among, records_among}
 use Rattle.dns_c.specs.declared.build.NewItem.{NewItem}
 use Rattle.dns_c.specs.declared.code.Fault.TheVariants.{NoRoom}
 

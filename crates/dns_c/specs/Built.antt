@@ -11,7 +11,7 @@ use Rattle.dns_question.specs.Questions.{QuestionItem}
 use Rattle.dns_item.specs.Items.{RecordItem}
 use Rattle.dns_section.specs.declared.section.Section.{Section}
 use Rattle.dns_section.specs.declared.section.Section.TheVariants.{Answer, Authority, Additional}
-use Rattle.dns_build.specs.State.{State, Stage, InBuilder, InQuestion, InAnswer, InAuthority, InAdditional, most_entries}
+use Rattle.dns_build.specs.State.{State, InAdditional, most_entries}
 use Rattle.dns_build.specs.Standing.{fresh}
 use Rattle.dns_build.specs.MessageOf.{IsMessageOf}
 use Rattle.dns_c.specs.Codes.{number_of}
@@ -73,18 +73,6 @@ questions_among xs = filter_map as_question xs
 
 abbrev pub records_among : Section → List NewEntry → List RecordItem
 records_among which xs = filter_map (as_record which) xs
-
--- with questions behind those of a state
-abbrev pub with_questions : List QuestionItem → State → State
-with_questions xs s = record s { questions = s.questions ++ xs }
-
--- with records behind those of a stage's own list
-abbrev pub with_records : Stage → List RecordItem → State → State
-with_records InBuilder xs s = s
-with_records InQuestion xs s = s
-with_records InAnswer xs s = record s { answers = s.answers ++ xs }
-with_records InAuthority xs s = record s { authorities = s.authorities ++ xs }
-with_records InAdditional xs s = record s { additionals = s.additionals ++ xs }
 
 -- the header of an ID, and of flags that are its third and fourth octet
 abbrev pub header_of : ℕ → ℕ → Header

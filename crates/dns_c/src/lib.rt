@@ -22,12 +22,12 @@ ghost use Rattle.dns_code.specs.HeaderSection.{header_size};
 ghost use Rattle.dns_number.specs.Classes.{class_text};
 ghost use Rattle.dns_number.specs.Types.{type_text};
 ghost use Rattle.dns_question.specs.Questions.{QuestionItem};
+ghost use Rattle.dns_item.specs.Items.{RecordEntry};
 ghost use Rattle.dns_c.specs.Built.{IsBuilt, IsUnbuilt};
 ghost use Rattle.dns_c.specs.Codes.{number_of};
 ghost use Rattle.dns_c.specs.Made.{AsksNothing, AsksOne, HoldsQuery, IsLonger, IsQuery, IsResponse, LacksName, SpellsNoName};
 ghost use Rattle.dns_c.specs.Steps.{IsOpen, Opens, Spans, GivesNext};
 ghost use Rattle.dns_c.specs.Texts.{NoRecordAt, RecordAt, data_text};
-ghost use Rattle.dns_item.specs.Items.{RecordEntry};
 
 use build::NewItem;
 use code::Fault;
