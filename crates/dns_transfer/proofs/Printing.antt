@@ -84,8 +84,7 @@ pub transfer_printed : {X E : Type 0} (r : Result X E) (stream : List ℕ) {mess
     → OnOk r (Prints (IsTransferText stream) a c)
 transfer_printed (Ok x) stream {messages = messages} {rest = rest} {items = items} a b c are given transferred first p second h =
     let printed = subst (λ (xs : List Taken). Prints (IsItemsText xs) a b) first p in
-    let ended = subst (λ (xs : List Taken). Appends b c (ending xs rest)) second h in
-    (
+    let ended = subst (λ (xs : List Taken). Appends b c (ending xs rest)) second h in (
       printed.0 ++ ending items rest,
       record {
         messages = messages;

@@ -1,5 +1,5 @@
 -- What is printed of an input, up to a flush, and digits that are odd in number.
-use Rattle.std.proofs.Common.{◌≡◌, ◌∙◌, ℕ, ◌<◌, ◌≤◌, ◌%◌, ◌-◌, ◌||◌, ◌&&◌, ◌⊎◌, inl, inr, Bool, true, false, Option, Some, None, IfSome, Result, Ok, Err, OnOk, List, [], ◌∷◌, ◌++◌, length, get_or, map, ap, refl, sym, subst, arith, codes}
+use Rattle.std.proofs.Common.{◌≡◌, ◌∙◌, ℕ, ◌<◌, ◌≤◌, ◌%◌, ◌-◌, ◌||◌, ◌&&◌, inl, inr, Bool, true, false, Option, Some, None, IfSome, Result, Err, OnOk, List, [], ◌∷◌, ◌++◌, length, get_or, map, ap, refl, sym, subst, arith, codes}
 use Rattle.std.specs.Prelude.{is_some, if◌then◌else◌, not, cond}
 use Rattle.std.specs.Char.{is_ascii_hexdigit, is_ascii_whitespace}
 use Rattle.std.specs.Io.KnownBytes.{Appends, Keeps}

@@ -1,4 +1,3 @@
-use Rattle.std.proofs.Common.{refl}
 use Rattle.dns_view.proofs.Viewed.{page_printed_of, text_printed}
 use Rattle.dns_view.proofs.program.print_rows.Goals as goal
 
