@@ -81,6 +81,7 @@ examples_of_rust() {
 
 outcome library "$here/library"
 outcome header "$here/header.sh"
+command -v gcc clang >/dev/null || echo 'no C compiler: the examples in C are not run'
 for compiler in gcc clang; do
   command -v $compiler >/dev/null && outcome $compiler examples $compiler
 done
