@@ -1,4 +1,4 @@
-/* Refuses the call of the C library's allocator whose number is in REFUSE, and says so: preloaded, for glibc. */
+/* Refuses the call of malloc or realloc whose number is in REFUSE, and says so: preloaded, for glibc. */
 
 #include <stddef.h>
 #include <stdlib.h>
