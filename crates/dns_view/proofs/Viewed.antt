@@ -124,11 +124,11 @@ odd_digits input e digits faulty =
 -- what is printed tells its status
 status_tells : {words : List (List ℕ)} {input : List ℕ} {a b : Option (List ℕ)} {status : ℕ} → IsViewed words input a b status → Tells words input status
 status_tells (asked form status is (shown octets gives p)) =
-    record { shown = λ e. (octets, gives); bad_hex = λ e. absurd (let n : 0 ≡ 1 = e in omega arith); usage = λ e. absurd (let n : 0 ≡ 2 = e in omega arith) }
+    record { asked = λ e. (form, is); shown = λ e. (octets, gives); bad_hex = λ e. absurd (let n : 0 ≡ 1 = e in omega arith); usage = λ e. absurd (let n : 0 ≡ 2 = e in omega arith) }
 status_tells (asked form status is (bad_hex odd p)) =
-    record { shown = λ e. absurd (let n : 1 ≡ 0 = e in omega arith); bad_hex = λ e. odd; usage = λ e. absurd (let n : 1 ≡ 2 = e in omega arith) }
+    record { asked = λ e. (form, is); shown = λ e. absurd (let n : 1 ≡ 0 = e in omega arith); bad_hex = λ e. odd; usage = λ e. absurd (let n : 1 ≡ 2 = e in omega arith) }
 status_tells (usage none p) =
-    record { shown = λ e. absurd (let n : 2 ≡ 0 = e in omega arith); bad_hex = λ e. absurd (let n : 2 ≡ 1 = e in omega arith); usage = λ e. none }
+    record { asked = λ e. absurd (let n : 2 ≤ 1 = e in omega arith); shown = λ e. absurd (let n : 2 ≡ 0 = e in omega arith); bad_hex = λ e. absurd (let n : 2 ≡ 1 = e in omega arith); usage = λ e. none }
 
 module _ (remaining : Option (List ℕ)) (words : List (List ℕ)) where
   -- so where a reader's octets are known
@@ -141,5 +141,5 @@ module _ (remaining : Option (List ℕ)) (words : List (List ℕ)) where
   failure_tells =
       elim remaining as (λ (o : Option (List ℕ)). IfSome o (λ xs. Tells words xs 3)) [
         | None ↦ tt
-        | Some xs ↦ record { shown = λ e. absurd (let n : 3 ≡ 0 = e in omega arith); bad_hex = λ e. absurd (let n : 3 ≡ 1 = e in omega arith); usage = λ e. absurd (let n : 3 ≡ 2 = e in omega arith) }
+        | Some xs ↦ record { asked = λ e. absurd (let n : 3 ≤ 1 = e in omega arith); shown = λ e. absurd (let n : 3 ≡ 0 = e in omega arith); bad_hex = λ e. absurd (let n : 3 ≡ 1 = e in omega arith); usage = λ e. absurd (let n : 3 ≡ 2 = e in omega arith) }
       ]

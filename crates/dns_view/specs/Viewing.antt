@@ -57,8 +57,10 @@ pub data IsViewed (words : List (List ℕ)) (input : List ℕ) (old new : Option
   asked : (form : Form) (status : ℕ) → words ≡ words_of form → IsPrinted form input old new status → IsViewed words input old new status
   usage : AskNothing words → Appends old new (codes "usage: dnsview [--html]\n") → IsViewed words input old new 2
 
--- What the status tells of words and an input: 0 that the input gives a message, 1 that its digits are odd in number, 2 that the words ask for nothing.
+-- What the status tells of words and an input: 0 or 1 that the words ask for a text or a page, 2 that they ask for nothing;
+-- 0 that the input gives a message, 1 that its digits are odd in number.
 pub record Tells (words : List (List ℕ)) (input : List ℕ) (status : ℕ) : Type 0 where
+  pub asked : status ≤ 1 → (form : Form) × (words ≡ words_of form)
   pub shown : status ≡ 0 → (octets : List ℕ) × Gives input octets
   pub bad_hex : status ≡ 1 → IsOdd input
   pub usage : status ≡ 2 → AskNothing words
