@@ -1,28 +1,34 @@
 -- The rows of data.
 use Rattle.dns_rows.specs.Data.OptionRows.{none as no_options_rows, option}
-use Rattle.std.proofs.Common.{refl, ◌≡◌, ℕ, ◌+◌, ◌<◌, ◌≤◌, List, [], ◌∷◌, ◌++◌, length, OnOk, Result, Ok, Err, Bool, true, false, ◌∙◌, ap, subst, sym, arith, append_assoc, append-nil, take, length-take, slice_get, Some, None, inl, inr}
+use Rattle.std.proofs.Common.{refl, ◌≡◌, ℕ, ◌+◌, ◌<◌, ◌≤◌, List, [], ◌∷◌, ◌++◌, length, OnOk, Result, Ok, Err, ◌∙◌, ap, subst, sym, arith, append_assoc, append-nil, take, length-take, slice_get, Option, Some, None, inl, inr}
 use Rattle.std.proofs.lemmas.Option.{slice_get_cases}
+use Rattle.std.specs.Int.{w16}
+use Rattle.dns_name.specs.Parsers.{number_at}
 use Rattle.dns_rows.specs.Data.{shape_of, Shape, ShowsData, TextRows, LacksOption, ShowsOption}
+use Rattle.dns_rows.specs.Data.LacksOption.{code as code_lacks, len as len_lacks, value as value_lacks}
 use Rattle.dns_rows.specs.Data.TextRows.{none as no_text, text}
 use Rattle.dns_rows.specs.Data.Shape.{End, Octets, Named, Options, Rest, Texts}
 use Rattle.dns_rows.specs.Data.ShowsData.{done, octets as more_octets, short, name, no_name, no_option, nothing, options, rest, texts, text_short}
+use Rattle.dns_rows.specs.Faults.{LacksName}
 use Rattle.dns_rows.specs.Fields.{field_row}
-use Rattle.dns_rows.specs.Walks.{at, octets, Adds, Goes, HasNoName, MarksData, MarksWithin, PassesName, PassesTexts, PassesOption, PassesOptions}
+use Rattle.dns_rows.specs.Walks.{at, octets, Adds, Goes, LacksField, MarksData, MarksWithin, PassesName, PassesTexts, PassesOption, PassesOptions}
+use Rattle.dns_rows.specs.declared.row.Fault.{Fault as RowFault}
+use Rattle.dns_rows.specs.declared.row.Fault.TheVariants.{Short}
 use Rattle.dns_rows.specs.declared.row.Field.{Field}
-use Rattle.dns_rows.specs.declared.row.Field.TheVariants.{Data as DataField, Text}
+use Rattle.dns_rows.specs.declared.row.Field.TheVariants.{Data as DataField, OptionCode, OptionData, OptionLength, Text}
 use Rattle.dns_rows.specs.declared.walk.Stop.{Stop}
 use Rattle.dns_rows.specs.declared.row.NameOf.{NameOf}
 use Rattle.dns_rows.specs.declared.walk.Walk.{Walk}
 use Rattle.dns_rows.proofs.Names.{adds_then}
 
-pub data_done : (old : Walk) → MarksData End false old old
+pub data_done : (old : Walk) → MarksData End None old old
 data_done old = record { rows = []; adds = sym (append-nil old.rows.items); shows = done }
 
 -- octets that are a field, and what is behind them
-pub octets_then : (n : ℕ) (field : Field) (shape : Shape) (stops : Bool) (old mid new : Walk) → Adds (field_row (at old) (at old + n) field ∷ []) (at old + n) old mid
-    → at old + n ≤ length (octets old) → MarksData shape stops mid new → MarksData (Octets n field shape) stops old new
-octets_then n field shape stops old mid new h within k =
-    let P : List ℕ → ℕ → Type 0 = λ b p. ShowsData b shape stops p (at new) k.rows in
+pub octets_then : (n : ℕ) (field : Field) (shape : Shape) (stop : Option RowFault) (old mid new : Walk) → Adds (field_row (at old) (at old + n) field ∷ []) (at old + n) old mid
+    → at old + n ≤ length (octets old) → MarksData shape stop mid new → MarksData (Octets n field shape) stop old new
+octets_then n field shape stop old mid new h within k =
+    let P : List ℕ → ℕ → Type 0 = λ b p. ShowsData b shape stop p (at new) k.rows in
     let behind : P (octets old) (at old + n) = subst (λ b. P b (at old + n)) h.seen (subst (λ p. P (octets mid) p) h.place k.shows) in
     record {
       rows = field_row (at old) (at old + n) field ∷ k.rows;
@@ -31,15 +37,17 @@ octets_then n field shape stops old mid new h within k =
     }
 
 -- octets that aren't all there
-pub octets_short : (n : ℕ) (field : Field) (shape : Shape) (old new : Walk) → length (octets old) < at old + n → new ≡ old → MarksData (Octets n field shape) true old new
-octets_short n field shape old new h same =
-    let here : MarksData (Octets n field shape) true old old = record { rows = []; adds = sym (append-nil old.rows.items); shows = short h } in
-    subst (λ new. MarksData (Octets n field shape) true old new) (sym same) here
+pub octets_short : (n : ℕ) (field : Field) (shape : Shape) (old new : Walk) (fault : RowFault) → LacksField field (octets old) (at old + n) fault → new ≡ old
+    → MarksData (Octets n field shape) (Some fault) old new
+octets_short n field shape old new fault h same =
+    let here : MarksData (Octets n field shape) (Some (Short field)) old old = record { rows = []; adds = sym (append-nil old.rows.items); shows = short h.1 } in
+    let there = subst (λ new. MarksData (Octets n field shape) (Some (Short field)) old new) (sym same) here in
+    subst (λ fault. MarksData (Octets n field shape) (Some fault) old new) (sym h.0) there
 
 -- a name, and what is behind it
-pub name_then : (of : NameOf) (shape : Shape) (stops : Bool) (old mid new : Walk) → PassesName of old mid → MarksData shape stops mid new → MarksData (Named of shape) stops old new
-name_then of shape stops old mid new h k =
-    let behind : ShowsData (octets old) shape stops (at mid) (at new) k.rows = subst (λ b. ShowsData b shape stops (at mid) (at new) k.rows) h.adds.seen k.shows in
+pub name_then : (of : NameOf) (shape : Shape) (stop : Option RowFault) (old mid new : Walk) → PassesName of old mid → MarksData shape stop mid new → MarksData (Named of shape) stop old new
+name_then of shape stop old mid new h k =
+    let behind : ShowsData (octets old) shape stop (at mid) (at new) k.rows = subst (λ b. ShowsData b shape stop (at mid) (at new) k.rows) h.adds.seen k.shows in
     record {
       rows = h.rows ++ k.rows;
       adds = k.adds ∙ ap (λ rows. rows ++ k.rows) h.adds.rows ∙ append_assoc old.rows.items h.rows k.rows;
@@ -47,32 +55,32 @@ name_then of shape stops old mid new h k =
     }
 
 -- a name that can't be read
-pub name_missing : (of : NameOf) (shape : Shape) (old new : Walk) → HasNoName (octets old) (at old) → Goes old.rows.items (at old) new.rows.items (at new) → MarksData (Named of shape) true old new
-name_missing of shape old new h g = record { rows = g.others; adds = g.made; shows = no_name h.1 g.plain }
+pub name_missing : (of : NameOf) (shape : Shape) (old new : Walk) (fault : RowFault) → LacksName (octets old) (at old) fault → Goes old.rows.items (at old) new.rows.items (at new) → MarksData (Named of shape) (Some fault) old new
+name_missing of shape old new fault h g = record { rows = g.others; adds = g.made; shows = no_name h g.plain }
 
 -- no octets that are left
-pub rest_none : (old : Walk) → length (octets old) ≤ at old → MarksData Rest false old old
+pub rest_none : (old : Walk) → length (octets old) ≤ at old → MarksData Rest None old old
 rest_none old h = record { rows = []; adds = sym (append-nil old.rows.items); shows = nothing h }
 
 -- the octets that are left
 pub rest_rows : (n : ℕ) (old new : Walk) (r : Result Unit Stop) → 0 < n → at old + n ≡ length (octets old)
-    → OnOk r (Adds (field_row (at old) (at old + n) DataField ∷ []) (at old + n) old new) → OnOk r (MarksData Rest false old new)
+    → OnOk r (Adds (field_row (at old) (at old + n) DataField ∷ []) (at old + n) old new) → OnOk r (MarksData Rest None old new)
 rest_rows n old new (Ok v) some end h =
     let within : at old < length (octets old) = omega (arith, some, end) in
-    let P : ℕ → Type 0 = λ q. ShowsData (octets old) Rest false (at old) q (field_row (at old) q DataField ∷ []) in
+    let P : ℕ → Type 0 = λ q. ShowsData (octets old) Rest None (at old) q (field_row (at old) q DataField ∷ []) in
     let shows : P (at old + n) = subst P (sym end) (rest within) in
     record {
       rows = field_row (at old) (at old + n) DataField ∷ [];
       adds = h.rows;
-      shows = subst (λ q. ShowsData (octets old) Rest false (at old) q (field_row (at old) (at old + n) DataField ∷ [])) (sym h.place) shows;
+      shows = subst (λ q. ShowsData (octets old) Rest None (at old) q (field_row (at old) (at old + n) DataField ∷ [])) (sym h.place) shows;
     }
 rest_rows n old new (Err stop) some end h = tt
 
 -- what a walk up to the end of data shows, seen from the record
-pub within_rows : (rtype len : ℕ) (stops : Bool) (old mid new : Walk) → octets mid ≡ take (at old + len) (octets old) → at mid ≡ at old → mid.rows.items ≡ old.rows.items
-    → MarksData (shape_of rtype) stops mid new → MarksWithin rtype len stops old new
-within_rows rtype len stops old mid new seen place rows h =
-    let P : List ℕ → ℕ → Type 0 = λ b p. ShowsData b (shape_of rtype) stops p (at new) h.rows in
+pub within_rows : (rtype len : ℕ) (stop : Option RowFault) (old mid new : Walk) → octets mid ≡ take (at old + len) (octets old) → at mid ≡ at old → mid.rows.items ≡ old.rows.items
+    → MarksData (shape_of rtype) stop mid new → MarksWithin rtype len stop old new
+within_rows rtype len stop old mid new seen place rows h =
+    let P : List ℕ → ℕ → Type 0 = λ b p. ShowsData b (shape_of rtype) stop p (at new) h.rows in
     record {
       rows = h.rows;
       adds = h.adds ∙ ap (λ rows. rows ++ h.rows) rows;
@@ -103,18 +111,20 @@ one_more_text n old mid new h there k within =
       texts = subst P (sym k.place) (text h.rows h.texts there_too within_too);
     }
 
-pub all_texts : (old new : Walk) → PassesTexts old new → slice_get (octets new) (at new) ≡ None → MarksData Texts false old new
+pub all_texts : (old new : Walk) → PassesTexts old new → slice_get (octets new) (at new) ≡ None → MarksData Texts None old new
 all_texts old new h none =
     let none_too : slice_get (octets old) (at new) ≡ None = subst (λ b. slice_get b (at new) ≡ None) h.adds.seen none in
     let end : length (octets old) ≤ at new = elim (slice_get_cases (octets old) (at new)).1 [ inl x ↦ absurd (cc (none_too, x.2)) | inr x ↦ x.0 ] in
     record { rows = h.rows; adds = h.adds.rows; shows = texts h.texts end }
 
-pub text_stops : (n : ℕ) (old mid new : Walk) → PassesTexts old mid → slice_get (octets mid) (at mid) ≡ Some n → length (octets mid) < at mid + (1 + n) → new ≡ mid → MarksData Texts true old new
-text_stops n old mid new h there long same =
+pub text_stops : (n : ℕ) (old mid new : Walk) (fault : RowFault) → PassesTexts old mid → slice_get (octets mid) (at mid) ≡ Some n → LacksField Text (octets mid) (at mid + (1 + n)) fault → new ≡ mid
+    → MarksData Texts (Some fault) old new
+text_stops n old mid new fault h there long same =
     let there_too : slice_get (octets old) (at mid) ≡ Some n = subst (λ b. slice_get b (at mid) ≡ Some n) h.adds.seen there in
-    let long_too : length (octets old) < at mid + (1 + n) = subst (λ (b : List ℕ). length b < at mid + (1 + n)) h.adds.seen long in
-    let here : MarksData Texts true old mid = record { rows = h.rows; adds = h.adds.rows; shows = text_short h.texts there_too long_too } in
-    subst (λ new. MarksData Texts true old new) (sym same) here
+    let long_too : length (octets old) < at mid + (1 + n) = subst (λ (b : List ℕ). length b < at mid + (1 + n)) h.adds.seen long.1 in
+    let here : MarksData Texts (Some (Short Text)) old mid = record { rows = h.rows; adds = h.adds.rows; shows = text_short h.texts there_too long_too } in
+    let there = subst (λ new. MarksData Texts (Some (Short Text)) old new) (sym same) here in
+    subst (λ fault. MarksData Texts (Some fault) old new) (sym long.0) there
 
 -- options one behind the other
 pub no_options : (old : Walk) → PassesOptions old old
@@ -129,19 +139,41 @@ one_more_option old mid new h k =
       options = option h.rows k.rows h.options (subst P h.adds.seen k.shows);
     }
 
-pub all_options : (old new : Walk) → PassesOptions old new → length (octets new) ≤ at new → MarksData Options false old new
+pub all_options : (old new : Walk) → PassesOptions old new → length (octets new) ≤ at new → MarksData Options None old new
 all_options old new h end =
     let same = ap length h.adds.seen in
     let end_too : length (octets old) ≤ at new = omega (arith, same, end) in
     record { rows = h.rows; adds = h.adds.rows; shows = options h.options end_too }
 
-pub option_stops : (old mid new : Walk) → PassesOptions old mid → at mid < length (octets mid) → LacksOption (octets mid) (at mid) → Goes mid.rows.items (at mid) new.rows.items (at new)
-    → MarksData Options true old new
-option_stops old mid new h some lacks g =
-    let P : List ℕ → Type 0 = λ b. (at mid < length b) × LacksOption b (at mid) in
+pub option_stops : (old mid new : Walk) (fault : RowFault) → PassesOptions old mid → at mid < length (octets mid) → LacksOption (octets mid) (at mid) fault → Goes mid.rows.items (at mid) new.rows.items (at new)
+    → MarksData Options (Some fault) old new
+option_stops old mid new fault h some lacks g =
+    let P : List ℕ → Type 0 = λ b. (at mid < length b) × LacksOption b (at mid) fault in
     let there = subst P h.adds.seen (some, lacks) in
     record {
       rows = h.rows ++ g.others;
       adds = g.made ∙ ap (λ rows. rows ++ g.others) h.adds.rows ∙ append_assoc old.rows.items h.rows g.others;
       shows = no_option h.rows g.others h.options there.0 there.1 g.plain;
     }
+
+-- the field of an option that isn't all there
+pub lacks_code : (b : List ℕ) (p : ℕ) (fault : RowFault) → LacksField OptionCode b (p + 2) fault → LacksOption b p fault
+lacks_code b p fault h = subst (λ fault. LacksOption b p fault) (sym h.0) (code_lacks h.1)
+
+pub lacks_len : (n : ℕ) (old mid : Walk) (fault : RowFault) → Adds (field_row (at old) (at old + 2) OptionCode ∷ []) (at old + 2) old mid → at old + 2 ≤ length (octets old)
+    → n ≡ number_at w16 (octets old) (at old) → LacksField (OptionLength n) (octets mid) (at mid + 2) fault → LacksOption (octets old) (at old) fault
+lacks_len n old mid fault h within read k =
+    let same = ap length h.seen in
+    let there : LacksOption (octets old) (at old) (Short (OptionLength (number_at w16 (octets old) (at old)))) = len_lacks within (omega (arith, k.1, same, h.place)) in
+    subst (λ fault. LacksOption (octets old) (at old) fault) (sym (k.0 ∙ ap (λ n. Short (OptionLength n)) read)) there
+
+pub lacks_value : (n size : ℕ) (old mid new : Walk) (fault : RowFault) → Adds (field_row (at old) (at old + 2) OptionCode ∷ []) (at old + 2) old mid
+    → n ≡ number_at w16 (octets old) (at old) → Adds (field_row (at mid) (at mid + 2) (OptionLength n) ∷ []) (at mid + 2) mid new → at mid + 2 ≤ length (octets mid)
+    → size ≡ number_at w16 (octets mid) (at mid) → LacksField (OptionData n) (octets new) (at new + size) fault → LacksOption (octets old) (at old) fault
+lacks_value n size old mid new fault h read k within sized l =
+    let same = ap length h.seen in
+    let same_too = ap length k.seen in
+    let sized_there : size ≡ number_at w16 (octets old) (at old + 2) = sized ∙ ap (λ b. number_at w16 b (at mid)) h.seen ∙ ap (λ p. number_at w16 (octets old) p) h.place in
+    let there : LacksOption (octets old) (at old) (Short (OptionData (number_at w16 (octets old) (at old)))) =
+    value_lacks (omega (arith, within, same, h.place)) (omega (arith, l.1, same, same_too, h.place, k.place, sized_there)) in
+    subst (λ fault. LacksOption (octets old) (at old) fault) (sym (l.0 ∙ ap (λ n. Short (OptionData n)) read)) there

@@ -1,5 +1,5 @@
 -- The rows of items.
-use Rattle.std.proofs.Common.{◌≡◌, ℕ, suc, ◌+◌, ◌<◌, ◌≤◌, inl, inr, List, [], ◌∷◌, ◌++◌, length, Option, Some, None, ◌∙◌, ap, subst, sym, refl, arith, add-one, append_assoc, append-nil, take, false, IsTrue}
+use Rattle.std.proofs.Common.{◌≡◌, ℕ, suc, ◌+◌, ◌<◌, ◌≤◌, inl, inr, List, [], ◌∷◌, ◌++◌, length, Option, Some, None, ◌∙◌, ap, subst, sym, refl, arith, add-one, append_assoc, append-nil, take, IsTrue}
 use Rattle.std.proofs.lemmas.List.Elements.{All-nil}
 use Rattle.std.specs.Int.{w16, w32}
 use Rattle.dns_name.specs.Names.Fault.{ShortInput}
@@ -13,9 +13,12 @@ use Rattle.dns_item.specs.Items.LacksRecord.{fields as lacks_fields, rdata as la
 use Rattle.dns_rows.specs.Entries.{holds_records, item_row, number_rows, FirstItems, ItemStops, parts_of, QuestionStops, RecordStops, ShowsItem, ShowsParts, ShowsQuestion, ShowsRecord, StopsItem}
 use Rattle.dns_rows.specs.Entries.FirstItems.{none, next}
 use Rattle.dns_rows.specs.Entries.ShowsParts.{none as no_more, all, fault as fault_among}
+use Rattle.dns_rows.specs.Faults.{LacksName, TellsFault}
 use Rattle.dns_rows.specs.Fields.{field_row, IsField}
-use Rattle.dns_rows.specs.Walks.{at, octets, Adds, Begun, Goes, HasNoName, MarksAmong, MarksFirst, MarksItem, MarksParts, MarksStop, PassesItemName, PassesNumbers, MarksWithin, StopsWithin}
+use Rattle.dns_rows.specs.Walks.{at, octets, Adds, Begun, Goes, LacksFields, MarksAmong, MarksFirst, MarksItem, MarksParts, MarksStop, PassesItemName, PassesNumbers, MarksWithin, StopsWithin}
 use Rattle.dns_rows.specs.declared.row.Fault.{Fault as RowFault}
+use Rattle.dns_rows.specs.declared.row.Fault.TheVariants.{Short}
+use Rattle.dns_rows.specs.declared.row.Field.{Field}
 use Rattle.dns_rows.specs.declared.row.Field.TheVariants as fields
 use Rattle.dns_rows.specs.declared.row.NameOf.TheVariants as names
 use Rattle.dns_rows.specs.declared.row.Part.{Part}
@@ -24,23 +27,28 @@ use Rattle.dns_rows.specs.declared.row.Row.{Row}
 use Rattle.dns_rows.specs.declared.walk.Walk.{Walk}
 use Rattle.dns_rows.proofs.Names.{adds_row, adds_then}
 
+-- octets that lack are told by the field that isn't all there
+tells_short : (field : Field) (fault : RowFault) → fault ≡ Short field → TellsFault fault ShortInput
+tells_short field fault told = subst (λ fault. TellsFault fault ShortInput) (sym told) refl
+
 -- a walk that stopped in an item
-pub marks_stop : (part : Part) (number : ℕ) (old new : Walk) → Begun part number old new → ItemStops (octets old) part (at old) (at new) → MarksStop part number old new
-marks_stop part number old new g stops = record {
+pub marks_stop : (part : Part) (number : ℕ) (old new : Walk) (fault : RowFault) → Begun part number old new → ItemStops (octets old) part (at old) (at new) fault → MarksStop part number old new fault
+marks_stop part number old new fault g stops = record {
   rows = item_row part number (at old) ∷ g.others;
   adds = g.made ∙ append_assoc old.rows.items (item_row part number (at old) ∷ []) g.others;
   stops = record { stops = stops; others = g.others; before = g.plain; made = refl };
 }
 
 -- a question whose name can't be read
-pub question_unnamed : (b : List ℕ) (p place : ℕ) → HasNoName b p → QuestionStops b p place
-question_unnamed b p place h = (h.0, name_fault h.1)
+pub question_unnamed : (b : List ℕ) (p : ℕ) (fault : RowFault) → LacksName b p fault → QuestionStops b p fault
+question_unnamed b p fault h = (h.0, name_fault h.1, h.2)
 
 -- a question whose type and class aren't all there
-pub question_short : (row : Row) (old mid : Walk) (place : ℕ) → PassesItemName names.Question row old mid → length (octets mid) < at mid + 4 → QuestionStops (octets old) (at old) place
-question_short row old mid place h short =
+pub question_short : (row : Row) (old mid : Walk) (field : Field) (fault : RowFault) → PassesItemName names.Question row old mid → fault ≡ Short field → length (octets mid) < at mid + 4
+    → QuestionStops (octets old) (at old) fault
+question_short row old mid field fault h told short =
     let short_there : length (octets old) < at mid + 4 = subst (λ (b : List ℕ). length b < at mid + 4) h.adds.seen short in
-    (ShortInput, short_fields h.stands h.walked short_there)
+    (ShortInput, short_fields h.stands h.walked short_there, tells_short field fault told)
 
 -- a question of a name, a type and a class
 pub marks_question : (number : ℕ) (old a b new : Walk) → PassesItemName names.Question (item_row Question number (at old)) old a
@@ -71,11 +79,11 @@ marks_question number old a b new h k l within =
     }
 
 -- where a record can't be read, or its data can't
-pub record_stops : (b : List ℕ) (part : Part) (p place : ℕ) → IsTrue (holds_records part) → RecordStops b p place → ItemStops b part p place
-record_stops b Question p place h s = absurd (cc h)
-record_stops b Answer p place h s = s
-record_stops b Authority p place h s = s
-record_stops b Additional p place h s = s
+pub record_stops : (b : List ℕ) (part : Part) (p place : ℕ) (fault : RowFault) → IsTrue (holds_records part) → RecordStops b p place fault → ItemStops b part p place fault
+record_stops b Question p place fault h s = absurd (cc h)
+record_stops b Answer p place fault h s = s
+record_stops b Authority p place fault h s = s
+record_stops b Additional p place fault h s = s
 
 record_shows : (b : List ℕ) (part : Part) (number p q : ℕ) (rows : List Row) → IsTrue (holds_records part) → ShowsRecord b part number p q rows → ShowsItem b part number p q rows
 record_shows b Question number p q rows h s = absurd (cc h)
@@ -84,14 +92,14 @@ record_shows b Authority number p q rows h s = s
 record_shows b Additional number p q rows h s = s
 
 -- a record whose owner can't be read
-pub record_unnamed : (b : List ℕ) (p place : ℕ) → HasNoName b p → RecordStops b p place
-record_unnamed b p place h = inl (h.0, name_fault h.1)
+pub record_unnamed : (b : List ℕ) (p place : ℕ) (fault : RowFault) → LacksName b p fault → RecordStops b p place fault
+record_unnamed b p place fault h = inl (h.0, name_fault h.1, h.2)
 
 -- a record whose numbers aren't all there
-pub record_short : (row : Row) (old mid : Walk) (place : ℕ) → PassesItemName names.Owner row old mid → length (octets mid) < at mid + 10 → RecordStops (octets old) (at old) place
-record_short row old mid place h short =
-    let short_there : length (octets old) < at mid + 10 = subst (λ (b : List ℕ). length b < at mid + 10) h.adds.seen short in
-    inl (ShortInput, short_fields h.stands h.walked (lacks_fields short_there))
+pub record_short : (row : Row) (old mid : Walk) (place : ℕ) (fault : RowFault) → PassesItemName names.Owner row old mid → LacksFields (octets mid) (at mid + 10) fault → RecordStops (octets old) (at old) place fault
+record_short row old mid place fault h short =
+    let short_there : length (octets old) < at mid + 10 = subst (λ (b : List ℕ). length b < at mid + 10) h.adds.seen short.1.1 in
+    inl (ShortInput, short_fields h.stands h.walked (lacks_fields short_there), tells_short short.0 fault short.1.0)
 
 -- what is read of a record
 abbrev entry_of : List (List ℕ) → List ℕ → ℕ → ℕ → ℕ → RecordEntry
@@ -113,31 +121,32 @@ reads_record row rtype len old a b h k there =
     record { skips = record { name_end = at a; walked = h.walked; end = end; within = there }; owner = h.stands; rtype = rtype_there; class = refl; ttl = refl; data_start = refl; data_end = refl }
 
 -- a record whose data isn't all there, or can't be read
-pub data_stops : (row : Row) (rtype len : ℕ) (old a b new : Walk) → PassesItemName names.Owner row old a → PassesNumbers rtype len a b
-    → StopsWithin rtype len b new → RecordStops (octets old) (at old) (at new)
-data_stops row rtype len old a b new h k (missing short) =
+pub data_stops : (row : Row) (rtype len : ℕ) (old a b new : Walk) (fault : RowFault) → PassesItemName names.Owner row old a → PassesNumbers rtype len a b
+    → StopsWithin rtype len b new fault → RecordStops (octets old) (at old) (at new) fault
+data_stops row rtype len old a b new _ h k (missing short) =
     let len_there : len ≡ number_at w16 (octets old) (at a + 8) = subst (λ b. len ≡ number_at w16 b (at a + 8)) h.adds.seen k.len_there in
     let whole : at a + 10 ≤ length (octets old) = subst (λ (b : List ℕ). at a + 10 ≤ length b) h.adds.seen k.within in
     let same : length (octets b) ≡ length (octets old) = ap length (k.adds.seen ∙ h.adds.seen) in
-    inl (ShortInput, short_fields h.stands h.walked (lacks_data whole (omega (arith, short, len_there, same, k.adds.place))))
-data_stops row rtype len old a b new h k (stopped stops there w left) =
+    inl (ShortInput, short_fields h.stands h.walked (lacks_data whole (omega (arith, short, len_there, same, k.adds.place))), refl)
+data_stops row rtype len old a b new _ h k (stopped stop there w left) =
     let seen = k.adds.seen ∙ h.adds.seen in
     let same = ap length seen in
     let there_too : at a + 10 + len ≤ length (octets old) = omega (arith, there, same, k.adds.place) in
-    let P : List ℕ → ℕ → Type 0 = λ b p. ShowsData (take (p + len) b) (shape_of rtype) stops p (at new) w.rows in
+    let P : List ℕ → ℕ → Type 0 = λ b p. ShowsData (take (p + len) b) (shape_of rtype) stop p (at new) w.rows in
     inr (record {
       entry = entry_of h.labels (octets old) (at a) rtype len;
       end = at a + 10 + len;
       reads = reads_record row rtype len old a b h k there_too;
       data_rows = w.rows;
-      stops = stops;
+      stop = stop;
       value = subst (λ p. P (octets old) p) k.adds.place (subst (λ o. P o (at b)) seen w.shows);
       left_over = λ e. omega (arith, left e, k.adds.place);
+      told = refl;
     })
 
 -- a record of an owner, its numbers and its data
 pub marks_record : (part : Part) (number rtype len : ℕ) (old a b new : Walk) → IsTrue (holds_records part) → PassesItemName names.Owner (item_row part number (at old)) old a
-    → PassesNumbers rtype len a b → MarksWithin rtype len false b new → octets new ≡ octets b → at new ≡ at b + len → at b + len ≤ length (octets b)
+    → PassesNumbers rtype len a b → MarksWithin rtype len None b new → octets new ≡ octets b → at new ≡ at b + len → at b + len ≤ length (octets b)
     → MarksItem part number old new
 marks_record part number rtype len old a b new records h k g seen place within =
     let r = at a in
@@ -148,7 +157,7 @@ marks_record part number rtype len old a b new records h k g seen place within =
     let front = item_row part number (at old) ∷ h.rows in
     let rows = front ++ (number_rows rtype r ++ g.rows) in
     let joined : (front ++ number_rows rtype r) ++ g.rows ≡ rows = append_assoc front (number_rows rtype r) g.rows in
-    let P : List ℕ → ℕ → ℕ → Type 0 = λ b from to. ShowsData (take (from + len) b) (shape_of rtype) false from to g.rows in
+    let P : List ℕ → ℕ → ℕ → Type 0 = λ b from to. ShowsData (take (from + len) b) (shape_of rtype) None from to g.rows in
     let value : P (octets old) (r + 10) (r + 10 + len) =
     subst (λ from. P (octets old) from (r + 10 + len)) k.adds.place (subst (λ o. P o (at b) (r + 10 + len)) (k.adds.seen ∙ h.adds.seen) (subst (λ to. P (octets b) (at b) to) to g.shows)) in
     let shows : ShowsRecord (octets old) part number (at old) (r + 10 + len) rows = record {
@@ -187,9 +196,9 @@ one_more_item part n old mid new h k =
     let Q : ℕ → Type 0 = λ m. FirstItems (octets old) part (at old) m (at new) (h.rows ++ k.rows) in
     record { rows = h.rows ++ k.rows; adds = both; first = subst Q (sym (add-one n)) (next h.rows k.rows h.first shows) }
 
-pub stops_among : (part : Part) (n count : ℕ) (old mid new : Walk) → MarksFirst part n old mid → n < count → MarksStop part (n + 1) mid new → MarksAmong part count old new
-stops_among part n count old mid new h fewer k =
-    let P : List ℕ → ℕ → ℕ → Type 0 = λ b n p. StopsItem b part n p (at new) k.rows in
+pub stops_among : (part : Part) (n count : ℕ) (old mid new : Walk) (fault : RowFault) → MarksFirst part n old mid → n < count → MarksStop part (n + 1) mid new fault → MarksAmong part count old new fault
+stops_among part n count old mid new fault h fewer k =
+    let P : List ℕ → ℕ → ℕ → Type 0 = λ b n p. StopsItem b part n p (at new) fault k.rows in
     let stops : P (octets old) (suc n) (at mid) = subst (λ b. P b (suc n) (at mid)) h.adds.seen (subst (λ n. P (octets mid) n (at mid)) (add-one n) k.stops) in
     record {
       rows = h.rows ++ k.rows;
@@ -201,8 +210,8 @@ stops_among part n count old mid new h fewer k =
 pub no_parts : (old : Walk) → MarksParts [] None old old
 no_parts old = record { rows = []; adds = sym (append-nil old.rows.items); shows = no_more }
 
-pub part_stops : (part : Part) (n : ℕ) (parts : List (Part × ℕ)) (old new : Walk) → MarksAmong part n old new → (fault : RowFault) → MarksParts ((part, n) ∷ parts) (Some fault) old new
-part_stops part n parts old new h fault = record { rows = h.rows; adds = h.adds; shows = fault_among h.stops }
+pub part_stops : (part : Part) (n : ℕ) (parts : List (Part × ℕ)) (old new : Walk) (fault : RowFault) → MarksAmong part n old new fault → MarksParts ((part, n) ∷ parts) (Some fault) old new
+part_stops part n parts old new fault h = record { rows = h.rows; adds = h.adds; shows = fault_among h.stops }
 
 pub part_then : (part : Part) (n : ℕ) (parts : List (Part × ℕ)) (stop : Option RowFault) (old mid new : Walk) → MarksFirst part n old mid → MarksParts parts stop mid new
     → MarksParts ((part, n) ∷ parts) stop old new

@@ -1,4 +1,5 @@
 mod DataRows
+mod Faults
 mod Items
 mod Names
 mod Stops

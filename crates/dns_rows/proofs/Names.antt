@@ -1,7 +1,8 @@
 -- The rows of names.
 use Rattle.dns_rows.specs.Named.{NameRows}
-use Rattle.std.proofs.Common.{◌≡◌, ℕ, ◌+◌, ◌<◌, ◌≤◌, OnOk, Result, Err, ◌⊎◌, inl, inr, List, [], ◌∷◌, ◌++◌, length, slice_get, Option, Some, None, Ok, ◌∙◌, ap, subst, sym, refl, arith, append_assoc}
-use Rattle.dns_name.specs.Names.{head_at, max_size, WalkedBehind}
+use Rattle.std.proofs.Common.{◌≡◌, ℕ, ◌+◌, ◌-◌, ◌<◌, ◌≤◌, OnOk, Result, Err, ◌⊎◌, inl, inr, List, [], ◌∷◌, ◌++◌, length, slice_get, Option, Some, None, Ok, ◌∙◌, ap, subst, sym, refl, arith, append_assoc}
+use Rattle.dns_name.specs.Names.{head_at, max_size, Fault, Faulty, WalkedBehind}
+use Rattle.dns_name.specs.Names.Faulty.{head as head_fault, long as long_fault, cut as cut_fault, ahead as ahead_fault, label as label_fault, pointer as pointer_fault}
 use Rattle.dns_name.specs.Names.WalkedBehind.{root as root_walked, pointer as pointer_walked, label as label_walked}
 use Rattle.dns_name.specs.declared.head.Head.TheVariants.{Label}
 use Rattle.dns_name.specs.Unique.{label_of}
@@ -51,6 +52,17 @@ label_behind b p s n q h (label_walked {n = m} k short fits w) =
     let same : m ≡ n = cc in
     subst (λ n. WalkedBehind b (p + 1 + n) (s + n + 1) q) same w
 
+-- the fault behind a label that begins at p
+fault_behind : (b : List ℕ) (p s n : ℕ) (f : Fault) → IsLabelAt b p s n → Faulty b p s f → Faulty b (p + 1 + n) (s + n + 1) f
+fault_behind b p s n f label (head_fault k) = cc (k, label.begins)
+fault_behind b p s n f label (long_fault {n = m} k long) = let same : m ≡ n = cc (k, label.begins) in absurd (omega (arith, same, long, label.short))
+fault_behind b p s n f label (cut_fault {n = m} k short cut) = let same : m ≡ n = cc (k, label.begins) in absurd (omega (arith, same, cut, label.fits))
+fault_behind b p s n f label (ahead_fault k w) = cc (k, label.begins)
+fault_behind b p s n f label (label_fault {n = m} k short fits w) =
+    let same : m ≡ n = cc (k, label.begins) in
+    subst (λ n. Faulty b (p + 1 + n) (s + n + 1) f) same w
+fault_behind b p s n f label (pointer_fault k back w) = cc (k, label.begins)
+
 -- where no label begins, the name ends
 end_here : (b : List ℕ) (p s q : ℕ) → ((n : ℕ) → IsLabelAt b p s n → ⊥) → WalkedBehind b p s q → IsEnd b p q
 end_here b p s q none (root_walked k) = root_end k
@@ -75,6 +87,12 @@ one_more_label of size n old mid new h label k =
           let same : at mid + 1 + n ≡ at mid + (n + 1) = omega arith in
           let P : List Row → Type 0 = λ rows. NameRows b of start (at old) end rows in
           subst P (ap (λ e. h.rows ++ field_row (at mid) e (fields.Label of) ∷ behind) same ∙ sym (append_assoc h.rows (row ∷ []) behind)) whole;
+      faults = λ f w.
+          let begins_there : IsLabelAt b (at mid) size n = subst (λ b. IsLabelAt b (at mid) size n) h.adds.seen label in
+          let there = fault_behind b (at mid) size n f begins_there (h.faults f w) in
+          let grown : size + n + 1 ≡ size + (n + 1) = omega arith in
+          subst (λ s. Faulty b (at new) s f) grown (subst (λ p. Faulty b p (size + n + 1) f) (sym to) there);
+      sizes = omega (arith, to, h.sizes);
       ends = λ q w.
           let there = label_behind b (at mid) size n q begins (h.ends q w) in
           let grown : size + n + 1 ≡ size + (n + 1) = omega arith in
@@ -85,7 +103,16 @@ one_more_label of size n old mid new h label k =
 pub all_labels : (of : NameOf) (size : ℕ) (old new : Walk) → PassesLabels of size old new → ((n : ℕ) → IsLabelAt (octets new) (at new) size n → ⊥) → PassesAllLabels of old new
 all_labels of size old new h none =
     let none_there : (n : ℕ) → IsLabelAt (octets old) (at new) size n → ⊥ = subst (λ (b : List ℕ). (n : ℕ) → IsLabelAt b (at new) size n → ⊥) h.adds.seen none in
-    record { rows = h.rows; adds = h.adds; labels = h.labels; ends = λ q w. end_here (octets old) (at new) size q none_there (h.ends q w) }
+    let same : size ≡ at new - at old = omega (arith, h.sizes) in
+    record {
+      rows = h.rows;
+      adds = h.adds;
+      labels = h.labels;
+      ends = λ q w. end_here (octets old) (at new) size q none_there (h.ends q w);
+      order = omega (arith, h.sizes);
+      faults = λ f w. subst (λ s. Faulty (octets old) (at new) s f) same (h.faults f w);
+      none = subst (λ s. (n : ℕ) → IsLabelAt (octets old) (at new) s n → ⊥) same none_there;
+    }
 
 -- a name ends where a zero octet stands, and else with a pointer
 pub root_row : (b : List ℕ) (of : NameOf) (start p q : ℕ) → slice_get b p ≡ Some 0 → IsEnd b p q → NameRows b of start p q (field_row p q (fields.Root of start) ∷ [])

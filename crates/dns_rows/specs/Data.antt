@@ -3,13 +3,16 @@
 -- `b` are the octets of the message up to the end of the data.
 use Rattle.dns_name.specs.Parsers.{number_at}
 use Rattle.std.specs.Int.{w16}
-use Rattle.std.specs.Prelude.{◌≡◌, ℕ, ◌+◌, ◌<◌, ◌≤◌, ◌==◌, Bool, true, false, if◌then◌else◌, List, [], ◌∷◌, ◌++◌, length, slice_get, Some, nat_lt}
-use Rattle.dns_name.specs.Names.{Fault, FaultAt, Labels, Stands, Walked}
+use Rattle.std.specs.Prelude.{◌≡◌, ℕ, ◌+◌, ◌<◌, ◌≤◌, ◌==◌, if◌then◌else◌, List, [], ◌∷◌, ◌++◌, length, slice_get, Option, Some, None, nat_lt}
+use Rattle.dns_name.specs.Names.{Labels, Stands, Walked}
+use Rattle.dns_rows.specs.Faults.{LacksName}
 use Rattle.dns_rows.specs.Fields.{field_row, ArePlain}
 use Rattle.dns_rows.specs.Named.{NameRows}
 use Rattle.dns_rows.specs.declared.row.Row.{Row}
 use Rattle.dns_rows.specs.declared.row.NameOf.{NameOf}
 use Rattle.dns_rows.specs.declared.row.NameOf.TheVariants.{Server, Canonical, Target, Exchange, Primary, Mailbox}
+use Rattle.dns_rows.specs.declared.row.Fault as rows
+use Rattle.dns_rows.specs.declared.row.Fault.TheVariants.{Short}
 use Rattle.dns_rows.specs.declared.row.Field.{Field}
 use Rattle.dns_rows.specs.declared.row.Field.TheVariants.{Address, LongAddress, Preference, Zone, Data, Text, OptionCode, OptionLength, OptionData}
 use Rattle.dns_rows.specs.declared.row.ZoneNumber.TheVariants.{Serial, Refresh, Retry, Expire, Minimum}
@@ -29,6 +32,10 @@ pub data Shape : Type 0 where
   -- one field of all octets that are left, if there are any
   Rest : Shape
 
+-- the preference and the server of MX. RFC 1035 section 3.3.9.
+abbrev pub exchange_shape : Shape
+exchange_shape = Octets 2 Preference (Named Exchange End)
+
 -- the server, the mailbox and the five numbers of SOA. RFC 1035 section 3.3.13.
 abbrev pub zone_shape : Shape
 zone_shape =
@@ -43,7 +50,7 @@ shape_of rtype =
     else if rtype == 2 then Named Server End
     else if rtype == 5 then Named Canonical End
     else if rtype == 12 then Named Target End
-    else if rtype == 15 then Octets 2 Preference (Named Exchange End)
+    else if rtype == 15 then exchange_shape
     else if rtype == 6 then zone_shape
     else if rtype == 16 then Texts
     else if rtype == 41 then Options
@@ -69,29 +76,30 @@ pub record ShowsOption (b : List ℕ) (p q : ℕ) (rows : List Row) : Type 0 whe
   pub within : q ≤ length b
   pub made : rows ≡ field_row p (p + 2) OptionCode ∷ field_row (p + 2) (p + 4) (OptionLength code) ∷ option_data_rows code (p + 4) (p + 4 + len)
 
--- why no option can be read at p: its numbers aren't all there, or its data isn't
-pub data LacksOption (b : List ℕ) (p : ℕ) : Type 0 where
-  numbers : length b < p + 4 → LacksOption b p
-  value : length b < p + 4 + number_at w16 b (p + 2) → LacksOption b p
+-- the field of an option at p that isn't all there, and its fault: its code, its length, or its data
+pub data LacksOption (b : List ℕ) (p : ℕ) : rows.Fault → Type 0 where
+  code : length b < p + 2 → LacksOption b p (Short OptionCode)
+  len : p + 2 ≤ length b → length b < p + 4 → LacksOption b p (Short (OptionLength (number_at w16 b p)))
+  value : p + 4 ≤ length b → length b < p + 4 + number_at w16 b (p + 2) → LacksOption b p (Short (OptionData (number_at w16 b p)))
 
 -- the rows of options from p to q
 pub data OptionRows (b : List ℕ) (p : ℕ) : ℕ → List Row → Type 0 where
   none : OptionRows b p p []
   option : {q r : ℕ} (rows others : List Row) → OptionRows b p q rows → ShowsOption b q r others → OptionRows b p r (rows ++ others)
 
--- The rows of data from p on. Where it stops (`true`), they end at q, where the field begins or is within the name that can't be read. Else all fields go from p to q.
-pub data ShowsData (b : List ℕ) : Shape → Bool → ℕ → ℕ → List Row → Type 0 where
-  done : {p : ℕ} → ShowsData b End false p p []
-  octets : {n p q : ℕ} {field : Field} {shape : Shape} {stops : Bool} {rows : List Row} → p + n ≤ length b → ShowsData b shape stops (p + n) q rows
-      → ShowsData b (Octets n field shape) stops p q (field_row p (p + n) field ∷ rows)
-  short : {n p : ℕ} {field : Field} {shape : Shape} → length b < p + n → ShowsData b (Octets n field shape) true p p []
-  name : {p q r : ℕ} {of : NameOf} {shape : Shape} {stops : Bool} {labels : Labels} (names rows : List Row) → Stands b p labels → Walked b p r → NameRows b of p p r names
-      → ShowsData b shape stops r q rows → ShowsData b (Named of shape) stops p q (names ++ rows)
-  no_name : {p q : ℕ} {of : NameOf} {shape : Shape} {f : Fault} {rows : List Row} → FaultAt b p f → ArePlain rows p q → ShowsData b (Named of shape) true p q rows
-  texts : {p q : ℕ} {rows : List Row} → TextRows b p q rows → length b ≤ q → ShowsData b Texts false p q rows
-  text_short : {n p q : ℕ} {rows : List Row} → TextRows b p q rows → slice_get b q ≡ Some n → length b < q + (1 + n) → ShowsData b Texts true p q rows
-  options : {p q : ℕ} {rows : List Row} → OptionRows b p q rows → length b ≤ q → ShowsData b Options false p q rows
-  no_option : {p q place : ℕ} (rows others : List Row) → OptionRows b p q rows → q < length b → LacksOption b q → ArePlain others q place
-      → ShowsData b Options true p place (rows ++ others)
-  nothing : {p : ℕ} → length b ≤ p → ShowsData b Rest false p p []
-  rest : {p : ℕ} → p < length b → ShowsData b Rest false p (length b) (field_row p (length b) Data ∷ [])
+-- The rows of data from p on. Where it stops with a fault, they end at q, where the field begins that can't be read, or is within the name or the option. Else all fields go from p to q.
+pub data ShowsData (b : List ℕ) : Shape → Option rows.Fault → ℕ → ℕ → List Row → Type 0 where
+  done : {p : ℕ} → ShowsData b End None p p []
+  octets : {n p q : ℕ} {field : Field} {shape : Shape} {stop : Option rows.Fault} {rows : List Row} → p + n ≤ length b → ShowsData b shape stop (p + n) q rows
+      → ShowsData b (Octets n field shape) stop p q (field_row p (p + n) field ∷ rows)
+  short : {n p : ℕ} {field : Field} {shape : Shape} → length b < p + n → ShowsData b (Octets n field shape) (Some (Short field)) p p []
+  name : {p q r : ℕ} {of : NameOf} {shape : Shape} {stop : Option rows.Fault} {labels : Labels} (names rows : List Row) → Stands b p labels → Walked b p r → NameRows b of p p r names
+      → ShowsData b shape stop r q rows → ShowsData b (Named of shape) stop p q (names ++ rows)
+  no_name : {p q : ℕ} {of : NameOf} {shape : Shape} {fault : rows.Fault} {rows : List Row} → LacksName b p fault → ArePlain rows p q → ShowsData b (Named of shape) (Some fault) p q rows
+  texts : {p q : ℕ} {rows : List Row} → TextRows b p q rows → length b ≤ q → ShowsData b Texts None p q rows
+  text_short : {n p q : ℕ} {rows : List Row} → TextRows b p q rows → slice_get b q ≡ Some n → length b < q + (1 + n) → ShowsData b Texts (Some (Short Text)) p q rows
+  options : {p q : ℕ} {rows : List Row} → OptionRows b p q rows → length b ≤ q → ShowsData b Options None p q rows
+  no_option : {p q place : ℕ} {fault : rows.Fault} (rows others : List Row) → OptionRows b p q rows → q < length b → LacksOption b q fault → ArePlain others q place
+      → ShowsData b Options (Some fault) p place (rows ++ others)
+  nothing : {p : ℕ} → length b ≤ p → ShowsData b Rest None p p []
+  rest : {p : ℕ} → p < length b → ShowsData b Rest None p (length b) (field_row p (length b) Data ∷ [])

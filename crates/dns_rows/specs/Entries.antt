@@ -8,6 +8,7 @@ use Rattle.dns_item.specs.Items.{RecordEntry, ReadsRecord, RecordFaultAt}
 use Rattle.dns_code.specs.HeaderCounts.{Counts}
 use Rattle.dns_item.specs.RecordReading.{up_to_data_end}
 use Rattle.dns_rows.specs.Data.{shape_of, ShowsData}
+use Rattle.dns_rows.specs.Faults.{TellsFault}
 use Rattle.dns_rows.specs.Fields.{field_row, ArePlain}
 use Rattle.dns_rows.specs.Named.{NameRows}
 use Rattle.dns_rows.specs.declared.row.Row.{Row}
@@ -16,6 +17,7 @@ use Rattle.dns_rows.specs.declared.row.Part.TheVariants.{Question, Answer, Autho
 use Rattle.dns_rows.specs.declared.row.NameOf.TheVariants as names
 use Rattle.dns_rows.specs.declared.row.Field.TheVariants as fields
 use Rattle.dns_rows.specs.declared.row.Fault as rows
+use Rattle.dns_rows.specs.declared.row.Fault.TheVariants.{Trailing}
 
 -- the row where an item begins
 abbrev pub item_row : Part → ℕ → ℕ → Row
@@ -52,38 +54,44 @@ pub record ShowsRecord (b : List ℕ) (part : Part) (number p q : ℕ) (rows : L
   pub owner_rows : List Row
   pub owner : NameRows b names.Owner p p reads.skips.name_end owner_rows
   pub data_rows : List Row
-  pub value : ShowsData (up_to_data_end b entry) (shape_of entry.rtype) false entry.data_start entry.data_end data_rows
+  pub value : ShowsData (up_to_data_end b entry) (shape_of entry.rtype) None entry.data_start entry.data_end data_rows
   pub made : let r = reads.skips.name_end in
       rows ≡ item_row part number p ∷ (owner_rows ++ (number_rows entry.rtype r ++ data_rows))
 
--- The fault of a question at p: it can't be read.
-abbrev pub QuestionStops : List ℕ → ℕ → ℕ → Type 0
-QuestionStops b p place = (f : Fault) × QuestionFaultAt b p f
+-- a question at p can't be read, and a fault of a row tells why
+abbrev pub QuestionStops : List ℕ → ℕ → rows.Fault → Type 0
+QuestionStops b p fault = (f : Fault) × QuestionFaultAt b p f × TellsFault fault f
+
+-- the fault of data: that of its field that can't be read, or octets are left over behind all fields
+abbrev pub data_fault : Option rows.Fault → rows.Fault
+data_fault None = Trailing
+data_fault (Some fault) = fault
 
 -- A record at p can be read, but not its data: a field of it stops at the place, or octets are left over behind all of them there.
-pub record DataStops (b : List ℕ) (p place : ℕ) : Type 0 where
+pub record DataStops (b : List ℕ) (p place : ℕ) (fault : rows.Fault) : Type 0 where
   pub entry : RecordEntry
   pub end : ℕ
   pub reads : ReadsRecord b p end entry
   pub data_rows : List Row
-  pub stops : Bool
-  pub value : ShowsData (up_to_data_end b entry) (shape_of entry.rtype) stops entry.data_start place data_rows
-  pub left_over : stops ≡ false → place < entry.data_end
+  pub stop : Option rows.Fault
+  pub value : ShowsData (up_to_data_end b entry) (shape_of entry.rtype) stop entry.data_start place data_rows
+  pub left_over : stop ≡ None → place < entry.data_end
+  pub told : fault ≡ data_fault stop
 
--- The fault of a record at p: it can't be read, or its data can't.
-abbrev pub RecordStops : List ℕ → ℕ → ℕ → Type 0
-RecordStops b p place = ((f : Fault) × RecordFaultAt b p f) ⊎ DataStops b p place
+-- a record at p can't be read, or its data can't, and a fault of a row tells why
+abbrev pub RecordStops : List ℕ → ℕ → ℕ → rows.Fault → Type 0
+RecordStops b p place fault = ((f : Fault) × RecordFaultAt b p f × TellsFault fault f) ⊎ DataStops b p place fault
 
 -- the fault of an item of a part
-abbrev pub ItemStops : List ℕ → Part → ℕ → ℕ → Type 0
-ItemStops b Question p place = QuestionStops b p place
-ItemStops b Answer p place = RecordStops b p place
-ItemStops b Authority p place = RecordStops b p place
-ItemStops b Additional p place = RecordStops b p place
+abbrev pub ItemStops : List ℕ → Part → ℕ → ℕ → rows.Fault → Type 0
+ItemStops b Question p place fault = QuestionStops b p fault
+ItemStops b Answer p place fault = RecordStops b p place fault
+ItemStops b Authority p place fault = RecordStops b p place fault
+ItemStops b Additional p place fault = RecordStops b p place fault
 
 -- An item begins at p, and these are its rows: where it begins, and fields up to the place of its fault.
-pub record StopsItem (b : List ℕ) (part : Part) (number p place : ℕ) (rows : List Row) : Type 0 where
-  pub stops : ItemStops b part p place
+pub record StopsItem (b : List ℕ) (part : Part) (number p place : ℕ) (fault : rows.Fault) (rows : List Row) : Type 0 where
+  pub stops : ItemStops b part p place fault
   pub others : List Row
   pub before : ArePlain others p place
   pub made : rows ≡ item_row part number p ∷ others
@@ -109,14 +117,14 @@ pub data FirstItems (b : List ℕ) (part : Part) (p : ℕ) : ℕ → ℕ → Lis
       → FirstItems b part p (suc n) r (rows ++ others)
 
 -- of n items of a part, from p on, some first ones are shown, and then one up to its fault
-pub record StopsAmong (b : List ℕ) (part : Part) (n p place : ℕ) (rows : List Row) : Type 0 where
+pub record StopsAmong (b : List ℕ) (part : Part) (n p place : ℕ) (fault : rows.Fault) (rows : List Row) : Type 0 where
   pub before : ℕ
   pub fewer : before < n
   pub from : ℕ
   pub whole : List Row
   pub first : FirstItems b part p before from whole
   pub begun : List Row
-  pub stops : StopsItem b part (suc before) from place begun
+  pub stops : StopsItem b part (suc before) from place fault begun
   pub made : rows ≡ whole ++ begun
 
 -- The rows of parts, each with the number of its items, from p to q: all items of each part in order, up to the fault, if there is one.
@@ -125,7 +133,7 @@ pub data ShowsParts (b : List ℕ) : List (Part × ℕ) → Option rows.Fault �
   all : {part : Part} {parts : List (Part × ℕ)} {n p q r : ℕ} {stop : Option rows.Fault} (rows others : List Row)
       → FirstItems b part p n q rows → ShowsParts b parts stop q r others → ShowsParts b ((part, n) ∷ parts) stop p r (rows ++ others)
   fault : {part : Part} {parts : List (Part × ℕ)} {n p place : ℕ} {fault : rows.Fault} {rows : List Row}
-      → StopsAmong b part n p place rows → ShowsParts b ((part, n) ∷ parts) (Some fault) p place rows
+      → StopsAmong b part n p place fault rows → ShowsParts b ((part, n) ∷ parts) (Some fault) p place rows
 
 -- the parts behind the header section in order, with these counts. RFC 1035 sections 4.1 and 4.1.1.
 abbrev pub parts_of : Counts → List (Part × ℕ)

@@ -1,5 +1,6 @@
 pub mod Data
 pub mod Entries
+pub mod Faults
 pub mod Fields
 pub mod Named
 pub mod Rows

@@ -1,15 +1,18 @@
 -- What the steps of a walk over a message keep.
 use Rattle.dns_rows.specs.Data.{shape_of, Shape, ShowsData, TextRows, OptionRows, ShowsOption}
 use Rattle.dns_rows.specs.Named.{NameRows}
-use Rattle.std.specs.Prelude.{◌<◌, Bool, ◌≡◌, ℕ, ◌+◌, ◌≤◌, List, ◌++◌, [], ◌∷◌, length, ⊤, Option, Result, Ok, Err, take, false}
+use Rattle.std.specs.Prelude.{◌<◌, ◌≡◌, Bool, true, false, ℕ, ◌+◌, ◌-◌, ◌≤◌, List, ◌++◌, [], ◌∷◌, length, ⊤, Option, Some, None, Result, Ok, Err, take}
 use Rattle.std.specs.Int.{w16}
-use Rattle.dns_name.specs.Names.{head_at, max_size, Fault, FaultAt, Labels, Stands, Walked, WalkedBehind}
+use Rattle.dns_name.specs.Names.{head_at, max_size, Fault, FaultAt, Faulty, Labels, Stands, Walked, WalkedBehind}
 use Rattle.dns_name.specs.Parsers.{input, place, number_at, seen}
 use Rattle.dns_name.specs.declared.head.Head.TheVariants.{Root, Label, Pointer}
 use Rattle.dns_code.specs.HeaderSection.{header_size}
-use Rattle.dns_rows.specs.Entries.{item_row, number_rows, FirstItems, ShowsItem, ShowsParts, StopsAmong, StopsItem}
+use Rattle.dns_rows.specs.Entries.{data_fault, item_row, number_rows, FirstItems, ShowsItem, ShowsParts, StopsAmong, StopsItem}
 use Rattle.dns_rows.specs.Fields.{AreFields, item_count, ArePlain}
 use Rattle.dns_rows.specs.declared.row.Fault as rows
+use Rattle.dns_rows.specs.declared.row.Fault.TheVariants.{Short}
+use Rattle.dns_rows.specs.declared.row.Field.{Field}
+use Rattle.dns_rows.specs.declared.row.Field.TheVariants.{Data}
 use Rattle.dns_rows.specs.declared.row.NameOf.{NameOf}
 use Rattle.dns_rows.specs.declared.row.Part.{Part}
 use Rattle.dns_rows.specs.declared.row.Row.{Row}
@@ -56,19 +59,23 @@ pub record Adds (added : List Row) (to : ℕ) (old new : Walk) : Type 0 where
   pub seen : octets new ≡ octets old
   pub place : at new ≡ to
 
--- if a step stops, it is for memory, or this holds
-abbrev pub OnStop : Stop → Type 0 → Type 0
-OnStop (stops.Fault fault) P = P
-OnStop stops.Memory P = ⊤
+-- if a step stops for a fault, this holds of it
+abbrev pub OnFaultOf : {T : Type 0} → Result T Stop → (rows.Fault → Type 0) → Type 0
+OnFaultOf (Ok _) P = ⊤
+OnFaultOf (Err (stops.Fault fault)) P = P fault
+OnFaultOf (Err stops.Memory) P = ⊤
 
--- the same of a result
+-- if a step stops for a fault, this holds
 abbrev pub OnFault : {T : Type 0} → Result T Stop → Type 0 → Type 0
-OnFault (Ok _) P = ⊤
-OnFault (Err stop) P = OnStop stop P
+OnFault result P = OnFaultOf result (λ _. P)
 
--- no name can be read at a place
-abbrev pub HasNoName : List ℕ → ℕ → Type 0
-HasNoName b p = (f : Fault) × FaultAt b p f
+-- a field isn't all there, and this is its fault
+abbrev pub LacksField : Field → List ℕ → ℕ → rows.Fault → Type 0
+LacksField field b end fault = (fault ≡ Short field) × (length b < end)
+
+-- one of some fields isn't all there
+abbrev pub LacksFields : List ℕ → ℕ → rows.Fault → Type 0
+LacksFields b end fault = (field : Field) × LacksField field b end fault
 
 -- where a name ends from p on, whose labels stand before p
 pub data IsEnd (b : List ℕ) (p : ℕ) : ℕ → Type 0 where
@@ -81,6 +88,11 @@ pub record IsLabelAt (b : List ℕ) (p size n : ℕ) : Type 0 where
   pub short : size + n + 1 ≤ max_size
   pub fits : p + 1 + n ≤ length b
 
+-- whether a name can be read at a place
+abbrev pub HasName : List ℕ → ℕ → Bool → Type 0
+HasName b p true = (labels : Labels) × Stands b p labels
+HasName b p false = (f : Fault) × FaultAt b p f
+
 -- the rows of labels stand before those of what is behind them in a name
 abbrev pub AreLabelRows : List ℕ → NameOf → ℕ → ℕ → List Row → Type 0
 AreLabelRows b of p q rows = (start end : ℕ) (behind : List Row) → NameRows b of start q end behind → NameRows b of start p end (rows ++ behind)
@@ -91,6 +103,8 @@ pub record PassesLabels (of : NameOf) (size : ℕ) (old new : Walk) : Type 0 whe
   pub adds : Adds rows (at new) old new
   pub labels : AreLabelRows (octets old) of (at old) (at new) rows
   pub ends : (q : ℕ) → Walked (octets old) (at old) q → WalkedBehind (octets old) (at new) size q
+  pub faults : (f : Fault) → FaultAt (octets old) (at old) f → Faulty (octets old) (at new) size f
+  pub sizes : at new ≡ at old + size
 
 -- a walk that passed all labels of a name
 pub record PassesAllLabels (of : NameOf) (old new : Walk) : Type 0 where
@@ -98,6 +112,9 @@ pub record PassesAllLabels (of : NameOf) (old new : Walk) : Type 0 where
   pub adds : Adds rows (at new) old new
   pub labels : AreLabelRows (octets old) of (at old) (at new) rows
   pub ends : (q : ℕ) → Walked (octets old) (at old) q → IsEnd (octets old) (at new) q
+  pub order : at old ≤ at new
+  pub faults : (f : Fault) → FaultAt (octets old) (at old) f → Faulty (octets old) (at new) (at new - at old) f
+  pub none : (n : ℕ) → IsLabelAt (octets old) (at new) (at new - at old) n → ⊥
 
 -- a walk that passed the root label or the pointer at which a name ends
 pub record PassesEnd (of : NameOf) (start to : ℕ) (old new : Walk) : Type 0 where
@@ -141,10 +158,10 @@ pub record MarksItem (part : Part) (number : ℕ) (old new : Walk) : Type 0 wher
   pub shows : ShowsItem (octets old) part number (at old) (at new) rows
 
 -- a walk that stopped in an item
-pub record MarksStop (part : Part) (number : ℕ) (old new : Walk) : Type 0 where
+pub record MarksStop (part : Part) (number : ℕ) (old new : Walk) (fault : rows.Fault) : Type 0 where
   pub rows : List Row
   pub adds : new.rows.items ≡ old.rows.items ++ rows
-  pub stops : StopsItem (octets old) part number (at old) (at new) rows
+  pub stops : StopsItem (octets old) part number (at old) (at new) fault rows
 
 -- a walk that passed the first n items of a part
 pub record MarksFirst (part : Part) (n : ℕ) (old new : Walk) : Type 0 where
@@ -153,10 +170,10 @@ pub record MarksFirst (part : Part) (n : ℕ) (old new : Walk) : Type 0 where
   pub first : FirstItems (octets old) part (at old) n (at new) rows
 
 -- a walk that stopped among n items of a part
-pub record MarksAmong (part : Part) (n : ℕ) (old new : Walk) : Type 0 where
+pub record MarksAmong (part : Part) (n : ℕ) (old new : Walk) (fault : rows.Fault) : Type 0 where
   pub rows : List Row
   pub adds : new.rows.items ≡ old.rows.items ++ rows
-  pub stops : StopsAmong (octets old) part n (at old) (at new) rows
+  pub stops : StopsAmong (octets old) part n (at old) (at new) fault rows
 
 -- a walk that passed parts, or stopped in one
 pub record MarksParts (parts : List (Part × ℕ)) (stop : Option rows.Fault) (old new : Walk) : Type 0 where
@@ -164,28 +181,27 @@ pub record MarksParts (parts : List (Part × ℕ)) (stop : Option rows.Fault) (o
   pub adds : new.rows.items ≡ old.rows.items ++ rows
   pub shows : ShowsParts (octets old) parts stop (at old) (at new) rows
 
--- if a step stops for a fault, this holds of it
-abbrev pub OnFaultOf : {T : Type 0} → Result T Stop → (rows.Fault → Type 0) → Type 0
-OnFaultOf (Ok _) P = ⊤
-OnFaultOf (Err (stops.Fault fault)) P = P fault
-OnFaultOf (Err stops.Memory) P = ⊤
-
 -- a walk that passed the fields of data, or stopped in one
-pub record MarksData (shape : Shape) (stops : Bool) (old new : Walk) : Type 0 where
+pub record MarksData (shape : Shape) (stop : Option rows.Fault) (old new : Walk) : Type 0 where
   pub rows : List Row
   pub adds : new.rows.items ≡ old.rows.items ++ rows
-  pub shows : ShowsData (octets old) shape stops (at old) (at new) rows
+  pub shows : ShowsData (octets old) shape stop (at old) (at new) rows
+
+-- a walk that stopped in the fields of data with a fault
+abbrev pub StopsData : Shape → Walk → Walk → rows.Fault → Type 0
+StopsData shape old new fault = MarksData shape (Some fault) old new
 
 -- a walk that passed the data of a record, which has so many octets, or stopped in it
-pub record MarksWithin (rtype len : ℕ) (stops : Bool) (old new : Walk) : Type 0 where
+pub record MarksWithin (rtype len : ℕ) (stop : Option rows.Fault) (old new : Walk) : Type 0 where
   pub rows : List Row
   pub adds : new.rows.items ≡ old.rows.items ++ rows
-  pub shows : ShowsData (take (at old + len) (octets old)) (shape_of rtype) stops (at old) (at new) rows
+  pub shows : ShowsData (take (at old + len) (octets old)) (shape_of rtype) stop (at old) (at new) rows
 
 -- why a walk stopped at the data of a record: it isn't all there, or a field of it stops, or octets are left over
-pub data StopsWithin (rtype len : ℕ) (old new : Walk) : Type 0 where
-  missing : length (octets old) < at old + len → StopsWithin rtype len old new
-  stopped : (stops : Bool) → at old + len ≤ length (octets old) → MarksWithin rtype len stops old new → (stops ≡ false → at new < at old + len) → StopsWithin rtype len old new
+pub data StopsWithin (rtype len : ℕ) (old new : Walk) : rows.Fault → Type 0 where
+  missing : length (octets old) < at old + len → StopsWithin rtype len old new (Short Data)
+  stopped : (stop : Option rows.Fault) → at old + len ≤ length (octets old) → MarksWithin rtype len stop old new → (stop ≡ None → at new < at old + len)
+      → StopsWithin rtype len old new (data_fault stop)
 
 -- a walk that passed character strings
 pub record PassesTexts (old new : Walk) : Type 0 where

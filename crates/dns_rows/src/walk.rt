@@ -1,15 +1,18 @@
 //! A walk over a message that makes a row of each field (RFC 1035 sections 3.3 and 4.1, RFC 6891 section 6.1.2).
-ghost use Rattle.std.specs.Prelude.{◌≡◌, ◌+◌, ◌<◌, ◌≤◌, ◌∷◌, ◌++◌, ℕ, [], IsNone, OnOk, IfOk, IfSome, IfErr, IsTrue, length, slice_get, Some, None, true, false};
+ghost use Rattle.std.specs.Prelude.{◌≡◌, ◌+◌, ◌<◌, ◌≤◌, ◌∷◌, ◌++◌, ℕ, [], IsNone, OnOk, IfOk, IfSome, IfErr, IsTrue, Ok, ◌-◌, length, slice_get, Some, None};
 ghost use Rattle.std.specs.Int.{w16};
+ghost use Rattle.dns_name.specs.Names.{head_at};
+ghost use Rattle.dns_name.specs.declared.head.Head.TheVariants as Head;
 ghost use Rattle.dns_name.specs.Parsers.{input, place, seen, number_at};
 ghost use Rattle.dns_code.specs.HeaderCounts.{counts};
 ghost use Rattle.dns_code.specs.HeaderSection.{header_size};
+ghost use Rattle.dns_rows.specs.Faults.{LacksName, StopsName};
 ghost use Rattle.dns_rows.specs.Fields.{items_at, IsField, field_row};
 ghost use Rattle.dns_rows.specs.Shown.{sum_of};
-ghost use Rattle.dns_rows.specs.Data.{shape_of, zone_shape, LacksOption};
+ghost use Rattle.dns_rows.specs.Data.{exchange_shape, shape_of, zone_shape, LacksOption};
 ghost use Rattle.dns_rows.specs.Data.Shape.{End, Octets, Named, Options, Rest, Texts};
 ghost use Rattle.dns_rows.specs.Entries.{class_rows, holds_records, item_row, parts_of};
-ghost use Rattle.dns_rows.specs.Walks.{at, octets, items, IsMarked, Comes, Keeps, Adds, OnFault, HasNoName, IsEnd, IsLabelAt, PassesLabels, PassesAllLabels, PassesEnd, PassesName, PassesItemName, Begun, PassesNumbers, MarksItem, MarksStop, MarksFirst, MarksAmong, MarksParts, MarksData, MarksWithin, StopsWithin, OnFaultOf, PassesOption};
+ghost use Rattle.dns_rows.specs.Walks.{at, octets, items, IsMarked, Comes, Keeps, Adds, OnFault, OnFaultOf, LacksField, LacksFields, IsEnd, IsLabelAt, HasName, PassesLabels, PassesAllLabels, PassesEnd, PassesName, PassesItemName, Begun, PassesNumbers, MarksItem, MarksStop, MarksFirst, MarksAmong, MarksParts, MarksData, MarksWithin, StopsData, StopsWithin, PassesOption};
 
 use crate::octets::target_of;
 use crate::row::{Fault, Field, NameOf, Part, Row, ZoneNumber};
@@ -86,7 +89,8 @@ impl<'a> Walk<'a> {
         ensures adds { OnOk result (Adds (field_row (at self.old) (at self.old + n) field ∷ [])
             (at self.old + n) self.old self.new) }
         ensures within { OnOk result (at self.old + n ≤ length (octets self.old)) }
-        ensures short { OnFault result (length (octets self.old) < at self.old + n) }
+        ensures short { OnFaultOf result
+            (LacksField field (octets self.old) (at self.old + n)) }
         ensures stays { OnFault result (self.new ≡ self.old) }
     {
         let mut behind = self.parser;
@@ -107,7 +111,8 @@ impl<'a> Walk<'a> {
             (at self.old + 2) self.old self.new) }
         ensures within { OnOk result (at self.old + 2 ≤ length (octets self.old)) }
         ensures number { IfOk result (λ n. n ≡ number_at w16 (octets self.old) (at self.old)) }
-        ensures short { OnFault result (length (octets self.old) < at self.old + 2) }
+        ensures short { OnFaultOf result
+            (LacksField field (octets self.old) (at self.old + 2)) }
         ensures stays { OnFault result (self.new ≡ self.old) }
     {
         let mut behind = self.parser;
@@ -127,7 +132,7 @@ impl<'a> Walk<'a> {
         ensures passes { OnOk result
             (PassesItemName name (item_row part number (at self.old)) self.old self.new) }
         ensures stops { OnFault result (Begun part number self.old self.new) }
-        ensures fault { OnFault result (HasNoName (octets self.old) (at self.old)) }
+        ensures fault { OnFaultOf result (LacksName (octets self.old) (at self.old)) }
     {
         self.mark(self.parser, Field::Item(part, number))?;
         self.name(name)
@@ -139,6 +144,14 @@ impl<'a> Walk<'a> {
     {
         let octets = self.parser.peek(1).ok()?;
         Some(octets[0])
+    }
+
+    /// The octet behind the one that stands here, if both do.
+    fn second(&self) -> Option<u8>
+        ensures { slice_get (octets self.now) (at self.now + 1) ≡ result }
+    {
+        let octets = self.parser.peek(2).ok()?;
+        Some(octets[1])
     }
 
     /// The octets of the label that begins here, without its length octet; `None` where none begins, where it isn't all
@@ -178,7 +191,7 @@ impl<'a> Walk<'a> {
         ensures comes { Comes 0 self.old self.new }
         ensures keeps { Keeps self.old self.new }
         ensures passes { OnOk result (PassesName name self.old self.new) }
-        ensures fault { OnFault result (HasNoName (octets self.old) (at self.old)) }
+        ensures fault { OnFaultOf result (LacksName (octets self.old) (at self.old)) }
     {
         let start = self.parser.pos();
         let mut behind = self.parser;
@@ -208,25 +221,35 @@ impl<'a> Walk<'a> {
     }
 
     /// Why a name that begins at `start` can't be read on from here, behind its labels.
-    fn name_fault(&self, name: NameOf, start: usize) -> Fault {
+    fn name_fault(&self, name: NameOf, start: usize) -> Fault
+        requires order { start ≤ at self.now }
+        requires none { (n : ℕ)
+            → IsLabelAt (octets self.now) (at self.now) (at self.now - start) n → ⊥ }
+        requires no_root { head_at (octets self.now) (at self.now) ≡ Ok Head.Root → ⊥ }
+        ensures { StopsName (octets self.now) (at self.now) (at self.now - start) result }
+    {
         let place = self.parser.pos();
         match self.first() {
             Some(0x40..=0xbf) => Fault::Label,
-            Some(0xc0..) => self.pointer_fault(name, start),
+            Some(high @ 0xc0..) => self.pointer_fault(name, start, high),
             Some(len) if place.saturating_sub(start).saturating_add(usize::from(len)) >= MAX_SIZE =>
                 Fault::LongName,
             _ => Fault::Short(Field::Label(name)),
         }
     }
 
-    /// Why a name that begins at `start` can't be read from the pointer that begins here.
+    /// Why a name that begins at `start` can't be read from the pointer that begins here with the octet `high`.
     ///
     /// A name that can be read where the pointer leads is too long behind the labels before it.
-    fn pointer_fault(&self, name: NameOf, start: usize) -> Fault {
-        let Ok(octets) = self.parser.peek(2) else {
+    fn pointer_fault(&self, name: NameOf, start: usize, high: u8) -> Fault
+        requires first { slice_get (octets self.now) (at self.now) ≡ Some high }
+        requires pointer { 192 ≤ high }
+        ensures { (size : ℕ) → StopsName (octets self.now) (at self.now) size result }
+    {
+        let Some(low) = self.second() else {
             return Fault::Short(Field::Pointer(name, start));
         };
-        let target = target_of(octets);
+        let target = target_of(&[high, low]);
         if target >= self.parser.pos() {
             Fault::Pointer
         } else if self.has_name(target) {
@@ -237,7 +260,10 @@ impl<'a> Walk<'a> {
     }
 
     /// Whether a name can be read at a place before the end.
-    fn has_name(&self, place: usize) -> bool {
+    fn has_name(&self, place: usize) -> bool
+        requires { place ≤ length (octets self.now) }
+        ensures { HasName (octets self.now) place result }
+    {
         let mut there = self.parser;
         there.seek(place).is_ok() && ParsedName::parse(&mut there).is_ok()
     }
@@ -264,7 +290,7 @@ impl<'a> Walk<'a> {
         ensures comes { Comes count self.old self.new }
         ensures begins { OnOk result (items self.new ≡ items self.old + count) }
         ensures shows { OnOk result (MarksFirst Part.Question count self.old self.new) }
-        ensures stops { OnFault result (MarksAmong Part.Question count self.old self.new) }
+        ensures stops { OnFaultOf result (MarksAmong Part.Question count self.old self.new) }
     {
         for index in 0..usize::from(count) {
             self.question(index + 1)?;
@@ -277,7 +303,7 @@ impl<'a> Walk<'a> {
         ensures comes { Comes 1 self.old self.new }
         ensures begins { OnOk result (items self.new ≡ items self.old + 1) }
         ensures shows { OnOk result (MarksItem Part.Question number self.old self.new) }
-        ensures stops { OnFault result (MarksStop Part.Question number self.old self.new) }
+        ensures stops { OnFaultOf result (MarksStop Part.Question number self.old self.new) }
     {
         self.item(Part::Question, number, NameOf::Question)?;
         self.number(Field::Type)?;
@@ -292,7 +318,7 @@ impl<'a> Walk<'a> {
         ensures comes { Comes count self.old self.new }
         ensures begins { OnOk result (items self.new ≡ items self.old + count) }
         ensures shows { OnOk result (MarksFirst part count self.old self.new) }
-        ensures stops { OnFault result (MarksAmong part count self.old self.new) }
+        ensures stops { OnFaultOf result (MarksAmong part count self.old self.new) }
     {
         for index in 0..usize::from(count) {
             self.record(part, index + 1)?;
@@ -306,7 +332,7 @@ impl<'a> Walk<'a> {
         ensures comes { Comes 1 self.old self.new }
         ensures begins { OnOk result (items self.new ≡ items self.old + 1) }
         ensures shows { OnOk result (MarksItem part number self.old self.new) }
-        ensures stops { OnFault result (MarksStop part number self.old self.new) }
+        ensures stops { OnFaultOf result (MarksStop part number self.old self.new) }
     {
         self.item(part, number, NameOf::Owner)?;
         let (rtype, len) = self.record_fields()?;
@@ -321,7 +347,7 @@ impl<'a> Walk<'a> {
         ensures keeps { Keeps self.old self.new }
         ensures passes { IfOk result
             (λ numbers. PassesNumbers numbers.0 numbers.1 self.old self.new) }
-        ensures short { OnFault result (length (octets self.old) < at self.old + 10) }
+        ensures short { OnFaultOf result (LacksFields (octets self.old) (at self.old + 10)) }
     {
         let rtype = Rtype::from_int(self.number(Field::Type)?);
         self.class_and_ttl(rtype)?;
@@ -336,7 +362,7 @@ impl<'a> Walk<'a> {
         ensures keeps { Keeps self.old self.new }
         ensures adds { OnOk result (Adds (class_rows rtype (at self.old))
             (at self.old + 6) self.old self.new) }
-        ensures short { OnFault result (length (octets self.old) < at self.old + 6) }
+        ensures short { OnFaultOf result (LacksFields (octets self.old) (at self.old + 6)) }
     {
         if rtype == Rtype::OPT {
             self.number(Field::PayloadSize)?;
@@ -358,8 +384,8 @@ impl<'a> Walk<'a> {
         ensures there { OnOk result (at self.old + len ≤ length (octets self.old)) }
         ensures seen { OnOk result (octets self.new ≡ octets self.old) }
         ensures place { OnOk result (at self.new ≡ at self.old + len) }
-        ensures shows { OnOk result (MarksWithin rtype len false self.old self.new) }
-        ensures stops { OnFault result (StopsWithin rtype len self.old self.new) }
+        ensures shows { OnOk result (MarksWithin rtype len None self.old self.new) }
+        ensures stops { OnFaultOf result (StopsWithin rtype len self.old self.new) }
     {
         let mut behind = self.parser;
         let Ok(inner) = behind.parse_parser(len) else {
@@ -380,8 +406,8 @@ impl<'a> Walk<'a> {
         ensures comes { Comes 0 self.old self.new }
         ensures keeps { Keeps self.old self.new }
         ensures sees { OnOk result (octets self.new ≡ octets self.old) }
-        ensures shows { OnOk result (MarksData (shape_of rtype) false self.old self.new) }
-        ensures stops { OnFault result (MarksData (shape_of rtype) true self.old self.new) }
+        ensures shows { OnOk result (MarksData (shape_of rtype) None self.old self.new) }
+        ensures stops { OnFaultOf result (StopsData (shape_of rtype) self.old self.new) }
     {
         match rtype {
             Rtype::A => self.only_octets(4, Field::Address),
@@ -405,8 +431,8 @@ impl<'a> Walk<'a> {
         ensures comes { Comes 0 self.old self.new }
         ensures keeps { Keeps self.old self.new }
         ensures sees { OnOk result (octets self.new ≡ octets self.old) }
-        ensures shows { OnOk result (MarksData (Octets n field End) false self.old self.new) }
-        ensures stops { OnFault result (MarksData (Octets n field End) true self.old self.new) }
+        ensures shows { OnOk result (MarksData (Octets n field End) None self.old self.new) }
+        ensures stops { OnFaultOf result (StopsData (Octets n field End) self.old self.new) }
     {
         self.octets(n, field)?;
         Ok(())
@@ -418,8 +444,8 @@ impl<'a> Walk<'a> {
         ensures comes { Comes 0 self.old self.new }
         ensures keeps { Keeps self.old self.new }
         ensures sees { OnOk result (octets self.new ≡ octets self.old) }
-        ensures shows { OnOk result (MarksData (Named name End) false self.old self.new) }
-        ensures stops { OnFault result (MarksData (Named name End) true self.old self.new) }
+        ensures shows { OnOk result (MarksData (Named name End) None self.old self.new) }
+        ensures stops { OnFaultOf result (StopsData (Named name End) self.old self.new) }
     {
         self.name(name)?;
         Ok(())
@@ -431,8 +457,8 @@ impl<'a> Walk<'a> {
         ensures comes { Comes 0 self.old self.new }
         ensures keeps { Keeps self.old self.new }
         ensures sees { OnOk result (octets self.new ≡ octets self.old) }
-        ensures shows { OnOk result (MarksData Rest false self.old self.new) }
-        ensures stops { OnFault result (MarksData Rest true self.old self.new) }
+        ensures shows { OnOk result (MarksData Rest None self.old self.new) }
+        ensures stops { OnFaultOf result (StopsData Rest self.old self.new) }
     {
         match self.parser.remaining() {
             0 => Ok(()),
@@ -446,8 +472,8 @@ impl<'a> Walk<'a> {
         ensures comes { Comes 0 self.old self.new }
         ensures keeps { Keeps self.old self.new }
         ensures sees { OnOk result (octets self.new ≡ octets self.old) }
-        ensures shows { OnOk result (MarksData (Octets 2 Field.Preference (Named NameOf.Exchange End)) false self.old self.new) }
-        ensures stops { OnFault result (MarksData (Octets 2 Field.Preference (Named NameOf.Exchange End)) true self.old self.new) }
+        ensures shows { OnOk result (MarksData exchange_shape None self.old self.new) }
+        ensures stops { OnFaultOf result (StopsData exchange_shape self.old self.new) }
     {
         self.number(Field::Preference)?;
         self.name(NameOf::Exchange)?;
@@ -460,8 +486,8 @@ impl<'a> Walk<'a> {
         ensures comes { Comes 0 self.old self.new }
         ensures keeps { Keeps self.old self.new }
         ensures sees { OnOk result (octets self.new ≡ octets self.old) }
-        ensures shows { OnOk result (MarksData zone_shape false self.old self.new) }
-        ensures stops { OnFault result (MarksData zone_shape true self.old self.new) }
+        ensures shows { OnOk result (MarksData zone_shape None self.old self.new) }
+        ensures stops { OnFaultOf result (StopsData zone_shape self.old self.new) }
     {
         self.name(NameOf::Primary)?;
         self.name(NameOf::Mailbox)?;
@@ -479,8 +505,8 @@ impl<'a> Walk<'a> {
         ensures comes { Comes 0 self.old self.new }
         ensures keeps { Keeps self.old self.new }
         ensures sees { OnOk result (octets self.new ≡ octets self.old) }
-        ensures shows { OnOk result (MarksData Texts false self.old self.new) }
-        ensures stops { OnFault result (MarksData Texts true self.old self.new) }
+        ensures shows { OnOk result (MarksData Texts None self.old self.new) }
+        ensures stops { OnFaultOf result (StopsData Texts self.old self.new) }
     {
         'texts: while let Some(len) = self.first() {
             self.octets(1 + usize::from(len), Field::Text)?;
@@ -494,8 +520,8 @@ impl<'a> Walk<'a> {
         ensures comes { Comes 0 self.old self.new }
         ensures keeps { Keeps self.old self.new }
         ensures sees { OnOk result (octets self.new ≡ octets self.old) }
-        ensures shows { OnOk result (MarksData Options false self.old self.new) }
-        ensures stops { OnFault result (MarksData Options true self.old self.new) }
+        ensures shows { OnOk result (MarksData Options None self.old self.new) }
+        ensures stops { OnFaultOf result (StopsData Options self.old self.new) }
     {
         'options: while self.parser.remaining() > 0 {
             self.option()?;
@@ -509,7 +535,7 @@ impl<'a> Walk<'a> {
         ensures keeps { Keeps self.old self.new }
         ensures sees { OnOk result (octets self.new ≡ octets self.old) }
         ensures passes { OnOk result (PassesOption self.old self.new) }
-        ensures stops { OnFault result (LacksOption (octets self.old) (at self.old)) }
+        ensures stops { OnFaultOf result (LacksOption (octets self.old) (at self.old)) }
     {
         let code = self.number(Field::OptionCode)?;
         match self.number(Field::OptionLength(code))? {

@@ -1,6 +1,8 @@
-use Rattle.std.proofs.Common.{◌≡◌, ◌+◌, ◌<◌, length, true, false, rules}
+use Rattle.std.proofs.Common.{◌≡◌, ◌+◌, Some, None, rules}
+use Rattle.dns_rows.specs.Data.{exchange_shape}
 use Rattle.dns_rows.specs.Data.Shape.{End, Octets, Named}
-use Rattle.dns_rows.specs.Walks.{at, octets, HasNoName, MarksData}
+use Rattle.dns_rows.specs.Faults.{LacksName}
+use Rattle.dns_rows.specs.Walks.{at, octets, LacksField, StopsData}
 use Rattle.dns_rows.specs.declared.row.NameOf.TheVariants.{Exchange}
 use Rattle.dns_rows.specs.declared.row.Field.TheVariants.{Preference}
 use Rattle.dns_rows.proofs.DataRows.{data_done, name_missing, name_then, octets_short, octets_then}
@@ -10,17 +12,17 @@ use Rattle.dns_rows.proofs.walk.Walk.exchange.Goals as goal
 
 pub returns-in_err-number-clause-stops : goal.returns-in_err-number-clause-stops
 returns-in_err-number-clause-stops c =
-    on_fault_2 c.from_residual.result (length (octets c.args.self.now) < at c.args.self.now + 2) (c.number.new.self ≡ c.args.self.now) (MarksData (Octets 2 Preference (Named Exchange End)) true c.args.self.now c.number.new.self)
-    (λ h same. octets_short 2 Preference (Named Exchange End) c.args.self.now c.number.new.self h same) (search rules) (search rules)
+    on_fault_2 c.from_residual.result (LacksField Preference (octets c.args.self.now) (at c.args.self.now + 2)) (λ _. c.number.new.self ≡ c.args.self.now) (StopsData exchange_shape c.args.self.now c.number.new.self)
+    (λ fault h same. octets_short 2 Preference (Named Exchange End) c.args.self.now c.number.new.self fault h same) (search rules) (search rules)
 
 pub returns-in_err-name-clause-stops : goal.returns-in_err-name-clause-stops
 returns-in_err-name-clause-stops c =
-    on_fault c.from_residual-in_err-name.result (HasNoName (octets c.number.new.self) (at c.number.new.self)) (MarksData (Octets 2 Preference (Named Exchange End)) true c.args.self.now c.name.new.self)
-    (λ h. octets_then 2 Preference (Named Exchange End) true c.args.self.now c.number.new.self c.name.new.self c.in_ok-number.ensures.adds c.in_ok-number.ensures.within
-    (name_missing Exchange End c.number.new.self c.name.new.self h (c.name.ensures.keeps c.number.new.self.rows.items (at c.number.new.self) (nothing_yet c.number.new.self)))) (search rules)
+    on_fault c.from_residual-in_err-name.result (LacksName (octets c.number.new.self) (at c.number.new.self)) (StopsData exchange_shape c.args.self.now c.name.new.self)
+    (λ fault h. octets_then 2 Preference (Named Exchange End) (Some fault) c.args.self.now c.number.new.self c.name.new.self c.in_ok-number.ensures.adds c.in_ok-number.ensures.within
+    (name_missing Exchange End c.number.new.self c.name.new.self fault h (c.name.ensures.keeps c.number.new.self.rows.items (at c.number.new.self) (nothing_yet c.number.new.self)))) (search rules)
 
 pub returns-clause-shows : goal.returns-clause-shows
 returns-clause-shows c =
-    octets_then 2 Preference (Named Exchange End) false c.args.self.now c.number.new.self c.name.new.self c.in_ok-number.ensures.adds c.in_ok-number.ensures.within
-    (name_then Exchange End false c.number.new.self c.name.new.self c.name.new.self c.in_ok-name.ensures.passes
+    octets_then 2 Preference (Named Exchange End) None c.args.self.now c.number.new.self c.name.new.self c.in_ok-number.ensures.adds c.in_ok-number.ensures.within
+    (name_then Exchange End None c.number.new.self c.name.new.self c.name.new.self c.in_ok-name.ensures.passes
     (data_done c.name.new.self))

@@ -1,6 +1,7 @@
-use Rattle.std.proofs.Common.{true, false, rules}
+use Rattle.std.proofs.Common.{None, rules}
 use Rattle.dns_rows.specs.Data.Shape.{End, Named}
-use Rattle.dns_rows.specs.Walks.{at, octets, HasNoName, MarksData}
+use Rattle.dns_rows.specs.Faults.{LacksName}
+use Rattle.dns_rows.specs.Walks.{at, octets, StopsData}
 use Rattle.dns_rows.proofs.DataRows.{data_done, name_missing, name_then}
 use Rattle.dns_rows.proofs.Items.{nothing_yet}
 use Rattle.dns_rows.proofs.Stops.{on_fault}
@@ -8,10 +9,10 @@ use Rattle.dns_rows.proofs.walk.Walk.only_name.Goals as goal
 
 pub returns-in_err-name-clause-stops : goal.returns-in_err-name-clause-stops
 returns-in_err-name-clause-stops c =
-    on_fault c.from_residual.result (HasNoName (octets c.args.self.now) (at c.args.self.now)) (MarksData (Named c.args.name End) true c.args.self.now c.name.new.self)
-    (λ h. name_missing c.args.name End c.args.self.now c.name.new.self h (c.name.ensures.keeps c.args.self.now.rows.items (at c.args.self.now) (nothing_yet c.args.self.now))) (search rules)
+    on_fault c.from_residual.result (LacksName (octets c.args.self.now) (at c.args.self.now)) (StopsData (Named c.args.name End) c.args.self.now c.name.new.self)
+    (λ fault h. name_missing c.args.name End c.args.self.now c.name.new.self fault h (c.name.ensures.keeps c.args.self.now.rows.items (at c.args.self.now) (nothing_yet c.args.self.now))) (search rules)
 
 pub returns-clause-shows : goal.returns-clause-shows
 returns-clause-shows c =
-    name_then c.args.name End false c.args.self.now c.name.new.self c.name.new.self c.in_ok-name.ensures.passes
+    name_then c.args.name End None c.args.self.now c.name.new.self c.name.new.self c.in_ok-name.ensures.passes
     (data_done c.name.new.self)

@@ -1,7 +1,7 @@
-use Rattle.std.proofs.Common.{◌<◌, ◌≤◌, ◌∙◌, arith, ap, length, refl, rules, true}
+use Rattle.std.proofs.Common.{◌<◌, ◌≤◌, ◌∙◌, arith, ap, length, refl, rules}
 use Rattle.dns_rows.specs.Data.{LacksOption}
 use Rattle.dns_rows.specs.Data.Shape.{Options}
-use Rattle.dns_rows.specs.Walks.{at, octets, MarksData}
+use Rattle.dns_rows.specs.Walks.{at, octets, StopsData}
 use Rattle.dns_rows.proofs.DataRows.{all_options, no_options, one_more_option, option_stops}
 use Rattle.dns_rows.proofs.Items.{nothing_yet}
 use Rattle.dns_rows.proofs.Stops.{on_fault}
@@ -29,8 +29,8 @@ returns-in_err-option-clause-stops c =
     let mid = c.options.self in
     let new = c.option.new.self in
     let some : at mid < length (octets mid) = omega arith in
-    on_fault c.from_residual.result (LacksOption (octets mid) (at mid)) (MarksData Options true old new)
-    (λ lacks. option_stops old mid new c.options.invariant.passes some lacks (c.option.ensures.keeps mid.rows.items (at mid) (nothing_yet mid))) (search rules)
+    on_fault c.from_residual.result (LacksOption (octets mid) (at mid)) (StopsData Options old new)
+    (λ fault lacks. option_stops old mid new fault c.options.invariant.passes some lacks (c.option.ensures.keeps mid.rows.items (at mid) (nothing_yet mid))) (search rules)
 
 pub returns-clause-shows : goal.returns-clause-shows
 returns-clause-shows c =

@@ -15,7 +15,7 @@ returns-in_err-record-clause-stops c =
     let index = c.loop-index.index in
     let fewer : index < c.args.count = omega arith in
     on_fault c.from_residual.result (MarksStop c.args.part (index + 1) mid new) (MarksAmong c.args.part c.args.count old new)
-    (λ h. stops_among c.args.part index c.args.count old mid new c.loop-index.invariant.first fewer h) (search rules)
+    (λ fault h. stops_among c.args.part index c.args.count old mid new fault c.loop-index.invariant.first fewer h) (search rules)
 
 pub loop-index-preserved : goal.loop-index-preserved
 loop-index-preserved c = record {

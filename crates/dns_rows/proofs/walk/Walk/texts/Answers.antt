@@ -1,6 +1,7 @@
-use Rattle.std.proofs.Common.{◌≡◌, ◌+◌, ◌<◌, ◌∙◌, ap, length, rules, slice_get, Some, sym, true, refl}
+use Rattle.std.proofs.Common.{◌≡◌, ◌+◌, ◌∙◌, ap, rules, slice_get, Some, sym, refl}
 use Rattle.dns_rows.specs.Data.Shape.{Texts}
-use Rattle.dns_rows.specs.Walks.{at, octets, MarksData}
+use Rattle.dns_rows.specs.Walks.{at, octets, LacksField, StopsData}
+use Rattle.dns_rows.specs.declared.row.Field.TheVariants.{Text}
 use Rattle.dns_rows.proofs.DataRows.{all_texts, no_texts, one_more_text, text_stops}
 use Rattle.dns_rows.proofs.Stops.{on_fault_2}
 use Rattle.dns_rows.proofs.walk.Walk.texts.Goals as goal
@@ -25,8 +26,8 @@ returns-in_err-octets-clause-stops c =
     let mid = c.texts.self in
     let new = c.octets.new.self in
     let there : slice_get (octets mid) (at mid) ≡ Some c.from.result = c.first.ensures ∙ c.in-Some.is ∙ ap (λ n. Some n) (sym c.from.ensures) in
-    on_fault_2 c.from_residual.result (length (octets mid) < at mid + (1 + c.from.result)) (new ≡ mid) (MarksData Texts true old new)
-    (λ long same. text_stops c.from.result old mid new c.texts.invariant.passes there long same) (search rules) (search rules)
+    on_fault_2 c.from_residual.result (LacksField Text (octets mid) (at mid + (1 + c.from.result))) (λ _. new ≡ mid) (StopsData Texts old new)
+    (λ fault long same. text_stops c.from.result old mid new fault c.texts.invariant.passes there long same) (search rules) (search rules)
 
 pub returns-clause-shows : goal.returns-clause-shows
 returns-clause-shows c = all_texts c.args.self.now c.texts.self c.texts.invariant.passes (c.first.ensures ∙ c.in_default.is)

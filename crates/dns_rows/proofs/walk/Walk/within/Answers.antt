@@ -1,8 +1,8 @@
-use Rattle.std.proofs.Common.{◌≡◌, ◌+◌, ◌<◌, ◌≤◌, ◌∙◌, arith, false, length, refl, rules, take, true}
+use Rattle.std.proofs.Common.{◌≡◌, ◌+◌, ◌<◌, ◌≤◌, ◌∙◌, arith, length, refl, rules, Some, None, take}
 use Rattle.dns_name.specs.Parsers.{place}
 use Rattle.dns_rows.specs.Data.{shape_of}
-use Rattle.dns_rows.specs.Walks.{at, octets, MarksData, StopsWithin}
-use Rattle.dns_rows.specs.Walks.StopsWithin.{stopped}
+use Rattle.dns_rows.specs.Walks.{at, octets, StopsData, StopsWithin}
+use Rattle.dns_rows.specs.Walks.StopsWithin.{missing, stopped}
 use Rattle.dns_rows.specs.declared.walk.Walk.{Walk}
 use Rattle.dns_rows.proofs.DataRows.{not_past, within_rows}
 use Rattle.dns_rows.proofs.Stops.{on_fault}
@@ -16,8 +16,8 @@ returns-in_err-data-clause-stops c =
     let there : at old + c.args.len ≤ length (octets old) = search rules in
     let seen : octets mid ≡ take (at old + c.args.len) (octets old) = search rules in
     let placed : at mid ≡ at old = search rules in
-    on_fault c.from_residual.result (MarksData (shape_of c.args.rtype) true mid new) (StopsWithin c.args.rtype c.args.len old new)
-    (λ h. stopped true there (within_rows c.args.rtype c.args.len true old mid new seen placed refl h) (λ e. absurd (cc e))) (search rules)
+    on_fault c.from_residual.result (StopsData (shape_of c.args.rtype) mid new) (StopsWithin c.args.rtype c.args.len old new)
+    (λ fault h. stopped (Some fault) there (within_rows c.args.rtype c.args.len (Some fault) old mid new seen placed refl h) (λ e. absurd (cc e))) (search rules)
 
 pub returns-then-pos-clause-stops : goal.returns-then-pos-clause-stops
 returns-then-pos-clause-stops c =
@@ -30,4 +30,9 @@ returns-then-pos-clause-stops c =
     let to : place c.parse_parser.new.self ≡ at old + c.args.len = search rules in
     let past = not_past old new c.args.len (c.in_ok-data.ensures.sees ∙ seen) there in
     let fewer : at new < at old + c.args.len = omega (arith, past, to) in
-    stopped false there (within_rows c.args.rtype c.args.len false old mid new seen placed refl c.in_ok-data.ensures.shows) (λ _. fewer)
+    stopped None there (within_rows c.args.rtype c.args.len None old mid new seen placed refl c.in_ok-data.ensures.shows) (λ _. fewer)
+
+pub returns-in_default-clause-stops : goal.returns-in_default-clause-stops
+returns-in_default-clause-stops c =
+    let short : length (octets c.args.self.now) < at c.args.self.now + c.args.len = search rules in
+    missing short

@@ -1,0 +1,26 @@
+use Rattle.std.proofs.Common.{◌≡◌, ◌-◌, Ok, ap, rules, subst, sym, ℕ, List, ◌∙◌}
+use Rattle.dns_name.specs.Names.{Fault, FaultAt, Faulty, head_at}
+use Rattle.dns_name.specs.declared.head.Head.TheVariants.{Root}
+use Rattle.dns_rows.specs.Faults.{StopsName}
+use Rattle.dns_rows.specs.Walks.{at, octets}
+use Rattle.dns_rows.proofs.Faults.{no_root, tells_name}
+use Rattle.dns_rows.proofs.walk.Walk.name.Goals as goal
+
+pub name_fault-requires-clause-no_root : goal.name_fault-requires-clause-no_root
+name_fault-requires-clause-no_root c =
+    let old = c.args.self.now in
+    let new = c.labels.new.self in
+    let fails : (f : Fault) × FaultAt (octets old) (at old) f = search rules in
+    let passes = c.in_ok-labels.ensures.passes in
+    let none = no_root (octets old) (at new) (at new - at old) fails.0 (passes.faults fails.0 fails.1) in
+    λ h. none (subst (λ b. head_at b (at new) ≡ Ok Root) passes.adds.seen h)
+
+pub returns-then-is_err-clause-fault : goal.returns-then-is_err-clause-fault
+returns-then-is_err-clause-fault c =
+    let old = c.args.self.now in
+    let new = c.labels.new.self in
+    let fails : (f : Fault) × FaultAt (octets old) (at old) f = search rules in
+    let passes = c.in_ok-labels.ensures.passes in
+    let P : List ℕ → ℕ → Type 0 = λ b start. StopsName b (at new) (at new - start) c.name_fault.result in
+    let stops : P (octets old) (at old) = subst (λ b. P b (at old)) passes.adds.seen (subst (λ start. P (octets new) start) c.pos-start.ensures c.name_fault.ensures) in
+    (fails.0, fails.1, tells_name (octets old) (at new) (at new - at old) c.name_fault.result fails.0 stops (passes.faults fails.0 fails.1))

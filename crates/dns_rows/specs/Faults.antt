@@ -1,0 +1,41 @@
+-- Which fault a row tells of what is read. RFC 1035 section 4.1.4.
+--
+-- `b` are the octets that are seen.
+use Rattle.std.specs.Prelude.{◌≡◌, ℕ, ◌+◌, ◌<◌, ◌≤◌, List, length, Ok, Err, ⊤}
+use Rattle.dns_name.specs.Names.{Fault, FaultAt, Labels, Stands, head_at, max_size}
+use Rattle.dns_name.specs.Names.Fault.{ShortInput, Form}
+use Rattle.dns_name.specs.declared.head.Head.TheVariants as heads
+use Rattle.dns_rows.specs.declared.row.Fault as rows
+use Rattle.dns_rows.specs.declared.row.Fault.TheVariants.{Short, Label, LongName, Pointer, Behind, LongPointer, Trailing}
+use Rattle.dns_rows.specs.declared.row.Field.{Field}
+
+-- A fault of a row tells this fault of the reading: octets that lack, or octets that aren't as they have to be. Behind a pointer the name may have either. Octets that are left over are no fault of it.
+abbrev pub TellsFault : rows.Fault → Fault → Type 0
+TellsFault (Short field) f = f ≡ ShortInput
+TellsFault Label f = f ≡ Form
+TellsFault LongName f = f ≡ Form
+TellsFault Pointer f = f ≡ Form
+TellsFault Behind f = ⊤
+TellsFault LongPointer f = f ≡ Form
+TellsFault Trailing f = ⊥
+
+-- no name can be read at p, and a fault of a row tells why
+abbrev pub LacksName : List ℕ → ℕ → rows.Fault → Type 0
+LacksName b p fault = (f : Fault) × FaultAt b p f × TellsFault fault f
+
+-- The fault that a row tells where a name can't be read on from p, behind labels of the size.
+pub data StopsName (b : List ℕ) (p size : ℕ) : rows.Fault → Type 0 where
+  -- no octet stands there, or only the first of a pointer
+  none : {field : Field} → head_at b p ≡ Err ShortInput → StopsName b p size (Short field)
+  -- a label that isn't all there
+  cut : {n : ℕ} {field : Field} → head_at b p ≡ Ok (heads.Label n) → size + n + 1 ≤ max_size → length b < p + 1 + n → StopsName b p size (Short field)
+  -- an octet that begins nothing
+  label : head_at b p ≡ Err Form → StopsName b p size Label
+  -- a label with which the name is too long
+  long : {n : ℕ} → head_at b p ≡ Ok (heads.Label n) → max_size < size + n + 1 → StopsName b p size LongName
+  -- a pointer that doesn't lead back
+  ahead : {t : ℕ} → head_at b p ≡ Ok (heads.Pointer t) → p ≤ t → StopsName b p size Pointer
+  -- a pointer that leads to octets from which no name can be read
+  behind : {t : ℕ} {f : Fault} → head_at b p ≡ Ok (heads.Pointer t) → t < p → FaultAt b t f → StopsName b p size Behind
+  -- a pointer that leads to a name
+  pointed : {t : ℕ} {name : Labels} → head_at b p ≡ Ok (heads.Pointer t) → t < p → Stands b t name → StopsName b p size LongPointer
