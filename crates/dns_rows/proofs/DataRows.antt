@@ -55,7 +55,7 @@ name_then of shape stop old mid new h k =
     }
 
 -- a name that can't be read
-pub name_missing : (of : NameOf) (shape : Shape) (old new : Walk) (fault : RowFault) → LacksName (octets old) (at old) fault → Goes old.rows.items (at old) new.rows.items (at new) → MarksData (Named of shape) (Some fault) old new
+pub name_missing : (of : NameOf) (shape : Shape) (old new : Walk) (fault : RowFault) → LacksName (octets old) (at old) (at new) fault → Goes old.rows.items (at old) new.rows.items (at new) → MarksData (Named of shape) (Some fault) old new
 name_missing of shape old new fault h g = record { rows = g.others; adds = g.made; shows = no_name h g.plain }
 
 -- no octets that are left

@@ -28,8 +28,8 @@ use Rattle.dns_rows.specs.declared.walk.Walk.{Walk}
 use Rattle.dns_rows.proofs.Names.{adds_row, adds_then}
 
 -- octets that lack are told by the field that isn't all there
-tells_short : (field : Field) (fault : RowFault) → fault ≡ Short field → TellsFault fault ShortInput
-tells_short field fault told = subst (λ fault. TellsFault fault ShortInput) (sym told) refl
+tells_short : (b : List ℕ) (start place : ℕ) (field : Field) (fault : RowFault) → fault ≡ Short field → TellsFault b start place fault ShortInput
+tells_short b start place field fault told = subst (λ fault. TellsFault b start place fault ShortInput) (sym told) refl
 
 -- a walk that stopped in an item
 pub marks_stop : (part : Part) (number : ℕ) (old new : Walk) (fault : RowFault) → Begun part number old new → ItemStops (octets old) part (at old) (at new) fault → MarksStop part number old new fault
@@ -40,15 +40,15 @@ marks_stop part number old new fault g stops = record {
 }
 
 -- a question whose name can't be read
-pub question_unnamed : (b : List ℕ) (p : ℕ) (fault : RowFault) → LacksName b p fault → QuestionStops b p fault
-question_unnamed b p fault h = (h.0, name_fault h.1, h.2)
+pub question_unnamed : (b : List ℕ) (p place : ℕ) (fault : RowFault) → LacksName b p place fault → QuestionStops b p place fault
+question_unnamed b p place fault h = (h.0, name_fault h.1, h.2)
 
 -- a question whose type and class aren't all there
-pub question_short : (row : Row) (old mid : Walk) (field : Field) (fault : RowFault) → PassesItemName names.Question row old mid → fault ≡ Short field → length (octets mid) < at mid + 4
-    → QuestionStops (octets old) (at old) fault
-question_short row old mid field fault h told short =
+pub question_short : (row : Row) (old mid : Walk) (place : ℕ) (field : Field) (fault : RowFault) → PassesItemName names.Question row old mid → fault ≡ Short field → length (octets mid) < at mid + 4
+    → QuestionStops (octets old) (at old) place fault
+question_short row old mid place field fault h told short =
     let short_there : length (octets old) < at mid + 4 = subst (λ (b : List ℕ). length b < at mid + 4) h.adds.seen short in
-    (ShortInput, short_fields h.stands h.walked short_there, tells_short field fault told)
+    (ShortInput, short_fields h.stands h.walked short_there, tells_short (octets old) (at old) place field fault told)
 
 -- a question of a name, a type and a class
 pub marks_question : (number : ℕ) (old a b new : Walk) → PassesItemName names.Question (item_row Question number (at old)) old a
@@ -92,14 +92,14 @@ record_shows b Authority number p q rows h s = s
 record_shows b Additional number p q rows h s = s
 
 -- a record whose owner can't be read
-pub record_unnamed : (b : List ℕ) (p place : ℕ) (fault : RowFault) → LacksName b p fault → RecordStops b p place fault
+pub record_unnamed : (b : List ℕ) (p place : ℕ) (fault : RowFault) → LacksName b p place fault → RecordStops b p place fault
 record_unnamed b p place fault h = inl (h.0, name_fault h.1, h.2)
 
 -- a record whose numbers aren't all there
 pub record_short : (row : Row) (old mid : Walk) (place : ℕ) (fault : RowFault) → PassesItemName names.Owner row old mid → LacksFields (octets mid) (at mid + 10) fault → RecordStops (octets old) (at old) place fault
 record_short row old mid place fault h short =
     let short_there : length (octets old) < at mid + 10 = subst (λ (b : List ℕ). length b < at mid + 10) h.adds.seen short.1.1 in
-    inl (ShortInput, short_fields h.stands h.walked (lacks_fields short_there), tells_short short.0 fault short.1.0)
+    inl (ShortInput, short_fields h.stands h.walked (lacks_fields short_there), tells_short (octets old) (at old) place short.0 fault short.1.0)
 
 -- what is read of a record
 abbrev entry_of : List (List ℕ) → List ℕ → ℕ → ℕ → ℕ → RecordEntry

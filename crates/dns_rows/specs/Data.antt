@@ -95,7 +95,7 @@ pub data ShowsData (b : List ℕ) : Shape → Option rows.Fault → ℕ → ℕ 
   short : {n p : ℕ} {field : Field} {shape : Shape} → length b < p + n → ShowsData b (Octets n field shape) (Some (Short field)) p p []
   name : {p q r : ℕ} {of : NameOf} {shape : Shape} {stop : Option rows.Fault} {labels : Labels} (names rows : List Row) → Stands b p labels → Walked b p r → NameRows b of p p r names
       → ShowsData b shape stop r q rows → ShowsData b (Named of shape) stop p q (names ++ rows)
-  no_name : {p q : ℕ} {of : NameOf} {shape : Shape} {fault : rows.Fault} {rows : List Row} → LacksName b p fault → ArePlain rows p q → ShowsData b (Named of shape) (Some fault) p q rows
+  no_name : {p q : ℕ} {of : NameOf} {shape : Shape} {fault : rows.Fault} {rows : List Row} → LacksName b p q fault → ArePlain rows p q → ShowsData b (Named of shape) (Some fault) p q rows
   texts : {p q : ℕ} {rows : List Row} → TextRows b p q rows → length b ≤ q → ShowsData b Texts None p q rows
   text_short : {n p q : ℕ} {rows : List Row} → TextRows b p q rows → slice_get b q ≡ Some n → length b < q + (1 + n) → ShowsData b Texts (Some (Short Text)) p q rows
   options : {p q : ℕ} {rows : List Row} → OptionRows b p q rows → length b ≤ q → ShowsData b Options None p q rows

@@ -59,8 +59,8 @@ pub record ShowsRecord (b : List ℕ) (part : Part) (number p q : ℕ) (rows : L
       rows ≡ item_row part number p ∷ (owner_rows ++ (number_rows entry.rtype r ++ data_rows))
 
 -- a question at p can't be read, and a fault of a row tells why
-abbrev pub QuestionStops : List ℕ → ℕ → rows.Fault → Type 0
-QuestionStops b p fault = (f : Fault) × QuestionFaultAt b p f × TellsFault fault f
+abbrev pub QuestionStops : List ℕ → ℕ → ℕ → rows.Fault → Type 0
+QuestionStops b p place fault = (f : Fault) × QuestionFaultAt b p f × TellsFault b p place fault f
 
 -- the fault of data: that of its field that can't be read, or octets are left over behind all fields
 abbrev pub data_fault : Option rows.Fault → rows.Fault
@@ -80,11 +80,11 @@ pub record DataStops (b : List ℕ) (p place : ℕ) (fault : rows.Fault) : Type 
 
 -- a record at p can't be read, or its data can't, and a fault of a row tells why
 abbrev pub RecordStops : List ℕ → ℕ → ℕ → rows.Fault → Type 0
-RecordStops b p place fault = ((f : Fault) × RecordFaultAt b p f × TellsFault fault f) ⊎ DataStops b p place fault
+RecordStops b p place fault = ((f : Fault) × RecordFaultAt b p f × TellsFault b p place fault f) ⊎ DataStops b p place fault
 
 -- the fault of an item of a part
 abbrev pub ItemStops : List ℕ → Part → ℕ → ℕ → rows.Fault → Type 0
-ItemStops b Question p place fault = QuestionStops b p fault
+ItemStops b Question p place fault = QuestionStops b p place fault
 ItemStops b Answer p place fault = RecordStops b p place fault
 ItemStops b Authority p place fault = RecordStops b p place fault
 ItemStops b Additional p place fault = RecordStops b p place fault

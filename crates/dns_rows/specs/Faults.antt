@@ -1,27 +1,13 @@
 -- Which fault a row tells of what is read. RFC 1035 section 4.1.4.
 --
 -- `b` are the octets that are seen.
-use Rattle.std.specs.Prelude.{◌≡◌, ℕ, ◌+◌, ◌<◌, ◌≤◌, List, length, Ok, Err, ⊤}
+use Rattle.std.specs.Prelude.{◌≡◌, ℕ, ◌+◌, ◌-◌, ◌<◌, ◌≤◌, List, length, Ok, Err}
 use Rattle.dns_name.specs.Names.{Fault, FaultAt, Labels, Stands, head_at, max_size}
 use Rattle.dns_name.specs.Names.Fault.{ShortInput, Form}
 use Rattle.dns_name.specs.declared.head.Head.TheVariants as heads
 use Rattle.dns_rows.specs.declared.row.Fault as rows
 use Rattle.dns_rows.specs.declared.row.Fault.TheVariants.{Short, Label, LongName, Pointer, Behind, LongPointer, Trailing}
 use Rattle.dns_rows.specs.declared.row.Field.{Field}
-
--- A fault of a row tells this fault of the reading: octets that lack, or octets that aren't as they have to be. Behind a pointer the name may have either. Octets that are left over are no fault of it.
-abbrev pub TellsFault : rows.Fault → Fault → Type 0
-TellsFault (Short field) f = f ≡ ShortInput
-TellsFault Label f = f ≡ Form
-TellsFault LongName f = f ≡ Form
-TellsFault Pointer f = f ≡ Form
-TellsFault Behind f = ⊤
-TellsFault LongPointer f = f ≡ Form
-TellsFault Trailing f = ⊥
-
--- no name can be read at p, and a fault of a row tells why
-abbrev pub LacksName : List ℕ → ℕ → rows.Fault → Type 0
-LacksName b p fault = (f : Fault) × FaultAt b p f × TellsFault fault f
 
 -- The fault that a row tells where a name can't be read on from p, behind labels of the size.
 pub data StopsName (b : List ℕ) (p size : ℕ) : rows.Fault → Type 0 where
@@ -39,3 +25,17 @@ pub data StopsName (b : List ℕ) (p size : ℕ) : rows.Fault → Type 0 where
   behind : {t : ℕ} {f : Fault} → head_at b p ≡ Ok (heads.Pointer t) → t < p → FaultAt b t f → StopsName b p size Behind
   -- a pointer that leads to a name
   pointed : {t : ℕ} {name : Labels} → head_at b p ≡ Ok (heads.Pointer t) → t < p → Stands b t name → StopsName b p size LongPointer
+
+-- The fault of a row at a place tells this fault of the reading from the start. Octets that lack are `Short`; each other fault is one of the name that begins at the start, and stands where the name can't be read on. Behind a pointer the name may have either fault. Octets that are left over are no fault of the reading.
+abbrev pub TellsFault : List ℕ → ℕ → ℕ → rows.Fault → Fault → Type 0
+TellsFault b start place (Short field) f = f ≡ ShortInput
+TellsFault b start place Label f = (f ≡ Form) × StopsName b place (place - start) Label
+TellsFault b start place LongName f = (f ≡ Form) × StopsName b place (place - start) LongName
+TellsFault b start place Pointer f = (f ≡ Form) × StopsName b place (place - start) Pointer
+TellsFault b start place Behind f = StopsName b place (place - start) Behind
+TellsFault b start place LongPointer f = (f ≡ Form) × StopsName b place (place - start) LongPointer
+TellsFault b start place Trailing f = ⊥
+
+-- no name can be read at p, and a fault of a row at a place tells why
+abbrev pub LacksName : List ℕ → ℕ → ℕ → rows.Fault → Type 0
+LacksName b p place fault = (f : Fault) × FaultAt b p f × TellsFault b p place fault f

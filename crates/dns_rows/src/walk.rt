@@ -132,7 +132,8 @@ impl<'a> Walk<'a> {
         ensures passes { OnOk result
             (PassesItemName name (item_row part number (at self.old)) self.old self.new) }
         ensures stops { OnFault result (Begun part number self.old self.new) }
-        ensures fault { OnFaultOf result (LacksName (octets self.old) (at self.old)) }
+        ensures fault { OnFaultOf result
+            (LacksName (octets self.old) (at self.old) (at self.new)) }
     {
         self.mark(self.parser, Field::Item(part, number))?;
         self.name(name)
@@ -191,7 +192,8 @@ impl<'a> Walk<'a> {
         ensures comes { Comes 0 self.old self.new }
         ensures keeps { Keeps self.old self.new }
         ensures passes { OnOk result (PassesName name self.old self.new) }
-        ensures fault { OnFaultOf result (LacksName (octets self.old) (at self.old)) }
+        ensures fault { OnFaultOf result
+            (LacksName (octets self.old) (at self.old) (at self.new)) }
     {
         let start = self.parser.pos();
         let mut behind = self.parser;

@@ -17,7 +17,7 @@ returns-in_err-number-clause-stops c =
 
 pub returns-in_err-name-clause-stops : goal.returns-in_err-name-clause-stops
 returns-in_err-name-clause-stops c =
-    on_fault c.from_residual-in_err-name.result (LacksName (octets c.number.new.self) (at c.number.new.self)) (StopsData exchange_shape c.args.self.now c.name.new.self)
+    on_fault c.from_residual-in_err-name.result (LacksName (octets c.number.new.self) (at c.number.new.self) (at c.name.new.self)) (StopsData exchange_shape c.args.self.now c.name.new.self)
     (λ fault h. octets_then 2 Preference (Named Exchange End) (Some fault) c.args.self.now c.number.new.self c.name.new.self c.in_ok-number.ensures.adds c.in_ok-number.ensures.within
     (name_missing Exchange End c.number.new.self c.name.new.self fault h (c.name.ensures.keeps c.number.new.self.rows.items (at c.number.new.self) (nothing_yet c.number.new.self)))) (search rules)
 

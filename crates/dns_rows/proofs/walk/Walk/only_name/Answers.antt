@@ -9,7 +9,7 @@ use Rattle.dns_rows.proofs.walk.Walk.only_name.Goals as goal
 
 pub returns-in_err-name-clause-stops : goal.returns-in_err-name-clause-stops
 returns-in_err-name-clause-stops c =
-    on_fault c.from_residual.result (LacksName (octets c.args.self.now) (at c.args.self.now)) (StopsData (Named c.args.name End) c.args.self.now c.name.new.self)
+    on_fault c.from_residual.result (LacksName (octets c.args.self.now) (at c.args.self.now) (at c.name.new.self)) (StopsData (Named c.args.name End) c.args.self.now c.name.new.self)
     (λ fault h. name_missing c.args.name End c.args.self.now c.name.new.self fault h (c.name.ensures.keeps c.args.self.now.rows.items (at c.args.self.now) (nothing_yet c.args.self.now))) (search rules)
 
 pub returns-clause-shows : goal.returns-clause-shows

@@ -12,8 +12,8 @@ pub returns-in_err-item-clause-stops : goal.returns-in_err-item-clause-stops
 returns-in_err-item-clause-stops c =
     let old = c.args.self.now in
     let new = c.item.new.self in
-    on_fault_2 c.from_residual.result (λ _. Begun Question c.args.number old new) (LacksName (octets old) (at old)) (MarksStop Question c.args.number old new)
-    (λ fault g h. marks_stop Question c.args.number old new fault g (question_unnamed (octets old) (at old) fault h)) (search rules) (search rules)
+    on_fault_2 c.from_residual.result (λ _. Begun Question c.args.number old new) (LacksName (octets old) (at old) (at new)) (MarksStop Question c.args.number old new)
+    (λ fault g h. marks_stop Question c.args.number old new fault g (question_unnamed (octets old) (at old) (at new) fault h)) (search rules) (search rules)
 
 pub returns-in_err-number-clause-stops : goal.returns-in_err-number-clause-stops
 returns-in_err-number-clause-stops c =
@@ -23,7 +23,7 @@ returns-in_err-number-clause-stops c =
     let row = item_row Question c.args.number (at old) in
     let begun : Begun Question c.args.number old new = c.number.ensures.keeps (old.rows.items ++ row ∷ []) (at old) c.in_ok-item.ensures.begun in
     on_fault c.from_residual-in_err-number.result (LacksField fields.Type (octets mid) (at mid + 2)) (MarksStop Question c.args.number old new)
-    (λ fault h. marks_stop Question c.args.number old new fault begun (question_short row old mid fields.Type fault c.in_ok-item.ensures.passes h.0 (omega (arith, h.1)))) (search rules)
+    (λ fault h. marks_stop Question c.args.number old new fault begun (question_short row old mid (at new) fields.Type fault c.in_ok-item.ensures.passes h.0 (omega (arith, h.1)))) (search rules)
 
 pub returns-in_err-number-2-clause-stops : goal.returns-in_err-number-2-clause-stops
 returns-in_err-number-2-clause-stops c =
@@ -37,7 +37,7 @@ returns-in_err-number-2-clause-stops c =
     let same = ap length c.in_ok-number.ensures.adds.seen in
     on_fault c.from_residual-in_err-number-2.result (LacksField fields.Class (octets typed) (at typed + 2)) (MarksStop Question c.args.number old new)
     (λ fault h. marks_stop Question c.args.number old new fault begun
-    (question_short row old mid fields.Class fault c.in_ok-item.ensures.passes h.0 (omega (arith, h.1, same, c.in_ok-number.ensures.adds.place)))) (search rules)
+    (question_short row old mid (at new) fields.Class fault c.in_ok-item.ensures.passes h.0 (omega (arith, h.1, same, c.in_ok-number.ensures.adds.place)))) (search rules)
 
 pub returns-clause-shows : goal.returns-clause-shows
 returns-clause-shows c =

@@ -10,7 +10,7 @@ pub returns-in_err-item-clause-stops : goal.returns-in_err-item-clause-stops
 returns-in_err-item-clause-stops c =
     let old = c.args.self.now in
     let new = c.item.new.self in
-    on_fault_2 c.from_residual.result (λ _. Begun c.args.part c.args.number old new) (LacksName (octets old) (at old)) (MarksStop c.args.part c.args.number old new)
+    on_fault_2 c.from_residual.result (λ _. Begun c.args.part c.args.number old new) (LacksName (octets old) (at old) (at new)) (MarksStop c.args.part c.args.number old new)
     (λ fault g h. marks_stop c.args.part c.args.number old new fault g
     (record_stops (octets old) c.args.part (at old) (at new) fault c.requires.part (record_unnamed (octets old) (at old) (at new) fault h)))
     (search rules) (search rules)

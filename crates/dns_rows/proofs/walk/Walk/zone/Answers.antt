@@ -13,12 +13,12 @@ use Rattle.dns_rows.proofs.walk.Walk.zone.Goals as goal
 
 pub returns-in_err-name-clause-stops : goal.returns-in_err-name-clause-stops
 returns-in_err-name-clause-stops c =
-    on_fault c.from_residual.result (LacksName (octets c.args.self.now) (at c.args.self.now)) (StopsData zone_shape c.args.self.now c.name.new.self)
+    on_fault c.from_residual.result (LacksName (octets c.args.self.now) (at c.args.self.now) (at c.name.new.self)) (StopsData zone_shape c.args.self.now c.name.new.self)
     (λ fault h. name_missing Primary (Named Mailbox (Octets 4 (Zone Serial) (Octets 4 (Zone Refresh) (Octets 4 (Zone Retry) (Octets 4 (Zone Expire) (Octets 4 (Zone Minimum) End)))))) c.args.self.now c.name.new.self fault h (c.name.ensures.keeps c.args.self.now.rows.items (at c.args.self.now) (nothing_yet c.args.self.now))) (search rules)
 
 pub returns-in_err-name-2-clause-stops : goal.returns-in_err-name-2-clause-stops
 returns-in_err-name-2-clause-stops c =
-    on_fault c.from_residual-in_err-name-2.result (LacksName (octets c.name.new.self) (at c.name.new.self)) (StopsData zone_shape c.args.self.now c.name-2.new.self)
+    on_fault c.from_residual-in_err-name-2.result (LacksName (octets c.name.new.self) (at c.name.new.self) (at c.name-2.new.self)) (StopsData zone_shape c.args.self.now c.name-2.new.self)
     (λ fault h. name_then Primary (Named Mailbox (Octets 4 (Zone Serial) (Octets 4 (Zone Refresh) (Octets 4 (Zone Retry) (Octets 4 (Zone Expire) (Octets 4 (Zone Minimum) End)))))) (Some fault) c.args.self.now c.name.new.self c.name-2.new.self c.in_ok-name.ensures.passes
     (name_missing Mailbox (Octets 4 (Zone Serial) (Octets 4 (Zone Refresh) (Octets 4 (Zone Retry) (Octets 4 (Zone Expire) (Octets 4 (Zone Minimum) End))))) c.name.new.self c.name-2.new.self fault h (c.name-2.ensures.keeps c.name.new.self.rows.items (at c.name.new.self) (nothing_yet c.name.new.self)))) (search rules)
 
