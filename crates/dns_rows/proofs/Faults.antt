@@ -5,6 +5,7 @@ use Rattle.std.proofs.lemmas.Grind.{common_steps}
 use Rattle.dns_name.specs.Names.{head_at, head_of, max_size, name_size, Fault, Faulty, Labels, Stands}
 use Rattle.dns_name.specs.Names.Fault.{ShortInput, Form}
 use Rattle.dns_name.specs.Names.Faulty.{head, long, cut, ahead, label, pointer}
+use Rattle.dns_name.specs.NearNames.{LabelsTo}
 use Rattle.dns_name.specs.declared.head.Head.TheVariants.{Root, Label, Pointer}
 use Rattle.dns_name.proofs.theory.HeadLemmas.{at_label, at_pointer, label_begins, pointer_begins, root_begins}
 use Rattle.dns_rows.specs.Faults.{StopsName, TellsFault}
@@ -74,14 +75,15 @@ fault_of_ahead b p s t f h far (label k short fits w) = cc (h, k)
 fault_of_ahead b p s t f h far (pointer {t = u} k back w) = let same : u ≡ t = cc (h, k) in absurd (omega (arith, far, back, same))
 
 -- a row's fault tells the fault that reading the name meets
-pub tells_name : (b : List ℕ) (start p : ℕ) (fault : RowFault) (f : Fault) → StopsName b p (p - start) fault → Faulty b p (p - start) f → TellsFault b start p fault f
-tells_name b start p _ f (no_octet h) w = fault_of_none b p (p - start) f ShortInput h w
-tells_name b start p _ f (cut_label {n = n} h fits past) w = fault_of_cut b p (p - start) n f h fits past w
-tells_name b start p _ f (no_label h) w = (fault_of_none b p (p - start) f Form h w, no_label h)
-tells_name b start p _ f (long_name {n = n} h far) w = (fault_of_long b p (p - start) n f h far w, long_name h far)
-tells_name b start p _ f (ahead_pointer {t = t} h far) w = (fault_of_ahead b p (p - start) t f h far w, ahead_pointer h far)
-tells_name b start p _ f (behind_pointer h back no_name) w = behind_pointer h back no_name
-tells_name b start p _ f (pointed {name = name} h back there) w = (form_of_standing b p (p - start) f name (Stands.pointer h back there) w, pointed h back there)
+pub tells_name : (b : List ℕ) (start p : ℕ) (fault : RowFault) (f : Fault) → LabelsTo b start 0 p (p - start) → StopsName b p (p - start) fault → Faulty b p (p - start) f → TellsFault b start p fault f
+tells_name b start p _ f l (no_octet h) w = fault_of_none b p (p - start) f ShortInput h w
+tells_name b start p _ f l (cut_label {n = n} h fits past) w = fault_of_cut b p (p - start) n f h fits past w
+tells_name b start p _ f l (no_label h) w = (fault_of_none b p (p - start) f Form h w, record { row = l; stops = no_label h })
+tells_name b start p _ f l (long_name {n = n} h far) w = (fault_of_long b p (p - start) n f h far w, record { row = l; stops = long_name h far })
+tells_name b start p _ f l (ahead_pointer {t = t} h far) w = (fault_of_ahead b p (p - start) t f h far w, record { row = l; stops = ahead_pointer h far })
+tells_name b start p _ f l (behind_pointer h back no_name) w = record { row = l; stops = behind_pointer h back no_name }
+tells_name b start p _ f l (pointed {name = name} h back there) w =
+    (form_of_standing b p (p - start) f name (Stands.pointer h back there) w, record { row = l; stops = pointed h back there })
 
 -- what an octet begins, or why nothing begins
 pub none_head : (b : List ℕ) (p : ℕ) → slice_get b p ≡ None → head_at b p ≡ Err ShortInput

@@ -1,9 +1,11 @@
 -- The rows of names.
 use Rattle.dns_rows.specs.Named.{NameRows}
-use Rattle.std.proofs.Common.{◌≡◌, ℕ, ◌+◌, ◌-◌, ◌<◌, ◌≤◌, OnOk, Result, Err, ◌⊎◌, inl, inr, List, [], ◌∷◌, ◌++◌, length, slice_get, Option, Some, None, Ok, ◌∙◌, ap, subst, sym, refl, arith, append_assoc}
+use Rattle.std.proofs.Common.{◌≡◌, ℕ, ◌+◌, ◌-◌, ◌<◌, ◌≤◌, OnOk, Result, Err, ◌⊎◌, inl, inr, List, [], ◌∷◌, ◌++◌, length, slice_get, Option, Some, None, Ok, ◌∙◌, ap, subst, sym, refl, arith, append_assoc, append-nil}
 use Rattle.dns_name.specs.Names.{head_at, max_size, Fault, Faulty, WalkedBehind}
 use Rattle.dns_name.specs.Names.Faulty.{head as head_fault, long as long_fault, cut as cut_fault, ahead as ahead_fault, label as label_fault, pointer as pointer_fault}
 use Rattle.dns_name.specs.Names.WalkedBehind.{root as root_walked, pointer as pointer_walked, label as label_walked}
+use Rattle.dns_name.specs.NearNames.{LabelsTo}
+use Rattle.dns_name.specs.NearNames.LabelsTo.{none as no_labels, label as row_label}
 use Rattle.dns_name.specs.declared.head.Head.TheVariants.{Label}
 use Rattle.dns_name.specs.Unique.{label_of}
 use Rattle.dns_name.proofs.theory.HeadLemmas.{label_there, root_there, root_begins}
@@ -63,11 +65,28 @@ fault_behind b p s n f label (label_fault {n = m} k short fits w) =
     subst (λ n. Faulty b (p + 1 + n) (s + n + 1) f) same w
 fault_behind b p s n f label (pointer_fault k back w) = cc (k, label.begins)
 
+-- one label more in a row of labels
+label_more : (b : List ℕ) {p s q r n : ℕ} → LabelsTo b p s q r → head_at b q ≡ Ok (Label n) → r + n + 1 ≤ max_size → q + 1 + n ≤ length b → LabelsTo b p s (q + 1 + n) (r + n + 1)
+label_more b no_labels h short fits = row_label h short fits no_labels
+label_more b (row_label k w x l) h short fits = row_label k w x (label_more b l h short fits)
+
 -- where no label begins, the name ends
 end_here : (b : List ℕ) (p s q : ℕ) → ((n : ℕ) → IsLabelAt b p s n → ⊥) → WalkedBehind b p s q → IsEnd b p q
 end_here b p s q none (root_walked k) = root_end k
 end_here b p s q none (pointer_walked k) = pointer_end k
 end_here b p s q none (label_walked {n = n} k short fits w) = absurd (none n (record { begins = k; short = short; fits = fits }))
+
+-- a walk that passed no label yet
+pub none_passed : (of : NameOf) (old : Walk) → PassesLabels of 0 old old
+none_passed of old = record {
+  rows = [];
+  adds = record { rows = sym (append-nil old.rows.items); seen = refl; place = refl };
+  labels = λ start end behind r. r;
+  ends = λ q w. w;
+  faults = λ f w. w;
+  sizes = omega arith;
+  row = no_labels;
+}
 
 -- a walk that passed labels passes one more
 pub one_more_label : (of : NameOf) (size n : ℕ) (old mid new : Walk) → PassesLabels of size old mid → IsLabelAt (octets mid) (at mid) size n
@@ -93,6 +112,11 @@ one_more_label of size n old mid new h label k =
           let grown : size + n + 1 ≡ size + (n + 1) = omega arith in
           subst (λ s. Faulty b (at new) s f) grown (subst (λ p. Faulty b p (size + n + 1) f) (sym to) there);
       sizes = omega (arith, to, h.sizes);
+      row =
+          let begins_there : IsLabelAt b (at mid) size n = subst (λ b. IsLabelAt b (at mid) size n) h.adds.seen label in
+          let there = label_more b h.row begins_there.begins begins_there.short begins_there.fits in
+          let grown : size + n + 1 ≡ size + (n + 1) = omega arith in
+          subst (λ s. LabelsTo b (at old) 0 (at new) s) grown (subst (λ p. LabelsTo b (at old) 0 p (size + n + 1)) (sym to) there);
       ends = λ q w.
           let there = label_behind b (at mid) size n q begins (h.ends q w) in
           let grown : size + n + 1 ≡ size + (n + 1) = omega arith in
@@ -110,6 +134,7 @@ all_labels of size old new h none =
       labels = h.labels;
       ends = λ q w. end_here (octets old) (at new) size q none_there (h.ends q w);
       order = omega (arith, h.sizes);
+      row = subst (λ s. LabelsTo (octets old) (at old) 0 (at new) s) same h.row;
       faults = λ f w. subst (λ s. Faulty (octets old) (at new) s f) same (h.faults f w);
       none = subst (λ s. (n : ℕ) → IsLabelAt (octets old) (at new) s n → ⊥) same none_there;
     }

@@ -4,6 +4,7 @@
 use Rattle.std.specs.Prelude.{◌≡◌, ℕ, ◌+◌, ◌-◌, ◌<◌, ◌≤◌, List, length, Ok, Err}
 use Rattle.dns_name.specs.Names.{Fault, FaultAt, Labels, Stands, head_at, max_size}
 use Rattle.dns_name.specs.Names.Fault.{ShortInput, Form}
+use Rattle.dns_name.specs.NearNames.{LabelsTo}
 use Rattle.dns_name.specs.declared.head.Head.TheVariants as heads
 use Rattle.dns_rows.specs.declared.row.Fault as rows
 use Rattle.dns_rows.specs.declared.row.Fault.TheVariants.{Short, Label, LongName, Pointer, Behind, LongPointer, Trailing}
@@ -26,16 +27,21 @@ pub data StopsName (b : List ℕ) (p size : ℕ) : rows.Fault → Type 0 where
   -- a pointer that leads to a name
   pointed : {t : ℕ} {name : Labels} → head_at b p ≡ Ok (heads.Pointer t) → t < p → Stands b t name → StopsName b p size LongPointer
 
+-- labels of a name that begins at the start lead to a place, and there the name can't be read on
+pub record StopsNameAt (b : List ℕ) (start place : ℕ) (fault : rows.Fault) : Type 0 where
+  pub row : LabelsTo b start 0 place (place - start)
+  pub stops : StopsName b place (place - start) fault
+
 -- The fault of a row at a place tells this fault of the reading from the start. Octets that lack are `Short`; each other fault is one of the name that begins at the start, and stands where the name can't be read on. Behind a pointer the name may have either fault. Octets that are left over are no fault of the reading.
 abbrev pub TellsFault : List ℕ → ℕ → ℕ → rows.Fault → Fault → Type 0
 TellsFault b start place (Short field) f = f ≡ ShortInput
-TellsFault b start place Label f = (f ≡ Form) × StopsName b place (place - start) Label
-TellsFault b start place LongName f = (f ≡ Form) × StopsName b place (place - start) LongName
-TellsFault b start place Pointer f = (f ≡ Form) × StopsName b place (place - start) Pointer
-TellsFault b start place Behind f = StopsName b place (place - start) Behind
-TellsFault b start place LongPointer f = (f ≡ Form) × StopsName b place (place - start) LongPointer
+TellsFault b start place Label f = (f ≡ Form) × StopsNameAt b start place Label
+TellsFault b start place LongName f = (f ≡ Form) × StopsNameAt b start place LongName
+TellsFault b start place Pointer f = (f ≡ Form) × StopsNameAt b start place Pointer
+TellsFault b start place Behind f = StopsNameAt b start place Behind
+TellsFault b start place LongPointer f = (f ≡ Form) × StopsNameAt b start place LongPointer
 TellsFault b start place Trailing f = ⊥
 
--- no name can be read at p, and a fault of a row at a place tells why
+-- no name can be read at p, and a fault of a row tells why, at the place to which the labels of the name lead
 abbrev pub LacksName : List ℕ → ℕ → ℕ → rows.Fault → Type 0
-LacksName b p place fault = (f : Fault) × FaultAt b p f × TellsFault b p place fault f
+LacksName b p place fault = (f : Fault) × FaultAt b p f × TellsFault b p place fault f × StopsNameAt b p place fault

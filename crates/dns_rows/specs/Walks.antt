@@ -4,6 +4,7 @@ use Rattle.dns_rows.specs.Named.{NameRows}
 use Rattle.std.specs.Prelude.{◌<◌, ◌≡◌, Bool, true, false, ℕ, ◌+◌, ◌-◌, ◌≤◌, List, ◌++◌, [], ◌∷◌, length, ⊤, Option, Some, None, Result, Ok, Err, take}
 use Rattle.std.specs.Int.{w16}
 use Rattle.dns_name.specs.Names.{head_at, max_size, Fault, FaultAt, Faulty, Labels, Stands, Walked, WalkedBehind}
+use Rattle.dns_name.specs.NearNames.{LabelsTo}
 use Rattle.dns_name.specs.Parsers.{input, place, number_at, seen}
 use Rattle.dns_name.specs.declared.head.Head.TheVariants.{Root, Label, Pointer}
 use Rattle.dns_code.specs.HeaderSection.{header_size}
@@ -105,6 +106,7 @@ pub record PassesLabels (of : NameOf) (size : ℕ) (old new : Walk) : Type 0 whe
   pub ends : (q : ℕ) → Walked (octets old) (at old) q → WalkedBehind (octets old) (at new) size q
   pub faults : (f : Fault) → FaultAt (octets old) (at old) f → Faulty (octets old) (at new) size f
   pub sizes : at new ≡ at old + size
+  pub row : LabelsTo (octets old) (at old) 0 (at new) size
 
 -- a walk that passed all labels of a name
 pub record PassesAllLabels (of : NameOf) (old new : Walk) : Type 0 where
@@ -113,6 +115,7 @@ pub record PassesAllLabels (of : NameOf) (old new : Walk) : Type 0 where
   pub labels : AreLabelRows (octets old) of (at old) (at new) rows
   pub ends : (q : ℕ) → Walked (octets old) (at old) q → IsEnd (octets old) (at new) q
   pub order : at old ≤ at new
+  pub row : LabelsTo (octets old) (at old) 0 (at new) (at new - at old)
   pub faults : (f : Fault) → FaultAt (octets old) (at old) f → Faulty (octets old) (at new) (at new - at old) f
   pub none : (n : ℕ) → IsLabelAt (octets old) (at new) (at new - at old) n → ⊥
 

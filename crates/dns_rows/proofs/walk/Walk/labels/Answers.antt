@@ -1,6 +1,9 @@
 use Rattle.std.proofs.Common.{arith, rules}
-use Rattle.dns_rows.proofs.Names.{all_labels, one_more_label}
+use Rattle.dns_rows.proofs.Names.{all_labels, none_passed, one_more_label}
 use Rattle.dns_rows.proofs.walk.Walk.labels.Goals as goal
+
+pub labels-init : goal.labels-init
+labels-init c = record { comes = search rules; keeps = λ front from g. g; passes = none_passed c.args.name c.args.self.now; short = omega arith }
 
 pub labels-preserved : goal.labels-preserved
 labels-preserved c = record {

@@ -23,4 +23,4 @@ returns-then-is_err-clause-fault c =
     let passes = c.in_ok-labels.ensures.passes in
     let P : List ℕ → ℕ → Type 0 = λ b start. StopsName b (at new) (at new - start) c.name_fault.result in
     let stops : P (octets old) (at old) = subst (λ b. P b (at old)) passes.adds.seen (subst (λ start. P (octets new) start) c.pos-start.ensures c.name_fault.ensures) in
-    (fails.0, fails.1, tells_name (octets old) (at old) (at new) c.name_fault.result fails.0 stops (passes.faults fails.0 fails.1))
+    (fails.0, fails.1, tells_name (octets old) (at old) (at new) c.name_fault.result fails.0 passes.row stops (passes.faults fails.0 fails.1), record { row = passes.row; stops = stops })
