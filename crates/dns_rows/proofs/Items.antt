@@ -2,7 +2,9 @@
 use Rattle.std.proofs.Common.{◌≡◌, ℕ, suc, ◌+◌, ◌<◌, ◌≤◌, inl, inr, List, [], ◌∷◌, ◌++◌, length, Option, Some, None, ◌∙◌, ap, subst, sym, refl, arith, add-one, append_assoc, append-nil, take, IsTrue}
 use Rattle.std.proofs.lemmas.List.Elements.{All-nil}
 use Rattle.std.specs.Int.{w16, w32}
+use Rattle.dns_name.specs.Names.{FaultAt, Labels, Stands}
 use Rattle.dns_name.specs.Names.Fault.{ShortInput}
+use Rattle.dns_name.proofs.theory.Names.{not_both}
 use Rattle.dns_name.specs.Parsers.{number_at}
 use Rattle.dns_rows.specs.Data.{shape_of, ShowsData}
 use Rattle.dns_rows.specs.Walks.StopsWithin.{missing, stopped}
@@ -31,6 +33,10 @@ use Rattle.dns_rows.proofs.Names.{adds_row, adds_then}
 tells_short : (b : List ℕ) (start place : ℕ) (field : Field) (fault : RowFault) → fault ≡ Short field → TellsFault b start place fault ShortInput
 tells_short b start place field fault told = subst (λ fault. TellsFault b start place fault ShortInput) (sym told) refl
 
+-- where a name stands, the fault is not the name's
+not_name : (b : List ℕ) (p : ℕ) (labels : Labels) {X : Type 0} → Stands b p labels → FaultAt b p ShortInput → X
+not_name b p labels stands w = absurd (not_both b p labels ShortInput stands w)
+
 -- a walk that stopped in an item
 pub marks_stop : (part : Part) (number : ℕ) (old new : Walk) (fault : RowFault) → Begun part number old new → ItemStops (octets old) part (at old) (at new) fault → MarksStop part number old new fault
 marks_stop part number old new fault g stops = record {
@@ -41,14 +47,14 @@ marks_stop part number old new fault g stops = record {
 
 -- a question whose name can't be read
 pub question_unnamed : (b : List ℕ) (p place : ℕ) (fault : RowFault) → LacksName b p place fault → QuestionStops b p place fault
-question_unnamed b p place fault h = (h.0, name_fault h.1, h.2)
+question_unnamed b p place fault h = (h.0, name_fault h.1, (h.2, λ _. h.3))
 
 -- a question whose type and class aren't all there
 pub question_short : (row : Row) (old mid : Walk) (place : ℕ) (field : Field) (fault : RowFault) → PassesItemName names.Question row old mid → fault ≡ Short field → length (octets mid) < at mid + 4
     → QuestionStops (octets old) (at old) place fault
 question_short row old mid place field fault h told short =
     let short_there : length (octets old) < at mid + 4 = subst (λ (b : List ℕ). length b < at mid + 4) h.adds.seen short in
-    (ShortInput, short_fields h.stands h.walked short_there, tells_short (octets old) (at old) place field fault told)
+    (ShortInput, short_fields h.stands h.walked short_there, (tells_short (octets old) (at old) place field fault told, not_name (octets old) (at old) h.labels h.stands))
 
 -- a question of a name, a type and a class
 pub marks_question : (number : ℕ) (old a b new : Walk) → PassesItemName names.Question (item_row Question number (at old)) old a
@@ -93,13 +99,13 @@ record_shows b Additional number p q rows h s = s
 
 -- a record whose owner can't be read
 pub record_unnamed : (b : List ℕ) (p place : ℕ) (fault : RowFault) → LacksName b p place fault → RecordStops b p place fault
-record_unnamed b p place fault h = inl (h.0, name_fault h.1, h.2)
+record_unnamed b p place fault h = inl (h.0, name_fault h.1, (h.2, λ _. h.3))
 
 -- a record whose numbers aren't all there
 pub record_short : (row : Row) (old mid : Walk) (place : ℕ) (fault : RowFault) → PassesItemName names.Owner row old mid → LacksFields (octets mid) (at mid + 10) fault → RecordStops (octets old) (at old) place fault
 record_short row old mid place fault h short =
     let short_there : length (octets old) < at mid + 10 = subst (λ (b : List ℕ). length b < at mid + 10) h.adds.seen short.1.1 in
-    inl (ShortInput, short_fields h.stands h.walked (lacks_fields short_there), tells_short (octets old) (at old) place short.0 fault short.1.0)
+    inl (ShortInput, short_fields h.stands h.walked (lacks_fields short_there), (tells_short (octets old) (at old) place short.0 fault short.1.0, not_name (octets old) (at old) h.labels h.stands))
 
 -- what is read of a record
 abbrev entry_of : List (List ℕ) → List ℕ → ℕ → ℕ → ℕ → RecordEntry
@@ -127,7 +133,7 @@ data_stops row rtype len old a b new _ h k (missing short) =
     let len_there : len ≡ number_at w16 (octets old) (at a + 8) = subst (λ b. len ≡ number_at w16 b (at a + 8)) h.adds.seen k.len_there in
     let whole : at a + 10 ≤ length (octets old) = subst (λ (b : List ℕ). at a + 10 ≤ length b) h.adds.seen k.within in
     let same : length (octets b) ≡ length (octets old) = ap length (k.adds.seen ∙ h.adds.seen) in
-    inl (ShortInput, short_fields h.stands h.walked (lacks_data whole (omega (arith, short, len_there, same, k.adds.place))), refl)
+    inl (ShortInput, short_fields h.stands h.walked (lacks_data whole (omega (arith, short, len_there, same, k.adds.place))), (refl, not_name (octets old) (at old) h.labels h.stands))
 data_stops row rtype len old a b new _ h k (stopped stop there w left) =
     let seen = k.adds.seen ∙ h.adds.seen in
     let same = ap length seen in

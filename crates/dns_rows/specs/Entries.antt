@@ -8,7 +8,7 @@ use Rattle.dns_item.specs.Items.{RecordEntry, ReadsRecord, RecordFaultAt}
 use Rattle.dns_code.specs.HeaderCounts.{Counts}
 use Rattle.dns_item.specs.RecordReading.{up_to_data_end}
 use Rattle.dns_rows.specs.Data.{shape_of, ShowsData}
-use Rattle.dns_rows.specs.Faults.{TellsFault}
+use Rattle.dns_rows.specs.Faults.{TellsItem}
 use Rattle.dns_rows.specs.Fields.{field_row, ArePlain}
 use Rattle.dns_rows.specs.Named.{NameRows}
 use Rattle.dns_rows.specs.declared.row.Row.{Row}
@@ -60,7 +60,7 @@ pub record ShowsRecord (b : List ℕ) (part : Part) (number p q : ℕ) (rows : L
 
 -- a question at p can't be read, and a fault of a row tells why
 abbrev pub QuestionStops : List ℕ → ℕ → ℕ → rows.Fault → Type 0
-QuestionStops b p place fault = (f : Fault) × QuestionFaultAt b p f × TellsFault b p place fault f
+QuestionStops b p place fault = (f : Fault) × QuestionFaultAt b p f × TellsItem b p place fault f
 
 -- the fault of data: that of its field that can't be read, or octets are left over behind all fields
 abbrev pub data_fault : Option rows.Fault → rows.Fault
@@ -80,7 +80,7 @@ pub record DataStops (b : List ℕ) (p place : ℕ) (fault : rows.Fault) : Type 
 
 -- a record at p can't be read, or its data can't, and a fault of a row tells why
 abbrev pub RecordStops : List ℕ → ℕ → ℕ → rows.Fault → Type 0
-RecordStops b p place fault = ((f : Fault) × RecordFaultAt b p f × TellsFault b p place fault f) ⊎ DataStops b p place fault
+RecordStops b p place fault = ((f : Fault) × RecordFaultAt b p f × TellsItem b p place fault f) ⊎ DataStops b p place fault
 
 -- the fault of an item of a part
 abbrev pub ItemStops : List ℕ → Part → ℕ → ℕ → rows.Fault → Type 0

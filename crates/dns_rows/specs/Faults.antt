@@ -42,6 +42,10 @@ TellsFault b start place Behind f = StopsNameAt b start place Behind
 TellsFault b start place LongPointer f = (f ≡ Form) × StopsNameAt b start place LongPointer
 TellsFault b start place Trailing f = ⊥
 
+-- a fault of a row tells this fault of an item at p, and stands where the name at which the item begins can't be read on, if it is that name's
+abbrev pub TellsItem : List ℕ → ℕ → ℕ → rows.Fault → Fault → Type 0
+TellsItem b p place fault f = TellsFault b p place fault f × (FaultAt b p f → StopsNameAt b p place fault)
+
 -- no name can be read at p, and a fault of a row tells why, at the place to which the labels of the name lead
 abbrev pub LacksName : List ℕ → ℕ → ℕ → rows.Fault → Type 0
 LacksName b p place fault = (f : Fault) × FaultAt b p f × TellsFault b p place fault f × StopsNameAt b p place fault
