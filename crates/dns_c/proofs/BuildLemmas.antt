@@ -1,28 +1,30 @@
 -- How the items that C hands in become entries, and entries are pushed.
-use Rattle.std.proofs.Common.{◌≡◌, ◌∙◌, ℕ, zero, suc, ◌+◌, ◌<◌, ◌≤◌, List, [], ◌∷◌, length, drop, get_or, length-append, append_assoc, append-nil, ap, sym, subst, refl, inl, inr, arith}
+use Rattle.std.proofs.Common.{◌≡◌, ◌∙◌, ℕ, zero, suc, ◌+◌, ◌<◌, ◌≤◌, ◌⊎◌, List, [], ◌∷◌, ◌++◌, length, drop, get_or, length-append, append_assoc, append-nil, ap, sym, subst, refl, inl, inr, arith}
 use Rattle.std.proofs.Math.Seq.{drop-cons}
 use Rattle.std.proofs.lemmas.List.{drop_all}
-use Rattle.std.specs.Prelude.{Result, Err, None, true}
+use Rattle.std.specs.Prelude.{Bool, Option, Result, Ok, Err, None, IsTrue, true}
 use Rattle.dns_name.proofs.theory.NameTextFaults.{one_text_name}
-use Rattle.dns_wire.specs.Pieces.{Tree}
+use Rattle.dns_wire.specs.Pieces.{Rule, Tree}
 use Rattle.dns_octets.specs.declared.error.AppendError.{AppendError}
 use Rattle.dns_octets.specs.declared.error.AppendError.TheVariants as appending
 use Rattle.dns_wire.specs.Targets.{Answers, Fits, Passes}
 use Rattle.dns_code.specs.HeaderSection.{header_size}
+use Rattle.dns_code.specs.declared.header.Header.{Header}
 use Rattle.dns_question.specs.Questions.{QuestionItem}
 use Rattle.dns_item.specs.Items.{RecordItem}
 use Rattle.dns_section.specs.declared.section.Section.{Section}
 use Rattle.dns_section.specs.declared.section.Section.TheVariants.{Answer, Authority, Additional}
 use Rattle.dns_build.specs.State.{State, Stage, InBuilder, InQuestion, InAnswer, InAuthority, InAdditional, stage_of, depth_of, with_question, with_questions, with_record, with_records, records_at, most_entries}
-use Rattle.dns_build.specs.Standing.{Built, StandsFor, MovesState, InEach, size_after}
+use Rattle.dns_build.specs.Standing.{Built, StandsFor, MovesState, InEach, PushAnswers}
+use Rattle.dns_build.specs.Answers.{AnswersQuestion}
 use Rattle.dns_build.specs.declared.push_error.PushError.{PushError}
 use Rattle.dns_build.specs.declared.push_error.PushError.TheVariants as pushing
 use Rattle.dns_c.specs.Codes.{append_fault, number_of, push_fault}
 use Rattle.dns_c.specs.Made.{SpellsNoName}
 use Rattle.dns_c.specs.Walk.{section_at}
-use Rattle.dns_c.specs.Built.{NewEntry, Question, Record, Means, AllMean, IsQuestionOf, IsRecordOf, LacksFields, IsRefused, FirstRefused, IsStopped, IsUnbuilt, questions_among, records_among}
+use Rattle.dns_c.specs.Built.{NewEntry, Question, Record, Means, AllMean, IsQuestionOf, IsRecordOf, LacksFields, IsRefused, FirstRefused, AnswersRecord, RefusesHeader, RefusesQuestion, RefusesRecord, RefusesEntry, IsUnbuilt, HasTooMany, beginning_of, questions_among, records_among}
 use Rattle.dns_c.specs.declared.build.NewItem.{NewItem}
-use Rattle.dns_c.specs.declared.code.Fault.TheVariants.{NoRoom}
+use Rattle.dns_c.specs.declared.code.Fault.TheVariants.{BadSection, BadText, LongData, NoRoom, TooMany}
 
 -- An item is one question, or one record.
 
@@ -74,47 +76,64 @@ check_refuses items left rest item n is refused h = h.refused n (subst (λ (xs :
 pub check_ends : (items left : List NewItem) → left ≡ [] → Checking items left → (xs : List NewEntry) × AllMean items xs
 check_ends items left is h = h.mean [] (subst (λ (xs : List NewItem). AllMean xs []) (sym is) tt)
 
--- Questions are pushed. Of the items that are left these entries are left, and a state that the builder stands for.
-pub record Asking (left : List NewItem) (xs : List NewEntry) (s : State) (now : Built) : Type 0 where
+-- the reasons of a refused push, one by one
+pub refused_answers : (room : Option ℕ) (grows : Bool) (limit n count : ℕ) (e : PushError) → (e ≡ pushing.ShortBuf → Passes room n) → (e ≡ pushing.OutOfMemory → IsTrue grows)
+    → (e ≡ pushing.LimitExceeded → Fits room n × (limit < n)) → (e ≡ pushing.CountOverflow → Fits room n × (n ≤ limit) × (count ≡ most_entries)) → PushAnswers room grows limit n count (Err e)
+refused_answers room grows limit n count pushing.ShortBuf short memory over full = short refl
+refused_answers room grows limit n count pushing.OutOfMemory short memory over full = memory refl
+refused_answers room grows limit n count pushing.LimitExceeded short memory over full = over refl
+refused_answers room grows limit n count pushing.CountOverflow short memory over full = full refl
+
+-- Questions are pushed. The first of those among entries stand, and of the items that are left these entries are left.
+pub record Asking (rule : Rule) (left : List NewItem) (xs : List NewEntry) (s : State) (now : Built) : Type 0 where
+  pub first : List QuestionItem
   pub rest : List NewEntry
-  pub here : State
   pub mean : AllMean left rest
-  pub stands : StandsFor InQuestion Tree here now
-  pub same : with_questions (questions_among rest) here ≡ with_questions (questions_among xs) s
+  pub all : questions_among xs ≡ first ++ questions_among rest
+  pub stands : StandsFor InQuestion rule (with_questions first s) now
 
-pub asking_begins : (items left : List NewItem) (xs : List NewEntry) (s : State) (now : Built) → left ≡ items → AllMean items xs → StandsFor InQuestion Tree s now → Asking left xs s now
-asking_begins items left xs s now is mean stands = record { rest = xs; here = s; mean = subst (λ (is : List NewItem). AllMean is xs) (sym is) mean; stands = stands; same = refl }
+pub asking_begins : (rule : Rule) (items left : List NewItem) (xs : List NewEntry) (s : State) (now : Built) → left ≡ items → AllMean items xs → StandsFor InQuestion rule s now → Asking rule left xs s now
+asking_begins rule items left xs s now is mean stands =
+    let none : s ≡ with_questions [] s = ap (λ (qs : List QuestionItem). record s { questions = qs }) (sym (append-nil s.questions)) in
+    record { first = []; rest = xs; mean = subst (λ (is : List NewItem). AllMean is xs) (sym is) mean; all = refl; stands = subst (λ (t : State). StandsFor InQuestion rule t now) none stands }
 
-module _ (rest : List NewItem) (item : NewItem) (xs : List NewEntry) (s : State) (now : Built) where
-  asking_passes_by : (es : List NewEntry) (here : State) → (item.section ≡ 0 → ⊥) → AllMean (item ∷ rest) es → StandsFor InQuestion Tree here now
-      → with_questions (questions_among es) here ≡ with_questions (questions_among xs) s → Asking rest xs s now
-  asking_passes_by [] here other mean stands same = absurd mean
-  asking_passes_by (Question x ∷ es) here other mean stands same = absurd (other mean.0.0)
-  asking_passes_by (Record which x ∷ es) here other mean stands same = record { rest = es; here = here; mean = mean.1; stands = stands; same = same }
+module _ (rule : Rule) (rest : List NewItem) (item : NewItem) (xs : List NewEntry) (s : State) (now : Built) where
+  asking_passes_by : (es : List NewEntry) (first : List QuestionItem) → (item.section ≡ 0 → ⊥) → AllMean (item ∷ rest) es → questions_among xs ≡ first ++ questions_among es
+      → StandsFor InQuestion rule (with_questions first s) now → Asking rule rest xs s now
+  asking_passes_by [] first other mean all stands = absurd mean
+  asking_passes_by (Question x ∷ es) first other mean all stands = absurd (other mean.0.0)
+  asking_passes_by (Record which x ∷ es) first other mean all stands = record { first = first; rest = es; mean = mean.1; all = all; stands = stands }
 
-  asking_takes_by : (es : List NewEntry) (here : State) (y : QuestionItem) (new : Built) → item.section ≡ 0 → IsQuestionOf item y → AllMean (item ∷ rest) es → StandsFor InQuestion Tree (with_question y here) new
-      → with_questions (questions_among es) here ≡ with_questions (questions_among xs) s → Asking rest xs s new
-  asking_takes_by [] here y new first is mean stands same = absurd mean
-  asking_takes_by (Question x ∷ es) here y new first is mean stands same = record {
+  asking_takes_by : (es : List NewEntry) (first : List QuestionItem) (y : QuestionItem) (new : Built) → item.section ≡ 0 → IsQuestionOf item y → AllMean (item ∷ rest) es
+      → questions_among xs ≡ first ++ questions_among es → StandsFor InQuestion rule (with_question y (with_questions first s)) new → Asking rule rest xs s new
+  asking_takes_by [] first y new here is mean all stands = absurd mean
+  asking_takes_by (Question x ∷ es) first y new here is mean all stands = record {
+    first = first ++ y ∷ [];
     rest = es;
-    here = with_question y here;
     mean = mean.1;
-    stands = stands;
-    same =
-        ap (λ (qs : List QuestionItem). record here { questions = qs }) (append_assoc here.questions (y ∷ []) (questions_among es))
-        ∙ ap (λ (z : QuestionItem). with_questions (z ∷ questions_among es) here) (same_question item y x is mean.0.1) ∙ same;
+    all =
+        all ∙ ap (λ (z : QuestionItem). first ++ z ∷ questions_among es) (same_question item x y mean.0.1 is)
+        ∙ sym (append_assoc first (y ∷ []) (questions_among es));
+    stands =
+        let same : with_question y (with_questions first s) ≡ with_questions (first ++ y ∷ []) s = ap (λ (qs : List QuestionItem). record s { questions = qs }) (append_assoc s.questions first (y ∷ [])) in
+        subst (λ (t : State). StandsFor InQuestion rule t new) same stands;
   }
-  asking_takes_by (Record which x ∷ es) here y new first is mean stands same = absurd (let some = mean.0.0 in omega arith)
+  asking_takes_by (Record which x ∷ es) first y new here is mean all stands = absurd (let some = mean.0.0 in omega arith)
 
-  -- a question more than a count can tell
-  asking_full_by : (es : List NewEntry) (here : State) → item.section ≡ 0 → AllMean (item ∷ rest) es → length here.questions ≡ most_entries
-      → with_questions (questions_among es) here ≡ with_questions (questions_among xs) s → most_entries < length (with_questions (questions_among xs) s).questions
-  asking_full_by [] here first mean full same = absurd mean
-  asking_full_by (Question x ∷ es) here first mean full same =
-      let more = length-append here.questions (x ∷ questions_among es) in
-      let whole = ap (λ (t : State). length t.questions) same in
-      omega arith
-  asking_full_by (Record which x ∷ es) here first mean full same = absurd (let some = mean.0.0 in omega arith)
+  -- a question is refused
+  asking_refused_by : (room : Option ℕ) (grows : Bool) (es : List NewEntry) (first : List QuestionItem) (y : QuestionItem) (e : PushError) → item.section ≡ 0 → IsQuestionOf item y → AllMean (item ∷ rest) es
+      → questions_among xs ≡ first ++ questions_among es → AnswersQuestion room grows rule y (with_questions first s) (Err e) → RefusesQuestion room grows rule (questions_among xs) s (number_of (push_fault e))
+  asking_refused_by room grows [] first y e here is mean all refused = absurd mean
+  asking_refused_by room grows (Question x ∷ es) first y e here is mean all refused = record {
+    first = first;
+    next = y;
+    others = questions_among es;
+    all = all ∙ ap (λ (z : QuestionItem). first ++ z ∷ questions_among es) (same_question item x y mean.0.1 is);
+    error = e;
+    refused = refused;
+    number = refl;
+  }
+  asking_refused_by room grows (Record which x ∷ es) first y e here is mean all refused = absurd (let some = mean.0.0 in omega arith)
 
   -- its item spells a name
   asking_named_by : (es : List NewEntry) → AllMean (item ∷ rest) es → SpellsNoName item.name.now → ⊥
@@ -122,50 +141,46 @@ module _ (rest : List NewItem) (item : NewItem) (xs : List NewEntry) (s : State)
   asking_named_by (Question x ∷ es) mean none = none x.name mean.0.1.name
   asking_named_by (Record which x ∷ es) mean none = none x.owner mean.0.3.owner
 
-module _ (left rest : List NewItem) (item : NewItem) (is : left ≡ item ∷ rest) (xs : List NewEntry) (s : State) (now : Built) (h : Asking left xs s now) where
+module _ (rule : Rule) (left rest : List NewItem) (item : NewItem) (is : left ≡ item ∷ rest) (xs : List NewEntry) (s : State) (now : Built) (h : Asking rule left xs s now) where
   here_means : AllMean (item ∷ rest) h.rest
   here_means = subst (λ (items : List NewItem). AllMean items h.rest) is h.mean
 
   -- an item of another section is passed
-  pub asking_passes : (item.section ≡ 0 → ⊥) → Asking rest xs s now
-  asking_passes other = asking_passes_by rest item xs s now h.rest h.here other here_means h.stands h.same
+  pub asking_passes : (item.section ≡ 0 → ⊥) → Asking rule rest xs s now
+  asking_passes other = asking_passes_by rule rest item xs s now h.rest h.first other here_means h.all h.stands
 
   -- a question is pushed
-  pub asking_takes : (y : QuestionItem) (new : Built) → item.section ≡ 0 → IsQuestionOf item y → MovesState InQuestion InQuestion Tree (with_question y) now new → Asking rest xs s new
-  asking_takes y new first is_question moves = asking_takes_by rest item xs s now h.rest h.here y new first is_question here_means (moves h.here h.stands) h.same
+  pub asking_takes : (y : QuestionItem) (new : Built) → item.section ≡ 0 → IsQuestionOf item y → MovesState InQuestion InQuestion rule (with_question y) now new → Asking rule rest xs s new
+  asking_takes y new here is_question moves = asking_takes_by rule rest item xs s now h.rest h.first y new here is_question here_means h.all (moves (with_questions h.first s) h.stands)
 
   -- no text is refused
-  pub asking_named : (n : ℕ) → SpellsNoName item.name.now → IsStopped (length (with_questions (questions_among xs) s).questions) n
-  asking_named n none = absurd (asking_named_by rest item xs s now h.rest here_means none)
+  pub asking_named : SpellsNoName item.name.now → ⊥
+  asking_named none = asking_named_by rule rest item xs s now h.rest here_means none
 
   -- a push is refused
-  pub asking_refused : (y : QuestionItem) (e : PushError) → item.section ≡ 0 → (e ≡ pushing.ShortBuf → InEach InQuestion Tree now (λ t. Passes None (size_after Tree (with_question y) t)))
-      → (e ≡ pushing.CountOverflow → InEach InQuestion Tree now (λ t. Fits None (size_after Tree (with_question y) t) × (size_after Tree (with_question y) t ≤ t.limit) × (length t.questions ≡ most_entries)))
-      → IsStopped (length (with_questions (questions_among xs) s).questions) (number_of (push_fault e))
-  asking_refused y pushing.ShortBuf first short full = absurd (short refl h.here h.stands)
-  asking_refused y pushing.OutOfMemory first short full = inr refl
-  asking_refused y pushing.LimitExceeded first short full = inr refl
-  asking_refused y pushing.CountOverflow first short full = inl (asking_full_by rest item xs s now h.rest h.here first here_means (full refl h.here h.stands).2 h.same, refl)
+  pub asking_refused : (room : Option ℕ) (grows : Bool) (y : QuestionItem) (e : PushError) → item.section ≡ 0 → IsQuestionOf item y → InEach InQuestion rule now (λ t. AnswersQuestion room grows rule y t (Err e))
+      → RefusesQuestion room grows rule (questions_among xs) s (number_of (push_fault e))
+  asking_refused room grows y e here is_question refused = asking_refused_by rule rest item xs s now room grows h.rest h.first y e here is_question here_means h.all (refused (with_questions h.first s) h.stands)
 
-asking_ends_by : (rest xs : List NewEntry) (here s : State) (now : Built) → AllMean [] rest → StandsFor InQuestion Tree here now
-    → with_questions (questions_among rest) here ≡ with_questions (questions_among xs) s → StandsFor InQuestion Tree (with_questions (questions_among xs) s) now
-asking_ends_by [] xs here s now mean stands same =
-    let none : here ≡ with_questions [] here = ap (λ (qs : List QuestionItem). record here { questions = qs }) (sym (append-nil here.questions)) in
-    subst (λ (t : State). StandsFor InQuestion Tree t now) (none ∙ same) stands
-asking_ends_by (x ∷ rest) xs here s now mean stands same = absurd mean
+asking_ends_by : (rule : Rule) (rest xs : List NewEntry) (first : List QuestionItem) (s : State) (now : Built) → AllMean [] rest → questions_among xs ≡ first ++ questions_among rest
+    → StandsFor InQuestion rule (with_questions first s) now → StandsFor InQuestion rule (with_questions (questions_among xs) s) now
+asking_ends_by rule [] xs first s now mean all stands =
+    let whole : first ≡ questions_among xs = sym (append-nil first) ∙ sym all in
+    subst (λ (qs : List QuestionItem). StandsFor InQuestion rule (with_questions qs s) now) whole stands
+asking_ends_by rule (x ∷ rest) xs first s now mean all stands = absurd mean
 
 -- all are pushed
-pub asking_ends : (left : List NewItem) (xs : List NewEntry) (s : State) (now : Built) → left ≡ [] → Asking left xs s now → StandsFor InQuestion Tree (with_questions (questions_among xs) s) now
-asking_ends left xs s now is h = asking_ends_by h.rest xs h.here s now (subst (λ (items : List NewItem). AllMean items h.rest) is h.mean) h.stands h.same
+pub asking_ends : (rule : Rule) (left : List NewItem) (xs : List NewEntry) (s : State) (now : Built) → left ≡ [] → Asking rule left xs s now → StandsFor InQuestion rule (with_questions (questions_among xs) s) now
+asking_ends rule left xs s now is h = asking_ends_by rule h.rest xs h.first s now (subst (λ (items : List NewItem). AllMean items h.rest) is h.mean) h.all h.stands
 
 -- Records are pushed onto the list of a stage.
 
-records_more : (stage : Stage) (x : RecordItem) (xs : List RecordItem) (s : State) → with_records stage xs (with_record stage x s) ≡ with_records stage (x ∷ xs) s
-records_more InBuilder x xs s = refl
-records_more InQuestion x xs s = refl
-records_more InAnswer x xs s = ap (λ (rs : List RecordItem). record s { answers = rs }) (append_assoc s.answers (x ∷ []) xs)
-records_more InAuthority x xs s = ap (λ (rs : List RecordItem). record s { authorities = rs }) (append_assoc s.authorities (x ∷ []) xs)
-records_more InAdditional x xs s = ap (λ (rs : List RecordItem). record s { additionals = rs }) (append_assoc s.additionals (x ∷ []) xs)
+record_more : (stage : Stage) (x : RecordItem) (first : List RecordItem) (s : State) → with_record stage x (with_records stage first s) ≡ with_records stage (first ++ x ∷ []) s
+record_more InBuilder x first s = refl
+record_more InQuestion x first s = refl
+record_more InAnswer x first s = ap (λ (rs : List RecordItem). record s { answers = rs }) (append_assoc s.answers first (x ∷ []))
+record_more InAuthority x first s = ap (λ (rs : List RecordItem). record s { authorities = rs }) (append_assoc s.authorities first (x ∷ []))
+record_more InAdditional x first s = ap (λ (rs : List RecordItem). record s { additionals = rs }) (append_assoc s.additionals first (x ∷ []))
 
 records_none : (stage : Stage) (s : State) → with_records stage [] s ≡ s
 records_none InBuilder s = refl
@@ -173,13 +188,6 @@ records_none InQuestion s = refl
 records_none InAnswer s = ap (λ (rs : List RecordItem). record s { answers = rs }) (append-nil s.answers)
 records_none InAuthority s = ap (λ (rs : List RecordItem). record s { authorities = rs }) (append-nil s.authorities)
 records_none InAdditional s = ap (λ (rs : List RecordItem). record s { additionals = rs }) (append-nil s.additionals)
-
-records_full : (stage : Stage) (x : RecordItem) (xs : List RecordItem) (s : State) → length (records_at stage s) ≡ most_entries → most_entries < length (records_at stage (with_records stage (x ∷ xs) s))
-records_full InBuilder x xs s full = absurd (omega (arith, full))
-records_full InQuestion x xs s full = absurd (omega (arith, full))
-records_full InAnswer x xs s full = omega (arith, full, length-append s.answers (x ∷ xs))
-records_full InAuthority x xs s full = omega (arith, full, length-append s.authorities (x ∷ xs))
-records_full InAdditional x xs s full = omega (arith, full, length-append s.additionals (x ∷ xs))
 
 -- the section of a number, and the depth of its stage
 depth_here : (n : ℕ) (which : Section) → 1 ≤ n → n ≤ 3 → section_at n ≡ which → n + 1 ≡ depth_of (stage_of which)
@@ -223,57 +231,72 @@ other_question Answer x es = refl
 other_question Authority x es = refl
 other_question Additional x es = refl
 
--- Of the items that are left these entries are left, and a state that the builder stands for.
-pub record Stating (stage : Stage) (which : Section) (left : List NewItem) (xs : List NewEntry) (s : State) (now : Built) : Type 0 where
+-- The first of the records among entries stand, and of the items that are left these entries are left.
+pub record Stating (rule : Rule) (stage : Stage) (which : Section) (left : List NewItem) (xs : List NewEntry) (s : State) (now : Built) : Type 0 where
+  pub first : List RecordItem
   pub rest : List NewEntry
-  pub here : State
   pub mean : AllMean left rest
-  pub stands : StandsFor stage Tree here now
-  pub same : with_records stage (records_among which rest) here ≡ with_records stage (records_among which xs) s
+  pub all : records_among which xs ≡ first ++ records_among which rest
+  pub stands : StandsFor stage rule (with_records stage first s) now
 
-pub stating_begins : (stage : Stage) (which : Section) (items left : List NewItem) (xs : List NewEntry) (s : State) (now : Built) → left ≡ items → AllMean items xs → StandsFor stage Tree s now
-    → Stating stage which left xs s now
-stating_begins stage which items left xs s now is mean stands =
-    record { rest = xs; here = s; mean = subst (λ (is : List NewItem). AllMean is xs) (sym is) mean; stands = stands; same = refl }
+pub stating_begins : (rule : Rule) (stage : Stage) (which : Section) (items left : List NewItem) (xs : List NewEntry) (s : State) (now : Built) → left ≡ items → AllMean items xs → StandsFor stage rule s now
+    → Stating rule stage which left xs s now
+stating_begins rule stage which items left xs s now is mean stands = record {
+  first = [];
+  rest = xs;
+  mean = subst (λ (is : List NewItem). AllMean is xs) (sym is) mean;
+  all = refl;
+  stands = subst (λ (t : State). StandsFor stage rule t now) (sym (records_none stage s)) stands;
+}
 
-module _ (stage : Stage) (which : Section) (rest : List NewItem) (item : NewItem) (xs : List NewEntry) (s : State) (now : Built) where
+module _ (rule : Rule) (stage : Stage) (which : Section) (rest : List NewItem) (item : NewItem) (xs : List NewEntry) (s : State) (now : Built) where
   -- what is left is the same by other lists
-  alike : (us vs : List RecordItem) (here : State) → us ≡ vs → with_records stage vs here ≡ with_records stage (records_among which xs) s → with_records stage us here ≡ with_records stage (records_among which xs) s
-  alike us vs here is same = ap (λ (rs : List RecordItem). with_records stage rs here) is ∙ same
+  alike : (us vs first : List RecordItem) → us ≡ vs → records_among which xs ≡ first ++ us → records_among which xs ≡ first ++ vs
+  alike us vs first is all = all ∙ ap (λ (rs : List RecordItem). first ++ rs) is
 
-  stating_passes_by : (es : List NewEntry) (here : State) → (item.section + 1 ≡ depth_of (stage_of which) → ⊥) → AllMean (item ∷ rest) es → StandsFor stage Tree here now
-      → with_records stage (records_among which es) here ≡ with_records stage (records_among which xs) s → Stating stage which rest xs s now
-  stating_passes_by [] here other mean stands same = absurd mean
-  stating_passes_by (Question x ∷ es) here other mean stands same = record { rest = es; here = here; mean = mean.1; stands = stands; same = alike _ _ here (sym (other_question which x es)) same }
-  stating_passes_by (Record w x ∷ es) here other mean stands same =
+  stating_passes_by : (es : List NewEntry) (first : List RecordItem) → (item.section + 1 ≡ depth_of (stage_of which) → ⊥) → AllMean (item ∷ rest) es → records_among which xs ≡ first ++ records_among which es
+      → StandsFor stage rule (with_records stage first s) now → Stating rule stage which rest xs s now
+  stating_passes_by [] first other mean all stands = absurd mean
+  stating_passes_by (Question x ∷ es) first other mean all stands =
+      record { first = first; rest = es; mean = mean.1; all = alike _ _ first (other_question which x es) all; stands = stands }
+  stating_passes_by (Record w x ∷ es) first other mean all stands =
       let is_other : w ≡ which → ⊥ = λ is. other (depth_here item.section which mean.0.0 mean.0.1 (mean.0.2 ∙ is)) in
-      record { rest = es; here = here; mean = mean.1; stands = stands; same = alike _ _ here (sym (other_record which w x es is_other)) same }
+      record { first = first; rest = es; mean = mean.1; all = alike _ _ first (other_record which w x es is_other) all; stands = stands }
 
-  stating_takes_by : (es : List NewEntry) (here : State) (y : RecordItem) (new : Built) → item.section + 1 ≡ depth_of (stage_of which) → IsRecordOf item y → AllMean (item ∷ rest) es
-      → StandsFor stage Tree (with_record stage y here) new → with_records stage (records_among which es) here ≡ with_records stage (records_among which xs) s → Stating stage which rest xs s new
-  stating_takes_by [] here y new at is mean stands same = absurd mean
-  stating_takes_by (Question x ∷ es) here y new at is mean stands same = absurd (not_first item.section which mean.0.0 at)
-  stating_takes_by (Record w x ∷ es) here y new at is mean stands same =
-      let kept = kept_record which w x es (sym mean.0.2 ∙ section_here item.section which at) in
-      record {
-        rest = es;
-        here = with_record stage y here;
-        mean = mean.1;
-        stands = stands;
-        same =
-            records_more stage y (records_among which es) here ∙ ap (λ (z : RecordItem). with_records stage (z ∷ records_among which es) here) (same_record item y x is mean.0.3)
-            ∙ alike _ _ here (sym kept) same;
-      }
+  -- the record that an item is stands before the other records
+  next_record : (w : Section) (x y : RecordItem) (es : List NewEntry) (first : List RecordItem) → item.section + 1 ≡ depth_of (stage_of which) → section_at item.section ≡ w → IsRecordOf item x → IsRecordOf item y
+      → records_among which xs ≡ first ++ records_among which (Record w x ∷ es) → records_among which xs ≡ first ++ y ∷ records_among which es
+  next_record w x y es first at own means is all =
+      let kept = kept_record which w x es (sym own ∙ section_here item.section which at) in
+      alike _ _ first (kept ∙ ap (λ (z : RecordItem). z ∷ records_among which es) (same_record item x y means is)) all
 
-  stating_full_by : (es : List NewEntry) (here : State) → item.section + 1 ≡ depth_of (stage_of which) → AllMean (item ∷ rest) es → length (records_at stage here) ≡ most_entries
-      → with_records stage (records_among which es) here ≡ with_records stage (records_among which xs) s → most_entries < length (records_at stage (with_records stage (records_among which xs) s))
-  stating_full_by [] here at mean full same = absurd mean
-  stating_full_by (Question x ∷ es) here at mean full same = absurd (not_first item.section which mean.0.0 at)
-  stating_full_by (Record w x ∷ es) here at mean full same =
-      let kept = kept_record which w x es (sym mean.0.2 ∙ section_here item.section which at) in
-      let more = records_full stage x (records_among which es) here full in
-      let whole = ap (λ (t : State). length (records_at stage t)) (alike _ _ here (sym kept) same) in
-      omega (arith, more, whole)
+  stating_takes_by : (es : List NewEntry) (first : List RecordItem) (y : RecordItem) (new : Built) → item.section + 1 ≡ depth_of (stage_of which) → IsRecordOf item y → AllMean (item ∷ rest) es
+      → records_among which xs ≡ first ++ records_among which es → StandsFor stage rule (with_record stage y (with_records stage first s)) new → Stating rule stage which rest xs s new
+  stating_takes_by [] first y new at is mean all stands = absurd mean
+  stating_takes_by (Question x ∷ es) first y new at is mean all stands = absurd (not_first item.section which mean.0.0 at)
+  stating_takes_by (Record w x ∷ es) first y new at is mean all stands = record {
+    first = first ++ y ∷ [];
+    rest = es;
+    mean = mean.1;
+    all = next_record w x y es first at mean.0.2 mean.0.3 is all ∙ sym (append_assoc first (y ∷ []) (records_among which es));
+    stands = subst (λ (t : State). StandsFor stage rule t new) (record_more stage y first s) stands;
+  }
+
+  -- a record is refused
+  stating_refused_by : (room : Option ℕ) (grows : Bool) (es : List NewEntry) (first : List RecordItem) (y : RecordItem) (e : PushError) → item.section + 1 ≡ depth_of (stage_of which) → IsRecordOf item y
+      → AllMean (item ∷ rest) es → records_among which xs ≡ first ++ records_among which es → AnswersRecord room grows rule stage y (with_records stage first s) (Err e)
+      → RefusesRecord room grows rule stage (records_among which xs) s (number_of (push_fault e))
+  stating_refused_by room grows [] first y e at is mean all refused = absurd mean
+  stating_refused_by room grows (Question x ∷ es) first y e at is mean all refused = absurd (not_first item.section which mean.0.0 at)
+  stating_refused_by room grows (Record w x ∷ es) first y e at is mean all refused = record {
+    first = first;
+    next = y;
+    others = records_among which es;
+    all = next_record w x y es first at mean.0.2 mean.0.3 is all;
+    error = e;
+    refused = refused;
+    number = refl;
+  }
 
   -- its item is an entry that has a name, and short data if it is a record
   stating_named_by : (es : List NewEntry) (n : ℕ) → item.section + 1 ≡ depth_of (stage_of which) → AllMean (item ∷ rest) es → LacksFields item n → ⊥
@@ -282,81 +305,145 @@ module _ (stage : Stage) (which : Section) (rest : List NewItem) (item : NewItem
   stating_named_by (Record w x ∷ es) n at mean (inl none) = none.0 x.owner mean.0.3.owner
   stating_named_by (Record w x ∷ es) n at mean (inr long) = let short = mean.0.3.short in let over = long.1 in omega arith
 
-module _ (stage : Stage) (which : Section) (left rest : List NewItem) (item : NewItem) (is : left ≡ item ∷ rest) (xs : List NewEntry) (s : State) (now : Built) (h : Stating stage which left xs s now) where
+module _ (rule : Rule) (stage : Stage) (which : Section) (left rest : List NewItem) (item : NewItem) (is : left ≡ item ∷ rest) (xs : List NewEntry) (s : State) (now : Built) (h : Stating rule stage which left xs s now) where
   these_mean : AllMean (item ∷ rest) h.rest
   these_mean = subst (λ (items : List NewItem). AllMean items h.rest) is h.mean
 
   -- an item of another section is passed
-  pub stating_passes : (item.section + 1 ≡ depth_of (stage_of which) → ⊥) → Stating stage which rest xs s now
-  stating_passes other = stating_passes_by stage which rest item xs s now h.rest h.here other these_mean h.stands h.same
+  pub stating_passes : (item.section + 1 ≡ depth_of (stage_of which) → ⊥) → Stating rule stage which rest xs s now
+  stating_passes other = stating_passes_by rule stage which rest item xs s now h.rest h.first other these_mean h.all h.stands
 
   -- a record is pushed
-  pub stating_takes : (y : RecordItem) (new : Built) → item.section + 1 ≡ depth_of (stage_of which) → IsRecordOf item y → MovesState stage stage Tree (with_record stage y) now new → Stating stage which rest xs s new
-  stating_takes y new at is_record moves = stating_takes_by stage which rest item xs s now h.rest h.here y new at is_record these_mean (moves h.here h.stands) h.same
+  pub stating_takes : (y : RecordItem) (new : Built) → item.section + 1 ≡ depth_of (stage_of which) → IsRecordOf item y → MovesState stage stage rule (with_record stage y) now new → Stating rule stage which rest xs s new
+  stating_takes y new at is_record moves = stating_takes_by rule stage which rest item xs s now h.rest h.first y new at is_record these_mean h.all (moves (with_records stage h.first s) h.stands)
 
   -- no item is refused
-  pub stating_named : (n : ℕ) → item.section + 1 ≡ depth_of (stage_of which) → LacksFields item n → IsStopped (length (records_at stage (with_records stage (records_among which xs) s))) n
-  stating_named n at lacks = absurd (stating_named_by stage which rest item xs s now h.rest n at these_mean lacks)
+  pub stating_named : (n : ℕ) → item.section + 1 ≡ depth_of (stage_of which) → LacksFields item n → ⊥
+  stating_named n at lacks = stating_named_by rule stage which rest item xs s now h.rest n at these_mean lacks
 
   -- a push is refused
-  pub stating_refused : (y : RecordItem) (e : PushError) → item.section + 1 ≡ depth_of (stage_of which) → (e ≡ pushing.ShortBuf → InEach stage Tree now (λ t. Passes None (size_after Tree (with_record stage y) t)))
-      → (e ≡ pushing.CountOverflow → InEach stage Tree now (λ t. Fits None (size_after Tree (with_record stage y) t) × (size_after Tree (with_record stage y) t ≤ t.limit) × (length (records_at stage t) ≡ most_entries)))
-      → IsStopped (length (records_at stage (with_records stage (records_among which xs) s))) (number_of (push_fault e))
-  stating_refused y pushing.ShortBuf at short full = absurd (short refl h.here h.stands)
-  stating_refused y pushing.OutOfMemory at short full = inr refl
-  stating_refused y pushing.LimitExceeded at short full = inr refl
-  stating_refused y pushing.CountOverflow at short full = inl (stating_full_by stage which rest item xs s now h.rest h.here at these_mean (full refl h.here h.stands).2 h.same, refl)
+  pub stating_refused : (room : Option ℕ) (grows : Bool) (y : RecordItem) (e : PushError) → item.section + 1 ≡ depth_of (stage_of which) → IsRecordOf item y
+      → InEach stage rule now (λ t. AnswersRecord room grows rule stage y t (Err e)) → RefusesRecord room grows rule stage (records_among which xs) s (number_of (push_fault e))
+  stating_refused room grows y e at is_record refused =
+      stating_refused_by rule stage which rest item xs s now room grows h.rest h.first y e at is_record these_mean h.all (refused (with_records stage h.first s) h.stands)
 
-stating_ends_by : (stage : Stage) (which : Section) (rest xs : List NewEntry) (here s : State) (now : Built) → AllMean [] rest → StandsFor stage Tree here now
-    → with_records stage (records_among which rest) here ≡ with_records stage (records_among which xs) s → StandsFor stage Tree (with_records stage (records_among which xs) s) now
-stating_ends_by stage which [] xs here s now mean stands same = subst (λ (t : State). StandsFor stage Tree t now) (sym (records_none stage here) ∙ same) stands
-stating_ends_by stage which (x ∷ rest) xs here s now mean stands same = absurd mean
+stating_ends_by : (rule : Rule) (stage : Stage) (which : Section) (rest xs : List NewEntry) (first : List RecordItem) (s : State) (now : Built) → AllMean [] rest
+    → records_among which xs ≡ first ++ records_among which rest → StandsFor stage rule (with_records stage first s) now → StandsFor stage rule (with_records stage (records_among which xs) s) now
+stating_ends_by rule stage which [] xs first s now mean all stands =
+    let whole : first ≡ records_among which xs = sym (append-nil first) ∙ sym all in
+    subst (λ (rs : List RecordItem). StandsFor stage rule (with_records stage rs s) now) whole stands
+stating_ends_by rule stage which (x ∷ rest) xs first s now mean all stands = absurd mean
 
 -- all are pushed
-pub stating_ends : (stage : Stage) (which : Section) (left : List NewItem) (xs : List NewEntry) (s : State) (now : Built) → left ≡ [] → Stating stage which left xs s now
-    → StandsFor stage Tree (with_records stage (records_among which xs) s) now
-stating_ends stage which left xs s now is h = stating_ends_by stage which h.rest xs h.here s now (subst (λ (items : List NewItem). AllMean items h.rest) is h.mean) h.stands h.same
+pub stating_ends : (rule : Rule) (stage : Stage) (which : Section) (left : List NewItem) (xs : List NewEntry) (s : State) (now : Built) → left ≡ [] → Stating rule stage which left xs s now
+    → StandsFor stage rule (with_records stage (records_among which xs) s) now
+stating_ends rule stage which left xs s now is h = stating_ends_by rule stage which h.rest xs h.first s now (subst (λ (items : List NewItem). AllMean items h.rest) is h.mean) h.all h.stands
+
+-- The first item that is no entry is told by one of three numbers.
+
+module _ (n : ℕ) (section : n ≡ number_of BadSection → ⊥) (text : n ≡ number_of BadText → ⊥) (long : n ≡ number_of LongData → ⊥) where
+  lacks_otherwise : (item : NewItem) → LacksFields item n → ⊥
+  lacks_otherwise item (inl h) = text h.1
+  lacks_otherwise item (inr h) = long h.2
+
+  refused_otherwise : (item : NewItem) → IsRefused item n → ⊥
+  refused_otherwise item (inl h) = section h.1
+  refused_otherwise item (inr (inl h)) = text h.2
+  refused_otherwise item (inr (inr h)) = lacks_otherwise item h.2
+
+  first_otherwise : (items : List NewItem) → FirstRefused items n → ⊥
+  first_otherwise [] h = h
+  first_otherwise (item ∷ items) (inl h) = refused_otherwise item h
+  first_otherwise (item ∷ items) (inr h) = first_otherwise items h.1
 
 -- Want of room is no reason why nothing is made.
 
-lacks_otherwise : (item : NewItem) (n : ℕ) → n ≡ number_of NoRoom → LacksFields item n → ⊥
-lacks_otherwise item n room (inl h) = let e = h.1 in omega arith
-lacks_otherwise item n room (inr h) = let e = h.2 in omega arith
+-- a target without a bound refuses for want of memory, or a full count
+answers_otherwise : (grows : Bool) (limit n count : ℕ) (e : PushError) → number_of (push_fault e) ≡ number_of NoRoom → PushAnswers None grows limit n count (Err e) → ⊥
+answers_otherwise grows limit n count pushing.ShortBuf room refused = refused
+answers_otherwise grows limit n count pushing.OutOfMemory room refused = omega arith
+answers_otherwise grows limit n count pushing.LimitExceeded room refused = omega arith
+answers_otherwise grows limit n count pushing.CountOverflow room refused = omega arith
 
-refused_otherwise : (item : NewItem) (n : ℕ) → n ≡ number_of NoRoom → IsRefused item n → ⊥
-refused_otherwise item n room (inl h) = let e = h.1 in omega arith
-refused_otherwise item n room (inr (inl h)) = let e = h.2 in omega arith
-refused_otherwise item n room (inr (inr h)) = lacks_otherwise item n room h.2
+header_otherwise : (grows : Bool) (e : AppendError) → number_of (append_fault e) ≡ number_of NoRoom → Answers {X = Unit {0}} None grows header_size (Err e) → ⊥
+header_otherwise grows appending.ShortBuf room refused = refused
+header_otherwise grows appending.OutOfMemory room refused = omega arith
 
-first_otherwise : (items : List NewItem) (n : ℕ) → n ≡ number_of NoRoom → FirstRefused items n → ⊥
-first_otherwise [] n room h = h
-first_otherwise (item ∷ items) n room (inl h) = refused_otherwise item n room h
-first_otherwise (item ∷ items) n room (inr h) = first_otherwise items n room h.1
+entry_otherwise : (grows : Bool) (rule : Rule) (header : Header) (xs : List NewEntry) (n : ℕ) → n ≡ number_of NoRoom → RefusesEntry None grows rule header xs n → ⊥
+entry_otherwise grows rule header xs n room (inl h) = answers_otherwise grows _ _ _ h.error (sym h.number ∙ room) h.refused
+entry_otherwise grows rule header xs n room (inr h) = answers_otherwise grows _ _ _ h.1.error (sym h.1.number ∙ room) h.1.refused
 
-stopped_otherwise : (count n : ℕ) → n ≡ number_of NoRoom → IsStopped count n → ⊥
-stopped_otherwise count n room (inl h) = let e = h.1 in omega arith
-stopped_otherwise count n room (inr h) = omega arith
+made_otherwise : (grows : Bool) (rule : Rule) (header : Header) (xs : List NewEntry) (n : ℕ) → n ≡ number_of NoRoom → RefusesHeader None grows rule n ⊎ RefusesEntry None grows rule header xs n → ⊥
+made_otherwise grows rule header xs n room (inl h) = header_otherwise grows h.error (sym h.number ∙ room) h.refused
+made_otherwise grows rule header xs n room (inr h) = entry_otherwise grows rule header xs n room h
 
-pub unbuilt_otherwise : (items : List NewItem) (n : ℕ) → n ≡ number_of NoRoom → IsUnbuilt items n → ⊥
-unbuilt_otherwise items n room (inl h) = first_otherwise items n room h
-unbuilt_otherwise items n room (inr h) = stopped_otherwise h.2.0 n room h.2.2
+pub unbuilt_otherwise : (grows : Bool) (rule : Rule) (header : Header) (items : List NewItem) (n : ℕ) → n ≡ number_of NoRoom → IsUnbuilt None grows rule header items n → ⊥
+unbuilt_otherwise grows rule header items n room (inl h) = first_otherwise n (λ is. omega arith) (λ is. omega arith) (λ is. omega arith) items h
+unbuilt_otherwise grows rule header items n room (inr h) = made_otherwise grows rule header h.0 n room h.2
 
--- All items are entries, and what is pushed of them is stopped.
+-- A full count is told only where a section has more entries than it can tell.
 
--- a builder is refused for want of memory alone
-pub unbuilt_fresh : (items : List NewItem) (xs : List NewEntry) (e : AppendError) → AllMean items xs → (e ≡ appending.ShortBuf → ⊥) → IsUnbuilt items (number_of (append_fault e))
-unbuilt_fresh items xs appending.ShortBuf mean never = absurd (never refl)
-unbuilt_fresh items xs appending.OutOfMemory mean never = inr (xs, mean, (length (questions_among xs), inl refl, inr refl))
+header_others : (e : AppendError) → number_of (append_fault e) ≡ number_of TooMany → ⊥
+header_others appending.ShortBuf many = omega arith
+header_others appending.OutOfMemory many = omega arith
 
--- a target without a bound has room
-pub always_room : {X : Type 0} (r : Result X AppendError) (e : AppendError) → r ≡ Err e → Answers None true header_size r → e ≡ appending.ShortBuf → ⊥
-always_room {X = X} r e is answer short = let never = subst (λ (q : Result X AppendError). Answers None true header_size q) (is ∙ ap Err short) answer in never
+module _ (room : Option ℕ) (grows : Bool) (rule : Rule) where
+  answers_full : (limit n count : ℕ) (e : PushError) → number_of (push_fault e) ≡ number_of TooMany → PushAnswers room grows limit n count (Err e) → count ≡ most_entries
+  answers_full limit n count pushing.ShortBuf many refused = absurd (omega arith)
+  answers_full limit n count pushing.OutOfMemory many refused = absurd (omega arith)
+  answers_full limit n count pushing.LimitExceeded many refused = absurd (omega arith)
+  answers_full limit n count pushing.CountOverflow many refused = refused.2
 
-pub unbuilt_questions : (items : List NewItem) (xs : List NewEntry) (n : ℕ) → AllMean items xs → IsStopped (length (questions_among xs)) n → IsUnbuilt items n
-unbuilt_questions items xs n mean stopped = inr (xs, mean, (length (questions_among xs), inl refl, stopped))
+  -- behind a full list there is one more
+  more_than : {X : Type 0} (xs first others : List X) (next : X) → xs ≡ first ++ next ∷ others → length first ≡ most_entries → most_entries < length xs
+  more_than xs first others next all full =
+      let both = length-append first (next ∷ others) in
+      let whole = ap length all in
+      omega arith
 
-pub unbuilt_records : (items : List NewItem) (xs : List NewEntry) (which : Section) (n : ℕ) → AllMean items xs → IsStopped (length (records_among which xs)) n → IsUnbuilt items n
-unbuilt_records items xs which n mean stopped = inr (xs, mean, (length (records_among which xs), inr (which, refl), stopped))
+  questions_full : (header : Header) (xs : List NewEntry) (n : ℕ) → n ≡ number_of TooMany → RefusesQuestion room grows rule (questions_among xs) (beginning_of InQuestion header xs) n → most_entries < length (questions_among xs)
+  questions_full header xs n many h = more_than _ h.first h.others h.next h.all (answers_full _ _ (length h.first) h.error (sym h.number ∙ many) h.refused)
+
+  records_full : (which : Section) (header : Header) (xs : List NewEntry) (n : ℕ) → n ≡ number_of TooMany
+      → RefusesRecord room grows rule (stage_of which) (records_among which xs) (beginning_of (stage_of which) header xs) n → most_entries < length (records_among which xs)
+  records_full Answer header xs n many h = more_than _ h.first h.others h.next h.all (answers_full _ _ (length h.first) h.error (sym h.number ∙ many) h.refused)
+  records_full Authority header xs n many h = more_than _ h.first h.others h.next h.all (answers_full _ _ (length h.first) h.error (sym h.number ∙ many) h.refused)
+  records_full Additional header xs n many h = more_than _ h.first h.others h.next h.all (answers_full _ _ (length h.first) h.error (sym h.number ∙ many) h.refused)
+
+  entry_full : (header : Header) (xs : List NewEntry) (n : ℕ) → n ≡ number_of TooMany → RefusesEntry room grows rule header xs n
+      → (most_entries < length (questions_among xs)) ⊎ ((which : Section) × (most_entries < length (records_among which xs)))
+  entry_full header xs n many (inl h) = inl (questions_full header xs n many h)
+  entry_full header xs n many (inr h) = inr (h.0, records_full h.0 header xs n many h.1)
+
+  made_full : (header : Header) (xs : List NewEntry) (n : ℕ) → n ≡ number_of TooMany → RefusesHeader room grows rule n ⊎ RefusesEntry room grows rule header xs n
+      → (most_entries < length (questions_among xs)) ⊎ ((which : Section) × (most_entries < length (records_among which xs)))
+  made_full header xs n many (inl h) = absurd (header_others h.error (sym h.number ∙ many))
+  made_full header xs n many (inr h) = entry_full header xs n many h
+
+  pub unbuilt_full : (header : Header) (items : List NewItem) (n : ℕ) → n ≡ number_of TooMany → IsUnbuilt room grows rule header items n → HasTooMany items
+  unbuilt_full header items n many (inl h) = absurd (first_otherwise n (λ is. omega arith) (λ is. omega arith) (λ is. omega arith) items h)
+  unbuilt_full header items n many (inr h) = (h.0, h.1, made_full header h.0 n many h.2)
+
+-- All items are entries, and what is written of them is refused.
+
+module _ (room : Option ℕ) (grows : Bool) (rule : Rule) (header : Header) (items : List NewItem) (xs : List NewEntry) (mean : AllMean items xs) where
+  -- the header section
+  header_refused : {X : Type 0} (r : Result X AppendError) (e : AppendError) → r ≡ Err e → Answers room grows header_size r → Answers {X = Unit {0}} room grows header_size (Err e)
+  header_refused {X} r appending.ShortBuf is answer = subst (λ (q : Result X AppendError). Answers room grows header_size q) is answer
+  header_refused {X} r appending.OutOfMemory is answer = subst (λ (q : Result X AppendError). Answers room grows header_size q) is answer
+
+  pub unbuilt_header : {X : Type 0} (r : Result X AppendError) (e : AppendError) → r ≡ Err e → Answers room grows header_size r → IsUnbuilt room grows rule header items (number_of (append_fault e))
+  unbuilt_header r e is answer = inr (xs, mean, inl (record { error = e; refused = header_refused r e is answer; number = refl }))
+
+  -- a question
+  pub unbuilt_question : (own : Header) (n : ℕ) → own ≡ header → RefusesQuestion room grows rule (questions_among xs) (beginning_of InQuestion own xs) n → IsUnbuilt room grows rule header items n
+  unbuilt_question own n is refuses = inr (xs, mean, inr (inl (subst (λ (h : Header). RefusesQuestion room grows rule (questions_among xs) (beginning_of InQuestion h xs) n) is refuses)))
+
+  -- a record
+  pub unbuilt_record : (which : Section) (own : Header) (n : ℕ) → own ≡ header → RefusesRecord room grows rule (stage_of which) (records_among which xs) (beginning_of (stage_of which) own xs) n
+      → IsUnbuilt room grows rule header items n
+  unbuilt_record which own n is refuses =
+      inr (xs, mean, inr (inr (which, subst (λ (h : Header). RefusesRecord room grows rule (stage_of which) (records_among which xs) (beginning_of (stage_of which) h xs) n) is refuses)))
 
 -- a section's number and one are the depth of the stage at it
 pub at_depth : (stage : Stage) (which : Section) (depth m n : ℕ) → stage ≡ stage_of which → depth ≡ depth_of stage → m + 1 ≡ depth → m ≡ n → n + 1 ≡ depth_of (stage_of which)

@@ -1,20 +1,25 @@
 -- What `dns_build` makes of the items that C hands in, and why it makes nothing. RFC 1035 section 4.1.
-use Rattle.std.specs.Prelude.{◌≡◌, ◌<◌, ◌≤◌, ◌⊎◌, ◌++◌, ℕ, List, [], ◌∷◌, length, Option, Some, None}
+use Rattle.std.specs.Prelude.{◌≡◌, ◌<◌, ◌≤◌, ◌⊎◌, ◌++◌, ℕ, Bool, List, [], ◌∷◌, length, Option, Some, None, Result, Err}
 use Rattle.std.specs.Int.{to_be_bytes, w16}
 use Rattle.std.specs.List.{filter_map}
+use Rattle.dns_octets.specs.declared.error.AppendError.{AppendError}
 use Rattle.dns_name.specs.Names.{Labels}
 use Rattle.dns_name.specs.NameTexts.{SpellsName}
 use Rattle.dns_wire.specs.Parts.{Octets}
-use Rattle.dns_wire.specs.Pieces.{Tree}
+use Rattle.dns_wire.specs.Pieces.{Rule}
+use Rattle.dns_wire.specs.Targets.{Answers}
+use Rattle.dns_code.specs.HeaderSection.{header_size}
 use Rattle.dns_code.specs.declared.header.Header.{Header}
 use Rattle.dns_question.specs.Questions.{QuestionItem}
 use Rattle.dns_item.specs.Items.{RecordItem}
 use Rattle.dns_section.specs.declared.section.Section.{Section}
 use Rattle.dns_section.specs.declared.section.Section.TheVariants.{Answer, Authority, Additional}
-use Rattle.dns_build.specs.State.{State, InAdditional, most_entries}
-use Rattle.dns_build.specs.Standing.{fresh}
+use Rattle.dns_build.specs.State.{State, Stage, InQuestion, InAdditional, stage_of, move_to, rewound, with_questions, with_record, with_records, records_at, most_entries}
+use Rattle.dns_build.specs.Standing.{PushAnswers, fresh, size_after}
+use Rattle.dns_build.specs.Answers.{AnswersQuestion}
 use Rattle.dns_build.specs.MessageOf.{IsMessageOf}
-use Rattle.dns_c.specs.Codes.{number_of}
+use Rattle.dns_build.specs.declared.push_error.PushError.{PushError}
+use Rattle.dns_c.specs.Codes.{append_fault, number_of, push_fault}
 use Rattle.dns_c.specs.Made.{SpellsNoName}
 use Rattle.dns_c.specs.Walk.{section_at}
 use Rattle.dns_c.specs.declared.code.Fault.TheVariants as faults
@@ -89,11 +94,11 @@ holding header xs = record fresh {
   additionals = records_among Additional xs;
 }
 
--- the octets of a message with this header and with the entries that the items are
-pub record IsBuilt (id flags : ℕ) (items : List NewItem) (octets : List ℕ) : Type 0 where
+-- the octets of a message with this header and with the entries that the items are, names written by a rule
+pub record IsBuilt (rule : Rule) (id flags : ℕ) (items : List NewItem) (octets : List ℕ) : Type 0 where
   pub entries : List NewEntry
   pub mean : AllMean items entries
-  pub message : IsMessageOf Tree (holding (header_of id flags) entries) octets
+  pub message : IsMessageOf rule (holding (header_of id flags) entries) octets
 
 -- Why nothing is made.
 
@@ -115,14 +120,53 @@ abbrev pub FirstRefused : List NewItem → ℕ → Type 0
 FirstRefused [] n = ⊥
 FirstRefused (item ∷ items) n = IsRefused item n ⊎ (((x : NewEntry) × Means item x) × FirstRefused items n)
 
--- the numbers where so many entries would be in a section: they may be more than its count can tell, or memory is wanting
-abbrev pub IsStopped : ℕ → ℕ → Type 0
-IsStopped count n = ((most_entries < count) × (n ≡ number_of faults.TooMany)) ⊎ (n ≡ number_of faults.NoMemory)
+-- the state in which a stage begins: the header, and the entries of the sections before it
+abbrev pub beginning_of : Stage → Header → List NewEntry → State
+beginning_of stage header xs = rewound stage (move_to stage (holding header xs))
 
--- a section would have so many entries
-abbrev pub IsSize : List NewEntry → ℕ → Type 0
-IsSize xs n = (n ≡ length (questions_among xs)) ⊎ ((which : Section) × (n ≡ length (records_among which xs)))
+-- what a push of a record onto a state answers
+abbrev pub AnswersRecord : Option ℕ → Bool → Rule → Stage → RecordItem → State → Result (Unit {0}) PushError → Type 0
+AnswersRecord room grows rule stage x s = PushAnswers room grows s.limit (size_after rule (with_record stage x) s) (length (records_at stage s))
 
--- No message is made of items: one of them is no entry; or all are, and they are too many for their section, or memory is wanting.
-abbrev pub IsUnbuilt : List NewItem → ℕ → Type 0
-IsUnbuilt items n = FirstRefused items n ⊎ ((xs : List NewEntry) × AllMean items xs × ((count : ℕ) × IsSize xs count × IsStopped count n))
+-- Why a target refuses what is written, and the number that tells it. Room, growth and rule are the target's.
+module _ (room : Option ℕ) (grows : Bool) (rule : Rule) where
+  -- the octets of the header section are refused. RFC 1035 section 4.1.1
+  pub record RefusesHeader (n : ℕ) : Type 0 where
+    pub error : AppendError
+    pub refused : Answers {X = Unit {0}} room grows header_size (Err error)
+    pub number : n ≡ number_of (append_fault error)
+
+  -- of these questions the first stand in a state, and the push of the next one is refused. RFC 1035 section 4.1.2
+  pub record RefusesQuestion (xs : List QuestionItem) (s : State) (n : ℕ) : Type 0 where
+    pub first : List QuestionItem
+    pub next : QuestionItem
+    pub others : List QuestionItem
+    pub all : xs ≡ first ++ next ∷ others
+    pub error : PushError
+    pub refused : AnswersQuestion room grows rule next (with_questions first s) (Err error)
+    pub number : n ≡ number_of (push_fault error)
+
+  -- so of the records of a stage. RFC 1035 section 4.1.3
+  pub record RefusesRecord (stage : Stage) (xs : List RecordItem) (s : State) (n : ℕ) : Type 0 where
+    pub first : List RecordItem
+    pub next : RecordItem
+    pub others : List RecordItem
+    pub all : xs ≡ first ++ next ∷ others
+    pub error : PushError
+    pub refused : AnswersRecord room grows rule stage next (with_records stage first s) (Err error)
+    pub number : n ≡ number_of (push_fault error)
+
+  -- an entry is refused, behind a header and the entries before it. RFC 1035 section 4.1
+  abbrev pub RefusesEntry : Header → List NewEntry → ℕ → Type 0
+  RefusesEntry header xs n =
+      RefusesQuestion (questions_among xs) (beginning_of InQuestion header xs) n
+      ⊎ ((which : Section) × RefusesRecord (stage_of which) (records_among which xs) (beginning_of (stage_of which) header xs) n)
+
+  -- No message is made of items: one of them is no entry; or all are, and the target refuses the header section or an entry.
+  abbrev pub IsUnbuilt : Header → List NewItem → ℕ → Type 0
+  IsUnbuilt header items n = FirstRefused items n ⊎ ((xs : List NewEntry) × AllMean items xs × (RefusesHeader n ⊎ RefusesEntry header xs n))
+
+-- all items are entries, and a section has more of them than its count can tell. RFC 1035 section 4.1.1
+abbrev pub HasTooMany : List NewItem → Type 0
+HasTooMany items =
+    (xs : List NewEntry) × AllMean items xs × ((most_entries < length (questions_among xs)) ⊎ ((which : Section) × (most_entries < length (records_among which xs))))

@@ -1,14 +1,14 @@
 //! The message of items that a caller hands in.
-ghost use Rattle.std.specs.Prelude.{◌≡◌, ◌∷◌, List, [], length, IfOk, IfErr, OnOk};
+ghost use Rattle.std.specs.Prelude.{◌≡◌, ◌∷◌, List, [], None, true, IfOk, IfErr, OnOk};
 ghost use Rattle.dns_name.specs.NameReading.{name_labels};
 ghost use Rattle.dns_wire.specs.Parts.{Octets};
 ghost use Rattle.dns_wire.specs.Pieces.{Tree};
 ghost use Rattle.dns_data.specs.UnknownData.{unknown_rtype_of, unknown_octets};
-ghost use Rattle.dns_build.specs.State.{InQuestion, records_at, with_questions, with_records};
+ghost use Rattle.dns_build.specs.State.{InQuestion, with_questions, with_records};
 ghost use Rattle.dns_build.specs.Standing.{InEach, MovesState};
 ghost use Rattle.dns_c.specs.Codes.{number_of};
 ghost use Rattle.dns_c.specs.Made.{SpellsNoName};
-ghost use Rattle.dns_c.specs.Built.{NewEntry, Means, AllMean, IsQuestionOf, IsRecordOf, IsBuilt, LacksFields, IsRefused, FirstRefused, IsStopped, IsUnbuilt, questions_among, records_among, header_of};
+ghost use Rattle.dns_c.specs.Built.{NewEntry, Means, AllMean, IsQuestionOf, IsRecordOf, IsBuilt, LacksFields, IsRefused, FirstRefused, RefusesQuestion, RefusesRecord, IsUnbuilt, questions_among, records_among, header_of};
 
 use crate::code::Fault;
 use crate::make::{Text, name_of};
@@ -17,6 +17,7 @@ use dns_code::{Class, Header, Rtype};
 use dns_data::UnknownRecordData;
 use dns_item::Ttl;
 use dns_target::TreeCompressor;
+use dns_wire::Composer;
 use std::alloc::Global;
 
 /// The section of the questions.
@@ -115,14 +116,17 @@ fn check_all(items: &[NewItem<'_>]) -> Result<(), Fault>
     Ok(())
 }
 
-/// Pushes the questions among items.
-fn push_questions(builder: &mut QuestionBuilder<Target>, items: &[NewItem<'_>]) -> Result<(), Fault>
+/// Pushes the questions among items, up to the first that is refused.
+fn push_questions<T: Composer>(
+    builder: &mut QuestionBuilder<T>,
+    items: &[NewItem<'_>],
+) -> Result<(), Fault>
     ensures pushed { OnOk result ((xs : List NewEntry) → AllMean items.now xs
-        → MovesState InQuestion InQuestion Tree (with_questions (questions_among xs))
+        → MovesState InQuestion InQuestion T.rule (with_questions (questions_among xs))
         builder.old builder.new) }
     ensures stopped { IfErr result (λ fault. (xs : List NewEntry) → AllMean items.now xs
-        → InEach InQuestion Tree builder.old (λ s. IsStopped
-        (length (with_questions (questions_among xs) s).questions) (number_of fault))) }
+        → InEach InQuestion T.rule builder.old (λ s. RefusesQuestion T.room T.grows T.rule
+        (questions_among xs) s (number_of fault))) }
 {
     for item in items {
         if item.section == QUESTION {
@@ -132,17 +136,17 @@ fn push_questions(builder: &mut QuestionBuilder<Target>, items: &[NewItem<'_>]) 
     Ok(())
 }
 
-/// Pushes the records among items that are of the stage's section.
-fn push_records<S: RecordStage>(
-    builder: &mut Builder<Target, S>,
+/// Pushes the records among items that are of the stage's section, up to the first that is refused.
+fn push_records<T: Composer, S: RecordStage>(
+    builder: &mut Builder<T, S>,
     items: &[NewItem<'_>],
 ) -> Result<(), Fault>
     ensures pushed { OnOk result ((xs : List NewEntry) → AllMean items.now xs
-        → MovesState S.stage S.stage Tree (with_records S.stage (records_among S.section xs))
+        → MovesState S.stage S.stage T.rule (with_records S.stage (records_among S.section xs))
         builder.old builder.new) }
     ensures stopped { IfErr result (λ fault. (xs : List NewEntry) → AllMean items.now xs
-        → InEach S.stage Tree builder.old (λ s. IsStopped (length (records_at S.stage
-        (with_records S.stage (records_among S.section xs) s))) (number_of fault))) }
+        → InEach S.stage T.rule builder.old (λ s. RefusesRecord T.room T.grows T.rule S.stage
+        (records_among S.section xs) s (number_of fault))) }
 {
     for item in items {
         if usize::from(item.section) + 1 == S::DEPTH {
@@ -161,18 +165,22 @@ fn header_of(id: u16, flags: u16) -> Header
     Header::for_message_slice(&[a, b, c, d])
 }
 
-/// The message of a header and items, each in its section, in their order.
-pub(crate) fn build(
-    alloc: Global,
+/// The message of a header and items, each in its section, in their order, over a target, which is emptied.
+///
+/// `Fault::NoMemory` is a refused write: generic code learns of `T.grows` only from one.
+fn build_over<T: Composer>(
+    target: T,
     id: u16,
     flags: u16,
     items: &[NewItem<'_>],
-) -> Result<Target, Fault>
-    ensures made { IfOk result (λ made. IsBuilt id flags items.now made.octets) }
-    ensures none { IfErr result (λ fault. IsUnbuilt items.now (number_of fault)) }
+) -> Result<T, Fault>
+    ensures made { IfOk result (λ made. IsBuilt T.rule id flags items.now
+        (T.written made).octets) }
+    ensures none { IfErr result (λ fault. IsUnbuilt T.room T.grows T.rule (header_of id flags)
+        items.now (number_of fault)) }
 {
     check_all(items)?;
-    let mut builder = MessageBuilder::from_target(TreeCompressor::new(alloc, Vec::new(alloc)))?;
+    let mut builder = MessageBuilder::from_target(target)?;
     builder.set_header(header_of(id, flags));
     let mut questions = builder.question();
     push_questions(&mut questions, items)?;
@@ -183,4 +191,23 @@ pub(crate) fn build(
     let mut additionals = authorities.additional();
     push_records(&mut additionals, items)?;
     Ok(additionals.finish())
+}
+
+/// As `build_over`, with names compressed. It takes memory.
+pub(crate) fn build(
+    alloc: Global,
+    id: u16,
+    flags: u16,
+    items: &[NewItem<'_>],
+) -> Result<Target, Fault>
+    ensures made { IfOk result (λ made. IsBuilt Tree id flags items.now made.octets) }
+    ensures none { IfErr result (λ fault. IsUnbuilt None true Tree (header_of id flags) items.now
+        (number_of fault)) }
+{
+    build_over(
+        TreeCompressor::new(alloc, Vec::new(alloc)),
+        id,
+        flags,
+        items,
+    )
 }

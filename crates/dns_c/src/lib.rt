@@ -14,16 +14,17 @@ mod text;
 mod walk;
 mod words;
 
-ghost use Rattle.std.specs.Prelude.{◌≡◌, ◌≢◌, ◌<◌, ◌≤◌, ◌+◌, ◌++◌, ◌∷◌, [], length, take, get_or, true};
+ghost use Rattle.std.specs.Prelude.{◌≡◌, ◌≢◌, ◌<◌, ◌≤◌, ◌+◌, ◌++◌, ◌∷◌, [], length, take, get_or, None, true};
 ghost use Rattle.dns_name.specs.NameTexts.{name_text};
 ghost use Rattle.dns_name.specs.Names.{Labels, Stands, uncompressed};
+ghost use Rattle.dns_wire.specs.Pieces.{Tree};
 ghost use Rattle.dns_code.specs.Header.{fields_in};
 ghost use Rattle.dns_code.specs.HeaderSection.{header_size};
 ghost use Rattle.dns_number.specs.Classes.{class_text};
 ghost use Rattle.dns_number.specs.Types.{type_text};
 ghost use Rattle.dns_question.specs.Questions.{QuestionItem};
 ghost use Rattle.dns_item.specs.Items.{RecordEntry};
-ghost use Rattle.dns_c.specs.Built.{IsBuilt, IsUnbuilt};
+ghost use Rattle.dns_c.specs.Built.{HasTooMany, IsBuilt, IsUnbuilt, header_of};
 ghost use Rattle.dns_c.specs.Codes.{number_of};
 ghost use Rattle.dns_c.specs.Made.{AsksNothing, AsksOne, HoldsQuery, IsLonger, IsQuery, IsResponse, LacksName, SpellsNoName};
 ghost use Rattle.dns_c.specs.Steps.{IsOpen, Opens, Spans, GivesNext};
@@ -238,10 +239,12 @@ pub extern "C" fn dns_build(
     ensures length { length out.new ≡ length out.old }
     ensures within { len.new ≤ length out.new }
     ensures empty { result ≢ 0 → len.new ≡ 0 }
-    ensures built { result ≡ 0 → IsBuilt id flags items.now (take len.new out.new) }
+    ensures built { result ≡ 0 → IsBuilt Tree id flags items.now (take len.new out.new) }
     ensures no_room { result ≡ number_of Fault.NoRoom
-        → IsLonger (IsBuilt id flags items.now) (length out.old) }
-    ensures unbuilt { result ≢ 0 → result ≢ number_of Fault.NoRoom → IsUnbuilt items.now result }
+        → IsLonger (IsBuilt Tree id flags items.now) (length out.old) }
+    ensures unbuilt { result ≢ 0 → result ≢ number_of Fault.NoRoom
+        → IsUnbuilt None true Tree (header_of id flags) items.now result }
+    ensures too_many { result ≡ number_of Fault.TooMany → HasTooMany items.now }
 {
     match build::build(alloc, id, flags, items) {
         Ok(made) => make::hand_out(made.as_slice(), out, len),

@@ -1,6 +1,18 @@
-use Rattle.std.proofs.Common.{◌∙◌, sym}
-use Rattle.dns_c.proofs.BuildLemmas.{unbuilt_otherwise}
+use Rattle.std.proofs.Common.{◌∙◌, ℕ, None, subst, sym, true}
+use Rattle.dns_wire.specs.Pieces.{Tree}
+use Rattle.dns_c.specs.Built.{IsUnbuilt, header_of}
+use Rattle.dns_c.proofs.BuildLemmas.{unbuilt_full, unbuilt_otherwise}
 use Rattle.dns_c.proofs.dns_build.Goals as goal
 
 pub returns-in-Err-clause-no_room : goal.returns-in-Err-clause-no_room
-returns-in-Err-clause-no_room c = λ room. absurd (unbuilt_otherwise c.args.items.now _ (sym c.refuse.ensures.code ∙ room) c.in-Err.ensures.none)
+returns-in-Err-clause-no_room c =
+    λ room. absurd (unbuilt_otherwise true Tree (header_of c.args.id c.args.flags) c.args.items.now _ (sym c.refuse.ensures.code ∙ room) c.in-Err.ensures.none)
+
+pub returns-in-Err-clause-unbuilt : goal.returns-in-Err-clause-unbuilt
+returns-in-Err-clause-unbuilt c =
+    let header = header_of c.args.id c.args.flags in
+    λ failed other. subst (λ (n : ℕ). IsUnbuilt None true Tree header c.args.items.now n) (sym c.refuse.ensures.code) c.in-Err.ensures.none
+
+pub returns-in-Err-clause-too_many : goal.returns-in-Err-clause-too_many
+returns-in-Err-clause-too_many c =
+    λ many. unbuilt_full None true Tree (header_of c.args.id c.args.flags) c.args.items.now _ (sym c.refuse.ensures.code ∙ many) c.in-Err.ensures.none
