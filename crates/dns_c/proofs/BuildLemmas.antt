@@ -2,9 +2,9 @@
 use Rattle.std.proofs.Common.{◌≡◌, ◌∙◌, ℕ, zero, suc, ◌+◌, ◌<◌, ◌≤◌, ◌⊎◌, List, [], ◌∷◌, ◌++◌, length, drop, get_or, length-append, append_assoc, append-nil, ap, sym, subst, refl, inl, inr, arith}
 use Rattle.std.proofs.Math.Seq.{drop-cons}
 use Rattle.std.proofs.lemmas.List.{drop_all}
-use Rattle.std.specs.Prelude.{Bool, Option, Result, Ok, Err, None, IsTrue, true}
+use Rattle.std.specs.Prelude.{Bool, Option, Result, Err, None, IsTrue}
 use Rattle.dns_name.proofs.theory.NameTextFaults.{one_text_name}
-use Rattle.dns_wire.specs.Pieces.{Rule, Tree}
+use Rattle.dns_wire.specs.Pieces.{Rule}
 use Rattle.dns_octets.specs.declared.error.AppendError.{AppendError}
 use Rattle.dns_octets.specs.declared.error.AppendError.TheVariants as appending
 use Rattle.dns_wire.specs.Targets.{Answers, Fits, Passes}
@@ -14,7 +14,7 @@ use Rattle.dns_question.specs.Questions.{QuestionItem}
 use Rattle.dns_item.specs.Items.{RecordItem}
 use Rattle.dns_section.specs.declared.section.Section.{Section}
 use Rattle.dns_section.specs.declared.section.Section.TheVariants.{Answer, Authority, Additional}
-use Rattle.dns_build.specs.State.{State, Stage, InBuilder, InQuestion, InAnswer, InAuthority, InAdditional, stage_of, depth_of, with_question, with_questions, with_record, with_records, records_at, most_entries}
+use Rattle.dns_build.specs.State.{State, Stage, InBuilder, InQuestion, InAnswer, InAuthority, InAdditional, stage_of, depth_of, with_question, with_questions, with_record, with_records, most_entries}
 use Rattle.dns_build.specs.Standing.{Built, StandsFor, MovesState, InEach, PushAnswers}
 use Rattle.dns_build.specs.Answers.{AnswersQuestion}
 use Rattle.dns_build.specs.declared.push_error.PushError.{PushError}
