@@ -1,8 +1,9 @@
 -- The rows of items.
-use Rattle.std.proofs.Common.{◌≡◌, ℕ, suc, ◌+◌, ◌<◌, ◌≤◌, inl, inr, List, [], ◌∷◌, ◌++◌, length, Option, Some, None, ◌∙◌, ap, subst, sym, refl, arith, add-one, append_assoc, append-nil, take, IsTrue}
+use Rattle.std.proofs.Common.{◌≡◌, ℕ, suc, ◌+◌, ◌-◌, ◌<◌, ◌≤◌, List, [], ◌∷◌, ◌++◌, length, Option, Some, None, ◌∙◌, ap, subst, sym, refl, arith, add-one, append_assoc, append-nil, take, IsTrue}
 use Rattle.std.proofs.lemmas.List.Elements.{All-nil}
 use Rattle.std.specs.Int.{w16, w32}
-use Rattle.dns_name.specs.Names.{FaultAt, Labels, Stands}
+use Rattle.std.specs.Prelude.{Result, Ok, Err}
+use Rattle.dns_name.specs.Names.{Fault, FaultAt, Labels, Stands}
 use Rattle.dns_name.specs.Names.Fault.{ShortInput}
 use Rattle.dns_name.proofs.theory.Names.{not_both}
 use Rattle.dns_name.specs.Parsers.{number_at}
@@ -10,14 +11,20 @@ use Rattle.dns_rows.specs.Data.{shape_of, ShowsData}
 use Rattle.dns_rows.specs.Walks.StopsWithin.{missing, stopped}
 use Rattle.dns_question.specs.BehindNames.FieldsFaultAt.{name as name_fault, short as short_fields}
 use Rattle.dns_code.specs.HeaderCounts.{Counts}
+use Rattle.dns_question.specs.Questions.{QuestionItem}
 use Rattle.dns_item.specs.Items.{RecordEntry, ReadsRecord}
+use Rattle.dns_section.specs.Reading.{Passed}
+use Rattle.dns_section.specs.Reading.Passed.{none as none_passed, more as passed_more}
+use Rattle.dns_section.specs.RecordsFrom.{records_from}
+use Rattle.dns_section.proofs.theory.QuestionsFromLemmas.{questions_from_are_read}
+use Rattle.dns_section.proofs.theory.RecordsFromLemmas.{records_from_are_read}
 use Rattle.dns_item.specs.Items.LacksRecord.{fields as lacks_fields, rdata as lacks_data}
-use Rattle.dns_rows.specs.Entries.{holds_records, item_row, number_rows, FirstItems, ItemStops, parts_of, QuestionStops, RecordStops, ShowsItem, ShowsParts, ShowsQuestion, ShowsRecord, StopsItem}
-use Rattle.dns_rows.specs.Entries.FirstItems.{none, next}
-use Rattle.dns_rows.specs.Entries.ShowsParts.{none as no_more, all, fault as fault_among}
+use Rattle.dns_rows.specs.Entries.{all_parts, count_of, holds_records, item_row, number_rows, reading_from, Entry, ItemStops, PartStarts, ReadingRows, RecordStops, ShowsItem, ShowsParts, ShowsQuestion, ShowsRecord, StopsItem}
+use Rattle.dns_rows.specs.Entries.ReadingRows.{none, entry, stops}
+use Rattle.dns_rows.specs.Entries.ShowsParts.{none as no_more, all as all_shown, fault as fault_among}
 use Rattle.dns_rows.specs.Faults.{LacksName, TellsFault}
 use Rattle.dns_rows.specs.Fields.{field_row, IsField}
-use Rattle.dns_rows.specs.Walks.{at, octets, Adds, Begun, Goes, LacksFields, MarksAmong, MarksFirst, MarksItem, MarksParts, MarksStop, PassesItemName, PassesNumbers, MarksWithin, StopsWithin}
+use Rattle.dns_rows.specs.Walks.{at, octets, Adds, AreCountsOf, AreFirstRows, Begun, Goes, LacksFields, MarksAmong, MarksFirst, MarksItem, MarksParts, MarksStop, PassesItemName, PassesNumbers, MarksWithin, SkipsItem, StopsWithin}
 use Rattle.dns_rows.specs.declared.row.Fault.{Fault as RowFault}
 use Rattle.dns_rows.specs.declared.row.Fault.TheVariants.{Short}
 use Rattle.dns_rows.specs.declared.row.Field.{Field}
@@ -37,24 +44,32 @@ tells_short b start place field fault told = subst (λ fault. TellsFault b start
 not_name : (b : List ℕ) (p : ℕ) (labels : Labels) {X : Type 0} → Stands b p labels → FaultAt b p ShortInput → X
 not_name b p labels stands w = absurd (not_both b p labels ShortInput stands w)
 
+-- an item stops with a fault, whatever is read of it; so does a record
+abbrev pub AnyStops : List ℕ → Part → ℕ → ℕ → RowFault → Type 0
+AnyStops b part p place fault = (x : Result (Entry part) Fault) × ItemStops b part x p place fault
+
+abbrev pub AnyRecordStops : List ℕ → ℕ → ℕ → RowFault → Type 0
+AnyRecordStops b p place fault = (x : Result RecordEntry Fault) × RecordStops b x p place fault
+
 -- a walk that stopped in an item
-pub marks_stop : (part : Part) (number : ℕ) (old new : Walk) (fault : RowFault) → Begun part number old new → ItemStops (octets old) part (at old) (at new) fault → MarksStop part number old new fault
-marks_stop part number old new fault g stops = record {
+pub marks_stop : (part : Part) (number : ℕ) (old new : Walk) (fault : RowFault) → Begun part number old new → AnyStops (octets old) part (at old) (at new) fault → MarksStop part number old new fault
+marks_stop part number old new fault g s = record {
+  item = s.0;
   rows = item_row part number (at old) ∷ g.others;
   adds = g.made ∙ append_assoc old.rows.items (item_row part number (at old) ∷ []) g.others;
-  stops = record { stops = stops; others = g.others; before = g.plain; made = refl };
+  stops = record { stops = s.1; others = g.others; before = g.plain; made = refl };
 }
 
 -- a question whose name can't be read
-pub question_unnamed : (b : List ℕ) (p place : ℕ) (fault : RowFault) → LacksName b p place fault → QuestionStops b p place fault
-question_unnamed b p place fault h = (h.0, name_fault h.1, (h.2, λ _. h.3))
+pub question_unnamed : (b : List ℕ) (p place : ℕ) (fault : RowFault) → LacksName b p place fault → AnyStops b Question p place fault
+question_unnamed b p place fault h = (Err h.0, (name_fault h.1, (h.2, λ _. h.3)))
 
 -- a question whose type and class aren't all there
 pub question_short : (row : Row) (old mid : Walk) (place : ℕ) (field : Field) (fault : RowFault) → PassesItemName names.Question row old mid → fault ≡ Short field → length (octets mid) < at mid + 4
-    → QuestionStops (octets old) (at old) place fault
+    → AnyStops (octets old) Question (at old) place fault
 question_short row old mid place field fault h told short =
     let short_there : length (octets old) < at mid + 4 = subst (λ (b : List ℕ). length b < at mid + 4) h.adds.seen short in
-    (ShortInput, short_fields h.stands h.walked short_there, (tells_short (octets old) (at old) place field fault told, not_name (octets old) (at old) h.labels h.stands))
+    (Err ShortInput, (short_fields h.stands h.walked short_there, (tells_short (octets old) (at old) place field fault told, not_name (octets old) (at old) h.labels h.stands)))
 
 -- a question of a name, a type and a class
 pub marks_question : (number : ℕ) (old a b new : Walk) → PassesItemName names.Question (item_row Question number (at old)) old a
@@ -71,41 +86,43 @@ marks_question number old a b new h k l within =
     let same = ap length typed.seen in
     let there : r + 4 ≤ length (octets old) = omega (arith, same, typed.place, within) in
     let whole = rows ++ type_row ∷ class_row ∷ [] in
-    let shows : ShowsQuestion (octets old) number (at old) (r + 4) whole = record {
-      entry = record { name = h.labels; rtype = number_at w16 (octets old) r; class = number_at w16 (octets old) (r + 2) };
+    let x : QuestionItem = record { name = h.labels; rtype = number_at w16 (octets old) r; class = number_at w16 (octets old) (r + 2) } in
+    let shows : ShowsQuestion (octets old) number x (at old) (r + 4) whole = record {
       reads = record { skips = record { name_end = r; walked = h.walked; end = refl; within = there }; name = h.stands; rtype = refl; class = refl };
       name_rows = h.rows;
       name = h.shows;
       made = refl;
     } in
     record {
+      entry = x;
       rows = whole;
       adds = record { rows = all.rows ∙ ap (λ rows. old.rows.items ++ rows) (append_assoc rows (type_row ∷ []) (class_row ∷ [])); seen = all.seen; place = refl };
-      shows = subst (λ q. ShowsQuestion (octets old) number (at old) q whole) (sym all.place) shows;
+      shows = subst (λ q. ShowsQuestion (octets old) number x (at old) q whole) (sym all.place) shows;
     }
 
 -- where a record can't be read, or its data can't
-pub record_stops : (b : List ℕ) (part : Part) (p place : ℕ) (fault : RowFault) → IsTrue (holds_records part) → RecordStops b p place fault → ItemStops b part p place fault
+pub record_stops : (b : List ℕ) (part : Part) (p place : ℕ) (fault : RowFault) → IsTrue (holds_records part) → AnyRecordStops b p place fault → AnyStops b part p place fault
 record_stops b Question p place fault h s = absurd (cc h)
 record_stops b Answer p place fault h s = s
 record_stops b Authority p place fault h s = s
 record_stops b Additional p place fault h s = s
 
-record_shows : (b : List ℕ) (part : Part) (number p q : ℕ) (rows : List Row) → IsTrue (holds_records part) → ShowsRecord b part number p q rows → ShowsItem b part number p q rows
-record_shows b Question number p q rows h s = absurd (cc h)
-record_shows b Answer number p q rows h s = s
-record_shows b Authority number p q rows h s = s
-record_shows b Additional number p q rows h s = s
+record_shows : (b : List ℕ) (part : Part) (number : ℕ) (x : RecordEntry) (p q : ℕ) (rows : List Row) → IsTrue (holds_records part) → ShowsRecord b part number x p q rows
+    → (y : Entry part) × ShowsItem b part number y p q rows
+record_shows b Question number x p q rows h s = absurd (cc h)
+record_shows b Answer number x p q rows h s = (x, s)
+record_shows b Authority number x p q rows h s = (x, s)
+record_shows b Additional number x p q rows h s = (x, s)
 
 -- a record whose owner can't be read
-pub record_unnamed : (b : List ℕ) (p place : ℕ) (fault : RowFault) → LacksName b p place fault → RecordStops b p place fault
-record_unnamed b p place fault h = inl (h.0, name_fault h.1, (h.2, λ _. h.3))
+pub record_unnamed : (b : List ℕ) (p place : ℕ) (fault : RowFault) → LacksName b p place fault → AnyRecordStops b p place fault
+record_unnamed b p place fault h = (Err h.0, (name_fault h.1, (h.2, λ _. h.3)))
 
 -- a record whose numbers aren't all there
-pub record_short : (row : Row) (old mid : Walk) (place : ℕ) (fault : RowFault) → PassesItemName names.Owner row old mid → LacksFields (octets mid) (at mid + 10) fault → RecordStops (octets old) (at old) place fault
+pub record_short : (row : Row) (old mid : Walk) (place : ℕ) (fault : RowFault) → PassesItemName names.Owner row old mid → LacksFields (octets mid) (at mid + 10) fault → AnyRecordStops (octets old) (at old) place fault
 record_short row old mid place fault h short =
     let short_there : length (octets old) < at mid + 10 = subst (λ (b : List ℕ). length b < at mid + 10) h.adds.seen short.1.1 in
-    inl (ShortInput, short_fields h.stands h.walked (lacks_fields short_there), (tells_short (octets old) (at old) place short.0 fault short.1.0, not_name (octets old) (at old) h.labels h.stands))
+    (Err ShortInput, (short_fields h.stands h.walked (lacks_fields short_there), (tells_short (octets old) (at old) place short.0 fault short.1.0, not_name (octets old) (at old) h.labels h.stands)))
 
 -- what is read of a record
 abbrev entry_of : List (List ℕ) → List ℕ → ℕ → ℕ → ℕ → RecordEntry
@@ -128,27 +145,28 @@ reads_record row rtype len old a b h k there =
 
 -- a record whose data isn't all there, or can't be read
 pub data_stops : (row : Row) (rtype len : ℕ) (old a b new : Walk) (fault : RowFault) → PassesItemName names.Owner row old a → PassesNumbers rtype len a b
-    → StopsWithin rtype len b new fault → RecordStops (octets old) (at old) (at new) fault
+    → StopsWithin rtype len b new fault → AnyRecordStops (octets old) (at old) (at new) fault
 data_stops row rtype len old a b new _ h k (missing short) =
     let len_there : len ≡ number_at w16 (octets old) (at a + 8) = subst (λ b. len ≡ number_at w16 b (at a + 8)) h.adds.seen k.len_there in
     let whole : at a + 10 ≤ length (octets old) = subst (λ (b : List ℕ). at a + 10 ≤ length b) h.adds.seen k.within in
     let same : length (octets b) ≡ length (octets old) = ap length (k.adds.seen ∙ h.adds.seen) in
-    inl (ShortInput, short_fields h.stands h.walked (lacks_data whole (omega (arith, short, len_there, same, k.adds.place))), (refl, not_name (octets old) (at old) h.labels h.stands))
+    (Err ShortInput, (short_fields h.stands h.walked (lacks_data whole (omega (arith, short, len_there, same, k.adds.place))), (refl, not_name (octets old) (at old) h.labels h.stands)))
 data_stops row rtype len old a b new _ h k (stopped stop there w left) =
     let seen = k.adds.seen ∙ h.adds.seen in
     let same = ap length seen in
     let there_too : at a + 10 + len ≤ length (octets old) = omega (arith, there, same, k.adds.place) in
-    let P : List ℕ → ℕ → Type 0 = λ b p. ShowsData (take (p + len) b) (shape_of rtype) stop p (at new) w.rows in
-    inr (record {
-      entry = entry_of h.labels (octets old) (at a) rtype len;
-      end = at a + 10 + len;
-      reads = reads_record row rtype len old a b h k there_too;
-      data_rows = w.rows;
-      stop = stop;
-      value = subst (λ p. P (octets old) p) k.adds.place (subst (λ o. P o (at b)) seen w.shows);
-      left_over = λ e. omega (arith, left e, k.adds.place);
-      told = refl;
-    })
+    let P : List ℕ → ℕ → Type 0 = λ b p. ShowsData (take (p + len) b) (shape_of rtype) stop p (at new) w.rows in (
+      Ok (entry_of h.labels (octets old) (at a) rtype len),
+      record {
+        end = at a + 10 + len;
+        reads = reads_record row rtype len old a b h k there_too;
+        data_rows = w.rows;
+        stop = stop;
+        value = subst (λ p. P (octets old) p) k.adds.place (subst (λ o. P o (at b)) seen w.shows);
+        left_over = λ e. omega (arith, left e, k.adds.place);
+        told = refl;
+      },
+    )
 
 -- a record of an owner, its numbers and its data
 pub marks_record : (part : Part) (number rtype len : ℕ) (old a b new : Walk) → IsTrue (holds_records part) → PassesItemName names.Owner (item_row part number (at old)) old a
@@ -166,8 +184,8 @@ marks_record part number rtype len old a b new records h k g seen place within =
     let P : List ℕ → ℕ → ℕ → Type 0 = λ b from to. ShowsData (take (from + len) b) (shape_of rtype) None from to g.rows in
     let value : P (octets old) (r + 10) (r + 10 + len) =
     subst (λ from. P (octets old) from (r + 10 + len)) k.adds.place (subst (λ o. P o (at b) (r + 10 + len)) (k.adds.seen ∙ h.adds.seen) (subst (λ to. P (octets b) (at b) to) to g.shows)) in
-    let shows : ShowsRecord (octets old) part number (at old) (r + 10 + len) rows = record {
-      entry = entry_of h.labels (octets old) r rtype len;
+    let x = entry_of h.labels (octets old) r rtype len in
+    let shows : ShowsRecord (octets old) part number x (at old) (r + 10 + len) rows = record {
       reads = reads_record (item_row part number (at old)) rtype len old a b h k there;
       owner_rows = h.rows;
       owner = h.shows;
@@ -175,66 +193,187 @@ marks_record part number rtype len old a b new records h k g seen place within =
       value = value;
       made = refl;
     } in
-    let whole = record_shows (octets old) part number (at old) (r + 10 + len) rows records shows in
+    let whole = record_shows (octets old) part number x (at old) (r + 10 + len) rows records shows in
     record {
+      entry = whole.0;
       rows = rows;
       adds = record {
         rows = g.adds ∙ ap (λ rows. rows ++ g.rows) named.rows ∙ append_assoc old.rows.items (front ++ number_rows rtype r) g.rows ∙ ap (λ rows. old.rows.items ++ rows) joined;
         seen = seen ∙ k.adds.seen ∙ h.adds.seen;
         place = refl;
       };
-      shows = subst (λ q. ShowsItem (octets old) part number (at old) q rows) (sym to) whole;
+      shows = subst (λ q. ShowsItem (octets old) part number whole.0 (at old) q rows) (sym to) whole.1;
     }
 
 -- behind the rows that are there, none yet
 pub nothing_yet : (b : Walk) → Goes b.rows.items (at b) b.rows.items (at b)
 nothing_yet b = record { others = []; made = sym (append-nil b.rows.items); plain = record { fields = record { tiles = refl; fields = All-nil IsField }; plain = refl } }
 
+-- What reading one item more gives: the item that is shown, or the one that stops.
+reads_none : (b : List ℕ) (part : Part) (p : ℕ) → reading_from b part 0 p ≡ []
+reads_none b Question p = (questions_from_are_read b).none p
+reads_none b Answer p = (records_from_are_read b).none p
+reads_none b Authority p = (records_from_are_read b).none p
+reads_none b Additional p = (records_from_are_read b).none p
+
+reads_next : (b : List ℕ) (part : Part) (number n p q : ℕ) (x : Entry part) (rows : List Row) → ShowsItem b part number x p q rows → reading_from b part (suc n) p ≡ Ok x ∷ reading_from b part n q
+reads_next b Question number n p q x rows s = (questions_from_are_read b).entry n p q x s.reads
+reads_next b Answer number n p q x rows s = (records_from_are_read b).entry n p q x s.reads
+reads_next b Authority number n p q x rows s = (records_from_are_read b).entry n p q x s.reads
+reads_next b Additional number n p q x rows s = (records_from_are_read b).entry n p q x s.reads
+
+record_reads_stop : (b : List ℕ) (n p place : ℕ) (x : Result RecordEntry Fault) (fault : RowFault) → RecordStops b x p place fault
+    → (others : List (Result RecordEntry Fault)) × (records_from b (suc n) p ≡ x ∷ others)
+record_reads_stop b n p place (Ok x) fault s = (records_from b n s.end, (records_from_are_read b).entry n p s.end x s.reads)
+record_reads_stop b n p place (Err f) fault s = ([], (records_from_are_read b).stop n p f s.0)
+
+reads_stop : (b : List ℕ) (part : Part) (n p place : ℕ) (x : Result (Entry part) Fault) (fault : RowFault) → ItemStops b part x p place fault
+    → (others : List (Result (Entry part) Fault)) × (reading_from b part (suc n) p ≡ x ∷ others)
+reads_stop b Question n p place (Ok x) fault s = absurd s
+reads_stop b Question n p place (Err f) fault s = ([], (questions_from_are_read b).stop n p f s.0)
+reads_stop b Answer n p place x fault s = record_reads_stop b n p place x fault s
+reads_stop b Authority n p place x fault s = record_reads_stop b n p place x fault s
+reads_stop b Additional n p place x fault s = record_reads_stop b n p place x fault s
+
+-- an item that is shown can be skipped
+skips_item : (b : List ℕ) (part : Part) (number p q : ℕ) (x : Entry part) (rows : List Row) → ShowsItem b part number x p q rows → SkipsItem b part p q
+skips_item b Question number p q x rows s = s.reads.skips
+skips_item b Answer number p q x rows s = s.reads.skips
+skips_item b Authority number p q x rows s = s.reads.skips
+skips_item b Additional number p q x rows s = s.reads.skips
+
 -- items one behind the other
 pub first_none : (part : Part) (old : Walk) → MarksFirst part 0 old old
-first_none part old = record { rows = []; adds = record { rows = sym (append-nil old.rows.items); seen = refl; place = refl }; first = none }
+first_none part old = record {
+  rows = [];
+  adds = record { rows = sym (append-nil old.rows.items); seen = refl; place = refl };
+  first = λ k end stop behind r.
+      let same : k ≡ 0 + k = omega arith in
+      subst (λ m. ReadingRows (octets old) part 1 (reading_from (octets old) part m (at old)) stop (at old) end behind) same r;
+  skips = λ k end w. let same : k ≡ 0 + k = omega arith in subst (λ m. Passed (SkipsItem (octets old) part) m (at old) end) same w;
+}
+
+one_more_row : (b : List ℕ) (part : Part) (n p q r : ℕ) (x : Entry part) (first rows : List Row) → AreFirstRows b part n p q first → ShowsItem b part (suc n) x q r rows
+    → AreFirstRows b part (n + 1) p r (first ++ rows)
+one_more_row b part n p q r x first rows h shows = λ k end stop behind w.
+    let numbered : ReadingRows b part (suc (suc n)) (reading_from b part k r) stop r end behind =
+    subst (λ i. ReadingRows b part (suc i) (reading_from b part k r) stop r end behind) (add-one n) w in
+    let there : ReadingRows b part (suc n) (Ok x ∷ reading_from b part k r) stop q end (rows ++ behind) = entry rows behind shows numbered in
+    let P : List (Result (Entry part) Fault) → Type 0 = λ xs. ReadingRows b part (suc n) xs stop q end (rows ++ behind) in
+    let read = subst P (sym (reads_next b part (suc n) k q r x rows shows)) there in
+    let all = h (suc k) end stop (rows ++ behind) read in
+    let counted : n + suc k ≡ n + 1 + k = omega arith in
+    let Q : ℕ → List Row → Type 0 = λ m shown. ReadingRows b part 1 (reading_from b part m p) stop p end shown in
+    subst (λ m. Q m ((first ++ rows) ++ behind)) counted (subst (λ shown. Q (n + suc k) shown) (sym (append_assoc first rows behind)) all)
 
 pub one_more_item : (part : Part) (n : ℕ) (old mid new : Walk) → MarksFirst part n old mid → MarksItem part (n + 1) mid new → MarksFirst part (n + 1) old new
 one_more_item part n old mid new h k =
-    let both = adds_then h.rows k.rows (at mid) (at new) old mid new h.adds k.adds in
-    let P : List ℕ → ℕ → Type 0 = λ b n. ShowsItem b part n (at mid) (at new) k.rows in
+    let P : List ℕ → ℕ → Type 0 = λ b n. ShowsItem b part n k.entry (at mid) (at new) k.rows in
     let shows : P (octets old) (suc n) = subst (λ b. P b (suc n)) h.adds.seen (subst (λ n. P (octets mid) n) (add-one n) k.shows) in
-    let Q : ℕ → Type 0 = λ m. FirstItems (octets old) part (at old) m (at new) (h.rows ++ k.rows) in
-    record { rows = h.rows ++ k.rows; adds = both; first = subst Q (sym (add-one n)) (next h.rows k.rows h.first shows) }
+    let skipped = skips_item (octets old) part (suc n) (at mid) (at new) k.entry k.rows shows in
+    record {
+      rows = h.rows ++ k.rows;
+      adds = adds_then h.rows k.rows (at mid) (at new) old mid new h.adds k.adds;
+      first = one_more_row (octets old) part n (at old) (at mid) (at new) k.entry h.rows k.rows h.first shows;
+      skips = λ m end w.
+          let counted : n + suc m ≡ n + 1 + m = omega arith in
+          subst (λ m. Passed (SkipsItem (octets old) part) m (at old) end) counted (h.skips (suc m) end (passed_more skipped w));
+    }
 
 pub stops_among : (part : Part) (n count : ℕ) (old mid new : Walk) (fault : RowFault) → MarksFirst part n old mid → n < count → MarksStop part (n + 1) mid new fault → MarksAmong part count old new fault
 stops_among part n count old mid new fault h fewer k =
-    let P : List ℕ → ℕ → ℕ → Type 0 = λ b n p. StopsItem b part n p (at new) fault k.rows in
-    let stops : P (octets old) (suc n) (at mid) = subst (λ b. P b (suc n) (at mid)) h.adds.seen (subst (λ n. P (octets mid) n (at mid)) (add-one n) k.stops) in
+    let b = octets old in
+    let P : List ℕ → ℕ → Type 0 = λ b n. StopsItem b part n k.item (at mid) (at new) fault k.rows in
+    let stop : P b (suc n) = subst (λ b. P b (suc n)) h.adds.seen (subst (λ n. P (octets mid) n) (add-one n) k.stops) in
+    let left = count - (n + 1) in
+    let read = reads_stop b part left (at mid) (at new) k.item fault stop.stops in
+    let there : ReadingRows b part (suc n) (k.item ∷ read.0) (Some fault) (at mid) (at new) k.rows = stops stop in
+    let Q : List (Result (Entry part) Fault) → Type 0 = λ xs. ReadingRows b part (suc n) xs (Some fault) (at mid) (at new) k.rows in
+    let all = h.first (suc left) (at new) (Some fault) k.rows (subst Q (sym read.1) there) in
+    let counted : n + suc left ≡ count = omega arith in
     record {
       rows = h.rows ++ k.rows;
       adds = k.adds ∙ ap (λ rows. rows ++ k.rows) h.adds.rows ∙ append_assoc old.rows.items h.rows k.rows;
-      stops = record { before = n; fewer = fewer; from = at mid; whole = h.rows; first = h.first; begun = k.rows; stops = stops; made = refl };
+      shows = subst (λ m. ReadingRows b part 1 (reading_from b part m (at old)) (Some fault) (at old) (at new) (h.rows ++ k.rows)) counted all;
     }
+
+-- how many items of a part the counts say
+abbrev pub count_in : Counts → Part → ℕ
+count_in all Question = all.qdcount
+count_in all Answer = all.ancount
+count_in all Authority = all.nscount
+count_in all Additional = all.arcount
+
+-- a walk stands where a part starts, and these are the counts of the octets that it sees
+pub record Ready (all : Counts) (part : Part) (walk : Walk) : Type 0 where
+  pub starts : PartStarts (octets walk) part (at walk)
+  pub counts : AreCountsOf (octets walk) all
+
+counted_so : (b : List ℕ) (all : Counts) (part : Part) → AreCountsOf b all → count_in all part ≡ count_of b part
+counted_so b all Question h = h.questions
+counted_so b all Answer h = h.answers
+counted_so b all Authority h = h.authorities
+counted_so b all Additional h = h.additionals
+
+-- all items of a part were skipped
+all_skipped : (all : Counts) (part : Part) (old mid : Walk) → Ready all part old → MarksFirst part (count_in all part) old mid → Passed (SkipsItem (octets old) part) (count_of (octets old) part) (at old) (at mid)
+all_skipped all part old mid h k =
+    let more : count_in all part + 0 ≡ count_in all part = omega arith in
+    subst (λ m. Passed (SkipsItem (octets old) part) m (at old) (at mid)) (more ∙ counted_so (octets old) all part h.counts) (k.skips 0 (at mid) none_passed)
+
+ready_there : (all : Counts) (part : Part) (old mid : Walk) → octets mid ≡ octets old → AreCountsOf (octets old) all → PartStarts (octets old) part (at mid) → Ready all part mid
+ready_there all part old mid seen counts starts = record {
+  starts = subst (λ b. PartStarts b part (at mid)) (sym seen) starts;
+  counts = subst (λ b. AreCountsOf b all) (sym seen) counts;
+}
+
+-- the next part starts behind them
+pub answers_ready : (all : Counts) (old mid : Walk) → Ready all Question old → MarksFirst Question all.qdcount old mid → Ready all Answer mid
+answers_ready all old mid h k =
+    let b = octets old in
+    ready_there all Answer old mid k.adds.seen h.counts (subst (λ p. Passed (SkipsItem b Question) (count_of b Question) p (at mid)) h.starts (all_skipped all Question old mid h k))
+
+pub authorities_ready : (all : Counts) (old mid : Walk) → Ready all Answer old → MarksFirst Answer all.ancount old mid → Ready all Authority mid
+authorities_ready all old mid h k = ready_there all Authority old mid k.adds.seen h.counts (at old, h.starts, all_skipped all Answer old mid h k)
+
+pub additionals_ready : (all : Counts) (old mid : Walk) → Ready all Authority old → MarksFirst Authority all.nscount old mid → Ready all Additional mid
+additionals_ready all old mid h k = ready_there all Additional old mid k.adds.seen h.counts (at old, h.starts, all_skipped all Authority old mid h k)
 
 -- parts one behind the other
 pub no_parts : (old : Walk) → MarksParts [] None old old
 no_parts old = record { rows = []; adds = sym (append-nil old.rows.items); shows = no_more }
 
-pub part_stops : (part : Part) (n : ℕ) (parts : List (Part × ℕ)) (old new : Walk) (fault : RowFault) → MarksAmong part n old new fault → MarksParts ((part, n) ∷ parts) (Some fault) old new
-part_stops part n parts old new fault h = record { rows = h.rows; adds = h.adds; shows = fault_among h.stops }
+pub part_stops : (all : Counts) (part : Part) (parts : List Part) (old new : Walk) (fault : RowFault) → Ready all part old → MarksAmong part (count_in all part) old new fault → MarksParts (part ∷ parts) (Some fault) old new
+part_stops all part parts old new fault h k =
+    let b = octets old in
+    let P : ℕ → Type 0 = λ n. ReadingRows b part 1 (reading_from b part n (at old)) (Some fault) (at old) (at new) k.rows in
+    record { rows = k.rows; adds = k.adds; shows = fault_among h.starts (subst P (counted_so b all part h.counts) k.shows) }
 
-pub part_then : (part : Part) (n : ℕ) (parts : List (Part × ℕ)) (stop : Option RowFault) (old mid new : Walk) → MarksFirst part n old mid → MarksParts parts stop mid new
-    → MarksParts ((part, n) ∷ parts) stop old new
-part_then part n parts stop old mid new h k =
-    let P : List ℕ → ℕ → Type 0 = λ b p. ShowsParts b parts stop p (at new) k.rows in
+-- the rows of all items of a part
+whole_part : (b : List ℕ) (part : Part) (n count p q : ℕ) (rows : List Row) → AreFirstRows b part n p q rows → n ≡ count → ReadingRows b part 1 (reading_from b part count p) None p q rows
+whole_part b part n count p q rows h same =
+    let nothing : ReadingRows b part (suc n) (reading_from b part 0 q) None q q [] = subst (λ xs. ReadingRows b part (suc n) xs None q q []) (sym (reads_none b part q)) none in
+    let more : n + 0 ≡ n = omega arith in
+    let P : ℕ → List Row → Type 0 = λ m shown. ReadingRows b part 1 (reading_from b part m p) None p q shown in
+    subst (λ m. P m rows) (more ∙ same) (subst (λ shown. P (n + 0) shown) (append-nil rows) (h 0 q None [] nothing))
+
+pub part_then : (all : Counts) (part : Part) (parts : List Part) (stop : Option RowFault) (old mid new : Walk) → Ready all part old → MarksFirst part (count_in all part) old mid → MarksParts parts stop mid new
+    → MarksParts (part ∷ parts) stop old new
+part_then all part parts stop old mid new h k l =
+    let b = octets old in
+    let behind : ShowsParts b parts stop (at mid) (at new) l.rows = subst (λ b. ShowsParts b parts stop (at mid) (at new) l.rows) k.adds.seen l.shows in
     record {
-      rows = h.rows ++ k.rows;
-      adds = k.adds ∙ ap (λ rows. rows ++ k.rows) h.adds.rows ∙ append_assoc old.rows.items h.rows k.rows;
-      shows = all h.rows k.rows h.first (subst (λ b. P b (at mid)) h.adds.seen k.shows);
+      rows = k.rows ++ l.rows;
+      adds = l.adds ∙ ap (λ rows. rows ++ l.rows) k.adds.rows ∙ append_assoc old.rows.items k.rows l.rows;
+      shows = all_shown k.rows l.rows h.starts (whole_part b part (count_in all part) (count_of b part) (at old) (at mid) k.rows k.first (counted_so b all part h.counts)) behind;
     }
 
 -- what a walk shows that began behind the header section of octets, with no rows
-pub shows_octets : (b : List ℕ) (counts same : Counts) (stop : Option RowFault) (old new : Walk) → MarksParts (parts_of same) stop old new → octets old ≡ b → at old ≡ 12
-    → old.rows.items ≡ [] → same ≡ counts → ShowsParts b (parts_of counts) stop 12 (at new) new.rows.items
-shows_octets b counts same stop old new h seen place rows e =
-    let P : List ℕ → Counts → ℕ → Type 0 = λ b n p. ShowsParts b (parts_of n) stop p (at new) h.rows in
-    let shows : P b counts 12 = subst (λ b. P b counts 12) seen (subst (λ n. P (octets old) n 12) e (subst (λ p. P (octets old) same p) place h.shows)) in
+pub shows_octets : (b : List ℕ) (stop : Option RowFault) (old new : Walk) → MarksParts all_parts stop old new → octets old ≡ b → at old ≡ 12 → old.rows.items ≡ []
+    → ShowsParts b all_parts stop 12 (at new) new.rows.items
+shows_octets b stop old new h seen place rows =
+    let P : List ℕ → ℕ → Type 0 = λ b p. ShowsParts b all_parts stop p (at new) h.rows in
+    let shows : P b 12 = subst (λ b. P b 12) seen (subst (λ p. P (octets old) p) place h.shows) in
     let all_rows : new.rows.items ≡ h.rows = h.adds ∙ ap (λ rows. rows ++ h.rows) rows in
-    let Q : List Row → Type 0 = λ rows. ShowsParts b (parts_of counts) stop 12 (at new) rows in
+    let Q : List Row → Type 0 = λ rows. ShowsParts b all_parts stop 12 (at new) rows in
     subst Q (sym all_rows) shows

@@ -1,12 +1,15 @@
--- The rows of questions and records, one for each field, and where a fault ends them. RFC 1035 sections 4.1.2 to 4.1.4.
+-- The rows of what reading the sections of a message gives: of questions and records, one for each field, and where a fault ends them. RFC 1035 sections 4.1.1 to 4.1.4.
 --
 -- `b` are the octets of the message.
-use Rattle.std.specs.Prelude.{◌≡◌, ℕ, suc, ◌+◌, ◌<◌, ◌⊎◌, ◌==◌, Bool, true, false, if◌then◌else◌, List, [], ◌∷◌, ◌++◌, Option, Some, None}
+use Rattle.std.specs.Prelude.{◌≡◌, ℕ, suc, ◌+◌, ◌<◌, ◌==◌, Bool, true, false, if◌then◌else◌, List, [], ◌∷◌, ◌++◌, Option, Some, None, Result, Ok, Err}
 use Rattle.dns_name.specs.Names.{Fault}
+use Rattle.dns_code.specs.HeaderSection.{header_size}
 use Rattle.dns_question.specs.Questions.{QuestionItem, ReadsQuestion, QuestionFaultAt}
 use Rattle.dns_item.specs.Items.{RecordEntry, ReadsRecord, RecordFaultAt}
-use Rattle.dns_code.specs.HeaderCounts.{Counts}
 use Rattle.dns_item.specs.RecordReading.{up_to_data_end}
+use Rattle.dns_section.specs.QuestionsFrom.{questions_from}
+use Rattle.dns_section.specs.RecordsFrom.{records_from}
+use Rattle.dns_section.specs.Sections.{question_count, answer_count, authority_count, additional_count, AnswersStart, AuthoritiesStart, AdditionalsStart}
 use Rattle.dns_rows.specs.Data.{shape_of, ShowsData}
 use Rattle.dns_rows.specs.Faults.{TellsItem}
 use Rattle.dns_rows.specs.Fields.{field_row, ArePlain}
@@ -24,9 +27,8 @@ abbrev pub item_row : Part → ℕ → ℕ → Row
 item_row part number p = field_row p p (fields.Item part number)
 
 -- a question goes from p to q, and these are its rows: where it begins, its name, its type and its class
-pub record ShowsQuestion (b : List ℕ) (number p q : ℕ) (rows : List Row) : Type 0 where
-  pub entry : QuestionItem
-  pub reads : ReadsQuestion b p q entry
+pub record ShowsQuestion (b : List ℕ) (number : ℕ) (x : QuestionItem) (p q : ℕ) (rows : List Row) : Type 0 where
+  pub reads : ReadsQuestion b p q x
   pub name_rows : List Row
   pub name : NameRows b names.Question p p reads.skips.name_end name_rows
   pub made : let r = reads.skips.name_end in
@@ -48,19 +50,14 @@ abbrev pub number_rows : ℕ → ℕ → List Row
 number_rows rtype r = field_row r (r + 2) fields.Type ∷ (class_rows rtype (r + 2) ++ field_row (r + 8) (r + 10) fields.DataLength ∷ [])
 
 -- a record goes from p to q, and these are its rows: where it begins, its owner, its numbers, and the fields of its data
-pub record ShowsRecord (b : List ℕ) (part : Part) (number p q : ℕ) (rows : List Row) : Type 0 where
-  pub entry : RecordEntry
-  pub reads : ReadsRecord b p q entry
+pub record ShowsRecord (b : List ℕ) (part : Part) (number : ℕ) (x : RecordEntry) (p q : ℕ) (rows : List Row) : Type 0 where
+  pub reads : ReadsRecord b p q x
   pub owner_rows : List Row
   pub owner : NameRows b names.Owner p p reads.skips.name_end owner_rows
   pub data_rows : List Row
-  pub value : ShowsData (up_to_data_end b entry) (shape_of entry.rtype) None entry.data_start entry.data_end data_rows
+  pub value : ShowsData (up_to_data_end b x) (shape_of x.rtype) None x.data_start x.data_end data_rows
   pub made : let r = reads.skips.name_end in
-      rows ≡ item_row part number p ∷ (owner_rows ++ (number_rows entry.rtype r ++ data_rows))
-
--- a question at p can't be read, and a fault of a row tells why
-abbrev pub QuestionStops : List ℕ → ℕ → ℕ → rows.Fault → Type 0
-QuestionStops b p place fault = (f : Fault) × QuestionFaultAt b p f × TellsItem b p place fault f
+      rows ≡ item_row part number p ∷ (owner_rows ++ (number_rows x.rtype r ++ data_rows))
 
 -- the fault of data: that of its field that can't be read, or octets are left over behind all fields
 abbrev pub data_fault : Option rows.Fault → rows.Fault
@@ -68,33 +65,33 @@ data_fault None = Trailing
 data_fault (Some fault) = fault
 
 -- A record at p can be read, but not its data: a field of it stops at the place, or octets are left over behind all of them there.
-pub record DataStops (b : List ℕ) (p place : ℕ) (fault : rows.Fault) : Type 0 where
-  pub entry : RecordEntry
+pub record DataStops (b : List ℕ) (x : RecordEntry) (p place : ℕ) (fault : rows.Fault) : Type 0 where
   pub end : ℕ
-  pub reads : ReadsRecord b p end entry
+  pub reads : ReadsRecord b p end x
   pub data_rows : List Row
   pub stop : Option rows.Fault
-  pub value : ShowsData (up_to_data_end b entry) (shape_of entry.rtype) stop entry.data_start place data_rows
-  pub left_over : stop ≡ None → place < entry.data_end
+  pub value : ShowsData (up_to_data_end b x) (shape_of x.rtype) stop x.data_start place data_rows
+  pub left_over : stop ≡ None → place < x.data_end
   pub told : fault ≡ data_fault stop
 
+-- a question at p can't be read, and a fault of a row tells why
+abbrev pub QuestionStops : List ℕ → Result QuestionItem Fault → ℕ → ℕ → rows.Fault → Type 0
+QuestionStops b (Ok x) p place fault = ⊥
+QuestionStops b (Err f) p place fault = QuestionFaultAt b p f × TellsItem b p place fault f
+
 -- a record at p can't be read, or its data can't, and a fault of a row tells why
-abbrev pub RecordStops : List ℕ → ℕ → ℕ → rows.Fault → Type 0
-RecordStops b p place fault = ((f : Fault) × RecordFaultAt b p f × TellsItem b p place fault f) ⊎ DataStops b p place fault
+abbrev pub RecordStops : List ℕ → Result RecordEntry Fault → ℕ → ℕ → rows.Fault → Type 0
+RecordStops b (Ok x) p place fault = DataStops b x p place fault
+RecordStops b (Err f) p place fault = RecordFaultAt b p f × TellsItem b p place fault f
 
--- the fault of an item of a part
-abbrev pub ItemStops : List ℕ → Part → ℕ → ℕ → rows.Fault → Type 0
-ItemStops b Question p place fault = QuestionStops b p place fault
-ItemStops b Answer p place fault = RecordStops b p place fault
-ItemStops b Authority p place fault = RecordStops b p place fault
-ItemStops b Additional p place fault = RecordStops b p place fault
+-- Parts of a message, and what reading them gives. RFC 1035 section 4.1.
 
--- An item begins at p, and these are its rows: where it begins, and fields up to the place of its fault.
-pub record StopsItem (b : List ℕ) (part : Part) (number p place : ℕ) (fault : rows.Fault) (rows : List Row) : Type 0 where
-  pub stops : ItemStops b part p place fault
-  pub others : List Row
-  pub before : ArePlain others p place
-  pub made : rows ≡ item_row part number p ∷ others
+-- what is read of an item of a part
+abbrev pub Entry : Part → Type 0
+Entry Question = QuestionItem
+Entry Answer = RecordEntry
+Entry Authority = RecordEntry
+Entry Additional = RecordEntry
 
 -- whether a part holds records: each but the question section does
 abbrev pub holds_records : Part → Bool
@@ -103,38 +100,69 @@ holds_records Answer = true
 holds_records Authority = true
 holds_records Additional = true
 
+-- the reading of at most n items of a part from p on
+abbrev pub reading_from : List ℕ → (part : Part) → ℕ → ℕ → List (Result (Entry part) Fault)
+reading_from b Question n p = questions_from b n p
+reading_from b Answer n p = records_from b n p
+reading_from b Authority n p = records_from b n p
+reading_from b Additional n p = records_from b n p
+
+-- how many items a part has, as the header section says. RFC 1035 section 4.1.1.
+abbrev pub count_of : List ℕ → Part → ℕ
+count_of b Question = question_count b
+count_of b Answer = answer_count b
+count_of b Authority = authority_count b
+count_of b Additional = additional_count b
+
+-- a part starts at p: the questions behind the header section, and the records of a section where that starts
+abbrev pub PartStarts : List ℕ → Part → ℕ → Type 0
+PartStarts b Question p = p ≡ header_size
+PartStarts b Answer p = AnswersStart b p
+PartStarts b Authority p = AuthoritiesStart b p
+PartStarts b Additional p = AdditionalsStart b p
+
+-- the parts in order
+abbrev pub all_parts : List Part
+all_parts = Question ∷ Answer ∷ Authority ∷ Additional ∷ []
+
 -- an item of a part goes from p to q, and these are its rows
-abbrev pub ShowsItem : List ℕ → Part → ℕ → ℕ → ℕ → List Row → Type 0
-ShowsItem b Question number p q rows = ShowsQuestion b number p q rows
-ShowsItem b Answer number p q rows = ShowsRecord b Answer number p q rows
-ShowsItem b Authority number p q rows = ShowsRecord b Authority number p q rows
-ShowsItem b Additional number p q rows = ShowsRecord b Additional number p q rows
+abbrev pub ShowsItem : List ℕ → (part : Part) → ℕ → Entry part → ℕ → ℕ → List Row → Type 0
+ShowsItem b Question number x p q rows = ShowsQuestion b number x p q rows
+ShowsItem b Answer number x p q rows = ShowsRecord b Answer number x p q rows
+ShowsItem b Authority number x p q rows = ShowsRecord b Authority number x p q rows
+ShowsItem b Additional number x p q rows = ShowsRecord b Additional number x p q rows
 
--- the rows of the first n items of a part, one behind the other, from p on
-pub data FirstItems (b : List ℕ) (part : Part) (p : ℕ) : ℕ → ℕ → List Row → Type 0 where
-  none : FirstItems b part p 0 p []
-  next : {n q r : ℕ} (rows others : List Row) → FirstItems b part p n q rows → ShowsItem b part (suc n) q r others
-      → FirstItems b part p (suc n) r (rows ++ others)
+-- the fault of an item of a part, and what is read of the item
+abbrev pub ItemStops : List ℕ → (part : Part) → Result (Entry part) Fault → ℕ → ℕ → rows.Fault → Type 0
+ItemStops b Question x p place fault = QuestionStops b x p place fault
+ItemStops b Answer x p place fault = RecordStops b x p place fault
+ItemStops b Authority x p place fault = RecordStops b x p place fault
+ItemStops b Additional x p place fault = RecordStops b x p place fault
 
--- of n items of a part, from p on, some first ones are shown, and then one up to its fault
-pub record StopsAmong (b : List ℕ) (part : Part) (n p place : ℕ) (fault : rows.Fault) (rows : List Row) : Type 0 where
-  pub before : ℕ
-  pub fewer : before < n
-  pub from : ℕ
-  pub whole : List Row
-  pub first : FirstItems b part p before from whole
-  pub begun : List Row
-  pub stops : StopsItem b part (suc before) from place fault begun
-  pub made : rows ≡ whole ++ begun
+-- An item begins at p, and these are its rows: where it begins, and fields up to the place of its fault.
+pub record StopsItem (b : List ℕ) (part : Part) (number : ℕ) (x : Result (Entry part) Fault) (p place : ℕ) (fault : rows.Fault) (rows : List Row) : Type 0 where
+  pub stops : ItemStops b part x p place fault
+  pub others : List Row
+  pub before : ArePlain others p place
+  pub made : rows ≡ item_row part number p ∷ others
 
--- The rows of parts, each with the number of its items, from p to q: all items of each part in order, up to the fault, if there is one.
-pub data ShowsParts (b : List ℕ) : List (Part × ℕ) → Option rows.Fault → ℕ → ℕ → List Row → Type 0 where
+-- The rows of a reading of items of a part, from p to q, the first with this number: those of its entries in order. Where an item stops they end at its fault, and nothing is shown of what is read behind it.
+pub data ReadingRows (b : List ℕ) (part : Part) : ℕ → List (Result (Entry part) Fault) → Option rows.Fault → ℕ → ℕ → List Row → Type 0 where
+  none : {number p : ℕ} → ReadingRows b part number [] None p p []
+  entry : {number p q r : ℕ} {x : Entry part} {others : List (Result (Entry part) Fault)} {stop : Option rows.Fault} (rows behind : List Row)
+      → ShowsItem b part number x p q rows → ReadingRows b part (suc number) others stop q r behind → ReadingRows b part number (Ok x ∷ others) stop p r (rows ++ behind)
+  stops : {number p place : ℕ} {x : Result (Entry part) Fault} {others : List (Result (Entry part) Fault)} {fault : rows.Fault} {rows : List Row}
+      → StopsItem b part number x p place fault rows → ReadingRows b part number (x ∷ others) (Some fault) p place rows
+
+-- the reading of a part that starts at p
+abbrev pub reading_of : List ℕ → (part : Part) → ℕ → List (Result (Entry part) Fault)
+reading_of b part p = reading_from b part (count_of b part) p
+
+-- The rows of parts, from p to q: each part starts there, and its rows are those of its reading, up to the fault, if there is one. Nothing is shown of the parts behind that.
+pub data ShowsParts (b : List ℕ) : List Part → Option rows.Fault → ℕ → ℕ → List Row → Type 0 where
   none : {p : ℕ} → ShowsParts b [] None p p []
-  all : {part : Part} {parts : List (Part × ℕ)} {n p q r : ℕ} {stop : Option rows.Fault} (rows others : List Row)
-      → FirstItems b part p n q rows → ShowsParts b parts stop q r others → ShowsParts b ((part, n) ∷ parts) stop p r (rows ++ others)
-  fault : {part : Part} {parts : List (Part × ℕ)} {n p place : ℕ} {fault : rows.Fault} {rows : List Row}
-      → StopsAmong b part n p place fault rows → ShowsParts b ((part, n) ∷ parts) (Some fault) p place rows
-
--- the parts behind the header section in order, with these counts. RFC 1035 sections 4.1 and 4.1.1.
-abbrev pub parts_of : Counts → List (Part × ℕ)
-parts_of counts = (Question, counts.qdcount) ∷ (Answer, counts.ancount) ∷ (Authority, counts.nscount) ∷ (Additional, counts.arcount) ∷ []
+  all : {part : Part} {parts : List Part} {p q r : ℕ} {stop : Option rows.Fault} (rows others : List Row)
+      → PartStarts b part p → ReadingRows b part 1 (reading_of b part p) None p q rows → ShowsParts b parts stop q r others
+      → ShowsParts b (part ∷ parts) stop p r (rows ++ others)
+  fault : {part : Part} {parts : List Part} {p place : ℕ} {fault : rows.Fault} {rows : List Row}
+      → PartStarts b part p → ReadingRows b part 1 (reading_of b part p) (Some fault) p place rows → ShowsParts b (part ∷ parts) (Some fault) p place rows

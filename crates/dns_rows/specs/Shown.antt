@@ -1,13 +1,13 @@
 -- The rows of a message: those of its header section, of other fields, of a fault and of what is behind one. RFC 1035 section 4.1.
-use Rattle.std.specs.Prelude.{◌≡◌, ℕ, ◌+◌, ◌≤◌, nat_lt, if◌then◌else◌, List, [], ◌∷◌, ◌++◌, length, slice_range, Option, Some, None}
-use Rattle.dns_code.specs.HeaderCounts.{Counts, counts_in}
+use Rattle.std.specs.Prelude.{◌≡◌, ℕ, ◌+◌, ◌≤◌, nat_lt, if◌then◌else◌, List, [], ◌∷◌, ◌++◌, length, Option, Some, None}
 use Rattle.dns_code.specs.HeaderSection.{header_size}
+use Rattle.dns_section.specs.Sections.{question_count, answer_count, authority_count, additional_count}
 use Rattle.dns_rows.specs.declared.row.Row.{Row}
 use Rattle.dns_rows.specs.declared.row.Kind.TheVariants as kinds
 use Rattle.dns_rows.specs.declared.row.Part.TheVariants.{Question, Answer, Authority, Additional}
 use Rattle.dns_rows.specs.declared.row.Field.TheVariants as fields
 use Rattle.dns_rows.specs.declared.row.Fault.{Fault}
-use Rattle.dns_rows.specs.Entries.{parts_of, ShowsParts}
+use Rattle.dns_rows.specs.Entries.{all_parts, ShowsParts}
 use Rattle.dns_rows.specs.Fields.{field_row, item_count, AreFields}
 
 -- the row of octets that are fewer than a header section has
@@ -29,24 +29,16 @@ fault_rows (Some fault) place = record { start = place; end = place; kind = kind
 abbrev pub unread_rows : ℕ → ℕ → List Row
 unread_rows place end = if nat_lt place end then record { start = place; end = end; kind = kinds.Unread } ∷ [] else []
 
--- how many items the four counts are, together
-abbrev pub sum_of : Counts → ℕ
-sum_of counts = counts.qdcount + counts.ancount + counts.nscount + counts.arcount
-
--- what the header section of a message counts. RFC 1035 section 4.1.1.
-abbrev pub counts_of : List ℕ → Counts
-counts_of b = counts_in (slice_range b 4 header_size)
-
--- how many items that is
+-- how many items the header section of a message counts. RFC 1035 section 4.1.1.
 abbrev pub counted_items : List ℕ → ℕ
-counted_items b = sum_of (counts_of b)
+counted_items b = question_count b + answer_count b + authority_count b + additional_count b
 
 -- so many items begin: all of them, or with a fault no more
 abbrev pub Begins : Option Fault → ℕ → ℕ → Type 0
 Begins None n all = n ≡ all
 Begins (Some fault) n all = n ≤ all
 
--- The rows of a message: those of its header section, those of the fields behind it up to a place, that of a fault there, if there is one, and that of what is left. Where there is no fault, each item that the header section counts begins at a row. The fields are those of the items that can be read, in order, up to the first that can't.
+-- The rows of a message: those of its header section, those of the fields behind it up to a place, that of a fault there, if there is one, and that of what is left. Where there is no fault, each item that the header section counts begins at a row. The fields are those of the readings of the four sections, in order, up to the fault.
 pub record ShowsMessage (b : List ℕ) (rows : List Row) : Type 0 where
   pub others : List Row
   pub stop : Option Fault
@@ -55,4 +47,4 @@ pub record ShowsMessage (b : List ℕ) (rows : List Row) : Type 0 where
   pub fields : AreFields others header_size place
   pub within : place ≤ length b
   pub items : Begins stop (item_count others) (counted_items b)
-  pub parts : ShowsParts b (parts_of (counts_of b)) stop header_size place others
+  pub parts : ShowsParts b all_parts stop header_size place others

@@ -1,14 +1,19 @@
 -- What the steps of a walk over a message keep.
 use Rattle.dns_rows.specs.Data.{shape_of, Shape, ShowsData, TextRows, OptionRows, ShowsOption}
 use Rattle.dns_rows.specs.Named.{NameRows}
-use Rattle.std.specs.Prelude.{◌<◌, ◌≡◌, Bool, true, false, ℕ, ◌+◌, ◌-◌, ◌≤◌, List, ◌++◌, [], ◌∷◌, length, ⊤, Option, Some, None, Result, Ok, Err, take}
+use Rattle.std.specs.Prelude.{◌<◌, ◌≡◌, suc, Bool, true, false, ℕ, ◌+◌, ◌-◌, ◌≤◌, List, ◌++◌, [], ◌∷◌, length, ⊤, Option, Some, None, Result, Ok, Err, take}
 use Rattle.std.specs.Int.{w16}
 use Rattle.dns_name.specs.Names.{head_at, max_size, Fault, FaultAt, Faulty, Labels, Stands, Walked, WalkedBehind}
 use Rattle.dns_name.specs.NearNames.{LabelsTo}
 use Rattle.dns_name.specs.Parsers.{input, place, number_at, seen}
 use Rattle.dns_name.specs.declared.head.Head.TheVariants.{Root, Label, Pointer}
 use Rattle.dns_code.specs.HeaderSection.{header_size}
-use Rattle.dns_rows.specs.Entries.{data_fault, item_row, number_rows, FirstItems, ShowsItem, ShowsParts, StopsAmong, StopsItem}
+use Rattle.dns_code.specs.HeaderCounts.{Counts}
+use Rattle.dns_question.specs.Questions.{SkipsQuestion}
+use Rattle.dns_item.specs.Items.{SkipsRecord}
+use Rattle.dns_section.specs.Reading.{Passed}
+use Rattle.dns_section.specs.Sections.{question_count, answer_count, authority_count, additional_count}
+use Rattle.dns_rows.specs.Entries.{data_fault, item_row, number_rows, reading_from, Entry, ReadingRows, ShowsItem, ShowsParts, StopsItem}
 use Rattle.dns_rows.specs.Fields.{AreFields, item_count, ArePlain}
 use Rattle.dns_rows.specs.declared.row.Fault as rows
 use Rattle.dns_rows.specs.declared.row.Fault.TheVariants.{Short}
@@ -16,6 +21,7 @@ use Rattle.dns_rows.specs.declared.row.Field.{Field}
 use Rattle.dns_rows.specs.declared.row.Field.TheVariants.{Data}
 use Rattle.dns_rows.specs.declared.row.NameOf.{NameOf}
 use Rattle.dns_rows.specs.declared.row.Part.{Part}
+use Rattle.dns_rows.specs.declared.row.Part.TheVariants.{Question, Answer, Authority, Additional}
 use Rattle.dns_rows.specs.declared.row.Row.{Row}
 use Rattle.dns_rows.specs.declared.walk.Stop.{Stop}
 use Rattle.dns_rows.specs.declared.walk.Stop.TheVariants as stops
@@ -32,6 +38,17 @@ octets walk = seen walk.parser
 -- how many items have begun
 abbrev pub items : Walk → ℕ
 items walk = item_count walk.rows.items
+
+-- how many items the four counts are, together
+abbrev pub sum_of : Counts → ℕ
+sum_of all = all.qdcount + all.ancount + all.nscount + all.arcount
+
+-- the counts are those of a message
+pub record AreCountsOf (b : List ℕ) (all : Counts) : Type 0 where
+  pub questions : all.qdcount ≡ question_count b
+  pub answers : all.ancount ≡ answer_count b
+  pub authorities : all.nscount ≡ authority_count b
+  pub additionals : all.arcount ≡ additional_count b
 
 -- rows of fields cover the octets from the first item to the walk's place
 abbrev pub IsMarked : Walk → Type 0
@@ -156,30 +173,46 @@ pub record PassesNumbers (rtype len : ℕ) (old new : Walk) : Type 0 where
 
 -- a walk that passed an item
 pub record MarksItem (part : Part) (number : ℕ) (old new : Walk) : Type 0 where
+  pub entry : Entry part
   pub rows : List Row
   pub adds : Adds rows (at new) old new
-  pub shows : ShowsItem (octets old) part number (at old) (at new) rows
+  pub shows : ShowsItem (octets old) part number entry (at old) (at new) rows
 
 -- a walk that stopped in an item
 pub record MarksStop (part : Part) (number : ℕ) (old new : Walk) (fault : rows.Fault) : Type 0 where
+  pub item : Result (Entry part) Fault
   pub rows : List Row
   pub adds : new.rows.items ≡ old.rows.items ++ rows
-  pub stops : StopsItem (octets old) part number (at old) (at new) fault rows
+  pub stops : StopsItem (octets old) part number item (at old) (at new) fault rows
+
+-- an item of a part can be skipped
+abbrev pub SkipsItem : List ℕ → Part → ℕ → ℕ → Type 0
+SkipsItem b Question = SkipsQuestion b
+SkipsItem b Answer = SkipsRecord b
+SkipsItem b Authority = SkipsRecord b
+SkipsItem b Additional = SkipsRecord b
+
+-- the rows of the first n items of a part stand before those of what is read behind them
+abbrev pub AreFirstRows : List ℕ → Part → ℕ → ℕ → ℕ → List Row → Type 0
+AreFirstRows b part n p q first =
+    (k end : ℕ) (stop : Option rows.Fault) (behind : List Row) → ReadingRows b part (suc n) (reading_from b part k q) stop q end behind
+    → ReadingRows b part 1 (reading_from b part (n + k) p) stop p end (first ++ behind)
 
 -- a walk that passed the first n items of a part
 pub record MarksFirst (part : Part) (n : ℕ) (old new : Walk) : Type 0 where
   pub rows : List Row
   pub adds : Adds rows (at new) old new
-  pub first : FirstItems (octets old) part (at old) n (at new) rows
+  pub first : AreFirstRows (octets old) part n (at old) (at new) rows
+  pub skips : (k end : ℕ) → Passed (SkipsItem (octets old) part) k (at new) end → Passed (SkipsItem (octets old) part) (n + k) (at old) end
 
 -- a walk that stopped among n items of a part
 pub record MarksAmong (part : Part) (n : ℕ) (old new : Walk) (fault : rows.Fault) : Type 0 where
   pub rows : List Row
   pub adds : new.rows.items ≡ old.rows.items ++ rows
-  pub stops : StopsAmong (octets old) part n (at old) (at new) fault rows
+  pub shows : ReadingRows (octets old) part 1 (reading_from (octets old) part n (at old)) (Some fault) (at old) (at new) rows
 
 -- a walk that passed parts, or stopped in one
-pub record MarksParts (parts : List (Part × ℕ)) (stop : Option rows.Fault) (old new : Walk) : Type 0 where
+pub record MarksParts (parts : List Part) (stop : Option rows.Fault) (old new : Walk) : Type 0 where
   pub rows : List Row
   pub adds : new.rows.items ≡ old.rows.items ++ rows
   pub shows : ShowsParts (octets old) parts stop (at old) (at new) rows

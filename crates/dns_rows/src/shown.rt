@@ -2,10 +2,11 @@
 ghost use Rattle.std.specs.Prelude.{◌≡◌, ◌+◌, ◌<◌, ◌≤◌, ◌∷◌, [], IfOk, length, take};
 ghost use Rattle.dns_code.specs.HeaderSection.{header_size};
 ghost use Rattle.dns_code.specs.HeaderCounts.{counts};
-ghost use Rattle.dns_rows.specs.Shown.{Begins, header_rows, short_header, sum_of, ShowsMessage};
+ghost use Rattle.dns_rows.specs.Shown.{Begins, header_rows, short_header, ShowsMessage};
 ghost use Rattle.dns_rows.specs.Tiles.{Tiles};
-ghost use Rattle.dns_rows.specs.Entries.{parts_of};
-ghost use Rattle.dns_rows.specs.Walks.{items, Comes, IsMarked, MarksParts};
+ghost use Rattle.dns_rows.specs.Entries.{all_parts};
+ghost use Rattle.dns_rows.specs.Walks.{at, items, octets, sum_of, AreCountsOf, Comes, IsMarked, MarksParts};
+ghost use Rattle.dns_section.specs.Sections.{question_count, answer_count, authority_count, additional_count};
 
 use crate::row::{Fault, Kind, Row};
 use crate::tile;
@@ -55,21 +56,34 @@ fn message_rows(alloc: Global, octets: &[u8]) -> Result<Vec<Row>, AllocError>
     ensures shows { IfOk result (λ rows. ShowsMessage octets.now rows.items) }
 {
     let mut walk = Walk::new(alloc, octets);
-    let stop = fault_of(&mut walk, HeaderCounts::for_message_slice(octets))?;
+    let stop = fault_of(&mut walk, counts_of(octets))?;
     let mut rows = tile::header(alloc)?;
     rows.append(&mut walk.rows)?;
     tile::push_rest(&mut rows, stop, walk.parser.pos(), octets.len())?;
     Ok(rows)
 }
 
+/// How many items each section of a message has.
+fn counts_of(octets: &[u8]) -> HeaderCounts
+    requires { header_size ≤ length octets.now }
+    ensures questions { (counts result).qdcount ≡ question_count octets.now }
+    ensures answers { (counts result).ancount ≡ answer_count octets.now }
+    ensures authorities { (counts result).nscount ≡ authority_count octets.now }
+    ensures additionals { (counts result).arcount ≡ additional_count octets.now }
+{
+    HeaderCounts::for_message_slice(octets)
+}
+
 /// Walks over the items of a message, and gives the fault that ends the walk, if one does.
 fn fault_of(walk: &mut Walk, all: HeaderCounts) -> Result<Option<Fault>, AllocError>
-    requires { IsMarked walk.old }
+    requires marked { IsMarked walk.old }
+    requires start { at walk.old ≡ header_size }
+    requires counts { AreCountsOf (octets walk.old) (counts all) }
     ensures comes { Comes (sum_of (counts all)) walk.old walk.new }
     ensures begins { IfOk result (λ stop.
         Begins stop (items walk.new) (items walk.old + sum_of (counts all))) }
     ensures shows { IfOk result (λ stop.
-        MarksParts (parts_of (counts all)) stop walk.old walk.new) }
+        MarksParts all_parts stop walk.old walk.new) }
 {
     match walk.items(all) {
         Ok(()) => Ok(None),

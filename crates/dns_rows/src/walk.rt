@@ -8,11 +8,10 @@ ghost use Rattle.dns_code.specs.HeaderCounts.{counts};
 ghost use Rattle.dns_code.specs.HeaderSection.{header_size};
 ghost use Rattle.dns_rows.specs.Faults.{LacksName, StopsName};
 ghost use Rattle.dns_rows.specs.Fields.{items_at, IsField, field_row};
-ghost use Rattle.dns_rows.specs.Shown.{sum_of};
 ghost use Rattle.dns_rows.specs.Data.{exchange_shape, shape_of, zone_shape, LacksOption};
 ghost use Rattle.dns_rows.specs.Data.Shape.{End, Octets, Named, Options, Rest, Texts};
-ghost use Rattle.dns_rows.specs.Entries.{class_rows, holds_records, item_row, parts_of};
-ghost use Rattle.dns_rows.specs.Walks.{at, octets, items, IsMarked, Comes, Keeps, Adds, OnFault, OnFaultOf, LacksField, LacksFields, IsEnd, IsLabelAt, HasName, PassesLabels, PassesAllLabels, PassesEnd, PassesName, PassesItemName, Begun, PassesNumbers, MarksItem, MarksStop, MarksFirst, MarksAmong, MarksParts, MarksData, MarksWithin, StopsData, StopsWithin, PassesOption};
+ghost use Rattle.dns_rows.specs.Entries.{all_parts, class_rows, holds_records, item_row};
+ghost use Rattle.dns_rows.specs.Walks.{at, octets, items, sum_of, AreCountsOf, IsMarked, Comes, Keeps, Adds, OnFault, OnFaultOf, LacksField, LacksFields, IsEnd, IsLabelAt, HasName, PassesLabels, PassesAllLabels, PassesEnd, PassesName, PassesItemName, Begun, PassesNumbers, MarksItem, MarksStop, MarksFirst, MarksAmong, MarksParts, MarksData, MarksWithin, StopsData, StopsWithin, PassesOption};
 
 use crate::octets::target_of;
 use crate::row::{Fault, Field, NameOf, Part, Row, ZoneNumber};
@@ -272,12 +271,14 @@ impl<'a> Walk<'a> {
 
     /// The items of all parts, as many as the header section of the message says.
     pub(crate) fn items(&mut self, all: HeaderCounts) -> Result<(), Stop>
-        requires { IsMarked self.old }
+        requires marked { IsMarked self.old }
+        requires start { at self.old ≡ header_size }
+        requires counts { AreCountsOf (octets self.old) (counts all) }
         ensures comes { Comes (sum_of (counts all)) self.old self.new }
         ensures begins { OnOk result (items self.new ≡ items self.old + sum_of (counts all)) }
-        ensures shows { OnOk result (MarksParts (parts_of (counts all)) None self.old self.new) }
+        ensures shows { OnOk result (MarksParts all_parts None self.old self.new) }
         ensures stops { OnFaultOf result
-            (λ fault. MarksParts (parts_of (counts all)) (Some fault) self.old self.new) }
+            (λ fault. MarksParts all_parts (Some fault) self.old self.new) }
     {
         self.questions(all.qdcount())?;
         self.records(Part::Answer, all.ancount())?;

@@ -1,6 +1,6 @@
 use Rattle.std.proofs.Common.{◌≡◌, ◌+◌, Some, None, rules}
 use Rattle.dns_rows.specs.Data.{exchange_shape}
-use Rattle.dns_rows.specs.Data.Shape.{End, Octets, Named}
+use Rattle.dns_rows.specs.Data.Shape.{End, Named}
 use Rattle.dns_rows.specs.Faults.{LacksName}
 use Rattle.dns_rows.specs.Walks.{at, octets, LacksField, StopsData}
 use Rattle.dns_rows.specs.declared.row.NameOf.TheVariants.{Exchange}

@@ -1,5 +1,5 @@
-use Rattle.std.proofs.Common.{◌≡◌, ◌-◌, Ok, ap, rules, subst, sym, ℕ, List, ◌∙◌}
-use Rattle.dns_name.specs.Names.{Fault, FaultAt, Faulty, head_at}
+use Rattle.std.proofs.Common.{◌≡◌, ◌-◌, Ok, rules, subst, ℕ, List}
+use Rattle.dns_name.specs.Names.{Fault, FaultAt, head_at}
 use Rattle.dns_name.specs.declared.head.Head.TheVariants.{Root}
 use Rattle.dns_rows.specs.Faults.{StopsName}
 use Rattle.dns_rows.specs.Walks.{at, octets}
