@@ -1,25 +1,27 @@
 -- The rows of data.
 use Rattle.dns_rows.specs.Data.OptionRows.{none as no_options_rows, option}
 use Rattle.std.proofs.Common.{refl, ◌≡◌, ℕ, ◌+◌, ◌<◌, ◌≤◌, List, [], ◌∷◌, ◌++◌, length, OnOk, Result, Ok, Err, ◌∙◌, ap, subst, sym, arith, append_assoc, append-nil, take, length-take, slice_get, Option, Some, None, inl, inr}
+use Rattle.std.proofs.lemmas.Bool.Decides.{nat_tests}
+use Rattle.std.proofs.lemmas.Grind.{common_steps}
 use Rattle.std.proofs.lemmas.Option.{slice_get_cases}
 use Rattle.std.specs.Int.{w16}
 use Rattle.dns_name.specs.Parsers.{number_at}
-use Rattle.dns_rows.specs.Data.{shape_of, Shape, ShowsData, TextRows, LacksOption, ShowsOption}
-use Rattle.dns_rows.specs.Data.LacksOption.{code as code_lacks, len as len_lacks, value as value_lacks}
+use Rattle.dns_rows.specs.Data.{option_data_rows, option_rows, shape_of, Shape, ShowsData, TextRows, LacksOption, ShowsOption}
 use Rattle.dns_rows.specs.Data.TextRows.{none as no_text, text}
 use Rattle.dns_rows.specs.Data.Shape.{End, Octets, Named, Options, Rest, Texts}
 use Rattle.dns_rows.specs.Data.ShowsData.{done, octets as more_octets, short, name, no_name, no_option, nothing, options, rest, texts, text_short}
-use Rattle.dns_rows.specs.Faults.{LacksName}
 use Rattle.dns_rows.specs.Fields.{field_row}
-use Rattle.dns_rows.specs.Walks.{at, octets, Adds, Goes, LacksField, MarksData, MarksWithin, PassesName, PassesTexts, PassesOption, PassesOptions}
+use Rattle.dns_rows.specs.Walks.{at, octets, Adds, CutsFields, LacksField, MarksData, MarksWithin, MissesName, MissesOption, PassesName, PassesTexts, PassesOption, PassesOptions}
 use Rattle.dns_rows.specs.declared.row.Fault.{Fault as RowFault}
 use Rattle.dns_rows.specs.declared.row.Fault.TheVariants.{Short}
 use Rattle.dns_rows.specs.declared.row.Field.{Field}
 use Rattle.dns_rows.specs.declared.row.Field.TheVariants.{Data as DataField, OptionCode, OptionData, OptionLength, Text}
 use Rattle.dns_rows.specs.declared.walk.Stop.{Stop}
 use Rattle.dns_rows.specs.declared.row.NameOf.{NameOf}
+use Rattle.dns_rows.specs.declared.row.Row.{Row}
 use Rattle.dns_rows.specs.declared.walk.Walk.{Walk}
-use Rattle.dns_rows.proofs.Names.{adds_then}
+use Rattle.dns_rows.proofs.Cuts.{cut_after, cut_here, walk_within}
+use Rattle.dns_rows.proofs.Names.{adds_row, adds_then}
 
 pub data_done : (old : Walk) → MarksData End None old old
 data_done old = record { rows = []; adds = sym (append-nil old.rows.items); shows = done }
@@ -55,8 +57,8 @@ name_then of shape stop old mid new h k =
     }
 
 -- a name that can't be read
-pub name_missing : (of : NameOf) (shape : Shape) (old new : Walk) (fault : RowFault) → LacksName (octets old) (at old) (at new) fault → Goes old.rows.items (at old) new.rows.items (at new) → MarksData (Named of shape) (Some fault) old new
-name_missing of shape old new fault h g = record { rows = g.others; adds = g.made; shows = no_name h g.plain }
+pub name_missing : (of : NameOf) (shape : Shape) (old new : Walk) (fault : RowFault) → MissesName of old new fault → MarksData (Named of shape) (Some fault) old new
+name_missing of shape old new fault h = record { rows = h.rows; adds = h.adds; shows = no_name h.lacks }
 
 -- no octets that are left
 pub rest_none : (old : Walk) → length (octets old) ≤ at old → MarksData Rest None old old
@@ -145,35 +147,51 @@ all_options old new h end =
     let end_too : length (octets old) ≤ at new = omega (arith, same, end) in
     record { rows = h.rows; adds = h.adds.rows; shows = options h.options end_too }
 
-pub option_stops : (old mid new : Walk) (fault : RowFault) → PassesOptions old mid → at mid < length (octets mid) → LacksOption (octets mid) (at mid) fault → Goes mid.rows.items (at mid) new.rows.items (at new)
-    → MarksData Options (Some fault) old new
-option_stops old mid new fault h some lacks g =
-    let P : List ℕ → Type 0 = λ b. (at mid < length b) × LacksOption b (at mid) fault in
-    let there = subst P h.adds.seen (some, lacks) in
+pub option_stops : (old mid new : Walk) (fault : RowFault) → PassesOptions old mid → at mid < length (octets mid) → MissesOption mid new fault → MarksData Options (Some fault) old new
+option_stops old mid new fault h some k =
+    let P : List ℕ → Type 0 = λ b. (at mid < length b) × LacksOption b (at mid) (at new) fault k.rows in
+    let there = subst P h.adds.seen (some, k.cut) in
     record {
-      rows = h.rows ++ g.others;
-      adds = g.made ∙ ap (λ rows. rows ++ g.others) h.adds.rows ∙ append_assoc old.rows.items h.rows g.others;
-      shows = no_option h.rows g.others h.options there.0 there.1 g.plain;
+      rows = h.rows ++ k.rows;
+      adds = k.adds ∙ ap (λ rows. rows ++ k.rows) h.adds.rows ∙ append_assoc old.rows.items h.rows k.rows;
+      shows = no_option h.rows k.rows h.options there.0 there.1;
     }
 
+-- data that has octets has a row
+data_row : (code p q : ℕ) → p < q → option_data_rows code p q ≡ field_row p q (OptionData code) ∷ []
+data_row code p q some = grind (arith, nat_tests, common_steps)
+
 -- the field of an option that isn't all there
-pub lacks_code : (b : List ℕ) (p : ℕ) (fault : RowFault) → LacksField OptionCode b (p + 2) fault → LacksOption b p fault
-lacks_code b p fault h = subst (λ fault. LacksOption b p fault) (sym h.0) (code_lacks h.1)
+pub cut_code : (old new : Walk) (fault : RowFault) → LacksField OptionCode (octets old) (at old + 2) fault → new ≡ old → MissesOption old new fault
+cut_code old new fault h same =
+    let p = at old in
+    let code = number_at w16 (octets old) p in
+    let len = number_at w16 (octets old) (p + 2) in
+    cut_here p 2 (p + 2) OptionCode (field_row (p + 2) (p + 4) (OptionLength code) ∷ option_data_rows code (p + 4) (p + 4 + len)) old new fault h same refl refl
 
-pub lacks_len : (n : ℕ) (old mid : Walk) (fault : RowFault) → Adds (field_row (at old) (at old + 2) OptionCode ∷ []) (at old + 2) old mid → at old + 2 ≤ length (octets old)
-    → n ≡ number_at w16 (octets old) (at old) → LacksField (OptionLength n) (octets mid) (at mid + 2) fault → LacksOption (octets old) (at old) fault
-lacks_len n old mid fault h within read k =
-    let same = ap length h.seen in
-    let there : LacksOption (octets old) (at old) (Short (OptionLength (number_at w16 (octets old) (at old)))) = len_lacks within (omega (arith, k.1, same, h.place)) in
-    subst (λ fault. LacksOption (octets old) (at old) fault) (sym (k.0 ∙ ap (λ n. Short (OptionLength n)) read)) there
+pub cut_len : (n : ℕ) (old mid new : Walk) (fault : RowFault) → Adds (field_row (at old) (at old + 2) OptionCode ∷ []) (at old + 2) old mid → n ≡ number_at w16 (octets old) (at old)
+    → LacksField (OptionLength n) (octets mid) (at mid + 2) fault → new ≡ mid → MissesOption old new fault
+cut_len n old mid new fault h read k same =
+    let p = at old in
+    let len = number_at w16 (octets old) (p + 2) in
+    let grown : p + 4 ≡ p + 2 + 2 = omega arith in
+    let rows : ℕ → List Row = λ code. field_row (p + 2) (p + 4) (OptionLength code) ∷ option_data_rows code (p + 4) (p + 4 + len) in
+    let cut : CutsFields (rows n) mid new fault = cut_here (p + 2) 2 (p + 4) (OptionLength n) (option_data_rows n (p + 4) (p + 4 + len)) mid new fault k same h.place grown in
+    cut_after (field_row p (p + 2) OptionCode ∷ []) (rows (number_at w16 (octets old) p)) (p + 2) old mid new fault h (subst (λ code. CutsFields (rows code) mid new fault) read cut)
 
-pub lacks_value : (n size : ℕ) (old mid new : Walk) (fault : RowFault) → Adds (field_row (at old) (at old + 2) OptionCode ∷ []) (at old + 2) old mid
-    → n ≡ number_at w16 (octets old) (at old) → Adds (field_row (at mid) (at mid + 2) (OptionLength n) ∷ []) (at mid + 2) mid new → at mid + 2 ≤ length (octets mid)
-    → size ≡ number_at w16 (octets mid) (at mid) → LacksField (OptionData n) (octets new) (at new + size) fault → LacksOption (octets old) (at old) fault
-lacks_value n size old mid new fault h read k within sized l =
-    let same = ap length h.seen in
-    let same_too = ap length k.seen in
-    let sized_there : size ≡ number_at w16 (octets old) (at old + 2) = sized ∙ ap (λ b. number_at w16 b (at mid)) h.seen ∙ ap (λ p. number_at w16 (octets old) p) h.place in
-    let there : LacksOption (octets old) (at old) (Short (OptionData (number_at w16 (octets old) (at old)))) =
-    value_lacks (omega (arith, within, same, h.place)) (omega (arith, l.1, same, same_too, h.place, k.place, sized_there)) in
-    subst (λ fault. LacksOption (octets old) (at old) fault) (sym (l.0 ∙ ap (λ n. Short (OptionData n)) read)) there
+pub cut_value : (n size : ℕ) (old mid last new : Walk) (fault : RowFault) → Adds (field_row (at old) (at old + 2) OptionCode ∷ []) (at old + 2) old mid → n ≡ number_at w16 (octets old) (at old)
+    → Adds (field_row (at mid) (at mid + 2) (OptionLength n) ∷ []) (at mid + 2) mid last → size ≡ number_at w16 (octets mid) (at mid) → LacksField (OptionData n) (octets last) (at last + size) fault
+    → new ≡ last → MissesOption old new fault
+cut_value n size old mid last new fault h read k sized l same =
+    let p = at old in
+    let grown : p + 4 ≡ p + 2 + 2 = omega arith in
+    let front = field_row p (p + 2) OptionCode ∷ [] in
+    let both = adds_row front old mid last (p + 2) 2 (p + 4) (OptionLength n) h k grown in
+    let cut = cut_here (p + 4) size (p + 4 + size) (OptionData n) [] last new fault l same both.place refl in
+    let some : p + 4 < p + 4 + size = omega (arith, l.1, walk_within last, both.place) in
+    let one = subst (λ rows. CutsFields rows last new fault) (sym (data_row n (p + 4) (p + 4 + size) some)) cut in
+    let whole : CutsFields (option_rows n size p) old new fault =
+    cut_after (front ++ field_row (p + 2) (p + 4) (OptionLength n) ∷ []) (option_data_rows n (p + 4) (p + 4 + size)) (p + 4) old last new fault both one in
+    let sized_there : size ≡ number_at w16 (octets old) (p + 2) = sized ∙ ap (λ b. number_at w16 b (at mid)) h.seen ∙ ap (λ p. number_at w16 (octets old) p) h.place in
+    let P : ℕ → ℕ → Type 0 = λ code len. CutsFields (option_rows code len p) old new fault in
+    subst (λ code. P code (number_at w16 (octets old) (p + 2))) read (subst (λ len. P n len) sized_there whole)

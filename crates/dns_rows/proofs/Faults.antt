@@ -1,18 +1,19 @@
 -- Which fault a row tells.
-use Rattle.std.proofs.Common.{◌≡◌, ℕ, zero, suc, ◌+◌, ◌-◌, ◌*◌, ◌/◌, ◌%◌, ◌<◌, ◌≤◌, List, [], ◌∷◌, length, slice_get, Option, Some, None, Ok, Err, refl, arith, ap, ◌∙◌}
+use Rattle.std.proofs.Common.{◌≡◌, ℕ, zero, suc, ◌+◌, ◌-◌, ◌*◌, ◌/◌, ◌%◌, ◌<◌, ◌≤◌, List, [], ◌∷◌, length, slice_get, Option, Some, None, Ok, Err, inl, inr, refl, arith, ap, ◌∙◌}
 use Rattle.std.proofs.lemmas.Bool.Decides.{nat_tests}
 use Rattle.std.proofs.lemmas.Grind.{common_steps}
+use Rattle.std.proofs.lemmas.Option.{slice_get_cases, slice_get_past}
 use Rattle.dns_name.specs.Names.{head_at, head_of, max_size, Fault, Faulty, Labels, Stands}
 use Rattle.dns_name.specs.Names.Fault.{ShortInput, Form}
 use Rattle.dns_name.specs.Names.Faulty.{head, long, cut, ahead, label, pointer}
-use Rattle.dns_name.specs.NearNames.{LabelsTo}
 use Rattle.dns_name.specs.declared.head.Head.TheVariants.{Root, Label, Pointer}
 use Rattle.dns_name.proofs.theory.HeadLemmas.{at_label, at_pointer, label_begins, pointer_begins, root_begins}
 use Rattle.dns_rows.specs.Faults.{StopsName, TellsFault}
-use Rattle.dns_rows.specs.Faults.StopsName.{none as no_octet, cut as cut_label, label as no_label, long as long_name, ahead as ahead_pointer, behind as behind_pointer, pointed}
+use Rattle.dns_rows.specs.Faults.StopsName.{none as no_octet, half as half_pointer, cut as cut_label, label as no_label, long as long_name, ahead as ahead_pointer, behind as behind_pointer, pointed}
 use Rattle.dns_rows.specs.declared.row.Fault.{Fault as RowFault}
 use Rattle.dns_rows.specs.declared.row.Fault.TheVariants as faults
-use Rattle.dns_rows.specs.declared.row.Field.{Field}
+use Rattle.dns_rows.specs.declared.row.Field.TheVariants as fields
+use Rattle.dns_rows.specs.declared.row.NameOf.{NameOf}
 use Rattle.dns_rows.specs.Rows.{target_in}
 use Rattle.dns_rows.specs.Walks.{IsLabelAt}
 
@@ -74,21 +75,17 @@ fault_of_ahead b p s t f h far (ahead k w) = refl
 fault_of_ahead b p s t f h far (label k short fits w) = cc (h, k)
 fault_of_ahead b p s t f h far (pointer {t = u} k back w) = let same : u ≡ t = cc (h, k) in absurd (omega (arith, far, back, same))
 
--- a row's fault tells the fault that reading the name meets
-pub tells_name : (b : List ℕ) (start p : ℕ) (fault : RowFault) (f : Fault) → LabelsTo b start 0 p (p - start) → StopsName b p (p - start) fault → Faulty b p (p - start) f → TellsFault b start p fault f
-tells_name b start p _ f l (no_octet h) w = fault_of_none b p (p - start) f ShortInput h w
-tells_name b start p _ f l (cut_label {n = n} h fits past) w = fault_of_cut b p (p - start) n f h fits past w
-tells_name b start p _ f l (no_label h) w = (fault_of_none b p (p - start) f Form h w, record { row = l; stops = no_label h })
-tells_name b start p _ f l (long_name {n = n} h far) w = (fault_of_long b p (p - start) n f h far w, record { row = l; stops = long_name h far })
-tells_name b start p _ f l (ahead_pointer {t = t} h far) w = (fault_of_ahead b p (p - start) t f h far w, record { row = l; stops = ahead_pointer h far })
-tells_name b start p _ f l (behind_pointer h back no_name) w = record { row = l; stops = behind_pointer h back no_name }
-tells_name b start p _ f l (pointed {name = name} h back there) w =
-    (form_of_standing b p (p - start) f name (Stands.pointer h back there) w, record { row = l; stops = pointed h back there })
-
 -- what an octet begins, or why nothing begins
 pub none_head : (b : List ℕ) (p : ℕ) → slice_get b p ≡ None → head_at b p ≡ Err ShortInput
 unfolding head_at
 none_head b p h = ap (λ (x : Option ℕ). head_of x (slice_get b (p + 1))) h
+
+-- behind the end no octet stands
+pub past_head : (b : List ℕ) (p : ℕ) → length b ≤ p → head_at b p ≡ Err ShortInput
+past_head b p past = none_head b p (slice_get_past b p past)
+
+pub no_octet_there : (b : List ℕ) (p : ℕ) → slice_get b p ≡ None → length b ≤ p
+no_octet_there b p none = elim (slice_get_cases b p).1 [ inl x ↦ absurd (cc (none, x.2)) | inr x ↦ x.0 ]
 
 head_of_bad : (n : ℕ) (second : Option ℕ) → 64 ≤ n → n < 192 → head_of (Some n) second ≡ Err Form
 head_of_bad n second from to = grind (arith, nat_tests, common_steps)
@@ -113,17 +110,28 @@ pointer_there b p x y first second from to small =
     pointer_begins b p t (omega arith) (first ∙ ap (λ n. Some n) high) (second ∙ ap (λ n. Some n) low)
 
 -- labels that are too long, or that aren't all there
-pub stops_long : (b : List ℕ) (p s n : ℕ) → slice_get b p ≡ Some n → n < 64 → (head_at b p ≡ Ok Root → ⊥) → 254 ≤ s + n → StopsName b p s faults.LongName
-stops_long b p s zero there small unlike far = absurd (unlike (root_begins b p there))
-stops_long b p s (suc n) there small unlike far = long_name (label_begins b p (suc n) (omega arith) (omega (arith, small)) there) (omega (arith, far))
+pub stops_long : (b : List ℕ) (of : NameOf) (start p n : ℕ) → slice_get b p ≡ Some n → n < 64 → (head_at b p ≡ Ok Root → ⊥) → 254 ≤ (p - start) + n → StopsName b of start p faults.LongName
+stops_long b of start p zero there small unlike far = absurd (unlike (root_begins b p there))
+stops_long b of start p (suc n) there small unlike far = long_name (label_begins b p (suc n) (omega arith) (omega (arith, small)) there) (omega (arith, far))
 
 past_end : (m n : ℕ) → (n ≤ m → ⊥) → m < n
 past_end m n h = omega (arith, h)
 
-pub stops_cut : (b : List ℕ) (p s n : ℕ) (field : Field) → slice_get b p ≡ Some n → n < 64 → (head_at b p ≡ Ok Root → ⊥) → ((n : ℕ) → IsLabelAt b p s n → ⊥) → s + n < 254
-    → StopsName b p s (faults.Short field)
-stops_cut b p s zero field there small unlike none near = absurd (unlike (root_begins b p there))
-stops_cut b p s (suc n) field there small unlike none near =
+pub stops_cut : (b : List ℕ) (of : NameOf) (start p n : ℕ) → slice_get b p ≡ Some n → n < 64 → (head_at b p ≡ Ok Root → ⊥) → ((n : ℕ) → IsLabelAt b p (p - start) n → ⊥)
+    → (p - start) + n < 254 → StopsName b of start p (faults.Short (fields.Label of))
+stops_cut b of start p zero there small unlike none near = absurd (unlike (root_begins b p there))
+stops_cut b of start p (suc n) there small unlike none near =
     let begins = label_begins b p (suc n) (omega arith) (omega (arith, small)) there in
-    let short : s + suc n + 1 ≤ max_size = omega (arith, near) in
+    let short : (p - start) + suc n + 1 ≤ max_size = omega (arith, near) in
     cut_label begins short (past_end (length b) (p + 1 + suc n) (λ fits. none (suc n) (record { begins = begins; short = short; fits = fits })))
+
+-- a row's fault tells the fault that reading the name meets
+pub tells_name : (b : List ℕ) (of : NameOf) (start p : ℕ) (fault : RowFault) (f : Fault) → StopsName b of start p fault → Faulty b p (p - start) f → TellsFault fault f
+tells_name b of start p _ f (no_octet h) w = fault_of_none b p (p - start) f ShortInput (past_head b p h) w
+tells_name b of start p _ f (half_pointer k h) w = fault_of_none b p (p - start) f ShortInput h w
+tells_name b of start p _ f (cut_label {n = n} h fits past) w = fault_of_cut b p (p - start) n f h fits past w
+tells_name b of start p _ f (no_label h) w = fault_of_none b p (p - start) f Form h w
+tells_name b of start p _ f (long_name {n = n} h far) w = fault_of_long b p (p - start) n f h far w
+tells_name b of start p _ f (ahead_pointer {t = t} h far) w = fault_of_ahead b p (p - start) t f h far w
+tells_name b of start p _ f (behind_pointer h back no_name) w = tt
+tells_name b of start p _ f (pointed {name = name} h back there) w = form_of_standing b p (p - start) f name (Stands.pointer h back there) w

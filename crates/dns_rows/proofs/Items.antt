@@ -1,75 +1,86 @@
 -- The rows of items.
 use Rattle.std.proofs.Common.{◌≡◌, ℕ, suc, ◌+◌, ◌-◌, ◌<◌, ◌≤◌, List, [], ◌∷◌, ◌++◌, length, Option, Some, None, ◌∙◌, ap, subst, sym, refl, arith, add-one, append_assoc, append-nil, take, IsTrue}
-use Rattle.std.proofs.lemmas.List.Elements.{All-nil}
 use Rattle.std.specs.Int.{w16, w32}
 use Rattle.std.specs.Prelude.{Result, Ok, Err}
-use Rattle.dns_name.specs.Names.{Fault, FaultAt, Labels, Stands}
+use Rattle.dns_name.specs.Names.{Fault}
 use Rattle.dns_name.specs.Names.Fault.{ShortInput}
-use Rattle.dns_name.proofs.theory.Names.{not_both}
 use Rattle.dns_name.specs.Parsers.{number_at}
 use Rattle.dns_rows.specs.Data.{shape_of, ShowsData}
 use Rattle.dns_rows.specs.Walks.StopsWithin.{missing, stopped}
 use Rattle.dns_question.specs.BehindNames.FieldsFaultAt.{name as name_fault, short as short_fields}
 use Rattle.dns_code.specs.HeaderCounts.{Counts}
 use Rattle.dns_question.specs.Questions.{QuestionItem}
-use Rattle.dns_item.specs.Items.{RecordEntry, ReadsRecord}
+use Rattle.dns_item.specs.Items.{LacksRecord, RecordEntry, ReadsRecord}
 use Rattle.dns_section.specs.Reading.{Passed}
 use Rattle.dns_section.specs.Reading.Passed.{none as none_passed, more as passed_more}
 use Rattle.dns_section.specs.RecordsFrom.{records_from}
 use Rattle.dns_section.proofs.theory.QuestionsFromLemmas.{questions_from_are_read}
 use Rattle.dns_section.proofs.theory.RecordsFromLemmas.{records_from_are_read}
 use Rattle.dns_item.specs.Items.LacksRecord.{fields as lacks_fields, rdata as lacks_data}
-use Rattle.dns_rows.specs.Entries.{all_parts, count_of, holds_records, item_row, number_rows, reading_from, Entry, ItemStops, PartStarts, ReadingRows, RecordStops, ShowsItem, ShowsParts, ShowsQuestion, ShowsRecord, StopsItem}
+use Rattle.dns_rows.specs.Entries.{all_parts, class_rows, count_of, data_fault, holds_records, item_row, number_rows, opt_rows, question_rows, reading_from, record_rows, DataStops, Entry, ItemStops, LacksItem, PartStarts, ReadingRows, RecordStops, ShowsItem, ShowsParts, ShowsQuestion, ShowsRecord, StopsItem}
+use Rattle.dns_rows.specs.Entries.LacksItem.{name as name_lacks, short as fields_lack}
 use Rattle.dns_rows.specs.Entries.ReadingRows.{none, entry, stops}
 use Rattle.dns_rows.specs.Entries.ShowsParts.{none as no_more, all as all_shown, fault as fault_among}
-use Rattle.dns_rows.specs.Faults.{LacksName, TellsFault}
-use Rattle.dns_rows.specs.Fields.{field_row, IsField}
-use Rattle.dns_rows.specs.Walks.{at, octets, Adds, AreCountsOf, AreFirstRows, Begun, Goes, LacksFields, MarksAmong, MarksFirst, MarksItem, MarksParts, MarksStop, PassesItemName, PassesNumbers, MarksWithin, SkipsItem, StopsWithin}
+use Rattle.dns_rows.specs.Fields.{field_row, CutRows}
+use Rattle.dns_rows.specs.Walks.{at, octets, Adds, AreCountsOf, AreFirstRows, CutsFields, LacksField, LacksFields, MarksAmong, MarksFirst, MarksItem, MarksParts, MarksStop, MissesItemName, PassesItemName, PassesNumbers, MarksWithin, SkipsItem, StopsWithin}
 use Rattle.dns_rows.specs.declared.row.Fault.{Fault as RowFault}
 use Rattle.dns_rows.specs.declared.row.Fault.TheVariants.{Short}
-use Rattle.dns_rows.specs.declared.row.Field.{Field}
 use Rattle.dns_rows.specs.declared.row.Field.TheVariants as fields
+use Rattle.dns_rows.specs.declared.row.NameOf.{NameOf}
 use Rattle.dns_rows.specs.declared.row.NameOf.TheVariants as names
 use Rattle.dns_rows.specs.declared.row.Part.{Part}
 use Rattle.dns_rows.specs.declared.row.Part.TheVariants.{Question, Answer, Authority, Additional}
 use Rattle.dns_rows.specs.declared.row.Row.{Row}
 use Rattle.dns_rows.specs.declared.walk.Walk.{Walk}
+use Rattle.dns_rows.proofs.Cuts.{cut_after, cut_before, cut_here}
 use Rattle.dns_rows.proofs.Names.{adds_row, adds_then}
 
--- octets that lack are told by the field that isn't all there
-tells_short : (b : List ℕ) (start place : ℕ) (field : Field) (fault : RowFault) → fault ≡ Short field → TellsFault b start place fault ShortInput
-tells_short b start place field fault told = subst (λ fault. TellsFault b start place fault ShortInput) (sym told) refl
-
--- where a name stands, the fault is not the name's
-not_name : (b : List ℕ) (p : ℕ) (labels : Labels) {X : Type 0} → Stands b p labels → FaultAt b p ShortInput → X
-not_name b p labels stands w = absurd (not_both b p labels ShortInput stands w)
-
 -- an item stops with a fault, whatever is read of it; so does a record
-abbrev pub AnyStops : List ℕ → Part → ℕ → ℕ → RowFault → Type 0
-AnyStops b part p place fault = (x : Result (Entry part) Fault) × ItemStops b part x p place fault
+abbrev pub AnyStops : List ℕ → Part → ℕ → ℕ → RowFault → List Row → Type 0
+AnyStops b part p place fault others = (x : Result (Entry part) Fault) × ItemStops b part x p place fault others
 
-abbrev pub AnyRecordStops : List ℕ → ℕ → ℕ → RowFault → Type 0
-AnyRecordStops b p place fault = (x : Result RecordEntry Fault) × RecordStops b x p place fault
+abbrev pub AnyRecordStops : List ℕ → ℕ → ℕ → RowFault → List Row → Type 0
+AnyRecordStops b p place fault others = (x : Result RecordEntry Fault) × RecordStops b x p place fault others
 
 -- a walk that stopped in an item
-pub marks_stop : (part : Part) (number : ℕ) (old new : Walk) (fault : RowFault) → Begun part number old new → AnyStops (octets old) part (at old) (at new) fault → MarksStop part number old new fault
-marks_stop part number old new fault g s = record {
-  item = s.0;
-  rows = item_row part number (at old) ∷ g.others;
-  adds = g.made ∙ append_assoc old.rows.items (item_row part number (at old) ∷ []) g.others;
-  stops = record { stops = s.1; others = g.others; before = g.plain; made = refl };
-}
+marks_stop : (part : Part) (number : ℕ) (others : List Row) (old new : Walk) (fault : RowFault) → new.rows.items ≡ old.rows.items ++ item_row part number (at old) ∷ others
+    → AnyStops (octets old) part (at old) (at new) fault others → MarksStop part number old new fault
+marks_stop part number others old new fault adds s =
+    record { item = s.0; rows = item_row part number (at old) ∷ others; adds = adds; stops = record { others = others; stops = s.1; made = refl } }
 
 -- a question whose name can't be read
-pub question_unnamed : (b : List ℕ) (p place : ℕ) (fault : RowFault) → LacksName b p place fault → AnyStops b Question p place fault
-question_unnamed b p place fault h = (Err h.0, (name_fault h.1, (h.2, λ _. h.3)))
+pub question_unnamed : (number : ℕ) (old new : Walk) (fault : RowFault) → MissesItemName names.Question (item_row Question number (at old)) old new fault → MarksStop Question number old new fault
+question_unnamed number old new fault h = marks_stop Question number h.rows old new fault h.adds (Err h.f, (name_fault h.lacks.faulty, name_lacks h.lacks))
+
+-- the fields behind the name of an item aren't all there
+behind_name : (of : NameOf) (behind : ℕ → List Row) (row : Row) (old mid new : Walk) (fault : RowFault) (h : PassesItemName of row old mid) (k : CutsFields (behind (at mid)) mid new fault)
+    → LacksItem (octets old) of behind (at old) ShortInput (at new) fault (h.rows ++ k.rows)
+behind_name of behind row old mid new fault h k =
+    fields_lack h.rows k.rows h.stands h.walked h.shows (subst (λ b. CutRows b (behind (at mid)) (at new) fault k.rows) h.adds.seen k.cut)
+
+-- the rows of an item up to there
+rows_there : (of : NameOf) (row : Row) (behind : List Row) (old mid new : Walk) (fault : RowFault) (h : PassesItemName of row old mid) (k : CutsFields behind mid new fault)
+    → new.rows.items ≡ old.rows.items ++ row ∷ (h.rows ++ k.rows)
+rows_there of row behind old mid new fault h k = k.adds ∙ ap (λ rows. rows ++ k.rows) h.adds.rows ∙ append_assoc old.rows.items (row ∷ h.rows) k.rows
 
 -- a question whose type and class aren't all there
-pub question_short : (row : Row) (old mid : Walk) (place : ℕ) (field : Field) (fault : RowFault) → PassesItemName names.Question row old mid → fault ≡ Short field → length (octets mid) < at mid + 4
-    → AnyStops (octets old) Question (at old) place fault
-question_short row old mid place field fault h told short =
+pub question_short : (number : ℕ) (old mid new : Walk) (fault : RowFault) → PassesItemName names.Question (item_row Question number (at old)) old mid → CutsFields (question_rows (at mid)) mid new fault
+    → length (octets mid) < at mid + 4 → MarksStop Question number old new fault
+question_short number old mid new fault h k short =
+    let row = item_row Question number (at old) in
     let short_there : length (octets old) < at mid + 4 = subst (λ (b : List ℕ). length b < at mid + 4) h.adds.seen short in
-    (Err ShortInput, (short_fields h.stands h.walked short_there, (tells_short (octets old) (at old) place field fault told, not_name (octets old) (at old) h.labels h.stands)))
+    let lacks = behind_name names.Question (λ r. question_rows r) row old mid new fault h k in
+    marks_stop Question number (h.rows ++ k.rows) old new fault (rows_there names.Question row (question_rows (at mid)) old mid new fault h k)
+    (Err ShortInput, (short_fields h.stands h.walked short_there, lacks))
+
+-- the class of a question isn't all there
+pub class_cut : (old mid new : Walk) (fault : RowFault) → Adds (field_row (at old) (at old + 2) fields.Type ∷ []) (at old + 2) old mid → LacksField fields.Class (octets mid) (at mid + 2) fault → new ≡ mid
+    → CutsFields (question_rows (at old)) old new fault
+class_cut old mid new fault h k same =
+    let r = at old in
+    let grown : r + 4 ≡ r + 2 + 2 = omega arith in
+    cut_after (field_row r (r + 2) fields.Type ∷ []) (field_row (r + 2) (r + 4) fields.Class ∷ []) (r + 2) old mid new fault h
+    (cut_here (r + 2) 2 (r + 4) fields.Class [] mid new fault k same h.place grown)
 
 -- a question of a name, a type and a class
 pub marks_question : (number : ℕ) (old a b new : Walk) → PassesItemName names.Question (item_row Question number (at old)) old a
@@ -101,11 +112,11 @@ marks_question number old a b new h k l within =
     }
 
 -- where a record can't be read, or its data can't
-pub record_stops : (b : List ℕ) (part : Part) (p place : ℕ) (fault : RowFault) → IsTrue (holds_records part) → AnyRecordStops b p place fault → AnyStops b part p place fault
-record_stops b Question p place fault h s = absurd (cc h)
-record_stops b Answer p place fault h s = s
-record_stops b Authority p place fault h s = s
-record_stops b Additional p place fault h s = s
+record_stops : (b : List ℕ) (part : Part) (p place : ℕ) (fault : RowFault) (others : List Row) → IsTrue (holds_records part) → AnyRecordStops b p place fault others → AnyStops b part p place fault others
+record_stops b Question p place fault others h s = absurd (cc h)
+record_stops b Answer p place fault others h s = s
+record_stops b Authority p place fault others h s = s
+record_stops b Additional p place fault others h s = s
 
 record_shows : (b : List ℕ) (part : Part) (number : ℕ) (x : RecordEntry) (p q : ℕ) (rows : List Row) → IsTrue (holds_records part) → ShowsRecord b part number x p q rows
     → (y : Entry part) × ShowsItem b part number y p q rows
@@ -115,14 +126,93 @@ record_shows b Authority number x p q rows h s = (x, s)
 record_shows b Additional number x p q rows h s = (x, s)
 
 -- a record whose owner can't be read
-pub record_unnamed : (b : List ℕ) (p place : ℕ) (fault : RowFault) → LacksName b p place fault → AnyRecordStops b p place fault
-record_unnamed b p place fault h = (Err h.0, (name_fault h.1, (h.2, λ _. h.3)))
+pub record_unnamed : (part : Part) (number : ℕ) (old new : Walk) (fault : RowFault) → IsTrue (holds_records part) → MissesItemName names.Owner (item_row part number (at old)) old new fault
+    → MarksStop part number old new fault
+record_unnamed part number old new fault records h =
+    marks_stop part number h.rows old new fault h.adds (record_stops (octets old) part (at old) (at new) fault h.rows records (Err h.f, (name_fault h.lacks.faulty, name_lacks h.lacks)))
 
--- a record whose numbers aren't all there
-pub record_short : (row : Row) (old mid : Walk) (place : ℕ) (fault : RowFault) → PassesItemName names.Owner row old mid → LacksFields (octets mid) (at mid + 10) fault → AnyRecordStops (octets old) (at old) place fault
-record_short row old mid place fault h short =
-    let short_there : length (octets old) < at mid + 10 = subst (λ (b : List ℕ). length b < at mid + 10) h.adds.seen short.1.1 in
-    (Err ShortInput, (short_fields h.stands h.walked (lacks_fields short_there), (tells_short (octets old) (at old) place short.0 fault short.1.0, not_name (octets old) (at old) h.labels h.stands)))
+-- a record whose numbers or data aren't all there
+record_short : (part : Part) (number : ℕ) (old mid new : Walk) (fault : RowFault) → IsTrue (holds_records part) → PassesItemName names.Owner (item_row part number (at old)) old mid
+    → CutsFields (record_rows (octets mid) (at mid)) mid new fault → LacksRecord (octets mid) (at mid) → MarksStop part number old new fault
+record_short part number old mid new fault records h k short =
+    let row = item_row part number (at old) in
+    let b = octets old in
+    let short_there : LacksRecord b (at mid) = subst (λ b. LacksRecord b (at mid)) h.adds.seen short in
+    let cut : CutsFields (record_rows b (at mid)) mid new fault = subst (λ b. CutsFields (record_rows b (at mid)) mid new fault) h.adds.seen k in
+    let lacks = behind_name names.Owner (record_rows b) row old mid new fault h cut in
+    marks_stop part number (h.rows ++ cut.rows) old new fault (rows_there names.Owner row (record_rows b (at mid)) old mid new fault h cut)
+    (record_stops b part (at old) (at new) fault (h.rows ++ cut.rows) records (Err ShortInput, (short_fields h.stands h.walked short_there, lacks)))
+
+pub numbers_short : (part : Part) (number : ℕ) (old mid new : Walk) (fault : RowFault) → IsTrue (holds_records part) → PassesItemName names.Owner (item_row part number (at old)) old mid
+    → LacksFields (octets mid) (at mid + 10) fault → CutsFields (number_rows (number_at w16 (octets mid) (at mid)) (at mid)) mid new fault → MarksStop part number old new fault
+numbers_short part number old mid new fault records h short k =
+    let b = octets mid in
+    let r = at mid in
+    let rdata = field_row (r + 10) (r + 10 + number_at w16 b (r + 8)) fields.Data ∷ [] in
+    record_short part number old mid new fault records h (cut_before (number_rows (number_at w16 b r) r) rdata mid new fault k) (lacks_fields short.1.1)
+
+-- where the numbers of a record aren't all there
+pub class_lacks : (rtype : ℕ) (old mid new : Walk) (fault : RowFault) → Adds (field_row (at old) (at old + 2) fields.Type ∷ []) (at old + 2) old mid → rtype ≡ number_at w16 (octets old) (at old)
+    → CutsFields (class_rows rtype (at mid)) mid new fault → CutsFields (number_rows (number_at w16 (octets old) (at old)) (at old)) old new fault
+class_lacks rtype old mid new fault h read k =
+    let r = at old in
+    let rows : List Row = class_rows (number_at w16 (octets old) r) (r + 2) in
+    let P : ℕ → ℕ → Type 0 = λ n p. CutsFields (class_rows n p) mid new fault in
+    let cut : CutsFields rows mid new fault = subst (λ n. P n (r + 2)) read (subst (λ p. P rtype p) h.place k) in
+    let last = field_row (r + 8) (r + 10) fields.DataLength ∷ [] in
+    cut_after (field_row r (r + 2) fields.Type ∷ []) (rows ++ last) (r + 2) old mid new fault h (cut_before rows last mid new fault cut)
+
+pub len_lacks : (rtype : ℕ) (old mid last new : Walk) (fault : RowFault) → Adds (field_row (at old) (at old + 2) fields.Type ∷ []) (at old + 2) old mid → rtype ≡ number_at w16 (octets old) (at old)
+    → Adds (class_rows rtype (at mid)) (at mid + 6) mid last → LacksField fields.DataLength (octets last) (at last + 2) fault → new ≡ last
+    → CutsFields (number_rows (number_at w16 (octets old) (at old)) (at old)) old new fault
+len_lacks rtype old mid last new fault h read k l same =
+    let r = at old in
+    let rows : List Row = class_rows (number_at w16 (octets old) r) (r + 2) in
+    let P : ℕ → ℕ → Type 0 = λ n p. Adds (class_rows n p) (p + 6) mid last in
+    let class : Adds rows (r + 2 + 6) mid last = subst (λ n. P n (r + 2)) read (subst (λ p. P rtype p) h.place k) in
+    let there : at last ≡ r + 8 = omega (arith, class.place) in
+    let grown : r + 10 ≡ r + 8 + 2 = omega arith in
+    let end = field_row (r + 8) (r + 10) fields.DataLength ∷ [] in
+    cut_after (field_row r (r + 2) fields.Type ∷ []) (rows ++ end) (r + 2) old mid new fault h
+    (cut_after rows end (r + 2 + 6) mid last new fault class (cut_here (r + 8) 2 (r + 10) fields.DataLength [] last new fault l same there grown))
+
+-- the rows of the numbers that an OPT record has in place of class and TTL, the last of which isn't all there
+pub opt_cut_2 : (old a new : Walk) (fault : RowFault) → Adds (field_row (at old) (at old + 2) fields.PayloadSize ∷ []) (at old + 2) old a
+    → LacksField fields.ExtendedRcode (octets a) (at a + 1) fault → new ≡ a → CutsFields (opt_rows (at old)) old new fault
+opt_cut_2 old a new fault h k same =
+    let p = at old in
+    let grown : p + 3 ≡ p + 2 + 1 = omega arith in
+    let behind = field_row (p + 3) (p + 4) fields.Version ∷ field_row (p + 4) (p + 6) fields.OptFlags ∷ [] in
+    cut_after (field_row p (p + 2) fields.PayloadSize ∷ []) (field_row (p + 2) (p + 3) fields.ExtendedRcode ∷ behind) (p + 2) old a new fault h
+    (cut_here (p + 2) 1 (p + 3) fields.ExtendedRcode behind a new fault k same h.place grown)
+
+two_opt_rows : (old a b : Walk) → Adds (field_row (at old) (at old + 2) fields.PayloadSize ∷ []) (at old + 2) old a → Adds (field_row (at a) (at a + 1) fields.ExtendedRcode ∷ []) (at a + 1) a b
+    → Adds (field_row (at old) (at old + 2) fields.PayloadSize ∷ field_row (at old + 2) (at old + 3) fields.ExtendedRcode ∷ []) (at old + 3) old b
+two_opt_rows old a b h k =
+    let grown : at old + 3 ≡ at old + 2 + 1 = omega arith in
+    adds_row (field_row (at old) (at old + 2) fields.PayloadSize ∷ []) old a b (at old + 2) 1 (at old + 3) fields.ExtendedRcode h k grown
+
+pub opt_cut_3 : (old a b new : Walk) (fault : RowFault) → Adds (field_row (at old) (at old + 2) fields.PayloadSize ∷ []) (at old + 2) old a → Adds (field_row (at a) (at a + 1) fields.ExtendedRcode ∷ []) (at a + 1) a b
+    → LacksField fields.Version (octets b) (at b + 1) fault → new ≡ b → CutsFields (opt_rows (at old)) old new fault
+opt_cut_3 old a b new fault h k l same =
+    let p = at old in
+    let both = two_opt_rows old a b h k in
+    let grown : p + 4 ≡ p + 3 + 1 = omega arith in
+    let behind = field_row (p + 4) (p + 6) fields.OptFlags ∷ [] in
+    cut_after (field_row p (p + 2) fields.PayloadSize ∷ field_row (p + 2) (p + 3) fields.ExtendedRcode ∷ []) (field_row (p + 3) (p + 4) fields.Version ∷ behind) (p + 3) old b new fault both
+    (cut_here (p + 3) 1 (p + 4) fields.Version behind b new fault l same both.place grown)
+
+pub opt_cut_4 : (old a b d new : Walk) (fault : RowFault) → Adds (field_row (at old) (at old + 2) fields.PayloadSize ∷ []) (at old + 2) old a → Adds (field_row (at a) (at a + 1) fields.ExtendedRcode ∷ []) (at a + 1) a b
+    → Adds (field_row (at b) (at b + 1) fields.Version ∷ []) (at b + 1) b d → LacksField fields.OptFlags (octets d) (at d + 2) fault → new ≡ d → CutsFields (opt_rows (at old)) old new fault
+opt_cut_4 old a b d new fault h k l m same =
+    let p = at old in
+    let both = two_opt_rows old a b h k in
+    let further : p + 4 ≡ p + 3 + 1 = omega arith in
+    let front = field_row p (p + 2) fields.PayloadSize ∷ field_row (p + 2) (p + 3) fields.ExtendedRcode ∷ [] in
+    let three = adds_row front old b d (p + 3) 1 (p + 4) fields.Version both l further in
+    let grown : p + 6 ≡ p + 4 + 2 = omega arith in
+    cut_after (front ++ field_row (p + 3) (p + 4) fields.Version ∷ []) (field_row (p + 4) (p + 6) fields.OptFlags ∷ []) (p + 4) old d new fault three
+    (cut_here (p + 4) 2 (p + 6) fields.OptFlags [] d new fault m same three.place grown)
 
 -- what is read of a record
 abbrev entry_of : List (List ℕ) → List ℕ → ℕ → ℕ → ℕ → RecordEntry
@@ -143,30 +233,49 @@ reads_record row rtype len old a b h k there =
     let end : at a + 10 + len ≡ at a + (10 + number_at w16 (octets old) (at a + 8)) = omega (arith, len_there) in
     record { skips = record { name_end = at a; walked = h.walked; end = end; within = there }; owner = h.stands; rtype = rtype_there; class = refl; ttl = refl; data_start = refl; data_end = refl }
 
+-- the data of a record isn't all there
+data_cut : (rtype len : ℕ) (a b new : Walk) → PassesNumbers rtype len a b → length (octets b) < at b + len → new ≡ b → CutsFields (record_rows (octets a) (at a)) a new (Short fields.Data)
+data_cut rtype len a b new k short same =
+    let r = at a in
+    let rdata = field_row (r + 10) (r + 10 + len) fields.Data ∷ [] in
+    let cut = cut_here (r + 10) len (r + 10 + len) fields.Data [] b new (Short fields.Data) (refl, short) same k.adds.place refl in
+    let whole = cut_after (number_rows rtype r) rdata (r + 10) a b new (Short fields.Data) k.adds cut in
+    let P : ℕ → ℕ → Type 0 = λ n m. CutsFields (number_rows n r ++ field_row (r + 10) (r + 10 + m) fields.Data ∷ []) a new (Short fields.Data) in
+    subst (λ n. P n (number_at w16 (octets a) (r + 8))) k.rtype_there (subst (λ m. P rtype m) k.len_there whole)
+
 -- a record whose data isn't all there, or can't be read
-pub data_stops : (row : Row) (rtype len : ℕ) (old a b new : Walk) (fault : RowFault) → PassesItemName names.Owner row old a → PassesNumbers rtype len a b
-    → StopsWithin rtype len b new fault → AnyRecordStops (octets old) (at old) (at new) fault
-data_stops row rtype len old a b new _ h k (missing short) =
-    let len_there : len ≡ number_at w16 (octets old) (at a + 8) = subst (λ b. len ≡ number_at w16 b (at a + 8)) h.adds.seen k.len_there in
-    let whole : at a + 10 ≤ length (octets old) = subst (λ (b : List ℕ). at a + 10 ≤ length b) h.adds.seen k.within in
-    let same : length (octets b) ≡ length (octets old) = ap length (k.adds.seen ∙ h.adds.seen) in
-    (Err ShortInput, (short_fields h.stands h.walked (lacks_data whole (omega (arith, short, len_there, same, k.adds.place))), (refl, not_name (octets old) (at old) h.labels h.stands)))
-data_stops row rtype len old a b new _ h k (stopped stop there w left) =
+pub data_stops : (part : Part) (number rtype len : ℕ) (old a b new : Walk) (fault : RowFault) → IsTrue (holds_records part) → PassesItemName names.Owner (item_row part number (at old)) old a
+    → PassesNumbers rtype len a b → StopsWithin rtype len b new fault → MarksStop part number old new fault
+data_stops part number rtype len old a b new _ records h k (missing short same) =
+    let size = ap length k.adds.seen in
+    let lacks : LacksRecord (octets a) (at a) = lacks_data k.within (omega (arith, short, k.len_there, size, k.adds.place)) in
+    record_short part number old a new (Short fields.Data) records h (data_cut rtype len a b new k short same) lacks
+data_stops part number rtype len old a b new _ records h k (stopped stop there w left) =
+    let r = at a in
     let seen = k.adds.seen ∙ h.adds.seen in
     let same = ap length seen in
-    let there_too : at a + 10 + len ≤ length (octets old) = omega (arith, there, same, k.adds.place) in
-    let P : List ℕ → ℕ → Type 0 = λ b p. ShowsData (take (p + len) b) (shape_of rtype) stop p (at new) w.rows in (
-      Ok (entry_of h.labels (octets old) (at a) rtype len),
-      record {
-        end = at a + 10 + len;
-        reads = reads_record row rtype len old a b h k there_too;
-        data_rows = w.rows;
-        stop = stop;
-        value = subst (λ p. P (octets old) p) k.adds.place (subst (λ o. P o (at b)) seen w.shows);
-        left_over = λ e. omega (arith, left e, k.adds.place);
-        told = refl;
-      },
-    )
+    let there_too : r + 10 + len ≤ length (octets old) = omega (arith, there, same, k.adds.place) in
+    let P : List ℕ → ℕ → Type 0 = λ b p. ShowsData (take (p + len) b) (shape_of rtype) stop p (at new) w.rows in
+    let x = entry_of h.labels (octets old) r rtype len in
+    let row = item_row part number (at old) in
+    let front = row ∷ h.rows in
+    let others = h.rows ++ (number_rows rtype r ++ w.rows) in
+    let named = adds_then front (number_rows rtype r) r (r + 10) old a b h.adds k.adds in
+    let joined : (front ++ number_rows rtype r) ++ w.rows ≡ row ∷ others = append_assoc front (number_rows rtype r) w.rows in
+    let adds = w.adds ∙ ap (λ rows. rows ++ w.rows) named.rows ∙ append_assoc old.rows.items (front ++ number_rows rtype r) w.rows ∙ ap (λ rows. old.rows.items ++ rows) joined in
+    let stops : DataStops (octets old) x (at old) (at new) (data_fault stop) others = record {
+      end = r + 10 + len;
+      reads = reads_record row rtype len old a b h k there_too;
+      owner_rows = h.rows;
+      owner = h.shows;
+      data_rows = w.rows;
+      stop = stop;
+      value = subst (λ p. P (octets old) p) k.adds.place (subst (λ o. P o (at b)) seen w.shows);
+      left_over = λ e. omega (arith, left e, k.adds.place);
+      told = refl;
+      made = refl;
+    } in
+    marks_stop part number others old new (data_fault stop) adds (record_stops (octets old) part (at old) (at new) (data_fault stop) others records (Ok x, stops))
 
 -- a record of an owner, its numbers and its data
 pub marks_record : (part : Part) (number rtype len : ℕ) (old a b new : Walk) → IsTrue (holds_records part) → PassesItemName names.Owner (item_row part number (at old)) old a
@@ -205,10 +314,6 @@ marks_record part number rtype len old a b new records h k g seen place within =
       shows = subst (λ q. ShowsItem (octets old) part number whole.0 (at old) q rows) (sym to) whole.1;
     }
 
--- behind the rows that are there, none yet
-pub nothing_yet : (b : Walk) → Goes b.rows.items (at b) b.rows.items (at b)
-nothing_yet b = record { others = []; made = sym (append-nil b.rows.items); plain = record { fields = record { tiles = refl; fields = All-nil IsField }; plain = refl } }
-
 -- What reading one item more gives: the item that is shown, or the one that stops.
 reads_none : (b : List ℕ) (part : Part) (p : ℕ) → reading_from b part 0 p ≡ []
 reads_none b Question p = (questions_from_are_read b).none p
@@ -222,18 +327,18 @@ reads_next b Answer number n p q x rows s = (records_from_are_read b).entry n p 
 reads_next b Authority number n p q x rows s = (records_from_are_read b).entry n p q x s.reads
 reads_next b Additional number n p q x rows s = (records_from_are_read b).entry n p q x s.reads
 
-record_reads_stop : (b : List ℕ) (n p place : ℕ) (x : Result RecordEntry Fault) (fault : RowFault) → RecordStops b x p place fault
+record_reads_stop : (b : List ℕ) (n p place : ℕ) (x : Result RecordEntry Fault) (fault : RowFault) (shown : List Row) → RecordStops b x p place fault shown
     → (others : List (Result RecordEntry Fault)) × (records_from b (suc n) p ≡ x ∷ others)
-record_reads_stop b n p place (Ok x) fault s = (records_from b n s.end, (records_from_are_read b).entry n p s.end x s.reads)
-record_reads_stop b n p place (Err f) fault s = ([], (records_from_are_read b).stop n p f s.0)
+record_reads_stop b n p place (Ok x) fault shown s = (records_from b n s.end, (records_from_are_read b).entry n p s.end x s.reads)
+record_reads_stop b n p place (Err f) fault shown s = ([], (records_from_are_read b).stop n p f s.0)
 
-reads_stop : (b : List ℕ) (part : Part) (n p place : ℕ) (x : Result (Entry part) Fault) (fault : RowFault) → ItemStops b part x p place fault
+reads_stop : (b : List ℕ) (part : Part) (n p place : ℕ) (x : Result (Entry part) Fault) (fault : RowFault) (shown : List Row) → ItemStops b part x p place fault shown
     → (others : List (Result (Entry part) Fault)) × (reading_from b part (suc n) p ≡ x ∷ others)
-reads_stop b Question n p place (Ok x) fault s = absurd s
-reads_stop b Question n p place (Err f) fault s = ([], (questions_from_are_read b).stop n p f s.0)
-reads_stop b Answer n p place x fault s = record_reads_stop b n p place x fault s
-reads_stop b Authority n p place x fault s = record_reads_stop b n p place x fault s
-reads_stop b Additional n p place x fault s = record_reads_stop b n p place x fault s
+reads_stop b Question n p place (Ok x) fault shown s = absurd s
+reads_stop b Question n p place (Err f) fault shown s = ([], (questions_from_are_read b).stop n p f s.0)
+reads_stop b Answer n p place x fault shown s = record_reads_stop b n p place x fault shown s
+reads_stop b Authority n p place x fault shown s = record_reads_stop b n p place x fault shown s
+reads_stop b Additional n p place x fault shown s = record_reads_stop b n p place x fault shown s
 
 -- an item that is shown can be skipped
 skips_item : (b : List ℕ) (part : Part) (number p q : ℕ) (x : Entry part) (rows : List Row) → ShowsItem b part number x p q rows → SkipsItem b part p q
@@ -286,7 +391,7 @@ stops_among part n count old mid new fault h fewer k =
     let P : List ℕ → ℕ → Type 0 = λ b n. StopsItem b part n k.item (at mid) (at new) fault k.rows in
     let stop : P b (suc n) = subst (λ b. P b (suc n)) h.adds.seen (subst (λ n. P (octets mid) n) (add-one n) k.stops) in
     let left = count - (n + 1) in
-    let read = reads_stop b part left (at mid) (at new) k.item fault stop.stops in
+    let read = reads_stop b part left (at mid) (at new) k.item fault stop.others stop.stops in
     let there : ReadingRows b part (suc n) (k.item ∷ read.0) (Some fault) (at mid) (at new) k.rows = stops stop in
     let Q : List (Result (Entry part) Fault) → Type 0 = λ xs. ReadingRows b part (suc n) xs (Some fault) (at mid) (at new) k.rows in
     let all = h.first (suc left) (at new) (Some fault) k.rows (subst Q (sym read.1) there) in

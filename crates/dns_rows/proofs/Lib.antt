@@ -1,3 +1,4 @@
+mod Cuts
 mod DataRows
 mod Faults
 mod Items

@@ -1,17 +1,18 @@
 -- The rows of names.
-use Rattle.dns_rows.specs.Named.{NameRows}
+use Rattle.dns_rows.specs.Named.{LabelRows, NameRows}
+use Rattle.dns_rows.specs.Named.LabelRows.{none as no_labels, label as row_label}
 use Rattle.std.proofs.Common.{◌≡◌, ℕ, ◌+◌, ◌-◌, ◌<◌, ◌≤◌, OnOk, Result, Err, ◌⊎◌, inl, inr, List, [], ◌∷◌, ◌++◌, length, slice_get, Option, Some, None, Ok, ◌∙◌, ap, subst, sym, refl, arith, append_assoc, append-nil}
 use Rattle.dns_name.specs.Names.{head_at, max_size, Fault, Faulty, WalkedBehind}
 use Rattle.dns_name.specs.Names.Faulty.{head as head_fault, long as long_fault, cut as cut_fault, ahead as ahead_fault, label as label_fault, pointer as pointer_fault}
 use Rattle.dns_name.specs.Names.WalkedBehind.{root as root_walked, pointer as pointer_walked, label as label_walked}
-use Rattle.dns_name.specs.NearNames.{LabelsTo}
-use Rattle.dns_name.specs.NearNames.LabelsTo.{none as no_labels, label as row_label}
 use Rattle.dns_name.specs.declared.head.Head.TheVariants.{Label}
 use Rattle.dns_name.specs.Unique.{label_of}
 use Rattle.dns_name.proofs.theory.HeadLemmas.{label_there, root_there, root_begins}
 use Rattle.dns_rows.specs.Named.NameRows.{root as root_rows, pointer as pointer_rows, label as label_rows}
+use Rattle.dns_rows.specs.Faults.{LacksName}
 use Rattle.dns_rows.specs.Fields.{field_row}
-use Rattle.dns_rows.specs.Walks.{at, octets, Adds, IsEnd, IsLabelAt, PassesLabels, PassesAllLabels, PassesEnd}
+use Rattle.dns_rows.specs.declared.row.Fault.{Fault as RowFault}
+use Rattle.dns_rows.specs.Walks.{at, octets, Adds, IsEnd, IsLabelAt, MissesItemName, MissesName, PassesLabels, PassesAllLabels, PassesEnd}
 use Rattle.dns_rows.specs.Walks.IsEnd.{root as root_end, pointer as pointer_end}
 use Rattle.dns_rows.specs.declared.row.Field.{Field}
 use Rattle.dns_rows.specs.declared.row.Field.TheVariants as fields
@@ -65,10 +66,16 @@ fault_behind b p s n f label (label_fault {n = m} k short fits w) =
     subst (λ n. Faulty b (p + 1 + n) (s + n + 1) f) same w
 fault_behind b p s n f label (pointer_fault k back w) = cc (k, label.begins)
 
--- one label more in a row of labels
-label_more : (b : List ℕ) {p s q r n : ℕ} → LabelsTo b p s q r → head_at b q ≡ Ok (Label n) → r + n + 1 ≤ max_size → q + 1 + n ≤ length b → LabelsTo b p s (q + 1 + n) (r + n + 1)
-label_more b no_labels h short fits = row_label h short fits no_labels
-label_more b (row_label k w x l) h short fits = row_label k w x (label_more b l h short fits)
+-- one label more behind labels
+label_more : (b : List ℕ) (of : NameOf) {start p q n : ℕ} {rows : List Row} → LabelRows b of start p q rows → head_at b q ≡ Ok (Label n) → (q - start) + n + 1 ≤ max_size → q + 1 + n ≤ length b
+    → LabelRows b of start p (q + 1 + n) (rows ++ field_row q (q + 1 + n) (fields.Label of) ∷ [])
+label_more b of no_labels h short fits = row_label h short fits no_labels
+label_more b of (row_label k w x l) h short fits = row_label k w x (label_more b of l h short fits)
+
+-- labels, and what is behind them in a name
+labels_then : (b : List ℕ) (of : NameOf) {first start p q end : ℕ} {rows behind : List Row} → LabelRows b of first p q rows → NameRows b of start q end behind → NameRows b of start p end (rows ++ behind)
+labels_then b of no_labels r = r
+labels_then b of (row_label k w x l) r = label_rows k (labels_then b of l r)
 
 -- where no label begins, the name ends
 end_here : (b : List ℕ) (p s q : ℕ) → ((n : ℕ) → IsLabelAt b p s n → ⊥) → WalkedBehind b p s q → IsEnd b p q
@@ -81,11 +88,10 @@ pub none_passed : (of : NameOf) (old : Walk) → PassesLabels of 0 old old
 none_passed of old = record {
   rows = [];
   adds = record { rows = sym (append-nil old.rows.items); seen = refl; place = refl };
-  labels = λ start end behind r. r;
+  shown = no_labels;
   ends = λ q w. w;
   faults = λ f w. w;
   sizes = omega arith;
-  row = no_labels;
 }
 
 -- a walk that passed labels passes one more
@@ -100,23 +106,19 @@ one_more_label of size n old mid new h label k =
     record {
       rows = h.rows ++ row ∷ [];
       adds = record { rows = all.rows; seen = all.seen; place = refl };
-      labels = λ start end behind r.
-          let there : NameRows b of start (at mid + 1 + n) end behind = subst (λ p. NameRows b of start p end behind) to r in
-          let whole = h.labels start end (field_row (at mid) (at mid + 1 + n) (fields.Label of) ∷ behind) (label_rows begins there) in
+      shown =
+          let begins_there : IsLabelAt b (at mid) size n = subst (λ b. IsLabelAt b (at mid) size n) h.adds.seen label in
+          let short : (at mid - at old) + n + 1 ≤ max_size = omega (arith, h.sizes, begins_there.short) in
+          let there = label_more b of h.shown begins_there.begins short begins_there.fits in
           let same : at mid + 1 + n ≡ at mid + (n + 1) = omega arith in
-          let P : List Row → Type 0 = λ rows. NameRows b of start (at old) end rows in
-          subst P (ap (λ e. h.rows ++ field_row (at mid) e (fields.Label of) ∷ behind) same ∙ sym (append_assoc h.rows (row ∷ []) behind)) whole;
+          let P : ℕ → ℕ → Type 0 = λ place end. LabelRows b of (at old) (at old) place (h.rows ++ field_row (at mid) end (fields.Label of) ∷ []) in
+          subst (λ end. P (at new) end) same (subst (λ place. P place (at mid + 1 + n)) (sym to) there);
       faults = λ f w.
           let begins_there : IsLabelAt b (at mid) size n = subst (λ b. IsLabelAt b (at mid) size n) h.adds.seen label in
           let there = fault_behind b (at mid) size n f begins_there (h.faults f w) in
           let grown : size + n + 1 ≡ size + (n + 1) = omega arith in
           subst (λ s. Faulty b (at new) s f) grown (subst (λ p. Faulty b p (size + n + 1) f) (sym to) there);
       sizes = omega (arith, to, h.sizes);
-      row =
-          let begins_there : IsLabelAt b (at mid) size n = subst (λ b. IsLabelAt b (at mid) size n) h.adds.seen label in
-          let there = label_more b h.row begins_there.begins begins_there.short begins_there.fits in
-          let grown : size + n + 1 ≡ size + (n + 1) = omega arith in
-          subst (λ s. LabelsTo b (at old) 0 (at new) s) grown (subst (λ p. LabelsTo b (at old) 0 p (size + n + 1)) (sym to) there);
       ends = λ q w.
           let there = label_behind b (at mid) size n q begins (h.ends q w) in
           let grown : size + n + 1 ≡ size + (n + 1) = omega arith in
@@ -131,10 +133,10 @@ all_labels of size old new h none =
     record {
       rows = h.rows;
       adds = h.adds;
-      labels = h.labels;
+      shown = h.shown;
+      labels = λ start end behind r. labels_then (octets old) of h.shown r;
       ends = λ q w. end_here (octets old) (at new) size q none_there (h.ends q w);
       order = omega (arith, h.sizes);
-      row = subst (λ s. LabelsTo (octets old) (at old) 0 (at new) s) same h.row;
       faults = λ f w. subst (λ s. Faulty (octets old) (at new) s f) same (h.faults f w);
       none = subst (λ s. (n : ℕ) → IsLabelAt (octets old) (at new) s n → ⊥) same none_there;
     }
@@ -173,3 +175,13 @@ some_same m n e = cc
 
 pub not_none : (n : ℕ) → let none : Option ℕ = None in none ≡ Some n → ⊥
 not_none n e = cc
+
+-- a walk that stopped in the name at which an item begins
+pub item_misses : (of : NameOf) (row : Row) (old mid new : Walk) (fault : RowFault) → mid.rows.items ≡ old.rows.items ++ row ∷ [] → mid.parser ≡ old.parser → MissesName of mid new fault
+    → MissesItemName of row old new fault
+item_misses of row old mid new fault rows same h = record {
+  rows = h.rows;
+  adds = h.adds ∙ ap (λ front. front ++ h.rows) rows ∙ append_assoc old.rows.items (row ∷ []) h.rows;
+  f = h.f;
+  lacks = subst (λ p. LacksName (seen p) of (place p) h.f (at new) fault h.rows) same h.lacks;
+}

@@ -1,12 +1,11 @@
 -- Rows one behind the other.
-use Rattle.std.proofs.Common.{◌≡◌, ℕ, ◌≤◌, List, [], ◌∷◌, ◌++◌, length, Option, Some, None, ◌+◌, ◌∙◌, ap, subst, sym, refl, arith, append_assoc}
+use Rattle.std.proofs.Common.{◌≡◌, ℕ, ◌≤◌, List, [], ◌∷◌, ◌++◌, length, Option, Some, None, ◌+◌, ◌∙◌, ap, subst, sym, refl, arith}
 use Rattle.std.specs.Prelude.{true, false, nat_lt, if◌then◌else◌}
 use Rattle.std.proofs.lemmas.Bool.Decides.{nat_tests}
 use Rattle.std.proofs.lemmas.List.Elements.{All-append, All-cons, All-nil}
 use Rattle.std.proofs.lemmas.List.Sums.{sum_by-append}
 use Rattle.dns_rows.specs.Fields.{field_row, items_at, items_of, item_count, AreFields, IsField}
 use Rattle.dns_rows.specs.Shown.{header_rows, fault_rows, unread_rows, ShowsMessage}
-use Rattle.dns_rows.specs.Walks.{Goes}
 use Rattle.dns_rows.specs.declared.row.Field.{Field}
 use Rattle.dns_rows.specs.Tiles.{Tiles}
 use Rattle.dns_rows.specs.declared.row.Fault.{Fault}
@@ -76,15 +75,3 @@ pub tiles_shown : (b : List ℕ) (rows : List Row) → ShowsMessage b rows → T
 tiles_shown b rows s =
     let P : List Row → Type 0 = λ rows. Tiles rows 0 (length b) in
     subst P (sym s.made) (tiles_message s.others s.stop s.place (length b) s.fields.tiles s.within)
-
--- a field more behind some rows
-pub goes_on : (front rows later : List Row) (from start end : ℕ) (field : Field) → later ≡ rows ++ field_row start end field ∷ [] → IsField (field_row start end field)
-    → start ≤ end → items_at field ≡ 0 → Goes front from rows start → Goes front from later end
-goes_on front rows later from start end field e h order plain g = record {
-  others = g.others ++ field_row start end field ∷ [];
-  made = e ∙ ap (λ rows. rows ++ field_row start end field ∷ []) g.made ∙ append_assoc front g.others (field_row start end field ∷ []);
-  plain = record {
-    fields = one_more_field g.others from start end field g.plain.fields h order;
-    plain = omega (arith, item_count-one_more g.others start end field, g.plain.plain);
-  };
-}

@@ -4,9 +4,9 @@
 use Rattle.dns_name.specs.Parsers.{number_at}
 use Rattle.std.specs.Int.{w16}
 use Rattle.std.specs.Prelude.{◌≡◌, ℕ, ◌+◌, ◌<◌, ◌≤◌, ◌==◌, if◌then◌else◌, List, [], ◌∷◌, ◌++◌, length, slice_get, Option, Some, None, nat_lt}
-use Rattle.dns_name.specs.Names.{Labels, Stands, Walked}
+use Rattle.dns_name.specs.Names.{Fault, Labels, Stands, Walked}
 use Rattle.dns_rows.specs.Faults.{LacksName}
-use Rattle.dns_rows.specs.Fields.{field_row, ArePlain}
+use Rattle.dns_rows.specs.Fields.{field_row, CutRows}
 use Rattle.dns_rows.specs.Named.{NameRows}
 use Rattle.dns_rows.specs.declared.row.Row.{Row}
 use Rattle.dns_rows.specs.declared.row.NameOf.{NameOf}
@@ -66,7 +66,11 @@ pub data TextRows (b : List ℕ) (p : ℕ) : ℕ → List Row → Type 0 where
 abbrev pub option_data_rows : ℕ → ℕ → ℕ → List Row
 option_data_rows code p q = if nat_lt p q then field_row p q (OptionData code) ∷ [] else []
 
--- an option goes from p to q, and these are its rows: its code, its length, and its data. RFC 6891 section 6.1.2.
+-- the rows of an option at p: its code, its length, and its data of so many octets. RFC 6891 section 6.1.2.
+abbrev pub option_rows : ℕ → ℕ → ℕ → List Row
+option_rows code len p = field_row p (p + 2) OptionCode ∷ field_row (p + 2) (p + 4) (OptionLength code) ∷ option_data_rows code (p + 4) (p + 4 + len)
+
+-- an option goes from p to q, and these are its rows
 pub record ShowsOption (b : List ℕ) (p q : ℕ) (rows : List Row) : Type 0 where
   pub code : ℕ
   pub len : ℕ
@@ -74,20 +78,18 @@ pub record ShowsOption (b : List ℕ) (p q : ℕ) (rows : List Row) : Type 0 whe
   pub len_there : len ≡ number_at w16 b (p + 2)
   pub end : q ≡ p + 4 + len
   pub within : q ≤ length b
-  pub made : rows ≡ field_row p (p + 2) OptionCode ∷ field_row (p + 2) (p + 4) (OptionLength code) ∷ option_data_rows code (p + 4) (p + 4 + len)
+  pub made : rows ≡ option_rows code len p
 
--- the field of an option at p that isn't all there, and its fault: its code, its length, or its data
-pub data LacksOption (b : List ℕ) (p : ℕ) : rows.Fault → Type 0 where
-  code : length b < p + 2 → LacksOption b p (Short OptionCode)
-  len : p + 2 ≤ length b → length b < p + 4 → LacksOption b p (Short (OptionLength (number_at w16 b p)))
-  value : p + 4 ≤ length b → length b < p + 4 + number_at w16 b (p + 2) → LacksOption b p (Short (OptionData (number_at w16 b p)))
+-- an option at p isn't all there: these are its rows up to the field that isn't, and its fault
+abbrev pub LacksOption : List ℕ → ℕ → ℕ → rows.Fault → List Row → Type 0
+LacksOption b p place fault shown = CutRows b (option_rows (number_at w16 b p) (number_at w16 b (p + 2)) p) place fault shown
 
 -- the rows of options from p to q
 pub data OptionRows (b : List ℕ) (p : ℕ) : ℕ → List Row → Type 0 where
   none : OptionRows b p p []
   option : {q r : ℕ} (rows others : List Row) → OptionRows b p q rows → ShowsOption b q r others → OptionRows b p r (rows ++ others)
 
--- The rows of data from p on. Where it stops with a fault, they end at q, where the field begins that can't be read, or is within the name or the option. Else all fields go from p to q.
+-- The rows of data from p on. Where it stops with a fault, they end at q, where the field begins that can't be read, or where the name can't be read on. Else all fields go from p to q.
 pub data ShowsData (b : List ℕ) : Shape → Option rows.Fault → ℕ → ℕ → List Row → Type 0 where
   done : {p : ℕ} → ShowsData b End None p p []
   octets : {n p q : ℕ} {field : Field} {shape : Shape} {stop : Option rows.Fault} {rows : List Row} → p + n ≤ length b → ShowsData b shape stop (p + n) q rows
@@ -95,11 +97,11 @@ pub data ShowsData (b : List ℕ) : Shape → Option rows.Fault → ℕ → ℕ 
   short : {n p : ℕ} {field : Field} {shape : Shape} → length b < p + n → ShowsData b (Octets n field shape) (Some (Short field)) p p []
   name : {p q r : ℕ} {of : NameOf} {shape : Shape} {stop : Option rows.Fault} {labels : Labels} (names rows : List Row) → Stands b p labels → Walked b p r → NameRows b of p p r names
       → ShowsData b shape stop r q rows → ShowsData b (Named of shape) stop p q (names ++ rows)
-  no_name : {p q : ℕ} {of : NameOf} {shape : Shape} {fault : rows.Fault} {rows : List Row} → LacksName b p q fault → ArePlain rows p q → ShowsData b (Named of shape) (Some fault) p q rows
+  no_name : {p q : ℕ} {of : NameOf} {shape : Shape} {f : Fault} {fault : rows.Fault} {rows : List Row} → LacksName b of p f q fault rows → ShowsData b (Named of shape) (Some fault) p q rows
   texts : {p q : ℕ} {rows : List Row} → TextRows b p q rows → length b ≤ q → ShowsData b Texts None p q rows
   text_short : {n p q : ℕ} {rows : List Row} → TextRows b p q rows → slice_get b q ≡ Some n → length b < q + (1 + n) → ShowsData b Texts (Some (Short Text)) p q rows
   options : {p q : ℕ} {rows : List Row} → OptionRows b p q rows → length b ≤ q → ShowsData b Options None p q rows
-  no_option : {p q place : ℕ} {fault : rows.Fault} (rows others : List Row) → OptionRows b p q rows → q < length b → LacksOption b q fault → ArePlain others q place
+  no_option : {p q place : ℕ} {fault : rows.Fault} (rows others : List Row) → OptionRows b p q rows → q < length b → LacksOption b q place fault others
       → ShowsData b Options (Some fault) p place (rows ++ others)
   nothing : {p : ℕ} → length b ≤ p → ShowsData b Rest None p p []
   rest : {p : ℕ} → p < length b → ShowsData b Rest None p (length b) (field_row p (length b) Data ∷ [])

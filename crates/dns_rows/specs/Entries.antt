@@ -2,7 +2,10 @@
 --
 -- `b` are the octets of the message.
 use Rattle.std.specs.Prelude.{◌≡◌, ℕ, suc, ◌+◌, ◌<◌, ◌==◌, Bool, true, false, if◌then◌else◌, List, [], ◌∷◌, ◌++◌, Option, Some, None, Result, Ok, Err}
-use Rattle.dns_name.specs.Names.{Fault}
+use Rattle.std.specs.Int.{w16}
+use Rattle.dns_name.specs.Names.{Fault, Labels, Stands, Walked}
+use Rattle.dns_name.specs.Names.Fault.{ShortInput}
+use Rattle.dns_name.specs.Parsers.{number_at}
 use Rattle.dns_code.specs.HeaderSection.{header_size}
 use Rattle.dns_question.specs.Questions.{QuestionItem, ReadsQuestion, QuestionFaultAt}
 use Rattle.dns_item.specs.Items.{RecordEntry, ReadsRecord, RecordFaultAt}
@@ -11,12 +14,13 @@ use Rattle.dns_section.specs.QuestionsFrom.{questions_from}
 use Rattle.dns_section.specs.RecordsFrom.{records_from}
 use Rattle.dns_section.specs.Sections.{question_count, answer_count, authority_count, additional_count, AnswersStart, AuthoritiesStart, AdditionalsStart}
 use Rattle.dns_rows.specs.Data.{shape_of, ShowsData}
-use Rattle.dns_rows.specs.Faults.{TellsItem}
-use Rattle.dns_rows.specs.Fields.{field_row, ArePlain}
+use Rattle.dns_rows.specs.Faults.{LacksName}
+use Rattle.dns_rows.specs.Fields.{field_row, CutRows}
 use Rattle.dns_rows.specs.Named.{NameRows}
 use Rattle.dns_rows.specs.declared.row.Row.{Row}
 use Rattle.dns_rows.specs.declared.row.Part.{Part}
 use Rattle.dns_rows.specs.declared.row.Part.TheVariants.{Question, Answer, Authority, Additional}
+use Rattle.dns_rows.specs.declared.row.NameOf.{NameOf}
 use Rattle.dns_rows.specs.declared.row.NameOf.TheVariants as names
 use Rattle.dns_rows.specs.declared.row.Field.TheVariants as fields
 use Rattle.dns_rows.specs.declared.row.Fault as rows
@@ -26,24 +30,29 @@ use Rattle.dns_rows.specs.declared.row.Fault.TheVariants.{Trailing}
 abbrev pub item_row : Part → ℕ → ℕ → Row
 item_row part number p = field_row p p (fields.Item part number)
 
+-- the rows of the numbers of a question, behind a name that ends at r
+abbrev pub question_rows : ℕ → List Row
+question_rows r = field_row r (r + 2) fields.Type ∷ field_row (r + 2) (r + 4) fields.Class ∷ []
+
 -- a question goes from p to q, and these are its rows: where it begins, its name, its type and its class
 pub record ShowsQuestion (b : List ℕ) (number : ℕ) (x : QuestionItem) (p q : ℕ) (rows : List Row) : Type 0 where
   pub reads : ReadsQuestion b p q x
   pub name_rows : List Row
   pub name : NameRows b names.Question p p reads.skips.name_end name_rows
-  pub made : let r = reads.skips.name_end in
-      rows ≡ item_row Question number p ∷ (name_rows ++ (field_row r (r + 2) fields.Type ∷ field_row (r + 2) (r + 4) fields.Class ∷ []))
+  pub made : rows ≡ item_row Question number p ∷ (name_rows ++ question_rows reads.skips.name_end)
 
 -- the type of OPT records. RFC 6891 section 6.1.1.
 abbrev pub opt_type : ℕ
 opt_type = 41
 
--- class and TTL of a record of a type, which stand at p; what an OPT record has there. RFC 6891 sections 6.1.2 and 6.1.3.
+-- what an OPT record has at p in place of class and TTL. RFC 6891 sections 6.1.2 and 6.1.3.
+abbrev pub opt_rows : ℕ → List Row
+opt_rows p =
+    field_row p (p + 2) fields.PayloadSize ∷ field_row (p + 2) (p + 3) fields.ExtendedRcode ∷ field_row (p + 3) (p + 4) fields.Version ∷ field_row (p + 4) (p + 6) fields.OptFlags ∷ []
+
+-- class and TTL of a record of a type, which stand at p, or what an OPT record has there
 abbrev pub class_rows : ℕ → ℕ → List Row
-class_rows rtype p =
-    if rtype == opt_type
-    then field_row p (p + 2) fields.PayloadSize ∷ field_row (p + 2) (p + 3) fields.ExtendedRcode ∷ field_row (p + 3) (p + 4) fields.Version ∷ field_row (p + 4) (p + 6) fields.OptFlags ∷ []
-    else field_row p (p + 2) fields.Class ∷ field_row (p + 2) (p + 6) fields.Ttl ∷ []
+class_rows rtype p = if rtype == opt_type then opt_rows p else field_row p (p + 2) fields.Class ∷ field_row (p + 2) (p + 6) fields.Ttl ∷ []
 
 -- the numbers of a record of a type, behind an owner that ends at r
 abbrev pub number_rows : ℕ → ℕ → List Row
@@ -64,25 +73,38 @@ abbrev pub data_fault : Option rows.Fault → rows.Fault
 data_fault None = Trailing
 data_fault (Some fault) = fault
 
--- A record at p can be read, but not its data: a field of it stops at the place, or octets are left over behind all of them there.
-pub record DataStops (b : List ℕ) (x : RecordEntry) (p place : ℕ) (fault : rows.Fault) : Type 0 where
+-- A record at p can be read, but not its data: a field of it stops at the place, or octets are left over behind all of them there. These are its rows up to there, behind that where it begins.
+pub record DataStops (b : List ℕ) (x : RecordEntry) (p place : ℕ) (fault : rows.Fault) (shown : List Row) : Type 0 where
   pub end : ℕ
   pub reads : ReadsRecord b p end x
+  pub owner_rows : List Row
+  pub owner : NameRows b names.Owner p p reads.skips.name_end owner_rows
   pub data_rows : List Row
   pub stop : Option rows.Fault
   pub value : ShowsData (up_to_data_end b x) (shape_of x.rtype) stop x.data_start place data_rows
   pub left_over : stop ≡ None → place < x.data_end
   pub told : fault ≡ data_fault stop
+  pub made : shown ≡ owner_rows ++ (number_rows x.rtype reads.skips.name_end ++ data_rows)
 
--- a question at p can't be read, and a fault of a row tells why
-abbrev pub QuestionStops : List ℕ → Result QuestionItem Fault → ℕ → ℕ → rows.Fault → Type 0
-QuestionStops b (Ok x) p place fault = ⊥
-QuestionStops b (Err f) p place fault = QuestionFaultAt b p f × TellsItem b p place fault f
+-- A name at p, or the fields behind it, can't be read: the name can't be read on, or the fields aren't all there. These are the rows up to there.
+pub data LacksItem (b : List ℕ) (of : NameOf) (behind : ℕ → List Row) (p : ℕ) : Fault → ℕ → rows.Fault → List Row → Type 0 where
+  name : {f : Fault} {place : ℕ} {fault : rows.Fault} {shown : List Row} → LacksName b of p f place fault shown → LacksItem b of behind p f place fault shown
+  short : {name : Labels} {r place : ℕ} {fault : rows.Fault} (name_rows others : List Row) → Stands b p name → Walked b p r → NameRows b of p p r name_rows
+      → CutRows b (behind r) place fault others → LacksItem b of behind p ShortInput place fault (name_rows ++ others)
 
--- a record at p can't be read, or its data can't, and a fault of a row tells why
-abbrev pub RecordStops : List ℕ → Result RecordEntry Fault → ℕ → ℕ → rows.Fault → Type 0
-RecordStops b (Ok x) p place fault = DataStops b x p place fault
-RecordStops b (Err f) p place fault = RecordFaultAt b p f × TellsItem b p place fault f
+-- the fields behind the owner of a record, which ends at r: its numbers, and its data as a whole
+abbrev pub record_rows : List ℕ → ℕ → List Row
+record_rows b r = number_rows (number_at w16 b r) r ++ field_row (r + 10) (r + 10 + number_at w16 b (r + 8)) fields.Data ∷ []
+
+-- a question at p can't be read
+abbrev pub QuestionStops : List ℕ → Result QuestionItem Fault → ℕ → ℕ → rows.Fault → List Row → Type 0
+QuestionStops b (Ok x) p place fault shown = ⊥
+QuestionStops b (Err f) p place fault shown = QuestionFaultAt b p f × LacksItem b names.Question question_rows p f place fault shown
+
+-- a record at p can't be read, or its data can't
+abbrev pub RecordStops : List ℕ → Result RecordEntry Fault → ℕ → ℕ → rows.Fault → List Row → Type 0
+RecordStops b (Ok x) p place fault shown = DataStops b x p place fault shown
+RecordStops b (Err f) p place fault shown = RecordFaultAt b p f × LacksItem b names.Owner (record_rows b) p f place fault shown
 
 -- Parts of a message, and what reading them gives. RFC 1035 section 4.1.
 
@@ -132,18 +154,17 @@ ShowsItem b Answer number x p q rows = ShowsRecord b Answer number x p q rows
 ShowsItem b Authority number x p q rows = ShowsRecord b Authority number x p q rows
 ShowsItem b Additional number x p q rows = ShowsRecord b Additional number x p q rows
 
--- the fault of an item of a part, and what is read of the item
-abbrev pub ItemStops : List ℕ → (part : Part) → Result (Entry part) Fault → ℕ → ℕ → rows.Fault → Type 0
-ItemStops b Question x p place fault = QuestionStops b x p place fault
-ItemStops b Answer x p place fault = RecordStops b x p place fault
-ItemStops b Authority x p place fault = RecordStops b x p place fault
-ItemStops b Additional x p place fault = RecordStops b x p place fault
+-- what is read of an item of a part that stops with a fault at a place, and its rows up to there, behind that where it begins
+abbrev pub ItemStops : List ℕ → (part : Part) → Result (Entry part) Fault → ℕ → ℕ → rows.Fault → List Row → Type 0
+ItemStops b Question x p place fault shown = QuestionStops b x p place fault shown
+ItemStops b Answer x p place fault shown = RecordStops b x p place fault shown
+ItemStops b Authority x p place fault shown = RecordStops b x p place fault shown
+ItemStops b Additional x p place fault shown = RecordStops b x p place fault shown
 
--- An item begins at p, and these are its rows: where it begins, and fields up to the place of its fault.
+-- an item begins at p, and these are its rows up to its fault
 pub record StopsItem (b : List ℕ) (part : Part) (number : ℕ) (x : Result (Entry part) Fault) (p place : ℕ) (fault : rows.Fault) (rows : List Row) : Type 0 where
-  pub stops : ItemStops b part x p place fault
   pub others : List Row
-  pub before : ArePlain others p place
+  pub stops : ItemStops b part x p place fault others
   pub made : rows ≡ item_row part number p ∷ others
 
 -- The rows of a reading of items of a part, from p to q, the first with this number: those of its entries in order. Where an item stops they end at its fault, and nothing is shown of what is read behind it.

@@ -1,9 +1,11 @@
 -- Rows of fields: their octets, and how many items begin at them.
-use Rattle.std.specs.Prelude.{◌≡◌, ℕ, ◌<◌, List, All}
+use Rattle.std.specs.Prelude.{◌≡◌, ℕ, ◌<◌, ◌≤◌, List, ◌∷◌, ◌++◌, length, All}
 use Rattle.std.specs.List.{sum_by}
 use Rattle.dns_rows.specs.declared.row.Row.{Row}
 use Rattle.dns_rows.specs.declared.row.Kind.{Kind}
 use Rattle.dns_rows.specs.declared.row.Kind.TheVariants as kinds
+use Rattle.dns_rows.specs.declared.row.Fault.{Fault}
+use Rattle.dns_rows.specs.declared.row.Fault.TheVariants.{Short}
 use Rattle.dns_rows.specs.declared.row.Field.{Field}
 use Rattle.dns_rows.specs.declared.row.Field.TheVariants as fields
 use Rattle.dns_rows.specs.Tiles.{Tiles}
@@ -38,7 +40,12 @@ pub record AreFields (rows : List Row) (from to : ℕ) : Type 0 where
   pub tiles : Tiles rows from to
   pub fields : All IsField rows
 
--- rows of fields from p to q, none of which begins an item
-pub record ArePlain (rows : List Row) (p q : ℕ) : Type 0 where
-  pub fields : AreFields rows p q
-  pub plain : item_count rows ≡ 0
+-- Of fields one behind the other some first ones are there, up to the place where one begins that isn't all there. The fault tells which it is.
+pub record CutRows (b : List ℕ) (whole : List Row) (place : ℕ) (fault : Fault) (rows : List Row) : Type 0 where
+  pub field : Field
+  pub end : ℕ
+  pub behind : List Row
+  pub made : whole ≡ rows ++ field_row place end field ∷ behind
+  pub within : place ≤ length b
+  pub short : length b < end
+  pub told : fault ≡ Short field

@@ -1,10 +1,9 @@
 -- What the steps of a walk over a message keep.
-use Rattle.dns_rows.specs.Data.{shape_of, Shape, ShowsData, TextRows, OptionRows, ShowsOption}
-use Rattle.dns_rows.specs.Named.{NameRows}
-use Rattle.std.specs.Prelude.{◌<◌, ◌≡◌, suc, Bool, true, false, ℕ, ◌+◌, ◌-◌, ◌≤◌, List, ◌++◌, [], ◌∷◌, length, ⊤, Option, Some, None, Result, Ok, Err, take}
+use Rattle.dns_rows.specs.Data.{option_rows, shape_of, Shape, ShowsData, TextRows, OptionRows, ShowsOption}
+use Rattle.dns_rows.specs.Named.{LabelRows, NameRows}
+use Rattle.std.specs.Prelude.{◌<◌, ◌≡◌, suc, Bool, true, false, ℕ, ◌+◌, ◌-◌, ◌≤◌, List, ◌++◌, ◌∷◌, length, ⊤, Option, Some, None, Result, Ok, Err, take}
 use Rattle.std.specs.Int.{w16}
 use Rattle.dns_name.specs.Names.{head_at, max_size, Fault, FaultAt, Faulty, Labels, Stands, Walked, WalkedBehind}
-use Rattle.dns_name.specs.NearNames.{LabelsTo}
 use Rattle.dns_name.specs.Parsers.{input, place, number_at, seen}
 use Rattle.dns_name.specs.declared.head.Head.TheVariants.{Root, Label, Pointer}
 use Rattle.dns_code.specs.HeaderSection.{header_size}
@@ -13,8 +12,9 @@ use Rattle.dns_question.specs.Questions.{SkipsQuestion}
 use Rattle.dns_item.specs.Items.{SkipsRecord}
 use Rattle.dns_section.specs.Reading.{Passed}
 use Rattle.dns_section.specs.Sections.{question_count, answer_count, authority_count, additional_count}
-use Rattle.dns_rows.specs.Entries.{data_fault, item_row, number_rows, reading_from, Entry, ReadingRows, ShowsItem, ShowsParts, StopsItem}
-use Rattle.dns_rows.specs.Fields.{AreFields, item_count, ArePlain}
+use Rattle.dns_rows.specs.Entries.{data_fault, number_rows, reading_from, Entry, ReadingRows, ShowsItem, ShowsParts, StopsItem}
+use Rattle.dns_rows.specs.Faults.{LacksName}
+use Rattle.dns_rows.specs.Fields.{AreFields, item_count, CutRows}
 use Rattle.dns_rows.specs.declared.row.Fault as rows
 use Rattle.dns_rows.specs.declared.row.Fault.TheVariants.{Short}
 use Rattle.dns_rows.specs.declared.row.Field.{Field}
@@ -60,16 +60,6 @@ pub record Comes (n : ℕ) (old new : Walk) : Type 0 where
   pub input : input new.parser ≡ input old.parser
   pub more : items old ≤ items new
   pub most : items new ≤ items old + n
-
--- behind some rows come those of fields from a place to another, and no item begins there
-pub record Goes (front : List Row) (from : ℕ) (rows : List Row) (to : ℕ) : Type 0 where
-  pub others : List Row
-  pub made : rows ≡ front ++ others
-  pub plain : ArePlain others from to
-
--- a walk goes on so, behind whatever rows it had before
-abbrev pub Keeps : Walk → Walk → Type 0
-Keeps old new = (front : List Row) (from : ℕ) → Goes front from old.rows.items (at old) → Goes front from new.rows.items (at new)
 
 -- a walk that sees the same octets, with these rows more, at a place
 pub record Adds (added : List Row) (to : ℕ) (old new : Walk) : Type 0 where
@@ -119,20 +109,19 @@ AreLabelRows b of p q rows = (start end : ℕ) (behind : List Row) → NameRows 
 pub record PassesLabels (of : NameOf) (size : ℕ) (old new : Walk) : Type 0 where
   pub rows : List Row
   pub adds : Adds rows (at new) old new
-  pub labels : AreLabelRows (octets old) of (at old) (at new) rows
+  pub shown : LabelRows (octets old) of (at old) (at old) (at new) rows
   pub ends : (q : ℕ) → Walked (octets old) (at old) q → WalkedBehind (octets old) (at new) size q
   pub faults : (f : Fault) → FaultAt (octets old) (at old) f → Faulty (octets old) (at new) size f
   pub sizes : at new ≡ at old + size
-  pub row : LabelsTo (octets old) (at old) 0 (at new) size
 
 -- a walk that passed all labels of a name
 pub record PassesAllLabels (of : NameOf) (old new : Walk) : Type 0 where
   pub rows : List Row
   pub adds : Adds rows (at new) old new
+  pub shown : LabelRows (octets old) of (at old) (at old) (at new) rows
   pub labels : AreLabelRows (octets old) of (at old) (at new) rows
   pub ends : (q : ℕ) → Walked (octets old) (at old) q → IsEnd (octets old) (at new) q
   pub order : at old ≤ at new
-  pub row : LabelsTo (octets old) (at old) 0 (at new) (at new - at old)
   pub faults : (f : Fault) → FaultAt (octets old) (at old) f → Faulty (octets old) (at new) (at new - at old) f
   pub none : (n : ℕ) → IsLabelAt (octets old) (at new) (at new - at old) n → ⊥
 
@@ -151,6 +140,13 @@ pub record PassesName (of : NameOf) (old new : Walk) : Type 0 where
   pub walked : Walked (octets old) (at old) (at new)
   pub shows : NameRows (octets old) of (at old) (at old) (at new) rows
 
+-- a walk that stopped in a name
+pub record MissesName (of : NameOf) (old new : Walk) (fault : rows.Fault) : Type 0 where
+  pub rows : List Row
+  pub adds : new.rows.items ≡ old.rows.items ++ rows
+  pub f : Fault
+  pub lacks : LacksName (octets old) of (at old) f (at new) fault rows
+
 -- a walk that passed the name at which an item begins, behind the row of the item
 pub record PassesItemName (of : NameOf) (row : Row) (old new : Walk) : Type 0 where
   pub rows : List Row
@@ -160,9 +156,18 @@ pub record PassesItemName (of : NameOf) (row : Row) (old new : Walk) : Type 0 wh
   pub walked : Walked (octets old) (at old) (at new)
   pub shows : NameRows (octets old) of (at old) (at old) (at new) rows
 
--- a walk that began an item, and passed fields of it
-abbrev pub Begun : Part → ℕ → Walk → Walk → Type 0
-Begun part number old new = Goes (old.rows.items ++ item_row part number (at old) ∷ []) (at old) new.rows.items (at new)
+-- a walk that stopped in the name at which an item begins, behind the row of the item
+pub record MissesItemName (of : NameOf) (row : Row) (old new : Walk) (fault : rows.Fault) : Type 0 where
+  pub rows : List Row
+  pub adds : new.rows.items ≡ old.rows.items ++ row ∷ rows
+  pub f : Fault
+  pub lacks : LacksName (octets old) of (at old) f (at new) fault rows
+
+-- a walk that stopped in fields one behind the other, of which one isn't all there
+pub record CutsFields (whole : List Row) (old new : Walk) (fault : rows.Fault) : Type 0 where
+  pub rows : List Row
+  pub adds : new.rows.items ≡ old.rows.items ++ rows
+  pub cut : CutRows (octets old) whole (at new) fault rows
 
 -- a walk that passed the numbers of a record: its type, and how many octets its data has
 pub record PassesNumbers (rtype len : ℕ) (old new : Walk) : Type 0 where
@@ -235,7 +240,7 @@ pub record MarksWithin (rtype len : ℕ) (stop : Option rows.Fault) (old new : W
 
 -- why a walk stopped at the data of a record: it isn't all there, or a field of it stops, or octets are left over
 pub data StopsWithin (rtype len : ℕ) (old new : Walk) : rows.Fault → Type 0 where
-  missing : length (octets old) < at old + len → StopsWithin rtype len old new (Short Data)
+  missing : length (octets old) < at old + len → new ≡ old → StopsWithin rtype len old new (Short Data)
   stopped : (stop : Option rows.Fault) → at old + len ≤ length (octets old) → MarksWithin rtype len stop old new → (stop ≡ None → at new < at old + len)
       → StopsWithin rtype len old new (data_fault stop)
 
@@ -250,6 +255,10 @@ pub record PassesOption (old new : Walk) : Type 0 where
   pub rows : List Row
   pub adds : Adds rows (at new) old new
   pub shows : ShowsOption (octets old) (at old) (at new) rows
+
+-- a walk that stopped in an option
+abbrev pub MissesOption : Walk → Walk → rows.Fault → Type 0
+MissesOption old new = CutsFields (option_rows (number_at w16 (octets old) (at old)) (number_at w16 (octets old) (at old + 2)) (at old)) old new
 
 -- a walk that passed options
 pub record PassesOptions (old new : Walk) : Type 0 where

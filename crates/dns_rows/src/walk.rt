@@ -6,12 +6,12 @@ ghost use Rattle.dns_name.specs.declared.head.Head.TheVariants as Head;
 ghost use Rattle.dns_name.specs.Parsers.{input, place, seen, number_at};
 ghost use Rattle.dns_code.specs.HeaderCounts.{counts};
 ghost use Rattle.dns_code.specs.HeaderSection.{header_size};
-ghost use Rattle.dns_rows.specs.Faults.{LacksName, StopsName};
+ghost use Rattle.dns_rows.specs.Faults.{StopsName};
 ghost use Rattle.dns_rows.specs.Fields.{items_at, IsField, field_row};
-ghost use Rattle.dns_rows.specs.Data.{exchange_shape, shape_of, zone_shape, LacksOption};
+ghost use Rattle.dns_rows.specs.Data.{exchange_shape, shape_of, zone_shape};
 ghost use Rattle.dns_rows.specs.Data.Shape.{End, Octets, Named, Options, Rest, Texts};
-ghost use Rattle.dns_rows.specs.Entries.{all_parts, class_rows, holds_records, item_row};
-ghost use Rattle.dns_rows.specs.Walks.{at, octets, items, sum_of, AreCountsOf, IsMarked, Comes, Keeps, Adds, OnFault, OnFaultOf, LacksField, LacksFields, IsEnd, IsLabelAt, HasName, PassesLabels, PassesAllLabels, PassesEnd, PassesName, PassesItemName, Begun, PassesNumbers, MarksItem, MarksStop, MarksFirst, MarksAmong, MarksParts, MarksData, MarksWithin, StopsData, StopsWithin, PassesOption};
+ghost use Rattle.dns_rows.specs.Entries.{all_parts, class_rows, holds_records, item_row, number_rows, opt_rows};
+ghost use Rattle.dns_rows.specs.Walks.{at, octets, items, sum_of, AreCountsOf, IsMarked, Comes, CutsFields, Adds, OnFault, OnFaultOf, LacksField, LacksFields, IsEnd, IsLabelAt, HasName, PassesLabels, PassesAllLabels, PassesEnd, PassesName, PassesItemName, MissesName, MissesItemName, MissesOption, PassesNumbers, MarksItem, MarksStop, MarksFirst, MarksAmong, MarksParts, MarksData, MarksWithin, StopsData, StopsWithin, PassesOption};
 
 use crate::octets::target_of;
 use crate::row::{Fault, Field, NameOf, Part, Row, ZoneNumber};
@@ -64,7 +64,6 @@ impl<'a> Walk<'a> {
         requires is_field { IsField (field_row (at self.old) (place behind) field) }
         ensures comes { Comes (items_at field) self.old self.new }
         ensures begins { OnOk result (items self.new ≡ items self.old + items_at field) }
-        ensures keeps { items_at field ≡ 0 → Keeps self.old self.new }
         ensures adds { OnOk result (self.new.rows.items
             ≡ self.old.rows.items ++ field_row (at self.old) (place behind.entry) field ∷ []) }
         ensures moves { OnOk result (self.new.parser ≡ behind.entry) }
@@ -84,7 +83,6 @@ impl<'a> Walk<'a> {
         requires some { 0 < n }
         requires plain { items_at field ≡ 0 }
         ensures comes { Comes 0 self.old self.new }
-        ensures keeps { Keeps self.old self.new }
         ensures adds { OnOk result (Adds (field_row (at self.old) (at self.old + n) field ∷ [])
             (at self.old + n) self.old self.new) }
         ensures within { OnOk result (at self.old + n ≤ length (octets self.old)) }
@@ -105,7 +103,6 @@ impl<'a> Walk<'a> {
         requires marked { IsMarked self.old }
         requires plain { items_at field ≡ 0 }
         ensures comes { Comes 0 self.old self.new }
-        ensures keeps { Keeps self.old self.new }
         ensures adds { OnOk result (Adds (field_row (at self.old) (at self.old + 2) field ∷ [])
             (at self.old + 2) self.old self.new) }
         ensures within { OnOk result (at self.old + 2 ≤ length (octets self.old)) }
@@ -127,12 +124,10 @@ impl<'a> Walk<'a> {
         requires { IsMarked self.old }
         ensures comes { Comes 1 self.old self.new }
         ensures begins { OnOk result (items self.new ≡ items self.old + 1) }
-        ensures begun { OnOk result (Begun part number self.old self.new) }
         ensures passes { OnOk result
             (PassesItemName name (item_row part number (at self.old)) self.old self.new) }
-        ensures stops { OnFault result (Begun part number self.old self.new) }
-        ensures fault { OnFaultOf result
-            (LacksName (octets self.old) (at self.old) (at self.new)) }
+        ensures misses { OnFaultOf result
+            (MissesItemName name (item_row part number (at self.old)) self.old self.new) }
     {
         self.mark(self.parser, Field::Item(part, number))?;
         self.name(name)
@@ -173,7 +168,6 @@ impl<'a> Walk<'a> {
     fn labels(&mut self, name: NameOf) -> Result<(), Stop>
         requires { IsMarked self.old }
         ensures comes { Comes 0 self.old self.new }
-        ensures keeps { Keeps self.old self.new }
         ensures passes { OnOk result (PassesAllLabels name self.old self.new) }
         ensures never { OnFault result ⊥ }
     {
@@ -189,10 +183,8 @@ impl<'a> Walk<'a> {
     fn name(&mut self, name: NameOf) -> Result<(), Stop>
         requires { IsMarked self.old }
         ensures comes { Comes 0 self.old self.new }
-        ensures keeps { Keeps self.old self.new }
         ensures passes { OnOk result (PassesName name self.old self.new) }
-        ensures fault { OnFaultOf result
-            (LacksName (octets self.old) (at self.old) (at self.new)) }
+        ensures misses { OnFaultOf result (MissesName name self.old self.new) }
     {
         let start = self.parser.pos();
         let mut behind = self.parser;
@@ -211,7 +203,6 @@ impl<'a> Walk<'a> {
         requires seen { seen behind ≡ octets self.old }
         requires ends { IsEnd (octets self.old) (at self.old) (place behind) }
         ensures comes { Comes 0 self.old self.new }
-        ensures keeps { Keeps self.old self.new }
         ensures passes { OnOk result (PassesEnd name start (place behind.entry) self.old self.new) }
         ensures never { OnFault result ⊥ }
     {
@@ -227,7 +218,7 @@ impl<'a> Walk<'a> {
         requires none { (n : ℕ)
             → IsLabelAt (octets self.now) (at self.now) (at self.now - start) n → ⊥ }
         requires no_root { head_at (octets self.now) (at self.now) ≡ Ok Head.Root → ⊥ }
-        ensures { StopsName (octets self.now) (at self.now) (at self.now - start) result }
+        ensures { StopsName (octets self.now) name start (at self.now) result }
     {
         let place = self.parser.pos();
         match self.first() {
@@ -245,7 +236,7 @@ impl<'a> Walk<'a> {
     fn pointer_fault(&self, name: NameOf, start: usize, high: u8) -> Fault
         requires first { slice_get (octets self.now) (at self.now) ≡ Some high }
         requires pointer { 192 ≤ high }
-        ensures { (size : ℕ) → StopsName (octets self.now) (at self.now) size result }
+        ensures { StopsName (octets self.now) name start (at self.now) result }
     {
         let Some(low) = self.second() else {
             return Fault::Short(Field::Pointer(name, start));
@@ -347,10 +338,11 @@ impl<'a> Walk<'a> {
     fn record_fields(&mut self) -> Result<(Rtype, u16), Stop>
         requires { IsMarked self.old }
         ensures comes { Comes 0 self.old self.new }
-        ensures keeps { Keeps self.old self.new }
         ensures passes { IfOk result
             (λ numbers. PassesNumbers numbers.0 numbers.1 self.old self.new) }
         ensures short { OnFaultOf result (LacksFields (octets self.old) (at self.old + 10)) }
+        ensures cuts { OnFaultOf result (CutsFields (number_rows
+            (number_at w16 (octets self.old) (at self.old)) (at self.old)) self.old self.new) }
     {
         let rtype = Rtype::from_int(self.number(Field::Type)?);
         self.class_and_ttl(rtype)?;
@@ -362,16 +354,14 @@ impl<'a> Walk<'a> {
     fn class_and_ttl(&mut self, rtype: Rtype) -> Result<(), Stop>
         requires { IsMarked self.old }
         ensures comes { Comes 0 self.old self.new }
-        ensures keeps { Keeps self.old self.new }
         ensures adds { OnOk result (Adds (class_rows rtype (at self.old))
             (at self.old + 6) self.old self.new) }
         ensures short { OnFaultOf result (LacksFields (octets self.old) (at self.old + 6)) }
+        ensures cuts { OnFaultOf result
+            (CutsFields (class_rows rtype (at self.old)) self.old self.new) }
     {
         if rtype == Rtype::OPT {
-            self.number(Field::PayloadSize)?;
-            self.octets(1, Field::ExtendedRcode)?;
-            self.octets(1, Field::Version)?;
-            self.octets(2, Field::OptFlags)?;
+            self.opt_fields()?;
         } else {
             self.number(Field::Class)?;
             self.octets(4, Field::Ttl)?;
@@ -379,11 +369,26 @@ impl<'a> Walk<'a> {
         Ok(())
     }
 
+    /// What an OPT record has there (RFC 6891 section 6.1.2).
+    fn opt_fields(&mut self) -> Result<(), Stop>
+        requires { IsMarked self.old }
+        ensures comes { Comes 0 self.old self.new }
+        ensures adds { OnOk result (Adds (opt_rows (at self.old))
+            (at self.old + 6) self.old self.new) }
+        ensures short { OnFaultOf result (LacksFields (octets self.old) (at self.old + 6)) }
+        ensures cuts { OnFaultOf result (CutsFields (opt_rows (at self.old)) self.old self.new) }
+    {
+        self.number(Field::PayloadSize)?;
+        self.octets(1, Field::ExtendedRcode)?;
+        self.octets(1, Field::Version)?;
+        self.octets(2, Field::OptFlags)?;
+        Ok(())
+    }
+
     /// The data of a record, which has `len` octets.
     fn within(&mut self, rtype: Rtype, len: usize) -> Result<(), Stop>
         requires { IsMarked self.old }
         ensures comes { Comes 0 self.old self.new }
-        ensures keeps { Keeps self.old self.new }
         ensures there { OnOk result (at self.old + len ≤ length (octets self.old)) }
         ensures seen { OnOk result (octets self.new ≡ octets self.old) }
         ensures place { OnOk result (at self.new ≡ at self.old + len) }
@@ -407,7 +412,6 @@ impl<'a> Walk<'a> {
     fn data(&mut self, rtype: Rtype) -> Result<(), Stop>
         requires { IsMarked self.old }
         ensures comes { Comes 0 self.old self.new }
-        ensures keeps { Keeps self.old self.new }
         ensures sees { OnOk result (octets self.new ≡ octets self.old) }
         ensures shows { OnOk result (MarksData (shape_of rtype) None self.old self.new) }
         ensures stops { OnFaultOf result (StopsData (shape_of rtype) self.old self.new) }
@@ -432,7 +436,6 @@ impl<'a> Walk<'a> {
         requires some { 0 < n }
         requires plain { items_at field ≡ 0 }
         ensures comes { Comes 0 self.old self.new }
-        ensures keeps { Keeps self.old self.new }
         ensures sees { OnOk result (octets self.new ≡ octets self.old) }
         ensures shows { OnOk result (MarksData (Octets n field End) None self.old self.new) }
         ensures stops { OnFaultOf result (StopsData (Octets n field End) self.old self.new) }
@@ -445,7 +448,6 @@ impl<'a> Walk<'a> {
     fn only_name(&mut self, name: NameOf) -> Result<(), Stop>
         requires { IsMarked self.old }
         ensures comes { Comes 0 self.old self.new }
-        ensures keeps { Keeps self.old self.new }
         ensures sees { OnOk result (octets self.new ≡ octets self.old) }
         ensures shows { OnOk result (MarksData (Named name End) None self.old self.new) }
         ensures stops { OnFaultOf result (StopsData (Named name End) self.old self.new) }
@@ -458,7 +460,6 @@ impl<'a> Walk<'a> {
     fn rest(&mut self) -> Result<(), Stop>
         requires { IsMarked self.old }
         ensures comes { Comes 0 self.old self.new }
-        ensures keeps { Keeps self.old self.new }
         ensures sees { OnOk result (octets self.new ≡ octets self.old) }
         ensures shows { OnOk result (MarksData Rest None self.old self.new) }
         ensures stops { OnFaultOf result (StopsData Rest self.old self.new) }
@@ -473,7 +474,6 @@ impl<'a> Walk<'a> {
     fn exchange(&mut self) -> Result<(), Stop>
         requires { IsMarked self.old }
         ensures comes { Comes 0 self.old self.new }
-        ensures keeps { Keeps self.old self.new }
         ensures sees { OnOk result (octets self.new ≡ octets self.old) }
         ensures shows { OnOk result (MarksData exchange_shape None self.old self.new) }
         ensures stops { OnFaultOf result (StopsData exchange_shape self.old self.new) }
@@ -487,7 +487,6 @@ impl<'a> Walk<'a> {
     fn zone(&mut self) -> Result<(), Stop>
         requires { IsMarked self.old }
         ensures comes { Comes 0 self.old self.new }
-        ensures keeps { Keeps self.old self.new }
         ensures sees { OnOk result (octets self.new ≡ octets self.old) }
         ensures shows { OnOk result (MarksData zone_shape None self.old self.new) }
         ensures stops { OnFaultOf result (StopsData zone_shape self.old self.new) }
@@ -506,7 +505,6 @@ impl<'a> Walk<'a> {
     fn texts(&mut self) -> Result<(), Stop>
         requires { IsMarked self.old }
         ensures comes { Comes 0 self.old self.new }
-        ensures keeps { Keeps self.old self.new }
         ensures sees { OnOk result (octets self.new ≡ octets self.old) }
         ensures shows { OnOk result (MarksData Texts None self.old self.new) }
         ensures stops { OnFaultOf result (StopsData Texts self.old self.new) }
@@ -521,7 +519,6 @@ impl<'a> Walk<'a> {
     fn options(&mut self) -> Result<(), Stop>
         requires { IsMarked self.old }
         ensures comes { Comes 0 self.old self.new }
-        ensures keeps { Keeps self.old self.new }
         ensures sees { OnOk result (octets self.new ≡ octets self.old) }
         ensures shows { OnOk result (MarksData Options None self.old self.new) }
         ensures stops { OnFaultOf result (StopsData Options self.old self.new) }
@@ -535,10 +532,9 @@ impl<'a> Walk<'a> {
     fn option(&mut self) -> Result<(), Stop>
         requires { IsMarked self.old }
         ensures comes { Comes 0 self.old self.new }
-        ensures keeps { Keeps self.old self.new }
         ensures sees { OnOk result (octets self.new ≡ octets self.old) }
         ensures passes { OnOk result (PassesOption self.old self.new) }
-        ensures stops { OnFaultOf result (LacksOption (octets self.old) (at self.old)) }
+        ensures stops { OnFaultOf result (MissesOption self.old self.new) }
     {
         let code = self.number(Field::OptionCode)?;
         match self.number(Field::OptionLength(code))? {

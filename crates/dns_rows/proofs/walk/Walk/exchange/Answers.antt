@@ -1,12 +1,10 @@
 use Rattle.std.proofs.Common.{◌≡◌, ◌+◌, Some, None, rules}
 use Rattle.dns_rows.specs.Data.{exchange_shape}
 use Rattle.dns_rows.specs.Data.Shape.{End, Named}
-use Rattle.dns_rows.specs.Faults.{LacksName}
-use Rattle.dns_rows.specs.Walks.{at, octets, LacksField, StopsData}
+use Rattle.dns_rows.specs.Walks.{at, octets, LacksField, MissesName, StopsData}
 use Rattle.dns_rows.specs.declared.row.NameOf.TheVariants.{Exchange}
 use Rattle.dns_rows.specs.declared.row.Field.TheVariants.{Preference}
 use Rattle.dns_rows.proofs.DataRows.{data_done, name_missing, name_then, octets_short, octets_then}
-use Rattle.dns_rows.proofs.Items.{nothing_yet}
 use Rattle.dns_rows.proofs.Stops.{on_fault, on_fault_2}
 use Rattle.dns_rows.proofs.walk.Walk.exchange.Goals as goal
 
@@ -17,9 +15,9 @@ returns-in_err-number-clause-stops c =
 
 pub returns-in_err-name-clause-stops : goal.returns-in_err-name-clause-stops
 returns-in_err-name-clause-stops c =
-    on_fault c.from_residual-in_err-name.result (LacksName (octets c.number.new.self) (at c.number.new.self) (at c.name.new.self)) (StopsData exchange_shape c.args.self.now c.name.new.self)
+    on_fault c.from_residual-in_err-name.result (MissesName Exchange c.number.new.self c.name.new.self) (StopsData exchange_shape c.args.self.now c.name.new.self)
     (λ fault h. octets_then 2 Preference (Named Exchange End) (Some fault) c.args.self.now c.number.new.self c.name.new.self c.in_ok-number.ensures.adds c.in_ok-number.ensures.within
-    (name_missing Exchange End c.number.new.self c.name.new.self fault h (c.name.ensures.keeps c.number.new.self.rows.items (at c.number.new.self) (nothing_yet c.number.new.self)))) (search rules)
+    (name_missing Exchange End c.number.new.self c.name.new.self fault h)) (search rules)
 
 pub returns-clause-shows : goal.returns-clause-shows
 returns-clause-shows c =

@@ -3,12 +3,11 @@ use Rattle.dns_rows.proofs.Names.{all_labels, none_passed, one_more_label}
 use Rattle.dns_rows.proofs.walk.Walk.labels.Goals as goal
 
 pub labels-init : goal.labels-init
-labels-init c = record { comes = search rules; keeps = λ front from g. g; passes = none_passed c.args.name c.args.self.now; short = omega arith }
+labels-init c = record { comes = search rules; passes = none_passed c.args.name c.args.self.now; short = omega arith }
 
 pub labels-preserved : goal.labels-preserved
 labels-preserved c = record {
   comes = search rules;
-  keeps = λ front from g. c.octets.ensures.keeps front from (c.labels.invariant.keeps front from g);
   passes = one_more_label c.args.name c.labels.size c.in-Some.len c.args.self.now c.labels.self c.octets.new.self c.labels.invariant.passes c.in-Some.ensures.some c.in_ok-octets.ensures.adds;
   short = omega (arith, c.in-Some.ensures.some.short);
 }

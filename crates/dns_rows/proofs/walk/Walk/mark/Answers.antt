@@ -3,18 +3,8 @@ use Rattle.dns_name.specs.Parsers.{place}
 use Rattle.dns_code.specs.HeaderSection.{header_size}
 use Rattle.dns_rows.specs.Fields.{field_row}
 use Rattle.dns_rows.specs.Walks.{at}
-use Rattle.dns_rows.proofs.Tilings.{counted_after, goes_on, marked_after}
+use Rattle.dns_rows.proofs.Tilings.{counted_after, marked_after}
 use Rattle.dns_rows.proofs.walk.Walk.mark.Goals as goal
-
-pub returns-clause-keeps : goal.returns-clause-keeps
-returns-clause-keeps c =
-    let rows = c.args.self.now.rows.items in
-    let start = at c.args.self.now in
-    let end = place c.args.behind in
-    let field = c.args.field in
-    let row = c.field-row.ensures ∙ ap (λ n. field_row n c.pos-2.result field) c.pos.ensures ∙ ap (λ n. field_row start n field) c.pos-2.ensures in
-    let pushed : c.push.new.self.items ≡ rows ++ field_row start end field ∷ [] = c.in-Ok.ensures.items ∙ ap (λ row. rows ++ row ∷ []) row in
-    λ plain front from g. goes_on front rows c.push.new.self.items from start end field pushed c.requires.is_field c.requires.order plain g
 
 pub returns-clause-comes : goal.returns-clause-comes
 returns-clause-comes c =

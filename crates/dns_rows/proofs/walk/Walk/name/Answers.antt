@@ -15,12 +15,14 @@ name_fault-requires-clause-no_root c =
     let none = no_root (octets old) (at new) (at new - at old) fails.0 (passes.faults fails.0 fails.1) in
     λ h. none (subst (λ b. head_at b (at new) ≡ Ok Root) passes.adds.seen h)
 
-pub returns-then-is_err-clause-fault : goal.returns-then-is_err-clause-fault
-returns-then-is_err-clause-fault c =
+pub returns-then-is_err-clause-misses : goal.returns-then-is_err-clause-misses
+returns-then-is_err-clause-misses c =
     let old = c.args.self.now in
     let new = c.labels.new.self in
+    let fault = c.name_fault.result in
     let fails : (f : Fault) × FaultAt (octets old) (at old) f = search rules in
     let passes = c.in_ok-labels.ensures.passes in
-    let P : List ℕ → ℕ → Type 0 = λ b start. StopsName b (at new) (at new - start) c.name_fault.result in
+    let P : List ℕ → ℕ → Type 0 = λ b start. StopsName b c.args.name start (at new) fault in
     let stops : P (octets old) (at old) = subst (λ b. P b (at old)) passes.adds.seen (subst (λ start. P (octets new) start) c.pos-start.ensures c.name_fault.ensures) in
-    (fails.0, fails.1, tells_name (octets old) (at old) (at new) c.name_fault.result fails.0 passes.row stops (passes.faults fails.0 fails.1), record { row = passes.row; stops = stops })
+    let tells = tells_name (octets old) c.args.name (at old) (at new) fault fails.0 stops (passes.faults fails.0 fails.1) in
+    record { rows = passes.rows; adds = passes.adds.rows; f = fails.0; lacks = record { faulty = fails.1; labels = passes.shown; stops = stops; tells = tells } }

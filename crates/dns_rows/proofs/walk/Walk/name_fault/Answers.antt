@@ -1,8 +1,7 @@
 use Rattle.std.proofs.Common.{◌≡◌, ◌-◌, ◌+◌, ◌<◌, ◌≤◌, ◌∙◌, arith, slice_get, Some}
 use Rattle.dns_rows.specs.Faults.StopsName.{none, label}
 use Rattle.dns_rows.specs.Walks.{at, octets}
-use Rattle.dns_rows.specs.declared.row.Field.TheVariants.{Label}
-use Rattle.dns_rows.proofs.Faults.{bad_head, none_head, stops_cut, stops_long}
+use Rattle.dns_rows.proofs.Faults.{bad_head, no_octet_there, stops_cut, stops_long}
 use Rattle.dns_rows.proofs.walk.Walk.name_fault.Goals as goal
 
 pub returns-in-Some : goal.returns-in-Some
@@ -12,7 +11,7 @@ returns-in-Some c =
     let there : slice_get b p ≡ Some c.in-Some.len = c.first.ensures ∙ c.in-Some.is in
     let small : c.in-Some.len < 64 = omega arith in
     let far : 254 ≤ (p - c.args.start) + c.in-Some.len = omega arith in
-    stops_long b p (p - c.args.start) c.in-Some.len there small c.requires.no_root far
+    stops_long b c.args.name c.args.start p c.in-Some.len there small c.requires.no_root far
 
 pub returns-in-Some-64-to-191 : goal.returns-in-Some-64-to-191
 returns-in-Some-64-to-191 c =
@@ -26,7 +25,7 @@ returns-in_default c =
     let there : slice_get b p ≡ Some c.in-Some.len = c.first.ensures ∙ c.in-Some.is in
     let small : c.in-Some.len < 64 = omega arith in
     let near : (p - c.args.start) + c.in-Some.len < 254 = omega arith in
-    stops_cut b p (p - c.args.start) c.in-Some.len (Label c.args.name) there small c.requires.no_root c.requires.none near
+    stops_cut b c.args.name c.args.start p c.in-Some.len there small c.requires.no_root c.requires.none near
 
 pub returns-in_default-2 : goal.returns-in_default-2
-returns-in_default-2 c = none (none_head (octets c.args.self.now) (at c.args.self.now) (c.first.ensures ∙ c.in_default.is))
+returns-in_default-2 c = none (no_octet_there (octets c.args.self.now) (at c.args.self.now) (c.first.ensures ∙ c.in_default.is))

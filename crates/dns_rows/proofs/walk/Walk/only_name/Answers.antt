@@ -1,16 +1,14 @@
 use Rattle.std.proofs.Common.{None, rules}
 use Rattle.dns_rows.specs.Data.Shape.{End, Named}
-use Rattle.dns_rows.specs.Faults.{LacksName}
-use Rattle.dns_rows.specs.Walks.{at, octets, StopsData}
+use Rattle.dns_rows.specs.Walks.{MissesName, StopsData}
 use Rattle.dns_rows.proofs.DataRows.{data_done, name_missing, name_then}
-use Rattle.dns_rows.proofs.Items.{nothing_yet}
 use Rattle.dns_rows.proofs.Stops.{on_fault}
 use Rattle.dns_rows.proofs.walk.Walk.only_name.Goals as goal
 
 pub returns-in_err-name-clause-stops : goal.returns-in_err-name-clause-stops
 returns-in_err-name-clause-stops c =
-    on_fault c.from_residual.result (LacksName (octets c.args.self.now) (at c.args.self.now) (at c.name.new.self)) (StopsData (Named c.args.name End) c.args.self.now c.name.new.self)
-    (λ fault h. name_missing c.args.name End c.args.self.now c.name.new.self fault h (c.name.ensures.keeps c.args.self.now.rows.items (at c.args.self.now) (nothing_yet c.args.self.now))) (search rules)
+    on_fault c.from_residual.result (MissesName c.args.name c.args.self.now c.name.new.self) (StopsData (Named c.args.name End) c.args.self.now c.name.new.self)
+    (λ fault h. name_missing c.args.name End c.args.self.now c.name.new.self fault h) (search rules)
 
 pub returns-clause-shows : goal.returns-clause-shows
 returns-clause-shows c =

@@ -1,19 +1,16 @@
 use Rattle.std.proofs.Common.{◌<◌, ◌≤◌, ◌∙◌, arith, ap, length, refl, rules}
-use Rattle.dns_rows.specs.Data.{LacksOption}
 use Rattle.dns_rows.specs.Data.Shape.{Options}
-use Rattle.dns_rows.specs.Walks.{at, octets, StopsData}
+use Rattle.dns_rows.specs.Walks.{at, octets, MissesOption, StopsData}
 use Rattle.dns_rows.proofs.DataRows.{all_options, no_options, one_more_option, option_stops}
-use Rattle.dns_rows.proofs.Items.{nothing_yet}
 use Rattle.dns_rows.proofs.Stops.{on_fault}
 use Rattle.dns_rows.proofs.walk.Walk.options.Goals as goal
 
 pub options-init : goal.options-init
-options-init c = record { comes = search rules; keeps = λ front from g. g; sees = refl; passes = no_options c.args.self.now }
+options-init c = record { comes = search rules; sees = refl; passes = no_options c.args.self.now }
 
 pub options-preserved : goal.options-preserved
 options-preserved c = record {
   comes = search rules;
-  keeps = λ front from g. c.option.ensures.keeps front from (c.options.invariant.keeps front from g);
   sees = c.in_ok-option.ensures.sees ∙ c.options.invariant.sees;
   passes = one_more_option c.args.self.now c.options.self c.option.new.self c.options.invariant.passes c.in_ok-option.ensures.passes;
 }
@@ -29,8 +26,8 @@ returns-in_err-option-clause-stops c =
     let mid = c.options.self in
     let new = c.option.new.self in
     let some : at mid < length (octets mid) = omega arith in
-    on_fault c.from_residual.result (LacksOption (octets mid) (at mid)) (StopsData Options old new)
-    (λ fault lacks. option_stops old mid new fault c.options.invariant.passes some lacks (c.option.ensures.keeps mid.rows.items (at mid) (nothing_yet mid))) (search rules)
+    on_fault c.from_residual.result (MissesOption mid new) (StopsData Options old new)
+    (λ fault h. option_stops old mid new fault c.options.invariant.passes some h) (search rules)
 
 pub returns-clause-shows : goal.returns-clause-shows
 returns-clause-shows c =

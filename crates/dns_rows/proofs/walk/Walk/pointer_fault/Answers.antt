@@ -1,17 +1,19 @@
 use Rattle.std.proofs.Common.{◌≡◌, ◌<◌, ◌∙◌, ap, arith, Ok, sym, subst, true, false}
+use Rattle.std.proofs.lemmas.Option.{slice_get_within}
 use Rattle.dns_name.specs.Names.{head_at}
 use Rattle.dns_name.specs.declared.head.Head.TheVariants.{Pointer}
-use Rattle.dns_rows.specs.Faults.StopsName.{none, ahead, behind, pointed}
+use Rattle.dns_rows.specs.Faults.StopsName.{half, ahead, behind, pointed}
 use Rattle.dns_rows.specs.Walks.{at, octets, HasName}
 use Rattle.dns_rows.proofs.Faults.{half_head, pointer_there}
 use Rattle.dns_rows.proofs.walk.Walk.pointer_fault.Goals as goal
 
 pub returns-in_default : goal.returns-in_default
-returns-in_default c = λ size.
-    none (half_head (octets c.args.self.now) (at c.args.self.now) c.args.high c.requires.first c.requires.pointer (c.second.ensures ∙ c.in_default.is))
+returns-in_default c =
+    half (slice_get_within (octets c.args.self.now) (at c.args.self.now) c.args.high c.requires.first)
+    (half_head (octets c.args.self.now) (at c.args.self.now) c.args.high c.requires.first c.requires.pointer (c.second.ensures ∙ c.in_default.is))
 
 pub returns-then-target-pos : goal.returns-then-target-pos
-returns-then-target-pos c = λ size.
+returns-then-target-pos c =
     let b = octets c.args.self.now in
     let p = at c.args.self.now in
     let t = c.target_of-target.result in
@@ -22,7 +24,7 @@ returns-then-target-pos c = λ size.
     ahead there (omega arith)
 
 pub returns-then-has_name : goal.returns-then-has_name
-returns-then-has_name c = λ size.
+returns-then-has_name c =
     let b = octets c.args.self.now in
     let p = at c.args.self.now in
     let t = c.target_of-target.result in
@@ -34,7 +36,7 @@ returns-then-has_name c = λ size.
     pointed there (omega arith) name.1
 
 pub returns-else-has_name : goal.returns-else-has_name
-returns-else-has_name c = λ size.
+returns-else-has_name c =
     let b = octets c.args.self.now in
     let p = at c.args.self.now in
     let t = c.target_of-target.result in

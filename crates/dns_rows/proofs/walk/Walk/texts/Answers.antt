@@ -7,7 +7,7 @@ use Rattle.dns_rows.proofs.Stops.{on_fault_2}
 use Rattle.dns_rows.proofs.walk.Walk.texts.Goals as goal
 
 pub texts-init : goal.texts-init
-texts-init c = record { comes = search rules; keeps = λ front from g. g; sees = refl; passes = no_texts c.args.self.now }
+texts-init c = record { comes = search rules; sees = refl; passes = no_texts c.args.self.now }
 
 pub texts-preserved : goal.texts-preserved
 texts-preserved c =
@@ -15,7 +15,6 @@ texts-preserved c =
     let there : slice_get (octets mid) (at mid) ≡ Some c.from.result = c.first.ensures ∙ c.in-Some.is ∙ ap (λ n. Some n) (sym c.from.ensures) in
     record {
       comes = search rules;
-      keeps = λ front from g. c.octets.ensures.keeps front from (c.texts.invariant.keeps front from g);
       sees = c.in_ok-octets.ensures.adds.seen ∙ c.texts.invariant.sees;
       passes = one_more_text c.from.result c.args.self.now mid c.octets.new.self c.texts.invariant.passes there c.in_ok-octets.ensures.adds c.in_ok-octets.ensures.within;
     }

@@ -35,4 +35,4 @@ returns-then-pos-clause-stops c =
 pub returns-in_default-clause-stops : goal.returns-in_default-clause-stops
 returns-in_default-clause-stops c =
     let short : length (octets c.args.self.now) < at c.args.self.now + c.args.len = search rules in
-    missing short
+    missing short refl

@@ -1,26 +1,24 @@
 use Rattle.std.proofs.Common.{◌≡◌, ◌+◌, Some, None, rules}
 use Rattle.dns_rows.specs.Data.{zone_shape}
 use Rattle.dns_rows.specs.Data.Shape.{End, Octets, Named}
-use Rattle.dns_rows.specs.Faults.{LacksName}
-use Rattle.dns_rows.specs.Walks.{at, octets, LacksField, StopsData}
+use Rattle.dns_rows.specs.Walks.{at, octets, LacksField, MissesName, StopsData}
 use Rattle.dns_rows.specs.declared.row.NameOf.TheVariants.{Primary, Mailbox}
 use Rattle.dns_rows.specs.declared.row.Field.TheVariants.{Zone}
 use Rattle.dns_rows.specs.declared.row.ZoneNumber.TheVariants.{Serial, Refresh, Retry, Expire, Minimum}
 use Rattle.dns_rows.proofs.DataRows.{data_done, name_missing, name_then, octets_short, octets_then}
-use Rattle.dns_rows.proofs.Items.{nothing_yet}
 use Rattle.dns_rows.proofs.Stops.{on_fault, on_fault_2}
 use Rattle.dns_rows.proofs.walk.Walk.zone.Goals as goal
 
 pub returns-in_err-name-clause-stops : goal.returns-in_err-name-clause-stops
 returns-in_err-name-clause-stops c =
-    on_fault c.from_residual.result (LacksName (octets c.args.self.now) (at c.args.self.now) (at c.name.new.self)) (StopsData zone_shape c.args.self.now c.name.new.self)
-    (λ fault h. name_missing Primary (Named Mailbox (Octets 4 (Zone Serial) (Octets 4 (Zone Refresh) (Octets 4 (Zone Retry) (Octets 4 (Zone Expire) (Octets 4 (Zone Minimum) End)))))) c.args.self.now c.name.new.self fault h (c.name.ensures.keeps c.args.self.now.rows.items (at c.args.self.now) (nothing_yet c.args.self.now))) (search rules)
+    on_fault c.from_residual.result (MissesName Primary c.args.self.now c.name.new.self) (StopsData zone_shape c.args.self.now c.name.new.self)
+    (λ fault h. name_missing Primary (Named Mailbox (Octets 4 (Zone Serial) (Octets 4 (Zone Refresh) (Octets 4 (Zone Retry) (Octets 4 (Zone Expire) (Octets 4 (Zone Minimum) End)))))) c.args.self.now c.name.new.self fault h) (search rules)
 
 pub returns-in_err-name-2-clause-stops : goal.returns-in_err-name-2-clause-stops
 returns-in_err-name-2-clause-stops c =
-    on_fault c.from_residual-in_err-name-2.result (LacksName (octets c.name.new.self) (at c.name.new.self) (at c.name-2.new.self)) (StopsData zone_shape c.args.self.now c.name-2.new.self)
+    on_fault c.from_residual-in_err-name-2.result (MissesName Mailbox c.name.new.self c.name-2.new.self) (StopsData zone_shape c.args.self.now c.name-2.new.self)
     (λ fault h. name_then Primary (Named Mailbox (Octets 4 (Zone Serial) (Octets 4 (Zone Refresh) (Octets 4 (Zone Retry) (Octets 4 (Zone Expire) (Octets 4 (Zone Minimum) End)))))) (Some fault) c.args.self.now c.name.new.self c.name-2.new.self c.in_ok-name.ensures.passes
-    (name_missing Mailbox (Octets 4 (Zone Serial) (Octets 4 (Zone Refresh) (Octets 4 (Zone Retry) (Octets 4 (Zone Expire) (Octets 4 (Zone Minimum) End))))) c.name.new.self c.name-2.new.self fault h (c.name-2.ensures.keeps c.name.new.self.rows.items (at c.name.new.self) (nothing_yet c.name.new.self)))) (search rules)
+    (name_missing Mailbox (Octets 4 (Zone Serial) (Octets 4 (Zone Refresh) (Octets 4 (Zone Retry) (Octets 4 (Zone Expire) (Octets 4 (Zone Minimum) End))))) c.name.new.self c.name-2.new.self fault h)) (search rules)
 
 pub returns-in_err-octets-clause-stops : goal.returns-in_err-octets-clause-stops
 returns-in_err-octets-clause-stops c =

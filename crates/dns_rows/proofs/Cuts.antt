@@ -1,0 +1,62 @@
+-- Fields one behind the other, of which one isn't all there.
+use Rattle.std.proofs.Common.{◌≡◌, ℕ, ◌+◌, ◌≤◌, List, [], ◌∷◌, ◌++◌, length, ◌∙◌, ap, subst, sym, refl, arith, append_assoc, append-nil, length-take}
+use Rattle.dns_rows.specs.Fields.{field_row, CutRows}
+use Rattle.dns_rows.specs.Walks.{at, octets, Adds, CutsFields, LacksField}
+use Rattle.dns_rows.specs.declared.row.Fault.{Fault}
+use Rattle.dns_rows.specs.declared.row.Field.{Field}
+use Rattle.dns_rows.specs.declared.row.Row.{Row}
+use Rattle.dns_rows.specs.declared.walk.Walk.{Walk}
+
+-- a walk is at most behind what it sees
+pub walk_within : (w : Walk) → at w ≤ length (octets w)
+walk_within w = omega (arith, length-take w.parser.end w.parser.octets.now, w.parser.before_end, w.parser.within)
+
+-- the first field isn't all there
+pub cut_here : (p n e : ℕ) (field : Field) (behind : List Row) (old new : Walk) (fault : Fault) → LacksField field (octets old) (at old + n) fault → new ≡ old → at old ≡ p → e ≡ p + n
+    → CutsFields (field_row p e field ∷ behind) old new fault
+cut_here p n e field behind old new fault h same place end =
+    let P : ℕ → Type 0 = λ q. CutRows (octets old) (field_row p e field ∷ behind) q fault [] in
+    let within : p ≤ length (octets old) = omega (arith, walk_within old, place) in
+    let cut : P p = record { field = field; end = e; behind = behind; made = refl; within = within; short = omega (arith, h.1, place, end); told = h.0 } in
+    record {
+      rows = [];
+      adds = ap (λ (w : Walk). w.rows.items) same ∙ sym (append-nil old.rows.items);
+      cut = subst P (sym (ap (λ (w : Walk). at w) same ∙ place)) cut;
+    }
+
+-- one isn't that stands behind others
+cut_rows_after : (b : List ℕ) (front behind rows : List Row) (place : ℕ) (fault : Fault) → CutRows b behind place fault rows → CutRows b (front ++ behind) place fault (front ++ rows)
+cut_rows_after b front behind rows place fault h = record {
+  field = h.field;
+  end = h.end;
+  behind = h.behind;
+  made = ap (λ others. front ++ others) h.made ∙ sym (append_assoc front rows (field_row place h.end h.field ∷ h.behind));
+  within = h.within;
+  short = h.short;
+  told = h.told;
+}
+
+pub cut_after : (front behind : List Row) (q : ℕ) (old mid new : Walk) (fault : Fault) → Adds front q old mid → CutsFields behind mid new fault → CutsFields (front ++ behind) old new fault
+cut_after front behind q old mid new fault h k =
+    let cut = cut_rows_after (octets mid) front behind k.rows (at new) fault k.cut in
+    record {
+      rows = front ++ k.rows;
+      adds = k.adds ∙ ap (λ rows. rows ++ k.rows) h.rows ∙ append_assoc old.rows.items front k.rows;
+      cut = subst (λ b. CutRows b (front ++ behind) (at new) fault (front ++ k.rows)) h.seen cut;
+    }
+
+-- others stand behind them
+pub cut_before : (whole others : List Row) (old new : Walk) (fault : Fault) → CutsFields whole old new fault → CutsFields (whole ++ others) old new fault
+cut_before whole others old new fault h = record {
+  rows = h.rows;
+  adds = h.adds;
+  cut = record {
+    field = h.cut.field;
+    end = h.cut.end;
+    behind = h.cut.behind ++ others;
+    made = ap (λ rows. rows ++ others) h.cut.made ∙ append_assoc h.rows (field_row (at new) h.cut.end h.cut.field ∷ h.cut.behind) others;
+    within = h.cut.within;
+    short = h.cut.short;
+    told = h.cut.told;
+  };
+}
