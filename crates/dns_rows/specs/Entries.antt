@@ -30,7 +30,7 @@ use Rattle.dns_rows.specs.declared.row.Fault.TheVariants.{Trailing}
 abbrev pub item_row : Part → ℕ → ℕ → Row
 item_row part number p = field_row p p (fields.Item part number)
 
--- the rows of the numbers of a question, behind a name that ends at r
+-- the rows of the numbers of a question, behind a name that ends at r. RFC 1035 section 4.1.2.
 abbrev pub question_rows : ℕ → List Row
 question_rows r = field_row r (r + 2) fields.Type ∷ field_row (r + 2) (r + 4) fields.Class ∷ []
 
@@ -50,11 +50,11 @@ abbrev pub opt_rows : ℕ → List Row
 opt_rows p =
     field_row p (p + 2) fields.PayloadSize ∷ field_row (p + 2) (p + 3) fields.ExtendedRcode ∷ field_row (p + 3) (p + 4) fields.Version ∷ field_row (p + 4) (p + 6) fields.OptFlags ∷ []
 
--- class and TTL of a record of a type, which stand at p, or what an OPT record has there
+-- class and TTL of a record of a type, which stand at p, or what an OPT record has there. RFC 1035 section 4.1.3.
 abbrev pub class_rows : ℕ → ℕ → List Row
 class_rows rtype p = if rtype == opt_type then opt_rows p else field_row p (p + 2) fields.Class ∷ field_row (p + 2) (p + 6) fields.Ttl ∷ []
 
--- the numbers of a record of a type, behind an owner that ends at r
+-- the rows of the numbers of a record of a type, behind an owner that ends at r. RFC 1035 section 4.1.3.
 abbrev pub number_rows : ℕ → ℕ → List Row
 number_rows rtype r = field_row r (r + 2) fields.Type ∷ (class_rows rtype (r + 2) ++ field_row (r + 8) (r + 10) fields.DataLength ∷ [])
 
@@ -86,13 +86,13 @@ pub record DataStops (b : List ℕ) (x : RecordEntry) (p place : ℕ) (fault : r
   pub told : fault ≡ data_fault stop
   pub made : shown ≡ owner_rows ++ (number_rows x.rtype reads.skips.name_end ++ data_rows)
 
--- A name at p, or the fields behind it, can't be read: the name can't be read on, or the fields aren't all there. These are the rows up to there.
+-- An item at p, a name and the fields behind it, can't be read: the name can't be read on, or the fields aren't all there. These are its rows up to there, behind that where it begins. RFC 1035 sections 4.1.2 to 4.1.4.
 pub data LacksItem (b : List ℕ) (of : NameOf) (behind : ℕ → List Row) (p : ℕ) : Fault → ℕ → rows.Fault → List Row → Type 0 where
   name : {f : Fault} {place : ℕ} {fault : rows.Fault} {shown : List Row} → LacksName b of p f place fault shown → LacksItem b of behind p f place fault shown
   short : {name : Labels} {r place : ℕ} {fault : rows.Fault} (name_rows others : List Row) → Stands b p name → Walked b p r → NameRows b of p p r name_rows
       → CutRows b (behind r) place fault others → LacksItem b of behind p ShortInput place fault (name_rows ++ others)
 
--- the fields behind the owner of a record, which ends at r: its numbers, and its data as a whole
+-- the rows of the fields behind the owner of a record, which ends at r: its numbers, and its data as a whole. RFC 1035 section 4.1.3.
 abbrev pub record_rows : List ℕ → ℕ → List Row
 record_rows b r = number_rows (number_at w16 b r) r ++ field_row (r + 10) (r + 10 + number_at w16 b (r + 8)) fields.Data ∷ []
 

@@ -1,5 +1,5 @@
 //! A walk over a message that makes a row of each field (RFC 1035 sections 3.3 and 4.1, RFC 6891 section 6.1.2).
-ghost use Rattle.std.specs.Prelude.{◌≡◌, ◌+◌, ◌<◌, ◌≤◌, ◌∷◌, ◌++◌, ℕ, [], IsNone, OnOk, IfOk, IfSome, IfErr, IsTrue, Ok, ◌-◌, length, slice_get, Some, None};
+ghost use Rattle.std.specs.Prelude.{◌≡◌, ◌+◌, ◌<◌, ◌≤◌, ◌∷◌, ◌++◌, ℕ, [], IsNone, OnOk, IfOk, IfSome, IsTrue, Ok, ◌-◌, length, slice_get, Some, None};
 ghost use Rattle.std.specs.Int.{w16};
 ghost use Rattle.dns_name.specs.Names.{head_at};
 ghost use Rattle.dns_name.specs.declared.head.Head.TheVariants as Head;
@@ -11,7 +11,7 @@ ghost use Rattle.dns_rows.specs.Fields.{items_at, IsField, field_row};
 ghost use Rattle.dns_rows.specs.Data.{exchange_shape, shape_of, zone_shape};
 ghost use Rattle.dns_rows.specs.Data.Shape.{End, Octets, Named, Options, Rest, Texts};
 ghost use Rattle.dns_rows.specs.Entries.{all_parts, class_rows, holds_records, item_row, number_rows, opt_rows};
-ghost use Rattle.dns_rows.specs.Walks.{at, octets, items, sum_of, AreCountsOf, IsMarked, Comes, CutsFields, Adds, OnFault, OnFaultOf, LacksField, LacksFields, IsEnd, IsLabelAt, HasName, PassesLabels, PassesAllLabels, PassesEnd, PassesName, PassesItemName, MissesName, MissesItemName, MissesOption, PassesNumbers, MarksItem, MarksStop, MarksFirst, MarksAmong, MarksParts, MarksData, MarksWithin, StopsData, StopsWithin, PassesOption};
+ghost use Rattle.dns_rows.specs.Walks.{at, octets, items, sum_of, AreCountsOf, IsMarked, Comes, CutsFields, Adds, OnFault, OnFaultOf, LacksField, LacksFields, IsEnd, IsLabelAt, HasName, PassesAllLabels, PassesEnd, PassesName, PassesItemName, MissesName, MissesItemName, MissesOption, PassesNumbers, MarksItem, MarksStop, MarksFirst, MarksAmong, MarksParts, MarksData, MarksWithin, StopsData, StopsWithin, PassesOption};
 
 use crate::octets::target_of;
 use crate::row::{Fault, Field, NameOf, Part, Row, ZoneNumber};
