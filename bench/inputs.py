@@ -88,10 +88,11 @@ def larger():
     return msg
 
 
-def zone():
-    msg = Message(0x1234, 0x8400, (1, 500, 0, 0))
+def zone(count):
+    """So many records, each of another owner."""
+    msg = Message(0x1234, 0x8400, (1, count, 0, 0))
     msg.question("sub.example.com", 252)
-    for i in range(500):
+    for i in range(count):
         msg.a(f"h{i}.sub.example.com", 3600, (10, 0, i // 256, i % 256))
     return msg
 
@@ -158,7 +159,7 @@ def main():
     def line(label, total, octets):
         print(label, total, bytes(octets).hex())
 
-    for label, msg in (("w1", response()), ("w2", larger()), ("w3", response()), ("w4", zone())):
+    for label, msg in (("w1", response()), ("w2", larger()), ("w3", response()), ("w4", zone(500))):
         line(label, msg.sum, msg.octets)
     line("w5a", chain(False).sum, chain(False).octets)
     line("w5b", "-", chain(True).octets)
@@ -170,6 +171,8 @@ def main():
     for label, msg in (("f64", addresses(4093)), ("h64", chain(False, 4061)), ("h64b", chain(False, 4061, 2))):
         assert 65536 - 32 < len(msg.octets) < 65536, len(msg.octets)
         line(label, msg.sum, msg.octets)
+    for count in (1, 2, 5, 10, 20, 50, 100, 200, 500):
+        line(f"z{count}", zone(count).sum, zone(count).octets)
 
 
 main()

@@ -1,11 +1,11 @@
 /* Times a library on the messages of inputs.py, by the calls of peer.h. README.md says what is done.
  *
- *   messages PEER INPUTS                     prints a row for each workload and way of building
- *   messages PEER INPUTS WORKLOAD WAY N      does one of them N times, for an instruction counter
+ *   messages PEER INPUTS WORKLOAD..          prints a row for each of these workloads and way of building
+ *   messages PEER INPUTS -n N WORKLOAD WAY   does one of them N times, for an instruction counter
  *
  * A line of INPUTS is a workload, its sum (`-` where the message has to be refused, `?` where it may
  * be), and its octets in hexadecimal. Built with COUNT_ALLOCATIONS defined, and with count.c, the rows
- * have allocations in place of times.
+ * have allocations and octets of memory in place of times.
  */
 
 #include "peer.h"
@@ -17,13 +17,16 @@
 #include <time.h>
 
 #pragma weak peer_variant
+#pragma weak peer_kept
 
 #ifdef COUNT_ALLOCATIONS
 extern uint64_t allocations;
+void start_counting(void);
+uint64_t most_octets(void);
 #endif
 
 /* BATCH is that of ours.c: times are of a multiple of it. */
-enum { RUNS = 15, MOST = 128, ROOM = 65535, BATCH = 64, DIGITS = 1 << 19 };
+enum { RUNS = 15, MOST = 128, ROOM = 65535, BATCH = 64, DIGITS = 1 << 19, OWNERS = 500 };
 
 struct input {
     char workload[8];
@@ -32,12 +35,14 @@ struct input {
     size_t len;
 };
 
+enum kind { WALK, RESPONSE, ZONE };
+
 /* Some inputs to walk over, or one message that is written. */
 struct task {
+    enum kind kind;
     const struct input *first;
     size_t count;
-    int32_t variant;
-    int64_t (*write)(int32_t variant, uint8_t *out, size_t room);
+    int32_t variant, owners;
 };
 
 static struct input inputs[MOST];
@@ -76,9 +81,17 @@ static void load(const char *path)
     fclose(file);
 }
 
+/* w3 is the response, w4 the zone, and z with a number a zone of so many owners. */
+static enum kind kind_of(const char *workload)
+{
+    if (!strcmp(workload, "w3"))
+        return RESPONSE;
+    return !strcmp(workload, "w4") || workload[0] == 'z' ? ZONE : WALK;
+}
+
 static struct task task_of(const char *workload, int32_t variant)
 {
-    struct task task = {NULL, 0, variant, NULL};
+    struct task task = {kind_of(workload), NULL, 0, variant, OWNERS};
     for (size_t i = 0; i < input_count; i++)
         if (!strcmp(inputs[i].workload, workload)) {
             if (!task.first)
@@ -87,57 +100,72 @@ static struct task task_of(const char *workload, int32_t variant)
         }
     if (!task.first)
         fail("no such workload");
-    if (!strcmp(workload, "w3"))
-        task.write = peer_response;
-    if (!strcmp(workload, "w4"))
-        task.write = peer_zone;
-    if (task.write)
-        task.count = 1;
+    if (workload[0] == 'z')
+        task.owners = atoi(workload + 1);
     return task;
+}
+
+static int64_t write_message(const struct task *task)
+{
+    if (task->kind == RESPONSE)
+        return peer_response(task->variant, out, sizeof out);
+    return peer_zone(task->variant, task->owners, out, sizeof out);
 }
 
 /* Does the task so many times. */
 static void run(const struct task *task, uint64_t times)
 {
     for (uint64_t n = 0; n < times; n++)
-        if (task->write)
-            kept = task->write(task->variant, out, sizeof out);
+        if (task->kind != WALK)
+            kept = write_message(task);
         else
             for (size_t i = 0; i < task->count; i++)
                 kept = peer_walk(task->first[i].octets, task->first[i].len);
 }
 
+static void print_row(const char *peer, const char *way, const struct task *task)
+{
+    printf("%-18s  %-19s  %-6s", peer, way, task->first->workload);
+}
+
 #ifdef COUNT_ALLOCATIONS
 
-/* The calls for one more message, once those before it have warmed up. */
-static void report(const char *peer, const char *way, const char *workload, const struct task *task)
+/* The calls for one more message, once those before it have warmed up, and the memory that is held for it. */
+static void report(const char *peer, const char *way, const struct task *task)
 {
     run(task, BATCH);
-    uint64_t before = allocations;
+    start_counting();
     run(task, BATCH);
-    printf("%-12s %-15s %-6s %12.2f\n", peer, way, workload,
-           (double)(allocations - before) / BATCH / (double)task->count);
+    double calls = (double)allocations / BATCH / (double)task->count;
+    print_row(peer, way, task);
+    printf("  %12.2f  %12" PRIu64 "\n", calls, most_octets() + (peer_kept ? peer_kept() : 0));
 }
 
 #else
 
-/* What differs from what was asked for, or nothing. */
-static const char *difference(const struct task *task)
+/* What differs from what was asked for in a message that was written, or nothing. */
+static const char *difference_written(const struct task *task)
 {
-    static char text[64];
+    static char text[32];
+    const struct input *asked = task->first;
+    int64_t len = write_message(task);
+    if (len < 0 || peer_walk(out, (size_t)len) != strtoll(asked->sum, NULL, 10))
+        return "FAILED";
+    snprintf(text, sizeof text, "%+" PRId64 " octets", len - (int64_t)asked->len);
+    return (size_t)len == asked->len ? "" : text;
+}
+
+/* What differs in walks: their sum, or whether messages are refused. */
+static const char *difference_walked(const struct task *task)
+{
+    static char text[32];
     const struct input *asked = task->first;
     size_t taken = 0;
-    if (task->write) {
-        int64_t len = task->write(task->variant, out, sizeof out);
-        if (len < 0 || peer_walk(out, (size_t)len) != strtoll(asked->sum, NULL, 10))
-            return "FAILED";
-        snprintf(text, sizeof text, "%+" PRId64 " octets", len - (int64_t)asked->len);
-        return (size_t)len == asked->len ? "" : text;
-    }
     for (size_t i = 0; i < task->count; i++)
         taken += peer_walk(asked[i].octets, asked[i].len) >= 0;
+    snprintf(text, sizeof text, "takes %zu of %zu", taken, task->count);
     if (!strcmp(asked->sum, "?"))
-        return "";
+        return text;
     if (!strcmp(asked->sum, "-"))
         return taken ? "TAKEN" : "";
     return peer_walk(asked->octets, asked->len) == strtoll(asked->sum, NULL, 10) ? "" : "FAILED";
@@ -168,7 +196,7 @@ static uint64_t times_for(const struct task *task)
     }
 }
 
-static void report(const char *peer, const char *way, const char *workload, const struct task *task)
+static void report(const char *peer, const char *way, const struct task *task)
 {
     double ns[RUNS];
     uint64_t times = times_for(task);
@@ -178,8 +206,9 @@ static void report(const char *peer, const char *way, const char *workload, cons
         ns[i] = (now() - start) / (double)times / (double)task->count;
     }
     qsort(ns, RUNS, sizeof *ns, by_value);
-    printf("%-12s %-15s %-6s %12.1f %12.1f  %s\n", peer, way, workload, ns[RUNS / 2], ns[0],
-           difference(task));
+    print_row(peer, way, task);
+    printf("  %12.1f  %12.1f  %s\n", ns[RUNS / 2], ns[0],
+           task->kind == WALK ? difference_walked(task) : difference_written(task));
 }
 
 #endif
@@ -191,36 +220,44 @@ static const char *way_of(int32_t variant)
     return variant ? NULL : "build";
 }
 
-static void report_all(const char *peer)
+/* The row of a walk, or those of all ways to write a message: some have no room for it. */
+static void report_all(const char *peer, const char *workload)
 {
-    static const char *const walks[] = {"w1", "w2", "w5a", "w5b", "w5c", "n10", "n100",
-                                        "n1000", "n10000", "f64", "h64", "h64b"};
-    for (size_t i = 0; i < sizeof walks / sizeof *walks; i++) {
-        struct task task = task_of(walks[i], 0);
-        report(peer, "walk", walks[i], &task);
+    struct task task = task_of(workload, 0);
+    if (task.kind == WALK) {
+        report(peer, "walk", &task);
+        return;
     }
-    for (int32_t variant = 0; way_of(variant); variant++) {
-        struct task response = task_of("w3", variant), zone = task_of("w4", variant);
-        report(peer, way_of(variant), "w3", &response);
-        /* The zone has no room in some targets. */
-        if (peer_zone(variant, out, sizeof out) >= 0)
-            report(peer, way_of(variant), "w4", &zone);
-    }
+    for (; way_of(task.variant); task.variant++)
+        if (write_message(&task) >= 0)
+            report(peer, way_of(task.variant), &task);
+    fflush(stdout);
+}
+
+/* The number of a way of building; that of a walk is 0. */
+static int32_t variant_of(const char *way)
+{
+    int32_t variant = 0;
+    if (!strcmp(way, "walk"))
+        return 0;
+    while (way_of(variant) && strcmp(way_of(variant), way))
+        variant++;
+    if (!way_of(variant))
+        fail("no such way");
+    return variant;
 }
 
 int main(int argc, char **argv)
 {
-    if (argc != 3 && argc != 6)
-        fail("PEER INPUTS [WORKLOAD WAY N]");
+    if (argc < 4)
+        fail("PEER INPUTS WORKLOAD.. or PEER INPUTS -n N WORKLOAD WAY");
     load(argv[2]);
-    if (argc == 3) {
-        report_all(argv[1]);
+    if (argc == 7 && !strcmp(argv[3], "-n")) {
+        struct task task = task_of(argv[5], variant_of(argv[6]));
+        run(&task, strtoull(argv[4], NULL, 10));
         return 0;
     }
-    int32_t variant = 0;
-    while (way_of(variant) && strcmp(way_of(variant), argv[4]) && strcmp("walk", argv[4]))
-        variant++;
-    struct task task = task_of(argv[3], variant);
-    run(&task, strtoull(argv[5], NULL, 10));
+    for (int i = 3; i < argc; i++)
+        report_all(argv[1], argv[i]);
     return 0;
 }

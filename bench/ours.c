@@ -1,7 +1,7 @@
 /* This library as a peer: the calls of peer.h by the exports of crates/dns_bench.
  *
  * An export keeps nothing for the next call, so it reads the names and makes its target for a batch
- * of messages: of so many calls for one variant the first writes them all, the others answer its
+ * of messages: of so many calls for one message the first writes them all, the others answer its
  * length, and the mean is the time of one message. The driver's numbers of calls are multiples of
  * a batch.
  */
@@ -24,29 +24,30 @@ writer dns_bench_response, dns_bench_zone;
 
 enum { BATCH = 64, VARIANTS = 14, OWNERS = 500 };
 
+/* The message that is written, how often it was asked for, and its length. */
 struct written {
-    size_t calls[VARIANTS];
-    size_t lens[VARIANTS];
+    int32_t variant, owners;
+    size_t calls, len;
 };
 
 static const uint8_t apex[] = "\7example\3com";
 static const uint8_t parent[] = "\3sub\7example\3com";
-static uint8_t names[1 << 14];
-static size_t names_len;
 
-/* The parent, and the owners under it. */
+/* The parent, and the owners under it; and the octets of the names up to each owner. */
+static uint8_t names[1 << 14];
+static size_t names_len[OWNERS + 1];
+
 static void fill_names(void)
 {
+    uint8_t *end = names + sizeof parent;
     memcpy(names, parent, sizeof parent);
-    names_len = sizeof parent;
+    names_len[0] = sizeof parent;
     for (int i = 0; i < OWNERS; i++) {
-        char label[8];
-        int len = snprintf(label, sizeof label, "h%d", i);
-        names[names_len++] = (uint8_t)len;
-        memcpy(names + names_len, label, (size_t)len);
-        names_len += (size_t)len;
-        memcpy(names + names_len, parent, sizeof parent);
-        names_len += sizeof parent;
+        int len = sprintf((char *)end + 1, "h%d", i);
+        *end = (uint8_t)len;
+        memcpy(end + 1 + len, parent, sizeof parent);
+        end += 1 + (size_t)len + sizeof parent;
+        names_len[i + 1] = (size_t)(end - names);
     }
 }
 
@@ -65,26 +66,51 @@ int64_t peer_walk(const uint8_t *message, size_t len)
     return (int64_t)dns_bench_walk(message, len);
 }
 
-static int64_t write_batch(struct written *written, writer *write, struct work work,
-                           int32_t variant, uint8_t *out, size_t room)
+#ifdef COUNT_ALLOCATIONS
+
+extern uint64_t left_out;
+
+/* Leaves out of what is counted the calls by which the next batch reads its names. */
+static void leave_out_names(writer *write, struct work work, int32_t variant, uint8_t *out, size_t room)
 {
-    if (written->calls[variant]++ % BATCH == 0)
-        written->lens[variant] = write((uint32_t)variant, &work, out, room);
-    return written->lens[variant] ? (int64_t)written->lens[variant] : -1;
+    work.rounds = 0;
+    left_out = UINT64_MAX;
+    write((uint32_t)variant, &work, out, room);
+    left_out = UINT64_MAX - left_out;
+}
+
+#else
+
+static void leave_out_names(writer *write, struct work work, int32_t variant, uint8_t *out, size_t room)
+{
+    (void)write, (void)work, (void)variant, (void)out, (void)room;
+}
+
+#endif
+
+static int64_t write_batch(struct written written, writer *write, struct work work, uint8_t *out,
+                           size_t room)
+{
+    static struct written last;
+    if (written.variant != last.variant || written.owners != last.owners)
+        last = written;
+    if (last.calls++ % BATCH == 0) {
+        leave_out_names(write, work, last.variant, out, room);
+        last.len = write((uint32_t)last.variant, &work, out, room);
+    }
+    return last.len ? (int64_t)last.len : -1;
 }
 
 int64_t peer_response(int32_t variant, uint8_t *out, size_t room)
 {
-    static struct written written;
     struct work work = {apex, sizeof apex, BATCH};
-    return write_batch(&written, dns_bench_response, work, variant, out, room);
+    return write_batch((struct written){variant, -1, 0, 0}, dns_bench_response, work, out, room);
 }
 
-int64_t peer_zone(int32_t variant, uint8_t *out, size_t room)
+int64_t peer_zone(int32_t variant, int32_t owners, uint8_t *out, size_t room)
 {
-    static struct written written;
-    if (!names_len)
+    if (!names_len[0])
         fill_names();
-    struct work work = {names, names_len, BATCH};
-    return write_batch(&written, dns_bench_zone, work, variant, out, room);
+    struct work work = {names, names_len[owners], BATCH};
+    return write_batch((struct written){variant, owners, 0, 0}, dns_bench_zone, work, out, room);
 }

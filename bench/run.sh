@@ -1,10 +1,8 @@
 #!/usr/bin/env bash
-# Builds crates/dns_bench, which proves it and the crates below it, and prints times and allocations: of whole messages
-# that are walked over and built, of names that are written by the four compressors, and of a walk over two messages.
+# Builds crates/dns_bench over what `./test` has left proved, and prints times and allocations: of whole messages that
+# are walked over and built, of names that are written by the four compressors, and of a walk over two messages.
 # Whole messages are timed by four programs, whose code lies 16 octets apart (shift.c): the least is the one to go by.
-# With COUNT=1 it also prints instructions, by valgrind. Another library is put beside this one by
-#   PEER=ARCHIVE.a [PEER_NAME=NAME] [PEER_FLAGS='-lm ..'] ./run.sh
-# where the archive has the calls of peer.h.
+# ROUNDS is how often, once where it isn't set. With COUNT=1 it also prints instructions, by valgrind.
 set -eu
 here=$(cd "$(dirname "$0")" && pwd)
 crate=$here/../crates/dns_bench
@@ -12,7 +10,7 @@ kit=$(dirname "$(rt doc)")
 build=$(mktemp -d)
 trap 'rm -rf "$build"' EXIT
 
-(cd "$crate" && rt lib) >"$build/proof" 2>&1 || { cat "$build/proof" >&2; exit 1; }
+"$here/../examples/c/library" dns_bench >"$build/proof" 2>&1 || { cat "$build/proof" >&2; exit 1; }
 
 compile() {
   local to=$1
@@ -29,28 +27,16 @@ done
 compile "$build/messages_allocations" -DCOUNT_ALLOCATIONS "$here/count.c" "$here/ours.c" "$here/messages.c"
 python3 "$here/inputs.py" >"$build/inputs"
 
-peers=("${shifts[@]/#/messages}")
-if [ "${PEER:-}" ]; then
-  # The driver asks for the names of the ways weakly, which takes nothing from an archive.
-  force=
-  ! nm "$PEER" 2>/dev/null | grep -q ' T peer_variant$' || force=-Wl,-u,peer_variant
-  for output in peer peer_allocations; do
-    count=()
-    [ $output = peer ] || count=(-DCOUNT_ALLOCATIONS "$here/count.c")
-    # shellcheck disable=SC2086
-    "${CC:-cc}" -std=gnu11 -O2 "${count[@]}" "$here/messages.c" $force "$PEER" ${PEER_FLAGS:-} -o "$build/$output"
-  done
-  peers+=(peer)
-fi
-name_of() { case $1 in messages*[1-9]*) echo "ours+${1#messages}" ;; messages*) echo ours ;; *) echo "${PEER_NAME:-peer}" ;; esac; }
-
-printf '%-12s %-15s %-6s %12s %12s\n' library way work 'ns, median' 'ns, least'
+workloads=(w1 w2 w5a w5b w5c n10 n100 n1000 n10000 f64 h64 h64b w3 w4)
+printf '%-18s  %-19s  %-6s  %12s  %12s\n' library way work 'ns, median' 'ns, least'
 for _ in $(seq "${ROUNDS:-1}"); do
-  for peer in "${peers[@]}"; do "$build/$peer" "$(name_of "$peer")" "$build/inputs"; done
+  for shift in "${shifts[@]}"; do
+    "$build/messages$shift" "ours+$shift" "$build/inputs" "${workloads[@]}"
+  done
 done
 echo
-printf '%-12s %-15s %-6s %12s\n' library way work allocations
-for peer in messages ${PEER:+peer}; do "$build/${peer}_allocations" "$(name_of "$peer")" "$build/inputs"; done
+printf '%-18s  %-19s  %-6s  %12s  %12s\n' library way work allocations memory
+"$build/messages_allocations" ours "$build/inputs" "${workloads[@]}"
 echo
 
 printf '%-14s %-9s %12s %12s\n' compressor workload 'ns, median' 'ns, least'
@@ -80,8 +66,8 @@ for message in answer servers; do
   printf '%-14s %-9s %12d\n' walk "$message" $(((more - few) / 1000))
 done
 while IFS=: read -r way work few more; do
-  less=$(instructions "$build/messages0" ours "$build/inputs" "$work" "$way" "$few")
-  all=$(instructions "$build/messages0" ours "$build/inputs" "$work" "$way" "$more")
+  less=$(instructions "$build/messages0" ours "$build/inputs" -n "$few" "$work" "$way")
+  all=$(instructions "$build/messages0" ours "$build/inputs" -n "$more" "$work" "$way")
   printf '%-14s %-9s %12d\n' "$way" "$work" $(((all - less) / (more - few)))
 done <<'ROWS'
 walk:w1:64:192
