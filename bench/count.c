@@ -1,5 +1,5 @@
-/* Counts the calls of the C library's allocator, and the octets of heap that are held: linked in front of it, for glibc.
- * A block holds as many octets as glibc can put into it, which may be more than it was asked for.
+/* Counts the calls of the C library's allocator, and the octets of heap that are held: linked in
+ * front of it, for glibc. A block holds what can be put into it, which may be more than was asked for.
  */
 
 #include <errno.h>

@@ -1,6 +1,6 @@
-/* Times a library on the messages of inputs.py, by the calls of peer.h. README.md says what is done.
+/* Times a library on the messages of inputs.py, by the calls of peer.h: README.md says what is done.
  *
- *   messages PEER INPUTS WORKLOAD..          prints a row for each of these workloads and way of building
+ *   messages PEER INPUTS WORKLOAD..          prints a row for each of the workloads and ways of building
  *   messages PEER INPUTS -n N WORKLOAD WAY   does one of them N times, for an instruction counter
  *
  * A line of INPUTS is a workload, its sum (`-` where the message has to be refused, `?` where it may
@@ -130,7 +130,7 @@ static void print_row(const char *peer, const char *way, const struct task *task
 
 #ifdef COUNT_ALLOCATIONS
 
-/* The calls for one more message, once those before it have warmed up, and the memory that is held for it. */
+/* The calls for one more message, once those before it have warmed up, and the memory it takes. */
 static void report(const char *peer, const char *way, const struct task *task)
 {
     run(task, BATCH);

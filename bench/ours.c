@@ -71,7 +71,8 @@ int64_t peer_walk(const uint8_t *message, size_t len)
 extern uint64_t left_out;
 
 /* Leaves out of what is counted the calls by which the next batch reads its names. */
-static void leave_out_names(writer *write, struct work work, int32_t variant, uint8_t *out, size_t room)
+static void leave_out_names(writer *write, struct work work, int32_t variant, uint8_t *out,
+                            size_t room)
 {
     work.rounds = 0;
     left_out = UINT64_MAX;
@@ -81,7 +82,8 @@ static void leave_out_names(writer *write, struct work work, int32_t variant, ui
 
 #else
 
-static void leave_out_names(writer *write, struct work work, int32_t variant, uint8_t *out, size_t room)
+static void leave_out_names(writer *write, struct work work, int32_t variant, uint8_t *out,
+                            size_t room)
 {
     (void)write, (void)work, (void)variant, (void)out, (void)room;
 }

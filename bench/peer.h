@@ -1,6 +1,6 @@
 /* What the bench asks of a library: three calls of C, each made by one thread, one after the other.
  *
- * A C file or a static archive with these three is a peer: README.md says how it is put beside this library.
+ * A C file or a static archive with these is a peer: README.md says how it is put beside this library.
  *
  * The sum of a walk, all numbers taken as they are:
  *   ID, flags (octets 2 and 3) and the four counts;
@@ -20,17 +20,18 @@
 /* Walks over a message, and answers the sum, or a negative number where it is refused. */
 int64_t peer_walk(const uint8_t *message, size_t len);
 
-/* Writes the response w3, or the zone w4 with so many owners of its 500, anew, and answers its length, or a
- * negative number. Names and data may be made beforehand. `variant` is one of the ways of building
- * (compressors, say): there are as many as peer_variant names, or one where that is left out. */
+/* Writes the response w3, or the zone w4 with so many owners of its 500, anew, and answers its
+ * length, or a negative number. Names and data may be made beforehand. `variant` is one of the ways
+ * of building (compressors, say): there are as many as peer_variant names, or one where that is left
+ * out. */
 int64_t peer_response(int32_t variant, uint8_t *out, size_t room);
 int64_t peer_zone(int32_t variant, int32_t owners, uint8_t *out, size_t room);
 
 /* The name of a way of building, and null behind the last. May be left out. */
 const char *peer_variant(int32_t variant);
 
-/* The octets of memory that are kept for messages from one to the next, and that the last message used: a
- * pool, or a buffer. May be left out. */
+/* The octets of memory that the last message used, and that are kept for the next one: a pool, or a
+ * buffer. May be left out. */
 size_t peer_kept(void);
 
 #endif
