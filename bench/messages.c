@@ -137,8 +137,9 @@ static void report(const char *peer, const char *way, const struct task *task)
     start_counting();
     run(task, BATCH);
     double calls = (double)allocations / BATCH / (double)task->count;
+    uint64_t octets = most_octets() + (peer_kept ? peer_kept() : 0);
     print_row(peer, way, task);
-    printf("  %12.2f  %12" PRIu64 "\n", calls, most_octets() + (peer_kept ? peer_kept() : 0));
+    printf("  %12.2f  %12" PRIu64 "\n", calls, octets);
 }
 
 #else
