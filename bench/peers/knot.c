@@ -63,8 +63,8 @@ static bool read_name(struct reader *reader, size_t end)
     if (octets <= 0)
         return false;
     const uint8_t *label = knot_wire_seek_label(name, message);
-    reader->sum += knot_dname_labels(label, message);
-    reader->sum += (int64_t)knot_dname_realsize(label, message);
+    size_t labels = knot_dname_labels(label, message);
+    reader->sum += (int64_t)(labels + knot_dname_realsize(label, message));
     reader->place += (size_t)octets;
     return true;
 }
@@ -107,8 +107,8 @@ static bool read_record(struct reader *reader)
     const uint8_t *numbers = reader->message + reader->place;
     uint16_t type = knot_wire_read_u16(numbers);
     size_t octets = knot_wire_read_u16(numbers + 8);
-    reader->sum += type + knot_wire_read_u16(numbers + 2);
-    reader->sum += knot_wire_read_u32(numbers + 4);
+    int64_t class_and_ttl = knot_wire_read_u16(numbers + 2) + (int64_t)knot_wire_read_u32(numbers + 4);
+    reader->sum += type + class_and_ttl;
     reader->place += 10;
     return reader->len - reader->place >= octets && read_data(reader, type, octets);
 }
