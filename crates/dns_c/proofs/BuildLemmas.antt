@@ -22,7 +22,7 @@ use Rattle.dns_build.specs.declared.push_error.PushError.TheVariants as pushing
 use Rattle.dns_c.specs.Codes.{append_fault, number_of, push_fault}
 use Rattle.dns_c.specs.Made.{SpellsNoName}
 use Rattle.dns_c.specs.Walk.{section_at}
-use Rattle.dns_c.specs.Built.{NewEntry, Question, Record, Means, AllMean, IsQuestionOf, IsRecordOf, LacksFields, IsRefused, FirstRefused, AnswersRecord, RefusesHeader, RefusesQuestion, RefusesRecord, RefusesEntry, IsUnbuilt, HasTooMany, beginning_of, questions_among, records_among}
+use Rattle.dns_c.specs.Built.{NewEntry, Question, Record, Means, AllMean, IsQuestionOf, IsRecordOf, LacksFields, IsRefused, FirstRefused, AnswersRecordPush, RefusesHeader, RefusesQuestion, RefusesRecord, RefusesEntry, IsUnbuilt, HasTooMany, beginning_of, questions_among, records_among}
 use Rattle.dns_c.specs.declared.build.NewItem.{NewItem}
 use Rattle.dns_c.specs.declared.code.Fault.TheVariants.{BadSection, BadText, LongData, NoRoom, TooMany}
 
@@ -284,7 +284,7 @@ module _ (rule : Rule) (stage : Stage) (which : Section) (rest : List NewItem) (
 
   -- a record is refused
   stating_refused_by : (room : Option ℕ) (grows : Bool) (es : List NewEntry) (first : List RecordItem) (y : RecordItem) (e : PushError) → item.section + 1 ≡ depth_of (stage_of which) → IsRecordOf item y
-      → AllMean (item ∷ rest) es → records_among which xs ≡ first ++ records_among which es → AnswersRecord room grows rule stage y (with_records stage first s) (Err e)
+      → AllMean (item ∷ rest) es → records_among which xs ≡ first ++ records_among which es → AnswersRecordPush room grows rule stage y (with_records stage first s) (Err e)
       → RefusesRecord room grows rule stage (records_among which xs) s (number_of (push_fault e))
   stating_refused_by room grows [] first y e at is mean all refused = absurd mean
   stating_refused_by room grows (Question x ∷ es) first y e at is mean all refused = absurd (not_first item.section which mean.0.0 at)
@@ -323,7 +323,7 @@ module _ (rule : Rule) (stage : Stage) (which : Section) (left rest : List NewIt
 
   -- a push is refused
   pub stating_refused : (room : Option ℕ) (grows : Bool) (y : RecordItem) (e : PushError) → item.section + 1 ≡ depth_of (stage_of which) → IsRecordOf item y
-      → InEach stage rule now (λ t. AnswersRecord room grows rule stage y t (Err e)) → RefusesRecord room grows rule stage (records_among which xs) s (number_of (push_fault e))
+      → InEach stage rule now (λ t. AnswersRecordPush room grows rule stage y t (Err e)) → RefusesRecord room grows rule stage (records_among which xs) s (number_of (push_fault e))
   stating_refused room grows y e at is_record refused =
       stating_refused_by rule stage which rest item xs s now room grows h.rest h.first y e at is_record these_mean h.all (refused (with_records stage h.first s) h.stands)
 

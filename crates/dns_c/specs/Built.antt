@@ -125,8 +125,8 @@ abbrev pub beginning_of : Stage → Header → List NewEntry → State
 beginning_of stage header xs = rewound stage (move_to stage (holding header xs))
 
 -- what a push of a record onto a state answers
-abbrev pub AnswersRecord : Option ℕ → Bool → Rule → Stage → RecordItem → State → Result (Unit {0}) PushError → Type 0
-AnswersRecord room grows rule stage x s = PushAnswers room grows s.limit (size_after rule (with_record stage x) s) (length (records_at stage s))
+abbrev pub AnswersRecordPush : Option ℕ → Bool → Rule → Stage → RecordItem → State → Result (Unit {0}) PushError → Type 0
+AnswersRecordPush room grows rule stage x s = PushAnswers room grows s.limit (size_after rule (with_record stage x) s) (length (records_at stage s))
 
 -- Why a target refuses what is written, and the number that tells it. Room, growth and rule are the target's.
 module _ (room : Option ℕ) (grows : Bool) (rule : Rule) where
@@ -153,7 +153,7 @@ module _ (room : Option ℕ) (grows : Bool) (rule : Rule) where
     pub others : List RecordItem
     pub all : xs ≡ first ++ next ∷ others
     pub error : PushError
-    pub refused : AnswersRecord room grows rule stage next (with_records stage first s) (Err error)
+    pub refused : AnswersRecordPush room grows rule stage next (with_records stage first s) (Err error)
     pub number : n ≡ number_of (push_fault error)
 
   -- an entry is refused, behind a header and the entries before it. RFC 1035 section 4.1

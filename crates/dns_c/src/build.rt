@@ -166,8 +166,6 @@ fn header_of(id: u16, flags: u16) -> Header
 }
 
 /// The message of a header and items, each in its section, in their order, over a target, which is emptied.
-///
-/// `Fault::NoMemory` is a refused write: generic code learns of `T.grows` only from one.
 fn build_over<T: Composer>(
     target: T,
     id: u16,

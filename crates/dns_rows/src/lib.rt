@@ -5,7 +5,7 @@
 //! the cursors of `dns_section` give them: of each question and record that is read, field by field and in order, up to the
 //! first that can't be read or whose data can't. Of that one come the fields before its fault, each as what it is: labels up to
 //! where the name can't be read on, and else all fields before the first that isn't all there. Then come the row of the fault,
-//! which tells the fault of the reading, and that of what is left.
+//! which tells why, and that of what is left.
 #![tactic(auto)]
 
 mod octets;
