@@ -1,4 +1,4 @@
-ghost use Rattle.std.specs.Prelude.{◌≡◌, ℕ, ◌+◌, ◌<◌, ◌≤◌, length, OnOk, IfOk};
+ghost use Rattle.std.specs.Prelude.{◌≡◌, ℕ, ◌+◌, ◌<◌, ◌≤◌, length, OnOk, IfOk, IsOk, Ok, get_or};
 
 use dns_octets::{FormError, ParseError};
 
@@ -37,6 +37,31 @@ impl Head {
                 Ok(Head::Pointer(u16::from(first - 192) * 256 + u16::from(second)))
             }
         }
+    }
+
+    /// The octet at a place where the root, a label or a pointer is known to begin: the length of the label, 0 of the root.
+    #[inline(always)]
+    #[tactic(auto, unfolding(crate::specs::Names::head_at))]
+    pub(crate) fn first(octets: &[u8], place: usize) -> u8
+        requires { IsOk (head_at octets.now place) }
+        ensures value { result ≡ get_or octets.now place 0 }
+        ensures within { place < length octets.now }
+        ensures root { result ≡ 0 → head_at octets.now place ≡ Ok Head.Root }
+        ensures label { 0 < result → result < 192
+            → head_at octets.now place ≡ Ok (Head.Label result) }
+    {
+        octets[place]
+    }
+
+    /// Where the pointer leads that is known to begin at a place.
+    #[inline(always)]
+    #[tactic(auto, unfolding(crate::specs::Names::head_at))]
+    pub(crate) fn target(octets: &[u8], place: usize) -> usize
+        requires known { IsOk (head_at octets.now place) }
+        requires pointer { 192 ≤ get_or octets.now place 0 }
+        ensures { head_at octets.now place ≡ Ok (Head.Pointer result) }
+    {
+        usize::from(octets[place] - 192) * 256 + usize::from(octets[place + 1])
     }
 
     /// What begins at the place, behind labels of the size: a label only where the name stays short enough and the label is all there.

@@ -62,7 +62,7 @@ impl<'a> Label<'a> {
         self.len().cmp(&other.len()).then(self.cmp(other))
     }
 
-    /// The first label of the name at a place, and the place behind it.
+    /// The first label of the name at a place, and the place behind it: of the root its own.
     pub(crate) fn first_at(octets: &'a [u8], pos: usize) -> (Label<'a>, usize)
         requires { NameAt octets.now pos }
         ensures { (name : Labels) → Stands octets.now pos name
@@ -70,15 +70,14 @@ impl<'a> Label<'a> {
     {
         let mut at = pos;
         'walk: loop {
-            match Head::at(octets, at).unwrap() {
-                Head::Root => return (Label::new(&[]), at),
-                Head::Label(len) => {
-                    let start = at + 1;
-                    let end = start + usize::from(len);
-                    return (Label::new(&octets[start..end]), end);
-                }
-                Head::Pointer(target) => at = usize::from(target),
+            let first = Head::first(octets, at);
+            if first < 192 {
+                let start = at + 1;
+                let end = start + usize::from(first);
+                let behind = if first == 0 { at } else { end };
+                return (Label::new(&octets[start..end]), behind);
             }
+            at = Head::target(octets, at);
         }
     }
 }

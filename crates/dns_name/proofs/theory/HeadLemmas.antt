@@ -1,6 +1,6 @@
 -- What is known of a place by what begins there.
-use Rattle.std.proofs.Common.{◌≡◌, ℕ, ◌+◌, ◌-◌, ◌*◌, ◌/◌, ◌%◌, ◌<◌, ◌≤◌, List, length, arith, refl, ap, ◌∙◌, [], ◌∷◌, length-take, length-drop, sym, subst}
-use Rattle.std.specs.Prelude.{Option, Some, None, Ok, slice_get}
+use Rattle.std.proofs.Common.{◌≡◌, ℕ, zero, suc, ◌+◌, ◌-◌, ◌*◌, ◌/◌, ◌%◌, ◌<◌, ◌≤◌, List, length, arith, refl, ap, ◌∙◌, [], ◌∷◌, length-take, length-drop, sym, subst}
+use Rattle.std.specs.Prelude.{Option, Some, None, Ok, IsOk, slice_get}
 use Rattle.std.proofs.lemmas.Option.{slice_get_within}
 use Rattle.std.proofs.lemmas.Bool.Decides.{nat_tests}
 use Rattle.std.proofs.lemmas.Grind.{common_steps}
@@ -159,9 +159,33 @@ module _ (b : List ℕ) where
       let Q : ℕ → Type 0 = λ behind. Stands b behind w.others in
       subst P (sym w.whole) (e, subst Q (sym eb) w.stand)
 
+  -- at a name the root, a label or a pointer begins
+  begins_there : {at : ℕ} {name : Labels} → Stands b at name → IsOk (head_at b at)
+  begins_there (root h) = rw h refl
+  begins_there (label h w x z) = rw h refl
+  begins_there (pointer h w x) = rw h refl
+
+  pub name_begins : {at : ℕ} → NameAt b at → IsOk (head_at b at)
+  name_begins name = begins_there name.1
+
   pub length_label_at : {at n : ℕ} (name : NameAt b at) → head_at b at ≡ Ok (Label n) → length (label_at b at n) < 64
   length_label_at {at = at} {n = n} name h =
       let w = at_label name.1 h in
       let fits : at + 1 + n ≤ length b = w.fits in
       let short : n < 64 = (label_head b at n h).short in
       simp (length-take, length-drop) (omega arith)
+
+  -- no octets are the label of the root
+  label_at-none : (at : ℕ) → label_at b at 0 ≡ []
+  label_at-none at = let none : at + 1 + 0 - (at + 1) ≡ 0 = omega arith in rw none refl
+
+  -- The same by the first octet, which is the length of a label, or 0 of the root.
+  pub length_first : {at n : ℕ} (name : NameAt b at) → (0 < n → head_at b at ≡ Ok (Label n)) → length (label_at b at n) < 64
+  length_first {at = at} {n = zero} name h = rw (label_at-none at) (omega arith)
+  length_first {n = suc n} name h = length_label_at name (h (omega arith))
+
+  pub first_octet : {from at n behind : ℕ} (l : LabelOf) → Follows from at → (n ≡ 0 → head_at b at ≡ Ok Root) → (0 < n → head_at b at ≡ Ok (Label n))
+      → label_octets l ≡ label_at b at n → (n ≡ 0 → behind ≡ at) → (0 < n → behind ≡ at + 1 + n) → (name : Labels) → Stands b from name → IsFirst b name l behind
+  first_octet {at = at} {n = zero} l f none some e here on name s =
+      subst (λ p. IsFirst b name l p) (sym (here refl)) (first_root l f (none refl) (e ∙ label_at-none at) name s)
+  first_octet {n = suc n} l f none some e here on name s = first_label l f (some (omega arith)) e (on (omega arith)) name s

@@ -1,24 +1,25 @@
-use Rattle.std.proofs.Common.{arith}
-use Rattle.dns_name.proofs.theory.HeadLemmas.{first_root, first_label, follows_pointer, length_label_at}
+use Rattle.std.proofs.Common.{◌≡◌, ◌+◌, ◌<◌, arith}
+use Rattle.std.proofs.lemmas.Grind.{common_steps}
+use Rattle.dns_name.proofs.theory.HeadLemmas.{first_octet, follows_pointer, length_first, name_begins}
+use Rattle.dns_name.proofs.label.Label.first_at.Goals.{then-first-eq0, else-first-eq0}
 use Rattle.dns_name.proofs.label.Label.first_at.Goals as goal
 
-pub returns-in-Root : goal.returns-in-Root
-returns-in-Root c =
-    let h = rw c.in-Root.ensures at c.at.ensures.head in
-    first_root _ c.new.result c.walk.invariant h c.new.ensures
+pub new-requires : goal.new-requires
+new-requires c =
+    let low : c.first-first.result < 192 = omega (arith, c.if-first-lt192.true) in
+    rw c.from.ensures (length_first _ c.walk.invariant.name (λ some. c.first-first.ensures.label some low))
 
-pub new-requires-in-Label : goal.new-requires-in-Label
-new-requires-in-Label c =
-    let h = rw c.in-Label.ensures at c.at.ensures.head in
-    rw c.from.ensures (length_label_at _ c.walk.invariant.name h)
+pub returns-then-first-lt192 : goal.returns-then-first-lt192
+returns-then-first-lt192 c =
+    let low : c.first-first.result < 192 = omega (arith, c.if-first-lt192.true) in
+    let here : c.first-first.result ≡ 0 → c.if-first-eq0.behind ≡ c.walk.at =
+        λ none. elim c.if-first-eq0.branch [ then-first-eq0 w ↦ grind (arith, common_steps, w.if-first-eq0, w.behind-is) | else-first-eq0 w ↦ grind (arith, common_steps, w.if-first-eq0, none) ] in
+    let on : 0 < c.first-first.result → c.if-first-eq0.behind ≡ c.walk.at + 1 + c.first-first.result =
+        λ some. elim c.if-first-eq0.branch [ then-first-eq0 w ↦ grind (arith, common_steps, w.if-first-eq0, some) | else-first-eq0 w ↦ grind (arith, common_steps, w.behind-is, c.from.ensures) ] in
+    first_octet _ c.new.result c.walk.invariant c.first-first.ensures.root (λ some. c.first-first.ensures.label some low) (rw c.from.ensures at c.new.ensures) here on
 
-pub returns-in-Label : goal.returns-in-Label
-returns-in-Label c =
-    let h = rw c.in-Label.ensures at c.at.ensures.head in
-    let e = rw c.from.ensures at c.new-in-Label.ensures in
-    first_label _ c.new-in-Label.result c.walk.invariant h e (omega arith)
+pub target-at-requires-clause-known : goal.target-at-requires-clause-known
+target-at-requires-clause-known c = name_begins _ c.walk.invariant.name
 
 pub walk-preserved : goal.walk-preserved
-walk-preserved c =
-    let h = rw c.in-Pointer.ensures at c.at.ensures.head in
-    rw c.from-at.ensures (follows_pointer _ c.walk.invariant h)
+walk-preserved c = follows_pointer _ c.walk.invariant c.target-at.ensures
