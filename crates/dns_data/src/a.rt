@@ -49,6 +49,11 @@ impl RecordData for A {
 }
 
 impl ComposeRecordData for A {
+    #[inline(always)]
+    fn flat_rdata(&self) -> Option<&[u8]> {
+        Some(&self.octets)
+    }
+
     fn compose_rdata<T: Composer>(&self, target: &mut T) -> Result<(), AppendError> {
         target.append_slice(&self.octets)
     }

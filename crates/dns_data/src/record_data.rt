@@ -1,6 +1,6 @@
 //! What the data of a record is.
-ghost use Rattle.std.specs.Prelude.{◌≡◌, ℕ, List, Option, IsSomeAnd};
-ghost use Rattle.dns_wire.specs.Parts.{Part, put_parts};
+ghost use Rattle.std.specs.Prelude.{◌≡◌, ℕ, List, [], ◌∷◌, Option, IsSomeAnd, IfSome};
+ghost use Rattle.dns_wire.specs.Parts.{Part, Octets, put_parts};
 ghost use Rattle.dns_wire.specs.Targets.{Composes};
 ghost use Rattle.dns_data.specs.Layout.{Layout, IsLaidOut};
 ghost use Rattle.dns_data.specs.RecordData.{IsData, canonical, ParsesLaidOut, ParsesTaken};
@@ -23,6 +23,14 @@ pub trait RecordData {
 
 /// Data that can be appended to a message.
 pub trait ComposeRecordData: RecordData {
+    /// The octets of the data, where it has no names and may lend them as they are appended. A record with few of them is
+    /// appended at once.
+    fn flat_rdata(&self) -> Option<&[u8]>
+        ensures { IfSome result (λ octets. Self.parts self.now ≡ Octets octets.now ∷ []) }
+    {
+        None
+    }
+
     /// Appends the parts, each name by the target's rule.
     ///
     /// Where it is refused the content still begins with the old one, and a `truncate` to the old length gives the old
@@ -81,6 +89,11 @@ impl<D: RecordData> RecordData for &D {
 }
 
 impl<D: ComposeRecordData> ComposeRecordData for &D {
+    #[inline(always)]
+    fn flat_rdata(&self) -> Option<&[u8]> {
+        (**self).flat_rdata()
+    }
+
     fn compose_rdata<T: Composer>(&self, target: &mut T) -> Result<(), AppendError> {
         (**self).compose_rdata(target)
     }

@@ -77,6 +77,11 @@ impl<Octs: Octets> RecordData for UnknownRecordData<Octs> {
 }
 
 impl<Octs: Octets> ComposeRecordData for UnknownRecordData<Octs> {
+    #[inline(always)]
+    fn flat_rdata(&self) -> Option<&[u8]> {
+        Some(self.octets.octets())
+    }
+
     fn compose_rdata<T: Composer>(&self, target: &mut T) -> Result<(), AppendError> {
         target.append_slice(self.octets.octets())
     }

@@ -2,3 +2,4 @@ pub mod theory
 mod RecordReadingLemmas
 mod RecordLemmas
 mod PrintedRecords
+mod FlatRecords

@@ -1,7 +1,8 @@
 //! Records (RFC 1035 section 4.1.3).
-ghost use Rattle.std.specs.Prelude.{◌≡◌, ◌++◌, OnOk};
+ghost use Rattle.std.specs.Prelude.{◌≡◌, ◌++◌, ◌≤◌, length, OnOk};
 ghost use Rattle.std.specs.Int.{to_be_bytes, w16, w32};
-ghost use Rattle.dns_wire.specs.Targets.{Composes};
+ghost use Rattle.dns_wire.specs.Pieces.{put_octets};
+ghost use Rattle.dns_wire.specs.Targets.{Appends, Composes};
 ghost use Rattle.dns_item.specs.Items.{RecordItem, IsRecord, put_record};
 ghost use Rattle.dns_item.specs.Record.{owner_of, class_of, ttl_of, data_of, HasFields, record_item, item_of_fields};
 
@@ -13,6 +14,9 @@ use dns_code::{Class, Rtype};
 use dns_data::{ComposeRecordData, RecordData, compose_len_rdata};
 pub use dns_ttl::Ttl;
 use dns_wire::{AppendError, Composer, ToName};
+
+/// The most octets of data that are appended at once with the fields before them.
+const MOST_AT_ONCE: usize = 16;
 
 /// A record: its owner, its class, its TTL and its data, which tells its type (RFC 1035 section 4.1.3).
 #[derive(Clone, Copy, Debug, Drop)]
@@ -192,9 +196,34 @@ impl<N: ToName, D: ComposeRecordData> Record<N, D> {
     {
         let fields = field_octets(self.rtype(), self.class(), self.ttl());
         target.append_compressed_name(&self.owner)?;
+        if let Some(octets) = self.data.flat_rdata() {
+            if octets.len() <= MOST_AT_ONCE {
+                return append_at_once(&fields, octets, target);
+            }
+        }
         target.append_slice(&fields)?;
         compose_len_rdata(&self.data, target)
     }
+}
+
+/// Appends fields, and octets behind their length.
+#[inline(always)]
+fn append_at_once<T: Composer>(
+    fields: &[u8; 8],
+    octets: &[u8],
+    target: &mut T,
+) -> Result<(), AppendError>
+    requires { length octets.now ≤ MOST_AT_ONCE }
+    ensures { Appends T.room T.grows (put_octets (fields.now ++
+        (to_be_bytes w16 (length octets.now) ++ octets.now)))
+        (T.written target.old) (T.written target.new) result }
+{
+    let len = octets.len();
+    let mut text = [0; 26];
+    text[..8].copy_from_slice(fields);
+    text[9] = len as u8;
+    text[10..10 + len].copy_from_slice(octets);
+    target.append_slice(&text[..10 + len])
 }
 
 /// The octets of a type, a class and a TTL.

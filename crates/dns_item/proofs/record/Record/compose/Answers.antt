@@ -6,6 +6,7 @@ use Rattle.dns_wire.proofs.theory.PutNames.{put_name_grows, put_octets_grows}
 use Rattle.dns_wire.proofs.theory.PieceLaws.{appends_compose, composes_both, composes_first}
 use Rattle.dns_item.specs.Items.{put_record, record_fields}
 use Rattle.dns_item.specs.Record.{record_item}
+use Rattle.dns_item.proofs.FlatRecords.{composes_at_once}
 use Rattle.dns_item.proofs.record.Record.compose.Goals as goal
 
 pub returns-in_err-append_compressed_name-clause-composes : goal.returns-in_err-append_compressed_name-clause-composes
@@ -39,3 +40,14 @@ returns-clause-composes g c =
     (composes_both _ _ (put_octets (record_fields x)) rest _ _ _ _ (put_octets_grows (record_fields x))
     (rw (c.field_octets-fields.ensures, c.rtype.ensures, c.class.ensures, c.ttl.ensures) at c.in_ok-append_slice.ensures.ok)
     c.compose_len_rdata.ensures.composes)
+
+pub returns-then-octets-le-MOST_AT_ONCE-clause-composes : goal.returns-then-octets-le-MOST_AT_ONCE-clause-composes
+unfolding put_record
+returns-then-octets-le-MOST_AT_ONCE-clause-composes g c =
+    let x = record_item g.N.ToName.name g.D.RecordData.rtype_of g.D.RecordData.parts c.args.self.now in
+    let rest = with_length (put_parts g.T.Composer.rule x.parts) in
+    let parts = rw c.in-Some.is at c.flat_rdata.ensures in
+    composes_both _ _ (put_name g.T.Composer.rule x.owner) (both (put_octets (record_fields x)) rest) _ _ _ _ (put_name_grows g.T.Composer.rule x.owner)
+    c.in_ok-append_compressed_name.ensures.ok
+    (composes_at_once _ _ g.T.Composer.rule (record_fields x) c.in-Some.octets.now x.parts _ _ _ parts
+    (rw (c.field_octets-fields.ensures, c.rtype.ensures, c.class.ensures, c.ttl.ensures) at c.append_at_once.ensures))

@@ -1,0 +1,42 @@
+-- A record whose data is octets alone is appended at once behind its owner.
+use Rattle.std.proofs.Common.{◌≡◌, ℕ, ◌+◌, ◌≤◌, ◌/◌, ◌%◌, Bool, Option, Result, List, [], ◌∷◌, ◌++◌, length, take, length-append, append_assoc, arith, sym, ap, ◌∙◌, refl, subst}
+use Rattle.std.proofs.Math.ListN.{set}
+use Rattle.std.proofs.Math.Seq.{take-append-add}
+use Rattle.std.proofs.lemmas.Slice.{take-put_mid}
+use borrow.Rule.Slice.PartMut.{put_mid}
+use Rattle.std.proofs.lemmas.List.{append-nil, set-append_right}
+use Rattle.std.specs.Int.{to_be_bytes, w16}
+use Rattle.dns_octets.specs.declared.error.AppendError.{AppendError}
+use Rattle.dns_wire.specs.Parts.{Part, Octets, put_parts}
+use Rattle.dns_wire.specs.Pieces.{Rule, put_octets, both, with_length}
+use Rattle.dns_wire.specs.Targets.{Written, Appends, Composes}
+use Rattle.dns_wire.proofs.theory.PieceLaws.{appends_compose}
+
+-- fields, and octets behind their length, are one piece
+pub at_once : (rule : Rule) (fields octets : List ℕ)
+    → put_octets (fields ++ (to_be_bytes w16 (length octets) ++ octets)) ≡ both (put_octets fields) (with_length (put_parts rule (Octets octets ∷ [])))
+unfolding put_parts
+at_once rule fields octets = λ i m w. record {
+  octets = fields ++ (to_be_bytes w16 (length (sym (append-nil octets) i)) ++ sym (append-nil octets) i);
+  memory = m;
+}
+
+-- one append composes them
+pub composes_at_once : (room : Option ℕ) (grows : Bool) (rule : Rule) (fields octets : List ℕ) (parts : List Part) (t u : Written) (r : Result Unit AppendError)
+    → parts ≡ Octets octets ∷ [] → Appends room grows (put_octets (fields ++ (to_be_bytes w16 (length octets) ++ octets))) t u r
+    → Composes room grows (both (put_octets fields) (with_length (put_parts rule parts))) t u r
+composes_at_once room grows rule fields octets parts t u r is h =
+    rw is (subst (λ piece. Composes room grows piece t u r) (at_once rule fields octets) (appends_compose _ _ _ _ _ _ h))
+
+-- fields, a length below 256 and octets, as they are copied into an array
+pub copied : (fields zeros octets f o : List ℕ) (k : ℕ) → length fields ≡ 8 → length octets ≤ 16 → f ≡ fields → o ≡ octets
+    → take (10 + length octets) (put_mid 10 k (set (f ++ 0 ∷ 0 ∷ zeros) 9 (length octets)) o) ≡ fields ++ (to_be_bytes w16 (length octets) ++ octets)
+copied fields zeros octets f o k size few ef eo =
+    let n = length octets in
+    let text : List ℕ = fields ++ 0 ∷ n ∷ zeros in
+    let whole : set (f ++ 0 ∷ 0 ∷ zeros) 9 n ≡ text = rw ef (set-append_right fields (0 ∷ 0 ∷ zeros) 8 9 n size (omega arith)) in
+    let long : 10 ≤ length text = rw length-append (omega arith) in
+    let first : take 10 text ≡ fields ++ 0 ∷ n ∷ [] = subst (λ i. take (i + 2) text ≡ fields ++ 0 ∷ n ∷ []) size (take-append-add fields (0 ∷ n ∷ zeros) 2) in
+    let high : n / 256 % 256 ≡ 0 = omega arith in
+    let low : n % 256 ≡ n = omega arith in
+    rw (whole, eo) (take-put_mid 10 k text octets (10 + n) refl long ∙ ap (λ (xs : List ℕ). xs ++ octets) first ∙ append_assoc fields (0 ∷ n ∷ []) octets ∙ rw (high, low) refl)
