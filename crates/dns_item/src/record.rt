@@ -187,6 +187,7 @@ impl<N: ToName, D: ComposeRecordData> Record<N, D> {
     ///
     /// Where it is refused the content still begins with the old one, and a `truncate` to the old length gives the old
     /// target back.
+    #[inline(always)]
     pub fn compose<T: Composer>(&self, target: &mut T) -> Result<(), AppendError>
         ensures composes { Composes T.room T.grows
             (put_record T.rule (record_item N.name D.rtype_of D.parts self.now))

@@ -113,6 +113,7 @@ impl<'a> RecordSection<'a> {
 }
 
 /// Passes so many records.
+#[inline(always)]
 fn skip_records(parser: &mut Parser<'_>, count: u16) -> Result<(), ParseError>
     ensures { SkipsAll (SkipsRecord (seen parser.old)) (RecordSkipFaultAt (seen parser.old)) count
         parser.old parser.new result }
