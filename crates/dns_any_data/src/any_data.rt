@@ -74,6 +74,14 @@ impl RecordData for AnyData<'_> {
 }
 
 impl ComposeRecordData for AnyData<'_> {
+    #[inline(always)]
+    fn flat_rdata(&self) -> Option<&[u8]> {
+        match self.names {
+            Names::None => Some(self.octets),
+            _ => None,
+        }
+    }
+
     fn compose_rdata<T: Composer>(&self, target: &mut T) -> Result<(), AppendError> {
         parts_compose();
         names_are_short();
