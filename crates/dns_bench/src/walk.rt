@@ -7,13 +7,10 @@ use dns_wire::ParsedName;
 
 /// The labels but the root, and the octets that the name takes without pointers.
 fn name_sum(name: &ParsedName<'_>) -> u64 {
-    let mut sum = name.compose_len() as u64;
-    for label in name.iter_labels() {
-        if !label.is_root() {
-            sum = sum.wrapping_add(1);
-        }
-    }
-    sum
+    let labels = name.label_count() as u64;
+    (name.compose_len() as u64)
+        .wrapping_add(labels)
+        .wrapping_sub(1)
 }
 
 fn question_sum(question: &Question<ParsedName<'_>>) -> u64 {

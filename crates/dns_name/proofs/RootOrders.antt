@@ -7,11 +7,8 @@ use Rattle.std.specs.Ordering.{nat_cmp, ordering_then}
 use Rattle.std.specs.declared.cmp.Ordering.{Ordering}
 use Rattle.std.specs.declared.cmp.Ordering.TheVariants.{Less, Equal, Greater}
 use Rattle.std.proofs.lemmas.List.{reverse-append, length-reverse}
-use Rattle.dns_name.specs.Names.{Labels, with_root, name_size}
-use Rattle.dns_name.specs.ParsedName.{labels}
-use Rattle.dns_name.specs.declared.parsed_name.ParsedName.{ParsedName}
+use Rattle.dns_name.specs.Names.{Labels, with_root}
 use Rattle.dns_name.specs.NameOrders.{label_order, name_order}
-use Rattle.dns_name.specs.Unique.{standing_short}
 use Rattle.dns_name.proofs.Orders.{name_order-with_root, slice_cmp-append, then_assoc}
 
 -- of names that end with as many labels, those labels decide unless they are equal
@@ -96,17 +93,6 @@ pub name_order_from_ends : (m n : Labels)
     ≡ ordering_then (name_order (last_labels (with_root m) (with_root n)) (last_labels (with_root n) (with_root m)))
     (nat_cmp (length (with_root m)) (length (with_root n)))
 name_order_from_ends m n = sym (name_order-with_root m n) ∙ name_order-split (with_root m) (with_root n)
-
--- each label takes an octet at least
-length_below : (m : Labels) → length m ≤ name_size m
-length_below [] = omega arith
-length_below (label ∷ m) = omega (arith, length_below m)
-
--- so the labels of a name are 255 at most
-pub few_labels : (name : ParsedName) → length (with_root (labels name)) ≤ 255
-few_labels name =
-    let m : Labels = labels name in
-    omega (arith, length-append m ([] ∷ []), length_below m, standing_short name.name_at.0.1)
 
 -- behind one label more
 pub drop-first : (i : ℕ) (m n : Labels) (label : List ℕ) → drop i m ≡ label ∷ n → drop (i + 1) m ≡ n

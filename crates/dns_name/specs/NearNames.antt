@@ -2,18 +2,20 @@
 use Rattle.std.specs.Prelude.{◌≡◌, ◌+◌, ◌-◌, ◌<◌, ◌≤◌, ⊤, ℕ, List, length, Option, Some, None, Result, Ok, Err}
 use Rattle.dns_octets.specs.declared.error.ParseError.{ParseError}
 use Rattle.dns_name.specs.Names.{head_at, Faulty, FaultAt, Walked, fault_of, max_size, pointer_end}
-use Rattle.dns_name.specs.Unique.{NameOfSize, NameOfSize-prop}
+use Rattle.dns_name.specs.Unique.{NameOfSizeAndCount, NameOfSizeAndCount-prop}
 use Rattle.dns_name.specs.declared.head.Head.{Head}
 use Rattle.dns_name.specs.declared.head.Head.TheVariants.{Root, Label, Pointer}
+use Rattle.dns_name.specs.declared.head.LabelRow.{LabelRow}
 use Rattle.dns_name.specs.declared.near_name.NearName.{NearName}
+use Rattle.dns_name.specs.declared.parsed_name.NameExtent.{NameExtent}
 use Rattle.std.proofs.Props.{props}
 
--- a name of its size stands at its place, if a name can have that size
+-- a name of its size and with so many labels stands at its place, if a name can have that size
 abbrev pub IsNear : List ℕ → NearName → Type 0
-IsNear b near = near.size ≤ max_size → NameOfSize b near.pos near.size
+IsNear b near = near.size ≤ max_size → NameOfSizeAndCount b near.pos near.size near.count
 
 pub IsNear-prop : (b : List ℕ) (near : NearName) → IsProp (IsNear b near)
-IsNear-prop b near = hlevel (props, NameOfSize-prop b near.pos near.size)
+IsNear-prop b near = hlevel (props, NameOfSizeAndCount-prop b near.pos near.size near.count)
 
 -- a pointer back to this name, which is known, stands at the place
 pub record LeadsBackTo (b : List ℕ) (p : ℕ) (near : NearName) : Type 0 where
@@ -33,43 +35,50 @@ pub data LabelsTo (b : List ℕ) : ℕ → ℕ → ℕ → ℕ → Type 0 where
   label : {p n s q r : ℕ} → head_at b p ≡ Ok (Label n) → s + n + 1 ≤ max_size → p + 1 + n ≤ length b
       → LabelsTo b (p + 1 + n) (s + n + 1) q r → LabelsTo b p s q r
 
+-- how many labels stand in a row
+abbrev pub row_count : {b : List ℕ} {p s q r : ℕ} → LabelsTo b p s q r → ℕ
+row_count none = 0
+row_count (label h short within row) = row_count row + 1
+
 -- what ends a row of labels: the root, or a pointer to a target
 abbrev pub row_end : Option ℕ → Head
 row_end None = Root
 row_end (Some target) = Pointer target
 
--- Labels stand in a row from p, behind labels of the size s, up to q, and what ends them there.
-pub record PassesLabels (b : List ℕ) (p s q : ℕ) (target : Option ℕ) : Type 0 where
+-- So many labels stand in a row from p, behind labels of the size s, up to q, and what ends them there.
+pub record PassesLabels (b : List ℕ) (p s q count : ℕ) (target : Option ℕ) : Type 0 where
   pub from : p ≤ q
   pub within : q < length b
   pub short : s + (q - p) ≤ max_size
+  pub few : count ≤ q - p
   pub row : LabelsTo b p s q (s + (q - p))
+  pub counted : row_count row ≡ count
   pub there : head_at b q ≡ Ok (row_end target)
   pub in_reach : IsInReach (row_end target)
 
 -- it is so, or this is the fault there
-abbrev pub PassesLabelsOrFails : List ℕ → ℕ → ℕ → Result (ℕ × Option ℕ) ParseError → Type 0
-PassesLabelsOrFails b p s (Ok found) = PassesLabels b p s found.0 found.1
+abbrev pub PassesLabelsOrFails : List ℕ → ℕ → ℕ → Result LabelRow ParseError → Type 0
+PassesLabelsOrFails b p s (Ok row) = PassesLabels b p s row.end row.count row.target
 PassesLabelsOrFails b p s (Err e) = Faulty b p s (fault_of e)
 
--- A name stands at a place behind labels of the size s; with them its labels take so many octets.
-pub record Measures (b : List ℕ) (p s size : ℕ) : Type 0 where
-  pub grows : s ≤ size
-  pub short : size ≤ max_size
-  pub name : NameOfSize b p (size - s)
+-- A name of a size and with so many labels stands at a place, and is short enough behind labels of the size s.
+pub record Measures (b : List ℕ) (p s size count : ℕ) : Type 0 where
+  pub short : s + size ≤ max_size
+  pub few : count ≤ size
+  pub name : NameOfSizeAndCount b p size count
 
 -- it is so, or this is the fault there
-abbrev pub MeasuresOrFails : List ℕ → ℕ → ℕ → Result ℕ ParseError → Type 0
-MeasuresOrFails b p s (Ok size) = Measures b p s size
+abbrev pub MeasuresOrFails : List ℕ → ℕ → ℕ → Result (ℕ × ℕ) ParseError → Type 0
+MeasuresOrFails b p s (Ok found) = Measures b p s found.0 found.1
 MeasuresOrFails b p s (Err e) = Faulty b p s (fault_of e)
 
--- A name whose labels take so many octets stands at a place, and the octets that it takes there end at `end`.
-pub record Arrives (b : List ℕ) (p end size : ℕ) : Type 0 where
-  pub name : NameOfSize b p size
+-- A name of a size and with so many labels stands at a place, and the octets that it takes there end at `end`.
+pub record Arrives (b : List ℕ) (p end size count : ℕ) : Type 0 where
+  pub name : NameOfSizeAndCount b p size count
   pub walked : Walked b p end
   pub within : end ≤ length b
 
 -- it is so, or this is the fault there
-abbrev pub ArrivesOrFails : List ℕ → ℕ → Result (ℕ × ℕ) ParseError → Type 0
-ArrivesOrFails b p (Ok found) = Arrives b p found.0 found.1
+abbrev pub ArrivesOrFails : List ℕ → ℕ → Result NameExtent ParseError → Type 0
+ArrivesOrFails b p (Ok extent) = Arrives b p extent.end extent.size extent.count
 ArrivesOrFails b p (Err e) = FaultAt b p (fault_of e)

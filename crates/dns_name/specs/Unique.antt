@@ -85,6 +85,13 @@ NameOfSize b p size = (name : NameAt b p) × (name_size name.0 ≡ size)
 pub NameOfSize-prop : (b : List ℕ) (p size : ℕ) → IsProp (NameOfSize b p size)
 NameOfSize-prop b p size = hlevel (props, NameAt-prop b {p = p})
 
+-- the same where the labels are so many, the root label left out
+abbrev pub NameOfSizeAndCount : List ℕ → ℕ → ℕ → ℕ → Type 0
+NameOfSizeAndCount b p size count = (name : NameAt b p) × (name_size name.0 ≡ size) × (length name.0 ≡ count)
+
+pub NameOfSizeAndCount-prop : (b : List ℕ) (p size count : ℕ) → IsProp (NameOfSizeAndCount b p size count)
+NameOfSizeAndCount-prop b p size count = hlevel (props, NameAt-prop b {p = p})
+
 -- The first labels of a name where it stands, by the octets that they take.
 
 -- so many of the labels take `left` octets, each with its length octet

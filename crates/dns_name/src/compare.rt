@@ -55,22 +55,11 @@ pub fn same_octets(name: &ParsedName<'_>, other: &ParsedName<'_>) -> bool
 pub fn order_from_root(name: &ParsedName<'_>, other: &ParsedName<'_>) -> Ordering
     ensures { result ≡ name_order (labels name.now) (labels other.now) }
 {
-    let count = label_count(name);
-    let other_count = label_count(other);
+    let count = name.label_count();
+    let other_count = other.label_count();
     let labels = labels_behind(name, count.saturating_sub(other_count));
     let others = labels_behind(other, other_count.saturating_sub(count));
     order_of_as_many(labels, others).then(count.cmp(&other_count))
-}
-
-/// How many labels the name has, the root label among them.
-fn label_count(name: &ParsedName<'_>) -> usize
-    ensures { result ≡ length (with_root (labels name.now)) }
-{
-    let mut count = 0;
-    for _label in name.iter_labels() {
-        count += 1;
-    }
-    count
 }
 
 /// The labels of the name without so many of its first ones.

@@ -16,6 +16,17 @@ pub enum Head {
     Pointer(u16),
 }
 
+/// Labels that stand in a row, by what is behind them.
+#[derive(Clone, Copy)]
+pub(crate) struct LabelRow {
+    /// Where the root or a pointer begins behind the labels.
+    pub(crate) end: usize,
+    /// How many labels they are.
+    pub(crate) count: usize,
+    /// Where the pointer leads, or `None` for the root.
+    pub(crate) target: Option<u16>,
+}
+
 impl Head {
     ghost use Rattle.dns_name.specs.Names.{head_at, Reads, BeginsOrFails};
     ghost use Rattle.dns_name.specs.NearNames.{IsInReach, PassesLabelsOrFails};
@@ -82,29 +93,42 @@ impl Head {
         Ok(head)
     }
 
-    /// Passes the labels that stand in a row at a place, behind labels of the size: where the root or a pointer begins
-    /// behind them, and the place where the pointer leads, or `None` for the root. Else the leftmost fault is answered.
+    /// Passes the labels that stand in a row at a place, behind labels of the size. Else the leftmost fault is answered.
     #[inline(always)]
     pub(crate) fn behind_labels(
         octets: &[u8],
         start: usize,
         size: usize,
-    ) -> Result<(usize, Option<u16>), ParseError>
+    ) -> Result<LabelRow, ParseError>
         requires within { start ≤ length octets.now }
         requires short { size ≤ MAX_SIZE }
         ensures { PassesLabelsOrFails octets.now start size result }
     {
         let longest = start + (MAX_SIZE - size);
         let mut pos = start;
+        let mut count = 0;
         'walk: loop {
             match Head::at(octets, pos)? {
-                Head::Root => return Ok((pos, None)),
+                Head::Root => {
+                    return Ok(LabelRow {
+                        end: pos,
+                        count,
+                        target: None,
+                    });
+                }
                 Head::Label(len) => pos += usize::from(len) + 1,
-                Head::Pointer(target) => return Ok((pos, Some(target))),
+                Head::Pointer(target) => {
+                    return Ok(LabelRow {
+                        end: pos,
+                        count,
+                        target: Some(target),
+                    });
+                }
             }
             if pos > longest {
                 return Err(ParseError::Form(FormError::LONG_NAME));
             }
+            count += 1;
         }
     }
 }

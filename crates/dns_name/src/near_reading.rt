@@ -26,12 +26,13 @@ pub fn parse_near<'a>(
 {
     let octets = &parser.octets[..parser.end];
     let start = parser.pos;
-    let (end, size) = ParsedName::walk(octets, start, near)?;
-    parser.pos = end;
+    let extent = ParsedName::walk(octets, start, near)?;
+    parser.pos = extent.end;
     Ok(ParsedName {
         octets,
         pos: start,
-        size,
+        size: extent.size as u32,
+        count: extent.count as u32,
     })
 }
 
@@ -45,5 +46,6 @@ pub fn near_at(name: &ParsedName<'_>, pos: usize) -> NearName
     NearName {
         pos: pos as u16,
         size: name.size as u8,
+        count: name.count as u8,
     }
 }

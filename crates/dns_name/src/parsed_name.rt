@@ -1,5 +1,5 @@
 ghost use Rattle.std.specs.Prelude.{◌≡◌, ℕ, List, ◌+◌, ◌↔◌, ◌≤◌, IsTrue, IsSome, IfSome, [], length};
-ghost use Rattle.dns_name.specs.Unique.{NameOfSize, NameOfSize-prop};
+ghost use Rattle.dns_name.specs.Unique.{NameOfSizeAndCount, NameOfSizeAndCount-prop};
 
 use crate::head::{Head, MAX_SIZE};
 use crate::label_iter::LabelIter;
@@ -14,8 +14,21 @@ pub struct ParsedName<'a> {
     pub(crate) octets: &'a [u8],
     pub(crate) pos: usize,
     /// How many octets the labels take, each with its length octet.
+    pub(crate) size: u32,
+    /// How many labels there are, the root label left out.
+    pub(crate) count: u32,
+    ghost name_at: { NameOfSizeAndCount octets.now pos size count } by { NameOfSizeAndCount-prop octets.now pos size count },
+}
+
+/// What a walk over a name finds out.
+#[derive(Clone, Copy)]
+pub(crate) struct NameExtent {
+    /// Where the octets end that the name takes at its place.
+    pub(crate) end: usize,
+    /// How many octets the labels take, each with its length octet.
     pub(crate) size: usize,
-    ghost name_at: { NameOfSize octets.now pos size } by { NameOfSize-prop octets.now pos size },
+    /// How many labels there are, the root label left out.
+    pub(crate) count: usize,
 }
 
 impl<'a> ParsedName<'a> {
@@ -38,56 +51,74 @@ impl<'a> ParsedName<'a> {
         parse_near(parser, &mut NearName::new())
     }
 
-    /// Where the octets of the name at a place end, and how many octets its labels take.
+    /// Where the octets of the name at a place end, how many octets its labels take, and how many they are.
     #[inline(always)]
     pub(crate) fn walk(
         octets: &[u8],
         start: usize,
         near: &mut NearName,
-    ) -> Result<(usize, usize), ParseError>
+    ) -> Result<NameExtent, ParseError>
         requires within { start ≤ length octets.now }
         requires near { IsNear octets.now near.old }
         ensures arrives { ArrivesOrFails octets.now start result }
         ensures near { IsNear octets.now near.new }
     {
         if near.is_pointed_to(octets, start) {
-            return Ok((start + 2, usize::from(near.size)));
+            return Ok(NameExtent {
+                end: start + 2,
+                size: usize::from(near.size),
+                count: usize::from(near.count),
+            });
         }
-        let (pos, target) = Head::behind_labels(octets, start, 0)?;
-        let before = pos - start;
-        let Some(target) = target else {
-            return Ok((pos + 1, before));
+        let row = Head::behind_labels(octets, start, 0)?;
+        let before = row.end - start;
+        let Some(target) = row.target else {
+            return Ok(NameExtent {
+                end: row.end + 1,
+                size: before,
+                count: row.count,
+            });
         };
-        if usize::from(target) >= pos {
+        if usize::from(target) >= row.end {
             return Err(ParseError::Form(FormError::BAD_POINTER));
         }
         let known = before + usize::from(near.size);
         if target == near.pos && known <= MAX_SIZE {
-            return Ok((pos + 2, known));
+            return Ok(NameExtent {
+                end: row.end + 2,
+                size: known,
+                count: row.count + usize::from(near.count),
+            });
         }
-        let size = ParsedName::size_at(octets, target, before)?;
-        *near = NearName::at(octets, target, size - before);
-        Ok((pos + 2, size))
+        let (size, count) = ParsedName::size_at(octets, target, before)?;
+        *near = NearName::at(octets, target, size, count);
+        Ok(NameExtent {
+            end: row.end + 2,
+            size: before + size,
+            count: row.count + count,
+        })
     }
 
-    /// How many octets the labels of a name take of which those before a pointer take `before`, and the pointer leads to
-    /// `start`.
+    /// How many octets the labels of the name take to which a pointer leads behind labels that take `before`, and how many
+    /// they are.
     #[inline(always)]
-    fn size_at(octets: &[u8], start: u16, before: usize) -> Result<usize, ParseError>
+    fn size_at(octets: &[u8], start: u16, before: usize) -> Result<(usize, usize), ParseError>
         requires within { start ≤ length octets.now }
         requires short { before ≤ MAX_SIZE }
         ensures { MeasuresOrFails octets.now start before result }
     {
         let mut pos = usize::from(start);
         let mut size = before;
+        let mut count = 0;
         'walk: loop {
-            let (at, target) = Head::behind_labels(octets, pos, size)?;
-            size += at - pos;
-            let Some(target) = target else {
-                return Ok(size);
+            let row = Head::behind_labels(octets, pos, size)?;
+            size += row.end - pos;
+            count += row.count;
+            let Some(target) = row.target else {
+                return Ok((size - before, count));
             };
             pos = usize::from(target);
-            if pos >= at {
+            if pos >= row.end {
                 return Err(ParseError::Form(FormError::BAD_POINTER));
             }
         }
@@ -124,7 +155,25 @@ impl<'a> ParsedName<'a> {
         ParsedName {
             octets,
             pos: 0,
-            size: octets.len() - 1,
+            size: (octets.len() - 1) as u32,
+            count: ParsedName::count_whole(octets) as u32,
+        }
+    }
+
+    /// How many labels the name has that all of the octets spell without pointers, the root label left out.
+    fn count_whole(octets: &[u8]) -> usize
+        requires { WholeName octets.now }
+        ensures { (name : Labels) → Stands octets.now 0 name → result ≡ length name }
+    {
+        let mut pos = 0;
+        let mut count = 0;
+        'walk: loop {
+            let len = Head::first(octets, pos);
+            if len == 0 {
+                return count;
+            }
+            pos += usize::from(len) + 1;
+            count += 1;
         }
     }
 
@@ -132,7 +181,7 @@ impl<'a> ParsedName<'a> {
     pub fn iter_labels(&self) -> LabelIter<'a>
         ensures { labels_left result ≡ with_root (labels self.now) }
     {
-        LabelIter::new(self.octets, self.pos, self.size)
+        LabelIter::new(self.octets, self.pos, self.size as usize)
     }
 
     /// Whether this is the root, the name without labels but the root label.
@@ -164,6 +213,13 @@ impl<'a> ParsedName<'a> {
     pub fn compose_len(&self) -> usize
         ensures { result ≡ length (uncompressed (labels self.now)) }
     {
-        self.size + 1
+        self.size as usize + 1
+    }
+
+    /// How many labels the name has, the root label among them: 1 to 128.
+    pub fn label_count(&self) -> usize
+        ensures { result ≡ length (with_root (labels self.now)) }
+    {
+        self.count as usize + 1
     }
 }

@@ -1,15 +1,28 @@
 -- What is known of the labels of a name.
-use Rattle.std.proofs.Common.{◌≡◌, ℕ, ◌+◌, List, [], ◌∷◌, length, length-append, arith, refl}
-use Rattle.dns_name.specs.Names.{Labels, name_size, uncompressed, with_root, Stands}
-use Rattle.dns_name.specs.Unique.{NameOfSize}
+use Rattle.std.proofs.Common.{◌≡◌, ℕ, ◌+◌, ◌≤◌, List, [], ◌∷◌, length, length-append, arith, refl}
+use Rattle.dns_name.specs.Names.{Labels, name_size, max_size, uncompressed, with_root, Stands}
+use Rattle.dns_name.specs.Unique.{NameOfSize, NameOfSizeAndCount, standing_short}
 use Rattle.dns_name.specs.ParsedName.{labels}
 use Rattle.dns_name.specs.declared.parsed_name.ParsedName.{ParsedName}
 
 pub labels_stand : (name : ParsedName) → Stands name.octets.now name.pos (labels name)
 labels_stand name = name.name_at.0.1
 
-pub name_stands : (b : List ℕ) (p size : ℕ) (name : NameOfSize b p size) → Stands b p name.0.0
-name_stands b p size name = name.0.1
+pub name_stands : (b : List ℕ) (p size count : ℕ) (name : NameOfSizeAndCount b p size count) → Stands b p name.0.0
+name_stands b p size count name = name.0.1
+
+-- its size alone
+pub name_of_size : (b : List ℕ) (p size count : ℕ) → NameOfSizeAndCount b p size count → NameOfSize b p size
+name_of_size b p size count name = (name.0, name.1)
+
+-- each label takes an octet at least
+pub few_labels : (name : Labels) → length name ≤ name_size name
+few_labels [] = omega arith
+few_labels (label ∷ name) = omega (arith, few_labels name)
+
+-- so a name that stands has no more labels than octets, 254 of them at most
+pub short_and_few : (b : List ℕ) (p size count : ℕ) → NameOfSizeAndCount b p size count → (size ≤ max_size) × (count ≤ size)
+short_and_few b p size count name = (omega (arith, name.1, standing_short name.0.1), omega (arith, name.1, name.2, few_labels name.0.0))
 
 -- only the root has no octets
 pub empty_name : (name : Labels) → name_size name ≡ 0 → name ≡ []
@@ -21,7 +34,11 @@ pub length-uncompressed : (name : Labels) → length (uncompressed name) ≡ nam
 length-uncompressed [] = refl
 length-uncompressed (label ∷ name) = omega (arith, length-append label (uncompressed name), length-uncompressed name)
 
--- the root label takes one octet
+-- the root label is one more
+pub length-with_root : (name : Labels) → length (with_root name) ≡ length name + 1
+length-with_root name = length-append name ([] ∷ [])
+
+-- and takes one octet
 pub name_size-with_root : (name : Labels) → name_size (with_root name) ≡ name_size name + 1
 name_size-with_root [] = refl
 name_size-with_root (label ∷ name) = omega (arith, name_size-with_root name)

@@ -7,9 +7,9 @@ use Rattle.std.specs.Prelude.{bit_or}
 use Rattle.std.proofs.lemmas.Bool.Decides.{leb_tells}
 use Rattle.dns_name.specs.Names.{Fault, Labels, name_size, max_size, head_of, head_at, label_at, Stands, Faulty, FaultAt, WalkedBehind}
 use Rattle.dns_name.specs.Names.Fault.{ShortInput, Form}
-use Rattle.dns_name.specs.NearNames.{IsNear, LabelsTo, PassesLabels, Measures, Arrives, LeadsBackTo}
+use Rattle.dns_name.specs.NearNames.{IsNear, LabelsTo, row_count, PassesLabels, Measures, Arrives, LeadsBackTo}
 use Rattle.dns_name.specs.NearNames.LabelsTo.{none, label}
-use Rattle.dns_name.specs.Unique.{NameOfSize, name_size-label_at, label_head}
+use Rattle.dns_name.specs.Unique.{NameOfSizeAndCount, name_size-label_at, label_head}
 use Rattle.dns_name.specs.declared.head.Head.TheVariants.{Root, Label, Pointer}
 use Rattle.dns_name.specs.declared.near_name.NearName.{NearName}
 use Rattle.dns_name.proofs.theory.HeadLemmas.{pointer_within, pointer_begins}
@@ -28,55 +28,71 @@ past_fault b (Faulty.ahead h ahead) e = cc
 past_fault b (Faulty.label h small fits m) e = cc
 past_fault b (Faulty.pointer h back m) e = cc
 
--- How far a walk over labels in a row has come, perhaps past the end, where only a fault can follow.
-pub record Passing (b : List ℕ) (p s q r : ℕ) : Type 0 where
+-- a row of so many labels
+abbrev pub RowOf : List ℕ → ℕ → ℕ → ℕ → ℕ → ℕ → Type 0
+RowOf b p s q r count = (row : LabelsTo b p s q r) × (row_count row ≡ count)
+
+-- How far a walk over labels in a row has come, perhaps past the end, where only a fault can follow: k labels are passed.
+pub record Passing (b : List ℕ) (p s q r k : ℕ) : Type 0 where
   pub from : p ≤ q
   pub short : r ≤ max_size
+  pub few : s + k ≤ r
   pub faults : (f : Fault) → Faulty b q r f → Faulty b p s f
-  pub rows : q ≤ length b → (q' r' : ℕ) → LabelsTo b q r q' r' → LabelsTo b p s q' r'
+  pub rows : q ≤ length b → (q' r' : ℕ) (x : LabelsTo b q r q' r') → RowOf b p s q' r' (k + row_count x)
 
-pub passing_none : (b : List ℕ) (p s r : ℕ) → s ≤ max_size → r ≡ s → Passing b p s p r
+pub passing_none : (b : List ℕ) (p s r : ℕ) → s ≤ max_size → r ≡ s → Passing b p s p r 0
 passing_none b p s r short e =
-    let P : ℕ → Type 0 = λ r. Passing b p s p r in
-    subst P (sym e) (record { from = omega arith; short = short; faults = λ f m. m; rows = λ h q' r' x. x })
+    let P : ℕ → Type 0 = λ r. Passing b p s p r 0 in
+    subst P (sym e) (record {
+      from = omega arith;
+      short = short;
+      few = omega arith;
+      faults = λ f m. m;
+      rows = λ h q' r' x. (x, omega arith);
+    })
 
 -- behind a label that is short enough, also one that isn't all there
-pub passing_label : (b : List ℕ) (p s q r n q' r' : ℕ) → Passing b p s q r → head_at b q ≡ Ok (Label n)
-    → q' ≡ q + 1 + n → r' ≡ r + n + 1 → r' ≤ max_size → Passing b p s q' r'
-passing_label b p s q r n q' r' l h eq er short =
+pub passing_label : (b : List ℕ) (p s q r k n q' r' : ℕ) → Passing b p s q r k → head_at b q ≡ Ok (Label n)
+    → q' ≡ q + 1 + n → r' ≡ r + n + 1 → r' ≤ max_size → Passing b p s q' r' (k + 1)
+passing_label b p s q r k n q' r' l h eq er short =
     let small : r + n + 1 ≤ max_size = omega arith in
     let here : q < length b = (label_head b q n h).within in
-    let P : ℕ → Type 0 = λ q'. Passing b p s q' r' in
-    let Q : ℕ → Type 0 = λ r'. Passing b p s (q + 1 + n) r' in
+    let P : ℕ → Type 0 = λ q'. Passing b p s q' r' (k + 1) in
+    let Q : ℕ → Type 0 = λ r'. Passing b p s (q + 1 + n) r' (k + 1) in
     subst P (sym eq) (subst Q (sym er) (record {
       from = omega (arith, l.from);
       short = small;
+      few = omega (arith, l.few);
       faults = λ f m. elim (leb_tells (q + 1 + n) (length b)) [
         | inl fits ↦ l.faults f (Faulty.label h small fits.1 m)
         | inr cut ↦
             let F : Fault → Type 0 = λ f. Faulty b p s f in
             subst F (sym (past_fault b m (past_head b (q + 1 + n) (omega (arith, cut.1))))) (l.faults ShortInput (Faulty.cut h small cut.1))
       ];
-      rows = λ fits q'' r'' x. l.rows (omega arith) q'' r'' (LabelsTo.label h small fits x);
+      rows = λ fits q'' r'' x. let w = l.rows (omega arith) q'' r'' (LabelsTo.label h small fits x) in (w.0, omega (arith, w.1));
     }))
 
 -- a label with which the name is too long
-pub passing_long : (b : List ℕ) (p s q r n : ℕ) → Passing b p s q r → head_at b q ≡ Ok (Label n) → max_size < r + n + 1 → Faulty b p s Form
-passing_long b p s q r n l h long = l.faults Form (Faulty.long h long)
+pub passing_long : (b : List ℕ) (p s q r k n : ℕ) → Passing b p s q r k → head_at b q ≡ Ok (Label n) → max_size < r + n + 1 → Faulty b p s Form
+passing_long b p s q r k n l h long = l.faults Form (Faulty.long h long)
 
 -- a row of labels as far as the walk has come
-pub passing_row : (b : List ℕ) (p s q r : ℕ) → Passing b p s q r → q < length b → LabelsTo b p s q r
-passing_row b p s q r l within = l.rows (omega arith) q r LabelsTo.none
+pub passing_row : (b : List ℕ) (p s q r k : ℕ) → Passing b p s q r k → q < length b → RowOf b p s q r k
+passing_row b p s q r k l within = let w = l.rows (omega arith) q r LabelsTo.none in (w.0, omega (arith, w.1))
 
 -- What stands, fails or ends behind a row of labels stands, fails or ends behind its start.
 
-pub row_names : (b : List ℕ) {p s q r : ℕ} → LabelsTo b p s q r → (name : Labels) → Stands b q name → r + name_size name ≤ max_size
-    → (whole : Labels) × Stands b p whole × (s + name_size whole ≡ r + name_size name)
-row_names b none name m short = (name, m, refl)
+-- the name at p, if one stands at q: s and r are the sizes before them, and so many labels more are before the one at q
+abbrev pub Longer : List ℕ → ℕ → ℕ → ℕ → ℕ → Labels → Type 0
+Longer b p s r more name = (whole : Labels) × Stands b p whole × (s + name_size whole ≡ r + name_size name) × (length whole ≡ more + length name)
+
+pub row_names : (b : List ℕ) {p s q r : ℕ} (x : LabelsTo b p s q r) (name : Labels) → Stands b q name → r + name_size name ≤ max_size
+    → Longer b p s r (row_count x) name
+row_names b none name m short = (name, m, refl, omega arith)
 row_names b (label {p = p} {n = n} {s = s} h small fits x) name m short =
     let w = row_names b x name m short in
     let e : name_size (label_at b p n ∷ w.0) ≡ n + 1 + name_size w.0 = name_size-label_at b p n w.0 fits in
-    (label_at b p n ∷ w.0, Stands.label h fits w.1 (omega (arith, w.2)), omega (arith, w.2, e))
+    (label_at b p n ∷ w.0, Stands.label h fits w.1 (omega (arith, w.2)), omega (arith, w.2, e), omega (arith, w.3))
 
 pub row_faults : (b : List ℕ) {p s q r : ℕ} → LabelsTo b p s q r → (f : Fault) → Faulty b q r f → Faulty b p s f
 row_faults b none f m = m
@@ -86,70 +102,81 @@ pub row_ends : (b : List ℕ) {p s q r : ℕ} → LabelsTo b p s q r → (e : �
 row_ends b none e m = m
 row_ends b (label h small fits x) e m = WalkedBehind.label h small fits (row_ends b x e m)
 
--- How far a walk over labels and pointers has come: what stands or fails at q decides what stands or fails at p.
-pub record Leading (b : List ℕ) (p s q r : ℕ) : Type 0 where
+-- How far a walk over labels and pointers has come, which has passed k labels: what stands or fails at q decides what stands or fails at p.
+pub record Leading (b : List ℕ) (p s q r k : ℕ) : Type 0 where
   pub within : q ≤ length b
-  pub grows : s ≤ r
   pub short : r ≤ max_size
-  pub names : (name : Labels) → Stands b q name → r + name_size name ≤ max_size → (whole : Labels) × Stands b p whole × (s + name_size whole ≡ r + name_size name)
+  pub few : s + k ≤ r
+  pub names : (name : Labels) → Stands b q name → r + name_size name ≤ max_size → Longer b p s r k name
   pub faults : (f : Fault) → Faulty b q r f → Faulty b p s f
 
-pub leading_none : (b : List ℕ) (p s : ℕ) → p ≤ length b → s ≤ max_size → Leading b p s p s
-leading_none b p s within short = record { within = within; grows = omega arith; short = short; names = λ name m h. (name, m, refl); faults = λ f m. m }
+pub leading_none : (b : List ℕ) (p s : ℕ) → p ≤ length b → s ≤ max_size → Leading b p s p s 0
+leading_none b p s within short = record {
+  within = within;
+  short = short;
+  few = omega arith;
+  names = λ name m h. (name, m, refl, omega arith);
+  faults = λ f m. m;
+}
 
-pub leading_row : (b : List ℕ) (p s q r q' : ℕ) (target : Option ℕ) → Leading b p s q r → PassesLabels b q r q' target → Leading b p s q' (r + (q' - q))
-leading_row b p s q r q' target l x = record {
+pub leading_row : (b : List ℕ) (p s q r k q' n : ℕ) (target : Option ℕ) → Leading b p s q r k → PassesLabels b q r q' n target
+    → Leading b p s q' (r + (q' - q)) (k + n)
+leading_row b p s q r k q' n target l x = record {
   within = omega (arith, x.within);
-  grows = omega (arith, l.grows);
   short = x.short;
+  few = omega (arith, l.few, x.few);
   names = λ name m h.
       let w = row_names b x.row name m h in
       let v = l.names w.0 w.1 (omega (arith, w.2)) in
-      (v.0, v.1, v.2 ∙ w.2);
+      (v.0, v.1, v.2 ∙ w.2, omega (arith, v.3, w.3, x.counted));
   faults = λ f m. l.faults f (row_faults b x.row f m);
 }
 
-pub leading_pointer : (b : List ℕ) (p s q r t : ℕ) → Leading b p s q r → head_at b q ≡ Ok (Pointer t) → t < q → Leading b p s t r
-leading_pointer b p s q r t l h back = record {
+pub leading_pointer : (b : List ℕ) (p s q r k t : ℕ) → Leading b p s q r k → head_at b q ≡ Ok (Pointer t) → t < q → Leading b p s t r k
+leading_pointer b p s q r k t l h back = record {
   within = omega (arith, l.within);
-  grows = l.grows;
   short = l.short;
+  few = l.few;
   names = λ name m. l.names name (Stands.pointer h back m);
   faults = λ f m. l.faults f (Faulty.pointer h back m);
 }
 
-pub leading_root : (b : List ℕ) (p s q r : ℕ) → Leading b p s q r → head_at b q ≡ Ok Root → Measures b p s r
-leading_root b p s q r l h =
+pub leading_root : (b : List ℕ) (p s q r k : ℕ) → Leading b p s q r k → head_at b q ≡ Ok Root → Measures b p s (r - s) k
+leading_root b p s q r k l h =
     let w = l.names [] (Stands.root h) (omega (arith, l.short)) in
-    record { grows = l.grows; short = l.short; name = ((w.0, w.1), omega (arith, w.2)) }
+    record {
+      short = omega (arith, l.short, l.few);
+      few = omega (arith, l.few);
+      name = ((w.0, w.1), omega (arith, w.2), omega (arith, w.3));
+    }
 
 -- What a walk over a name answers, by what ends its first row of labels.
 
-pub arrives_root : (b : List ℕ) (p q : ℕ) → PassesLabels b p 0 q None → Arrives b p (q + 1) (q - p)
-arrives_root b p q x =
+pub arrives_root : (b : List ℕ) (p q n : ℕ) → PassesLabels b p 0 q n None → Arrives b p (q + 1) (q - p) n
+arrives_root b p q n x =
     let w = row_names b x.row [] (Stands.root x.there) (omega (arith, x.short)) in
     record {
-      name = ((w.0, w.1), omega (arith, w.2));
+      name = ((w.0, w.1), omega (arith, w.2), omega (arith, w.3, x.counted));
       walked = row_ends b x.row (q + 1) (WalkedBehind.root x.there);
       within = omega (arith, x.within);
     }
 
-pub arrives_pointer : (b : List ℕ) (p q t size all : ℕ) → PassesLabels b p 0 q (Some t) → t < q → NameOfSize b t size → (q - p) + size ≤ max_size
-    → all ≡ (q - p) + size → Arrives b p (q + 2) all
-arrives_pointer b p q t size all x back n short e =
-    let w = row_names b x.row n.0.0 (Stands.pointer x.there back n.0.1) (omega (arith, n.1)) in
+pub arrives_pointer : (b : List ℕ) (p q n t size count all number : ℕ) → PassesLabels b p 0 q n (Some t) → t < q → NameOfSizeAndCount b t size count
+    → (q - p) + size ≤ max_size → all ≡ (q - p) + size → number ≡ n + count → Arrives b p (q + 2) all number
+arrives_pointer b p q n t size count all number x back name short size_is count_is =
+    let w = row_names b x.row name.0.0 (Stands.pointer x.there back name.0.1) (omega (arith, name.1)) in
     let inside : q + 1 < length b = pointer_within b q t x.there in
     record {
-      name = ((w.0, w.1), omega (arith, w.2, n.1));
+      name = ((w.0, w.1), omega (arith, w.2, name.1), omega (arith, w.3, name.2, x.counted));
       walked = row_ends b x.row (q + 2) (WalkedBehind.pointer x.there);
       within = omega arith;
     }
 
-pub fails_ahead : (b : List ℕ) (p s q t : ℕ) → PassesLabels b p s q (Some t) → q ≤ t → Faulty b p s Form
-fails_ahead b p s q t x ahead = row_faults b x.row Form (Faulty.ahead x.there ahead)
+pub fails_ahead : (b : List ℕ) (p s q n t : ℕ) → PassesLabels b p s q n (Some t) → q ≤ t → Faulty b p s Form
+fails_ahead b p s q n t x ahead = row_faults b x.row Form (Faulty.ahead x.there ahead)
 
-pub fails_behind : (b : List ℕ) (p q t : ℕ) (f : Fault) → PassesLabels b p 0 q (Some t) → t < q → Faulty b t (q - p) f → FaultAt b p f
-fails_behind b p q t f x back m =
+pub fails_behind : (b : List ℕ) (p q n t : ℕ) (f : Fault) → PassesLabels b p 0 q n (Some t) → t < q → Faulty b t (q - p) f → FaultAt b p f
+fails_behind b p q n t f x back m =
     let P : ℕ → Type 0 = λ k. Faulty b t k f in
     let e : q - p ≡ 0 + (q - p) = omega arith in
     row_faults b x.row f (Faulty.pointer x.there back (subst P e m))
@@ -165,8 +192,8 @@ pointer_number b p t word within first second small read same =
     pointer_begins b p t small (slice_get-get_or b p 0 (omega arith) ∙ ap Some high) (slice_get-get_or b (p + 1) 0 within ∙ ap Some low)
 
 -- where the pointer to a near name is all of the name
-pub arrives_back : (b : List ℕ) (p : ℕ) (near : NearName) → LeadsBackTo b p near → IsNear b near → Arrives b p (p + 2) near.size
+pub arrives_back : (b : List ℕ) (p : ℕ) (near : NearName) → LeadsBackTo b p near → IsNear b near → Arrives b p (p + 2) near.size near.count
 arrives_back b p near x is =
     let n = is x.known in
     let inside : p + 1 < length b = pointer_within b p near.pos x.there in
-    record { name = ((n.0.0, Stands.pointer x.there x.back n.0.1), n.1); walked = WalkedBehind.pointer x.there; within = omega arith }
+    record { name = ((n.0.0, Stands.pointer x.there x.back n.0.1), n.1, n.2); walked = WalkedBehind.pointer x.there; within = omega arith }

@@ -1,6 +1,6 @@
 -- Names without pointers where they stand in octets.
-use Rattle.std.proofs.Common.{◌≡◌, ℕ, zero, suc, ◌+◌, ◌-◌, ◌<◌, ◌≤◌, List, [], ◌∷◌, ◌++◌, length, length-append, length-drop, take, drop, get_or, arith, ap, sym, ◌∙◌, subst, refl}
-use Rattle.std.specs.Prelude.{Some, Ok, slice_get}
+use Rattle.std.proofs.Common.{◌≡◌, ◌≢◌, ℕ, zero, suc, ◌+◌, ◌-◌, ◌<◌, ◌≤◌, List, [], ◌∷◌, ◌++◌, length, length-append, length-drop, take, drop, get_or, arith, ap, sym, ◌∙◌, subst, refl}
+use Rattle.std.specs.Prelude.{Some, Ok, IsOk, slice_get}
 use Rattle.std.proofs.lemmas.List.{take-append-drop, drop-drop}
 use Rattle.std.proofs.lemmas.List.Elements.{All-head, All-tail}
 use Rattle.std.proofs.lemmas.Option.{get_or_from_slice_get, slice_get_within}
@@ -8,8 +8,8 @@ use Rattle.std.proofs.Math.Seq.{drop-cons, drop-append_seam, take-append_seam}
 use Rattle.dns_name.specs.Names.{Fault, Labels, IsLabel, IsName, name_size, max_size, uncompressed, head_at, Begins, Stands, label_at, SkipFaulty}
 use Rattle.dns_name.specs.Uncompressed.{IsUncompressed, WholeName, WholeName-prop}
 use Rattle.dns_name.specs.declared.head.Head.TheVariants.{Root, Label, Pointer}
-use Rattle.dns_name.specs.Unique.{name_size-label_at, length_label}
-use Rattle.dns_name.proofs.theory.HeadLemmas.{label_there, root_there, root_begins, label_begins, Passes, passes_none, passes_label}
+use Rattle.dns_name.specs.Unique.{NameAt, same_name, name_size-label_at, length_label, standing_name}
+use Rattle.dns_name.proofs.theory.HeadLemmas.{label_there, root_there, root_begins, label_begins, name_begins, Passes, passes_none, passes_label}
 use Rattle.dns_name.proofs.theory.AnswerLaws.{not_both}
 use Rattle.dns_name.proofs.theory.WalkLaws.{skip_fault}
 
@@ -173,3 +173,60 @@ root_whole = let e : head_at (0 ∷ []) 0 ≡ Ok Root = root_begins (0 ∷ []) 0
 pub whole_is_root : (name : WholeName (0 ∷ [])) → name.0.0 ≡ []
 unfolding root_whole
 whole_is_root name = ap (λ (w : WholeName (0 ∷ [])). w.0.0) (WholeName-prop (0 ∷ []) name root_whole)
+
+-- How far the labels of the one name are counted that the octets spell: those from a place on are the octets of the others.
+pub record Counted (b : List ℕ) (at count : ℕ) : Type 0 where
+  pub others : Labels
+  pub is_name : IsName others
+  pub octets : uncompressed others ≡ drop at b
+  pub few : count ≤ at
+  pub all : (name : Labels) → Stands b 0 name → length name ≡ count + length others
+
+pub counted_none : (b : List ℕ) → WholeName b → Counted b 0 0
+counted_none b whole = record {
+  others = whole.0.0;
+  is_name = standing_name whole.0.1;
+  octets = whole.1;
+  few = omega arith;
+  all = λ name s. let e = ap length (same_name b s whole.0.1) in omega (arith, e);
+}
+
+-- the root or a label begins there
+pub counted_begins : (b : List ℕ) (at count : ℕ) → Counted b at count → IsOk (head_at b at)
+counted_begins b at count c =
+    let there : NameAt b at = (c.others, stands_spelled b at c.others c.is_name c.octets) in name_begins b there
+
+first_octet : (b : List ℕ) (p x : ℕ) (xs : List ℕ) → x ∷ xs ≡ drop p b → get_or b p 0 ≡ x
+first_octet b p x xs e = get_or_from_slice_get b p x 0 (get_drop b p x xs (sym e))
+
+-- at the root, all of them are counted
+pub counted_root : (b : List ℕ) (at count n : ℕ) → Counted b at count → n ≡ get_or b at 0 → n ≡ 0 → (name : Labels) → Stands b 0 name → count ≡ length name
+counted_root b at count n c read none name s = go c.others c.is_name c.octets (c.all name s)
+  where
+    go : (others : Labels) → IsName others → uncompressed others ≡ drop at b → length name ≡ count + length others → count ≡ length name
+    go [] is o e = omega (arith, e)
+    go (label ∷ others) is o e =
+        let l = (name_tail label others is).0 in
+        let first = first_octet b at (length label) (label ++ uncompressed others) o in
+        absurd (omega (arith, l.some, first))
+
+-- behind a label, one more
+pub counted_label : (b : List ℕ) (at count n at' : ℕ) → Counted b at count → n ≡ get_or b at 0 → n ≢ 0 → at' ≡ at + 1 + n → Counted b at' (count + 1)
+counted_label b at count n at' c read some place = go c.others c.is_name c.octets c.all
+  where
+    go : (others : Labels) → IsName others → uncompressed others ≡ drop at b → ((name : Labels) → Stands b 0 name → length name ≡ count + length others)
+        → Counted b at' (count + 1)
+    go [] is o all = absurd (some (read ∙ first_octet b at 0 [] o))
+    go (label ∷ others) is o all =
+        let t = name_tail label others is in
+        let l = labelled b at label others t.0 o in
+        let first = first_octet b at (length label) (label ++ uncompressed others) o in
+        let to : at + 1 + length label ≡ at' = omega (arith, first) in
+        let Q : ℕ → Type 0 = λ p. uncompressed others ≡ drop p b in
+        record {
+          others = others;
+          is_name = t.1;
+          octets = subst Q to l.behind;
+          few = omega (arith, c.few);
+          all = λ name s. let e = all name s in omega (arith, e);
+        }

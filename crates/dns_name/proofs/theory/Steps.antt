@@ -4,10 +4,7 @@ use Rattle.dns_name.specs.Names.{Labels, name_size, with_root, Stands}
 use Rattle.dns_name.specs.Unique.{same_name, NameOfSize, LabelsTake, LabelsAt, LabelsAt-prop, one_count, standing_short}
 use Rattle.dns_name.specs.ParsedName.{IsFirst, label_octets}
 use Rattle.dns_name.specs.declared.label.Label.{Label}
-use Rattle.dns_name.proofs.theory.LabelsLemmas.{name_size-with_root}
-
-length-with_root : (name : Labels) → length (with_root name) ≡ length name + 1
-length-with_root name = length-append name ([] ∷ [])
+use Rattle.dns_name.proofs.theory.LabelsLemmas.{length-with_root, name_size-with_root}
 
 -- the octets of labels behind labels
 pub name_size-append : (xs ys : Labels) → name_size (xs ++ ys) ≡ name_size xs + name_size ys

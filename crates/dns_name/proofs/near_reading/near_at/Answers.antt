@@ -1,10 +1,13 @@
 use Rattle.std.proofs.Common.{arith}
 use Rattle.dns_name.specs.ParsedName.{labels}
-use Rattle.dns_name.specs.Unique.{standing_short}
+use Rattle.dns_name.proofs.theory.LabelsLemmas.{short_and_few}
 use Rattle.dns_name.proofs.near_reading.near_at.Goals as goal
 
 pub overflow_cast-result-2 : goal.overflow_cast-result-2
-overflow_cast-result-2 c = let n = c.args.name.now.name_at in omega (arith, n.1, standing_short n.0.1)
+overflow_cast-result-2 c = let n = short_and_few _ _ _ _ c.args.name.now.name_at in omega (arith, n.0)
+
+pub overflow_cast-result-3 : goal.overflow_cast-result-3
+overflow_cast-result-3 c = let n = short_and_few _ _ _ _ c.args.name.now.name_at in omega (arith, n.0, n.1)
 
 pub returns : goal.returns
-returns c = λ b stands known. ((labels c.args.name.now, stands), c.args.name.now.name_at.1)
+returns c = λ b stands known. let n = c.args.name.now.name_at in ((labels c.args.name.now, stands), n.1, n.2)

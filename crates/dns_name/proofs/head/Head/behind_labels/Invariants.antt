@@ -3,7 +3,7 @@ use Rattle.dns_name.proofs.theory.NearNames.{Passing}
 use Rattle.dns_name.proofs.head.Head.behind_labels.Given as goal
 
 abbrev pub invariant-walk : goal.invariant-walk
-invariant-walk l = Passing l.octets l.start l.size l.pos (l.size + (l.pos - l.start))
+invariant-walk l = Passing l.octets l.start l.size l.pos (l.size + (l.pos - l.start)) l.count
 
 abbrev pub decreases-walk : goal.decreases-walk
 decreases-walk l = length l.octets - l.pos

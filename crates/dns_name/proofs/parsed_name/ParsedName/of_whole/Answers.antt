@@ -1,18 +1,29 @@
-use Rattle.std.proofs.Common.{◌≡◌, ◌+◌, arith, ap, sym, ◌∙◌, length, rules}
+use Rattle.std.proofs.Common.{◌≡◌, ℕ, ◌+◌, List, arith, ap, sym, ◌∙◌, length, rules}
 use Rattle.dns_name.specs.Names.{name_size}
-use Rattle.dns_name.specs.Unique.{same_name}
-use Rattle.dns_name.proofs.theory.LabelsLemmas.{length-uncompressed}
+use Rattle.dns_name.specs.Uncompressed.{WholeName}
+use Rattle.dns_name.specs.Unique.{same_name, standing_short}
+use Rattle.dns_name.proofs.theory.LabelsLemmas.{length-uncompressed, few_labels}
 use Rattle.dns_name.proofs.parsed_name.ParsedName.of_whole.Goals as goal
 
+-- the octets are those of the labels, and the root's
+whole_size : (b : List ℕ) (whole : WholeName b) → name_size whole.0.0 + 1 ≡ length b
+whole_size b whole = sym (length-uncompressed whole.0.0) ∙ ap length whole.1
+
 pub overflow_sub-result : goal.overflow_sub-result
-overflow_sub-result c =
-    let all : name_size c.requires.0.0 + 1 ≡ length c.args.octets.now = sym (length-uncompressed c.requires.0.0) ∙ ap length c.requires.1 in
-    omega arith
+overflow_sub-result c = omega (arith, whole_size _ c.requires)
+
+pub overflow_cast-result : goal.overflow_cast-result
+overflow_cast-result c = omega (arith, whole_size _ c.requires, standing_short c.requires.0.1)
+
+pub overflow_cast-result-2 : goal.overflow_cast-result-2
+overflow_cast-result-2 c =
+    let n = c.requires.0 in
+    omega (arith, c.count_whole.ensures n.0 n.1, few_labels n.0, standing_short n.1)
 
 pub invariant_of-result : goal.invariant_of-result
 invariant_of-result c =
-    let all : name_size c.requires.0.0 + 1 ≡ length c.args.octets.now = sym (length-uncompressed c.requires.0.0) ∙ ap length c.requires.1 in
-    record { name_at = (c.requires.0, omega arith) }
+    let n = c.requires.0 in
+    record { name_at = (n, omega (arith, whole_size _ c.requires), sym (c.count_whole.ensures n.0 n.1)) }
 
 pub returns : goal.returns
 returns c = λ name s. search (rules, same_name)
