@@ -1,11 +1,11 @@
 //! A target that compresses names, by an index of the suffixes that it remembers.
 ghost use Rattle.std.specs.Prelude.{◌≡◌, ◌||◌, [], true, ℕ, List, IfOk, OnErr, IsTrue};
 ghost use Rattle.dns_wire.specs.Pieces.{nothing, Plain, put_octets, put_name};
-ghost use Rattle.dns_name.specs.Names.{uncompressed};
-ghost use Rattle.dns_name.specs.ParsedName.{labels};
+ghost use Rattle.dns_target.specs.FlatNames.{flat_labels};
 ghost use Rattle.dns_wire.specs.Targets.{Appends};
 ghost use Rattle.dns_target.specs.Indexes.{compressing_not_plain};
 
+use crate::flat_name::FlatName;
 use crate::hashes::Hashes;
 use crate::index::SuffixIndex;
 use crate::label_starts::{LabelStarts, note_starts};
@@ -14,7 +14,7 @@ use crate::suffixes::Suffixes;
 use crate::texts::append_planned;
 use crate::tree::Tree;
 use arrayvec::ArrayVec;
-use dns_wire::{AppendError, CloneTarget, Composer, FreezeBuilder, ParsedName, ToName};
+use dns_wire::{AppendError, CloneTarget, Composer, FreezeBuilder, ToName};
 use std::alloc::{AllocError, Global};
 use std::convert::AsSlice;
 use std::marker::Model;
@@ -135,12 +135,12 @@ impl<Target: Composer, Index: SuffixIndex> Compressor<Target, Index> {
         self.target.as_slice()
     }
 
-    /// Appends a name, which is given with its octets without pointers.
-    fn append_name(&mut self, name: ParsedName<'_>, octets: &[u8]) -> Result<(), AppendError>
-        requires { octets.now ≡ uncompressed (labels name) }
+    /// Appends a name.
+    fn append_name(&mut self, name: FlatName<'_>) -> Result<(), AppendError>
         ensures { Appends Target.room (Index.takes_memory || Target.grows)
-            (put_name Index.rule (labels name.entry)) self.old self.new result }
+            (put_name Index.rule (flat_labels name.entry)) self.old self.new result }
     {
+        let octets = name.octets();
         let mut starts = ArrayVec::new();
         note_starts(&name, octets, &mut starts);
         let labels = LabelStarts::new(name, octets, starts.as_slice());
@@ -199,10 +199,12 @@ impl<Target: Composer, Index: SuffixIndex> Composer for Compressor<Target, Index
     }
 
     fn append_compressed_name<N: ToName>(&mut self, name: &N) -> Result<(), AppendError> {
-        let parsed = name.as_parsed();
         match name.as_flat_slice() {
-            Some(octets) => self.append_name(parsed, octets),
-            None => self.append_name(parsed, parsed.uncompressed().as_slice()),
+            Some(octets) => self.append_name(FlatName::new(octets)),
+            None => {
+                let octets = name.as_parsed().uncompressed();
+                self.append_name(FlatName::new(octets.as_slice()))
+            }
         }
     }
 
