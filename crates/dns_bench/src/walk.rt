@@ -75,10 +75,13 @@ pub(crate) fn walk(octets: &[u8]) -> Option<u64> {
     for question in &mut questions {
         sum = sum.wrapping_add(question_sum(&question.ok()?));
     }
-    let mut answers = questions.answer().ok()?;
-    sum = sum.wrapping_add(section_sum(&mut answers)?);
-    let mut authorities = answers.next_section().ok()??;
-    sum = sum.wrapping_add(section_sum(&mut authorities)?);
-    let mut additionals = authorities.next_section().ok()??;
-    Some(sum.wrapping_add(section_sum(&mut additionals)?))
+    let mut section = questions.answer().ok()?;
+    for _ in 0..3 {
+        sum = sum.wrapping_add(section_sum(&mut section)?);
+        let Some(next) = section.next_section().ok()? else {
+            break;
+        };
+        section = next;
+    }
+    Some(sum)
 }
