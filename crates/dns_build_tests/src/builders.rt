@@ -107,6 +107,32 @@ fn refuses_answers(rt: HostRuntime) {
     run(&rt, rt.alloc(), ArrayVec::<u8, 100>::new(), &ANSWERS);
 }
 
+/// Opaque data of 16 octets, the most that is appended together with the fields, and of one more. They fill the target.
+static DATA: Row = Row {
+    name: "Opaque data of 16 and of 17 octets",
+    answers: &[
+        (
+            Call::Opaque(ROOT, 16),
+            Done,
+            39,
+            b"\x00\x00\x10\x00\x01\x00\x00\x0E\x10\x00\x10\x00\x00\x00\x00\x00\x00\x00\x00\x00\x00\x00\x00\x00\x00\x00\x00",
+        ),
+        (
+            Call::Opaque(ROOT, 17),
+            Done,
+            67,
+            b"\x00\x00\x10\x00\x01\x00\x00\x0E\x10\x00\x11\x00\x00\x00\x00\x00\x00\x00\x00\x00\x00\x00\x00\x00\x00\x00\x00\x00",
+        ),
+    ],
+    start: b"\x00\x00\x00\x00\x00\x00\x00\x02\x00\x00\x00\x00",
+    ..EMPTY
+};
+
+#[test]
+fn appends_short_data(rt: HostRuntime) {
+    run(&rt, rt.alloc(), ArrayVec::<u8, 67>::new(), &DATA);
+}
+
 /// A message with the ID 1 and two addresses of the root.
 static ANSWERED: [u8; 42] =
     *b"\x00\x01\x00\x00\x00\x00\x00\x02\x00\x00\x00\x00\x00\x00\x01\x00\x01\x00\x00\x0E\x10\x00\x04\xCB\x00\x71\x01\x00\x00\x01\x00\x01\x00\x00\x0E\x10\x00\x04\xCB\x00\x71\x01";

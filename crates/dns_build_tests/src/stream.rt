@@ -122,6 +122,31 @@ fn compresses_behind_the_length(rt: HostRuntime) {
     assert_message(&rt, target.as_target());
 }
 
+/// A name whose labels fit and whose pointer doesn't.
+static BETWEEN: Row = Row {
+    name: "Room that ends between labels and a pointer",
+    questions: &[
+        (Ask::Question(EXAMPLE_COM), Done, 29, EXAMPLE_COM),
+        (
+            Ask::Question(b"\x01a\x07example\x03com\x00"),
+            ShortBuf,
+            29,
+            b"",
+        ),
+    ],
+    start: b"\x00\x00\x00\x00\x00\x01\x00\x00\x00\x00\x00\x00\x07example\x03com\x00\x00\x01\x00\x01",
+    ..EMPTY
+};
+
+#[test]
+fn refuses_a_pointer(rt: HostRuntime) {
+    let target = StreamTarget::new(ArrayVec::<u8, 33>::new()).expect(&rt, "room");
+    let target = StaticCompressor::new(target);
+    let builder = MessageBuilder::from_target(target).expect(&rt, "room");
+    let target = run_on(&rt, rt.alloc(), builder, &BETWEEN);
+    assert_prefix(&rt, BETWEEN.name, target.as_target(), b"\x00\x1D");
+}
+
 /// The name is example.com., and the class IN.
 fn assert_example_com<N: ToName>(rt: &impl Abort, found: &N, class: Class) {
     let is_it = found.octets_eq(&name(rt, EXAMPLE_COM)) && class == Class::IN;
