@@ -1,0 +1,74 @@
+//! Labels with their hashes.
+ghost use Rattle.std.specs.Prelude.{◌≡◌, ◌≤◌, length};
+ghost use Rattle.std.specs.Str.{bytes_eq};
+ghost use Rattle.dns_target.specs.LabelHashes.{label_hash as hash_of};
+
+use arrayvec::ArrayVec;
+use std::alloc::AllocError;
+use std::hash::{FoldHasher, Hasher};
+use std::marker::Model;
+
+/// A label, and its hash. Two labels are mostly told apart by these.
+#[derive(Debug, Drop)]
+pub(crate) struct HashedLabel {
+    octets: ArrayVec<u8, 63>,
+    hash: u32,
+}
+
+impl Model for HashedLabel {
+    ghost use Rattle.std.specs.Prelude.{◌≡◌, ℕ, List};
+    ghost use Rattle.dns_target.specs.LabelHashes.{label_hash as hash_of};
+
+    ghost Value = { List ℕ };
+
+    ghost view = { λ l. l.octets.items };
+
+    ghost invariant = { λ l. l.hash ≡ hash_of l.octets.items };
+}
+
+/// The hash of a label.
+#[inline]
+pub(crate) fn label_hash(label: &[u8]) -> u32
+    ensures { result ≡ hash_of label.now }
+{
+    let mut hasher = FoldHasher::default();
+    hasher.write(label);
+    (hasher.finish() >> 32) as u32
+}
+
+impl HashedLabel {
+    #[inline]
+    pub(crate) fn new(label: &[u8]) -> Self
+        requires { length label.now ≤ 63 }
+        ensures { result ≡ label.now }
+    {
+        let mut octets = ArrayVec::new();
+        octets.try_extend_from_slice(label).unwrap();
+        HashedLabel {
+            octets,
+            hash: label_hash(label),
+        }
+    }
+
+    /// Whether it is a given label, which has this hash.
+    #[inline]
+    pub(crate) fn is(&self, label: &[u8], hash: u32) -> bool
+        requires { hash ≡ hash_of label.now }
+        ensures { result ≡ bytes_eq self.now label.now }
+    {
+        self.hash == hash && self.octets.as_slice() == label
+    }
+}
+
+impl Clone for HashedLabel {
+    ghost use Rattle.std.specs.Prelude.{◌≡◌};
+
+    ghost is_clone = { λ label clone. clone ≡ label };
+
+    fn clone(&self) -> Result<Self, AllocError> {
+        Ok(HashedLabel {
+            octets: self.octets.clone()?,
+            hash: self.hash,
+        })
+    }
+}
