@@ -8,7 +8,7 @@ use std::alloc::AllocError;
 use std::hash::{FoldHasher, Hasher};
 use std::marker::Model;
 
-/// A label, and its hash. Two labels are mostly told apart by these.
+/// A label and its hash, by which it is mostly told from others.
 #[derive(Debug, Drop)]
 pub(crate) struct HashedLabel {
     octets: ArrayVec<u8, 63>,
