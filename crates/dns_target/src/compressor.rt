@@ -6,11 +6,11 @@ ghost use Rattle.dns_wire.specs.Targets.{Appends};
 ghost use Rattle.dns_target.specs.Indexes.{compressing_not_plain};
 
 use crate::flat_name::FlatName;
+use crate::hash_index::HashIndex;
 use crate::hashes::Hashes;
 use crate::index::SuffixIndex;
 use crate::label_starts::{LabelStarts, note_starts};
 use crate::places::Places;
-use crate::suffixes::Suffixes;
 use crate::texts::append_planned;
 use crate::tree::Tree;
 use arrayvec::ArrayVec;
@@ -36,7 +36,7 @@ pub type TreeCompressor<Target> = Compressor<Target, Tree>;
 /// A compressor that remembers all suffixes that it writes out of a name, or none of them where one begins at 16,384 or
 /// further on, and knows them again octet for octet. Its hash is fast and has a fixed seed: for names that strangers choose,
 /// [`TreeCompressor`] is the one to use.
-pub type HashCompressor<Target> = Compressor<Target, Suffixes>;
+pub type HashCompressor<Target> = Compressor<Target, HashIndex>;
 
 /// A compressor that remembers each suffix that it writes out below 16,384, by its place and its hash, and knows it again
 /// octet for octet. Its hash is fast and has a fixed seed: names with one hash are compared one after another.
@@ -78,7 +78,7 @@ impl<Target: Composer> Compressor<Target, Tree> {
     }
 }
 
-impl<Target: Composer> Compressor<Target, Suffixes> {
+impl<Target: Composer> Compressor<Target, HashIndex> {
     /// A compressor over a target that doesn't compress. The content stays, and nothing is remembered.
     ///
     /// What is remembered takes memory from `alloc`.
@@ -86,7 +86,7 @@ impl<Target: Composer> Compressor<Target, Suffixes> {
         requires { Target.rule ≡ Plain }
         ensures { result ≡ record { octets = (Target.written target).octets; memory = nothing } }
     {
-        Compressor::over(target, Suffixes::new(alloc))
+        Compressor::over(target, HashIndex::new(alloc))
     }
 }
 

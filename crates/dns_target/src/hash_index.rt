@@ -1,0 +1,179 @@
+//! The index of a hash compressor: suffixes of which each is looked up by its first label and the place of the others.
+ghost use Rattle.std.specs.Prelude.{◌≡◌, ◌≤◌, [], None, length, drop};
+ghost use Rattle.dns_target.specs.Held.{memory_in};
+ghost use Rattle.dns_target.specs.Indexes.{AreHeld};
+ghost use Rattle.dns_target.specs.Table.{IsRest, RestIsName, spots_in, near_count as near_count_of};
+
+use crate::index::{Plan, SuffixIndex};
+use crate::label_starts::LabelStarts;
+use crate::standing::stands_flat;
+use crate::suffixes::{Key, Suffixes};
+use crate::texts::{Found, reaches};
+use std::alloc::{AllocError, Global};
+
+/// Suffixes, and one of them that the last name ends with: names that follow each other mostly share it, so it is tried first.
+#[derive(Debug, Drop)]
+pub struct HashIndex {
+    suffixes: Suffixes,
+    /// Where that suffix was written, if there is one.
+    recent: Option<u16>,
+    /// How many labels it has.
+    recent_labels: usize,
+}
+
+impl HashIndex {
+    pub(crate) fn new(alloc: Global) -> Self
+        ensures suffixes { result.suffixes.suffixes ≡ [] }
+        ensures recent { result.recent ≡ None }
+    {
+        HashIndex {
+            suffixes: Suffixes::new(alloc),
+            recent: None,
+            recent_labels: 0,
+        }
+    }
+
+    /// The recent suffix where a name ends with it, else no labels of the name.
+    #[inline(always)]
+    fn recent_in(&self, content: &[u8], labels: &LabelStarts<'_>) -> Found
+        requires held { AreHeld content.now (spots_in self.now.suffixes.suffixes) }
+        requires recent { IsRest content.now self.now.suffixes.suffixes self.now.recent }
+        ensures within { result.from ≤ length labels.now }
+        ensures there { RestIsName (memory_in content.now (spots_in self.now.suffixes.suffixes))
+            result.place (drop result.from labels.now) }
+    {
+        let Some(place) = self.recent else {
+            return Found::nothing(labels);
+        };
+        let count = self.recent_labels;
+        if count == 0 || count > labels.len() {
+            return Found::nothing(labels);
+        }
+        let from = labels.len() - count;
+        if !stands_flat(content, usize::from(place), labels.tail(from)) {
+            return Found::nothing(labels);
+        }
+        Found {
+            from,
+            place: Some(place),
+        }
+    }
+}
+
+/// How many of the labels before `from` are remembered of a name at a place: all or none.
+fn near_count(labels: &LabelStarts<'_>, place: usize, from: usize) -> usize
+    requires { from ≤ length labels.now }
+    ensures { result ≡ near_count_of place labels.now from }
+{
+    if reaches(labels, place, from) {
+        from
+    } else {
+        0
+    }
+}
+
+/// Where the suffix begins that is tried first for the next name: what was found of a name, else all of it.
+fn shared_from(found: Found) -> usize
+    ensures { result ≤ found.from }
+{
+    match found.place {
+        Some(_) => found.from,
+        None => 0,
+    }
+}
+
+impl SuffixIndex for HashIndex {
+    type Hint = ();
+
+    ghost use Rattle.std.specs.Prelude.{◌≡◌, ◌≤◌, ◌+◌, ◌<◌, ◌⊎◌, length, ℕ, true, refl};
+    ghost use Rattle.dns_name.specs.Names.{pointer_end};
+    ghost use Rattle.dns_wire.specs.Choice.{place_of};
+    ghost use Rattle.dns_wire.specs.Pieces.{Hash};
+    ghost use Rattle.dns_target.specs.Table.{spots_in, AreKeyed, IsRest, keyed_again, rest_again};
+
+    ghost rule = { Hash };
+
+    ghost takes_memory = { true };
+
+    ghost spots = { λ s. spots_in s.suffixes.suffixes };
+
+    ghost is_of = { λ b s. AreKeyed b s.suffixes.suffixes × IsRest b s.suffixes.suffixes s.recent };
+
+    ghost is_hint = { λ s name from hint. Unit {0} };
+
+    ghost is_planned = { λ s name w from count.
+        ((count ≡ 0) ⊎ (count ≡ from))
+        × ((i : ℕ) → i < count → place_of w name i < pointer_end) };
+
+    ghost lacks_room = { λ s from count. s.suffixes.room < count };
+
+    ghost stays = { λ b c t l e h.
+        (keyed_again b c t.suffixes.suffixes e h.0, rest_again b c t.suffixes.suffixes t.recent e h.1) };
+
+    ghost compressing = { refl };
+
+    fn look_up(&self, content: &[u8], labels: &LabelStarts<'_>) -> (Found, ()) {
+        let mut key = Key::new();
+        let Found {
+            mut from,
+            mut place,
+        } = self.recent_in(content, labels);
+        while from > 0 {
+            key.set(labels.label(from - 1), place);
+            let Some(longer) = self.suffixes.find(&key) else {
+                return (Found { from, place }, ());
+            };
+            place = Some(longer);
+            from -= 1;
+        }
+        (Found { from, place }, ())
+    }
+
+    fn plan(&self, content: &[u8], labels: &LabelStarts<'_>, found: Found) -> Plan {
+        Plan {
+            whole: false,
+            count: near_count(labels, content.len(), found.from),
+        }
+    }
+
+    fn remember(
+        &mut self,
+        content: &[u8],
+        labels: &LabelStarts<'_>,
+        place: usize,
+        found: Found,
+        _hint: (),
+        count: usize,
+    ) -> Result<(), AllocError> {
+        self.suffixes.reserve(count)?;
+        let mut rest = found.place;
+        let mut index = count;
+        while index > 0 {
+            index -= 1;
+            let here = (place + labels.start(index)) as u16;
+            self.suffixes
+                .push(labels.label(index), rest, here, content.len());
+            rest = Some(here);
+        }
+        self.recent = found.place.or(rest);
+        self.recent_labels = labels.len() - shared_from(found);
+        Ok(())
+    }
+
+    fn forget(&mut self, len: usize) {
+        self.recent = None;
+        if self.suffixes.ends_past(len) {
+            self.suffixes.clear();
+        } else {
+            self.suffixes.cut(len);
+        }
+    }
+
+    fn copy(&self) -> Result<Self, AllocError> {
+        Ok(HashIndex {
+            suffixes: self.suffixes.clone()?,
+            recent: self.recent,
+            recent_labels: self.recent_labels,
+        })
+    }
+}
