@@ -1,11 +1,11 @@
 #!/usr/bin/env bash
-# Counts, by valgrind, the instructions that each row of the bench takes for a message: they are the same each time, whatever else
-# the machine does. It takes some two minutes, and builds crates/dns_bench as run.sh does.
+# Counts, by valgrind, the instructions that each row of the bench takes for a message: with the same compiler, C library and
+# valgrind they are the same each time, whatever else the machine does. It builds crates/dns_bench as run.sh does.
 #
 #     bench/count.sh              prints them
 #     bench/count.sh --write      writes them to bench/instructions
 #     bench/count.sh --check      compares them with bench/instructions, and fails where a row takes over 2 % more
-set -eu
+set -euo pipefail
 here=$(cd "$(dirname "$0")" && pwd)
 crate=$here/../crates/dns_bench
 kit=$(dirname "$(rt doc)")
@@ -17,6 +17,8 @@ case "${1:-}" in
   '' | --write | --check) ;;
   *) echo 'usage: bench/count.sh [--write | --check]' >&2; exit 2 ;;
 esac
+command -v valgrind >/dev/null || { echo 'bench/count.sh needs valgrind' >&2; exit 1; }
+[ "${1:-}" != --check ] || [ -s "$kept" ] || { echo 'no bench/instructions: bench/count.sh --write makes it' >&2; exit 1; }
 
 "$here/../examples/c/library" dns_bench >"$build/proof" 2>&1 || { cat "$build/proof" >&2; exit 1; }
 
@@ -31,7 +33,10 @@ compile "$build/messages" "$here/ours.c" "$here/messages.c" -DSHIFT=0 "$here/shi
 python3 "$here/inputs.py" >"$build/inputs"
 
 instructions() {
-  valgrind --tool=callgrind --callgrind-out-file=/dev/null "$@" 2>&1 | sed -n 's/.*refs: *//p' | tr -d ,
+  local counted
+  counted=$(valgrind --tool=callgrind --callgrind-out-file=/dev/null "$@" 2>&1 | sed -n 's/.*refs: *//p' | tr -d ,)
+  [ "$counted" ] || { echo "no count of $*" >&2; return 1; }
+  echo "$counted"
 }
 
 # Prints a row: the instructions for more messages less those for fewer, so that the start is left out. N is replaced by how many.
@@ -60,7 +65,6 @@ walk:w1:64:192
 walk:w2:64:192
 walk:w5a:64:192
 walk:w5b:64:192
-walk:w5c:64:128
 walk:n10:64:192
 walk:n100:64:192
 walk:n1000:64:128
@@ -103,6 +107,7 @@ check() {
   awk -F '  +' '
     { row = $1 ", " $2 ", " $3; number = $4 + 0 }
     NR == FNR { kept[row] = number; next }
+    number <= 0 { print row ": no instructions"; bad = 1; next }
     !(row in kept) { print row ": not in bench/instructions"; bad = 1; next }
     { seen[row] = 1; share = 100 * (number / kept[row] - 1) }
     share > 2 || share < -2 { printf "%s: %d, kept %d (%+.1f %%)\n", row, number, kept[row], share }
@@ -115,7 +120,7 @@ check() {
 }
 
 case "${1:-}" in
-  --write) rows | tee "$kept" ;;
+  --write) rows | tee "$build/counted"; cp "$build/counted" "$kept" ;;
   --check) rows >"$build/counted"; check "$build/counted" ;;
   *) rows ;;
 esac

@@ -107,7 +107,8 @@ fn refuses_answers(rt: HostRuntime) {
     run(&rt, rt.alloc(), ArrayVec::<u8, 100>::new(), &ANSWERS);
 }
 
-/// Opaque data of 16 octets, the most that is appended together with the fields, and of one more. They fill the target.
+/// Opaque data of 16 octets, the most that is appended together with the fields, and of one more. They fill the
+/// target.
 static DATA: Row = Row {
     name: "Opaque data of 16 and of 17 octets",
     answers: &[

@@ -49,8 +49,15 @@ impl RecordData for A {
 }
 
 impl ComposeRecordData for A {
+    ghost use Rattle.std.specs.Prelude.{◌≡◌, IfSome, IsSome};
+    ghost use Rattle.dns_data.specs.A.{address_of};
+
+    /// The address.
     #[inline(always)]
-    fn flat_rdata(&self) -> Option<&[u8]> {
+    fn flat_rdata(&self) -> Option<&[u8]>
+        ensures lent { IsSome result }
+        ensures octets { IfSome result (λ octets. octets.now ≡ address_of self.now) }
+    {
         Some(&self.octets)
     }
 

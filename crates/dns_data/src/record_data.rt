@@ -23,8 +23,9 @@ pub trait RecordData {
 
 /// Data that can be appended to a message.
 pub trait ComposeRecordData: RecordData {
-    /// The octets of the data, where it has no names and may lend them as they are appended. A record with few of them is
-    /// appended at once.
+    /// All octets of the data, if it lends them; `None` says nothing of the data.
+    ///
+    /// A record with at most 16 octets that are lent is appended at once, without a call of `compose_rdata`.
     fn flat_rdata(&self) -> Option<&[u8]>
         ensures { IfSome result (λ octets. Self.parts self.now ≡ Octets octets.now ∷ []) }
     {

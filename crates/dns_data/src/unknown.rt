@@ -77,8 +77,15 @@ impl<Octs: Octets> RecordData for UnknownRecordData<Octs> {
 }
 
 impl<Octs: Octets> ComposeRecordData for UnknownRecordData<Octs> {
+    ghost use Rattle.std.specs.Prelude.{◌≡◌, IfSome, IsSome};
+    ghost use Rattle.dns_data.specs.UnknownData.{unknown_octets};
+
+    /// All octets of the data.
     #[inline(always)]
-    fn flat_rdata(&self) -> Option<&[u8]> {
+    fn flat_rdata(&self) -> Option<&[u8]>
+        ensures lent { IsSome result }
+        ensures octets { IfSome result (λ octets. octets.now ≡ unknown_octets self.now) }
+    {
         Some(self.octets.octets())
     }
 

@@ -50,7 +50,7 @@ pub fn same_octets(name: &ParsedName<'_>, other: &ParsedName<'_>) -> bool
 
 /// Compares the labels from the root leftwards, the case of ASCII letters ignored (RFC 4034 section 6.1).
 ///
-/// The names are walked forward, each label twice at most.
+/// The names are walked forward, each label once.
 #[tactic(auto, using(crate::proofs::RootOrders::name_order_from_ends))]
 pub fn order_from_root(name: &ParsedName<'_>, other: &ParsedName<'_>) -> Ordering
     ensures { result ≡ name_order (labels name.now) (labels other.now) }

@@ -50,7 +50,8 @@ impl Head {
         }
     }
 
-    /// The octet at a place where the root, a label or a pointer is known to begin: the length of the label, 0 of the root.
+    /// The octet at a place where the root, a label or a pointer is known to begin: the length of the label,
+    /// 0 of the root.
     #[inline(always)]
     #[tactic(auto, unfolding(crate::specs::Names::head_at))]
     pub(crate) fn first(octets: &[u8], place: usize) -> u8
@@ -93,7 +94,7 @@ impl Head {
         Ok(head)
     }
 
-    /// Passes the labels that stand in a row at a place, behind labels of the size. Else the leftmost fault is answered.
+    /// Passes the labels that stand in a row at a place, behind labels of the size, or answers the leftmost fault.
     #[inline(always)]
     pub(crate) fn behind_labels(
         octets: &[u8],

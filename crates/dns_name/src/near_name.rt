@@ -1,7 +1,8 @@
 ghost use Rattle.std.specs.Prelude.{ℕ, List, ◌≤◌, ◌<◌, IsTrue, length};
 ghost use Rattle.dns_name.specs.Names.{max_size, pointer_end};
 
-/// Where a name stands that was read before, in the same octets, how many octets its labels take, and how many they are.
+/// Where a name stands that was read before, in the same octets, how many octets its labels take, and how many
+/// they are.
 ///
 /// Names of a message often lead to one place: with it they are read by `parse_near` without a walk over the name there.
 #[derive(Clone, Copy, Debug)]

@@ -99,8 +99,8 @@ impl<'a> ParsedName<'a> {
         })
     }
 
-    /// How many octets the labels of the name at a place take, and how many they are. A pointer leads there, behind labels
-    /// that take `before` octets.
+    /// How many octets the labels of the name at a place take, and how many they are. A pointer leads there,
+    /// behind labels that take `before` octets.
     #[inline(always)]
     fn size_at(octets: &[u8], start: u16, before: usize) -> Result<(usize, usize), ParseError>
         requires within { start ≤ length octets.now }

@@ -135,7 +135,7 @@ impl<Target: Composer, Index: SuffixIndex> Compressor<Target, Index> {
         self.target.as_slice()
     }
 
-    /// Appends a name.
+    /// Appends a name, and remembers it.
     fn append_name(&mut self, name: FlatName<'_>) -> Result<(), AppendError>
         ensures { Appends Target.room (Index.takes_memory || Target.grows)
             (put_name Index.rule (flat_labels name.entry)) self.old self.new result }

@@ -1,11 +1,11 @@
 //! Labels with their hashes.
 ghost use Rattle.std.specs.Prelude.{◌≡◌, ◌≤◌, length};
 ghost use Rattle.std.specs.Str.{bytes_eq};
-ghost use Rattle.dns_target.specs.LabelHashes.{label_hash as hash_of};
+ghost use Rattle.dns_target.specs.OctetHashes.{octets_hash};
 
+use crate::octets_hash::octets_hash;
 use arrayvec::ArrayVec;
 use std::alloc::AllocError;
-use std::hash::{FoldHasher, Hasher};
 use std::marker::Model;
 
 /// A label and its hash, by which it is mostly told from others.
@@ -17,26 +17,17 @@ pub(crate) struct HashedLabel {
 
 impl Model for HashedLabel {
     ghost use Rattle.std.specs.Prelude.{◌≡◌, ℕ, List};
-    ghost use Rattle.dns_target.specs.LabelHashes.{label_hash as hash_of};
+    ghost use Rattle.dns_target.specs.OctetHashes.{octets_hash};
 
     ghost Value = { List ℕ };
 
     ghost view = { λ l. l.octets.items };
 
-    ghost invariant = { λ l. l.hash ≡ hash_of l.octets.items };
-}
-
-/// The hash of a label.
-#[inline]
-pub(crate) fn label_hash(label: &[u8]) -> u32
-    ensures { result ≡ hash_of label.now }
-{
-    let mut hasher = FoldHasher::default();
-    hasher.write(label);
-    (hasher.finish() >> 32) as u32
+    ghost invariant = { λ l. l.hash ≡ octets_hash l.octets.items };
 }
 
 impl HashedLabel {
+    /// A label with its hash.
     #[inline]
     pub(crate) fn new(label: &[u8]) -> Self
         requires { length label.now ≤ 63 }
@@ -46,14 +37,14 @@ impl HashedLabel {
         octets.try_extend_from_slice(label).unwrap();
         HashedLabel {
             octets,
-            hash: label_hash(label),
+            hash: octets_hash(label),
         }
     }
 
     /// Whether it is a given label, which has this hash.
     #[inline]
     pub(crate) fn is(&self, label: &[u8], hash: u32) -> bool
-        requires { hash ≡ hash_of label.now }
+        requires { hash ≡ octets_hash label.now }
         ensures { result ≡ bytes_eq self.now label.now }
     {
         self.hash == hash && self.octets.as_slice() == label

@@ -124,6 +124,7 @@ fn assert_parsed(
             let is_root = octets.as_slice() == b"\x00".as_slice();
             let shape = (name.compose_len(), name.is_root());
             assert_same(rt, row, shape, (octets.len(), is_root));
+            assert_same(rt, row, name.label_count(), name.iter_labels().count());
         }
         Err(fault) => assert_same(rt, row, Err(fault), expected),
     }

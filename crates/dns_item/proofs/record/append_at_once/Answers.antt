@@ -1,4 +1,4 @@
-use Rattle.std.proofs.Common.{◌≡◌, ◌++◌, length, subst, rules, arith, List, ℕ}
+use Rattle.std.proofs.Common.{◌≡◌, length, subst, rules, arith, List, ℕ}
 use Rattle.dns_wire.specs.Pieces.{put_octets}
 use Rattle.dns_wire.specs.Targets.{Appends}
 use Rattle.dns_item.proofs.FlatRecords.{copied}
