@@ -125,6 +125,7 @@ impl<N: ToName> Question<N> {
     ///
     /// Where it is refused the content still begins with the old one, and a `truncate` to the old length gives the old
     /// target back.
+    #[inline(always)]
     pub fn compose<T: Composer>(&self, target: &mut T) -> Result<(), AppendError>
         ensures composes { Composes T.room T.grows
             (put_question T.rule (question_item N.name self.now)) (T.written target.old)
@@ -153,6 +154,7 @@ pub trait ComposeQuestion {
 impl<N: ToName> ComposeQuestion for Question<N> {
     ghost question = { λ q. question_item N.name q };
 
+    #[inline(always)]
     fn compose_question<T: Composer>(&self, target: &mut T) -> Result<(), AppendError> {
         self.compose(target)
     }
@@ -161,6 +163,7 @@ impl<N: ToName> ComposeQuestion for Question<N> {
 impl<Q: ComposeQuestion> ComposeQuestion for &Q {
     ghost question = { λ q. Q.question q.now };
 
+    #[inline(always)]
     fn compose_question<T: Composer>(&self, target: &mut T) -> Result<(), AppendError> {
         (**self).compose_question(target)
     }
@@ -169,6 +172,7 @@ impl<Q: ComposeQuestion> ComposeQuestion for &Q {
 impl<N: ToName> ComposeQuestion for (N, Rtype, Class) {
     ghost question = { λ fields. record { name = N.name fields.0; rtype = fields.1; class = fields.2 } };
 
+    #[inline(always)]
     fn compose_question<T: Composer>(&self, target: &mut T) -> Result<(), AppendError> {
         let (qname, qtype, qclass) = self;
         Question::new(qname, *qtype, *qclass).compose(target)
@@ -179,6 +183,7 @@ impl<N: ToName> ComposeQuestion for (N, Rtype, Class) {
 impl<N: ToName> ComposeQuestion for (N, Rtype) {
     ghost question = { λ fields. record { name = N.name fields.0; rtype = fields.1; class = 1 } };
 
+    #[inline(always)]
     fn compose_question<T: Composer>(&self, target: &mut T) -> Result<(), AppendError> {
         let (qname, qtype) = self;
         Question::new_in(qname, *qtype).compose(target)
