@@ -1,4 +1,4 @@
-use Rattle.std.proofs.Common.{◌≡◌, ◌<◌, ℕ, Option, Some, arith, drop, length, subst, sym}
+use Rattle.std.proofs.Common.{ℕ, Option, Some, arith, subst, sym}
 use Rattle.dns_name.specs.Names.{Labels, Stands}
 use Rattle.dns_target.specs.Held.{memory_in}
 use Rattle.dns_target.specs.Table.{IsRest, RestIsName, spots_in}
