@@ -1,4 +1,4 @@
-//! Comparisons of names where they stand, label by label. They take no memory.
+//! Comparisons of names as they are encoded, label by label. They don't allocate.
 ghost use Rattle.std.specs.Prelude.{◌≡◌, ◌↔◌, IsTrue, fold, length, drop};
 ghost use Rattle.dns_name.specs.Names.{lowered, with_root};
 ghost use Rattle.dns_name.specs.NameOrders.{name_order, composed_order, name_hash_input};
@@ -9,7 +9,7 @@ use crate::parsed_name::ParsedName;
 use std::cmp::Ordering;
 use std::hash::{Hash, Hasher};
 
-/// Whether the labels are the same but for the case of ASCII letters (RFC 1035 section 2.3.3).
+/// Returns whether the labels are the same, ignoring ASCII case (RFC 1035 section 2.3.3).
 #[tactic(auto, using(crate::proofs::Orders::same_size))]
 pub fn same_labels(name: &ParsedName<'_>, other: &ParsedName<'_>) -> bool
     ensures { IsTrue result ↔ (lowered (labels name.now) ≡ lowered (labels other.now)) }
@@ -29,7 +29,7 @@ pub fn same_labels(name: &ParsedName<'_>, other: &ParsedName<'_>) -> bool
     others.next().is_none()
 }
 
-/// Whether the labels are the same, octet for octet.
+/// Returns whether the labels are the same, octet for octet.
 pub fn same_octets(name: &ParsedName<'_>, other: &ParsedName<'_>) -> bool
     ensures { IsTrue result ↔ (labels name.now ≡ labels other.now) }
 {
@@ -48,9 +48,9 @@ pub fn same_octets(name: &ParsedName<'_>, other: &ParsedName<'_>) -> bool
     rest.next().is_none()
 }
 
-/// Compares the labels from the root leftwards, the case of ASCII letters ignored (RFC 4034 section 6.1).
+/// Compares the labels from the root leftwards, ignoring ASCII case (RFC 4034 section 6.1).
 ///
-/// The names are walked forward, each label once.
+/// Each label is visited once, in encoding order.
 #[tactic(auto, using(crate::proofs::RootOrders::name_order_from_ends))]
 pub fn order_from_root(name: &ParsedName<'_>, other: &ParsedName<'_>) -> Ordering
     ensures { result ≡ name_order (labels name.now) (labels other.now) }
@@ -62,7 +62,7 @@ pub fn order_from_root(name: &ParsedName<'_>, other: &ParsedName<'_>) -> Orderin
     order_of_as_many(labels, others).then(count.cmp(&other_count))
 }
 
-/// The labels of the name without so many of its first ones.
+/// Returns the labels of the name without the first `count`.
 #[tactic(auto, using(crate::proofs::RootOrders::drop_steps))]
 fn labels_behind<'a>(name: &ParsedName<'a>, count: usize) -> LabelIter<'a>
     ensures { labels_left result ≡ drop count (with_root (labels name.now)) }
@@ -74,7 +74,8 @@ fn labels_behind<'a>(name: &ParsedName<'a>, count: usize) -> LabelIter<'a>
     labels
 }
 
-/// Compares as many labels with as many, the last pair first, the case of ASCII letters ignored.
+/// Compares two iterators with equally many labels, ignoring ASCII case. The last pair that differs
+/// decides.
 #[tactic(auto, using(crate::proofs::RootOrders::rest_steps))]
 fn order_of_as_many(labels: LabelIter<'_>, mut others: LabelIter<'_>) -> Ordering
     requires { length (labels_left labels) ≡ length (labels_left others) }
@@ -90,7 +91,8 @@ fn order_of_as_many(labels: LabelIter<'_>, mut others: LabelIter<'_>) -> Orderin
     order
 }
 
-/// Compares the octets of the names without pointers, ASCII letters lowercased (RFC 4034 sections 6.2 and 6.3).
+/// Compares the uncompressed octets of the names, with ASCII letters lowercased (RFC 4034 sections
+/// 6.2 and 6.3).
 #[tactic(auto, using(crate::proofs::Orders::row_steps))]
 pub fn order_composed(name: &ParsedName<'_>, other: &ParsedName<'_>) -> Ordering
     ensures { result ≡ composed_order (labels name.now) (labels other.now) }
@@ -111,7 +113,7 @@ pub fn order_composed(name: &ParsedName<'_>, other: &ParsedName<'_>) -> Ordering
     }
 }
 
-/// Feeds a hasher the octets of the name without pointers, ASCII letters lowercased, at once.
+/// Feeds a hasher the uncompressed octets of the name, with ASCII letters lowercased, in one write.
 pub(crate) fn hash_name<H: Hasher>(name: &ParsedName<'_>, state: &mut H)
     ensures { state.new ≡ fold H.write state.old (name_hash_input (labels name.now)) }
 {
@@ -153,7 +155,7 @@ impl PartialOrd for ParsedName<'_> {
     }
 }
 
-/// By the labels from the root leftwards, the case of ASCII letters ignored (RFC 4034 section 6.1).
+/// Compares the labels from the root leftwards, ignoring ASCII case (RFC 4034 section 6.1).
 impl Ord for ParsedName<'_> {
     ghost use Rattle.std.proofs.Common.{refl};
     ghost use Rattle.std.specs.Cmp.{on_total};

@@ -1,4 +1,4 @@
-//! Names of a message, written out without pointers.
+//! Conversion of names in a message into uncompressed names.
 ghost use Rattle.std.specs.Prelude.{◌≡◌, ◌+◌, ◌≤◌, ◌++◌, length, ⊤};
 ghost use Rattle.arrayvec.specs.ArrayVec.{array_vec_len};
 ghost use Rattle.dns_octets.specs.Converts.{Converts};
@@ -13,23 +13,26 @@ use arrayvec::ArrayVec;
 use dns_octets::AppendError;
 use std::alloc::Global;
 
-/// A conversion of what may have pointers into what has none.
+/// A conversion of a value that may contain compressed names into one that contains none.
 pub trait FlattenInto<Target>: Sized {
-    /// That a target holds what the source holds.
+    /// What it means that the target holds the source's value.
     ghost keeps: { Self → Target → Type 0 };
 
-    /// That what the source holds does not fit.
+    /// Whether the source's value exceeds the target's capacity.
     ghost too_long: { Self → Type 0 };
 
-    /// Whether a conversion takes memory.
+    /// Whether a conversion allocates.
     ghost takes_memory: { Type 0 };
 
-    /// Converts the source. It is `ShortBuf` where that does not fit, and `OutOfMemory` only where memory is taken, from `alloc`.
+    /// Converts the source.
+    ///
+    /// Errors: `ShortBuf` if the value exceeds the target's capacity; `OutOfMemory` if an
+    /// allocation from `alloc` fails.
     fn try_flatten_into(self, alloc: Global) -> Result<Target, AppendError>
         ensures { Converts result (keeps self) (too_long self) takes_memory };
 }
 
-/// Appends a label behind its length octet.
+/// Appends a label with its length octet.
 pub(crate) fn append_label(target: &mut ArrayVec<u8, 255>, label: Label<'_>)
     requires { array_vec_len target.old + length (framed (label_octets label)) ≤ 255 }
     ensures { target.new.items ≡ target.old.items ++ framed (label_octets label.entry) }
@@ -39,7 +42,7 @@ pub(crate) fn append_label(target: &mut ArrayVec<u8, 255>, label: Label<'_>)
 }
 
 impl ParsedName<'_> {
-    /// The octets of the name without pointers, 255 at most (RFC 1035, section 3.1).
+    /// Returns the uncompressed octets of the name, at most 255 (RFC 1035 section 3.1).
     pub fn uncompressed(self) -> ArrayVec<u8, 255>
         ensures { result.items ≡ uncompressed (labels self.entry) }
     {
@@ -50,7 +53,7 @@ impl ParsedName<'_> {
         octets
     }
 
-    /// The same octets with ASCII letters lowercased (RFC 4034 section 6.2).
+    /// Returns the uncompressed octets with ASCII letters lowercased (RFC 4034 section 6.2).
     pub fn lowercased(self) -> ArrayVec<u8, 255>
         ensures { result.items ≡ uncompressed (lowered (labels self.entry)) }
     {

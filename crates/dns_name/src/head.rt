@@ -2,28 +2,28 @@ ghost use Rattle.std.specs.Prelude.{◌≡◌, ℕ, ◌+◌, ◌<◌, ◌≤◌,
 
 use dns_octets::{FormError, ParseError};
 
-/// The most octets that the labels of a name take: 255 less the root's zero octet.
+/// The maximum size of a name's labels in octets: 255 less the root's zero octet.
 pub(crate) const MAX_SIZE: usize = 254;
 
-/// What begins at a place in a name (RFC 1035 section 4.1.4).
+/// What begins at an offset in a name (RFC 1035 section 4.1.4).
 #[derive(Clone, Copy, Debug, PartialEq, Eq)]
 pub enum Head {
-    /// A zero octet: the root label, the last.
+    /// A zero octet: the root label, which ends the name.
     Root,
-    /// A label of so many octets behind its length octet, from 1 to 63.
+    /// A length octet of 1 to 63, followed by that many octets of a label.
     Label(u8),
-    /// A pointer to a place, which counts octets from the start of the message.
+    /// A pointer to an offset from the start of the message.
     Pointer(u16),
 }
 
-/// Labels that stand in a row, by what is behind them.
+/// Consecutive labels and what ends them.
 #[derive(Clone, Copy)]
 pub(crate) struct LabelRow {
-    /// Where the root or a pointer begins behind the labels.
+    /// The offset after the labels, where the root label or a pointer begins.
     pub(crate) end: usize,
-    /// How many labels they are.
+    /// The number of labels.
     pub(crate) count: usize,
-    /// Where the pointer leads, or `None` for the root.
+    /// The offset that the pointer leads to, or `None` for the root label.
     pub(crate) target: Option<u16>,
 }
 
@@ -31,7 +31,7 @@ impl Head {
     ghost use Rattle.dns_name.specs.Names.{head_at, Reads, BeginsOrFails};
     ghost use Rattle.dns_name.specs.NearNames.{IsInReach, PassesLabelsOrFails};
 
-    /// What begins at the place.
+    /// Returns what begins at offset `place`.
     #[tactic(auto, unfolding(crate::specs::Names::head_at))]
     pub(crate) fn at(octets: &[u8], place: usize) -> Result<Head, ParseError>
         ensures head { Reads result (head_at octets.now place) }
@@ -50,8 +50,8 @@ impl Head {
         }
     }
 
-    /// The octet at a place where the root, a label or a pointer is known to begin: the length of the label,
-    /// 0 of the root.
+    /// Returns the octet at offset `place`, where a root label, a label or a pointer is known to
+    /// begin. It is the length of a label, and 0 for the root label.
     #[inline(always)]
     #[tactic(auto, unfolding(crate::specs::Names::head_at))]
     pub(crate) fn first(octets: &[u8], place: usize) -> u8
@@ -65,7 +65,8 @@ impl Head {
         octets[place]
     }
 
-    /// Where the pointer leads that is known to begin at a place.
+    /// Returns the offset that the pointer at offset `place` leads to. A pointer is known to be
+    /// there.
     #[inline(always)]
     #[tactic(auto, unfolding(crate::specs::Names::head_at))]
     pub(crate) fn target(octets: &[u8], place: usize) -> usize
@@ -76,7 +77,10 @@ impl Head {
         usize::from(octets[place] - 192) * 256 + usize::from(octets[place + 1])
     }
 
-    /// What begins at the place, behind labels of the size: a label only where the name stays short enough and the label is all there.
+    /// Returns what begins at offset `place` in a name, after labels of `size` octets.
+    ///
+    /// Errors: `Form` if a label would make the name too long, `ShortInput` if it runs past the
+    /// end, else as `at`.
     pub(crate) fn behind(octets: &[u8], place: usize, size: usize) -> Result<Head, ParseError>
         requires { size ≤ MAX_SIZE }
         ensures { BeginsOrFails octets.now place size result }
@@ -94,7 +98,8 @@ impl Head {
         Ok(head)
     }
 
-    /// Passes the labels that stand in a row at a place, behind labels of the size, or answers the leftmost fault.
+    /// Skips the consecutive labels at offset `start` in a name, after labels of `size` octets.
+    /// Returns the leftmost error of the name there if the labels are malformed.
     #[inline(always)]
     pub(crate) fn behind_labels(
         octets: &[u8],

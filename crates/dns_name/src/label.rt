@@ -6,7 +6,7 @@ use std::hash::{Hash, Hasher};
 
 /// One label of a name, without its length octet: 1 to 63 octets, or none for the root label.
 ///
-/// Labels are equal, ordered and hashed with their ASCII letters lowercased (RFC 1035 section 2.3.3).
+/// Equality, order and hash ignore ASCII case (RFC 1035 section 2.3.3).
 #[derive(Clone, Copy, Debug)]
 pub struct Label<'a> {
     octets: &'a [u8],
@@ -26,28 +26,28 @@ impl<'a> Label<'a> {
         Label { octets }
     }
 
-    /// The octets of the label.
+    /// Returns the octets of the label.
     pub fn as_slice(&self) -> &'a [u8]
         ensures { result.now ≡ label_octets self.now }
     {
         self.octets
     }
 
-    /// How many octets the label has, its length octet left out.
+    /// Returns the length of the label in octets, without its length octet.
     pub fn len(&self) -> usize
         ensures { result ≡ length (label_octets self.now) }
     {
         self.octets.len()
     }
 
-    /// Whether this is the root label, which ends a name and has no octets.
+    /// Returns whether this is the root label, which ends a name and has no octets.
     pub fn is_root(&self) -> bool
         ensures { IsTrue result ↔ (label_octets self.now ≡ []) }
     {
         self.octets.is_empty()
     }
 
-    /// Whether the octets are the same, with ASCII letters lowercased.
+    /// Returns whether the octets are the same, ignoring ASCII case.
     pub(crate) fn is_same(&self, other: &Label<'_>) -> bool
         ensures { IsTrue result ↔ (lowered_label (label_octets self.now)
             ≡ lowered_label (label_octets other.now)) }
@@ -55,14 +55,15 @@ impl<'a> Label<'a> {
         self.octets.eq_ignore_ascii_case(other.octets)
     }
 
-    /// Compares the length octets, and then the octets with ASCII letters lowercased.
+    /// Compares the length octets, then the octets with ASCII letters lowercased.
     pub(crate) fn lowercase_composed_cmp(&self, other: &Label<'_>) -> Ordering
         ensures { result ≡ framed_order (label_octets self.now) (label_octets other.now) }
     {
         self.len().cmp(&other.len()).then(self.cmp(other))
     }
 
-    /// The first label of the name at a place, and the place behind it: of the root its own.
+    /// Returns the first label of the name at offset `pos`, and the offset of the remaining labels.
+    /// For the root label this is the offset of its own zero octet.
     pub(crate) fn first_at(octets: &'a [u8], pos: usize) -> (Label<'a>, usize)
         requires { NameAt octets.now pos }
         ensures { (name : Labels) → Stands octets.now pos name

@@ -3,13 +3,13 @@ ghost use Rattle.dns_name.specs.Unique.{LabelsAt, LabelsAt-prop};
 
 use crate::label::Label;
 
-/// The labels of a name from both ends, the root label last.
+/// An iterator over the labels of a name, from both ends. The root label is the last.
 #[derive(Clone, Copy, Debug)]
 pub struct LabelIter<'a> {
     octets: &'a [u8],
-    /// The place of the first label that is left.
+    /// The offset of the first remaining label, or of a pointer to it.
     pos: usize,
-    /// How many octets the labels take that are left, each with its length octet.
+    /// The octets that the remaining labels take, each with its length octet.
     left: usize,
     ghost labels_at: { LabelsAt octets.now pos left } by { LabelsAt-prop octets.now pos left },
 }
@@ -19,7 +19,7 @@ impl<'a> LabelIter<'a> {
     ghost use Rattle.dns_name.specs.ParsedName.{labels_left};
     ghost use Rattle.dns_name.specs.Unique.{NameOfSize};
 
-    /// The labels of the name at the place, which take so many octets.
+    /// Iterates over the labels of the name at offset `pos`, which take `size` octets.
     pub(crate) fn new(octets: &'a [u8], pos: usize, size: usize) -> Self
         requires { NameOfSize octets.now pos size }
         ensures { (name : Labels) → Stands octets.now pos name → labels_left result

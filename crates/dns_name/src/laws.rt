@@ -1,9 +1,11 @@
-//! Theorems on names in octets and as texts. The functions do nothing: each contract is a theorem over all octets and places, or all texts.
+//! Theorems on names in octets and as texts. The functions do nothing: each contract is a theorem
+//! over all octets and offsets, or over all texts.
 ghost use Rattle.dns_name.specs.Laws.{NameOrFault, NameOrFaultNotBoth, OneName, OneFault, StandingNames, EndOrSkipFault, EndOrSkipFaultNotBoth, OneEnd, StandingNamesEnd, SkipFaultsAreFaults, SkippingEndsAlike, SkippingFailsAlike};
 ghost use Rattle.dns_name.specs.Laws.{NameOrderIsTotal, ComposedOrderIsTotal, NameOrderAgrees, ComposedOrderAgrees, EqualNamesHashAlike};
 ghost use Rattle.dns_name.specs.NameTexts.{OneTextFault, OneTextName, PrintedNamesSpell, TextNameOrFault, TextNameOrFaultNotBoth};
 
-/// At each place exactly one name stands or exactly one fault is met, never both.
+/// At each offset either exactly one name is encoded, or reading meets exactly one fault, never
+/// both.
 pub fn one_name_or_fault()
     ensures some { NameOrFault }
     ensures not_both { NameOrFaultNotBoth }
@@ -11,19 +13,21 @@ pub fn one_name_or_fault()
     ensures one_fault { OneFault }
 {}
 
-/// What stands at a place is a name: labels of 1 to 63 octets, at most 255 in all.
+/// What is encoded at an offset is a name: labels of 1 to 63 octets, at most 255 octets in all.
 pub fn standing_names()
     ensures { StandingNames }
 {}
 
-/// At each place the walked extent has exactly one end or there is a skip fault, never both.
+/// At each offset either the encoding of a name has exactly one end, or skipping meets exactly one
+/// fault, never both.
 pub fn one_end_or_fault()
     ensures some { EndOrSkipFault }
     ensures not_both { EndOrSkipFaultNotBoth }
     ensures one_end { OneEnd }
 {}
 
-/// Where a name parses, skipping ends at the same place. Where skipping fails, parsing fails with the same fault.
+/// If a name parses, skipping it ends at the same offset. If skipping fails, parsing fails with the
+/// same fault.
 pub fn skipping_agrees()
     ensures names_end { StandingNamesEnd }
     ensures faults { SkipFaultsAreFaults }
@@ -31,7 +35,8 @@ pub fn skipping_agrees()
     ensures fails_alike { SkippingFailsAlike }
 {}
 
-/// Both orders of names are total and agree with equality up to ASCII case, and equal names hash alike.
+/// Both orders of names are total and agree with equality ignoring ASCII case. Equal names hash
+/// alike.
 pub fn name_orders()
     ensures name_order { NameOrderIsTotal }
     ensures composed_order { ComposedOrderIsTotal }
@@ -40,7 +45,8 @@ pub fn name_orders()
     ensures hash { EqualNamesHashAlike }
 {}
 
-/// A text spells one name or has one leftmost fault, never both. The text that a name of octets is printed as spells it, but for the root.
+/// A text represents one name or has one leftmost fault, never both. A printed name, except the
+/// root, represents that name.
 pub fn names_as_texts()
     ensures some { TextNameOrFault }
     ensures not_both { TextNameOrFaultNotBoth }

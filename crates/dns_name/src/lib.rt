@@ -1,7 +1,8 @@
-//! Names in DNS messages: the parser, labels, names in octets and as texts, and how they compare.
+//! Names in DNS messages: the parser, labels, names in octets and as texts, and their comparisons.
 //!
-//! It promises that a name is read exactly where one stands (RFC 1035 section 4.1.4), that the leftmost fault is answered
-//! elsewhere, and that a text is read as the name that it spells.
+//! `ParsedName::parse` succeeds exactly where a name is encoded, and yields that name (RFC 1035
+//! section 4.1.4). Elsewhere it returns the leftmost error. Reading a text yields the name that the
+//! text represents (RFC 1035 section 5.1).
 #![tactic(auto)]
 
 pub mod compare;

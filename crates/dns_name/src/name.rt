@@ -11,7 +11,7 @@ use std::alloc::AllocError;
 use std::cmp::Ordering;
 use std::hash::{Hash, Hasher};
 
-/// One name without pointers, in octets of its own (RFC 1035 section 3.1).
+/// One uncompressed name, generic over the type that stores its octets (RFC 1035 section 3.1).
 #[derive(Debug, Drop)]
 pub struct Name<Octs: Octets> {
     octets: Octs,
@@ -21,7 +21,7 @@ pub struct Name<Octs: Octets> {
 impl Name<&'static [u8]> {
     ghost use Rattle.dns_name.specs.NameReading.{name_labels};
 
-    /// The root.
+    /// Returns the root name.
     pub fn root_slice() -> Self
         ensures { name_labels result ≡ [] }
     {
@@ -34,9 +34,10 @@ impl<Octs: Octets> Name<Octs> {
     ghost use Rattle.dns_name.specs.NameReading.{name_labels};
     ghost use Rattle.dns_name.specs.Uncompressed.{IsUncompressed, NotUncompressed};
 
-    /// The name that all of the octets spell.
+    /// Returns the uncompressed name that `octets` are, from the first octet to the last.
     ///
-    /// A pointer, octets that are left over and a name of more than 255 octets are `Form`, missing octets `ShortInput`.
+    /// Errors: `ShortInput` if octets are missing. `Form` if there is a malformed label, a pointer,
+    /// a name of more than 255 octets, or an octet after the root label.
     pub fn from_octets(octets: Octs) -> Result<Self, ParseError>
         ensures name { IfOk result (λ name. uncompressed (name_labels name) ≡ Octs.octets octets) }
         ensures accepts { IsUncompressed (Octs.octets octets) → IsOk result }
@@ -46,7 +47,7 @@ impl<Octs: Octets> Name<Octs> {
         Ok(Name::of_whole(octets))
     }
 
-    /// The name that all of the octets are known to spell.
+    /// Returns the name that `octets` are already known to be.
     pub(crate) fn of_whole(octets: Octs) -> Self
         requires { WholeName (Octs.octets octets) }
         ensures { uncompressed (name_labels result) ≡ Octs.octets octets }
@@ -54,7 +55,7 @@ impl<Octs: Octets> Name<Octs> {
         Name { octets }
     }
 
-    /// The octets of the name.
+    /// Returns the octets of the name.
     pub fn as_slice(&self) -> &[u8]
         ensures { result.now ≡ uncompressed (name_labels self.now) }
     {
@@ -65,7 +66,7 @@ impl<Octs: Octets> Name<Octs> {
 ghost use Rattle.dns_name.specs.Names.{fault_of};
 ghost use Rattle.dns_name.specs.Uncompressed.{IsUncompressed, NotUncompressed};
 
-/// Whether the octets are one name without pointers.
+/// Checks that the octets are exactly one uncompressed name.
 fn check(octets: &[u8]) -> Result<(), ParseError>
     ensures name { OnOk result (WholeName octets.now) }
     ensures accepts { IsUncompressed octets.now → IsOk result }
@@ -99,7 +100,7 @@ impl<Octs: Octets> ToName for Name<Octs> {
         ParsedName::of_whole(self.octets.octets())
     }
 
-    /// All octets of the name: they have no pointer.
+    /// Returns all octets of the name, which has no pointers.
     fn as_flat_slice(&self) -> Option<&[u8]>
         ensures lent { IsSome result }
         ensures octets { IfSome result (λ octets.
@@ -109,7 +110,7 @@ impl<Octs: Octets> ToName for Name<Octs> {
     }
 }
 
-/// A clone of the holder. One that doesn't hold the same octets is answered by `AllocError`.
+/// Clones the octets. Returns `AllocError` too if the clone doesn't hold the same octets.
 impl<Octs: Octets + Clone> Clone for Name<Octs> {
     ghost use Rattle.std.specs.Prelude.{◌≡◌};
     ghost use Rattle.dns_octets.specs.Octets.{ClonesSurely};
@@ -169,7 +170,7 @@ impl<Octs: Octets> PartialOrd for Name<Octs> {
     }
 }
 
-/// By the labels from the root leftwards, the case of ASCII letters ignored (RFC 4034 section 6.1).
+/// Compares the labels from the root leftwards, ignoring ASCII case (RFC 4034 section 6.1).
 impl<Octs: Octets> Ord for Name<Octs> {
     ghost use Rattle.std.proofs.Common.{refl};
     ghost use Rattle.std.specs.Cmp.{on_total};

@@ -1,15 +1,16 @@
 use thiserror::Error;
 
-/// What is wrong with a text that is to spell a name.
+/// Why a text isn't a name in presentation format (RFC 1035 section 5.1).
 #[derive(Clone, Copy, Debug, PartialEq, Eq, Error)]
 pub enum PresentationError {
     /// A label has no octets, or the text is empty.
     #[error("empty label")]
     EmptyLabel,
-    /// A character may not stand in a name.
+    /// An unescaped character isn't a graphic ASCII character.
     #[error("illegal symbol")]
     BadSymbol,
-    /// A backslash stands before neither three digits up to 255 nor another graphic ASCII character than a digit.
+    /// A backslash is followed neither by three digits up to 255 nor by a graphic ASCII character
+    /// other than a digit.
     #[error("illegal escape")]
     BadEscape,
     /// A label has more than 63 octets.
@@ -23,13 +24,13 @@ pub enum PresentationError {
 /// Why a name can't be read from a text.
 #[derive(Clone, Copy, Debug, PartialEq, Eq, Error)]
 pub enum FromStrError {
-    /// The text doesn't spell a name.
+    /// The text doesn't represent a name.
     #[error("{0}")]
     Presentation(PresentationError),
-    /// The name passes the room that there is.
+    /// The name exceeds the capacity of its buffer.
     #[error("buffer size exceeded")]
     ShortBuf,
-    /// There is no memory for the name.
+    /// An allocation for the name failed.
     #[error("out of memory")]
     OutOfMemory,
 }

@@ -1,4 +1,4 @@
-//! Conversions of names between holders of octets.
+//! Conversions of names between types of octets.
 ghost use Rattle.std.specs.Prelude.{◌≡◌, ◌<◌, length, ⊤};
 ghost use Rattle.dns_octets.specs.Converts.{Converts};
 ghost use Rattle.dns_name.specs.NameReading.{name_labels};

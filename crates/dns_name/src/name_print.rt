@@ -1,4 +1,4 @@
-//! Names printed, in a profile of the master file format (RFC 1035 section 5.1).
+//! Printing of names in presentation format (RFC 1035 section 5.1).
 ghost use Rattle.std.specs.Prelude.{◌≡◌, Some, ℕ};
 ghost use Rattle.std.specs.Fmt.{WritesOnOk};
 ghost use Rattle.dns_name.specs.ParsedName.{label_octets, labels};
@@ -22,7 +22,6 @@ fn write_decimal<W: fmt::Write>(f: &mut fmt::Formatter<W>, octet: u8) -> fmt::Re
     f.write_char(char::from(b'0' + octet % 10))
 }
 
-/// Prints one octet of a label.
 fn write_octet<W: fmt::Write>(f: &mut fmt::Formatter<W>, octet: u8) -> fmt::Result
     ensures { WritesOnOk W.write_str_gives f.old result (octet_text octet) f.new }
 {
@@ -36,7 +35,6 @@ fn write_octet<W: fmt::Write>(f: &mut fmt::Formatter<W>, octet: u8) -> fmt::Resu
     }
 }
 
-/// Prints a label.
 fn write_label<W: fmt::Write>(f: &mut fmt::Formatter<W>, label: Label<'_>) -> fmt::Result
     ensures { WritesOnOk W.write_str_gives f.old result (label_text (label_octets label.entry))
         f.new }
@@ -47,7 +45,7 @@ fn write_label<W: fmt::Write>(f: &mut fmt::Formatter<W>, label: Label<'_>) -> fm
     Ok(())
 }
 
-/// Prints the labels with single dots between them, and nothing for the root label.
+/// Prints the labels separated by dots, and nothing for the root label.
 fn write_labels<W: fmt::Write>(f: &mut fmt::Formatter<W>, name: &ParsedName<'_>) -> fmt::Result
     ensures { WritesOnOk W.write_str_gives f.old result (name_text (labels name.now)) f.new }
 {
@@ -62,10 +60,10 @@ fn write_labels<W: fmt::Write>(f: &mut fmt::Formatter<W>, name: &ParsedName<'_>)
     Ok(())
 }
 
-/// The labels with single dots between them, without a final dot; the root is the empty text.
+/// Prints the labels separated by dots, without a final dot. The root is the empty text.
 ///
-/// A dot and a backslash have a backslash before them. An octet that isn't a graphic ASCII character is a backslash and
-/// three decimal digits.
+/// A backslash precedes a dot or a backslash within a label. An octet that isn't a graphic ASCII
+/// character is printed as a backslash and three decimal digits.
 impl<Octs: Octets> fmt::Display for Name<Octs> {
     ghost output = { λ name. Some (name_text (name_labels name)) };
 
@@ -74,7 +72,7 @@ impl<Octs: Octets> fmt::Display for Name<Octs> {
     }
 }
 
-/// The same text as that of a name without pointers.
+/// Prints the same text as for an uncompressed name.
 impl fmt::Display for ParsedName<'_> {
     ghost output = { λ name. Some (name_text (labels name)) };
 

@@ -1,4 +1,4 @@
-//! Names read from texts, in a profile of the master file format (RFC 1035 section 5.1).
+//! Reading of names in presentation format (RFC 1035 section 5.1).
 ghost use Rattle.std.specs.Prelude.{◌≡◌, ◌≤◌, ◌<◌, ◌≢◌, ◌+◌, ◌∷◌, ℕ, IsTrue, MatchResult, length};
 ghost use Rattle.dns_name.specs.NameTexts.{backslash, dot, is_digit, NameTextFault, NameTextFaulty, SpellsLabels, SpellsName};
 ghost use Rattle.dns_name.specs.Names.{max_size};
@@ -13,13 +13,14 @@ use dns_octets::OctetsFrom;
 use std::alloc::Global;
 use std::str::FromStr;
 
-/// The most octets that a label has.
+/// The maximum length of a label in octets.
 const MAX_LABEL: usize = 63;
 
-/// The most octets that the labels of a name take, each with its length octet: 255 less the root's zero octet.
+/// The maximum size of a name's labels in octets, each with its length octet: 255 less the root's
+/// zero octet.
 const MAX_SIZE: usize = 254;
 
-/// Reads the octet that a backslash and three digits spell, behind the first digit.
+/// Reads an escape of three digits, after the backslash and its first digit `hundreds`.
 fn read_decimal(hundreds: u8, text: &[u8]) -> Result<(u8, &[u8]), PresentationError>
     requires { IsTrue (is_digit hundreds) }
     ensures { ReadsOctet (backslash ∷ hundreds ∷ text.now) result }
@@ -39,7 +40,7 @@ fn read_decimal(hundreds: u8, text: &[u8]) -> Result<(u8, &[u8]), PresentationEr
     Ok((value as u8, rest))
 }
 
-/// Reads the octet that a backslash begins, behind the backslash.
+/// Reads an escape, after its backslash.
 fn read_escaped(text: &[u8]) -> Result<(u8, &[u8]), PresentationError>
     ensures { ReadsOctet (backslash ∷ text.now) result }
 {
@@ -55,7 +56,7 @@ fn read_escaped(text: &[u8]) -> Result<(u8, &[u8]), PresentationError>
     Ok((*first, rest))
 }
 
-/// Reads the octet that a character begins which isn't a dot.
+/// Reads the octet of a label that begins with the character `first`, which isn't a dot.
 fn read_octet(first: u8, text: &[u8]) -> Result<(u8, &[u8]), PresentationError>
     requires { first ≢ dot }
     ensures { ReadsOctet (first ∷ text.now) result }
@@ -69,7 +70,8 @@ fn read_octet(first: u8, text: &[u8]) -> Result<(u8, &[u8]), PresentationError>
     Ok((first, text))
 }
 
-/// Reads the next octet of a label, `None` at its end, behind so many octets of it and labels of the size.
+/// Reads the next octet of a label, after `len` octets of this label and labels of `size` octets
+/// before it. Returns `None` at the end of the label.
 fn next_octet(
     text: &[u8],
     len: usize,
@@ -99,7 +101,7 @@ fn next_octet(
     Ok(Some((octet, rest)))
 }
 
-/// Reads a label, behind labels of the size, and answers the text behind it too.
+/// Reads a label, after labels of `size` octets. Returns the text after it too.
 fn read_label(text: &[u8], size: usize) -> Result<(ArrayVec<u8, 63>, &[u8]), PresentationError>
     requires some { 0 < length text.now }
     requires room { size ≤ max_size }
@@ -115,7 +117,7 @@ fn read_label(text: &[u8], size: usize) -> Result<(ArrayVec<u8, 63>, &[u8]), Pre
     Ok((label, left))
 }
 
-/// Reads labels with dots between them, into the octets of the name.
+/// Reads labels separated by dots, and returns the octets of the name.
 fn read_labels(text: &[u8]) -> Result<ArrayVec<u8, 255>, PresentationError>
     requires { 0 < length text.now }
     ensures { MatchResult result (λ octets. AreOctets (SpellsLabels text.now) octets.items)
@@ -135,7 +137,7 @@ fn read_labels(text: &[u8]) -> Result<ArrayVec<u8, 255>, PresentationError>
     Ok(octets)
 }
 
-/// Reads the octets of the name that the text spells. A dot alone is the root.
+/// Returns the octets of the name that the text represents. A single dot is the root.
 fn read_name(text: &[u8]) -> Result<ArrayVec<u8, 255>, PresentationError>
     ensures { MatchResult result (λ octets. AreOctets (SpellsName text.now) octets.items)
         (NameTextFault text.now) }
@@ -151,10 +153,11 @@ fn read_name(text: &[u8]) -> Result<ArrayVec<u8, 255>, PresentationError>
     read_labels(text)
 }
 
-/// Reads a name: labels with dots between them and perhaps a dot behind the last, or a dot alone for the root.
+/// Reads a name: labels separated by dots, with an optional final dot. A single dot is the root.
 ///
-/// A backslash and three digits up to 255 are one octet, and a backslash and another graphic ASCII character the octet
-/// of that character. What else is wrong is a `Presentation`; the leftmost fault is answered. It takes no memory.
+/// A backslash followed by three digits, up to 255, is one octet. A backslash followed by another
+/// graphic ASCII character is that character. A malformed text is `Presentation` with its leftmost
+/// error. Nothing is allocated.
 impl FromStr for Name<ArrayVec<u8, 255>> {
     type Err = FromStrError;
 
@@ -169,8 +172,10 @@ impl FromStr for Name<ArrayVec<u8, 255>> {
 }
 
 impl Name<Vec<u8>> {
-    /// Reads a name into memory from `alloc`. It is `OutOfMemory` for want of that, where the text spells a name, and
-    /// `Presentation` for each fault of the text.
+    /// Reads a name into a `Vec` allocated from `alloc`.
+    ///
+    /// Errors: `Presentation` if the text is malformed; `OutOfMemory` if it represents a name and
+    /// the allocation fails.
     pub fn vec_from_str(alloc: Global, text: &str) -> Result<Self, FromStrError>
         ensures { ReadsName (SpellsSomeName text.now) text.now result }
     {

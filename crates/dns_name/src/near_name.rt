@@ -1,16 +1,16 @@
 ghost use Rattle.std.specs.Prelude.{ℕ, List, ◌≤◌, ◌<◌, IsTrue, length};
 ghost use Rattle.dns_name.specs.Names.{max_size, pointer_end};
 
-/// Where a name stands that was read before, in the same octets, how many octets its labels take, and how many
-/// they are.
+/// A name read before in the same octets: its offset, the size of its labels, and their number.
 ///
-/// Names of a message often lead to one place: with it they are read by `parse_near` without a walk over the name there.
+/// The names of a message often point to one offset. With the name there cached, `parse_near` reads
+/// them without walking over it again.
 #[derive(Clone, Copy, Debug)]
 pub struct NearName {
     pub(crate) pos: u16,
-    /// 255, which no name has, where none is known.
+    /// The size of the labels in octets; 255 if no name is cached, as no name has that size.
     pub(crate) size: u8,
-    /// How many labels the name has, the root label left out.
+    /// The number of labels, without the root label.
     pub(crate) count: u8,
     ghost reachable: { pos < pointer_end },
 }
@@ -19,10 +19,10 @@ impl NearName {
     ghost use Rattle.dns_name.specs.NearNames.{IsNear, LeadsBackTo};
     ghost use Rattle.dns_name.specs.Unique.{NameOfSizeAndCount};
 
-    /// Pointers lead to places below this one.
+    /// Pointers lead to offsets below this one.
     pub(crate) const POINTER_END: usize = 16_384;
 
-    /// No name: none is known.
+    /// Caches no name.
     pub fn new() -> NearName
         ensures { (b : List ℕ) → IsNear b result }
     {
@@ -33,7 +33,7 @@ impl NearName {
         }
     }
 
-    /// The name of a size and with so many labels that stands at a place.
+    /// Caches the name at offset `pos`, whose `count` labels take `size` octets.
     pub(crate) fn at(octets: &[u8], pos: u16, size: usize, count: usize) -> NearName
         requires stands { NameOfSizeAndCount octets.now pos size count }
         requires short { size ≤ max_size }
@@ -47,7 +47,8 @@ impl NearName {
         }
     }
 
-    /// Whether the name at a place is a pointer back to this one and nothing else. `false` where none is known.
+    /// Returns whether the name at offset `start` is only a pointer back to the cached name.
+    /// Returns `false` if no name is cached.
     #[inline(always)]
     pub(crate) fn is_pointed_to(&self, octets: &[u8], start: usize) -> bool
         requires { start ≤ length octets.now }

@@ -1,4 +1,4 @@
-//! Names that are read behind others of the same octets.
+//! Parsing of names with a cached name of the same octets.
 ghost use Rattle.std.specs.Prelude.{ℕ, List};
 ghost use Rattle.dns_name.specs.Names.{Stands};
 ghost use Rattle.dns_name.specs.NearNames.{IsNear};
@@ -10,10 +10,11 @@ use crate::parsed_name::ParsedName;
 use crate::parser::Parser;
 use dns_octets::ParseError;
 
-/// As [`ParsedName::parse`], but where the first pointer leads to `near`, the octets there aren't read again.
+/// Parses a name as [`ParsedName::parse`] does, without walking over the cached name `near` if the
+/// first pointer leads to it.
 ///
-/// `near` becomes the name where the first pointer leads, if it can be read and was another. What is answered doesn't depend
-/// on `near`, only how soon.
+/// `near` becomes the name that the first pointer leads to, unless it is that name or parsing
+/// fails. The result doesn't depend on `near`.
 #[inline(always)]
 pub fn parse_near<'a>(
     parser: &mut Parser<'a>,
@@ -36,7 +37,8 @@ pub fn parse_near<'a>(
     })
 }
 
-/// A name that stands at a place, for [`parse_near`]. Where no pointer can lead to the place, none is known.
+/// Caches `name` for [`parse_near`], as the name encoded at offset `pos`. Caches none if `pos` is
+/// beyond the range of pointers.
 pub fn near_at(name: &ParsedName<'_>, pos: usize) -> NearName
     ensures { (b : List ℕ) → Stands b pos (labels name.now) → IsNear b result }
 {

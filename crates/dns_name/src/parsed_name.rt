@@ -13,21 +13,21 @@ use dns_octets::{FormError, ParseError};
 pub struct ParsedName<'a> {
     pub(crate) octets: &'a [u8],
     pub(crate) pos: usize,
-    /// How many octets the labels take, each with its length octet.
+    /// The octets that the labels take, each with its length octet, without the root label.
     pub(crate) size: u32,
-    /// How many labels there are, the root label left out.
+    /// The number of labels, without the root label.
     pub(crate) count: u32,
     ghost name_at: { NameOfSizeAndCount octets.now pos size count } by { NameOfSizeAndCount-prop octets.now pos size count },
 }
 
-/// What a walk over a name finds out.
+/// What a walk over a name finds.
 #[derive(Clone, Copy)]
 pub(crate) struct NameExtent {
-    /// Where the octets end that the name takes at its place.
+    /// The offset after the encoding of the name: after its root label or first pointer.
     pub(crate) end: usize,
-    /// How many octets the labels take, each with its length octet.
+    /// The octets that the labels take, each with its length octet, without the root label.
     pub(crate) size: usize,
-    /// How many labels there are, the root label left out.
+    /// The number of labels, without the root label.
     pub(crate) count: usize,
 }
 
@@ -38,11 +38,13 @@ impl<'a> ParsedName<'a> {
     ghost use Rattle.dns_name.specs.ParsedName.{labels, ParsesName, SkipsName, ReadsStanding, IsFlat, labels_left};
     ghost use Rattle.dns_name.specs.Uncompressed.{WholeName};
 
-    /// Reads the name that stands at the parser's place, and moves behind the octets that it takes there.
+    /// Reads the name at the parser's offset and moves past its encoding.
     ///
-    /// The end of the parser is that of the name too, also behind a pointer. A name has at most 255 octets, and a
-    /// pointer leads strictly back. An octet that is missing is `ShortInput`, any other fault `Form`; the leftmost is
-    /// answered.
+    /// A name takes at most 255 octets without pointers, and a pointer leads strictly back. The
+    /// parser's end bounds the name after a pointer too.
+    ///
+    /// Errors: `ShortInput` if an octet is missing, `Form` if the name is malformed; the leftmost
+    /// error is returned.
     #[inline(always)]
     pub fn parse(parser: &mut Parser<'a>) -> Result<ParsedName<'a>, ParseError>
         ensures reads { ParsesName parser.old parser.new result }
@@ -51,7 +53,8 @@ impl<'a> ParsedName<'a> {
         parse_near(parser, &mut NearName::new())
     }
 
-    /// Where the octets of the name at a place end, how many octets its labels take, and how many they are.
+    /// Returns the end of the name at offset `start`, the octets that its labels take, and their
+    /// number. Uses and updates the cached name `near`.
     #[inline(always)]
     pub(crate) fn walk(
         octets: &[u8],
@@ -99,8 +102,8 @@ impl<'a> ParsedName<'a> {
         })
     }
 
-    /// How many octets the labels of the name at a place take, and how many they are. A pointer leads there,
-    /// behind labels that take `before` octets.
+    /// Returns the octets that the labels of the name at offset `start` take, and their number. A
+    /// pointer leads to it, after labels of `before` octets.
     #[inline(always)]
     fn size_at(octets: &[u8], start: u16, before: usize) -> Result<(usize, usize), ParseError>
         requires within { start ≤ length octets.now }
@@ -124,7 +127,9 @@ impl<'a> ParsedName<'a> {
         }
     }
 
-    /// Passes a name without following a pointer. What is missing is `ShortInput`, any other fault `Form`.
+    /// Skips a name without following its pointer.
+    ///
+    /// Errors: `ShortInput` if an octet is missing, `Form` if the name is malformed.
     pub fn skip(parser: &mut Parser<'_>) -> Result<(), ParseError>
         ensures { SkipsName parser.old parser.new result }
     {
@@ -147,7 +152,7 @@ impl<'a> ParsedName<'a> {
         Ok(())
     }
 
-    /// The name that all of the octets spell without pointers.
+    /// Returns the uncompressed name that `octets` are known to be.
     pub(crate) fn of_whole(octets: &'a [u8]) -> ParsedName<'a>
         requires { WholeName octets.now }
         ensures { (name : Labels) → Stands octets.now 0 name → labels result ≡ name }
@@ -160,7 +165,8 @@ impl<'a> ParsedName<'a> {
         }
     }
 
-    /// How many labels the name has that all of the octets spell without pointers, the root label left out.
+    /// Returns the number of labels of the uncompressed name that `octets` are, without the root
+    /// label.
     fn count_whole(octets: &[u8]) -> usize
         requires { WholeName octets.now }
         ensures { (name : Labels) → Stands octets.now 0 name → result ≡ length name }
@@ -177,21 +183,21 @@ impl<'a> ParsedName<'a> {
         }
     }
 
-    /// The labels from both ends, the root label last.
+    /// Iterates over the labels from both ends. The root label is the last.
     pub fn iter_labels(&self) -> LabelIter<'a>
         ensures { labels_left result ≡ with_root (labels self.now) }
     {
         LabelIter::new(self.octets, self.pos, self.size as usize)
     }
 
-    /// Whether this is the root, the name without labels but the root label.
+    /// Returns whether this is the root name, which has only the root label.
     pub fn is_root(&self) -> bool
         ensures { IsTrue result ↔ (labels self.now ≡ []) }
     {
         self.size == 0
     }
 
-    /// The octets of the name, if it has no pointer in it.
+    /// Returns the octets of the name if it has no pointers.
     pub fn as_flat_slice(&self) -> Option<&'a [u8]>
         ensures flat { IsSome result ↔ IsFlat self.now }
         ensures octets { IfSome result (λ octets. octets.now ≡ uncompressed (labels self.now)) }
@@ -209,14 +215,14 @@ impl<'a> ParsedName<'a> {
         }
     }
 
-    /// How many octets the name takes without pointers, the root's zero octet among them: 1 to 255.
+    /// Returns the length of the uncompressed name in octets, with the root's zero octet: 1 to 255.
     pub fn compose_len(&self) -> usize
         ensures { result ≡ length (uncompressed (labels self.now)) }
     {
         self.size as usize + 1
     }
 
-    /// How many labels the name has, the root label among them: 1 to 128.
+    /// Returns the number of labels, with the root label: 1 to 128.
     pub fn label_count(&self) -> usize
         ensures { result ≡ length (with_root (labels self.now)) }
     {

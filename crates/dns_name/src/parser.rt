@@ -3,9 +3,10 @@ ghost use Rattle.std.specs.Int.{w16, w32};
 
 use dns_octets::ParseError;
 
-/// A place in an input, from which values are read, and an end that reading doesn't pass.
+/// An offset in an input, where values are read, and an end that reading can't pass.
 ///
-/// Places count octets from the start of the input. A call that errs leaves the parser where it was.
+/// Offsets count octets from the start of the input. A call that returns an error leaves the parser
+/// unchanged.
 #[derive(Clone, Copy, Debug)]
 pub struct Parser<'a> {
     pub(crate) octets: &'a [u8],
@@ -18,7 +19,7 @@ pub struct Parser<'a> {
 impl<'a> Parser<'a> {
     ghost use Rattle.dns_name.specs.Parsers.{input, seen, place, number_at, MovesTo, Takes, Peeks};
 
-    /// A parser at place 0 of the octets, with their end as its own.
+    /// Creates a parser at offset 0 that ends at the end of `octets`.
     pub fn new(octets: &'a [u8]) -> Self
         ensures input { input result ≡ octets.now }
         ensures seen { seen result ≡ octets.now }
@@ -31,28 +32,28 @@ impl<'a> Parser<'a> {
         }
     }
 
-    /// The place in the input.
+    /// Returns the offset in the input.
     pub fn pos(&self) -> usize
         ensures { result ≡ place self.now }
     {
         self.pos
     }
 
-    /// How many octets are left up to the end.
+    /// Returns the number of octets left before the end.
     pub fn remaining(&self) -> usize
         ensures { place self.now + result ≡ length (seen self.now) }
     {
         self.end - self.pos
     }
 
-    /// The whole input, also what lies behind the end.
+    /// Returns the whole input, past the parser's end too.
     pub fn as_slice(&self) -> &'a [u8]
         ensures { result.now ≡ input self.now }
     {
         self.octets
     }
 
-    /// Passes `n` octets. Where they aren't there it is `ShortInput`.
+    /// Skips `n` octets. Returns `ShortInput` if fewer are left.
     pub fn advance(&mut self, n: usize) -> Result<(), ParseError>
         ensures { Takes self.old self.new n result (λ _. ⊤) }
     {
@@ -63,7 +64,7 @@ impl<'a> Parser<'a> {
         Ok(())
     }
 
-    /// Goes to a place, at most the end. A place past it is `ShortInput`.
+    /// Moves to offset `pos`. Returns `ShortInput` if it is past the end.
     pub fn seek(&mut self, pos: usize) -> Result<(), ParseError>
         ensures ok { OnOk result ((pos ≤ length (seen self.old)) × MovesTo self.old self.new pos) }
         ensures err { IfErr result (λ e. (length (seen self.old) < pos)
@@ -76,7 +77,7 @@ impl<'a> Parser<'a> {
         Ok(())
     }
 
-    /// The next `n` octets; the parser stays. Where they aren't there it is `ShortInput`.
+    /// Returns the next `n` octets without moving. Returns `ShortInput` if fewer are left.
     pub fn peek(&self, n: usize) -> Result<&'a [u8], ParseError>
         ensures { Peeks self.now n result (λ octets. octets.now
             ≡ slice_range (seen self.now) (place self.now) (place self.now + n)) }
@@ -87,7 +88,7 @@ impl<'a> Parser<'a> {
         Ok(&self.seen()[self.pos..self.pos + n])
     }
 
-    /// Reads a number of two octets, the higher one first, and passes it.
+    /// Reads a big-endian number of two octets. Returns `ShortInput` if fewer are left.
     pub fn parse_u16_be(&mut self) -> Result<u16, ParseError>
         ensures { Takes self.old self.new 2 result
             (λ value. value ≡ number_at w16 (seen self.old) (place self.old)) }
@@ -98,7 +99,7 @@ impl<'a> Parser<'a> {
         Ok(value)
     }
 
-    /// Reads a number of four octets, the highest one first, and passes it.
+    /// Reads a big-endian number of four octets. Returns `ShortInput` if fewer are left.
     pub fn parse_u32_be(&mut self) -> Result<u32, ParseError>
         ensures { Takes self.old self.new 4 result
             (λ value. value ≡ number_at w32 (seen self.old) (place self.old)) }
@@ -109,9 +110,11 @@ impl<'a> Parser<'a> {
         Ok(value)
     }
 
-    /// A parser from here over the same input, which ends `n` octets further on. This parser passes them.
+    /// Returns a parser at this offset that ends `n` octets later, and skips these octets. Returns
+    /// `ShortInput` if fewer are left.
     ///
-    /// The inner parser sees all octets before its end, so pointers in it reach what stands before it.
+    /// The inner parser sees all octets before its end, so pointers can lead to octets before its
+    /// start.
     pub fn parse_parser(&mut self, n: usize) -> Result<Parser<'a>, ParseError>
         ensures { Takes self.old self.new n result
             (λ inner. (input inner ≡ input self.old)
@@ -124,7 +127,7 @@ impl<'a> Parser<'a> {
         Ok(inner)
     }
 
-    /// The octets up to the end.
+    /// Returns the octets before the end.
     pub(crate) fn seen(&self) -> &'a [u8]
         ensures { result.now ≡ seen self.now }
     {

@@ -1,6 +1,6 @@
 use crate::parsed_name::ParsedName;
 
-/// What stands for a name.
+/// A value that represents a name.
 pub trait ToName {
     ghost use Rattle.std.specs.Prelude.{◌≡◌, IfSome};
     ghost use Rattle.dns_name.specs.Names.{Labels, IsName, uncompressed};
@@ -9,20 +9,20 @@ pub trait ToName {
     /// The labels of the name.
     ghost name: { Self → Labels };
 
-    /// The name as one in an input, which borrows this one.
+    /// Returns the name as a [`ParsedName`] that borrows from this value.
     fn as_parsed(&self) -> ParsedName<'_>
         ensures labels { labels result ≡ name self.now };
 
-    /// The octets of the name, where they are known to stand without pointers.
+    /// Returns the uncompressed octets of the name if they are available as one slice.
     ///
-    /// `None` says nothing of the name. A caller then writes the octets out itself; what is lent saves it that.
+    /// `None` says nothing about the name. The caller then assembles the octets itself.
     fn as_flat_slice(&self) -> Option<&[u8]>
         ensures { IfSome result (λ octets. octets.now ≡ uncompressed (name self.now)) }
     {
         self.as_parsed().as_flat_slice()
     }
 
-    /// The labels of each value are those of a name: 1 to 63 octets each, 255 octets in all.
+    /// Each value represents a name: labels of 1 to 63 octets, 255 octets in all.
     ghost is_name: { (n : Self) → IsName (name n) };
 }
 
