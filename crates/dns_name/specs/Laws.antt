@@ -1,4 +1,4 @@
--- What holds of all octets and places, and of all names.
+-- Theorems over all octets and offsets, and over all names.
 use Rattle.std.specs.Prelude.{◌≡◌, ◌↔◌, ℕ, ◌⊎◌, List, Result, Ok, Err, IsOk, IsErrAnd}
 use Rattle.std.specs.Cmp.{IsTotalOrder}
 use Rattle.std.specs.declared.cmp.Ordering.TheVariants.{Equal}
@@ -10,72 +10,72 @@ use Rattle.dns_octets.specs.declared.error.ParseError.{ParseError}
 use Rattle.dns_name.specs.declared.parser.Parser.{Parser}
 use Rattle.dns_name.specs.declared.parsed_name.ParsedName.{ParsedName}
 
--- a name stands at each place, or a fault is met there
+-- At each offset a name is encoded, or reading meets a fault.
 abbrev pub NameOrFault : Type 0
 NameOrFault = (b : List ℕ) (p : ℕ) → ((name : Labels) × Stands b p name) ⊎ ((f : Fault) × FaultAt b p f)
 
--- never both
+-- Never both.
 abbrev pub NameOrFaultNotBoth : Type 0
 NameOrFaultNotBoth = (b : List ℕ) (p : ℕ) (name : Labels) (f : Fault) → Stands b p name → FaultAt b p f → ⊥
 
--- one name at most
+-- At most one name is encoded at an offset.
 abbrev pub OneName : Type 0
 OneName = (b : List ℕ) (p : ℕ) (m n : Labels) → Stands b p m → Stands b p n → m ≡ n
 
--- one fault at most
+-- Reading meets at most one fault at an offset.
 abbrev pub OneFault : Type 0
 OneFault = (b : List ℕ) (p : ℕ) (f g : Fault) → FaultAt b p f → FaultAt b p g → f ≡ g
 
--- what stands is a name: labels of 1 to 63 octets that take at most 254
+-- What is encoded is a name: labels of 1 to 63 octets that take at most 254 octets, each with its length octet.
 abbrev pub StandingNames : Type 0
 StandingNames = (b : List ℕ) (p : ℕ) (name : Labels) → Stands b p name → IsName name
 
--- the walked extent at each place has an end, or a skip fault is met there
+-- At each offset the encoding of a name has an end, or skipping meets a fault.
 abbrev pub EndOrSkipFault : Type 0
 EndOrSkipFault = (b : List ℕ) (p : ℕ) → ((q : ℕ) × Walked b p q) ⊎ ((f : Fault) × SkipFaultAt b p f)
 
--- never both
+-- Never both.
 abbrev pub EndOrSkipFaultNotBoth : Type 0
 EndOrSkipFaultNotBoth = (b : List ℕ) (p q : ℕ) (f : Fault) → Walked b p q → SkipFaultAt b p f → ⊥
 
--- one end at most
+-- The encoding at an offset has at most one end.
 abbrev pub OneEnd : Type 0
 OneEnd = (b : List ℕ) (p q r : ℕ) → Walked b p q → Walked b p r → q ≡ r
 
--- where a name stands, its walked extent has an end
+-- The encoding of a name has an end.
 abbrev pub StandingNamesEnd : Type 0
 StandingNamesEnd = (b : List ℕ) (p : ℕ) (name : Labels) → Stands b p name → (q : ℕ) × Walked b p q
 
--- where skipping meets a fault, parsing meets it
+-- A fault that skipping meets is one that reading meets.
 abbrev pub SkipFaultsAreFaults : Type 0
 SkipFaultsAreFaults = (b : List ℕ) (p : ℕ) (f : Fault) → SkipFaultAt b p f → FaultAt b p f
 
--- where parsing gives a name, skipping ends at the same place
+-- If parsing yields a name, skipping ends at the same offset.
 abbrev pub SkippingEndsAlike : Type 0
 SkippingEndsAlike = (old parsed skipped : Parser) (name : ParsedName) (r : Result Unit ParseError)
     → ParsesName old parsed (Ok name) → SkipsName old skipped r → IsOk r × (place skipped ≡ place parsed)
 
--- where skipping fails, parsing fails with the same fault
+-- If skipping fails, parsing fails with the same fault.
 abbrev pub SkippingFailsAlike : Type 0
 SkippingFailsAlike = (old parsed skipped : Parser) (e : ParseError) (r : Result ParsedName ParseError)
     → SkipsName old skipped (Err e) → ParsesName old parsed r → IsErrAnd r (λ f. fault_of f ≡ fault_of e)
 
--- the order of names from the root is total
+-- The order of names from the root is total.
 abbrev pub NameOrderIsTotal : Type 0
 NameOrderIsTotal = IsTotalOrder name_order
 
--- so is that of their octets without pointers
+-- The order of their uncompressed octets is total.
 abbrev pub ComposedOrderIsTotal : Type 0
 ComposedOrderIsTotal = IsTotalOrder composed_order
 
--- the first tells names apart exactly where they are not equal up to ASCII case
+-- `name_order` is `Equal` exactly for names that are equal ignoring ASCII case.
 abbrev pub NameOrderAgrees : Type 0
 NameOrderAgrees = (m n : Labels) → (name_order m n ≡ Equal) ↔ (lowered m ≡ lowered n)
 
--- so does the second
+-- `composed_order` is `Equal` exactly for names that are equal ignoring ASCII case.
 abbrev pub ComposedOrderAgrees : Type 0
 ComposedOrderAgrees = (m n : Labels) → (composed_order m n ≡ Equal) ↔ (lowered m ≡ lowered n)
 
--- equal names hash alike
+-- Equal names hash alike.
 abbrev pub EqualNamesHashAlike : Type 0
 EqualNamesHashAlike = (m n : Labels) → lowered m ≡ lowered n → name_hash_input m ≡ name_hash_input n

@@ -1,4 +1,4 @@
--- How labels and names compare, and what is hashed of them. The case of ASCII letters plays no part: RFC 1035 section 2.3.3.
+-- How labels and names compare, and what they write into a hasher. ASCII case is ignored: RFC 1035 section 2.3.3.
 use Rattle.std.specs.Prelude.{ℕ, Bool, List, reverse, ◌==◌, ◌≡◌, [], ◌∷◌, ◌++◌, map, IsTrue}
 use Rattle.std.specs.Cmp.Lexicographic.{pointwise, slice_cmp, pointwise_decides, bytes_decides, lists_equiv, lists_total, lists_ties, nat_list_eq_equiv, nat_list_cmp_total, texts_ties}
 use Rattle.std.specs.List.{flat_map}
@@ -12,88 +12,88 @@ use Rattle.std.specs.Cmp.{IsEquivalence, IsPartialOrder, IsTotalOrder, on_equiv,
 use Rattle.dns_name.specs.Names.{Labels, lowered_label, lowered, framed, uncompressed}
 use Rattle.std.specs.Hash as fed
 
--- whether two names are equal up to ASCII case
+-- Whether two names are equal, ignoring ASCII case.
 abbrev pub names_equal : Labels → Labels → Bool
 names_equal = on lowered (pointwise (pointwise ◌==◌))
 
--- Labels: the first octets that differ decide, and a label stands before those that it begins. RFC 4034 section 6.1.
+-- The order of labels: the first octets that differ decide, and a label precedes those that it is a prefix of. RFC 4034 section 6.1.
 abbrev pub label_order : List ℕ → List ℕ → Ordering
 label_order = on lowered_label (slice_cmp nat_cmp)
 
--- Names: the labels are compared from the root leftwards, and a name stands before those of which it is a proper ending. RFC 4034 section 6.1.
+-- The order of names: the labels are compared from the root leftwards, and a name precedes its subdomains. RFC 4034 section 6.1.
 abbrev pub name_order : Labels → Labels → Ordering
 name_order = on reverse (slice_cmp label_order)
 
--- Labels behind their length octets.
+-- The order of labels with their length octets.
 abbrev pub framed_order : List ℕ → List ℕ → Ordering
 framed_order = on (λ label. framed (lowered_label label)) (slice_cmp nat_cmp)
 
--- The octets of names without pointers, as canonical record data is compared. RFC 4034 sections 6.2 and 6.3.
+-- The order of the uncompressed octets of names, as in canonical RDATA. RFC 4034 sections 6.2 and 6.3.
 abbrev pub composed_order : Labels → Labels → Ordering
 composed_order = on (λ name. uncompressed (lowered name)) (slice_cmp nat_cmp)
 
--- what a label writes into a hasher: its length octet and its octets, one by one
+-- What a label writes into a hasher: its length octet and its octets, one at a time.
 abbrev pub label_hash_input : List ℕ → List (List ℕ)
 label_hash_input label = flat_map fed.u8 (framed (lowered_label label))
 
--- what a name writes into a hasher, at once: its octets without pointers
+-- What a name writes into a hasher: its uncompressed octets, in one write.
 abbrev pub name_hash_input : Labels → List (List ℕ)
 name_hash_input name = uncompressed (lowered name) ∷ []
 
--- What the comparisons of names cite of the orders of names.
+-- Lemmas on the orders of names, for the comparisons of names.
 
--- `names_equal` is true exactly of names with the same labels
+-- `names_equal` is true exactly if the lowercased labels are the same.
 pub names_equal-Decides : (m n : Labels) → Decides (names_equal m n) (lowered m ≡ lowered n)
 names_equal-Decides m n = pointwise_decides bytes_decides (lowered m) (lowered n)
 
--- so it is an equivalence
+-- `names_equal` is an equivalence.
 pub names_equal-equiv : IsEquivalence names_equal
 names_equal-equiv = on_equiv lowered (lists_equiv nat_list_eq_equiv)
 
--- an order of lists by a function of their elements
+-- To compare lists by a function of their elements is to compare the mapped lists.
 slice_cmp-on : {A B : Type 0} (f : A → B) (R : B → B → Ordering) (xs ys : List A) → slice_cmp (on f R) xs ys ≡ slice_cmp R (map f xs) (map f ys)
 slice_cmp-on f R [] [] = refl
 slice_cmp-on f R [] (y ∷ ys) = refl
 slice_cmp-on f R (x ∷ xs) [] = refl
 slice_cmp-on f R (x ∷ xs) (y ∷ ys) = ap (ordering_then (R (f x) (f y))) (slice_cmp-on f R xs ys)
 
--- a function of the elements of a list turned round
+-- Mapping commutes with reversing.
 map-reverse : {A B : Type 0} (f : A → B) (xs : List A) → map f (reverse xs) ≡ reverse (map f xs)
 map-reverse f [] = refl
 map-reverse f (x ∷ xs) =
     ap (map f) (reverse-append (x ∷ []) xs) ∙ map-append f (reverse xs) (x ∷ [])
     ∙ ap (λ ys. ys ++ f x ∷ []) (map-reverse f xs) ∙ sym (reverse-append (f x ∷ []) (map f xs))
 
--- lists are equal if they are when turned round
+-- Lists are equal if their reverses are.
 reverse-injective : {A : Type 0} (xs ys : List A) → reverse xs ≡ reverse ys → xs ≡ ys
 reverse-injective xs ys e = sym (reverse-reverse xs) ∙ ap reverse e ∙ reverse-reverse ys
 
--- the order of names, by their lowercased labels
+-- `name_order` in terms of the lowercased labels.
 name_order-lowered : (m n : Labels) → name_order m n ≡ slice_cmp (slice_cmp nat_cmp) (reverse (lowered m)) (reverse (lowered n))
 name_order-lowered m n =
     slice_cmp-on (map to_ascii_lowercase) (slice_cmp nat_cmp) (reverse m) (reverse n)
     ∙ ap (λ xs. slice_cmp (slice_cmp nat_cmp) xs (lowered (reverse n))) (map-reverse (map to_ascii_lowercase) m)
     ∙ ap (slice_cmp (slice_cmp nat_cmp) (reverse (lowered m))) (map-reverse (map to_ascii_lowercase) n)
 
--- names that `name_order` does not tell apart have the same labels
+-- `name_order` is `Equal` exactly if the lowercased labels are the same.
 pub name_order-Decides : (m n : Labels) → Decides (eq_by_cmp name_order m n) (lowered m ≡ lowered n)
 name_order-Decides m n =
     let same = lists_ties (slice_cmp nat_cmp) texts_ties (reverse (lowered m)) (reverse (lowered n)) ∙ ap is_eq (sym (name_order-lowered m n)) in
     let d = pointwise_decides bytes_decides (reverse (lowered m)) (reverse (lowered n)) in
     (λ h. reverse-injective (lowered m) (lowered n) (d.0 (same ∙ h)), λ h. sym same ∙ d.1 (ap reverse h))
 
--- `name_order` is total
+-- `name_order` is total.
 pub name_order-total : IsTotalOrder name_order
 name_order-total = on_total reverse (lists_total (on_total (map to_ascii_lowercase) nat_list_cmp_total))
 
--- it answers `Equal` where `names_equal` is true
+-- `name_order` is `Equal` exactly where `names_equal` is true.
 pub name_order-ties : (m n : Labels) → names_equal m n ≡ eq_by_cmp name_order m n
 name_order-ties m n = one_answer (names_equal m n) (eq_by_cmp name_order m n) (names_equal-Decides m n) (name_order-Decides m n)
 
--- so it is an order up to `names_equal`
+-- `name_order` is a partial order with the equality `names_equal`.
 pub name_order-partial : IsPartialOrder names_equal (as_partial_cmp name_order)
 name_order-partial = po name_order-total name_order-ties
 
--- the same names are hashed alike
+-- Equal names write the same into a hasher.
 pub name_hash_input-alike : (m n : Labels) → IsTrue (names_equal m n) → name_hash_input m ≡ name_hash_input n
 name_hash_input-alike m n h = ap (λ labels. uncompressed labels ∷ []) ((names_equal-Decides m n).0 h)

@@ -1,4 +1,4 @@
--- What reading names from texts answers. RFC 1035 section 5.1.
+-- What reading names from texts returns. RFC 1035 section 5.1.
 use Rattle.std.specs.Prelude.{◌≡◌, ℕ, ◌≤◌, ◌<◌, ◌+◌, List, [], ◌∷◌, ◌++◌, length, Option, Some, None, Result, Ok, Err}
 use Rattle.std.specs.Borrow.{Bor}
 use Rattle.dns_octets.specs.declared.octets.Octets.{Ghosts}
@@ -9,31 +9,31 @@ use Rattle.dns_name.specs.declared.name_error.PresentationError.{PresentationErr
 use Rattle.dns_name.specs.declared.name_error.FromStrError.{FromStrError}
 use Rattle.dns_name.specs.declared.name_error.FromStrError.TheVariants.{Presentation, ShortBuf, OutOfMemory}
 
--- the holder of a name's octets
+-- The value that stores the octets of a `Name`.
 abbrev pub name_holder_of : {X : Type 0} {holder : Ghosts X} → Name X holder → X
 name_holder_of name = name.octets
 
--- the labels of a name in octets of its own
+-- The labels of a `Name`.
 abbrev pub name_labels : {X : Type 0} {holder : Ghosts X} → Name X holder → Labels
 name_labels name = name.whole.0.0
 
--- the first octet that the text spells, and the text behind it; or the fault there, whatever stands before it
+-- The first octet that the text represents, and the text after it; or the fault there, whatever precedes the text.
 abbrev pub ReadsOctet : List ℕ → Result (ℕ × Bor (List ℕ)) PresentationError → Type 0
 ReadsOctet text (Ok (o, rest)) = SpellsFirst text o rest.now
 ReadsOctet text (Err f) = (n size : ℕ) → NameTextFaulty text n size f
 
--- a label ends at the end of the text, or before a dot
+-- A label ends at the end of the text, or before a dot.
 abbrev pub EndsLabel : List ℕ → Type 0
 EndsLabel [] = Unit {0}
 EndsLabel (c ∷ text) = c ≡ dot
 
--- Behind n octets of a label and labels of the size: the next octet and the text behind it, where neither grows too long; or the end of the label; or the fault.
+-- After n octets of a label and labels of `size` octets: the end of the label; or the next octet and the text after it, if label and name stay short enough; or the fault.
 abbrev pub StepsLabel : List ℕ → ℕ → ℕ → Result (Option (ℕ × Bor (List ℕ))) PresentationError → Type 0
 StepsLabel text n size (Ok None) = EndsLabel text × (0 < length text → 0 < n)
 StepsLabel text n size (Ok (Some (o, rest))) = SpellsFirst text o rest.now × (n < 63) × (size + n + 2 ≤ max_size)
 StepsLabel text n size (Err f) = NameTextFaulty text n size f
 
--- A front of the text spells a label behind labels of the size, and the rest is behind it. A fault that is met there is one of the text.
+-- A prefix of the text represents a label, after labels of `size` octets, and `rest` follows it. A fault met in `rest` is a fault of the text.
 pub record LabelFirst (text : List ℕ) (size : ℕ) (label rest : List ℕ) : Type 0 where
   pub front : List ℕ
   pub whole : text ≡ front ++ rest
@@ -43,15 +43,15 @@ pub record LabelFirst (text : List ℕ) (size : ℕ) (label rest : List ℕ) : T
   pub ends : EndsLabel rest
   pub faults : (f : PresentationError) → NameTextFaulty rest (length label) size f → NameTextFaulty text 0 size f
 
--- the octets are those of a name
+-- The octets are the uncompressed octets of a name of which `Spelled` holds.
 abbrev pub AreOctets : (Labels → Type 0) → List ℕ → Type 0
 AreOctets Spelled octets = (name : Labels) × Spelled name × IsName name × (uncompressed name ≡ octets)
 
--- the text spells a name
+-- The text represents a name.
 abbrev pub SpellsSomeName : List ℕ → Type 0
 SpellsSomeName text = (name : Labels) × SpellsName text name
 
--- The name that the text spells, or its fault. Nothing else is wrong but a want of memory, and `Memory` says when that may be.
+-- The result is the name that the text represents, or the fault of the text, or `OutOfMemory`, which only happens if `Memory` holds.
 abbrev pub ReadsName : {X : Type 0} {holder : Ghosts X} → Type 0 → List ℕ → Result (Name X holder) FromStrError → Type 0
 ReadsName Memory text (Ok name) = SpellsName text (name_labels name)
 ReadsName Memory text (Err (Presentation f)) = NameTextFault text f

@@ -1,4 +1,4 @@
--- A name that was read before, where a pointer may lead, and how names are read with it. RFC 1035 section 4.1.4.
+-- A cached name, which was read before, and how names that point to it are read. RFC 1035 section 4.1.4.
 use Rattle.std.specs.Prelude.{◌≡◌, ◌+◌, ◌-◌, ◌<◌, ◌≤◌, ⊤, ℕ, List, length, Option, Some, None, Result, Ok, Err}
 use Rattle.dns_octets.specs.declared.error.ParseError.{ParseError}
 use Rattle.dns_name.specs.Names.{head_at, Faulty, FaultAt, Walked, fault_of, max_size, pointer_end}
@@ -10,42 +10,42 @@ use Rattle.dns_name.specs.declared.near_name.NearName.{NearName}
 use Rattle.dns_name.specs.declared.parsed_name.NameExtent.{NameExtent}
 use Rattle.std.proofs.Props.{props}
 
--- a name of its size and with so many labels stands at its place, if a name can have that size
+-- The cached name is encoded at its offset with its size and number of labels. A size above `max_size` means that no name is cached.
 abbrev pub IsNear : List ℕ → NearName → Type 0
 IsNear b near = near.size ≤ max_size → NameOfSizeAndCount b near.pos near.size near.count
 
 pub IsNear-prop : (b : List ℕ) (near : NearName) → IsProp (IsNear b near)
 IsNear-prop b near = hlevel (props, NameOfSizeAndCount-prop b near.pos near.size near.count)
 
--- a pointer back to this name, which is known, stands at the place
+-- A pointer back to the cached name is at offset p, and a name is cached.
 pub record LeadsBackTo (b : List ℕ) (p : ℕ) (near : NearName) : Type 0 where
   pub there : head_at b p ≡ Ok (Pointer near.pos)
   pub back : near.pos < p
   pub known : near.size ≤ max_size
 
--- a pointer leads to a place that 14 bits tell
+-- A pointer leads to an offset that 14 bits can hold.
 abbrev pub IsInReach : Head → Type 0
 IsInReach Root = ⊤
 IsInReach (Label n) = ⊤
 IsInReach (Pointer target) = target < pointer_end
 
--- Labels stand in a row from p, behind labels of the size s, up to q, where the size is r.
+-- In a name whose labels so far take s octets, consecutive labels begin at offset p and end before q. The labels then take r octets.
 pub data LabelsTo (b : List ℕ) : ℕ → ℕ → ℕ → ℕ → Type 0 where
   none : {p s : ℕ} → LabelsTo b p s p s
   label : {p n s q r : ℕ} → head_at b p ≡ Ok (Label n) → s + n + 1 ≤ max_size → p + 1 + n ≤ length b
       → LabelsTo b (p + 1 + n) (s + n + 1) q r → LabelsTo b p s q r
 
--- how many labels stand in a row
+-- The number of the consecutive labels.
 abbrev pub row_count : {b : List ℕ} {p s q r : ℕ} → LabelsTo b p s q r → ℕ
 row_count none = 0
 row_count (label h short within row) = row_count row + 1
 
--- what ends a row of labels: the root, or a pointer to a target
+-- What ends consecutive labels: the root label, or a pointer to a target.
 abbrev pub row_end : Option ℕ → Head
 row_end None = Root
 row_end (Some target) = Pointer target
 
--- So many labels stand in a row from p, behind labels of the size s, up to q, and what ends them there.
+-- In a name whose labels so far take s octets, `count` consecutive labels begin at offset p and end before q, where the root label or a pointer to `target` begins.
 pub record PassesLabels (b : List ℕ) (p s q count : ℕ) (target : Option ℕ) : Type 0 where
   pub from : p ≤ q
   pub within : q < length b
@@ -56,29 +56,29 @@ pub record PassesLabels (b : List ℕ) (p s q count : ℕ) (target : Option ℕ)
   pub there : head_at b q ≡ Ok (row_end target)
   pub in_reach : IsInReach (row_end target)
 
--- it is so, or this is the fault there
+-- The result describes these labels, or its fault is the one that reading meets there.
 abbrev pub PassesLabelsOrFails : List ℕ → ℕ → ℕ → Result LabelRow ParseError → Type 0
 PassesLabelsOrFails b p s (Ok row) = PassesLabels b p s row.end row.count row.target
 PassesLabelsOrFails b p s (Err e) = Faulty b p s (fault_of e)
 
--- A name of a size and with so many labels stands at a place, and is short enough behind labels of the size s.
+-- A name of this size and number of labels is encoded at offset p. It is short enough after labels of s octets.
 pub record Measures (b : List ℕ) (p s size count : ℕ) : Type 0 where
   pub short : s + size ≤ max_size
   pub few : count ≤ size
   pub name : NameOfSizeAndCount b p size count
 
--- it is so, or this is the fault there
+-- The result is this size and number, or its fault is the one that reading meets there.
 abbrev pub MeasuresOrFails : List ℕ → ℕ → ℕ → Result (ℕ × ℕ) ParseError → Type 0
 MeasuresOrFails b p s (Ok found) = Measures b p s found.0 found.1
 MeasuresOrFails b p s (Err e) = Faulty b p s (fault_of e)
 
--- A name of a size and with so many labels stands at a place, and the octets that it takes there end at `end`.
+-- A name of this size and number of labels is encoded at offset p, and its encoding ends before `end`.
 pub record Arrives (b : List ℕ) (p end size count : ℕ) : Type 0 where
   pub name : NameOfSizeAndCount b p size count
   pub walked : Walked b p end
   pub within : end ≤ length b
 
--- it is so, or this is the fault there
+-- The result is this extent, or its fault is the one that reading meets there.
 abbrev pub ArrivesOrFails : List ℕ → ℕ → Result NameExtent ParseError → Type 0
 ArrivesOrFails b p (Ok extent) = Arrives b p extent.end extent.size extent.count
 ArrivesOrFails b p (Err e) = FaultAt b p (fault_of e)

@@ -1,20 +1,20 @@
--- Octets that are one name without pointers. RFC 1035 section 3.1.
+-- Octets that are exactly one uncompressed name. RFC 1035 section 3.1.
 use Rattle.std.specs.Prelude.{◌≡◌, ℕ, List}
 use Rattle.std.proofs.Props.{props}
 use Rattle.dns_name.specs.Names.{Fault, Labels, IsName, uncompressed, Walked, SkipFaultAt}
 use Rattle.dns_name.specs.Names.Fault.{Form}
 use Rattle.dns_name.specs.Unique.{NameAt, NameAt-prop}
 
--- the octets are those of a name
+-- The octets are the uncompressed octets of a name.
 abbrev pub IsUncompressed : List ℕ → Type 0
 IsUncompressed b = (name : Labels) × IsName name × (uncompressed name ≡ b)
 
--- Why octets are not those of a name: skipping one meets this fault; or they begin with a name's octets, but there is a pointer among them or more behind them.
+-- Why octets aren't one uncompressed name: skipping a name meets this fault; or a name can be skipped, but it has a pointer or octets follow it, which is `Form`.
 pub data NotUncompressed (b : List ℕ) : Fault → Type 0 where
   fault : {f : Fault} → SkipFaultAt b 0 f → NotUncompressed b f
   other : {q : ℕ} → Walked b 0 q → (IsUncompressed b → ⊥) → NotUncompressed b Form
 
--- the name that stands at the beginning of the octets, and is all of them
+-- The name that is encoded at offset 0 without pointers and takes all of the octets.
 abbrev pub WholeName : List ℕ → Type 0
 WholeName b = (name : NameAt b 0) × (uncompressed name.0 ≡ b)
 

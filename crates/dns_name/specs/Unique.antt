@@ -1,4 +1,4 @@
--- What stands at a place is a name, and at most one stands there, in one way. So a ghost field can hold the name.
+-- At most one name is encoded at an offset, and in one way. So a ghost field can hold the name.
 use Rattle.std.specs.Prelude.{◌≡◌, ℕ, ◌+◌, ◌<◌, ◌≤◌, List, [], ◌∷◌, length, Option, Some, None, Result, Ok, zero, suc, take, All, slice_get}
 use Rattle.std.proofs.Common.{sym, ◌∙◌, ap, subst, refl, arith, length-take, length-drop}
 use Rattle.std.proofs.Props.{props}
@@ -11,7 +11,7 @@ use Rattle.dns_name.specs.Names.Stands.{root, label, pointer}
 use Rattle.dns_name.specs.declared.head.Head.{Head}
 use Rattle.dns_name.specs.declared.head.Head.TheVariants.{Root, Label, Pointer}
 
--- a name that stands at a place
+-- A name that is encoded at offset p.
 abbrev pub NameAt : List ℕ → ℕ → Type 0
 NameAt b p = (name : Labels) × Stands b p name
 
@@ -19,7 +19,7 @@ head_prop : {r : Result Head Fault} {h : Head} → IsProp (r ≡ Ok h)
 head_prop = hlevel props
 
 module _ (b : List ℕ) where
-  -- what makes a label and a name one name
+  -- What a name with a label at offset p consists of.
   abbrev LabelParts : ℕ → ℕ → Type 0
   LabelParts p n = (head_at b p ≡ Ok (Label n)) × (p + 1 + n ≤ length b) × (x : NameAt b (p + 1 + n)) × (n + 1 + name_size x.0 ≤ max_size)
 
@@ -32,7 +32,7 @@ module _ (b : List ℕ) where
   abbrev pointed : {p t : ℕ} → PointerParts p t → NameAt b p
   pointed parts = (parts.2.0, pointer parts.0 parts.1 parts.2.1)
 
-  -- the parts of one label are the parts of each that stands there
+  -- Two decompositions into a label and a name are the same.
   same_label : {p n : ℕ} (mine : LabelParts p n) → ((y : NameAt b (p + 1 + n)) → mine.2 ≡ y)
       → (k : ℕ) → n ≡ k → (parts : LabelParts p k) → labelled {p = p} {n = n} mine ≡ labelled {p = p} {n = k} parts
   same_label {p = p} {n = n} mine same k e =
@@ -74,39 +74,39 @@ module _ (b : List ℕ) where
   pub NameAt-prop : {p : ℕ} → IsProp (NameAt b p)
   NameAt-prop x y = one_name x.1 y
 
-  -- names that stand at one place are the same
+  -- Names encoded at one offset are the same.
   pub same_name : {p : ℕ} {m n : Labels} → Stands b p m → Stands b p n → m ≡ n
   same_name {p = p} {m = m} {n = n} x y = let e : (let z : NameAt b p = (m, x) in z ≡ (n, y)) = one_name x (n, y) in ap (λ (z : NameAt b p). z.0) e
 
--- a name whose labels take so many octets stands at the place
+-- A name of this size is encoded at offset p.
 abbrev pub NameOfSize : List ℕ → ℕ → ℕ → Type 0
 NameOfSize b p size = (name : NameAt b p) × (name_size name.0 ≡ size)
 
 pub NameOfSize-prop : (b : List ℕ) (p size : ℕ) → IsProp (NameOfSize b p size)
 NameOfSize-prop b p size = hlevel (props, NameAt-prop b {p = p})
 
--- the same where the labels are so many, the root label left out
+-- A name of this size, with `count` labels besides the root label, is encoded at offset p.
 abbrev pub NameOfSizeAndCount : List ℕ → ℕ → ℕ → ℕ → Type 0
 NameOfSizeAndCount b p size count = (name : NameAt b p) × (name_size name.0 ≡ size) × (length name.0 ≡ count)
 
 pub NameOfSizeAndCount-prop : (b : List ℕ) (p size count : ℕ) → IsProp (NameOfSizeAndCount b p size count)
 NameOfSizeAndCount-prop b p size count = hlevel (props, NameAt-prop b {p = p})
 
--- The first labels of a name where it stands, by the octets that they take.
+-- The first labels of an encoded name, by the octets that they take.
 
--- so many of the labels take `left` octets, each with its length octet
+-- The first `count` labels take `left` octets, each with its length octet.
 abbrev pub LabelsTake : Labels → ℕ → ℕ → Type 0
 LabelsTake labels left count = (count ≤ length labels) × (name_size (take count labels) ≡ left)
 
--- the first labels of a name, the root label behind the others, that take `left` octets
+-- Some first labels of a name, counted with the root label, take `left` octets.
 abbrev pub FrontOfSize : Labels → ℕ → Type 0
 FrontOfSize name left = (count : ℕ) × LabelsTake (with_root name) left count
 
--- a name stands at the place, and has first labels that take `left` octets
+-- A name is encoded at offset p, and some first labels of it take `left` octets.
 abbrev pub LabelsAt : List ℕ → ℕ → ℕ → Type 0
 LabelsAt b p left = (name : NameAt b p) × FrontOfSize name.0 left
 
--- each label takes an octet at least
+-- At most one number of first labels takes `left` octets, as each takes at least one.
 pub one_count : (labels : Labels) (left j k : ℕ) → LabelsTake labels left j → LabelsTake labels left k → j ≡ k
 one_count labels left zero zero x y = refl
 one_count [] left zero (suc k) x y = absurd (omega (arith, y.0))
@@ -129,14 +129,14 @@ LabelsAt-prop b p left x y =
     let P : NameAt b p → Type 0 = λ name. (z : FrontOfSize name.0 left) → x ≡ (name, z) in
     subst P (NameAt-prop b x.0 y.0) (λ z. ap (λ (w : FrontOfSize x.0.0 left). let labels : LabelsAt b p left = (x.0, w) in labels) (FrontOfSize-prop x.0.0 left x.1 z)) y.1
 
--- What stands somewhere is a name: so `ToName` can promise it of each of its values.
+-- What is encoded at an offset is a name. `ToName` promises this of each of its values.
 
 pub label_of : (first second : Option ℕ) (n : ℕ) → head_of first second ≡ Ok (Label n) → (first ≡ Some n) × (0 < n) × (n < 64)
 label_of None second n h = cc
 label_of (Some x) None n h = grind (arith, nat_tests, common_steps, h)
 label_of (Some x) (Some y) n h = grind (arith, nat_tests, common_steps, h)
 
--- a label begins at an octet that is there, and has 1 to 63 octets
+-- The length octet of a label is before the end, and is 1 to 63.
 pub record IsLabelHead (b : List ℕ) (p n : ℕ) : Type 0 where
   pub within : p < length b
   pub some : 0 < n
@@ -153,13 +153,13 @@ length_label b p n h = simp (length-take, length-drop) (omega arith)
 pub name_size-label_at : (b : List ℕ) (p n : ℕ) (name : Labels) → p + 1 + n ≤ length b → name_size (label_at b p n ∷ name) ≡ n + 1 + name_size name
 name_size-label_at b p n name h = ap (λ k. k + 1 + name_size name) (length_label b p n h)
 
--- a name that stands somewhere takes at most 254 octets
+-- An encoded name takes at most 254 octets without the root label.
 pub standing_short : {b : List ℕ} {p : ℕ} {name : Labels} → Stands b p name → name_size name ≤ max_size
 standing_short (root h) = omega arith
 standing_short {b = b} (label {p = p} {n = n} {name = name} h w x z) = let e = name_size-label_at b p n name w in omega (arith, e)
 standing_short (pointer h back x) = standing_short x
 
--- and its labels are labels
+-- Its labels have 1 to 63 octets.
 standing_labels : {b : List ℕ} {p : ℕ} {name : Labels} → Stands b p name → All IsLabel name
 standing_labels (root h) = λ k d l. absurd (omega arith)
 standing_labels {b = b} (label {p = p} {n = n} {name = name} h w x z) =
