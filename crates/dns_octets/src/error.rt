@@ -1,7 +1,7 @@
 use std::alloc::AllocError;
 use thiserror::Error;
 
-/// What is wrong with octets that are there: one of six fixed texts says it.
+/// What is wrong with malformed octets. It has six values, each with a fixed text.
 #[derive(Clone, Copy, Debug, PartialEq, Eq, Error)]
 #[error("{0}")]
 pub struct FormError(Cause);
@@ -27,34 +27,34 @@ impl FormError {
     /// A length octet has the high bits 01 or 10.
     pub const BAD_LABEL: FormError = FormError(Cause::BadLabel);
 
-    /// A pointer doesn't lead strictly back, or stands where none may.
+    /// A pointer doesn't lead strictly back, or is in a name that must be uncompressed.
     pub const BAD_POINTER: FormError = FormError(Cause::BadPointer);
 
-    /// A name has more than 255 octets, or octets are left over behind it.
+    /// A name has more than 255 octets, or octets follow a name that must be the whole input.
     pub const LONG_NAME: FormError = FormError(Cause::LongName);
 
-    /// Octets are left over behind the value of record data.
+    /// Octets follow the value within its RDATA.
     pub const TRAILING_DATA: FormError = FormError(Cause::TrailingData);
 
-    /// A message that has to have one question has none.
+    /// A message that must have one question has none.
     pub const NO_QUESTION: FormError = FormError(Cause::NoQuestion);
 
-    /// A message that has to have one question has more.
+    /// A message that must have one question has more than one.
     pub const MULTIPLE_QUESTIONS: FormError = FormError(Cause::MultipleQuestions);
 }
 
 /// Why octets can't be read.
 #[derive(Clone, Copy, Debug, PartialEq, Eq, Error)]
 pub enum ParseError {
-    /// An octet that is needed lies at or past the end.
+    /// An octet that is needed is at or past the end.
     #[error("unexpected end of input")]
     ShortInput,
-    /// Octets that are there aren't as they have to be.
+    /// The octets are there but malformed.
     #[error("{0}")]
     Form(FormError),
 }
 
-/// A buffer of fixed size has no room for what was to be stored.
+/// A buffer of fixed size has no capacity for what was to be stored.
 #[derive(Clone, Copy, Debug, PartialEq, Eq, Error)]
 #[error("buffer size exceeded")]
 pub struct ShortBuf;
@@ -62,10 +62,10 @@ pub struct ShortBuf;
 /// Why octets can't be stored.
 #[derive(Clone, Copy, Debug, PartialEq, Eq, Error)]
 pub enum AppendError {
-    /// They pass the room that there is.
+    /// They exceed the capacity.
     #[error("buffer size exceeded")]
     ShortBuf,
-    /// A growth was refused for want of memory.
+    /// An allocation failed.
     #[error("out of memory")]
     OutOfMemory,
 }

@@ -1,11 +1,11 @@
-//! Conversions of values with two parts.
+//! Conversions of values that have two parts.
 ghost use Rattle.std.specs.Prelude.{◌≡◌};
 ghost use Rattle.dns_octets.specs.Converts.{joined};
 
 use crate::error::AppendError;
 
-/// The answer of two conversions that were both made: their values. Else it is `ShortBuf` where one of them is, and
-/// otherwise `OutOfMemory`.
+/// Joins the results of two conversions: both values, or an error. `ShortBuf` comes before
+/// `OutOfMemory` if both conversions fail.
 pub fn join_conversions<A: Drop, B: Drop>(
     first: Result<A, AppendError>,
     second: Result<B, AppendError>,

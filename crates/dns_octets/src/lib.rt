@@ -1,6 +1,6 @@
-//! Holders of octets, and the errors of reading octets and of storing them.
+//! Types that hold octets, and the errors of reading and storing octets.
 //!
-//! It promises that a conversion keeps what its source holds, and that what is written over octets changes no others.
+//! A conversion between such types keeps the octets, and an overwrite changes no other octets.
 #![tactic(auto)]
 
 mod error;

@@ -6,18 +6,18 @@ use crate::error::AppendError;
 use arrayvec::ArrayVec;
 use std::alloc::Global;
 
-/// What holds octets.
+/// A type that holds octets.
 pub trait Octets: Drop {
     ghost octets: { Self → List ℕ };
 
-    /// The octets.
+    /// Returns the octets.
     fn octets(&self) -> &[u8]
         ensures { result.now ≡ octets self.now };
 }
 
-/// What holds octets that can be written over.
+/// A type that holds octets and can overwrite them.
 pub trait OctetsMut: Octets {
-    /// Writes octets over those from a place on. Places count from 0.
+    /// Overwrites the octets from offset `place` on.
     fn write_at(&mut self, place: usize, octets: &[u8])
         requires { place + length octets.now ≤ length (Self.octets self.old) }
         ensures { Self.octets self.new ≡ overwritten (Self.octets self.old) place octets.now };
@@ -25,24 +25,26 @@ pub trait OctetsMut: Octets {
 
 /// A conversion that keeps what the source holds.
 pub trait OctetsFrom<Source>: Sized {
-    /// That a value holds what the source holds.
+    /// What it means that a value holds what the source holds.
     ghost keeps: { Source → Self → Type 0 };
 
-    /// That what the source holds does not fit.
+    /// Whether what the source holds exceeds the capacity of this type.
     ghost too_long: { Source → Type 0 };
 
-    /// That a conversion takes memory.
+    /// Whether a conversion allocates.
     ghost takes_memory: { Type 0 };
 
-    /// Converts the source. It is `ShortBuf` exactly where that doesn't fit, and `OutOfMemory` only where memory is
-    /// taken, from `alloc`.
+    /// Converts the source.
+    ///
+    /// Errors: `ShortBuf` exactly if it exceeds the capacity; `OutOfMemory` if an allocation from
+    /// `alloc` fails.
     fn try_octets_from(alloc: Global, source: Source) -> Result<Self, AppendError>
         ensures { Converts result (keeps source) (too_long source) takes_memory };
 }
 
-/// A holder that is converted from another holder, whose octets it then holds.
+/// A conversion from other octets that keeps the octets.
 pub trait HolderFrom<Source: Octets>: Octets + OctetsFrom<Source> {
-    /// What is kept is the octets.
+    /// A value that keeps what the source holds has the same octets.
     ghost same_octets: { (source : Source) (value : Self) → Self.keeps source value
         → Self.octets value ≡ Source.octets source };
 }
@@ -87,7 +89,7 @@ impl<T: Octets> Octets for &T {
     }
 }
 
-/// Writes octets over those of the target from a place on.
+/// Overwrites the octets of the target from offset `place` on.
 pub(crate) fn overwrite_slice(target: &mut [u8], place: usize, octets: &[u8])
     requires { place + length octets.now ≤ length target.old }
     ensures { target.new ≡ overwritten target.old place octets.now }

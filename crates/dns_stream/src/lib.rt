@@ -1,5 +1,5 @@
-//! A target for messages on a stream, over another target: it holds the length of its message before it (RFC 1035 section
-//! 4.2.2). It doesn't compress.
+//! A target for messages over a stream, which stores the length of the message before it (RFC 1035
+//! section 4.2.2). It wraps another target, and doesn't compress.
 #![tactic(auto)]
 
 mod stream_target;

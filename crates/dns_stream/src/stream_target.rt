@@ -1,4 +1,4 @@
-//! A target for messages that go over a stream.
+//! A target for messages over a stream.
 ghost use Rattle.std.specs.Prelude.{◌≡◌, [], refl, IfOk, IfErr, OnErr, IsTrue};
 ghost use Rattle.dns_wire.specs.Pieces.{Plain};
 ghost use Rattle.dns_wire.specs.Targets.{Answers, unremembered};
@@ -12,13 +12,14 @@ use std::marker::Model;
 /// The octets of the length before a message.
 const PREFIX_LEN: usize = 2;
 
-/// The most octets that the length can tell.
+/// The maximum length of a message, which two octets can represent.
 const MOST_OCTETS: usize = 65_535;
 
-/// A target that holds the length of its message, in two octets, before the message (RFC 1035 section 4.2.2).
+/// A target that stores the length of its message as two octets before the message (RFC 1035
+/// section 4.2.2).
 ///
-/// The prefix is no part of the content: places count from the start of the message. A message has at most 65,535 octets,
-/// and what would pass them is refused before anything grows.
+/// The prefix isn't part of the content: offsets count from the start of the message. A message has
+/// at most 65,535 octets. An append that would exceed them is `ShortBuf`, and doesn't allocate.
 #[derive(Debug, Drop)]
 pub struct StreamTarget<T: Composer> {
     target: T,
@@ -36,7 +37,7 @@ impl<T: Composer> Model for StreamTarget<T> {
 }
 
 impl StreamTarget<Vec<u8>> {
-    /// A target over an empty vector.
+    /// Creates a target over an empty vector.
     pub fn new_vec(alloc: Global) -> Result<Self, AppendError>
         ensures empty { IfOk result (λ stream. stream ≡ []) }
         ensures memory { IfErr result (λ error. error ≡ AppendError.OutOfMemory) }
@@ -46,9 +47,11 @@ impl StreamTarget<Vec<u8>> {
 }
 
 impl<T: Composer> StreamTarget<T> {
-    /// A target of an empty message over a target that doesn't compress, which is emptied.
+    /// Creates a target with an empty message over `target`, which is emptied and must not
+    /// compress.
     ///
-    /// It is `ShortBuf` exactly where that has no room for the two octets of the length.
+    /// Errors: `ShortBuf` exactly if `target` has no capacity for the two octets of the length;
+    /// `OutOfMemory` if an allocation fails.
     pub fn new(target: T) -> Result<Self, AppendError>
         requires { T.rule ≡ Plain }
         ensures empty { IfOk result (λ stream. stream ≡ []) }
@@ -60,35 +63,35 @@ impl<T: Composer> StreamTarget<T> {
         Ok(StreamTarget { target })
     }
 
-    /// The target, which holds the length of the message and the message.
+    /// Returns the wrapped target, whose content is the length of the message and the message.
     pub fn as_target(&self) -> &T
         ensures { T.written result.now ≡ unremembered (with_prefix self.now) }
     {
         &self.target
     }
 
-    /// The target, which holds the length of the message and the message.
+    /// Returns the wrapped target, whose content is the length of the message and the message.
     pub fn into_target(self) -> T
         ensures { T.written result ≡ unremembered (with_prefix self) }
     {
         self.target
     }
 
-    /// The length of the message, in two octets, and the message.
+    /// Returns the length of the message as two octets, big-endian, followed by the message.
     pub fn as_stream_slice(&self) -> &[u8]
         ensures { result.now ≡ with_prefix self.now }
     {
         self.target.as_slice()
     }
 
-    /// The message.
+    /// Returns the message.
     pub fn as_dgram_slice(&self) -> &[u8]
         ensures { result.now ≡ self.now }
     {
         Composer::as_slice(self)
     }
 
-    /// The message.
+    /// Returns the message.
     pub fn as_slice(&self) -> &[u8]
         ensures { result.now ≡ self.now }
     {
@@ -97,7 +100,7 @@ impl<T: Composer> StreamTarget<T> {
 }
 
 impl<T: CloneTarget> StreamTarget<T> {
-    /// A target with the same message.
+    /// Clones the target. Returns `AllocError` if an allocation fails.
     pub fn clone(&self) -> Result<Self, AllocError>
         ensures equal { IfOk result (λ clone. clone ≡ self.now) }
         ensures memory { OnErr result (IsTrue T.grows) }
@@ -158,7 +161,7 @@ impl<T: Composer> Composer for StreamTarget<T> {
     }
 }
 
-/// The message.
+/// Returns the message.
 impl<T: Composer> AsSlice<u8> for StreamTarget<T> {
     ghost items = { λ s. s };
 

@@ -1,67 +1,67 @@
--- How a name is written, by the indices of its labels: the same as the recursion over them. RFC 1035 section 4.1.4.
+-- How a name is compressed, by the indices of its labels. It agrees with the recursion of `put_name`. RFC 1035 section 4.1.4.
 use Rattle.std.specs.Prelude.{◌≡◌, ℕ, zero, suc, ◌+◌, ◌<◌, ◌≤◌, ◌⊎◌, Some, None, List, [], ◌∷◌, ◌++◌, length, take, drop}
 use Rattle.std.specs.List.{flat_map}
 use Rattle.std.specs.FinMap.{get, len}
 use Rattle.dns_name.specs.Names.{Labels, framed, name_size, uncompressed, pointer_end}
 use Rattle.dns_wire.specs.Pieces.{Memory, Spot, remember, Rule, Plain, Static, Tree, Hash, Laid, pointer, put_name}
 
--- where label i is written, if the name is written at w
+-- The offset of label i, if the name is written at offset w without pointers.
 abbrev pub place_of : ℕ → Labels → ℕ → ℕ
 place_of w name i = w + name_size (take i name)
 
--- the name without its first 0, 1, .. labels, as many as i, each with its place
+-- The first i suffixes of a name at offset w, the longest first, each with its offset.
 abbrev pub first_suffixes : ℕ → Labels → ℕ → List (Labels × ℕ)
 first_suffixes zero name w = []
 first_suffixes (suc i) [] w = []
 first_suffixes (suc i) (label ∷ rest) w = (label ∷ rest, w) ∷ first_suffixes i rest (w + 1 + length label)
 
--- the suffix behind the first j labels is the first that is remembered, or there is none and j is the number of labels
+-- The suffix after the first j labels is the first one in the table; or none is, and j is the number of labels.
 pub record IsFirstKnown (m : Memory) (name : Labels) (j : ℕ) : Type 0 where
   pub within : j ≤ length name
   pub before : (i : ℕ) → i < j → get m (drop i name) ≡ None
   pub there : (drop j name ≡ []) ⊎ ((x : Spot) × (get m (drop j name) ≡ Some x))
 
--- what is written behind the labels: a zero octet, or a pointer to the others
+-- What follows the written labels: a zero octet if no labels remain, else a pointer to the remaining labels.
 abbrev pub EndsWith : Memory → Labels → List ℕ → Type 0
 EndsWith m others end = ((others ≡ []) × (end ≡ 0 ∷ [])) ⊎ ((x : Spot) × (get m others ≡ Some x) × (end ≡ pointer x.place))
 
--- a label that is too far to be remembered, where so many suffixes are held
+-- A suffix at offset `place` can't enter the table, which has `held` entries. Under the hash rule every suffix counts as able.
 abbrev pub IsFar : Rule → ℕ → ℕ → Type 0
 IsFar Plain held place = Unit {0}
 IsFar Static held place = (pointer_end ≤ place) ⊎ (24 ≤ held)
 IsFar Tree held place = pointer_end ≤ place
 IsFar Hash held place = ⊥
 
--- the octets of a name at w, and the suffixes that are written out and not too far
+-- The octets of a name at offset w, and the suffixes that may enter the table.
 pub data Chooses (rule : Rule) (m : Memory) (w held : ℕ) (name : Labels) : List ℕ → List (Labels × ℕ) → Type 0 where
-  -- no label before the known suffix is too far
+  -- Every suffix before the one in the table can enter it: their labels are written, then a pointer or the root.
   shared : (j : ℕ) (end : List ℕ) → IsFirstKnown m name j → EndsWith m (drop j name) end
       → ((i : ℕ) → i < j → IsFar rule (held + i) (place_of w name i) → ⊥)
       → Chooses rule m w held name (flat_map framed (take j name) ++ end) (first_suffixes j name w)
-  -- c is the first that is too far
+  -- Suffix c is the first that can't enter the table, and is before the one in the table: the name is written uncompressed, and the c suffixes before c may enter.
   written_out : (c j : ℕ) → IsFirstKnown m name j → c < j → IsFar rule (held + c) (place_of w name c)
       → ((i : ℕ) → i < c → IsFar rule (held + i) (place_of w name i) → ⊥)
       → Chooses rule m w held name (uncompressed name) (first_suffixes c name w)
 
--- a suffix and its place are one of these
+-- A suffix with its offset is among these.
 abbrev pub IsAmong : Labels × ℕ → List (Labels × ℕ) → Type 0
 IsAmong t [] = ⊥
 IsAmong t (s ∷ ss) = (t ≡ s) ⊎ IsAmong t ss
 
--- the name is written as chosen, and the suffixes are remembered
+-- The static or tree rule: the name is written as chosen, and the suffixes enter the table.
 pub record PutsByChoice (rule : Rule) (m : Memory) (w : ℕ) (name : Labels) (laid : Laid) : Type 0 where
   pub suffixes : List (Labels × ℕ)
   pub chooses : Chooses rule m w (len m) name laid.octets suffixes
   pub memory : laid.memory ≡ remember m suffixes (w + length laid.octets)
 
--- the same, but nothing is remembered where one of the suffixes stands too far for a pointer
+-- The hash rule: the name is written as chosen, and the suffixes enter the table only if all are within pointer range.
 pub record PutsByHash (m : Memory) (w : ℕ) (name : Labels) (laid : Laid) : Type 0 where
   pub suffixes : List (Labels × ℕ)
   pub chooses : Chooses Hash m w (len m) name laid.octets suffixes
   pub memory : (((s : Labels × ℕ) → IsAmong s suffixes → s.1 < pointer_end) × (laid.memory ≡ remember m suffixes (w + length laid.octets)))
       ⊎ (((s : Labels × ℕ) × IsAmong s suffixes × (pointer_end ≤ s.1)) × (laid.memory ≡ m))
 
--- each compressor writes a name by the first suffix that it knows and the first label that is too far
+-- Each compressor writes a name as chosen by the first suffix in the table and the first suffix that can't enter it.
 pub record NamesByChoice : Type 0 where
   pub static : (m : Memory) (w : ℕ) (name : Labels) → PutsByChoice Static m w name (put_name Static name m w)
   pub tree : (m : Memory) (w : ℕ) (name : Labels) → PutsByChoice Tree m w name (put_name Tree name m w)

@@ -1,39 +1,41 @@
--- What record data is made of, how it is written, and where it stands. RFC 1035 sections 3.3 and 4.1.4.
+-- What RDATA consists of, how it is written, and where it is encoded. RFC 1035 sections 3.3 and 4.1.4.
 use Rattle.std.specs.Prelude.{◌≡◌, ℕ, ◌+◌, List, [], ◌∷◌, length, take, slice_range, ◌<◌, Ok}
 use Rattle.dns_name.specs.Names.{Labels, IsName, uncompressed, Stands, Walked, head_at, pointer_end}
 use Rattle.dns_name.specs.declared.head.Head.TheVariants.{Root, Label, Pointer}
 use Rattle.dns_wire.specs.Pieces.{Rule, Piece, put_octets, both, put_name}
 
--- octets, or a name that may be compressed
+-- A part of RDATA: octets, or a name that may be compressed.
 pub data Part : Type 0 where
   Octets : List ℕ → Part
   CompressibleName : Labels → Part
 
+-- The encoding of a part.
 abbrev pub put_part : Rule → Part → Piece
 put_part rule (Octets octets) = put_octets octets
 put_part rule (CompressibleName name) = put_name rule name
 
--- the parts, one behind the other
+-- The encoding of parts, in order.
 unfoldable pub put_parts : Rule → List Part → Piece
 put_parts rule [] = put_octets []
 put_parts rule (part ∷ parts) = both (put_part rule part) (put_parts rule parts)
 
--- the octets of a part where no name is compressed
+-- The octets that a part takes uncompressed.
 abbrev pub part_size : Part → ℕ
 part_size (Octets octets) = length octets
 part_size (CompressibleName name) = length (uncompressed name)
 
+-- The octets that parts take uncompressed.
 abbrev pub parts_size : List Part → ℕ
 parts_size [] = 0
 parts_size (part ∷ parts) = part_size part + parts_size parts
 
--- The parts fill the places from p to the end, one behind the other: octets literally, and names where only the octets up to the end are seen.
+-- The parts are encoded in order from offset p to `end`: octets as they are, and names in the octets before `end`.
 abbrev pub PartsStand : List ℕ → ℕ → ℕ → List Part → Type 0
 PartsStand b end p [] = p ≡ end
 PartsStand b end p (Octets octets ∷ parts) = (slice_range b p (p + length octets) ≡ octets) × PartsStand b end (p + length octets) parts
 PartsStand b end p (CompressibleName name ∷ parts) = (r : ℕ) × Stands (take end b) p name × Walked (take end b) p r × PartsStand b end r parts
 
--- the names among the parts are names
+-- The names among the parts are names.
 abbrev pub AreParts : List Part → Type 0
 AreParts [] = Unit {0}
 AreParts (Octets octets ∷ parts) = AreParts parts
@@ -41,30 +43,30 @@ AreParts (CompressibleName name ∷ parts) = IsName name × AreParts parts
 
 -- Pointers that lead back to labels. RFC 1035 section 4.1.4.
 
--- From a place to q there are labels, and then a zero octet, or a pointer to an earlier place below 16,384 where a label begins.
+-- From offset p to q there are labels, then a zero octet, or a pointer to a label at an earlier offset below 16,384.
 pub data WellPointed (b : List ℕ) (q : ℕ) : ℕ → Type 0 where
   root : {p : ℕ} → head_at b p ≡ Ok Root → q ≡ p + 1 → WellPointed b q p
   label : {p n : ℕ} → head_at b p ≡ Ok (Label n) → WellPointed b q (p + 1 + n) → WellPointed b q p
   pointer : {p t n : ℕ} → head_at b p ≡ Ok (Pointer t) → t < p → t < pointer_end → head_at b t ≡ Ok (Label n) → q ≡ p + 2 → WellPointed b q p
 
--- Where parts stand in octets, and where the labels and the pointers of the names among them do. RFC 1035 section 4.1.4.
+-- Where parts are encoded, and the labels and pointers of the names among them. RFC 1035 section 4.1.4.
 
--- The parts fill the places from p to the end, one behind the other, and each name among them is written from its first place to the next part's as `IsWritten` says.
+-- The parts take the octets from offset p to `end`, in order. `IsWritten` holds of the offset and the end of each name among them.
 abbrev pub PartsFill : (ℕ → ℕ → Type 0) → ℕ → ℕ → List Part → Type 0
 PartsFill IsWritten end p [] = p ≡ end
 PartsFill IsWritten end p (Octets octets ∷ parts) = PartsFill IsWritten end (p + length octets) parts
 PartsFill IsWritten end p (CompressibleName name ∷ parts) = (q : ℕ) × IsWritten p q × PartsFill IsWritten end q parts
 
--- From a place to q there are labels, each of which begins below 16,384, and then a zero octet or a pointer.
+-- From offset p to q there are labels within pointer range, that is, each begins below offset 16,384. Then follows a zero octet or a pointer.
 pub data LabelsNear (b : List ℕ) (q : ℕ) : ℕ → Type 0 where
   root : {p : ℕ} → head_at b p ≡ Ok Root → q ≡ p + 1 → LabelsNear b q p
   label : {p n : ℕ} → head_at b p ≡ Ok (Label n) → p < pointer_end → LabelsNear b q (p + 1 + n) → LabelsNear b q p
   pointer : {p t : ℕ} → head_at b p ≡ Ok (Pointer t) → q ≡ p + 2 → LabelsNear b q p
 
--- every label of the names among the parts begins below 16,384
+-- Every label of the names among the parts is within pointer range.
 abbrev pub PartsNear : List ℕ → ℕ → ℕ → List Part → Type 0
 PartsNear b end p parts = PartsFill (λ p q. LabelsNear b q p) end p parts
 
--- every pointer of the names among the parts leads to an earlier place below 16,384 where a label begins
+-- Every pointer of the names among the parts leads to a label at an earlier offset below 16,384.
 abbrev pub PartsPointed : List ℕ → ℕ → ℕ → List Part → Type 0
 PartsPointed b end p parts = PartsFill (λ p q. WellPointed b q p) end p parts

@@ -1,20 +1,20 @@
-//! The order of canonical forms (RFC 4034 section 6).
+//! The canonical order of DNS data (RFC 4034 section 6).
 ghost use Rattle.std.specs.Prelude.{◌≡◌};
 ghost use Rattle.std.specs.Cmp.{IsTotalOrder, on_total};
 ghost use Rattle.std.specs.declared.cmp.Ordering.{Ordering};
 
 use std::cmp::Ordering;
 
-/// What has a canonical order: that in which records are signed (RFC 4034 section 6).
+/// A type with a canonical order, in which records are signed (RFC 4034 section 6).
 pub trait CanonicalOrd {
-    /// The order.
+    /// The canonical order.
     ghost canonical_order: { Self → Self → Ordering };
 
     /// Compares two values by the canonical order.
     fn canonical_cmp(&self, other: &Self) -> Ordering
         ensures { result ≡ canonical_order self.now other.now };
 
-    /// It is total.
+    /// The canonical order is total.
     ghost canonical_total: { IsTotalOrder canonical_order };
 }
 

@@ -8,30 +8,31 @@ use dns_name::ToName;
 use dns_octets::{AppendError, Octets, OctetsMut};
 use std::alloc::AllocError;
 
-/// What a message is written to: a content of octets, and what is remembered of the names in it.
+/// A target that a message is written to: its content in octets, and the compression table of the
+/// names in it.
 ///
-/// A refused append changes nothing. It is `ShortBuf` where the octets pass the room, and `OutOfMemory` where a growth
-/// was refused.
+/// Errors of an append: `ShortBuf` if the content would exceed the capacity, `OutOfMemory` if an
+/// allocation fails. Nothing changes on error.
 pub trait Composer: Drop {
-    /// How names are written.
+    /// How names are compressed.
     ghost rule: { Rule };
 
-    /// The most octets that the content can have, if there is such a bound.
+    /// The maximum length of the content in octets, if there is one.
     ghost room: { Option ℕ };
 
-    /// Whether an append may take memory.
+    /// Whether an append may allocate.
     ghost grows: { Bool };
 
-    /// The content, and what is remembered.
+    /// The content and the compression table.
     ghost written: { Self → Written };
 
-    /// The content.
+    /// Returns the content.
     fn as_slice(&self) -> &[u8]
         ensures octets { result.now ≡ (written self.now).octets }
         ensures is_target { IsTarget (written self.now) }
         ensures fits { Fits room (length (written self.now).octets) };
 
-    /// Appends octets as they are. Nothing of them is remembered.
+    /// Appends octets as they are. The compression table doesn't change.
     fn append_slice(&mut self, octets: &[u8]) -> Result<(), AppendError>
         ensures { Appends room grows (put_octets octets.now) (written self.old) (written self.new)
             result };
@@ -41,45 +42,46 @@ pub trait Composer: Drop {
         ensures { Appends room grows (put_name rule (N.name name.now)) (written self.old)
             (written self.new) result };
 
-    /// Whether names are compressed.
+    /// Returns whether names are compressed.
     fn can_compress(&self) -> bool
         ensures { result ≡ compresses rule };
 
-    /// Cuts the content to its first `len` octets, if it has more, and forgets the names that end behind them.
+    /// Truncates the content to `len` octets, if it has more. Removes the table entries of names
+    /// that end after them.
     fn truncate(&mut self, len: usize)
         ensures cut { written self.new ≡ cut_to len (written self.old) }
         ensures is_target { IsTarget (written self.new) };
 
-    /// Writes octets over those from a place on.
+    /// Overwrites the octets from offset `place` on, which no name in the table may use.
     fn write_at(&mut self, place: usize, octets: &[u8])
         requires within { place + length octets.now ≤ length (written self.old).octets }
         requires clear { IsClear (written self.old).memory place (length octets.now) }
         ensures { written self.new ≡ overwrite place octets.now (written self.old) };
 
-    /// What doesn't compress remembers nothing.
+    /// A target that doesn't compress has an empty table.
     ghost plain_forgets: { rule ≡ Plain → (t : Self) → (written t).memory ≡ nothing };
 }
 
-/// A target that can be taken for the octets that it holds.
+/// A target that can be converted into the octets that it holds.
 pub trait FreezeBuilder: Composer {
-    /// What holds the octets.
+    /// The type of the octets.
     type Octets: Octets;
 
-    /// The content. It takes no memory.
+    /// Returns the content, without allocating.
     fn freeze(self) -> Self::Octets
         ensures { Self.Octets.octets result ≡ (Self.written self).octets };
 }
 
-/// A target that can be cloned where there is memory.
+/// A target that can be cloned.
 pub trait CloneTarget: Composer + Sized {
-    /// An equal target.
+    /// Returns an equal target. Returns `AllocError` if an allocation fails.
     fn clone_target(&self) -> Result<Self, AllocError>
         ensures equal { IfOk result (λ clone. Self.written clone ≡ Self.written self.now) }
         ensures memory { OnErr result (IsTrue Self.grows) };
 }
 
-/// The octets that a vector without room takes memory for at its first append: what a message over UDP may have
-/// (RFC 1035 section 4.2.1).
+/// The octets that a vector without capacity reserves at its first append: the maximum length of a
+/// message over UDP (RFC 1035 section 4.2.1).
 const FIRST_CAPACITY: usize = 512;
 
 impl Composer for Vec<u8> {
@@ -104,7 +106,7 @@ impl Composer for Vec<u8> {
             → vec_capacity self.old < vec_len self.old + length octets.now }
     {
         if self.capacity() == 0 {
-            // Where this is refused, what `octets` take may still be had.
+            // If this allocation fails, a smaller one for `octets` may still succeed.
             let _ = self.reserve(FIRST_CAPACITY);
         }
         self.extend_from_slice(octets)
@@ -208,8 +210,8 @@ impl<const N: usize> CloneTarget for ArrayVec<u8, N> {
     }
 }
 
-/// The target behind the reference, so that a caller keeps it where it is. What was written is known of the reference that
-/// `finish` or `into_target` of a builder gives back.
+/// Writes to the referenced target, so the caller keeps it. What was written is known of the
+/// reference that `finish` or `into_target` of a builder returns.
 impl<T: Composer> Composer for &mut T {
     ghost rule = { T.rule };
 

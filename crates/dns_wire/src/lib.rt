@@ -1,7 +1,8 @@
-//! Octets of DNS messages and the names in them: what is read (`dns_octets`, `dns_name`), and the targets that messages are
-//! written to.
+//! Octets of DNS messages and the names in them: what is read (`dns_octets`, `dns_name`), and the
+//! targets that messages are written to.
 //!
-//! It promises that what is put into a target is read back, under every rule of compression (RFC 1035 section 4.1.4).
+//! What is written to a target reads back unchanged, under every rule of compression (RFC 1035
+//! section 4.1.4).
 #![tactic(auto)]
 
 mod canonical_ord;

@@ -1,4 +1,5 @@
-//! Theorems on targets and what is put there. The functions do nothing: each contract is a theorem over all contents, names and parts.
+//! Theorems on targets and what is written to them. The functions do nothing: each contract is a
+//! theorem over all contents, names and parts.
 ghost use Rattle.dns_wire.specs.Choice.{NamesByChoice};
 ghost use Rattle.dns_wire.specs.Spelling.{PartsAreShortest, PartsPointToLabels, ShortPartsAreNear};
 ghost use Rattle.dns_wire.specs.TargetLaws.{StandsWhereAgreed, StandsWithMore, StandsInAll, StandsOfIn, StandsWhenOverwritten};
@@ -6,7 +7,8 @@ ghost use Rattle.dns_wire.specs.TargetLaws.{RemembersWhatStands, StandsBehind, N
 ghost use Rattle.dns_wire.specs.TargetLaws.{CutUndoes, NamesGrow, OctetsGrow, PartsGrow, BothGrow, PiecesStayBehind, NamesStayBehind};
 ghost use Rattle.dns_wire.specs.TargetLaws.{NamesReadBack, PartsReadBack, NamesAreShort, AppendsCompose, ComposesBoth, ComposesFirst};
 
-/// A name that stands in a content stands in every longer one, and where octets that it does not use are overwritten.
+/// A name encoded in a content is encoded in every longer one, and in one with octets overwritten
+/// that the name doesn't use.
 pub fn standing_is_stable()
     ensures agreed { StandsWhereAgreed }
     ensures more { StandsWithMore }
@@ -15,7 +17,8 @@ pub fn standing_is_stable()
     ensures overwritten { StandsWhenOverwritten }
 {}
 
-/// What a target remembers stands where it says, and appends, cuts and overwrites keep that. A cut at the length before a piece undoes it.
+/// Each suffix in the compression table is encoded where the table says. Appends, truncations and
+/// overwrites preserve this. Truncating to the old length undoes an append.
 pub fn memory_is_sound()
     ensures stands { RemembersWhatStands }
     ensures stands_behind { StandsBehind }
@@ -33,36 +36,40 @@ pub fn memory_is_sound()
     ensures names_behind { NamesStayBehind }
 {}
 
-/// Names and parts that were put stand where they were put and read back the same, under every rule.
+/// Names and parts read back unchanged from where they were written, under every rule.
 pub fn names_and_parts_read_back()
     ensures names { NamesReadBack }
     ensures parts { PartsReadBack }
 {}
 
-/// Each compressor writes a name by the first suffix that it knows and the first label that is too far to be remembered.
+/// How each compressor writes a name, in terms of the first suffix in the table and the first label
+/// whose suffix can't enter it.
 pub fn names_by_choice()
     ensures { NamesByChoice }
 {}
 
-/// What is written of a name takes at most the octets that it has without pointers, under every rule.
+/// A name takes at most as many octets as it does uncompressed, under every rule.
 pub fn names_are_short()
     ensures { NamesAreShort }
 {}
 
-/// What is appended by several calls is composed: each append composes its piece, pieces one behind the other compose both, and the refusal of one is that of all.
+/// How appends compose: one append of an encoding composes it, encodings in order compose both, and
+/// an error in the first is an error of both.
 pub fn pieces_compose()
     ensures one { AppendsCompose }
     ensures both { ComposesBoth }
     ensures first { ComposesFirst }
 {}
 
-/// Each pointer of parts that are put leads to an earlier label below 16,384, under every rule (RFC 1035 section 4.1.4).
+/// Each pointer in written parts leads to an earlier label below offset 16,384, under every rule
+/// (RFC 1035 section 4.1.4).
 pub fn parts_point_to_labels()
     ensures { PartsPointToLabels }
 {}
 
-/// While every label begins below 16,384, no spelling of the names of parts is shorter than what the tree and the hash
-/// rule write where nothing is remembered, and the static rule while it remembers fewer than 24 suffixes.
+/// Parts written after an empty table take the octets of a shortest compression of their names,
+/// while all labels begin below offset 16,384. This holds for the tree and hash rules, and for the
+/// static rule while its table has fewer than 24 suffixes.
 pub fn parts_are_shortest()
     ensures shortest { PartsAreShortest }
     ensures near { ShortPartsAreNear }

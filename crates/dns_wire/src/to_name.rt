@@ -4,7 +4,8 @@ use dns_name::compare::{order_composed, order_from_root, same_labels, same_octet
 use dns_octets::AppendError;
 use std::cmp::Ordering;
 
-/// Comparisons of whatever stands for a name, which take no memory, and its canonical form.
+/// Comparisons and the canonical form of any value that represents a name. The comparisons don't
+/// allocate.
 pub trait ToNameExt: ToName {
     ghost use Rattle.std.specs.Prelude.{◌≡◌, ◌↔◌, IsTrue};
     ghost use Rattle.dns_name.specs.Names.{lowered, uncompressed};
@@ -12,37 +13,38 @@ pub trait ToNameExt: ToName {
     ghost use Rattle.dns_wire.specs.Targets.{Appends};
     ghost use Rattle.dns_name.specs.NameOrders.{name_order, composed_order};
 
-    /// Whether two names are equal up to ASCII case (RFC 1035 section 2.3.3).
+    /// Returns whether two names are equal, ignoring ASCII case (RFC 1035 section 2.3.3).
     fn name_eq<N: ToName>(&self, other: &N) -> bool
         ensures { IsTrue result ↔ (lowered (Self.name self.now) ≡ lowered (N.name other.now)) }
     {
         same_labels(&self.as_parsed(), &other.as_parsed())
     }
 
-    /// Whether two names are equal octet for octet: they have the same labels in the same letter case.
+    /// Returns whether two names have the same labels, octet for octet.
     fn octets_eq<N: ToName>(&self, other: &N) -> bool
         ensures { IsTrue result ↔ (Self.name self.now ≡ N.name other.now) }
     {
         same_octets(&self.as_parsed(), &other.as_parsed())
     }
 
-    /// Compares labels, lowercased, from the root leftwards (RFC 4034 section 6.1). A name stands before those of which
-    /// it is a proper ending.
+    /// Compares labels from the root leftwards, ignoring ASCII case (RFC 4034 section 6.1). A name
+    /// precedes its subdomains.
     fn name_cmp<N: ToName>(&self, other: &N) -> Ordering
         ensures { result ≡ name_order (Self.name self.now) (N.name other.now) }
     {
         order_from_root(&self.as_parsed(), &other.as_parsed())
     }
 
-    /// Compares the octets of the names without pointers, lowercased (RFC 4034 sections 6.2 and 6.3).
+    /// Compares the uncompressed octets of the names, with ASCII letters lowercased (RFC 4034
+    /// sections 6.2 and 6.3).
     fn lowercase_composed_cmp<N: ToName>(&self, other: &N) -> Ordering
         ensures { result ≡ composed_order (Self.name self.now) (N.name other.now) }
     {
         order_composed(&self.as_parsed(), &other.as_parsed())
     }
 
-    /// Appends the octets of the name without pointers, lowercased (RFC 4034 section 6.2). A refused append changes
-    /// nothing.
+    /// Appends the uncompressed octets of the name, with ASCII letters lowercased (RFC 4034 section
+    /// 6.2). Nothing changes on error.
     fn compose_canonical<T: Composer>(&self, target: &mut T) -> Result<(), AppendError>
         ensures { Appends T.room T.grows (put_octets (uncompressed (lowered (Self.name self.now))))
             (T.written target.old) (T.written target.new) result }
