@@ -67,7 +67,7 @@ pub fn parts_point_to_labels()
     ensures { PartsPointToLabels }
 {}
 
-/// Parts written after an empty table take the octets of a shortest compression of their names,
+/// If the table was empty, written parts take the octets of a shortest compression of their names,
 /// while all labels begin below offset 16,384. This holds for the tree and hash rules, and for the
 /// static rule while its table has fewer than 24 suffixes.
 pub fn parts_are_shortest()
