@@ -1,4 +1,4 @@
--- Names that stand without a pointer.
+-- Names that are encoded without a pointer.
 use Rattle.std.proofs.Common.{◌≡◌, ℕ, ◌+◌, ◌-◌, ◌≤◌, List, [], ◌∷◌, ◌++◌, length, length-append, length-drop, take, drop, append_assoc, arith, ap, sym, ◌∙◌, subst}
 use Rattle.std.specs.Prelude.{Ok}
 use Rattle.std.proofs.lemmas.List.Elements.{All-head}
@@ -10,7 +10,7 @@ use Rattle.dns_name.proofs.theory.HeadLemmas.{root_begins, label_begins, at_root
 use Rattle.dns_name.proofs.theory.LabelsLemmas.{length-uncompressed}
 use Rattle.dns_name.proofs.theory.Spelling.{drop_label, drop_root, get_drop}
 
--- How far a name is known to stand without a pointer: labels lead from start to at, where the rest of it stands.
+-- A walk from `start` has only met labels up to `at`, where the name's remaining labels are encoded. So the octets from `start` on are the uncompressed name exactly if those from `at` on are the uncompressed remaining labels.
 pub record Flat (b : List ℕ) (start at : ℕ) (whole : Labels) : Type 0 where
   pub rest : Labels
   pub stands : Stands b at rest
@@ -20,14 +20,14 @@ pub record Flat (b : List ℕ) (start at : ℕ) (whole : Labels) : Type 0 where
 pub flat_none : (b : List ℕ) (p : ℕ) (name : Labels) → Stands b p name → Flat b p p name
 flat_none b p name s = record { rest = name; stands = s; whole_if = λ behind e. e; rest_if = λ behind e. e }
 
--- the octets of a label and of a name behind it
+-- The uncompressed octets of a label and a name after it.
 label_octets : (b : List ℕ) (at n : ℕ) (name : Labels) (behind : List ℕ) → at + 1 + n ≤ length b
     → uncompressed (label_at b at n ∷ name) ++ behind ≡ n ∷ (label_at b at n ++ (uncompressed name ++ behind))
 label_octets b at n name behind fits =
     append_assoc (length (label_at b at n) ∷ label_at b at n) (uncompressed name) behind
     ∙ ap (λ k. k ∷ (label_at b at n ++ (uncompressed name ++ behind))) (length_label b at n fits)
 
--- behind a label
+-- The walk continues after a label.
 pub flat_label : (b : List ℕ) (start at n at' : ℕ) (whole : Labels) → Flat b start at whole → head_at b at ≡ Ok (Label n) → at' ≡ at + 1 + n → Flat b start at' whole
 flat_label b start at n at' whole f h e =
     let l = at_label b f.stands h in
@@ -45,12 +45,12 @@ flat_label b start at n at' whole f h e =
           ∙ drop-append_seam (n ∷ label_at b at n) (uncompressed l.others ++ behind);
     })
 
--- where the root begins, the octets of the whole name are there
+-- At the root label, the octets from `start` on are the uncompressed name.
 pub flat_root : (b : List ℕ) (start at : ℕ) (whole : Labels) → Flat b start at whole → head_at b at ≡ Ok Root → drop start b ≡ uncompressed whole ++ drop (at + 1) b
 flat_root b start at whole f h =
     f.whole_if (drop (at + 1) b) (drop_root b at h ∙ ap (λ (name : Labels). uncompressed name ++ drop (at + 1) b) (sym (at_root b f.stands h)))
 
--- where a pointer begins, they aren't
+-- At a pointer they aren't.
 pub flat_pointer : (b : List ℕ) (start at t : ℕ) (whole : Labels) → Flat b start at whole → head_at b at ≡ Ok (Pointer t) → (behind : List ℕ) → drop start b ≡ uncompressed whole ++ behind → ⊥
 flat_pointer b start at t whole f h behind e = go f.rest f.stands (f.rest_if behind e)
   where
@@ -61,7 +61,7 @@ flat_pointer b start at t whole f h behind e = go f.rest f.stands (f.rest_if beh
         let r = label_begins b at (length label) l.some l.short (get_drop b at (length label) ((label ++ uncompressed rest) ++ behind) d) in
         cc (r, h)
 
--- octets that begin with those of a name are long enough for them
+-- Octets that begin with an uncompressed name are at least as long as it.
 pub flat_within : (b : List ℕ) (start : ℕ) (name : Labels) (behind : List ℕ) → drop start b ≡ uncompressed name ++ behind → start + length (uncompressed name) ≤ length b
 flat_within b start name behind e =
     let size = length-drop start b in
@@ -69,7 +69,7 @@ flat_within b start name behind e =
     let some = length-uncompressed name in
     omega arith
 
--- and so many of them are the name's
+-- Their first octets, as many as the name takes, are the uncompressed name.
 pub flat_octets : (b : List ℕ) (start size : ℕ) (name : Labels) (behind : List ℕ) → drop start b ≡ uncompressed name ++ behind → size ≡ length (uncompressed name)
     → take (start + size - start) (drop start b) ≡ uncompressed name
 flat_octets b start size name behind e is =

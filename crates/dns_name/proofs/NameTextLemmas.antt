@@ -5,7 +5,7 @@ use Rattle.std.proofs.lemmas.List.Elements.{All-head, All-tail}
 use Rattle.dns_name.specs.Names.{Labels, IsLabel, with_root}
 use Rattle.dns_name.specs.NameTexts.{dot, label_text, name_text}
 
--- what is still to be printed behind a separator: the root label is passed over
+-- The text of the labels still to be printed, each after a separator. The root label adds nothing.
 abbrev pub text_left : List ℕ → Labels → List ℕ
 text_left separator [] = []
 text_left separator ([] ∷ name) = text_left separator name
@@ -17,12 +17,12 @@ joined_left separator (o ∷ label) [] h = ap (λ (t : List ℕ). separator ++ t
 joined_left separator (o ∷ label) (next ∷ name) h =
     ap (λ (t : List ℕ). separator ++ (label_text (o ∷ label) ++ t)) (joined_left (dot ∷ []) next name (All-tail IsLabel (o ∷ label) (next ∷ name) h))
 
--- at first all of the name is left
+-- Before the first label the whole text remains.
 pub all_text_left : (name : Labels) → All IsLabel name → text_left [] (with_root name) ≡ name_text name
 all_text_left [] h = refl
 all_text_left (label ∷ name) h = joined_left [] label name h
 
--- a label is printed behind the separator, and a dot is the separator behind it
+-- Printing the separator and a label leaves the text of the other labels, with a dot as the next separator.
 pub one_label_printed : (printed separator label : List ℕ) (behind : Labels) (whole : List ℕ) → (label ≡ [] → ⊥)
     → printed ++ text_left separator (label ∷ behind) ≡ whole → (printed ++ (separator ++ label_text label)) ++ text_left (dot ∷ []) behind ≡ whole
 one_label_printed printed separator [] behind whole some e = absurd (some refl)

@@ -10,7 +10,7 @@ use Rattle.dns_name.specs.NameTexts.{dot, SpellsOctet, SpellsFirst, SpellsLabel,
 use Rattle.dns_name.specs.NameReading.{LabelFirst, AreOctets}
 use Rattle.dns_name.specs.declared.name_error.PresentationError.{PresentationError}
 
--- A front of the text spells the octets of a label that are read so far, behind labels of the size. A fault that is met behind them is one of the text.
+-- A prefix of the text represents the octets of a label that are read so far, after labels of `size` octets. A fault met in the remaining text is a fault of the text.
 pub record InLabel (text : List ℕ) (size : ℕ) (label left : List ℕ) : Type 0 where
   pub front : List ℕ
   pub whole : text ≡ front ++ left
@@ -20,7 +20,7 @@ pub record InLabel (text : List ℕ) (size : ℕ) (label left : List ℕ) : Type
   pub some : 0 < length label + length left
   pub faults : (f : PresentationError) → NameTextFaulty left (length label) size f → NameTextFaulty text 0 size f
 
--- no octet is read yet
+-- No octet is read yet.
 pub label_start : (text : List ℕ) (size : ℕ) → 0 < length text → InLabel text size [] text
 label_start text size some = record {
   front = [];
@@ -37,7 +37,7 @@ spells_push {last = last} {o = o} SpellsLabel.none s = subst (λ t. SpellsLabel 
 spells_push {last = last} {o = o} (SpellsLabel.octet {front = a} {text = b} {label = label} {o = first} x l) s =
     subst (λ t. SpellsLabel t (first ∷ (label ++ o ∷ []))) (sym (append_assoc a b last)) (SpellsLabel.octet x (spells_push l s))
 
--- one octet more
+-- One more octet is read.
 pub label_more : (text : List ℕ) (size : ℕ) (label left rest : List ℕ) (o : ℕ) → InLabel text size label left
     → SpellsFirst left o rest → length label < 63 → size + length label + 2 ≤ max_size → InLabel text size (label ++ o ∷ []) rest
 label_more text size label left rest o x s short room =
@@ -52,7 +52,7 @@ label_more text size label left rest o x s short room =
       faults = λ f h. x.faults f (NameTextFaulty.octet s short room (subst (λ n. NameTextFaulty rest n size f) more h));
     }
 
--- The labels that are read so far have these octets. What is spelled behind them is spelled by the text with them, and a fault that is met behind them is one of the text.
+-- The labels that are read so far have these octets. Labels that the remaining text represents follow them in what the whole text represents. A fault met in the remaining text is a fault of the text.
 pub record InLabels (text octets left : List ℕ) : Type 0 where
   pub name : Labels
   pub same : flat_map framed name ≡ octets
@@ -62,16 +62,16 @@ pub record InLabels (text octets left : List ℕ) : Type 0 where
   pub spelled : (rest : Labels) → SpellsLabels left rest → SpellsLabels text (name ++ rest)
   pub faults : (f : PresentationError) → NameTextFaulty left 0 (length octets) f → NameTextFaulty text 0 0 f
 
--- a list of one label
+-- A list of one label is a list of labels.
 one_label : (label : List ℕ) → IsLabel label → All IsLabel (label ∷ [])
 one_label label h = λ k d within. let first : k ≡ 0 = omega (arith, within) in subst (λ i. IsLabel (get_or (label ∷ []) i d)) (sym first) h
 
--- its octets stand behind the others
+-- The octets of a further label follow those of the labels before it.
 framed_more : (name : Labels) (label octets : List ℕ) → flat_map framed name ≡ octets → flat_map framed (name ++ label ∷ []) ≡ octets ++ framed label
 framed_more name label octets e =
     flat_map-append framed name (label ∷ []) ∙ ap (λ (o : List ℕ). o ++ (framed label ++ [])) e ∙ ap (λ (t : List ℕ). octets ++ t) (append-nil (framed label))
 
--- one label more, and a dot behind it
+-- One more label is read, and the dot after it.
 label_passed : (text octets left label behind : List ℕ) → InLabels text octets left → LabelFirst left (length octets) label behind → 2 ≤ length behind
     → InLabels text (octets ++ framed label) (drop 1 behind)
 label_passed text octets left label [] x l long = absurd (omega (arith, long))
@@ -90,7 +90,7 @@ label_passed text octets left label (c ∷ behind) x l long =
           (NameTextFaulty.behind_dot l.is_label.some (subst (λ n. NameTextFaulty behind 0 n f) size h))));
     }
 
--- the same with what is left as a slice
+-- The same, with the remaining text as a slice.
 pub labels_more : (text octets left label behind : List ℕ) → InLabels text octets left → LabelFirst left (length octets) label behind → 2 ≤ length behind
     → InLabels text (octets ++ framed label) (take (length behind - 1) (drop 1 behind))
 labels_more text octets left label behind x l long =
@@ -107,7 +107,7 @@ length-framed : (name : Labels) → length (flat_map framed name) ≡ name_size 
 length-framed [] = refl
 length-framed (label ∷ name) = omega (arith, length-append label (flat_map framed name), length-framed name)
 
--- the last label is read
+-- The last label is read.
 pub labels_end : (text octets left label behind : List ℕ) → InLabels text octets left → LabelFirst left (length octets) label behind → length behind < 2
     → AreOctets (SpellsLabels text) ((octets ++ framed label) ++ 0 ∷ [])
 labels_end text octets left label behind x l short =

@@ -1,4 +1,4 @@
--- Which octet a text begins with.
+-- The octet that the start of a text represents.
 use Rattle.std.proofs.Common.{◌⊎◌, inl, inr, ◌≡◌, ◌∙◌, ℕ, ◌-◌, ◌<◌, ◌≤◌, Bool, true, false, nat_eq, nat_lt, List, [], ◌∷◌, ◌++◌, length, take, drop, get_or, length-append, ap, sym, subst, refl, arith}
 use Rattle.std.specs.Prelude.{Option, Some, None, ◌&&◌, if◌then◌else◌, not}
 use Rattle.std.proofs.lemmas.Bool.{and_from}
@@ -7,22 +7,22 @@ use Rattle.std.proofs.lemmas.Grind.{common_steps}
 use Rattle.dns_name.specs.NameTexts.{dot, backslash, is_graphic, is_plain, is_digit, decimal_value, SpellsOctet, SpellsFirst, SpellsNone, NameTextFaulty}
 use Rattle.dns_name.specs.declared.name_error.PresentationError.TheVariants.{BadEscape}
 
--- the octet of three digits, and the text behind it
+-- The octet of three digits, and the text after it.
 abbrev decimal_read : ℕ → ℕ → ℕ → List ℕ → Option (ℕ × List ℕ)
 decimal_read a b c rest = if is_digit b && (is_digit c && nat_lt (decimal_value a b c) 256) then Some (decimal_value a b c, rest) else None
 
--- the same behind the first digit
+-- The same, after the first digit.
 abbrev digits_read : ℕ → List ℕ → Option (ℕ × List ℕ)
 digits_read a [] = None
 digits_read a (b ∷ []) = None
 digits_read a (b ∷ c ∷ rest) = decimal_read a b c rest
 
--- the octet behind a backslash
+-- The octet of an escape, after its backslash.
 abbrev escape_read : List ℕ → Option (ℕ × List ℕ)
 escape_read [] = None
 escape_read (a ∷ text) = if is_digit a then digits_read a text else if is_graphic a then Some (a, text) else None
 
--- the octet that a text begins with
+-- The octet that the start of a text represents, and the text after it.
 abbrev pub octet_read : List ℕ → Option (ℕ × List ℕ)
 octet_read [] = None
 octet_read (c ∷ text) = if nat_eq c backslash then escape_read text else if is_plain c then Some (c, text) else None
@@ -40,30 +40,30 @@ octet_is (SpellsOctet.decimal {a = a} {b = b} {c = c} x y z small) rest =
     let fits : nat_lt (decimal_value a b c) 256 ≡ true = grind (arith, nat_tests) in
     rw (x, y, z, fits) refl
 
--- it is the one that a front spells
+-- An octet that a prefix of the text represents is the one that is read.
 pub first_is : {text rest : List ℕ} {o : ℕ} → SpellsFirst text o rest → octet_read text ≡ Some (o, rest)
 first_is s = ap octet_read s.whole ∙ octet_is s.spelled _
 
--- nothing is spelled where none is read
+-- If no octet is read, no prefix represents one.
 pub none_spelled : (text : List ℕ) → octet_read text ≡ None → SpellsNone text
 none_spelled text e o rest s = let is = first_is s in cc
 
 escape_fault : (text : List ℕ) → escape_read text ≡ None → (n size : ℕ) → NameTextFaulty (backslash ∷ text) n size BadEscape
 escape_fault text e n size = NameTextFaulty.escape (none_spelled (backslash ∷ text) e)
 
--- a backslash at the end
+-- A backslash at the end is a bad escape.
 pub no_escape : (n size : ℕ) → NameTextFaulty (backslash ∷ []) n size BadEscape
 no_escape n size = escape_fault [] refl n size
 
--- a backslash before what is no graphic character
+-- A backslash before a character that isn't graphic is a bad escape.
 pub bad_escape : (c : ℕ) (text : List ℕ) → is_graphic c ≡ false → is_digit c ≡ false → (n size : ℕ) → NameTextFaulty (backslash ∷ c ∷ text) n size BadEscape
 bad_escape c text g d n size = escape_fault (c ∷ text) (rw (d, g) refl) n size
 
--- a backslash before a graphic character
+-- A backslash before a graphic character other than a digit represents that character.
 pub escaped_first : (c : ℕ) (text : List ℕ) → is_graphic c ≡ true → is_digit c ≡ false → SpellsFirst (backslash ∷ c ∷ text) c text
 escaped_first c text g d = record { front = backslash ∷ c ∷ []; whole = refl; spelled = SpellsOctet.escaped g (ap not d) }
 
--- a plain character
+-- A plain character represents itself.
 pub plain_first : (c : ℕ) (text : List ℕ) → is_plain c ≡ true → SpellsFirst (c ∷ text) c text
 plain_first c text p = record { front = c ∷ []; whole = refl; spelled = SpellsOctet.plain p }
 
@@ -82,13 +82,13 @@ no_digits a (b ∷ []) never = refl
 no_digits a (b ∷ c ∷ rest) never =
     no_decimal a b c rest _ _ _ refl refl refl (λ x y z. never (omega arith) x y (let small : nat_lt (decimal_value a b c) 256 ≡ true = z in grind (arith, nat_tests)))
 
--- a backslash before a digit that no two follow, or that begin too large a number
+-- A backslash before a digit is a bad escape unless two more digits follow and the number is below 256.
 pub bad_decimal : (a : ℕ) (text : List ℕ) → is_digit a ≡ true
     → (2 ≤ length text → is_digit (get_or text 0 0) ≡ true → is_digit (get_or text 1 0) ≡ true → decimal_value a (get_or text 0 0) (get_or text 1 0) < 256 → ⊥)
     → (n size : ℕ) → NameTextFaulty (backslash ∷ a ∷ text) n size BadEscape
 bad_decimal a text d never n size = escape_fault (a ∷ text) (rw d (no_digits a text never)) n size
 
--- a backslash before three digits
+-- A backslash before three digits represents the octet with that number.
 pub decimal_first : (a : ℕ) (text : List ℕ) (o : ℕ) → is_digit a ≡ true → 2 ≤ length text → is_digit (get_or text 0 0) ≡ true → is_digit (get_or text 1 0) ≡ true
     → o ≡ decimal_value a (get_or text 0 0) (get_or text 1 0) → o < 256 → SpellsFirst (backslash ∷ a ∷ text) o (take (length text - 2) (drop 2 text))
 decimal_first a [] o x long y z is small = absurd (omega (arith, long))
@@ -103,30 +103,30 @@ decimal_first a (b ∷ c ∷ rest) o x long y z is small =
       spelled = SpellsOctet.decimal x y z fits;
     })
 
--- a list of no length is empty
+-- A list of length 0 is empty.
 pub nil_of : (text : List ℕ) → length text ≡ 0 → text ≡ []
 nil_of [] e = refl
 nil_of (c ∷ text) e = absurd (omega (arith, e))
 
--- a graphic character but a dot and a backslash is plain
+-- A graphic character other than a dot or a backslash is plain.
 pub plain_from : (c : ℕ) → is_graphic c ≡ true → (c ≡ dot → ⊥) → (c ≡ backslash → ⊥) → is_plain c ≡ true
 plain_from c g d b = and_from _ _ g (grind (arith, nat_tests))
 
--- a test that fails does not hold
+-- A test that is false isn't true.
 pub fails : (b : Bool) → false ≡ b → b ≡ true → ⊥
 fails b e h = cc
 
--- what spells an octet is not empty
+-- A text that represents an octet is not empty.
 pub octet_long : {front : List ℕ} {o : ℕ} → SpellsOctet front o → 0 < length front
 octet_long (SpellsOctet.plain p) = omega arith
 octet_long (SpellsOctet.escaped g d) = omega arith
 octet_long (SpellsOctet.decimal x y z small) = omega arith
 
--- less text is left behind an octet
+-- The text after an octet is shorter.
 pub first_shorter : {text rest : List ℕ} {o : ℕ} → SpellsFirst text o rest → length rest < length text
 first_shorter {rest = rest} s = omega (arith, ap length s.whole, length-append s.front rest, octet_long s.spelled)
 
--- a front of the text spells an octet that is read
+-- A prefix of the text represents an octet.
 abbrev pub HasFirst : List ℕ → Type 0
 HasFirst text = (o : ℕ) × (rest : List ℕ) × SpellsFirst text o rest
 
@@ -160,12 +160,12 @@ octet_at c text true p e q =
 octet_at c text false true e q = inr (c, text, plain_first c text q)
 octet_at c text false false e q = inl (rw (q, e) refl)
 
--- either a front of a text spells an octet, or none is read
+-- Either no octet is read, or a prefix of the text represents one.
 pub octet_view : (text : List ℕ) → (octet_read text ≡ None) ⊎ HasFirst text
 octet_view [] = inl refl
 octet_view (c ∷ text) = octet_at c text _ _ refl refl
 
--- where nothing is spelled none is read
+-- If no prefix represents an octet, none is read.
 pub none_read : (text : List ℕ) → SpellsNone text → octet_read text ≡ None
 none_read text h = elim (octet_view text) [ inl e ↦ e | inr s ↦ absurd (h s.0 s.1 s.2) ]
 
@@ -173,7 +173,7 @@ not_true : (b : Bool) → not b ≡ true → b ≡ false
 not_true true h = cc
 not_true false h = refl
 
--- what is no graphic character is read as no octet
+-- No octet is read from a character that isn't graphic.
 pub symbol_read : (c : ℕ) (text : List ℕ) → not (is_graphic c) ≡ true → octet_read (c ∷ text) ≡ None
 symbol_read c text h =
     let other : nat_eq c backslash ≡ false = grind (arith, nat_tests) in
@@ -189,6 +189,6 @@ symbol_if c text true e d b none =
     cc
 symbol_if c text false e d b none = ap not e
 
--- what is no dot and no backslash, and is read as no octet, is no graphic character
+-- If no octet is read from a character other than a dot or a backslash, the character isn't graphic.
 pub symbol_of : (c : ℕ) (text : List ℕ) → nat_eq c dot ≡ false → nat_eq c backslash ≡ false → octet_read (c ∷ text) ≡ None → not (is_graphic c) ≡ true
 symbol_of c text d b none = symbol_if c text _ refl d b none

@@ -1,4 +1,4 @@
--- The printed text of a name spells it.
+-- The printed text of a name represents it.
 use Rattle.std.proofs.Common.{◌≡◌, ℕ, ◌<◌, ◌+◌, ◌/◌, ◌%◌, Bool, true, false, List, [], ◌∷◌, subst, arith, refl, inr}
 use Rattle.std.specs.Prelude.{All, not, if◌then◌else◌}
 use Rattle.std.proofs.lemmas.Bool.Decides.{nat_tests}
@@ -48,7 +48,7 @@ labels_spelled label [] h = SpellsLabels.last (label_spelled label (All-head OfO
 labels_spelled label (next ∷ name) h =
     SpellsLabels.more (label_spelled label (All-head OfOctets label (next ∷ name) h)) (labels_spelled next name (All-tail OfOctets label (next ∷ name) h))
 
--- for each name but the root
+-- The printed text represents the name, for each name but the root.
 pub printed_names_spell : PrintedNamesSpell
 printed_names_spell [] n h some = absurd (some refl)
 printed_names_spell (label ∷ name) n h some = inr (labels_spelled label name h, n)

@@ -1,4 +1,4 @@
--- The order of names from the root, found by walks from the front.
+-- The order of names from the root, computed by walks from the first label.
 use Rattle.std.proofs.Common.{◌≡◌, ℕ, ◌+◌, ◌-◌, List, [], ◌∷◌, ◌++◌, length, take, drop, arith, ap, sym, ◌∙◌, refl, length-drop, length-take, take-append-drop, drop-drop}
 use Rattle.std.specs.Prelude.{reverse}
 use Rattle.std.specs.Cmp.{nat_cmp_is}
@@ -11,7 +11,7 @@ use Rattle.dns_name.specs.Names.{Labels, with_root}
 use Rattle.dns_name.specs.NameOrders.{label_order, name_order}
 use Rattle.dns_name.proofs.Orders.{name_order-with_root, slice_cmp-append, then_assoc}
 
--- of names that end with as many labels, those labels decide unless they are equal
+-- If names end with equally many labels, these labels decide unless they are equal.
 name_order-append : (us vs m n : Labels) → length m ≡ length n
     → name_order (us ++ m) (vs ++ n) ≡ ordering_then (name_order m n) (name_order us vs)
 name_order-append us vs m n e =
@@ -19,17 +19,17 @@ name_order-append us vs m n e =
     (slice_cmp-append label_order (reverse m) (reverse n) (reverse us) (reverse vs)
     (length-reverse m ∙ e ∙ sym (length-reverse n)))
 
--- nothing behind a comparison
+-- `Equal` after a comparison changes nothing.
 then_equal : (o : Ordering) → ordering_then o Equal ≡ o
 then_equal Less = refl
 then_equal Equal = refl
 then_equal Greater = refl
 
--- how as many labels compare with as many, where an earlier answer is known
+-- How equally many remaining labels compare, given the result for the labels before them.
 unfoldable pub rest_order : Labels → Labels → Ordering → Ordering
 rest_order m n earlier = ordering_then (name_order m n) earlier
 
--- no labels, which are as many as others only if these are none
+-- If no labels remain, the result for the labels before them stays.
 pub rest_order-none : (m n : Labels) (earlier result : Ordering) → m ≡ [] → length m ≡ length n
     → rest_order m n earlier ≡ result → earlier ≡ result
 unfolding rest_order
@@ -39,12 +39,12 @@ rest_order-none (x ∷ m) n earlier result d e h =
     let none : length (x ∷ m) ≡ length {A = List ℕ} [] = ap length d in
     absurd (omega arith)
 
--- no earlier answer
+-- Before the first label this is the order of the names.
 pub rest_order-all : (m n : Labels) → rest_order m n Equal ≡ name_order m n
 unfolding rest_order
 rest_order-all m n = then_equal (name_order m n)
 
--- one label more on each side in front
+-- One more label on each side is compared.
 pub rest_order-cons : (x y : List ℕ) (m n : Labels) (earlier : Ordering) → length m ≡ length n
     → rest_order (x ∷ m) (y ∷ n) earlier ≡ rest_order m n (ordering_then (label_order x y) earlier)
 unfolding rest_order
@@ -53,10 +53,10 @@ rest_order-cons x y m n earlier e =
     ∙ ap (ordering_then (name_order m n)) (then_equal (label_order x y)))
     ∙ sym (then_assoc (name_order m n) (label_order x y) earlier)
 
--- the steps of a walk over as many labels as others
+-- The steps of a loop over equally many labels.
 pub ruleset rest_steps = (rest_order-all, rest_order-cons)
 
--- what is left of two names in front of as many last labels
+-- How two names compare by the labels that only one of them has: as their numbers of labels do.
 surplus_order : (i j : ℕ) (us vs : Labels) → length us ≡ i - j → length vs ≡ j - i
     → slice_cmp label_order us vs ≡ nat_cmp i j
 surplus_order i j [] [] a b = nat_cmp_is i j Equal (omega arith)
@@ -64,15 +64,15 @@ surplus_order i j [] (y ∷ ys) a b = nat_cmp_is i j Less (omega arith)
 surplus_order i j (x ∷ xs) [] a b = nat_cmp_is i j Greater (omega arith)
 surplus_order i j (x ∷ xs) (y ∷ ys) a b = absurd (omega arith)
 
--- the last labels of a name, at most as many as another has
+-- The last labels of m, at most as many as n has.
 abbrev pub last_labels : Labels → Labels → Labels
 last_labels m n = drop (length m - length n) m
 
--- both have as many
+-- Both names have equally many of these.
 same_length : (m n : Labels) → length (last_labels m n) ≡ length (last_labels n m)
 same_length m n = omega (arith, length-drop (length m - length n) m, length-drop (length n - length m) n)
 
--- those decide, and else the name with fewer labels is less
+-- The last labels decide unless they are equal. Then the name with fewer labels is less.
 name_order-split : (m n : Labels)
     → name_order m n ≡ ordering_then (name_order (last_labels m n) (last_labels n m)) (nat_cmp (length m) (length n))
 name_order-split m n =
@@ -87,20 +87,20 @@ name_order-split m n =
     ∙ ap (ordering_then (name_order (drop i m) (drop j n)))
     (surplus_order (length m) (length n) (reverse us) (reverse vs) (length-reverse us ∙ a) (length-reverse vs ∙ b))
 
--- the same with the root labels
+-- The same with the root labels.
 pub name_order_from_ends : (m n : Labels)
     → name_order m n
     ≡ ordering_then (name_order (last_labels (with_root m) (with_root n)) (last_labels (with_root n) (with_root m)))
     (nat_cmp (length (with_root m)) (length (with_root n)))
 name_order_from_ends m n = sym (name_order-with_root m n) ∙ name_order-split (with_root m) (with_root n)
 
--- behind one label more
+-- Dropping one more label.
 pub drop-first : (i : ℕ) (m n : Labels) (label : List ℕ) → drop i m ≡ label ∷ n → drop (i + 1) m ≡ n
 drop-first i m n label e = sym (drop-drop 1 i m) ∙ ap (drop 1) e
 
--- behind the last label
+-- Dropping past the last label.
 pub drop-none : (i : ℕ) (m : Labels) → drop i m ≡ [] → drop (i + 1) m ≡ []
 drop-none i m e = sym (drop-drop 1 i m) ∙ ap (drop 1) e
 
--- the steps of a walk past labels
+-- The steps of a loop that skips labels.
 pub ruleset drop_steps = (drop-first, drop-none)

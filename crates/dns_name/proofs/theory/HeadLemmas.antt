@@ -1,4 +1,4 @@
--- What is known of a place by what begins there.
+-- What follows from what begins at an offset.
 use Rattle.std.proofs.Common.{◌≡◌, ℕ, zero, suc, ◌+◌, ◌-◌, ◌*◌, ◌/◌, ◌%◌, ◌<◌, ◌≤◌, List, length, arith, refl, ap, ◌∙◌, [], ◌∷◌, length-take, length-drop, sym, subst}
 use Rattle.std.specs.Prelude.{Option, Some, None, Ok, IsOk, slice_get}
 use Rattle.std.proofs.lemmas.Option.{slice_get_within}
@@ -35,12 +35,12 @@ pub pointer_within : (b : List ℕ) (p t : ℕ) → head_at b p ≡ Ok (Pointer 
 unfolding head_at
 pointer_within b p t h = let l = pointer_of (slice_get b p) (slice_get b (p + 1)) t h in slice_get_within b (p + 1) l.1 l.3
 
--- the length octet of a label that begins there
+-- The length octet of a label that begins there.
 pub label_there : (b : List ℕ) (p n : ℕ) → head_at b p ≡ Ok (Label n) → slice_get b p ≡ Some n
 unfolding head_at
 label_there b p n h = (label_of (slice_get b p) (slice_get b (p + 1)) n h).0
 
--- the zero octet of a root that begins there
+-- The zero octet of a root label that begins there.
 pub root_there : (b : List ℕ) (p : ℕ) → head_at b p ≡ Ok Root → slice_get b p ≡ Some 0
 unfolding head_at
 root_there b p h = root_of (slice_get b p) (slice_get b (p + 1)) h
@@ -59,19 +59,19 @@ head_of_pointer t h =
     let back : (192 + t / 256 - 192) * 256 + t % 256 ≡ t = omega arith in
     grind (arith, nat_tests, common_steps)
 
--- where the two octets of a pointer are it begins
+-- A pointer begins where its two octets are.
 pub pointer_begins : (b : List ℕ) (p t : ℕ) → t < 16384 → slice_get b p ≡ Some (192 + t / 256) → slice_get b (p + 1) ≡ Some (t % 256) → head_at b p ≡ Ok (Pointer t)
 unfolding head_at
 pointer_begins b p t small first second = (λ i. head_of (first i) (second i)) ∙ head_of_pointer t small
 
--- two octets decide what begins at the first
+-- Two octets decide what begins at the first.
 pub same_head : (b c : List ℕ) (p : ℕ) → slice_get b p ≡ slice_get c p → slice_get b (p + 1) ≡ slice_get c (p + 1) → head_at b p ≡ head_at c p
 unfolding head_at
 same_head b c p first second = λ i. head_of (first i) (second i)
 
--- How far a walk over a name has come.
+-- The progress of a walk over a name.
 
--- Labels of a size lead from start to at. So where the walk ends or fails from `at` decides where it ends or fails from start.
+-- Labels of this size lead from `start` to `at`. So the end or the fault of a walk from `at` is that of the walk from `start`.
 pub record Passes (b : List ℕ) (start at size : ℕ) : Type 0 where
   pub within : size ≤ max_size
   pub ends : (q : ℕ) → WalkedBehind b at size q → Walked b start q
@@ -105,10 +105,10 @@ passes_pointer b start at size t q l h e =
     let w : at + 1 < length b = pointer_within b at t h in
     (subst (λ q. Walked b start q) (sym e) (l.ends (at + 2) (WalkedBehind.pointer h)), omega arith)
 
--- What stands at a place, by what begins there.
+-- What a name encoded at an offset is, by what begins there.
 
 module _ (b : List ℕ) where
-  -- the parts of a name that begins with a label
+  -- What a name that begins with a label consists of.
   pub record BeginsWith (p n : ℕ) (name : Labels) : Type 0 where
     pub others : Labels
     pub whole : name ≡ label_at b p n ∷ others
@@ -134,7 +134,7 @@ module _ (b : List ℕ) where
   at_pointer {p = p} (pointer {t = k} {name = m} h w x) e =
       let P : ℕ → Type 0 = λ t. (t < p) × Stands b t m in subst P (cc) (w, x)
 
-  -- the one name that stands at `from` stands at `at`
+  -- The name encoded at `from` is encoded at `at` too.
   pub record Follows (from at : ℕ) : Type 0 where
     pub name : NameAt b at
     pub same : (name : Labels) → Stands b from name → Stands b at name
@@ -159,7 +159,7 @@ module _ (b : List ℕ) where
       let Q : ℕ → Type 0 = λ behind. Stands b behind w.others in
       subst P (sym w.whole) (e, subst Q (sym eb) w.stand)
 
-  -- at a name the root, a label or a pointer begins
+  -- A root label, a label or a pointer begins where a name is encoded.
   begins_there : {at : ℕ} {name : Labels} → Stands b at name → IsOk (head_at b at)
   begins_there (root h) = rw h refl
   begins_there (label h w x z) = rw h refl
@@ -175,11 +175,11 @@ module _ (b : List ℕ) where
       let short : n < 64 = (label_head b at n h).short in
       simp (length-take, length-drop) (omega arith)
 
-  -- no octets are the label of the root
+  -- The root label has no octets.
   label_at-none : (at : ℕ) → label_at b at 0 ≡ []
   label_at-none at = let none : at + 1 + 0 - (at + 1) ≡ 0 = omega arith in rw none refl
 
-  -- The same by the first octet, which is the length of a label, or 0 of the root.
+  -- The same by the first octet, which is the length of a label, and 0 for the root label.
   pub length_first : {at n : ℕ} (name : NameAt b at) → (0 < n → head_at b at ≡ Ok (Label n)) → length (label_at b at n) < 64
   length_first {at = at} {n = zero} name h = rw (label_at-none at) (omega arith)
   length_first {n = suc n} name h = length_label_at name (h (omega arith))

@@ -1,4 +1,4 @@
--- What is known of the labels of a name.
+-- The number and size of a name's labels.
 use Rattle.std.proofs.Common.{◌≡◌, ℕ, ◌+◌, ◌≤◌, List, [], ◌∷◌, length, length-append, arith, refl}
 use Rattle.dns_name.specs.Names.{Labels, name_size, max_size, uncompressed, with_root, Stands}
 use Rattle.dns_name.specs.Unique.{NameOfSize, NameOfSizeAndCount, standing_short}
@@ -11,34 +11,34 @@ labels_stand name = name.name_at.0.1
 pub name_stands : (b : List ℕ) (p size count : ℕ) (name : NameOfSizeAndCount b p size count) → Stands b p name.0.0
 name_stands b p size count name = name.0.1
 
--- its size alone
+-- The size without the number of labels.
 pub name_of_size : (b : List ℕ) (p size count : ℕ) → NameOfSizeAndCount b p size count → NameOfSize b p size
 name_of_size b p size count name = (name.0, name.1)
 
--- each label takes an octet at least
+-- A name has at most as many labels as its size, as each takes at least one octet.
 pub few_labels : (name : Labels) → length name ≤ name_size name
 few_labels [] = omega arith
 few_labels (label ∷ name) = omega (arith, few_labels name)
 
--- so a name that stands has no more labels than octets, 254 of them at most
+-- An encoded name has a size of at most 254, and at most as many labels.
 pub short_and_few : (b : List ℕ) (p size count : ℕ) → NameOfSizeAndCount b p size count → (size ≤ max_size) × (count ≤ size)
 short_and_few b p size count name = (omega (arith, name.1, standing_short name.0.1), omega (arith, name.1, name.2, few_labels name.0.0))
 
--- only the root has no octets
+-- Only the root has size 0.
 pub empty_name : (name : Labels) → name_size name ≡ 0 → name ≡ []
 empty_name [] h = refl
 empty_name (label ∷ name) h = absurd (omega arith)
 
--- all labels, each with its length octet, and the root's zero octet
+-- The uncompressed octets are one more than the size, for the root's zero octet.
 pub length-uncompressed : (name : Labels) → length (uncompressed name) ≡ name_size name + 1
 length-uncompressed [] = refl
 length-uncompressed (label ∷ name) = omega (arith, length-append label (uncompressed name), length-uncompressed name)
 
--- the root label is one more
+-- The root label is one more label.
 pub length-with_root : (name : Labels) → length (with_root name) ≡ length name + 1
 length-with_root name = length-append name ([] ∷ [])
 
--- and takes one octet
+-- The root label takes one octet.
 pub name_size-with_root : (name : Labels) → name_size (with_root name) ≡ name_size name + 1
 name_size-with_root [] = refl
 name_size-with_root (label ∷ name) = omega (arith, name_size-with_root name)

@@ -1,4 +1,4 @@
--- What is known of names by their labels alone.
+-- What follows from the labels of a name alone.
 use Rattle.std.proofs.Common.{◌≡◌, ℕ, ◌+◌, ◌≤◌, List, [], ◌∷◌, ◌++◌, length, length-append, arith, ap, sym, ◌∙◌, refl, subst}
 use Rattle.std.specs.Prelude.{All, map}
 use Rattle.std.specs.Char.{to_ascii_lowercase}
@@ -18,35 +18,35 @@ use Rattle.dns_name.proofs.theory.LabelsLemmas.{length-uncompressed}
 use Rattle.dns_name.proofs.NameOrderLemmas.{uncompressed-injective}
 use Rattle.dns_name.proofs.theory.Spelling.{stands_spelled}
 
--- a name stands at the start of its octets
+-- A name is encoded at the start of its uncompressed octets.
 stands_in_own : (name : Labels) → IsName name → Stands (uncompressed name) 0 name
 stands_in_own name n = stands_spelled (uncompressed name) 0 name n refl
 
--- its labels are those of a name
+-- The labels of a `Name` are those of a name.
 pub name_is : {X : Type 0} {holder : Ghosts X} (name : Name X holder) → IsName (name_labels name)
 name_is name = standing_name name.whole.0.1
 
--- so are those of a parsed name
+-- The labels of a `ParsedName` are those of a name.
 pub parsed_is : (name : ParsedName) → IsName (labels name)
 parsed_is name = standing_name name.name_at.0.1
 
--- the octets of labels of a name are one name
+-- The uncompressed octets of a name are one whole name.
 pub octets_whole : (name : Labels) (b : List ℕ) → IsName name → uncompressed name ≡ b → WholeName b
 octets_whole name b n e = subst WholeName e ((name, stands_in_own name n), refl)
 
--- a name with the octets of labels has these labels
+-- A `Name` whose octets are those of `own` has the labels `own`.
 pub labels_of_octets : {X : Type 0} {holder : Ghosts X} (name : Name X holder) (own : Labels) (b : List ℕ) → uncompressed (name_labels name) ≡ b → uncompressed own ≡ b → own ≡ name_labels name
 labels_of_octets name own b e same = uncompressed-injective _ _ (same ∙ sym e)
 
--- its octets are one name
+-- The octets of a `Name` are one whole name.
 pub name_whole : {X : Type 0} {holder : Ghosts X} (name : Name X holder) → WholeName (uncompressed (name_labels name))
 name_whole name = ((name_labels name, stands_in_own _ (name_is name)), refl)
 
--- those of a parsed name, without pointers, are one name too
+-- The uncompressed octets of a `ParsedName` are one whole name.
 pub parsed_whole : (name : ParsedName) → WholeName (uncompressed (labels name))
 parsed_whole name = ((labels name, stands_in_own _ (parsed_is name)), refl)
 
--- without pointers it takes 255 octets at most, so there is room for each label
+-- The labels of a `ParsedName` fit in 255 octets uncompressed, each after those before it.
 pub label_room : (name : ParsedName) (before label behind : List ℕ) → before ++ (framed label ++ behind) ≡ uncompressed (labels name)
     → length before + length (framed label) ≤ 255
 label_room name before label behind e =
@@ -54,12 +54,12 @@ label_room name before label behind e =
     let short = (parsed_is name).short in
     omega (arith, all, short, length-append before (framed label ++ behind), length-append (framed label) behind)
 
--- names with the same octets have the same labels
+-- Names with the same octets have the same labels.
 pub same_names : {X Y : Type 0} {holder : Ghosts X} {other_holder : Ghosts Y} (name : Name X holder) (other : Name Y other_holder)
     → uncompressed (name_labels name) ≡ uncompressed (name_labels other) → name_labels name ≡ name_labels other
 same_names name other e = uncompressed-injective _ _ e
 
--- the same where one of them is a parsed name
+-- The same if one of them is a `ParsedName`.
 pub same_parsed : {X : Type 0} {holder : Ghosts X} (name : Name X holder) (other : ParsedName)
     → uncompressed (name_labels name) ≡ uncompressed (labels other) → name_labels name ≡ labels other
 same_parsed name other e = uncompressed-injective _ _ e
@@ -76,6 +76,6 @@ lower_labels (label ∷ name) h =
     ∙ ap (λ (c : List ℕ). map to_ascii_lowercase (framed label) ++ c) behind
     ∙ ap (λ k. k ∷ (lowered_label label ++ uncompressed (lowered name))) (lower_short (length label) short ∙ sym (length-map label to_ascii_lowercase))
 
--- no length octet is a letter, so all octets may be lowercased
+-- Lowercasing the uncompressed octets lowercases the labels only, as no length octet is a letter.
 pub lower_uncompressed : (name : ParsedName) → map to_ascii_lowercase (uncompressed (labels name)) ≡ uncompressed (lowered (labels name))
 lower_uncompressed name = lower_labels (labels name) (parsed_is name).labels

@@ -1,4 +1,4 @@
--- A text has one leftmost fault at most, and none where it spells a name.
+-- A text has at most one leftmost fault, and none if it represents a name.
 use Rattle.std.proofs.Common.{◌≡◌, ◌∙◌, ℕ, zero, suc, ◌+◌, ◌<◌, ◌≤◌, true, false, nat_eq, nat_lt, List, [], ◌∷◌, ◌++◌, length, ap, sym, subst, refl, arith, inl, inr, append_assoc, append-nil, length-append, ◌⊎◌, Bool}
 use Rattle.std.specs.Prelude.{All, Option, Some, None, if◌then◌else◌}
 use Rattle.std.proofs.lemmas.Bool.Decides.{nat_tests}
@@ -10,7 +10,7 @@ use Rattle.dns_name.specs.declared.name_error.PresentationError.{PresentationErr
 use Rattle.dns_name.specs.declared.name_error.PresentationError.TheVariants.{EmptyLabel, BadSymbol, BadEscape, LongLabel, LongName}
 use Rattle.dns_name.proofs.OctetTexts.{octet_read, first_is, first_shorter, octet_long, none_read, symbol_read, octet_view, none_spelled, symbol_of}
 
--- the fault where no octet is read; `next` tells what is behind a dot
+-- The fault if no octet can be read. `next` gives the fault of the text after a dot.
 abbrev none_fault : (List ℕ → ℕ → ℕ → Option PresentationError) → List ℕ → ℕ → ℕ → Option PresentationError
 none_fault next [] n size = None
 none_fault next (c ∷ text) n size =
@@ -18,13 +18,13 @@ none_fault next (c ∷ text) n size =
     else if nat_eq c backslash then Some BadEscape
     else Some BadSymbol
 
--- the fault, where what is read of the text is known
+-- The fault, given the octet that is read, if any. `next` gives the fault of the text after it.
 abbrev read_fault : (List ℕ → ℕ → ℕ → Option PresentationError) → Option (ℕ × List ℕ) → List ℕ → ℕ → ℕ → Option PresentationError
 read_fault next None text n size = none_fault next text n size
 read_fault next (Some (o, rest)) text n size =
     if nat_eq n 63 then Some LongLabel else if nat_lt max_size (size + n + 2) then Some LongName else next rest (n + 1) size
 
--- the leftmost fault; the first number bounds the text's length
+-- The leftmost fault. The first number bounds the length of the text.
 abbrev fault_of_text : ℕ → List ℕ → ℕ → ℕ → Option PresentationError
 fault_of_text zero text n size = None
 fault_of_text (suc k) text n size = read_fault (fault_of_text k) (octet_read text) text n size
@@ -63,18 +63,18 @@ fault_known (NameTextFaulty.behind_dot {n = n} some more) (suc k) h =
 one_faulty : {text : List ℕ} {n size : ℕ} {f g : PresentationError} → NameTextFaulty text n size f → NameTextFaulty text n size g → f ≡ g
 one_faulty {text = text} x y = let e = sym (fault_known x (length text) (omega arith)) ∙ fault_known y (length text) (omega arith) in cc
 
--- the empty text has a fault of its own
+-- No fault is met in the empty text before its first octet. Its fault is a case of its own in `NameTextFault`.
 nil_faulty : (text : List ℕ) (f : PresentationError) → text ≡ [] → NameTextFaulty text 0 0 f → ⊥
 nil_faulty text f e x = let none = fault_known (subst (λ t. NameTextFaulty t 0 0 f) e x) 0 (omega arith) in cc
 
--- one fault at most
+-- A text has at most one leftmost fault.
 pub one_text_fault : OneTextFault
 one_text_fault text f g (inl x) (inl y) = x.1 ∙ sym y.1
 one_text_fault text f g (inl x) (inr y) = absurd (nil_faulty text g x.0 y.1)
 one_text_fault text f g (inr x) (inl y) = absurd (nil_faulty text f y.0 x.1)
 one_text_fault text f g (inr x) (inr y) = one_faulty x.1 y.1
 
--- an octet that fits is passed over
+-- If the text after an octet that fits has no fault, the text has none.
 octet_step : {text rest : List ℕ} {o : ℕ} → SpellsFirst text o rest → (n size : ℕ) → n < 63 → size + n + 2 ≤ max_size
     → ((j : ℕ) → length rest ≤ j → fault_of_text j rest (n + 1) size ≡ None) → (k : ℕ) → length text ≤ k → fault_of_text k text n size ≡ None
 octet_step s n size short room after zero h = refl
@@ -83,7 +83,7 @@ octet_step s n size short room after (suc k) h =
     let y : nat_lt max_size (size + n + 2) ≡ false = grind (arith, nat_tests) in
     rw (first_is s, x, y) (after k (omega (arith, h, first_shorter s)))
 
--- so is a dot behind a label
+-- The same for a dot after a label.
 dot_step : (text : List ℕ) (n size : ℕ) → 0 < n
     → ((j : ℕ) → length text ≤ j → fault_of_text j text 0 (size + n + 1) ≡ None) → (k : ℕ) → length (dot ∷ text) ≤ k → fault_of_text k (dot ∷ text) n size ≡ None
 dot_step text n size some after zero h = refl
@@ -95,7 +95,7 @@ nil_step : (n size k : ℕ) → fault_of_text k [] n size ≡ None
 nil_step n size zero = refl
 nil_step n size (suc k) = refl
 
--- so is a label
+-- The same for a label.
 label_step : {front label : List ℕ} → SpellsLabel front label → (rest : List ℕ) (n m size : ℕ) → n + length label ≡ m → m ≤ 63 → size + m + 1 ≤ max_size
     → ((j : ℕ) → length rest ≤ j → fault_of_text j rest m size ≡ None) → (k : ℕ) → length (front ++ rest) ≤ k → fault_of_text k (front ++ rest) n size ≡ None
 label_step SpellsLabel.none rest n m size e short room after k h =
@@ -105,7 +105,7 @@ label_step (SpellsLabel.octet {front = a} {text = b} {label = label} s l) rest n
     octet_step (record { front = a; whole = append_assoc a b rest; spelled = s }) n size (omega (arith, e, short)) (omega (arith, e, room))
     (λ j within. label_step l rest (n + 1) m size (omega (arith, e)) short room after j within) k h
 
--- labels of a name have no fault
+-- A text that represents the labels of a name has no fault.
 labels_step : {text : List ℕ} {name : Labels} → SpellsLabels text name → All IsLabel name → (size : ℕ) → size + name_size name ≤ max_size
     → (k : ℕ) → length text ≤ k → fault_of_text k text 0 size ≡ None
 labels_step (SpellsLabels.last {text = text} {label = label} l) all size room k h =
@@ -127,13 +127,13 @@ label_long : {front label : List ℕ} → SpellsLabel front label → length lab
 label_long SpellsLabel.none = omega arith
 label_long (SpellsLabel.octet {front = a} {text = b} s l) = omega (arith, octet_long s, label_long l, length-append a b)
 
--- labels of a name are not spelled by the empty text
+-- The empty text doesn't represent the labels of a name.
 pub labels_long : {text : List ℕ} {name : Labels} → SpellsLabels text name → All IsLabel name → 0 < length text
 labels_long (SpellsLabels.last {label = label} l) all = let one = All-head IsLabel label [] all in omega (arith, label_long l, one.some)
 labels_long (SpellsLabels.closed {text = text} l) all = omega (arith, length-append text (dot ∷ []))
 labels_long (SpellsLabels.more {front = front} {text = text} l others) all = omega (arith, length-append front (dot ∷ text))
 
--- not both a name and a fault
+-- A text never has both a name and a fault.
 pub text_name_or_fault_not_both : TextNameOrFaultNotBoth
 text_name_or_fault_not_both text name f (inl x) (inl y) = let e = sym x.0 ∙ y.0 in cc
 text_name_or_fault_not_both text name f (inl x) (inr y) = y.0 x.0
@@ -143,21 +143,21 @@ text_name_or_fault_not_both text name f (inr x) (inr y) =
     let some = fault_known y.1 (length text) (omega arith) in
     cc
 
--- A text spells one name at most.
+-- A text represents at most one name.
 
--- an octet more in front of the first label
+-- One more octet at the start of the first label.
 abbrev push : ℕ → Labels → Labels
 push o [] = []
 push o (label ∷ others) = (o ∷ label) ∷ others
 
--- the labels, where what is read of the text is known; `next` tells those of what is behind
+-- The labels, given the octet that is read, if any. `next` gives the labels of the text after it.
 abbrev read_labels : (List ℕ → Labels) → Option (ℕ × List ℕ) → List ℕ → Labels
 read_labels next (Some (o, rest)) text = push o (next rest)
 read_labels next None [] = [] ∷ []
 read_labels next None (c ∷ []) = [] ∷ []
 read_labels next None (c ∷ d ∷ text) = [] ∷ next (d ∷ text)
 
--- the labels of a text; the number is above the text's length
+-- The labels of a text. The number exceeds the length of the text.
 abbrev labels_of_text : ℕ → List ℕ → Labels
 labels_of_text zero text = []
 labels_of_text (suc k) text = read_labels (labels_of_text k) (octet_read text) text
@@ -202,16 +202,16 @@ dot_spells_no_labels text name e s all =
     let first = (All-head IsLabel [] [] (subst (λ n. All IsLabel n) (sym same) all)).some in
     omega (arith, first)
 
--- one name at most
+-- A text represents at most one name.
 pub one_text_name : OneTextName
 one_text_name text m n (inl x) (inl y) = x.1 ∙ sym y.1
 one_text_name text m n (inl x) (inr y) = absurd (dot_spells_no_labels text n x.0 y.0 y.1.labels)
 one_text_name text m n (inr x) (inl y) = absurd (dot_spells_no_labels text m y.0 x.0 x.1.labels)
 one_text_name text m n (inr x) (inr y) = sym (labels_are x.0 x.1.labels (suc (length text)) (omega arith)) ∙ labels_are y.0 y.1.labels (suc (length text)) (omega arith)
 
--- A text spells a name, or it has a fault.
+-- A text represents a name, or it has a fault.
 
--- The text spells the rest of a label of which n octets are read, behind labels of the size, and more labels.
+-- The text represents the remaining octets of a label, after n octets of it and labels of `size` octets, and further labels.
 record Rest (text : List ℕ) (n size : ℕ) : Type 0 where
   label : List ℕ
   others : Labels
@@ -234,7 +234,7 @@ spells_octet {front = front} {label = label} {o = o} s (SpellsLabels.closed {tex
 spells_octet {front = front} {label = label} {others = others} {o = o} s (SpellsLabels.more {front = first} {text = text} l m) =
     subst (λ t. SpellsLabels t ((o ∷ label) ∷ others)) (append_assoc front first (dot ∷ text)) (SpellsLabels.more (SpellsLabel.octet s l) m)
 
--- an octet more in front
+-- One more octet at the start.
 rest_octet : {text rest : List ℕ} {o : ℕ} (n size : ℕ) → SpellsFirst text o rest → Rest rest (n + 1) size → Rest text n size
 rest_octet {rest = rest} {o = o} n size s x = record {
   label = o ∷ x.label;
@@ -246,7 +246,7 @@ rest_octet {rest = rest} {o = o} n size s x = record {
   room = let h = x.room in omega (arith, h);
 }
 
--- the end of the text
+-- The text is at its end.
 rest_end : (n size : ℕ) → 0 < n → n ≤ 63 → size + n + 1 ≤ max_size → Rest [] n size
 rest_end n size some short room = record {
   label = [];
@@ -258,7 +258,7 @@ rest_end n size some short room = record {
   room = omega (arith, room);
 }
 
--- a dot at the end
+-- The text is a final dot.
 rest_dot : (n size : ℕ) → 0 < n → n ≤ 63 → size + n + 1 ≤ max_size → Rest (dot ∷ []) n size
 rest_dot n size some short room = record {
   label = [];
@@ -274,7 +274,7 @@ cons_label : (label : List ℕ) (others : Labels) → IsLabel label → All IsLa
 cons_label label others h all zero d within = h
 cons_label label others h all (suc k) d within = all k d (omega (arith, within))
 
--- a dot and more labels
+-- The text is a dot and further labels.
 rest_more : (text : List ℕ) (n size : ℕ) → 0 < n → n ≤ 63 → Rest text 0 (size + n + 1) → Rest (dot ∷ text) n size
 rest_more text n size some short x =
     let a = x.some in
@@ -293,7 +293,7 @@ rest_more text n size some short x =
 abbrev Decided : List ℕ → ℕ → ℕ → Type 0
 Decided text n size = Rest text n size ⊎ Faulty text n size
 
--- where an octet is read
+-- An octet can be read.
 at_octet : {text rest : List ℕ} {o : ℕ} (n size : ℕ) → SpellsFirst text o rest → n ≤ 63 → (n < 63 → size + n + 2 ≤ max_size → Decided rest (n + 1) size) → Decided text n size
 at_octet n size s short next =
     elim (cases_lt n 63) [
@@ -304,7 +304,7 @@ at_octet n size s short next =
       | inr long ↦ inr (LongLabel, (let is : n ≡ 63 = omega (arith, short, long) in NameTextFaulty.long_label s is))
     ]
 
--- where a dot is next
+-- The next character is a dot.
 at_dot : (text : List ℕ) (n size : ℕ) → n ≤ 63 → (0 < n → size + n + 1 ≤ max_size) → (0 < n → 0 < length text → Decided text 0 (size + n + 1)) → Decided (dot ∷ text) n size
 at_dot text zero size short room next = inr (EmptyLabel, NameTextFaulty.empty)
 at_dot [] (suc n) size short room next = inl (rest_dot (suc n) size (omega arith) short (room (omega arith)))
@@ -314,7 +314,7 @@ at_dot (c ∷ text) (suc n) size short room next =
       | inr f ↦ inr (f.0, (let some : 0 < suc n = omega arith in NameTextFaulty.behind_dot some f.1))
     ]
 
--- where no octet is read
+-- No octet can be read.
 at_none : (c : ℕ) (text : List ℕ) (n size : ℕ) (d b : Bool) → nat_eq c dot ≡ d → nat_eq c backslash ≡ b → octet_read (c ∷ text) ≡ None
     → n ≤ 63 → (0 < n → size + n + 1 ≤ max_size) → (0 < n → 0 < length text → Decided text 0 (size + n + 1)) → Decided (c ∷ text) n size
 at_none c text n size true b p q none short room next =
@@ -335,7 +335,7 @@ decided (suc k) (c ∷ text) n size h some short room =
       | inr s ↦ at_octet n size s.2 short (λ fits more. decided k s.1 (n + 1) size (omega (arith, h, first_shorter s.2)) (omega arith) (omega (arith, fits)) (λ z. omega (arith, more)))
     ]
 
--- a text of one character at least
+-- A text with at least one character represents a name, or has a fault.
 some_text : (c : ℕ) (text : List ℕ) → (c ∷ text ≡ dot ∷ [] → ⊥) → ((name : Labels) × SpellsName (c ∷ text) name) ⊎ ((f : PresentationError) × NameTextFault (c ∷ text) f)
 some_text c text other =
     elim (decided (length (c ∷ text)) (c ∷ text) 0 0 (omega arith) (omega arith) (omega arith) (λ z. omega (arith, z))) [
@@ -357,7 +357,7 @@ first_dot : (c : ℕ) (d : Bool) → nat_eq c dot ≡ d → ((name : Labels) × 
 first_dot c true p = let is : c ≡ dot = grind (arith, nat_tests) in inl ([], inl (ap (λ x. x ∷ []) is, refl))
 first_dot c false p = some_text c [] (λ e. let is : c ≡ dot = cc in absurd (not_dot c p is))
 
--- a name or a fault
+-- A text represents a name, or it has a fault.
 pub text_name_or_fault : TextNameOrFault
 text_name_or_fault [] = inr (EmptyLabel, inl (refl, refl))
 text_name_or_fault (c ∷ []) = first_dot c _ refl

@@ -1,4 +1,4 @@
--- What stands at each place of all octets: one name or one fault, and one walked extent or one skip fault.
+-- At each offset: one name or one fault, and one end of an encoding or one skip fault.
 use Rattle.std.proofs.Common.{arith, inl, inr, refl, Ok, Err}
 use Rattle.dns_name.specs.Laws.{NameOrFault, NameOrFaultNotBoth, OneName, OneFault, EndOrSkipFault, EndOrSkipFaultNotBoth, OneEnd, StandingNamesEnd, SkipFaultsAreFaults, SkippingEndsAlike, SkippingFailsAlike}
 use Rattle.dns_name.specs.Parsers.{seen}
@@ -33,7 +33,7 @@ names_end b p name x = walks.standing_end 0 x (omega (arith, standing_short x))
 pub skip_faults : SkipFaultsAreFaults
 skip_faults b p f x = walks.skip_fault b x
 
--- what parsing and skipping answer at one place agrees
+-- The results of parsing and skipping at one offset agree.
 pub ends_alike : SkippingEndsAlike
 ends_alike old parsed skipped name (Ok done) h k = (refl, walks.one_end (seen old) k.0 h.1.0)
 ends_alike old parsed skipped name (Err e) h k = absurd (walks.end_or_fault (seen old) h.1.0 k.0)

@@ -1,4 +1,4 @@
--- How a walk over rows of labels and pointers decides what stands at its start.
+-- How a walk over labels and pointers decides which name or fault is at its start.
 use Rattle.std.proofs.Common.{◌≡◌, ℕ, ◌+◌, ◌-◌, ◌<◌, ◌≤◌, ◌*◌, ◌/◌, ◌%◌, List, [], ◌∷◌, length, get_or, arith, ap, sym, ◌∙◌, subst, refl, inl, inr}
 use Rattle.std.specs.Prelude.{Option, Some, None, Ok, Err, slice_get}
 use Rattle.std.proofs.lemmas.Option.{slice_get_past, slice_get-get_or}
@@ -14,7 +14,7 @@ use Rattle.dns_name.specs.declared.head.Head.TheVariants.{Root, Label, Pointer}
 use Rattle.dns_name.specs.declared.near_name.NearName.{NearName}
 use Rattle.dns_name.proofs.theory.HeadLemmas.{pointer_within, pointer_begins}
 
--- Past the end nothing begins.
+-- Nothing begins past the end.
 
 past_head : (b : List ℕ) (p : ℕ) → length b ≤ p → head_at b p ≡ Err ShortInput
 unfolding head_at
@@ -28,11 +28,11 @@ past_fault b (Faulty.ahead h ahead) e = cc
 past_fault b (Faulty.label h small fits m) e = cc
 past_fault b (Faulty.pointer h back m) e = cc
 
--- a row of so many labels
+-- `count` consecutive labels.
 abbrev pub RowOf : List ℕ → ℕ → ℕ → ℕ → ℕ → ℕ → Type 0
 RowOf b p s q r count = (row : LabelsTo b p s q r) × (row_count row ≡ count)
 
--- How far a walk over labels in a row has come, perhaps past the end, where only a fault can follow: k labels are passed.
+-- The progress of a walk over consecutive labels, of which k are skipped. It may be past the end; then only a fault can follow.
 pub record Passing (b : List ℕ) (p s q r k : ℕ) : Type 0 where
   pub from : p ≤ q
   pub short : r ≤ max_size
@@ -51,7 +51,7 @@ passing_none b p s r short e =
       rows = λ h q' r' x. (x, omega arith);
     })
 
--- behind a label that is short enough, also one that isn't all there
+-- The walk continues after a label that is short enough, even if it runs past the end.
 pub passing_label : (b : List ℕ) (p s q r k n q' r' : ℕ) → Passing b p s q r k → head_at b q ≡ Ok (Label n)
     → q' ≡ q + 1 + n → r' ≡ r + n + 1 → r' ≤ max_size → Passing b p s q' r' (k + 1)
 passing_label b p s q r k n q' r' l h eq er short =
@@ -72,17 +72,17 @@ passing_label b p s q r k n q' r' l h eq er short =
       rows = λ fits q'' r'' x. let w = l.rows (omega arith) q'' r'' (LabelsTo.label h small fits x) in (w.0, omega (arith, w.1));
     }))
 
--- a label with which the name is too long
+-- A label makes the name too long.
 pub passing_long : (b : List ℕ) (p s q r k n : ℕ) → Passing b p s q r k → head_at b q ≡ Ok (Label n) → max_size < r + n + 1 → Faulty b p s Form
 passing_long b p s q r k n l h long = l.faults Form (Faulty.long h long)
 
--- a row of labels as far as the walk has come
+-- The consecutive labels that the walk has skipped.
 pub passing_row : (b : List ℕ) (p s q r k : ℕ) → Passing b p s q r k → q < length b → RowOf b p s q r k
 passing_row b p s q r k l within = let w = l.rows (omega arith) q r LabelsTo.none in (w.0, omega (arith, w.1))
 
--- What stands, fails or ends behind a row of labels stands, fails or ends behind its start.
+-- The name, fault or end after consecutive labels gives that at their start.
 
--- the name at p, if one stands at q: s and r are the sizes before them, and so many labels more are before the one at q
+-- The name at p that ends with the one at q. s and r are the sizes of the labels before p and before q, and `more` labels are between them.
 abbrev pub Longer : List ℕ → ℕ → ℕ → ℕ → ℕ → Labels → Type 0
 Longer b p s r more name = (whole : Labels) × Stands b p whole × (s + name_size whole ≡ r + name_size name) × (length whole ≡ more + length name)
 
@@ -102,7 +102,7 @@ pub row_ends : (b : List ℕ) {p s q r : ℕ} → LabelsTo b p s q r → (e : �
 row_ends b none e m = m
 row_ends b (label h small fits x) e m = WalkedBehind.label h small fits (row_ends b x e m)
 
--- How far a walk over labels and pointers has come, which has passed k labels: what stands or fails at q decides what stands or fails at p.
+-- The progress of a walk over labels and pointers, which has skipped k labels. The name or fault at q gives that at p.
 pub record Leading (b : List ℕ) (p s q r k : ℕ) : Type 0 where
   pub within : q ≤ length b
   pub short : r ≤ max_size
@@ -150,7 +150,7 @@ leading_root b p s q r k l h =
       name = ((w.0, w.1), omega (arith, w.2), omega (arith, w.3));
     }
 
--- What a walk over a name answers, by what ends its first row of labels.
+-- What a walk over a name returns, by what ends its first consecutive labels.
 
 pub arrives_root : (b : List ℕ) (p q n : ℕ) → PassesLabels b p 0 q n None → Arrives b p (q + 1) (q - p) n
 arrives_root b p q n x =
@@ -181,7 +181,7 @@ fails_behind b p q n t f x back m =
     let e : q - p ≡ 0 + (q - p) = omega arith in
     row_faults b x.row f (Faulty.pointer x.there back (subst P e m))
 
--- the two octets of a pointer, as a number
+-- The two octets of a pointer, as a number.
 pub pointer_number : (b : List ℕ) (p t word : ℕ) → p + 1 < length b → get_or b p 0 < 256 → get_or b (p + 1) 0 < 256 → t < 16384
     → word ≡ get_or b p 0 * 256 + get_or b (p + 1) 0 → word ≡ bit_or t 49152 → head_at b p ≡ Ok (Pointer t)
 pointer_number b p t word within first second small read same =
@@ -191,7 +191,7 @@ pointer_number b p t word within first second small read same =
     let low : get_or b (p + 1) 0 ≡ t % 256 = omega arith in
     pointer_begins b p t small (slice_get-get_or b p 0 (omega arith) ∙ ap Some high) (slice_get-get_or b (p + 1) 0 within ∙ ap Some low)
 
--- where the pointer to a near name is all of the name
+-- The extent of a name that is only a pointer to the cached name.
 pub arrives_back : (b : List ℕ) (p : ℕ) (near : NearName) → LeadsBackTo b p near → IsNear b near → Arrives b p (p + 2) near.size near.count
 arrives_back b p near x is =
     let n = is x.known in

@@ -1,4 +1,4 @@
--- Names without pointers where they stand in octets.
+-- Uncompressed names in octets.
 use Rattle.std.proofs.Common.{◌≡◌, ◌≢◌, ℕ, zero, suc, ◌+◌, ◌-◌, ◌<◌, ◌≤◌, List, [], ◌∷◌, ◌++◌, length, length-append, length-drop, take, drop, get_or, arith, ap, sym, ◌∙◌, subst, refl}
 use Rattle.std.specs.Prelude.{Some, Ok, IsOk, slice_get}
 use Rattle.std.proofs.lemmas.List.{take-append-drop, drop-drop}
@@ -13,7 +13,7 @@ use Rattle.dns_name.proofs.theory.HeadLemmas.{label_there, root_there, root_begi
 use Rattle.dns_name.proofs.theory.AnswerLaws.{not_both}
 use Rattle.dns_name.proofs.theory.WalkLaws.{skip_fault}
 
--- the octets from a place on begin with the one that is there
+-- The octets from offset p on begin with the octet at p.
 drop_at : (b : List ℕ) (p x : ℕ) → slice_get b p ≡ Some x → drop p b ≡ x ∷ drop (p + 1) b
 drop_at b p x there =
     let within : p < length b = slice_get_within b p x there in
@@ -21,14 +21,14 @@ drop_at b p x there =
     let s : suc p ≡ p + 1 = omega arith in
     drop-cons b p 0 within ∙ ap (λ y. y ∷ drop (suc p) b) e ∙ ap (λ k. x ∷ drop k b) s
 
--- what a list from a place on begins with is there
+-- The first of the octets from offset p on is the octet at p.
 pub get_drop : (b : List ℕ) (p x : ℕ) (xs : List ℕ) → drop p b ≡ x ∷ xs → slice_get b p ≡ Some x
 get_drop [] zero x xs e = cc
 get_drop [] (suc p) x xs e = cc
 get_drop (y ∷ ys) zero x xs e = cc
 get_drop (y ∷ ys) (suc p) x xs e = get_drop ys p x xs e
 
--- where a label begins, its length octet, its octets, and what is behind them
+-- The octets from a label on: its length octet, its octets, and those after it.
 pub drop_label : (b : List ℕ) (p n : ℕ) → head_at b p ≡ Ok (Label n) → drop p b ≡ n ∷ (label_at b p n ++ drop (p + 1 + n) b)
 drop_label b p n h =
     let k : p + 1 + n - (p + 1) ≡ n = omega arith in
@@ -36,11 +36,11 @@ drop_label b p n h =
     ap (λ m. take m (drop (p + 1) b) ++ drop (p + 1 + n) b) k ∙ ap (λ c. take n (drop (p + 1) b) ++ c) (sym (drop-drop n (p + 1) b)) ∙ take-append-drop n (drop (p + 1) b) in
     drop_at b p n (label_there b p n h) ∙ ap (λ (c : List ℕ). n ∷ c) (sym whole)
 
--- where the root begins, its zero octet and what is behind it
+-- The octets from the root label on: its zero octet, and those after it.
 pub drop_root : (b : List ℕ) (p : ℕ) → head_at b p ≡ Ok Root → drop p b ≡ 0 ∷ drop (p + 1) b
 drop_root b p h = drop_at b p 0 (root_there b p h)
 
--- The octets from a place on are a label and the name behind it.
+-- The octets from offset p on are a label and the uncompressed name after it.
 record Labelled (b : List ℕ) (p : ℕ) (label : List ℕ) (name : Labels) : Type 0 where
   begins : head_at b p ≡ Ok (Label (length label))
   octets : label_at b p (length label) ≡ label
@@ -63,7 +63,7 @@ labelled b p label name l e =
       behind = sym (sym (drop-drop n (p + 1) b) ∙ ap (drop n) next ∙ drop-append_seam label (uncompressed name));
     }
 
--- the octets from a place on are the root's
+-- The octets from offset p on are the root's zero octet alone.
 rooted : (b : List ℕ) (p : ℕ) → uncompressed [] ≡ drop p b → (head_at b p ≡ Ok Root) × (length b ≡ p + 1)
 rooted b p e =
     let there : slice_get b p ≡ Some 0 = get_drop b p 0 [] (sym e) in
@@ -71,12 +71,12 @@ rooted b p e =
     let one : 1 ≡ length b - p = ap length e ∙ length-drop p b in
     (root_begins b p there, omega arith)
 
--- the first label of a name is a label, and the others are a name
+-- The first label of a name is a label, and the remaining labels are a name.
 pub name_tail : (label : List ℕ) (name : Labels) → IsName (label ∷ name) → IsLabel label × IsName name
 name_tail label name h =
     (All-head IsLabel label name h.labels, record { labels = All-tail IsLabel label name h.labels; short = omega (arith, h.short) })
 
--- A name stands where the octets from a place on are its own.
+-- A name is encoded where the remaining octets are its uncompressed octets.
 pub stands_spelled : (b : List ℕ) (p : ℕ) (name : Labels) → IsName name → uncompressed name ≡ drop p b → Stands b p name
 stands_spelled b p [] n e = Stands.root (rooted b p e).0
 stands_spelled b p (label ∷ name) n e =
@@ -85,14 +85,14 @@ stands_spelled b p (label ∷ name) n e =
     let P : List ℕ → Type 0 = λ octets. Stands b p (octets ∷ name) in
     subst P l.octets (Stands.label l.begins l.fits (stands_spelled b (p + 1 + length label) name t.1 l.behind) (omega (arith, n.short)))
 
--- the octets from a place on are a name's, which is short enough behind labels that take all octets before it
+-- The octets from `at` on are an uncompressed name, which is short enough after labels that take all octets before it.
 pub record Rest (b : List ℕ) (at : ℕ) : Type 0 where
   pub name : Labels
   pub is_name : IsName name
   pub octets : uncompressed name ≡ drop at b
   pub short : at + name_size name ≤ max_size
 
--- how far the octets are known to be those of one name: labels fill the places below `at`
+-- The progress of a test whether the octets are one whole name: labels take all octets before `at`.
 pub record Spells (b : List ℕ) (at : ℕ) : Type 0 where
   pub passes : Passes b 0 at at
   pub whole : (name : Labels) → Stands b at name → at + name_size name ≤ max_size → uncompressed name ≡ drop at b → WholeName b
@@ -118,7 +118,7 @@ rest_label b at n at' r h e = go r.name r.is_name r.octets r.short
         let place : at + 1 + length label ≡ at' = omega arith in
         record { name = name; is_name = t.1; octets = subst Q place l.behind; short = omega arith }
 
--- behind a label
+-- The test continues after a label.
 pub spells_label : (b : List ℕ) (at n at' : ℕ) → Spells b at → Begins b at at (Label n) → at' ≡ at + 1 + n → Spells b at'
 spells_label b at n at' s h e =
     let fits : at + 1 + n ≤ length b = h.fits n refl in
@@ -133,7 +133,7 @@ spells_label b at n at' s h e =
       rest = λ u. rest_label b at n at' (s.rest u) h.there e;
     }
 
--- where the octets end with the root, they are one name
+-- If the octets end with the root label, they are one whole name.
 pub spells_root : (b : List ℕ) (at : ℕ) → Spells b at → head_at b at ≡ Ok Root → length b ≡ at + 1 → WholeName b
 spells_root b at s h e =
     let none : length (drop (at + 1) b) ≡ 0 = length-drop (at + 1) b ∙ omega arith in
@@ -144,7 +144,7 @@ spells_root b at s h e =
     empty [] h = refl
     empty (x ∷ xs) h = absurd (omega arith)
 
--- where more is left behind the root, they are no name
+-- If octets follow the root label, they aren't one.
 pub spells_more : (b : List ℕ) (at : ℕ) → Spells b at → head_at b at ≡ Ok Root → at + 1 < length b → IsUncompressed b → ⊥
 spells_more b at s h more u = go (s.rest u).name (s.rest u).is_name (s.rest u).octets
   where
@@ -152,7 +152,7 @@ spells_more b at s h more u = go (s.rest u).name (s.rest u).is_name (s.rest u).o
     go [] is o = let r = rooted b at o in omega (arith, r.1)
     go (label ∷ name) is o = let l = labelled b at label name (name_tail label name is).0 o in cc (l.begins, h)
 
--- nor where there is a pointer
+-- If there is a pointer, they aren't one.
 pub spells_pointer : (b : List ℕ) (at t : ℕ) → Spells b at → head_at b at ≡ Ok (Pointer t) → IsUncompressed b → ⊥
 spells_pointer b at t s h u = go (s.rest u).name (s.rest u).is_name (s.rest u).octets
   where
@@ -160,13 +160,13 @@ spells_pointer b at t s h u = go (s.rest u).name (s.rest u).is_name (s.rest u).o
     go [] is o = let r = rooted b at o in cc (r.0, h)
     go (label ∷ name) is o = let l = labelled b at label name (name_tail label name is).0 o in cc (l.begins, h)
 
--- nor where there is a fault
+-- If skipping meets a fault, they aren't one.
 pub spells_fault : (b : List ℕ) (at : ℕ) (f : Fault) → Spells b at → SkipFaulty b at at f → IsUncompressed b → ⊥
 spells_fault b at f s h u =
     let r = s.rest u in
     not_both b (skip_fault b h) r.name (stands_spelled b at r.name r.is_name r.octets) r.short
 
--- a zero octet is the root
+-- A zero octet is the root name.
 pub root_whole : WholeName (0 ∷ [])
 root_whole = let e : head_at (0 ∷ []) 0 ≡ Ok Root = root_begins (0 ∷ []) 0 refl in (([], Stands.root e), refl)
 
@@ -174,7 +174,7 @@ pub whole_is_root : (name : WholeName (0 ∷ [])) → name.0.0 ≡ []
 unfolding root_whole
 whole_is_root name = ap (λ (w : WholeName (0 ∷ [])). w.0.0) (WholeName-prop (0 ∷ []) name root_whole)
 
--- How far the labels of the one name are counted that the octets spell: those from a place on are the octets of the others.
+-- The progress of counting the labels of an uncompressed name: `count` labels are before `at`, and the octets from `at` on are the remaining labels.
 pub record Counted (b : List ℕ) (at count : ℕ) : Type 0 where
   pub others : Labels
   pub is_name : IsName others
@@ -191,7 +191,7 @@ counted_none b whole = record {
   all = λ name s. let e = ap length (same_name b s whole.0.1) in omega (arith, e);
 }
 
--- the root or a label begins there
+-- The root label or a label begins at `at`.
 pub counted_begins : (b : List ℕ) (at count : ℕ) → Counted b at count → IsOk (head_at b at)
 counted_begins b at count c =
     let there : NameAt b at = (c.others, stands_spelled b at c.others c.is_name c.octets) in name_begins b there
@@ -199,7 +199,7 @@ counted_begins b at count c =
 first_octet : (b : List ℕ) (p x : ℕ) (xs : List ℕ) → x ∷ xs ≡ drop p b → get_or b p 0 ≡ x
 first_octet b p x xs e = get_or_from_slice_get b p x 0 (get_drop b p x xs (sym e))
 
--- at the root, all of them are counted
+-- At the root label, all labels are counted.
 pub counted_root : (b : List ℕ) (at count n : ℕ) → Counted b at count → n ≡ get_or b at 0 → n ≡ 0 → (name : Labels) → Stands b 0 name → count ≡ length name
 counted_root b at count n c read none name s = go c.others c.is_name c.octets (c.all name s)
   where
@@ -210,7 +210,7 @@ counted_root b at count n c read none name s = go c.others c.is_name c.octets (c
         let first = first_octet b at (length label) (label ++ uncompressed others) o in
         absurd (omega (arith, l.some, first))
 
--- behind a label, one more
+-- After a label, one more is counted.
 pub counted_label : (b : List ℕ) (at count n at' : ℕ) → Counted b at count → n ≡ get_or b at 0 → n ≢ 0 → at' ≡ at + 1 + n → Counted b at' (count + 1)
 counted_label b at count n at' c read some place = go c.others c.is_name c.octets c.all
   where

@@ -6,7 +6,7 @@ use Rattle.dns_name.specs.ParsedName.{IsFirst, label_octets}
 use Rattle.dns_name.specs.declared.label.Label.{Label}
 use Rattle.dns_name.proofs.theory.LabelsLemmas.{length-with_root, name_size-with_root}
 
--- the octets of labels behind labels
+-- The sizes of consecutive labels add up.
 pub name_size-append : (xs ys : Labels) → name_size (xs ++ ys) ≡ name_size xs + name_size ys
 name_size-append [] ys = omega arith
 name_size-append (x ∷ xs) ys = omega (arith, name_size-append xs ys)
@@ -16,7 +16,7 @@ take_all [] = refl
 take_all (x ∷ xs) = ap (λ (ys : Labels). x ∷ ys) (take_all xs)
 
 module _ (b : List ℕ) where
-  -- all labels of a name that stands
+  -- All labels of an encoded name, with the root label.
   pub all_labels : (p size : ℕ) → NameOfSize b p size → LabelsAt b p (size + 1)
   all_labels p size n =
       (n.0, (length (with_root n.0.0), (omega arith, ap name_size (take_all (with_root n.0.0)) ∙ name_size-with_root n.0.0 ∙ ap (λ k. k + 1) n.1)))
@@ -28,7 +28,7 @@ module _ (b : List ℕ) where
       ap (λ (m : LabelsAt b p (size + 1)). take m.1.0 (with_root m.0.0)) (LabelsAt-prop b p (size + 1) m w)
       ∙ take_all (with_root n.0.0) ∙ ap with_root (same_name b n.0.1 s)
 
-  -- no more than a name of 255 octets is left
+  -- The remaining labels take at most 255 octets.
   pub left_small : (p left : ℕ) → LabelsAt b p left → left ≤ 255
   left_small p left n =
       let e = n.1.1.1 in
@@ -40,7 +40,7 @@ module _ (b : List ℕ) where
       name_size-take (suc k) [] = omega arith
       name_size-take (suc k) (x ∷ xs) = omega (arith, name_size-take k xs)
 
-  -- what is left behind the first label
+  -- What remains after the first label.
   record After (behind left : ℕ) (labels : Labels) (l : Label) : Type 0 where
     fits : length (label_octets l) + 1 ≤ left
     rest : LabelsAt b behind (left - (length (label_octets l) + 1))
@@ -80,11 +80,11 @@ module _ (b : List ℕ) where
     step_gives = subst (λ k. (m : LabelsAt b behind (left - k)) → take n.1.0 (with_root n.0.0) ≡ label_octets l ∷ take m.1.0 (with_root m.0.0)) (sym t)
         (λ m. next.gives ∙ ap (λ (m : LabelsAt b behind (left - (length (label_octets l) + 1))). label_octets l ∷ take m.1.0 (with_root m.0.0)) (LabelsAt-prop b behind _ next.rest m))
 
-    -- one label fewer is left
+    -- One label fewer remains.
     pub step_fewer : (m : LabelsAt b behind (left - taken)) → length (take m.1.0 (with_root m.0.0)) < length (take n.1.0 (with_root n.0.0))
     step_fewer m = let e = ap length (step_gives m) in omega (arith, e)
 
-  -- From the back: so many labels of the name, fewer than are left, are passed, and the others stand at the place.
+  -- A step from the back has skipped some labels, fewer than remain. They take `passed` octets, and the labels after them are encoded at `pos`.
   pub record Passed (name : Labels) (count pos passed : ℕ) : Type 0 where
     pub number : ℕ
     pub before : number < count
@@ -148,12 +148,12 @@ module _ (b : List ℕ) where
         ap (λ k. take k (with_root name)) e ∙ last
         ∙ ap (λ (m : LabelsAt b p passed). take m.1.0 (with_root m.0.0) ++ label_octets l ∷ []) (LabelsAt-prop b p passed (back_has all) m)
 
-    -- one label fewer is left
+    -- One label fewer remains.
     pub back_fewer : passed + taken ≡ left → (m : LabelsAt b p passed) → length (take m.1.0 (with_root m.0.0)) < length (take n.1.0 (with_root name))
     back_fewer all m =
         let e = ap length (back_gives all m) ∙ length-append (take m.1.0 (with_root m.0.0)) (label_octets l ∷ []) in omega (arith, e)
 
-  -- fewer octets are passed than are left
+  -- The skipped labels take fewer octets than the remaining ones.
   pub passed_below : (p left pos passed : ℕ) (n : LabelsAt b p left) → Passed n.0.0 n.1.0 pos passed → passed < left
   passed_below p left pos passed n s = subst (λ k. k < left) s.size (subst (λ k. name_size (take s.number (with_root n.0.0)) < k) n.1.1.1 (fewer (with_root n.0.0) s.number n.1.0 s.before n.1.1.0))
     where

@@ -1,4 +1,4 @@
--- The walked extent at each place has one end, or one skip fault is met there.
+-- At each offset the encoding of a name has exactly one end, or skipping meets exactly one fault.
 use Rattle.std.proofs.Common.{◌≡◌, ℕ, zero, suc, ◌+◌, ◌-◌, ◌<◌, ◌≤◌, ◌⊎◌, inl, inr, List, length, arith, sym, refl, subst}
 use Rattle.std.specs.Prelude.{Result, Ok, Err}
 use Rattle.std.proofs.lemmas.Bool.Decides.{leb_tells}
@@ -21,7 +21,7 @@ module _ (b : List ℕ) where
   end_pointer (WalkedBehind.pointer h) e = refl
   end_pointer (WalkedBehind.label h small fits x) e = cc
 
-  -- the walk goes on behind a label that is short enough and all there
+  -- The walk continues after a label that is short enough and complete.
   abbrev Behind : ℕ → ℕ → ℕ → ℕ → Type 0
   Behind p s n q = (s + n + 1 ≤ max_size) × (p + 1 + n ≤ length b) × WalkedBehind b (p + 1 + n) (s + n + 1) q
 
@@ -36,27 +36,27 @@ module _ (b : List ℕ) where
   no_end (WalkedBehind.pointer h) e = cc
   no_end (WalkedBehind.label h small fits x) e = cc
 
-  -- there is one end at most
+  -- There is at most one end.
   pub one_end : {p s q r : ℕ} → WalkedBehind b p s q → WalkedBehind b p s r → q ≡ r
   one_end (WalkedBehind.root h) y = sym (end_root y h)
   one_end (WalkedBehind.pointer h) y = sym (end_pointer y h)
   one_end (WalkedBehind.label h small fits x) y = one_end x (end_label y h).2
 
-  -- Where skipping meets a fault, parsing meets it.
+  -- A fault that skipping meets is one that reading meets.
   pub skip_fault : {p s : ℕ} {f : Fault} → SkipFaulty b p s f → Faulty b p s f
   skip_fault (head h) = Faulty.head h
   skip_fault (long h big) = Faulty.long h big
   skip_fault (cut h small short) = Faulty.cut h small short
   skip_fault (label h small fits x) = Faulty.label h small fits (skip_fault x)
 
-  -- an end and a fault are never both
+  -- There is never both an end and a fault.
   pub end_or_fault : {p s q : ℕ} {f : Fault} → WalkedBehind b p s q → SkipFaulty b p s f → ⊥
   end_or_fault w (head h) = no_end w h
   end_or_fault w (long h big) = let x = end_label w h in absurd (omega (arith, x.0))
   end_or_fault w (cut h small short) = let x = end_label w h in absurd (omega (arith, x.1))
   end_or_fault w (label h small fits x) = end_or_fault (end_label w h).2 x
 
-  -- an end or a fault, behind labels of a size
+  -- There is an end or a fault, after labels of size s.
   abbrev EndOrFault : ℕ → ℕ → Type 0
   EndOrFault p s = ((q : ℕ) × WalkedBehind b p s q) ⊎ ((f : Fault) × SkipFaulty b p s f)
 
@@ -84,19 +84,19 @@ module _ (b : List ℕ) where
   pub end_or_skip_fault : (p : ℕ) → EndOrFault p 0
   end_or_skip_fault p = answer 256 p 0 (omega arith)
 
--- a walked extent goes on from its place
+-- An encoding ends at or after its offset.
 pub walked_rises : {b : List ℕ} {p s q : ℕ} → WalkedBehind b p s q → p ≤ q
 walked_rises (WalkedBehind.root h) = omega arith
 walked_rises (WalkedBehind.pointer h) = omega arith
 walked_rises (WalkedBehind.label h small fits x) = let l = walked_rises x in omega arith
 
--- and ends within the octets
+-- An encoding ends within the octets.
 pub walked_in_octets : {b : List ℕ} {p s q : ℕ} → WalkedBehind b p s q → q ≤ length b
 walked_in_octets {b = b} (WalkedBehind.root {p = p} h) = let l = root_within b p h in omega arith
 walked_in_octets {b = b} (WalkedBehind.pointer {p = p} {t = t} h) = let l = pointer_within b p t h in omega arith
 walked_in_octets (WalkedBehind.label h small fits x) = walked_in_octets x
 
--- a name that stands somewhere has an end there
+-- The encoding of a name has an end.
 pub standing_end : {b : List ℕ} {p : ℕ} {name : Labels} (s : ℕ) → Stands b p name → s + name_size name ≤ max_size → (q : ℕ) × WalkedBehind b p s q
 standing_end s (Stands.root {p = p} h) small = (p + 1, WalkedBehind.root h)
 standing_end {b = b} s (Stands.label {p = p} {n = n} {name = name} h w x z) small =

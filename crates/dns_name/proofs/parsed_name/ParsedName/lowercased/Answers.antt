@@ -6,7 +6,7 @@ use Rattle.std.proofs.Math.Seq.{take-append_seam}
 use Rattle.dns_name.proofs.theory.NameLemmas.{lower_uncompressed}
 use Rattle.dns_name.proofs.parsed_name.ParsedName.lowercased.Goals as goal
 
--- a list of the same length takes the place of all elements
+-- Overwriting all elements with a list of the same length gives that list.
 refilled : (xs ws : List ℕ) → length xs ≡ length ws → take (length xs) (ws ++ drop (length ws) xs) ≡ ws
 refilled xs ws e = ap (λ n. take n (ws ++ drop (length ws) xs)) e ∙ take-append_seam ws (drop (length ws) xs)
 

@@ -5,7 +5,7 @@ use Rattle.dns_name.specs.Unique.{same_name, standing_short}
 use Rattle.dns_name.proofs.theory.LabelsLemmas.{length-uncompressed, few_labels}
 use Rattle.dns_name.proofs.parsed_name.ParsedName.of_whole.Goals as goal
 
--- the octets are those of the labels, and the root's
+-- The octets are those of the labels and the root's zero octet.
 whole_size : (b : List ℕ) (whole : WholeName b) → name_size whole.0.0 + 1 ≡ length b
 whole_size b whole = sym (length-uncompressed whole.0.0) ∙ ap length whole.1
 
