@@ -1,4 +1,4 @@
--- A message behind its length: what the calls of its target do to the message alone.
+-- A message after its length: what calls of the wrapped target do to the message alone.
 use Rattle.std.proofs.Common.{◌≡◌, ℕ, suc, ◌+◌, ◌≤◌, Bool, Option, Some, None, Result, Err, List, [], ◌∷◌, ◌++◌, length, length-append, take, drop, ap, sym, ◌∙◌, refl, arith}
 use Rattle.std.proofs.lemmas.Grind.{common_steps}
 use Rattle.dns_wire.specs.Pieces.{put_octets}
@@ -12,11 +12,11 @@ use Rattle.dns_stream.specs.Stream.{stream_room}
 take_two : (xs : List ℕ) (n : ℕ) → drop 2 (take (n + 2) xs) ≡ take n (drop 2 xs)
 take_two xs n = grind (arith, common_steps)
 
--- a message has two octets less than its target
+-- A message has two octets less than the wrapped target.
 pub message_length : (t : Written) (v : List ℕ) → 2 ≤ length t.octets → drop 2 t.octets ≡ v → length v + 2 ≡ length t.octets
 message_length t v l is = rw (← is) (grind (arith, common_steps))
 
--- a target that is cut behind n octets of the message and has another prefix
+-- A wrapped target truncated after n octets of the message, with another prefix.
 pub shortened : (t u v : Written) (xs bytes : List ℕ) (n : ℕ) → length bytes ≡ 2 → u ≡ cut_to (n + 2) t → v ≡ overwrite 0 bytes u → drop 2 t.octets ≡ xs → plain (drop 2 v.octets) ≡ cut_to n (plain xs)
 shortened t u v xs (a ∷ b ∷ []) n two e f is =
     same_written _ _ (ap (λ (w : Written). drop 2 w.octets) f ∙ ap (λ (w : Written). drop 2 w.octets) e ∙ take_two t.octets n ∙ ap (take n) is) (sym (cut_nothing n))
@@ -24,7 +24,7 @@ shortened t u v xs [] n two e f is = absurd (omega arith)
 shortened t u v xs (a ∷ []) n two e f is = absurd (omega arith)
 shortened t u v xs (a ∷ b ∷ c ∷ bytes) n two e f is = absurd (omega arith)
 
--- a message is its own beginning where it has no more octets
+-- Truncating a message to at least its length changes nothing.
 pub kept_whole : (xs : List ℕ) (n : ℕ) → length xs ≤ n → plain xs ≡ cut_to n (plain xs)
 kept_whole xs n l = same_written _ _ (grind (arith, common_steps)) (sym (cut_nothing n))
 
@@ -36,7 +36,7 @@ passes (Some room) t xs l f h =
     let c = message_length t (drop 2 t.octets) l refl in
     omega arith
 
--- what the room of the target and the length can take, the message's room can
+-- A message within the capacity of the wrapped target and within the length is within the message's capacity.
 fits_stream : (room : Option ℕ) (t : Written) (xs : List ℕ) → 2 ≤ length t.octets → length (drop 2 t.octets ++ xs) ≤ 65535 → Fits room (length (t.octets ++ xs)) → Fits (stream_room room) (length (drop 2 t.octets ++ xs))
 fits_stream None t xs l few f = few
 fits_stream (Some room) t xs l few f =
@@ -54,7 +54,7 @@ refuses : (room : Option ℕ) (grows : Bool) (xs : List ℕ) (t u : Written) (e 
     → Appends room grows (put_octets xs) t u {X = Unit {0}} (Err e) → Appends (stream_room room) grows (put_octets xs) (plain (drop 2 t.octets)) (plain (drop 2 u.octets)) {X = Unit {0}} (Err e)
 refuses room grows xs t u e l f few h = record { ok = tt; err = ap (λ (w : Written). plain (drop 2 w.octets)) h.err; answer = answers room grows t xs e l f few h.answer }
 
--- an append that the target refuses is refused for the message
+-- An error in appending to the wrapped target is one in appending to the message.
 pub refused : (room : Option ℕ) (grows : Bool) (xs : List ℕ) (t u : Written) (v : List ℕ) (r : Result (Unit {0}) AppendError) (e : AppendError) → 2 ≤ length t.octets → Fits room (length t.octets) → drop 2 t.octets ≡ v → length v + length xs ≤ 65535 → r ≡ Err e
     → Appends room grows (put_octets xs) t u {X = Unit {0}} (Err e) → Appends (stream_room room) grows (put_octets xs) (plain v) (plain (drop 2 u.octets)) r
 refused room grows xs t u v r e l f is few out h =
@@ -68,12 +68,12 @@ written_two_on (a ∷ b ∷ ys) bytes place l =
     let f : place + 2 + length bytes ≡ suc (suc (place + length bytes)) = omega arith in
     rw (f, e) refl
 
--- what is written two octets further on in the target is written at the place in the message
+-- Overwriting the wrapped target two octets further on overwrites the message at the offset.
 pub over : (t u : Written) (xs bytes : List ℕ) (place : ℕ) → 2 ≤ length t.octets → u ≡ overwrite (place + 2) bytes t → drop 2 t.octets ≡ xs → plain (drop 2 u.octets) ≡ overwrite place bytes (plain xs)
 over t u xs bytes place l e is =
     same_written _ _ (ap (λ (w : Written). drop 2 w.octets) e ∙ written_two_on t.octets bytes place l ∙ ap (λ (ys : List ℕ). take place ys ++ bytes ++ drop (place + length bytes) ys) is) refl
 
--- what fits the target leaves a message that fits its room
+-- If the wrapped target is within its capacity, the message is within its own.
 pub fits : (room : Option ℕ) (t : Written) (xs : List ℕ) → 2 ≤ length t.octets → length t.octets ≤ 65537 → Fits room (length t.octets) → drop 2 t.octets ≡ xs → Fits (stream_room room) (length xs)
 fits None t xs l k f is = let c = message_length t xs l is in omega arith
 fits (Some room) t xs l k f is = let c = message_length t xs l is in omega arith

@@ -1,4 +1,4 @@
--- The text of a name is the choice by indices.
+-- The encoding of a name agrees with the choice by indices.
 use Rattle.std.proofs.Common.{◌≡◌, ℕ, zero, suc, ◌+◌, ◌<◌, ◌≤◌, ◌⊎◌, inl, inr, Bool, true, false, cond, List, [], ◌∷◌, ◌++◌, take, drop, length, append_assoc, arith, ap, refl, subst}
 use Rattle.std.specs.Prelude.{Option, Some, None, nat_lt, ◌&&◌}
 use Rattle.std.specs.List.{list_all, flat_map}
@@ -12,7 +12,7 @@ use Rattle.dns_wire.specs.Choice.Chooses.{shared, written_out}
 use Rattle.dns_wire.proofs.theory.PutNames.{SpellsAs, spells_as}
 use Rattle.dns_wire.proofs.theory.PutNames.SpellsAs.{at_root, at_known, at_kept, at_far}
 
--- a label that may be remembered is not too far
+-- A suffix that may enter the table isn't too far.
 far_not : (rule : Rule) (held place : ℕ) → is_kept rule place held ≡ true → IsFar rule held place → ⊥
 far_not Plain held place e h = cc
 far_not Static held place e (inl h) = grind (arith, common_steps)
@@ -24,31 +24,31 @@ far_static : (place held : ℕ) (b : Bool) → nat_lt place 16384 ≡ b → b &&
 far_static place held true t e = inr (grind (arith, common_steps))
 far_static place held false t e = inl (grind (arith, common_steps))
 
--- each other label is
+-- Any other suffix is.
 far_is : (rule : Rule) (held place : ℕ) → is_kept rule place held ≡ false → IsFar rule held place
 far_is Plain held place e = tt
 far_is Static held place e = far_static place held (nat_lt place 16384) refl e
 far_is Tree held place e = grind (arith, common_steps)
 far_is Hash held place e = cc
 
--- the same where the numbers are written in another way
+-- The same for equal numbers.
 far_same : (rule : Rule) (held held' place place' : ℕ) → held ≡ held' → place ≡ place' → IsFar rule held place → IsFar rule held' place'
 far_same rule held held' place place' e f far = subst (λ x. IsFar rule x place') e (subst (λ x. IsFar rule held x) f far)
 
--- where neither the first label is too far nor one of the next k, none of the first k + 1 is
+-- If the first suffix can enter the table and so can the next k, the first k + 1 can.
 not_far_step : (rule : Rule) (w held : ℕ) (label : List ℕ) (rest : Labels) (k : ℕ) → (IsFar rule held w → ⊥)
     → ((i : ℕ) → i < k → IsFar rule (held + 1 + i) (place_of (w + 1 + length label) rest i) → ⊥)
     → (i : ℕ) → i < suc k → IsFar rule (held + i) (place_of w (label ∷ rest) i) → ⊥
 not_far_step rule w held label rest k here h zero l far = here (far_same rule (held + 0) held (w + 0) w (omega arith) (omega arith) far)
 not_far_step rule w held label rest k here h (suc i) l far = h i (omega arith) (far_same rule _ _ _ _ (omega arith) (omega arith) far)
 
--- where the whole name is not known nor one of the first j of the others, none of the first j + 1 is
+-- If the whole name isn't in the table and the next j suffixes aren't, the first j + 1 aren't.
 before_step : (m : Memory) (label : List ℕ) (rest : Labels) (j : ℕ) → get m (label ∷ rest) ≡ None
     → ((i : ℕ) → i < j → get m (drop i rest) ≡ None) → (i : ℕ) → i < suc j → get m (drop i (label ∷ rest)) ≡ None
 before_step m label rest j e h zero l = e
 before_step m label rest j e h (suc i) l = h i (omega arith)
 
--- where the whole name is not known, it is the first of the others
+-- If the whole name isn't in the table, the first suffix in the table is one of its parent.
 known_step : (m : Memory) (label : List ℕ) (rest : Labels) (j : ℕ) → get m (label ∷ rest) ≡ None → IsFirstKnown m rest j → IsFirstKnown m (label ∷ rest) (suc j)
 known_step m label rest j e h = record {
   within = omega (arith, h.within);
@@ -56,11 +56,11 @@ known_step m label rest j e h = record {
   there = h.there;
 }
 
--- where it is known, it is the first
+-- If the whole name is in the table, it is the first suffix there.
 known_here : (m : Memory) (label : List ℕ) (rest : Labels) (x : Spot) → get m (label ∷ rest) ≡ Some x → IsFirstKnown m (label ∷ rest) 0
 known_here m label rest x e = record { within = omega arith; before = λ i l. absurd (omega arith); there = inr (x, e) }
 
--- the root has no suffix
+-- The root has no suffix.
 known_none : (m : Memory) → IsFirstKnown m [] 0
 known_none m = record { within = omega arith; before = λ i l. absurd (omega arith); there = inl refl }
 
@@ -69,12 +69,12 @@ known_one : (m : Memory) (label : List ℕ) (rest : Labels) (o : Option Spot) �
 known_one m label rest (Some x) e h = (0, known_here m label rest x e)
 known_one m label rest None e h = (suc h.0, known_step m label rest h.0 e h.1)
 
--- each name has one
+-- Each name has a first suffix in the table, or none is there.
 first_known : (m : Memory) (name : Labels) → (j : ℕ) × IsFirstKnown m name j
 first_known m [] = (0, known_none m)
 first_known m (label ∷ rest) = known_one m label rest (get m (label ∷ rest)) refl (first_known m rest)
 
--- a label that is written out before what is chosen for the others
+-- A label that is written out before the choice for the remaining labels.
 chooses_step : (rule : Rule) (m : Memory) (w held : ℕ) (label : List ℕ) (rest : Labels) {text : List ℕ} {ss : List (Labels × ℕ)}
     → get m (label ∷ rest) ≡ None → (IsFar rule held w → ⊥)
     → Chooses rule m (w + 1 + length label) (held + 1) rest text ss → Chooses rule m w held (label ∷ rest) (framed label ++ text) ((label ∷ rest, w) ∷ ss)
@@ -87,7 +87,7 @@ chooses_step rule m w held label rest e here (written_out c j known less far nea
     (far_same rule (held + 1 + c) (held + suc c) (place_of (w + 1 + length label) rest c) (place_of w (label ∷ rest) (suc c)) (omega arith) (omega arith) far)
     (not_far_step rule w held label rest c here near)
 
--- the text of a name, and the suffixes that are written out, are chosen
+-- The octets of a name and the suffixes written out are as chosen.
 chosen : {rule : Rule} {m : Memory} {p held : ℕ} {name : Labels} {text : List ℕ} {ss : List (Labels × ℕ)} → SpellsAs rule m p held name text ss → Chooses rule m p held name text ss
 chosen {m = m} at_root = shared 0 (0 ∷ []) (known_none m) (inl (refl, refl)) (λ i l far. omega arith)
 chosen {m = m} (at_known {first = first} {rest = rest} {x = x} e) = shared 0 (pointer x.place) (known_here m first rest x e) (inr (x, e, refl)) (λ i l far. omega arith)
@@ -97,19 +97,19 @@ chosen {rule = rule} {m = m} (at_far {p = p} {held = held} {first = first} {rest
     written_out 0 (suc known.0) (known_step m first rest known.0 e known.1) (omega arith)
     (far_same rule held (held + 0) p (p + 0) (omega arith) (omega arith) (far_is rule held p k)) (λ i l far. omega arith)
 
--- whether a pointer can lead to a suffix
+-- Whether a suffix is within pointer range.
 abbrev near_test : Labels × ℕ → Bool
 near_test s = nat_lt s.1 16384
 
--- a pointer can lead to each of these
+-- Each suffix is within pointer range.
 abbrev AreNear : List (Labels × ℕ) → Type 0
 AreNear ss = (s : Labels × ℕ) → IsAmong s ss → s.1 < 16384
 
--- to one of these none can
+-- One suffix is past pointer range.
 abbrev OneIsFar : List (Labels × ℕ) → Type 0
 OneIsFar ss = (s : Labels × ℕ) × IsAmong s ss × (16384 ≤ s.1)
 
--- where the test passes, a pointer can lead to each
+-- If the test is true of all suffixes, each is within pointer range.
 all_near : (ss : List (Labels × ℕ)) → list_all (λ s. near_test s) ss ≡ true → AreNear ss
 all_near [] e s h = absurd h
 all_near (t ∷ ss) e s (inl h) =
@@ -124,18 +124,18 @@ some_far_one : (t : Labels × ℕ) (ss : List (Labels × ℕ)) (b : Bool) → ne
 some_far_one t ss true small e rec = let r = rec e in (r.0, inr r.1, r.2)
 some_far_one t ss false small e rec = (t, inl refl, grind (arith, common_steps))
 
--- where it fails, there is one to which none can
+-- If it isn't, one suffix is past pointer range.
 some_far : (ss : List (Labels × ℕ)) → list_all (λ s. near_test s) ss ≡ false → OneIsFar ss
 some_far [] e = cc
 some_far (t ∷ ss) e = some_far_one t ss (near_test t) refl e (some_far ss)
 
--- all suffixes are remembered, or none is, since one is too far for a pointer
+-- All suffixes enter the table, or none does because one is past pointer range.
 hash_memory : (m : Memory) (ss : List (Labels × ℕ)) (q : ℕ) (b : Bool) → list_all (λ s. near_test s) ss ≡ b
     → (AreNear ss × (remember m (cond b ss []) q ≡ remember m ss q)) ⊎ (OneIsFar ss × (remember m (cond b ss []) q ≡ m))
 hash_memory m ss q true e = inl (all_near ss e, refl)
 hash_memory m ss q false e = inr (some_far ss e, refl)
 
--- the text and the memory of a name are by choice under each rule of compression
+-- The octets of a name and the table after it are as chosen, under each rule of compression.
 pub names_by_choice : NamesByChoice
 unfolding put_name
 names_by_choice = record {

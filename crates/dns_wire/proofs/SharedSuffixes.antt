@@ -1,4 +1,4 @@
--- How short a name is that is put, where all suffixes of earlier names are remembered.
+-- How short a written name is if the table has all suffixes of earlier names.
 use Rattle.std.proofs.Common.{◌≡◌, ℕ, suc, ◌+◌, ◌<◌, ◌≤◌, ◌⊎◌, inl, inr, Bool, true, false, cond, List, [], ◌∷◌, ◌++◌, length, length-append, append_assoc, arith, ap, sym, ◌∙◌, refl, subst}
 use Rattle.std.specs.Prelude.{Option, Some, None, nat_lt, ◌&&◌, is_some}
 use Rattle.std.specs.List.{list_all}
@@ -17,45 +17,45 @@ use Rattle.dns_wire.proofs.theory.PutNames.{Each, found, SpellsAs, spells_as}
 use Rattle.dns_wire.proofs.theory.PutNames.SpellsAs.{at_root, at_known, at_kept, at_far}
 use Rattle.dns_name.proofs.theory.Spelling.{name_tail}
 
--- what is remembered is what is shared
+-- The table has exactly the suffixes of these names.
 pub record Knows (m : Memory) (names : List Labels) : Type 0 where
   pub has : (s : Labels) → IsShared names s → (x : Spot) × (get m s ≡ Some x)
   pub only : (s : Labels) (x : Spot) → get m s ≡ Some x → IsShared names s
 
--- a suffix of a suffix is one
+-- A suffix of a suffix is a suffix.
 pub suffix_suffix : {s t name : Labels} → IsSuffix s t → IsSuffix t name → IsSuffix s name
 suffix_suffix {s = s} {t = t} {name = name} a b = record { first = b.first ++ a.first; whole = b.whole ∙ ap (λ (u : Labels). b.first ++ u) a.whole ∙ sym (append_assoc b.first a.first s); some = a.some }
 
--- so it is of one of the names
+-- A suffix of a shared suffix is shared.
 pub shared_suffix : (names : List Labels) (s t : Labels) → IsSuffix s t → IsShared names t → IsShared names s
 shared_suffix [] s t a h = absurd h
 shared_suffix (name ∷ names) s t a (inl h) = inl (suffix_suffix a h)
 shared_suffix (name ∷ names) s t a (inr h) = inr (shared_suffix names s t a h)
 
--- a suffix has a label
+-- A shared suffix has a label.
 pub shared_some : (names : List Labels) (s : Labels) → IsShared names s → 1 ≤ length s
 shared_some [] s h = absurd h
 shared_some (name ∷ names) s (inl h) = h.some
 shared_some (name ∷ names) s (inr h) = shared_some names s h
 
--- no label before a known suffix is too far to be remembered
+-- Each suffix before the one in the table can enter the table.
 abbrev pub AllKept : {rule : Rule} {m : Memory} {p held : ℕ} {name : Labels} {text : List ℕ} {ss : List (Labels × ℕ)} → SpellsAs rule m p held name text ss → Type 0
 AllKept at_root = Unit {0}
 AllKept (at_known e) = Unit {0}
 AllKept (at_kept e k s) = AllKept s
 AllKept (at_far e k) = ⊥
 
--- a name of so many octets is the shortest
+-- No way to write the name after these names takes fewer than n octets, and one takes n: whole if no suffix is shared, else with the fewest labels before a shared suffix.
 abbrev pub Best : List Labels → Labels → ℕ → Type 0
 Best names name n =
     ((n ≡ name_size name + 1) × ((first rest : Labels) → name ≡ first ++ rest → IsShared names rest → ⊥))
     ⊎ ((first : Labels) × (rest : Labels) × (name ≡ first ++ rest) × IsShared names rest × (n ≡ name_size first + 2) × ((f r : Labels) → name ≡ f ++ r → IsShared names r → name_size first ≤ name_size f))
 
--- the root is as short as can be
+-- The root takes one octet.
 best_root : (names : List Labels) → Best names [] 1
 best_root names = inl (refl, λ first rest e s. let some = shared_some names rest s in let l : 0 ≡ length first + length rest = ap length e ∙ length-append first rest in omega arith)
 
--- where the whole name isn't shared, a shared rest is one of the others
+-- If the whole name isn't shared, a shared suffix is one of its parent.
 behind_first : (P : Labels → Labels → Type 0) (names : List Labels) (label : List ℕ) (others : Labels) → (IsShared names (label ∷ others) → ⊥)
     → ((f r : Labels) → others ≡ f ++ r → IsShared names r → P (label ∷ f) r)
     → (f r : Labels) → label ∷ others ≡ f ++ r → IsShared names r → P f r
@@ -65,7 +65,7 @@ behind_first P names label others without h (l ∷ f) r e s =
     let two : others ≡ f ++ r = cc in
     subst (λ (k : List ℕ). P (k ∷ f) r) one (h f r two s)
 
--- a label and the others
+-- A label before a shortest parent is shortest, if the whole name isn't shared.
 best_label : (names : List Labels) (label : List ℕ) (others : Labels) (n : ℕ) → (IsShared names (label ∷ others) → ⊥) → Best names others n → Best names (label ∷ others) (1 + length label + n)
 best_label names label others n without (inl a) =
     inl (omega (arith, a.0), behind_first (λ f r. ⊥) names label others without (λ f r e s. a.1 f r e s))
@@ -79,7 +79,7 @@ best_label names label others n without (inr a) =
       behind_first (λ f r. name_size (label ∷ a.0) ≤ name_size f) names label others without (λ f r e s. let l = a.5 f r e s in omega arith),
     )
 
--- the text of a name is as short as can be
+-- A name is written as short as possible.
 pub best : {rule : Rule} {m : Memory} {p held : ℕ} {name : Labels} {text : List ℕ} {ss : List (Labels × ℕ)} (names : List Labels) → Knows m names → (s : SpellsAs rule m p held name text ss) → AllKept s → Best names name (length text)
 best names knows at_root k = best_root names
 best names knows (at_known {first = first} {rest = rest} {x = x} e) k = inr ([], first ∷ rest, refl, knows.only (first ∷ rest) x e, refl, λ f r e s. omega arith)
@@ -89,41 +89,41 @@ best names knows (at_kept {first = first} {rest = rest} {text = text} e is s) k 
     subst (λ n. Best names (first ∷ rest) n) size (best_label names first rest (length text) without (best names knows s k))
 best names knows (at_far e is) k = absurd k
 
--- a name is a suffix of its own
+-- A name is a suffix of itself.
 suffix_whole : (label : List ℕ) (others : Labels) → IsSuffix (label ∷ others) (label ∷ others)
 suffix_whole label others = record { first = []; whole = refl; some = omega arith }
 
--- a suffix of the others is one of the name
+-- A suffix of the parent is a suffix of the name.
 suffix_others : (s : Labels) (label : List ℕ) (others : Labels) → IsSuffix s others → IsSuffix s (label ∷ others)
 suffix_others s label others h = record { first = label ∷ h.first; whole = ap (λ (n : Labels). label ∷ n) h.whole; some = h.some }
 
--- so is each
+-- The same for each of a list.
 each_others : (label : List ℕ) (others : Labels) (ss : List (Labels × ℕ)) → Each (λ s. IsSuffix s.0 others) ss → Each (λ s. IsSuffix s.0 (label ∷ others)) ss
 each_others label others [] h = tt
 each_others label others (s ∷ ss) h = (suffix_others s.0 label others h.0, each_others label others ss h.1)
 
--- only suffixes of the name are remembered of it
+-- The suffixes that are written out are suffixes of the name.
 spell_suffixes : {rule : Rule} {m : Memory} {p held : ℕ} {name : Labels} {text : List ℕ} {ss : List (Labels × ℕ)} → SpellsAs rule m p held name text ss → Each (λ s. IsSuffix s.0 name) ss
 spell_suffixes at_root = tt
 spell_suffixes (at_known e) = tt
 spell_suffixes (at_kept {first = first} {rest = rest} {ss = ss} e k s) = (suffix_whole first rest, each_others first rest ss (spell_suffixes s))
 spell_suffixes (at_far e k) = tt
 
--- a suffix is one of these
+-- A suffix is in the list.
 abbrev Listed : Labels → List (Labels × ℕ) → Type 0
 Listed t [] = ⊥
 Listed t (s ∷ ss) = (t ≡ s.0) ⊎ Listed t ss
 
--- a suffix is the whole name, or one of the others
+-- A suffix is the whole name, or a suffix of its parent.
 suffix_cases : (s : Labels) (label : List ℕ) (others first : Labels) → label ∷ others ≡ first ++ s → 1 ≤ length s → (s ≡ label ∷ others) ⊎ IsSuffix s others
 suffix_cases s label others [] e some = inl (sym e)
 suffix_cases s label others (l ∷ first) e some = inr (record { first = first; whole = cc; some = some })
 
--- the root has no suffix
+-- The root has no suffix.
 no_suffix : (s : Labels) → IsSuffix s [] → ⊥
 no_suffix s h = let some = h.some in let l : 0 ≡ length h.first + length s = ap length h.whole ∙ length-append h.first s in omega arith
 
--- each suffix of the name was shared, or is listed
+-- Each suffix of the name was shared, or is written out.
 listed : {rule : Rule} {m : Memory} {p held : ℕ} {name : Labels} {text : List ℕ} {ss : List (Labels × ℕ)} (names : List Labels) (t : Labels) → Knows m names → (s : SpellsAs rule m p held name text ss) → AllKept s → IsSuffix t name → IsShared names t ⊎ Listed t ss
 listed names t knows at_root k h = absurd (no_suffix t h)
 listed names t knows (at_known {first = first} {rest = rest} {x = x} e) k h = inl (shared_suffix names t (first ∷ rest) h (knows.only (first ∷ rest) x e))
@@ -134,16 +134,16 @@ listed names t knows (at_kept {first = first} {rest = rest} e is s) k h =
     ]
 listed names t knows (at_far e is) k h = absurd k
 
--- what is inserted is found
+-- The table has an inserted suffix.
 inserted_same : (m : Memory) (t k : Labels) (v : Spot) → t ≡ k → get (insert m k v) t ≡ Some v
 inserted_same m t k v e = ap (λ (n : Labels). get (insert m k v) n) e ∙ get-insert_same m k v
 
--- so is what was there
+-- The table still has an earlier suffix, perhaps with another entry.
 inserted_other : (b : Bool) (v : Spot) (o : Option Spot) (x : Spot) → o ≡ Some x → (y : Spot) × (cond b (Some v) o ≡ Some y)
 inserted_other true v o x e = (v, refl)
 inserted_other false v o x e = (x, e)
 
--- each that is listed is remembered
+-- The table has each suffix of the list.
 listed_found : (m : Memory) (t : Labels) (q : ℕ) (ss : List (Labels × ℕ)) → Listed t ss → (x : Spot) × (get (remember m ss q) t ≡ Some x)
 listed_found m t q [] h = absurd h
 listed_found m t q (s ∷ ss) (inl e) = (record { place = s.1; end = q }, inserted_same (remember m ss q) t s.0 (record { place = s.1; end = q }) e)
@@ -153,7 +153,7 @@ listed_found m t q (s ∷ ss) (inr h) =
     let o = inserted_other (eq_by_cmp suffix_cmp t s.0) v (get (remember m ss q) t) f.0 f.1 in
     (o.0, get-insert suffix_total (remember m ss q) s.0 v t ∙ o.1)
 
--- the memory knows the name too
+-- After the name is written, the table has exactly the suffixes of this name and of the earlier ones.
 pub knows_more : (rule : Rule) (m n : Memory) (names : List Labels) (p held q : ℕ) (name : Labels) → Knows m names → AllKept (spells_as rule m p held name)
     → n ≡ remember m (spell rule m p held name).1 q → ((s : Labels) (x : Spot) → get m s ≡ Some x → get n s ≡ Some x) → Knows n (name ∷ names)
 knows_more rule m n names p held q name knows k is g =
@@ -175,38 +175,38 @@ knows_more rule m n names p held q name knows k is g =
           ];
     }
 
--- a rule that has room for more suffixes than so many has room behind fewer
+-- A rule that can add every suffix to a table with n entries can do so with fewer.
 pub few_less : (rule : Rule) (k n : ℕ) → k ≤ n → SharesAll rule n → SharesAll rule k
 few_less Plain k n l h = h
 few_less Static k n l h = omega arith
 few_less Tree k n l h = tt
 few_less Hash k n l h = tt
 
--- a rule by which each suffix that is near is remembered, while it shares all
+-- A rule by which each suffix within pointer range enters the table, while `SharesAll` holds.
 pub record KeepsNear (rule : Rule) : Type 0 where
   pub keeps : (p held : ℕ) → p < 16384 → SharesAll rule held → is_kept rule p held ≡ true
   pub chosen : (ss : List (Labels × ℕ)) → list_all (λ s. nat_lt s.1 16384) ss ≡ true → kept rule ss ≡ ss
 
--- the tree rule is one
+-- The tree rule is one.
 pub tree_keeps_near : KeepsNear Tree
 tree_keeps_near = record { keeps = λ p held h few. grind (arith, common_steps); chosen = λ ss h. refl }
 
--- a place that is near, and few that are held
+-- The test of the static rule: the offset is within pointer range, and the table has fewer than 24 entries.
 static_keeps : (p held : ℕ) → p < 16384 → held < 24 → nat_lt p 16384 && nat_lt held 24 ≡ true
 static_keeps p held l h =
     let a : nat_lt p 16384 ≡ true = grind (arith, common_steps) in
     let b : nat_lt held 24 ≡ true = grind (arith, common_steps) in
     rw (a, b) refl
 
--- so is the static rule
+-- The static rule is one.
 pub static_keeps_near : KeepsNear Static
 static_keeps_near = record { keeps = λ p held h few. static_keeps p held h few; chosen = λ ss h. refl }
 
--- so is the hash rule
+-- The hash rule is one.
 pub hash_keeps_near : KeepsNear Hash
 hash_keeps_near = record { keeps = λ p held h few. refl; chosen = λ ss h. ap (λ (b : Bool). cond b ss []) h }
 
--- where every label of a name that is written is near, every one before a known suffix is kept
+-- If every written label is within pointer range, each suffix before the one in the table can enter the table.
 pub near_kept : {rule : Rule} {m : Memory} {p held : ℕ} {name : Labels} {text : List ℕ} {ss : List (Labels × ℕ)} (r : KeepsNear rule) (b : List ℕ) (q : ℕ) (s : SpellsAs rule m p held name text ss) → IsName name → LabelsNear b q p → At b p text → SharesAll rule (held + length ss) → AllKept s
 near_kept r b q at_root is near h few = tt
 near_kept r b q (at_known e) is near h few = tt
@@ -219,7 +219,7 @@ near_kept {rule = rule} r b q (at_far {p = p} {held = held} {first = first} {res
     let t : true ≡ false = sym (r.keeps p held a.0 (few_less rule held (held + 0) (omega arith) few)) ∙ k in
     absurd (cc)
 
--- where every label that is written is near, so is every suffix that is written out
+-- If every written label is within pointer range, so is each suffix that is written out.
 pub near_suffixes : {rule : Rule} {m : Memory} {p held : ℕ} {name : Labels} {text : List ℕ} {ss : List (Labels × ℕ)} (b : List ℕ) (q : ℕ) → SpellsAs rule m p held name text ss → IsName name → LabelsNear b q p → At b p text → list_all (λ s. nat_lt s.1 16384) ss ≡ true
 near_suffixes b q at_root is near h = refl
 near_suffixes b q (at_known e) is near h = refl
@@ -231,12 +231,12 @@ near_suffixes b q (at_kept {p = p} {first = first} {rest = rest} {text = text} e
     rw (small, behind) refl
 near_suffixes b q (at_far e k) is near h = refl
 
--- an insert never lessens
+-- An insertion never removes an entry.
 len_more : (m : Memory) (k : Labels) (v : Spot) (b : Bool) → len (insert m k v) ≡ cond b (len m) (len m + 1) → len m ≤ len (insert m k v)
 len_more m k v true e = omega (arith, e)
 len_more m k v false e = omega (arith, e)
 
--- nor does remembering
+-- Adding suffixes never removes an entry.
 pub len_remember : (m : Memory) (ss : List (Labels × ℕ)) (q : ℕ) → len m ≤ len (remember m ss q)
 len_remember m [] q = omega arith
 len_remember m (s ∷ ss) q =
@@ -246,20 +246,20 @@ len_remember m (s ∷ ss) q =
     let b : len r ≤ len (insert r s.0 v) = len_more r s.0 v (contains_key r s.0) (len-insert suffix_total r s.0 v) in
     omega arith
 
--- what isn't any spot is none
+-- An option without a value is `None`.
 none_of : (o : Option Spot) → ((x : Spot) → o ≡ Some x → ⊥) → o ≡ None
 none_of None h = refl
 none_of (Some x) h = absurd (h x refl)
 
--- a name is no suffix of its others
+-- A name is no suffix of its parent.
 longer : (label : List ℕ) (others : Labels) → IsSuffix (label ∷ others) others → ⊥
 longer label others h = let e : length others ≡ length h.first + suc (length others) = ap length h.whole ∙ length-append h.first (label ∷ others) in omega arith
 
--- a suffix that wasn't remembered makes one more
+-- A suffix that isn't in the table adds one entry.
 len_new : (r : Memory) (k : Labels) (v : Spot) → get r k ≡ None → len (insert r k v) ≡ len r + 1
 len_new r k v e = len-insert suffix_total r k v ∙ ap (λ (o : Option Spot). cond (is_some o) (len r) (len r + 1)) e
 
--- each suffix that is written out counts
+-- Each suffix that is written out adds one entry.
 pub len_spell : {rule : Rule} {m : Memory} {p held : ℕ} {name : Labels} {text : List ℕ} {ss : List (Labels × ℕ)} (q : ℕ) → SpellsAs rule m p held name text ss → len (remember m ss q) ≡ len m + length ss
 len_spell q at_root = omega arith
 len_spell q (at_known e) = omega arith

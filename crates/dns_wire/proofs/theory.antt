@@ -1,4 +1,4 @@
--- Lemmas that crates above cite: a change here is one for them too.
+-- Lemmas that other crates cite, so a change here affects them too.
 pub mod NameSizes
 pub mod Memories
 pub mod SpelledNames

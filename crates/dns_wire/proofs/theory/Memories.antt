@@ -1,4 +1,4 @@
--- What a cut leaves of a memory, and what is added to it.
+-- What truncations and additions do to the compression table.
 use Rattle.std.proofs.Common.{◌≡◌, ℕ, ◌≤◌, ◌<◌, Bool, true, false, cond, Option, Some, None, ap, sym, ◌∙◌, subst, refl, arith, inl, inr, ◌≢◌, nat_le, List, [], ◌∷◌, length, ◌⊎◌}
 use Rattle.std.specs.Prelude.{nat_le}
 use Rattle.std.proofs.lemmas.Grind.{common_steps}
@@ -12,7 +12,7 @@ use Rattle.dns_name.specs.Names.{Labels}
 use Rattle.dns_wire.specs.Pieces.{suffix_cmp, suffix_total, suffix_exact, Spot, Memory, ends_within, cut, IsWithin, IsBehind, IsOldOrWithin, Extends, remember, nothing, IsClear}
 use Rattle.dns_wire.specs.Targets.{Remembers}
 
--- what a cut has at a suffix
+-- What a truncated table has for a suffix.
 pub get-cut : (m : Memory) (len : ℕ) (q : Labels) → get (cut m len) q ≡ cond (ends_within len (get m q)) (get m q) None
 unfolding cut
 get-cut m len q = get-retain_keys m (λ s. ends_within len (get m s)) q (λ x e. ap (λ s. ends_within len (get m s)) (sym (suffix_exact q x e)))
@@ -25,18 +25,18 @@ cut_some len (Some y) x e =
     let l : y.end ≤ len = let t = w.0 in grind (arith, common_steps) in
     (ap (λ (z : Spot). Some z) s, subst (λ (z : Spot). z.end ≤ len) s l)
 
--- a suffix that a cut leaves was remembered, and its name ends within
+-- A suffix in the truncated table was in the table, and its name ends within the length.
 pub get_of_cut : (m : Memory) (len : ℕ) (s : Labels) (x : Spot) → get (cut m len) s ≡ Some x → (get m s ≡ Some x) × (x.end ≤ len)
 get_of_cut m len s x e = cut_some len (get m s) x (sym (get-cut m len s) ∙ e)
 
 some_cut : (len : ℕ) (o : Option Spot) (x : Spot) → o ≡ Some x → x.end ≤ len → cond (ends_within len o) o None ≡ Some x
 some_cut len o x e l = rw e (grind (arith, common_steps))
 
--- a cut leaves each suffix of a name that ends within
+-- A truncated table keeps each suffix whose name ends within the length.
 pub get_in_cut : (m : Memory) (len : ℕ) (s : Labels) (x : Spot) → get m s ≡ Some x → x.end ≤ len → get (cut m len) s ≡ Some x
 get_in_cut m len s x e l = get-cut m len s ∙ some_cut len (get m s) x e l
 
--- memories that have the same at each suffix are the same
+-- Tables with the same entries are the same.
 pub same_memory : (m n : Memory) → ((q : Labels) → get m q ≡ get n q) → m ≡ n
 same_memory m n h = same_map suffix_total suffix_exact m n h
 
@@ -44,7 +44,7 @@ within_all : (w : ℕ) (o : Option Spot) → ((x : Spot) → o ≡ Some x → x.
 within_all w None h = refl
 within_all w (Some x) h = let l : x.end ≤ w = h x refl in grind (arith, common_steps)
 
--- nothing is forgotten of what ends within
+-- If all names end within the length, truncating changes nothing.
 pub cut-within : (m : Memory) (w : ℕ) → IsWithin m w → cut m w ≡ m
 cut-within m w h = same_memory _ _ (λ q. get-cut m w q ∙ within_all w (get m q) (λ x e. h q x e))
 
@@ -53,11 +53,11 @@ cut_new : (e w v : ℕ) (before after : Option Spot) → e ≤ w → IsOldOrWith
 cut_new e w v before after l (inl same) = ap (λ o. cond (ends_within e o) o None) same
 cut_new e w v before after l (inr new) = rw (new.0, new.1.1) (let late : e < new.1.0.end = omega (arith, new.1.3) in grind (arith, common_steps))
 
--- a cut at or below the place forgets just what is new
+-- Truncating at or below the offset of an addition undoes it.
 pub cut-extends : (m n : Memory) (w v e : ℕ) → e ≤ w → Extends m n w v → cut n e ≡ cut m e
 cut-extends m n w v e l x = same_memory _ _ (λ q. get-cut n e q ∙ cut_new e w v (get m q) (get n q) l (x.each q) ∙ sym (get-cut m e q))
 
--- the same memory, with nothing new
+-- A table extends itself.
 pub extends_refl : (m : Memory) (w v : ℕ) → Extends m m w v
 extends_refl m w v = record { each = λ s. inl refl }
 
@@ -65,7 +65,7 @@ widen_one : (before after : Option Spot) (w v w' v' : ℕ) → w' ≤ w → v �
 widen_one before after w v w' v' l k (inl same) = inl same
 widen_one before after w v w' v' l k (inr new) = inr (new.0, (new.1.0, new.1.1, omega (arith, new.1.2), omega (arith, new.1.3), omega (arith, new.1.4)))
 
--- what was written between two places was written between two wider ones
+-- An extension between two offsets is one between wider offsets.
 pub extends_wider : (m n : Memory) (w v w' v' : ℕ) → w' ≤ w → v ≤ v' → Extends m n w v → Extends m n w' v'
 extends_wider m n w v w' v' l k x = record { each = λ s. widen_one (get m s) (get n s) w v w' v' l k (x.each s) }
 
@@ -75,7 +75,7 @@ join_one a b c w v (inl p) (inr q) = inr (sym p ∙ q.0, q.1)
 join_one a b c w v (inr p) (inl q) = inr (p.0, (p.1.0, q ∙ p.1.1, p.1.2, p.1.3, p.1.4))
 join_one a b c w v (inr p) (inr q) = absurd (let e : Some p.1.0 ≡ None = sym p.1.1 ∙ q.0 in cc)
 
--- what is added in two steps is added
+-- Two extensions in turn are one.
 pub extends_join : (a b c : Memory) (w v : ℕ) → Extends a b w v → Extends b c w v → Extends a c w v
 extends_join a b c w v x y = record { each = λ s. join_one (get a s) (get b s) (get c s) w v (x.each s) (y.each s) }
 
@@ -86,11 +86,11 @@ inserted_one before after found x w v true e h (inr new) p q r = inr (h refl, (x
 inserted_one before after found x w v false e h (inl same) p q r = inl (e ∙ same)
 inserted_one before after found x w v false e h (inr new) p q r = inr (new.0, (new.1.0, e ∙ new.1.1, new.1.2, new.1.3, new.1.4))
 
--- suffixes that the order does not tell apart are the same
+-- Suffixes that compare as equal are the same.
 pub tied : (q k : Labels) → eq_by_cmp suffix_cmp q k ≡ true → q ≡ k
 tied q k e = suffix_exact q k ((Equal-is (suffix_cmp q k)).0 e)
 
--- one more suffix is new
+-- Inserting a new suffix extends the table.
 pub inserted : (m n : Memory) (k : Labels) (x : Spot) (w v : ℕ) → Extends m n w v → get m k ≡ None → w ≤ x.place → w < x.end → x.end ≤ v
     → Extends m (insert n k x) w v
 inserted m n k x w v g none p q r = record {
@@ -101,7 +101,7 @@ old_kept : (before after : Option Spot) (w v : ℕ) (x : Spot) → IsOldOrWithin
 old_kept before after w v x (inl same) e = same ∙ e
 old_kept before after w v x (inr new) e = absurd (let n : None ≡ Some x = sym new.0 ∙ e in cc)
 
--- nothing is forgotten
+-- An extension keeps each entry.
 pub gets : {m n : Memory} {w v : ℕ} → Extends m n w v → (s : Labels) (x : Spot) → get m s ≡ Some x → get n s ≡ Some x
 gets {m = m} {n = n} {w = w} {v = v} g s x e = old_kept (get m s) (get n s) w v x (g.each s) e
 
@@ -113,30 +113,30 @@ behind_one a w v before after l (inr new) h x e =
     let same : new.1.0 ≡ x = cc in
     subst (λ (z : Spot). a ≤ z.place) same (omega (arith, new.1.2))
 
--- what is new stands behind what was there
+-- If all entries are at or after an offset, so are those of an extension after it.
 pub behind_more : {m n : Memory} {w v : ℕ} (a : ℕ) → a ≤ w → Extends m n w v → IsBehind m a → IsBehind n a
 behind_more {m = m} {n = n} {w = w} {v = v} a l g h = record { each = λ s x e. behind_one a w v (get m s) (get n s) l (g.each s) (λ y f. h.each s y f) x e }
 
--- A memory with suffixes added.
+-- Tables with suffixes added.
 
--- suffixes that differ are told apart
+-- Suffixes that differ don't compare as equal.
 pub untied : (q k : Labels) (b : Bool) → eq_by_cmp suffix_cmp q k ≡ b → q ≢ k → b ≡ false
 untied q k true e n = absurd (n (tied q k e))
 untied q k false e n = refl
 
--- each suffix is itself
+-- A suffix compares as equal to itself.
 pub tied_self : (q : Labels) → eq_by_cmp suffix_cmp q q ≡ true
 tied_self q = (eq_by_cmp_equiv suffix_total).refl q
 
--- what is added is found
+-- The table has an inserted suffix.
 pub get-insert_same : (m : Memory) (k : Labels) (x : Spot) → get (insert m k x) k ≡ Some x
 get-insert_same m k x = get-insert suffix_total m k x k ∙ ap (λ b. cond b (Some x) (get m k)) (tied_self k)
 
--- and changes no other suffix
+-- Inserting changes no other suffix.
 pub get-insert_other : (m : Memory) (k : Labels) (x : Spot) (q : Labels) → q ≢ k → get (insert m k x) q ≡ get m q
 get-insert_other m k x q n = get-insert suffix_total m k x q ∙ ap (λ b. cond b (Some x) (get m q)) (untied q k _ refl n)
 
--- a suffix is the one that was added, or is as before
+-- A suffix is the inserted one, or its entry is unchanged.
 pub insert_cases : (m : Memory) (k : Labels) (x : Spot) (q : Labels) → ((q ≡ k) × (get (insert m k x) q ≡ Some x)) ⊎ (get (insert m k x) q ≡ get m q)
 insert_cases m k x q = cases_by _ refl
   where
@@ -144,7 +144,7 @@ insert_cases m k x q = cases_by _ refl
     cases_by true is = inl (tied q k is, get-insert suffix_total m k x q ∙ ap (λ b. cond b (Some x) (get m q)) is)
     cases_by false is = inr (get-insert suffix_total m k x q ∙ ap (λ b. cond b (Some x) (get m q)) is)
 
--- a suffix that ends past a cut leaves nothing
+-- Truncating removes an inserted suffix whose name ends past the length.
 pub cut-insert_late : (m : Memory) (k : Labels) (x : Spot) (len : ℕ) → get m k ≡ None → len < x.end → cut (insert m k x) len ≡ cut m len
 cut-insert_late m k x len none l = same_memory _ _ (λ q. get-cut (insert m k x) len q ∙ late_by q (insert_cases m k x q) ∙ sym (get-cut m len q))
   where
@@ -156,19 +156,19 @@ cut-insert_late m k x len none l = same_memory _ _ (λ q. get-cut (insert m k x)
     late_by q (inl h) = rw (h.1, ap (get m) h.0 ∙ none) late
     late_by q (inr h) = ap (λ o. cond (ends_within len o) o None) h
 
--- the suffixes have fewer labels
+-- Each suffix has fewer than n labels.
 abbrev pub AreShorter : ℕ → List (Labels × ℕ) → Type 0
 AreShorter n [] = Unit {0}
 AreShorter n (s ∷ ss) = (length s.0 < n) × AreShorter n ss
 
--- so they are none of a longer name
+-- Adding shorter suffixes doesn't add a longer one.
 pub get-remember_longer : (m : Memory) (ss : List (Labels × ℕ)) (end : ℕ) (k : Labels) → get m k ≡ None → AreShorter (length k) ss → get (remember m ss end) k ≡ None
 get-remember_longer m [] end k none h = none
 get-remember_longer m (s ∷ ss) end k none h =
     get-insert_other (remember m ss end) s.0 (record { place = s.1; end = end }) k (λ e. let z = ap length e in let l = h.0 in omega arith)
     ∙ get-remember_longer m ss end k none h.1
 
--- Targets that remember nothing.
+-- Targets with an empty table.
 
 pub cut_nothing : (len : ℕ) → cut nothing len ≡ nothing
 cut_nothing len = same_memory _ _ (λ q. get-cut nothing len q ∙ rw get-empty refl)
@@ -176,10 +176,10 @@ cut_nothing len = same_memory _ _ (λ q. get-cut nothing len q ∙ rw get-empty 
 pub nothing_is_kept : (b : List ℕ) → Remembers b nothing
 nothing_is_kept b = record { each = λ s x e. absurd (let k : None ≡ Some x = sym (get-empty suffix_cmp s) ∙ e in cc) }
 
--- where nothing is remembered, all octets may be written over
+-- With an empty table, any octets may be overwritten.
 pub clear_nothing : (a n : ℕ) → IsClear nothing a n
 clear_nothing a n s x h = absurd (let k : None ≡ Some x = sym (get-empty suffix_cmp s) ∙ h in cc)
 
--- so of a memory that is empty
+-- The same for a table that equals the empty one.
 pub clear_plain : (m : Memory) (a n : ℕ) → m ≡ nothing → IsClear m a n
 clear_plain m a n e = subst (λ (q : Memory). IsClear q a n) (sym e) (clear_nothing a n)

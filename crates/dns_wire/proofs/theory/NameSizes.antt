@@ -1,4 +1,4 @@
--- How many octets are written of a name.
+-- The octets that a written name takes.
 use Rattle.std.proofs.Common.{ℕ, ◌+◌, ◌≤◌, List, [], ◌∷◌, length, length-append, arith}
 use Rattle.dns_name.specs.Names.{Labels, uncompressed}
 use Rattle.dns_wire.specs.Pieces.{Memory, Rule, Plain, Static, Tree, Hash, put_name}
@@ -8,7 +8,7 @@ use Rattle.dns_name.proofs.theory.LabelsLemmas.{length-uncompressed}
 use Rattle.dns_wire.proofs.theory.PutNames.{SpellsAs, spells_as}
 use Rattle.dns_wire.proofs.theory.PutNames.SpellsAs.{at_root, at_known, at_kept, at_far}
 
--- The text of a name has at most the octets that it has without pointers: a pointer has two, and so have a label's length octet and the root's.
+-- A written name takes at most as many octets as it does uncompressed: a pointer takes two, and a length octet and the root's zero octet take as many.
 spell_short : {rule : Rule} {m : Memory} {p held : ℕ} {name : Labels} {text : List ℕ} {ss : List (Labels × ℕ)} → SpellsAs rule m p held name text ss → length text ≤ length (uncompressed name)
 spell_short at_root = omega arith
 spell_short (at_known {first = first} {rest = rest} e) =
@@ -22,7 +22,7 @@ spell_short (at_kept {first = first} {rest = rest} {text = text} e k s) =
     omega arith
 spell_short (at_far e k) = omega arith
 
--- so has the text of a name under each rule
+-- This holds under each rule.
 pub names_are_short : NamesAreShort
 unfolding put_name
 names_are_short Plain name m w = omega arith
@@ -34,7 +34,7 @@ part_short : (rule : Rule) (part : Part) (m : Memory) (w : ℕ) → length (put_
 part_short rule (Octets octets) m w = omega arith
 part_short rule (CompressibleName name) m w = names_are_short rule name m w
 
--- parts take at most the octets that they have without pointers
+-- Written parts take at most as many octets as they do uncompressed.
 pub parts_are_short : (rule : Rule) (parts : List Part) (m : Memory) (w : ℕ) → length (put_parts rule parts m w).octets ≤ parts_size parts
 unfolding put_parts
 parts_are_short rule [] m w = omega arith

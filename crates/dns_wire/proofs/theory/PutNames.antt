@@ -1,4 +1,4 @@
--- A name that is put behind octets is spelled there, and what is remembered of it is kept.
+-- A written name is encoded where it was written, and the table after it is sound.
 use Rattle.std.proofs.Common.{◌≡◌, ℕ, ◌+◌, ◌≤◌, ◌<◌, Bool, true, false, cond, Option, Some, None, List, [], ◌∷◌, ◌++◌, length, length-append, refl, arith, ◌⊎◌, inl, inr, ap, sym, ◌∙◌, subst}
 use Rattle.std.specs.FinMap.{get, len, get-insert}
 use Rattle.std.specs.Prelude.{Option, Some, None, nat_lt}
@@ -15,9 +15,9 @@ use Rattle.dns_wire.specs.Targets.Spelled.{root, label, pointer}
 use Rattle.dns_wire.proofs.theory.Memories.{extends_refl, extends_wider, extends_join, inserted, gets, tied}
 use Rattle.dns_wire.proofs.theory.SpelledNames.{at_end, label_part, behind_label, moved, kept_moved, kept_more, kept_spelled, spelled_long}
 
--- Names, octets and parts remember only suffixes that they write.
+-- The encodings of names, octets and parts add only suffixes of their own octets.
 
--- the suffixes are new to the memory, and stand at w or later
+-- The suffixes aren't in the table, and are at or after offset w.
 abbrev AreNew : Memory → ℕ → List (Labels × ℕ) → Type 0
 AreNew m w [] = Unit {0}
 AreNew m w (s ∷ ss) = (get m s.0 ≡ None) × (w ≤ s.1) × AreNew m w ss
@@ -26,7 +26,7 @@ newer : (m : Memory) (w w' : ℕ) (ss : List (Labels × ℕ)) → w' ≤ w → A
 newer m w w' [] l h = tt
 newer m w w' (s ∷ ss) l h = (h.0, omega (arith, h.1), newer m w w' ss l h.2)
 
--- how a name is spelled: the octets and the suffixes that are written out
+-- How a name is encoded: its octets, and the suffixes that are written out.
 pub data SpellsAs (rule : Rule) (m : Memory) : ℕ → ℕ → Labels → List ℕ → List (Labels × ℕ) → Type 0 where
   at_root : {p held : ℕ} → SpellsAs rule m p held [] (0 ∷ []) []
   at_known : {p held : ℕ} {first : List ℕ} {rest : Labels} {x : Spot} → get m (first ∷ rest) ≡ Some x → SpellsAs rule m p held (first ∷ rest) (put_pointer x.place) []
@@ -44,7 +44,7 @@ pub spells_as : (rule : Rule) (m : Memory) (p held : ℕ) (name : Labels) → le
 spells_as rule m p held [] = at_root
 spells_as rule m p held (first ∷ rest) = label_as rule m p held _ _ first rest _ refl refl (spells_as rule m (p + 1 + length first) (held + 1) rest)
 
--- the suffixes that are written out are new
+-- The suffixes that are written out are new.
 spell_new : {rule : Rule} {m : Memory} {p held : ℕ} {name : Labels} {text : List ℕ} {ss : List (Labels × ℕ)} → SpellsAs rule m p held name text ss → AreNew m p ss
 spell_new at_root = tt
 spell_new (at_known e) = tt
@@ -55,32 +55,32 @@ chosen_new : (m : Memory) (w : ℕ) (b : Bool) (ss : List (Labels × ℕ)) → A
 chosen_new m w true ss h = h
 chosen_new m w false ss h = tt
 
--- so are those of them that are remembered
+-- Those of them that enter the table are new.
 kept_new : (rule : Rule) (m : Memory) (w : ℕ) (ss : List (Labels × ℕ)) → AreNew m w ss → AreNew m w (kept rule ss)
 kept_new Plain m w ss h = tt
 kept_new Static m w ss h = h
 kept_new Tree m w ss h = h
 kept_new Hash m w ss h = chosen_new m w _ ss h
 
--- with suffixes remembered that are new
+-- Adding new suffixes extends the table.
 extends-remember : (m : Memory) (ss : List (Labels × ℕ)) (w end : ℕ) → w < end → AreNew m w ss → Extends m (remember m ss end) w end
 extends-remember m [] w end l h = extends_refl m w end
 extends-remember m (s ∷ ss) w end l h =
     inserted m (remember m ss end) s.0 (record { place = s.1; end = end }) w end (extends-remember m ss w end l h.2) h.0 h.1 l (omega arith)
 
--- at least one octet is written of a name
+-- A written name takes at least one octet.
 spell_long : {rule : Rule} {m : Memory} {p held : ℕ} {name : Labels} {text : List ℕ} {ss : List (Labels × ℕ)} → SpellsAs rule m p held name text ss → 0 < length text
 spell_long at_root = omega arith
 spell_long (at_known e) = omega arith
 spell_long (at_kept e k s) = omega arith
 spell_long (at_far e k) = omega arith
 
--- with those of a name
+-- Adding the suffixes of a name extends the table.
 named : (rule : Rule) (name : Labels) (m : Memory) (w held : ℕ)
     → let spelled = spell rule m w held name in Extends m (remember m (kept rule spelled.1) (w + length spelled.0)) w (w + length spelled.0)
 named rule name m w held = let long = spell_long (spells_as rule m w held name) in extends-remember m _ w _ (omega arith) (kept_new rule m w _ (spell_new (spells_as rule m w held name)))
 
--- a name is a growing piece
+-- The encoding of a name is growing.
 pub put_name_grows : (rule : Rule) (name : Labels) → IsGrowing (put_name rule name)
 unfolding put_name
 put_name_grows Plain name = record { grows = λ m w. extends_refl m w _ }
@@ -88,11 +88,11 @@ put_name_grows Static name = record { grows = λ m w. named Static name m w _ }
 put_name_grows Tree name = record { grows = λ m w. named Tree name m w _ }
 put_name_grows Hash name = record { grows = λ m w. named Hash name m w _ }
 
--- octets are one
+-- The encoding of octets is growing.
 pub put_octets_grows : (octets : List ℕ) → IsGrowing (put_octets octets)
 put_octets_grows octets = record { grows = λ m w. extends_refl m w _ }
 
--- so are two growing pieces, one behind the other
+-- Two growing encodings in order are growing.
 pub both_grows : (a b : Piece) → IsGrowing a → IsGrowing b → IsGrowing (both a b)
 both_grows a b g h = record {
   grows = λ m w.
@@ -106,7 +106,7 @@ both_grows a b g h = record {
       (extends_wider first.memory second.memory v (v + length second.octets) w end (omega arith) (omega arith) (h.grows first.memory v));
 }
 
--- so is a growing piece behind its length
+-- A growing encoding preceded by its length is growing.
 pub with_length_grows : (a : Piece) → IsGrowing a → IsGrowing (with_length a)
 with_length_grows a g = record {
   grows = λ m w.
@@ -114,23 +114,23 @@ with_length_grows a g = record {
       extends_wider m laid.memory (w + 2) (w + 2 + length laid.octets) w _ (omega arith) (omega arith) (g.grows m (w + 2));
 }
 
--- so is a part
+-- The encoding of a part is growing.
 pub put_part_grows : (rule : Rule) (part : Part) → IsGrowing (put_part rule part)
 put_part_grows rule (Octets octets) = put_octets_grows octets
 put_part_grows rule (CompressibleName name) = put_name_grows rule name
 
--- so are parts
+-- The encoding of parts is growing.
 pub put_parts_grows : (rule : Rule) (parts : List Part) → IsGrowing (put_parts rule parts)
 unfolding put_parts
 put_parts_grows rule [] = put_octets_grows []
 put_parts_grows rule (part ∷ parts) = both_grows _ _ (put_part_grows rule part) (put_parts_grows rule parts)
 
--- it holds of each
+-- P holds of each suffix.
 abbrev pub Each : (Labels × ℕ → Type 0) → List (Labels × ℕ) → Type 0
 Each P [] = Unit {0}
 Each P (s ∷ ss) = P s × Each P ss
 
--- a name's octets without pointers spell it
+-- The uncompressed octets of a name encode it.
 spelled_full : (m : Memory) (b : List ℕ) (q p : ℕ) (name : Labels) → IsName name → At b p (uncompressed name) → q ≡ p + length (uncompressed name) → Spelled m b q p name
 spelled_full m b q p [] is h e = root h e
 spelled_full m b q p (first ∷ rest) is h e =
@@ -139,11 +139,11 @@ spelled_full m b q p (first ∷ rest) is h e =
     label t.0 (label_part first (uncompressed rest) h)
     (spelled_full m b q (p + 1 + length first) rest t.1 (behind_label first (uncompressed rest) h) (omega arith))
 
--- names that end within some octets end within more
+-- Names that end within p octets end within q ≥ p octets.
 later : (m : Memory) (p q : ℕ) → p ≤ q → IsWithin m p → IsWithin m q
 later m p q l ends s x e = omega (arith, ends s x e)
 
--- the text of a name spells it
+-- The written octets of a name encode it.
 spelled_by : {rule : Rule} {m : Memory} {p held : ℕ} {name : Labels} {text : List ℕ} {ss : List (Labels × ℕ)} (b : List ℕ) (q : ℕ) → SpellsAs rule m p held name text ss → IsName name → IsWithin m p
     → At b p text → q ≡ p + length text → Spelled m b q p name
 spelled_by b q at_root is ends h e = root h e
@@ -154,31 +154,31 @@ spelled_by {m = m} b q (at_kept {p = p} {first = first} {rest = rest} {text = te
     label tail.0 (label_part first text h) (spelled_by b q s tail.1 (later m p (p + 1 + length first) (omega arith) ends) (behind_label first text h) (omega arith))
 spelled_by {m = m} b q (at_far {p = p} {first = first} {rest = rest} g k) is ends h e = spelled_full m b q p (first ∷ rest) is h e
 
--- a place that a pointer can lead to
+-- An offset is within pointer range.
 abbrev IsNear : ℕ → Type 0
 IsNear p = p < 16384
 
--- where a suffix is that is written out
+-- What a rule says of the offset of a suffix that is written out.
 abbrev NearFor : Rule → ℕ → Type 0
 NearFor Plain p = Unit {0}
 NearFor Static p = IsNear p
 NearFor Tree p = IsNear p
 NearFor Hash p = Unit {0}
 
--- a suffix that may be remembered is there
+-- This holds of a suffix that may enter the table.
 near_for : (rule : Rule) (p held : ℕ) → is_kept rule p held ≡ true → NearFor rule p
 near_for Plain p held e = tt
 near_for Static p held e = grind (arith, common_steps)
 near_for Tree p held e = grind (arith, common_steps)
 near_for Hash p held e = tt
 
--- a suffix that is written out at its place, which is as Near says
+-- A suffix that is written out is encoded at its offset, of which `Near` holds.
 record Out (Near : ℕ → Type 0) (m : Memory) (b : List ℕ) (q : ℕ) (s : Labels × ℕ) : Type 0 where
   spelled : Labelled m b q s.1 s.0
   short : name_size s.0 ≤ max_size
   near : Near s.1
 
--- each suffix that is written out is spelled at its place
+-- Each suffix that is written out is encoded at its offset.
 all_out : {rule : Rule} {m : Memory} {p held : ℕ} {name : Labels} {text : List ℕ} {ss : List (Labels × ℕ)} (b : List ℕ) (q : ℕ) → SpellsAs rule m p held name text ss → IsName name → IsWithin m p
     → At b p text → q ≡ p + length text → Each (Out (NearFor rule) m b q) ss
 all_out b q at_root is ends h e = tt
@@ -204,7 +204,7 @@ near_chosen : (m : Memory) (b : List ℕ) (q : ℕ) (ss : List (Labels × ℕ)) 
 near_chosen m b q ss true t h = near_tested m b q ss t h
 near_chosen m b q ss false t h = tt
 
--- a pointer can lead to each suffix that is remembered
+-- Each suffix that enters the table is within pointer range.
 near_kept : (rule : Rule) (m : Memory) (b : List ℕ) (q : ℕ) (ss : List (Labels × ℕ)) → Each (Out (NearFor rule) m b q) ss → Each (Out IsNear m b q) (kept rule ss)
 near_kept Plain m b q ss h = tt
 near_kept Static m b q ss h = h
@@ -221,7 +221,7 @@ found_one m r s q P k x true is p rec e =
     inr (subst (λ (z : Spot). P (k, z.place) × (z.end ≡ q)) same (subst (λ (n : Labels). P (n, s.1)) (sym (is refl)) p, refl))
 found_one m r s q P k x false is p rec e = rec e
 
--- what is found was there, or is one of the new suffixes
+-- A suffix in the table was there before, or is one of the added ones.
 pub found : (m : Memory) (ss : List (Labels × ℕ)) (q : ℕ) (P : Labels × ℕ → Type 0) (k : Labels) (x : Spot) → Each P ss
     → get (remember m ss q) k ≡ Some x → (get m k ≡ Some x) ⊎ (P (k, x.place) × (x.end ≡ q))
 found m [] q P k x all e = inl e
@@ -229,17 +229,17 @@ found m (s ∷ ss) q P k x all e =
     found_one m (remember m ss q) s q P k x (eq_by_cmp suffix_cmp k s.0) (tied k s.0) all.0 (found m ss q P k x all.1)
     (sym (get-insert suffix_total (remember m ss q) s.0 (record { place = s.1; end = q }) k) ∙ e)
 
--- each remembered name ends within the content
+-- Each name in a sound table ends within the content.
 pub ends_within_content : {m : Memory} {b : List ℕ} → Remembers b m → IsWithin m (length b)
 ends_within_content r s x e = (spelled_long (kept_spelled s x (r.each s x e))).1
 
--- a suffix that was written out where a pointer can lead is kept
+-- The entry of a suffix that was written out within pointer range is sound.
 new_kept : (m n : Memory) (b : List ℕ) (s : Labels) (x : Spot) → ((s : Labels) (x : Spot) → get m s ≡ Some x → get n s ≡ Some x)
     → Out IsNear m b x.end (s, x.place) → IsRemembered b n s x
 new_kept m n b s x g h =
     kept_moved m n b b s x (λ p xs l fits h. h) (λ t y e less. g t y e) (record { near = h.near; short = h.short; spelled = h.spelled })
 
--- text behind octets spells a name, and what is remembered then is kept
+-- Octets after a content encode a name, and the table after them is sound.
 pub record PutsName (b : List ℕ) (name : Labels) (text : List ℕ) (n : Memory) : Type 0 where
   pub spelled : Spelled n (b ++ text) (length b + length text) (length b) name
   pub remembers : Remembers (b ++ text) n
@@ -267,7 +267,7 @@ by_rule rule m n b name held l r is g =
       };
     }
 
--- so does the text of a name under each rule
+-- This holds of the encoding of a name under each rule.
 pub puts_name : (rule : Rule) (m : Memory) (b : List ℕ) (name : Labels) → IsName name → Remembers b m
     → PutsName b name (put_name rule name m (length b)).octets (put_name rule name m (length b)).memory
 unfolding put_name

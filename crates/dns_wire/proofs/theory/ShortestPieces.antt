@@ -1,4 +1,4 @@
--- No spelling of the names among parts is shorter than the parts as they are put.
+-- No compression of the names among parts is shorter than what is written.
 use Rattle.std.proofs.Common.{◌≡◌, ℕ, ◌+◌, ◌-◌, ◌≤◌, ◌⊎◌, inl, inr, List, [], ◌∷◌, ◌++◌, length, length-append, append_assoc, append-nil, arith, ap, sym, ◌∙◌, refl, subst}
 use Rattle.std.specs.Prelude.{Some, None}
 use Rattle.std.specs.Int.{to_be_bytes, w16}
@@ -17,19 +17,19 @@ use Rattle.dns_wire.proofs.theory.SpelledNames.{at_append, at_end, spelled_walke
 use Rattle.dns_wire.proofs.SharedSuffixes.{Knows, Best, KeepsNear, tree_keeps_near, static_keeps_near, hash_keeps_near, best, knows_more, near_kept, near_suffixes, few_less, shared_some, len_spell, len_remember}
 use Rattle.dns_name.proofs.theory.Steps.{name_size-append}
 
--- the names behind these parts
+-- The names among these parts, before other names.
 abbrev pub added : List Part → List Labels → List Labels
 added [] names = names
 added (Octets xs ∷ parts) names = added parts names
 added (CompressibleName name ∷ parts) names = added parts (name ∷ names)
 
--- names behind two lists of parts
+-- The names among two lists of parts.
 added-append : (ps qs : List Part) (names : List Labels) → added qs (added ps names) ≡ added (ps ++ qs) names
 added-append [] qs names = refl
 added-append (Octets xs ∷ ps) qs names = added-append ps qs names
 added-append (CompressibleName name ∷ ps) qs names = added-append ps qs (name ∷ names)
 
--- Behind earlier names, the parts are spelled from p to q as short as can be, whatever parts follow them up to the end; and the memory knows their names too.
+-- After the earlier `names`, the parts are written from p to q as short as possible, whichever parts `rest` follow them up to `end`. The table has exactly the suffixes of all these names.
 pub record Short (names : List Labels) (parts rest : List Part) (b : List ℕ) (p q end : ℕ) (m : Memory) : Type 0 where
   pub knows : Knows m (added parts names)
   pub near : PartsNear b end q rest
@@ -37,7 +37,7 @@ pub record Short (names : List Labels) (parts rest : List Part) (b : List ℕ) (
   pub attains : (n : ℕ) → Spelling (added parts names) rest n → Spelling names (parts ++ rest) (q - p + n)
   pub least : (n : ℕ) → Spelling names (parts ++ rest) n → (k : ℕ) × Spelling (added parts names) rest k × (q + k ≤ p + n)
 
--- From a target to a longer one parts are added. Where what was remembered are the suffixes of earlier names, and every label is near, also in the octets c behind them, they are as short as can be.
+-- Parts are added to a target. They are as short as possible if the table had exactly the suffixes of earlier names, and every label is within pointer range, those of the following parts included.
 pub record AddsShort (rule : Rule) (parts : List Part) (t u : Written) : Type 0 where
   pub longer : len t.memory ≤ len u.memory
   pub keeps : IsTarget t → IsTarget u
@@ -45,15 +45,15 @@ pub record AddsShort (rule : Rule) (parts : List Part) (t u : Written) : Type 0 
       → PartsNear (u.octets ++ c) end (length t.octets) (parts ++ rest) → SharesAll rule (len u.memory)
       → Short names parts rest (u.octets ++ c) (length t.octets) (length u.octets) end u.memory
 
--- so does a piece, on each target
+-- An encoding adds these parts so, to each target.
 abbrev pub Shortens : Rule → Piece → List Part → Type 0
 Shortens rule piece parts = (t : Written) → AddsShort rule parts t (lay piece t)
 
--- octets have one spelling
+-- Octets are written in one way.
 octets_parts : {names : List Labels} {xs : List ℕ} {parts : List Part} {n : ℕ} → Spelling names (Octets xs ∷ parts) n → (k : ℕ) × Spelling names parts k × (n ≡ length xs + k)
 octets_parts (octets {n = k} s) = (k, s, refl)
 
--- nothing spells no part
+-- An empty encoding adds no parts.
 pub shortens_none : (rule : Rule) → Shortens rule (put_octets []) []
 shortens_none rule t = record {
   longer = omega arith;
@@ -69,7 +69,7 @@ shortens_none rule t = record {
       };
 }
 
--- octets spell a part of octets that is as long
+-- The encoding of octets adds a part of equally many octets.
 pub shortens_octets : (rule : Rule) (xs ys : List ℕ) → length ys ≡ length xs → Shortens rule (put_octets xs) (Octets ys ∷ [])
 shortens_octets rule xs ys same t = record {
   longer = omega arith;
@@ -85,28 +85,28 @@ shortens_octets rule xs ys same t = record {
       };
 }
 
--- labels have octets
+-- Labels take at least one octet.
 size_some : (a : Labels) → 1 ≤ length a → 1 ≤ name_size a
 size_some [] h = absurd (omega arith)
 size_some (l ∷ a) h = omega arith
 
--- the two ways in which a name at the front may be spelled, and how many octets that takes with the parts behind it
+-- The two ways to write a name before other parts, and the octets that each takes.
 abbrev AtName : List Labels → Labels → List Part → ℕ → Type 0
 AtName names name parts n =
     ((k : ℕ) × Spelling (name ∷ names) parts k × (n ≡ name_size name + 1 + k))
     ⊎ ((first : Labels) × (rest : Labels) × (name ≡ first ++ rest) × IsShared names rest × ((k : ℕ) × Spelling (name ∷ names) parts k × (n ≡ name_size first + 2 + k)))
 
--- a name at the front is spelled in one of these ways
+-- A name before other parts is written in one of these ways.
 name_parts : {names : List Labels} {name : Labels} {parts : List Part} {n : ℕ} → Spelling names (CompressibleName name ∷ parts) n → AtName names name parts n
 name_parts (whole {n = k} s) = inl (k, s, refl)
 name_parts (shared {n = k} first rest e h s) = inr (first, rest, e, h, (k, s, refl))
 
--- a name that is as short as can be is spelled in one of these ways
+-- A shortest name is written in one of these ways.
 attains_name : (names : List Labels) (name : Labels) (rest : List Part) (l n : ℕ) → Best names name l → Spelling (name ∷ names) rest n → Spelling names (CompressibleName name ∷ rest) (l + n)
 attains_name names name rest l n (inl a) s = subst (λ k. Spelling names (CompressibleName name ∷ rest) (k + n)) (sym a.0) (whole s)
 attains_name names name rest l n (inr a) s = subst (λ k. Spelling names (CompressibleName name ∷ rest) (k + n)) (sym a.4) (shared a.0 a.1 a.2 a.3 s)
 
--- and in no way is it shorter
+-- No way is shorter.
 least_name : (names : List Labels) (name : Labels) (rest : List Part) (l n : ℕ) → Best names name l → AtName names name rest n → (k : ℕ) × Spelling (name ∷ names) rest k × (l + k ≤ n)
 least_name names name rest l n (inl a) (inl b) = (b.0, b.1, omega (arith, a.0, b.2))
 least_name names name rest l n (inl a) (inr b) = absurd (a.1 b.0 b.1 b.2 b.3)
@@ -116,18 +116,18 @@ least_name names name rest l n (inr a) (inl b) =
     (b.0, b.1, omega (arith, a.4, b.2))
 least_name names name rest l n (inr a) (inr b) = let m = a.5 b.0 b.1 b.2 b.3 in (b.4.0, b.4.1, omega (arith, a.4, b.4.2))
 
--- a rule that writes names as `spell` does, and remembers each suffix that is near while it shares all
+-- A rule that writes names as `spell` does, and by which each suffix within pointer range enters the table while `SharesAll` holds.
 pub record Spells (rule : Rule) : Type 0 where
   pub near : KeepsNear rule
   pub few : (name : Labels) (m : Memory) (w : ℕ) → SharesAll rule (len (put_name rule name m w).memory) → SharesAll rule (len m + length (spell rule m w (len m) name).1)
   pub writes : (name : Labels) (m : Memory) (w : ℕ) → let spelled = spell rule m w (len m) name in put_name rule name m w ≡ record { octets = spelled.0; memory = remember m (kept rule spelled.1) (w + length spelled.0) }
 
--- the tree rule does
+-- The tree rule is one.
 spells_tree : Spells Tree
 unfolding put_name
 spells_tree = record { near = tree_keeps_near; few = λ name m w h. tt; writes = λ name m w. refl }
 
--- so does the static rule
+-- The static rule is one.
 spells_static : Spells Static
 unfolding put_name
 spells_static = record {
@@ -136,19 +136,19 @@ spells_static = record {
   writes = λ name m w. refl;
 }
 
--- so does the hash rule
+-- The hash rule is one.
 spells_hash : Spells Hash
 unfolding put_name
 spells_hash = record { near = hash_keeps_near; few = λ name m w h. tt; writes = λ name m w. refl }
 
--- so does every rule that shares all
+-- Every rule with `SharesAll` is one.
 pub spells : (rule : Rule) (n : ℕ) → SharesAll rule n → Spells rule
 spells Plain n few = absurd few
 spells Static n few = spells_static
 spells Tree n few = spells_tree
 spells Hash n few = spells_hash
 
--- what a rule writes of a name is as short as can be, by the text and the suffixes that `spell` gives
+-- A name written with the octets and the suffixes that `spell` gives is as short as possible.
 name_short : (rule : Rule) (name : Labels) (t : Written) (laid : Laid) (c : List ℕ) (names : List Labels) (rest : List Part) (end : ℕ) → KeepsNear rule → IsName name → Knows t.memory names
     → let spelled = spell rule t.memory (length t.octets) (len t.memory) name in laid ≡ record { octets = spelled.0; memory = remember t.memory (kept rule spelled.1) (length t.octets + length spelled.0) }
     → ((s : Labels) (x : Spot) → get t.memory s ≡ Some x → get laid.memory s ≡ Some x)
@@ -179,11 +179,11 @@ name_short rule name t laid c names rest end r is knows e g walked near few =
       least = λ n s. let l = least_name names name rest (length spelled.0) n shortest (name_parts s) in (l.0, l.1, omega (arith, l.2));
     }
 
--- what is remembered is remembered in more octets
+-- A sound table is sound for more octets.
 remembers_more : (m : Memory) (b c : List ℕ) → Remembers b m → Remembers (b ++ c) m
 remembers_more m b c r = record { each = λ s x e. kept_more m c s x (λ s x e. e) (r.each s x e) }
 
--- a name is as short as can be
+-- The encoding of a name is as short as possible.
 pub shortens_name : (rule : Rule) (name : Labels) → Spells rule → IsName name → Shortens rule (put_name rule name) (CompressibleName name ∷ [])
 shortens_name rule name r is t =
     let w = length t.octets in
@@ -200,7 +200,7 @@ shortens_name rule name r is t =
           (spelled_walked 0 after small (spelled_more laid.memory c (λ s x e. e) (p.puts t h))) near (r.few name t.memory w few);
     }
 
--- parts and others behind them, with what is known of both
+-- Parts and those after them are as short as possible if both are.
 short_both : (names : List Labels) (ps qs rest : List Part) (b d : List ℕ) (p q r end : ℕ) (m n : Memory)
     → Short names ps (qs ++ rest) d p q end m → Short (added ps names) qs rest b q r end n → Short names (ps ++ qs) rest b p r end n
 short_both names ps qs rest b d p q r end m n x y =
@@ -221,7 +221,7 @@ short_both names ps qs rest b d p q r end m n x y =
           (second.0, subst (λ (l : List Labels). Spelling l rest second.0) (added-append ps qs names) second.1, omega (arith, first.2, second.2));
     }
 
--- two pieces that are laid in turn
+-- Two encodings appended in turn.
 adds_both : (rule : Rule) (a b : Piece) (ps qs : List Part) (t : Written) → Shortens rule a ps → Shortens rule b qs → AddsShort rule (ps ++ qs) t (lay b (lay a t))
 adds_both rule a b ps qs t x y =
     let u = lay a t in
@@ -242,32 +242,32 @@ adds_both rule a b ps qs t x y =
           short_both names ps qs rest (v.octets ++ c) (u.octets ++ (text ++ c)) (length t.octets) (length u.octets) (length v.octets) end u.memory v.memory one two;
     }
 
--- two pieces, one behind the other
+-- Two encodings in order.
 pub shortens_both : (rule : Rule) (a b : Piece) (ps qs : List Part) → Shortens rule a ps → Shortens rule b qs → Shortens rule (both a b) (ps ++ qs)
 shortens_both rule a b ps qs x y t = subst (λ (u : Written). AddsShort rule (ps ++ qs) t u) (lay-both a b t) (adds_both rule a b ps qs t x y)
 
--- so are parts
+-- The encoding of parts is as short as possible.
 pub shortens_parts : (rule : Rule) (parts : List Part) → Spells rule → AreParts parts → Shortens rule (put_parts rule parts) parts
 unfolding put_parts
 shortens_parts rule [] r is = shortens_none rule
 shortens_parts rule (Octets xs ∷ parts) r is = shortens_both rule (put_octets xs) (put_parts rule parts) (Octets xs ∷ []) parts (shortens_octets rule xs xs refl) (shortens_parts rule parts r is)
 shortens_parts rule (CompressibleName name ∷ parts) r is = shortens_both rule (put_name rule name) (put_parts rule parts) (CompressibleName name ∷ []) parts (shortens_name rule name r is.0) (shortens_parts rule parts r is.1)
 
--- so are parts behind their length
+-- The encoding of parts preceded by their length is as short as possible.
 pub shortens_with_length : (rule : Rule) (a : Piece) (parts : List Part) → Shortens rule a parts → Shortens rule (with_length a) (Octets (0 ∷ 0 ∷ []) ∷ parts)
 shortens_with_length rule a parts x t =
     let n = to_be_bytes w16 (length_of a t) in
     let two = shortens_both rule (put_octets n) a (Octets (0 ∷ 0 ∷ []) ∷ []) parts (shortens_octets rule n (0 ∷ 0 ∷ []) refl) x in
     subst (λ (u : Written). AddsShort rule (Octets (0 ∷ 0 ∷ []) ∷ parts) t u) (lay-with_length a t) (two t)
 
--- nothing is remembered where nothing is shared
+-- An empty table has exactly the suffixes of no names.
 pub knows_nothing : Knows nothing []
 knows_nothing = record {
   has = λ s h. absurd h;
   only = λ s x e. absurd (let k : None ≡ Some x = sym (get-empty suffix_cmp s) ∙ e in cc);
 }
 
--- parts that are laid where nothing is remembered
+-- Parts added to a target with an empty table take the octets of a shortest compression.
 pub laid_shortest : (rule : Rule) (parts : List Part) (t u : Written) → AddsShort rule parts t u → IsTarget t → Knows t.memory [] → PartsNear u.octets (length u.octets) (length t.octets) parts → SharesAll rule (len u.memory)
     → AddsShortest parts t u
 laid_shortest rule parts t u x h knows near few =
@@ -286,7 +286,7 @@ laid_shortest rule parts t u x h knows near few =
       },
     )
 
--- parts are as short as can be where nothing is remembered
+-- Parts written to a target with an empty table take the octets of a shortest compression.
 pub parts_are_shortest : PartsAreShortest
 parts_are_shortest rule b parts is few near =
     let t : Written = record { octets = b; memory = nothing } in

@@ -1,4 +1,4 @@
--- What is spelled stays spelled, and stands.
+-- Encoded names remain encoded, and are read back.
 use Rattle.std.proofs.Common.{◌≡◌, ℕ, ◌+◌, ◌-◌, ◌/◌, ◌%◌, ◌<◌, ◌≤◌, List, [], ◌∷◌, ◌++◌, take, drop, length, length-append, length-take, length-drop, append-nil, append_assoc, arith, ap, sym, ◌∙◌, refl, zero, suc, inl, inr, subst}
 use Rattle.std.specs.Prelude.{Some, Ok, slice_get, drop}
 use Rattle.std.proofs.lemmas.List.{drop-append-le, take-append-drop, nil_from_length, append-nil}
@@ -14,16 +14,16 @@ use Rattle.dns_wire.specs.Targets.Spelled.{root, label, pointer}
 use Rattle.dns_wire.proofs.theory.Memories.{get_in_cut, get_of_cut}
 use Rattle.dns_name.proofs.theory.HeadLemmas as heads
 
--- What is known of octets that stand at a place.
+-- Octets at an offset.
 
--- the octets, and what is before and behind them
+-- The octets at an offset, with those before and after them.
 record Split (b : List ℕ) (p : ℕ) (xs : List ℕ) : Type 0 where
   before : List ℕ
   after : List ℕ
   whole : b ≡ before ++ (xs ++ after)
   place : length before ≡ p
 
--- from the octets at a place to what is before and behind them
+-- `At` gives `Split`.
 split : {b : List ℕ} {p : ℕ} {xs : List ℕ} → At b p xs → Split b p xs
 split {b = b} {p = p} {xs = xs} h =
     let n = length xs in
@@ -38,12 +38,12 @@ split {b = b} {p = p} {xs = xs} h =
       place = length-take p b ∙ omega arith;
     }
 
--- the octets from the place on
+-- The octets from the offset on.
 split_dropped : {b : List ℕ} {p : ℕ} {xs : List ℕ} (h : Split b p xs) → drop p b ≡ xs ++ h.after
 split_dropped {p = p} {xs = xs} h =
     ap (drop p) h.whole ∙ ap (λ n. drop n (h.before ++ (xs ++ h.after))) (sym h.place) ∙ drop-append_seam h.before (xs ++ h.after)
 
--- and back
+-- `Split` gives `At`.
 join : {b : List ℕ} {p : ℕ} {xs : List ℕ} → Split b p xs → At b p xs
 join {b = b} {p = p} {xs = xs} h =
     let e = ap length h.whole ∙ length-append h.before (xs ++ h.after) in
@@ -54,29 +54,29 @@ join {b = b} {p = p} {xs = xs} h =
       same = ap (λ n. take n (drop p b)) n ∙ ap (take (length xs)) (split_dropped h) ∙ take-append_seam xs h.after;
     }
 
--- octets that are put behind others stand at the end of these
+-- Octets appended to others are at their end.
 pub at_end : (b xs : List ℕ) → At (b ++ xs) (length b) xs
 at_end b xs = join (record { before = b; after = []; whole = ap (λ (c : List ℕ). b ++ c) (sym (append-nil xs)); place = refl })
 
--- what stands in a content stands in every longer one
+-- Octets at an offset are there in every longer content.
 pub at_append : {b : List ℕ} {p : ℕ} {xs : List ℕ} (c : List ℕ) → At b p xs → At (b ++ c) p xs
 at_append c h =
     let s = split h in
     join (record { before = s.before; after = s.after ++ c; whole = ap (λ (b : List ℕ). b ++ c) s.whole ∙ simp append_assoc; place = s.place })
 
--- the first of two lists of octets
+-- The first of two lists of octets is at the offset.
 pub at_first : {b : List ℕ} {p : ℕ} {xs : List ℕ} (ys : List ℕ) → At b p (xs ++ ys) → At b p xs
 at_first {xs = xs} ys h =
     let s = split h in
     join (record { before = s.before; after = ys ++ s.after; whole = s.whole ∙ ap (λ (c : List ℕ). s.before ++ c) (append_assoc xs ys s.after); place = s.place })
 
--- the second, behind the first
+-- The second is after the first.
 pub at_second : {b : List ℕ} {p : ℕ} (xs : List ℕ) {ys : List ℕ} → At b p (xs ++ ys) → At b (p + length xs) ys
 at_second xs {ys} h =
     let s = split h in
     join (record { before = s.before ++ xs; after = s.after; whole = s.whole ∙ simp append_assoc; place = length-append s.before xs ∙ ap (λ n. n + length xs) s.place })
 
--- the same place, written in another way
+-- The same at an equal offset.
 pub at_place : {b : List ℕ} {p q : ℕ} {xs : List ℕ} → p ≡ q → At b p xs → At b q xs
 at_place e h = let s = split h in join (record { before = s.before; after = s.after; whole = s.whole; place = s.place ∙ e })
 
@@ -86,7 +86,7 @@ take_three len xs ys zs h =
     ap (λ n. take n (xs ++ (ys ++ zs))) e ∙ take-append-add xs (ys ++ zs) (length ys + (len - length xs - length ys))
     ∙ ap (λ (c : List ℕ). xs ++ c) (take-append-add ys zs (len - length xs - length ys))
 
--- what stands within the first octets of a content stands in these
+-- Octets within the first `len` octets are there after truncation.
 pub at_take : {b : List ℕ} {p : ℕ} {xs : List ℕ} (len : ℕ) → p + length xs ≤ len → At b p xs → At (take len b) p xs
 at_take {xs = xs} len fits h =
     let s = split h in
@@ -97,11 +97,11 @@ at_take {xs = xs} len fits h =
       place = s.place;
     })
 
--- octets before those that are overwritten
+-- Octets before overwritten ones are unchanged.
 pub at_before : {b : List ℕ} {p : ℕ} {xs : List ℕ} (over : List ℕ) (place : ℕ) → p + length xs ≤ place → At b p xs → At (overwritten b place over) p xs
 at_before {b = b} over place front h = at_append (drop (place + length over) b) (at_append over (at_take place front h))
 
--- octets behind those that are overwritten
+-- Octets after overwritten ones are unchanged.
 pub at_behind : {b : List ℕ} {p : ℕ} {xs : List ℕ} (over : List ℕ) (place : ℕ) → place + length over ≤ p → At b p xs → At (overwritten b place over) p xs
 at_behind {b = b} {p = p} {xs = xs} over place back h =
     let s = split h in
@@ -116,41 +116,41 @@ at_behind {b = b} {p = p} {xs = xs} over place back h =
       place = rw (length-append, length-append, length-take, length-drop) (omega (arith, s.place));
     })
 
--- the first of the octets is at the place
+-- The first of the octets is at the offset.
 at_get : {b : List ℕ} {p x : ℕ} {xs : List ℕ} → At b p (x ∷ xs) → slice_get b p ≡ Some x
 at_get {b = b} {p = p} {x = x} {xs = xs} h = let s = split h in get_drop b p x (xs ++ s.after) (split_dropped s)
 
--- where a zero octet stands the root begins
+-- The root label begins where a zero octet is.
 pub root_at : {b : List ℕ} {p : ℕ} → At b p (0 ∷ []) → head_at b p ≡ Ok Root
 root_at {b = b} {p = p} h = heads.root_begins b p (at_get h)
 
--- where a label stands behind its length octet it begins
+-- A label begins where its length octet and its octets are.
 pub label_begins : {b : List ℕ} {p : ℕ} {first : List ℕ} → IsLabel first → At b p (framed first) → head_at b p ≡ Ok (Label (length first))
 label_begins {b = b} {p = p} {first = first} l h = heads.label_begins b p (length first) l.some l.short (at_get h)
 
--- where the octets of a pointer stand it begins
+-- A pointer begins where its two octets are.
 pub pointer_at : {b : List ℕ} {p : ℕ} (t : ℕ) → t < 16384 → At b p (pointer_octets t) → head_at b p ≡ Ok (Pointer t)
 pointer_at {b = b} {p = p} t small h = heads.pointer_begins b p t small (at_get h) (at_get (at_second ((192 + t / 256) ∷ []) {ys = t % 256 ∷ []} h))
 
--- the octets behind the length octet are those of the label
+-- The octets after the length octet are those of the label.
 pub label_octets : {b : List ℕ} {p : ℕ} {first : List ℕ} → At b p (framed first) → label_at b p (length first) ≡ first
 label_octets {first = first} h = (at_second (length first ∷ []) {ys = first} h).same
 
--- the octets of a label, where others are behind it
+-- The octets of a label, with others after it.
 pub label_part : {b : List ℕ} {p : ℕ} (first behind : List ℕ) → At b p (framed first ++ behind) → At b p (framed first)
 label_part first behind h = at_first {xs = framed first} behind h
 
--- the others
+-- The octets after a label.
 pub behind_label : {b : List ℕ} {p : ℕ} (first behind : List ℕ) → At b p (framed first ++ behind) → At b (p + 1 + length first) behind
 behind_label first behind h = at_place (omega arith) (at_second (framed first) {ys = behind} h)
 
--- a spelled name takes octets, and they are there
+-- An encoded name takes at least one octet, and ends within the content.
 pub spelled_long : {m : Memory} {b : List ℕ} {q p : ℕ} {name : Labels} → Spelled m b q p name → (p < q) × (q ≤ length b)
 spelled_long (root h e) = let w = h.within in (omega arith, omega arith)
 spelled_long (label {first = first} l h x) = let w = spelled_long x in (omega (arith, w.0), w.1)
 spelled_long (pointer g before h e) = let w = h.within in (omega arith, omega arith)
 
--- What is spelled between two places is spelled there in other octets too that have the same there, and by another memory that has what the first has of names that end before the second place.
+-- A name encoded between two offsets is encoded in other octets that agree there, with another table that has the entries of all names ending before the second offset.
 pub moved : (m n : Memory) (b c : List ℕ) (lo q : ℕ)
     → ((p : ℕ) (xs : List ℕ) → lo ≤ p → p + length xs ≤ q → At b p xs → At c p xs)
     → ((s : Labels) (x : Spot) → get m s ≡ Some x → x.end < q → get n s ≡ Some x)
@@ -162,7 +162,7 @@ moved m n b c lo q f g low (label {p = p} {first = first} l h x) =
 moved m n b c lo q f g low (pointer {p = p} {name = name} {x = x} e before h is) =
     pointer (g name x e (omega arith)) before (f p (pointer_octets x.place) low (omega arith) h) is
 
--- the same of a name that begins with a label
+-- The same for a name that begins with a label.
 labelled_moved : (m n : Memory) (b c : List ℕ) (lo q : ℕ)
     → ((p : ℕ) (xs : List ℕ) → lo ≤ p → p + length xs ≤ q → At b p xs → At c p xs)
     → ((s : Labels) (x : Spot) → get m s ≡ Some x → x.end < q → get n s ≡ Some x)
@@ -172,33 +172,33 @@ labelled_moved m n b c lo q f g p (first ∷ rest) low h =
     let w = spelled_long h.2 in
     (h.0, f p (framed first) low (omega (arith, w.0)) h.1, moved m n b c lo q f g (omega arith) h.2)
 
--- a name that is spelled and begins with a label is spelled
+-- A name that is encoded and begins with a label is encoded.
 pub labelled_spelled : {m : Memory} {b : List ℕ} {q : ℕ} (p : ℕ) (name : Labels) → Labelled m b q p name → Spelled m b q p name
 labelled_spelled p [] h = absurd h
 labelled_spelled p (first ∷ rest) h = label h.0 h.1 h.2
 
--- a remembered suffix is spelled at its place, up to the end of its name
+-- A suffix with a sound entry is encoded at its offset, up to the end of its name.
 pub kept_spelled : {m : Memory} {b : List ℕ} (s : Labels) (x : Spot) → IsRemembered b m s x → Spelled m b x.end x.place s
 kept_spelled s x k = labelled_spelled x.place s k.spelled
 
--- the same of a suffix that is kept
+-- The same as `moved` for a sound entry.
 pub kept_moved : (m n : Memory) (b c : List ℕ) (s : Labels) (x : Spot)
     → ((p : ℕ) (xs : List ℕ) → x.place ≤ p → p + length xs ≤ x.end → At b p xs → At c p xs)
     → ((s : Labels) (y : Spot) → get m s ≡ Some y → y.end < x.end → get n s ≡ Some y)
     → IsRemembered b m s x → IsRemembered c n s x
 kept_moved m n b c s x f g k = record { near = k.near; short = k.short; spelled = labelled_moved m n b c x.place x.end f g x.place s (omega arith) k.spelled }
 
--- what was spelled is spelled in more octets by a memory with more
+-- An encoded name is encoded in more octets, with a larger table.
 pub spelled_more : {m : Memory} {b : List ℕ} {q p : ℕ} {name : Labels} (n : Memory) (c : List ℕ)
     → ((s : Labels) (x : Spot) → get m s ≡ Some x → get n s ≡ Some x) → Spelled m b q p name → Spelled n (b ++ c) q p name
 spelled_more {m = m} {b = b} {q = q} n c g s = moved m n b (b ++ c) 0 q (λ p xs low fits h. at_append c h) (λ t x e less. g t x e) (omega arith) s
 
--- what was kept is kept there
+-- A sound entry is sound there.
 pub kept_more : {m : Memory} {b : List ℕ} (n : Memory) (c : List ℕ) (s : Labels) (x : Spot)
     → ((s : Labels) (x : Spot) → get m s ≡ Some x → get n s ≡ Some x) → IsRemembered b m s x → IsRemembered (b ++ c) n s x
 kept_more {m = m} {b = b} n c s x g k = kept_moved m n b (b ++ c) s x (λ p xs low fits h. at_append c h) (λ t y e less. g t y e) k
 
--- A spelled name stands, where what is remembered of names with earlier ends stands.
+-- A written name is encoded as the reader understands it (`Stands`), if the same holds for each entry of the table whose name ends before q.
 stands_if : {m : Memory} {b : List ℕ} {q : ℕ} → Remembers b m → ((s : Labels) (x : Spot) → get m s ≡ Some x → x.end < q → Stands b x.place s)
     → {p : ℕ} {name : Labels} → name_size name ≤ max_size → Spelled m b q p name → Stands b p name
 stands_if r ih short (root h e) = Stands.root (root_at h)
@@ -211,17 +211,17 @@ stands_if r ih short (pointer {p = p} {name = name} {x = x} e before h is) =
     let w = spelled_long (kept_spelled name x k) in
     Stands.pointer (pointer_at x.place k.near h) (omega (arith, w.0)) (ih name x e (omega arith))
 
--- by induction on the end
+-- By induction on the end.
 stands_below : {m : Memory} {b : List ℕ} → Remembers b m → (k q p : ℕ) (name : Labels) → q < k → name_size name ≤ max_size → Spelled m b q p name → Stands b p name
 stands_below r zero q p name h short s = absurd (omega arith)
 stands_below r (suc k) q p name h short s =
     stands_if r (λ t x e less. let kept = r.each t x e in stands_below r k x.end x.place t (omega arith) kept.short (kept_spelled t x kept)) short s
 
--- a spelled name that is short enough stands
+-- A written name that is short enough is encoded as the reader understands it.
 pub spelled_stands : {m : Memory} {b : List ℕ} {q p : ℕ} {name : Labels} → Remembers b m → name_size name ≤ max_size → Spelled m b q p name → Stands b p name
 spelled_stands {q = q} {p = p} {name = name} r short s = stands_below r (q + 1) q p name (omega arith) short s
 
--- its octets end at q
+-- Its encoding ends at q.
 pub spelled_walked : {m : Memory} {b : List ℕ} {q p : ℕ} {name : Labels} (s : ℕ) → Remembers b m → s + name_size name ≤ max_size → Spelled m b q p name → WalkedBehind b p s q
 spelled_walked {b = b} s r small (root {p = p} h e) = subst (λ q. WalkedBehind b p s q) (sym e) (WalkedBehind.root (root_at h))
 spelled_walked s r small (label {p = p} {first = first} l h x) =
@@ -230,12 +230,12 @@ spelled_walked s r small (label {p = p} {first = first} l h x) =
 spelled_walked {b = b} s r small (pointer {p = p} {name = name} {x = x} e before h is) =
     subst (λ q. WalkedBehind b p s q) (sym is) (WalkedBehind.pointer (pointer_at x.place (r.each name x e).near h))
 
--- what ends within the first octets is spelled in these
+-- A name that ends within the first `len` octets is encoded after truncation.
 spelled_cut : {m : Memory} {b : List ℕ} {q p : ℕ} {name : Labels} (len : ℕ) → q ≤ len → Spelled m b q p name → Spelled (cut m len) (take len b) q p name
 spelled_cut {m = m} {b = b} {q = q} len l s =
     moved m (cut m len) b (take len b) 0 q (λ p xs low fits h. at_take len (omega arith) h) (λ t x e less. get_in_cut m len t x e (omega arith)) (omega arith) s
 
--- what a cut leaves is kept in what it leaves of the octets
+-- Truncating keeps the table sound.
 pub remembers_cut : {m : Memory} {b : List ℕ} (len : ℕ) → Remembers b m → Remembers (take len b) (cut m len)
 remembers_cut {m = m} {b = b} len r = record {
   each = λ s x e.
@@ -244,13 +244,13 @@ remembers_cut {m = m} {b = b} len r = record {
       kept_moved m (cut m len) b (take len b) s x (λ p xs low fits h. at_take len (omega arith) h) (λ t y e less. get_in_cut m len t y e (omega arith)) (r.each s x g.0);
 }
 
--- no octets written over others change none
+-- Overwriting with no octets changes nothing.
 overwritten_by_none : (b : List ℕ) (place : ℕ) (over : List ℕ) → length over ≡ 0 → overwritten b place over ≡ b
 overwritten_by_none b place over none =
     let same_end : place + 0 ≡ place = omega arith in
     rw (nil_from_length over none, append-nil) (ap (λ (n : ℕ). take place b ++ drop n b) same_end ∙ take-append-drop place b)
 
--- all is kept where octets are overwritten that no remembered name has
+-- Overwriting octets that no name in the table uses keeps it sound.
 pub remembers_over : {m : Memory} {b : List ℕ} (place : ℕ) (over : List ℕ) → IsClear m place (length over) → Remembers b m → Remembers (overwritten b place over) m
 remembers_over {m = m} {b = b} place over clear r = record {
   each = λ s x e.
@@ -261,12 +261,12 @@ remembers_over {m = m} {b = b} place over clear r = record {
       ];
 }
 
--- a spelled name stands also where only the octets up to an end behind it are seen
+-- A written name is encoded, as the reader understands it, in the octets up to any later end.
 pub stands_within : {m : Memory} {b : List ℕ} {q p : ℕ} {name : Labels} (end : ℕ) → Remembers b m → q ≤ end → name_size name ≤ max_size
     → Spelled m b q p name → Stands (take end b) p name
 stands_within end r l short s = spelled_stands (remembers_cut end r) short (spelled_cut end l s)
 
--- its octets end at the same place there
+-- Its encoding ends at the same offset there.
 pub walked_within : {m : Memory} {b : List ℕ} {q p : ℕ} {name : Labels} (end : ℕ) → Remembers b m → q ≤ end → name_size name ≤ max_size
     → Spelled m b q p name → Walked (take end b) p q
 walked_within end r l short s = spelled_walked 0 (remembers_cut end r) (omega arith) (spelled_cut end l s)

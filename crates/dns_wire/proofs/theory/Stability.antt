@@ -1,4 +1,4 @@
--- A name stands in all octets that agree where it stands.
+-- A name is encoded in all octets that agree on those that it uses.
 use Rattle.std.proofs.Common.{◌≡◌, ℕ, zero, suc, ◌+◌, ◌-◌, ◌<◌, ◌≤◌, ◌⊎◌, inl, inr, List, [], ◌∷◌, ◌++◌, take, drop, length, length-append, length-take, length-drop, append_assoc, arith, ap, sym, ◌∙◌, refl, subst}
 use Rattle.std.specs.Prelude.{Option, Some, None, Ok, slice_get}
 use Rattle.std.specs.FinMap.{get}
@@ -14,7 +14,7 @@ use Rattle.dns_name.proofs.theory.HeadLemmas.{label_there, root_there, root_begi
 use Rattle.dns_wire.proofs.theory.SpelledNames as octets_at
 use Rattle.dns_wire.proofs.theory.SpelledNames.{spelled_long, kept_spelled}
 
--- a name takes octets of its content alone
+-- An encoded name uses only octets of its content.
 pub stands_in : {b : List ℕ} {p : ℕ} {name : Labels} → Stands b p name → StandsIn b 0 (length b) p name
 stands_in {b = b} (Stands.root {p = p} h) = let w = root_within b p h in root (omega arith) (omega arith) h
 stands_in (Stands.label h w x z) = label (omega arith) w h (stands_in x) z
@@ -22,18 +22,18 @@ stands_in {b = b} (Stands.pointer {p = p} {t = t} h back x) =
     let w = pointer_within b p t h in
     pointer (omega arith) (omega arith) h back (stands_in x)
 
--- one that takes such octets alone stands
+-- A name that uses only octets in lo..hi is encoded at its offset.
 pub in_stands : {b : List ℕ} {lo hi p : ℕ} {name : Labels} → hi ≤ length b → StandsIn b lo hi p name → Stands b p name
 in_stands l (root low high h) = Stands.root h
 in_stands l (label {p = p} {n = n} low high h x z) = Stands.label h (omega arith) (in_stands l x) z
 in_stands l (pointer low high h back x) = Stands.pointer h back (in_stands l x)
 
--- what may be there, before others
+-- An optional octet before other octets.
 abbrev before_others : Option ℕ → List ℕ → List ℕ
 before_others None xs = xs
 before_others (Some x) xs = x ∷ xs
 
--- the first octet and those behind it
+-- The first of n + 1 octets, and those after it.
 take_get : (n p : ℕ) (b : List ℕ) → take (suc n) (drop p b) ≡ before_others (slice_get b p) (take n (drop (suc p) b))
 take_get zero zero [] = refl
 take_get zero (suc p) [] = refl
@@ -42,7 +42,7 @@ take_get (suc n) (suc p) [] = refl
 take_get n zero (x ∷ b) = refl
 take_get n (suc p) (x ∷ b) = take_get n p b
 
--- lists that have the same at each of n places have the same part there
+-- Lists that agree at n consecutive offsets have the same octets there.
 same_part : (b c : List ℕ) (n p : ℕ) → ((k : ℕ) → p ≤ k → k < p + n → slice_get b k ≡ slice_get c k) → take n (drop p b) ≡ take n (drop p c)
 same_part b c zero p h = refl
 same_part b c (suc n) p h =
@@ -50,13 +50,13 @@ same_part b c (suc n) p h =
     ∙ (λ i. before_others (h p (omega arith) (omega arith) i) (same_part b c n (suc p) (λ k l m. h k (omega arith) (omega arith)) i))
     ∙ sym (take_get n p c)
 
--- where octets agree there are the same labels
+-- Octets that agree have the same labels.
 same_label : (b c : List ℕ) (lo hi p n : ℕ) → Agree b c lo hi → lo ≤ p → p + 1 + n ≤ hi → label_at b p n ≡ label_at c p n
 same_label b c lo hi p n a low high =
     let e : p + 1 + n - (p + 1) ≡ n = omega arith in
     ap (λ k. take k (drop (p + 1) b)) e ∙ same_part b c n (p + 1) (λ k l m. a.same k (omega arith) (omega arith)) ∙ ap (λ k. take k (drop (p + 1) c)) (sym e)
 
--- where octets agree the same begins
+-- Octets that agree begin alike: the root label, a label or a pointer.
 agree_root : {b c : List ℕ} {lo hi p : ℕ} → Agree b c lo hi → lo ≤ p → p + 1 ≤ hi → head_at b p ≡ Ok Root → head_at c p ≡ Ok Root
 agree_root {b = b} {c = c} {p = p} a low high h = root_begins c p (sym (a.same p low (omega arith)) ∙ root_there b p h)
 
@@ -68,7 +68,7 @@ agree_label {b = b} {c = c} {p = p} {n = n} a low high h =
 agree_pointer : {b c : List ℕ} {lo hi p t : ℕ} → Agree b c lo hi → lo ≤ p → p + 2 ≤ hi → head_at b p ≡ Ok (Pointer t) → head_at c p ≡ Ok (Pointer t)
 agree_pointer {b = b} {c = c} {p = p} {t = t} a low high h = sym (same_head b c p (a.same p low (omega arith)) (a.same (p + 1) (omega arith) (omega arith))) ∙ h
 
--- a name stands in all octets that agree where it stands
+-- A name is encoded in all octets that agree on those that it uses.
 pub agreed : {b c : List ℕ} {lo hi p : ℕ} {name : Labels} → Agree b c lo hi → StandsIn b lo hi p name → StandsIn c lo hi p name
 agreed a (root low high h) = root low high (agree_root a low high h)
 agreed {b = b} {c = c} {lo = lo} {hi = hi} a (label {p = p} {n = n} {name = name} low high h x z) =
@@ -76,7 +76,7 @@ agreed {b = b} {c = c} {lo = lo} {hi = hi} a (label {p = p} {n = n} {name = name
     subst P (sym (same_label b c lo hi p n a low high)) (label low high (agree_label a low (omega arith) h) (agreed a x) z)
 agreed a (pointer low high h back x) = pointer low high (agree_pointer a low high h) back (agreed a x)
 
--- octets at their places in longer contents and in parts
+-- Single octets of longer contents and of parts of a content.
 get_append : (b c : List ℕ) (k : ℕ) → k < length b → slice_get b k ≡ slice_get (b ++ c) k
 get_append [] c k h = absurd (omega arith)
 get_append (x ∷ b) c zero h = refl
@@ -98,15 +98,15 @@ get_dropped b zero k = ap (slice_get b) (let e : k ≡ 0 + k = omega arith in e)
 get_dropped [] (suc n) k = refl
 get_dropped (x ∷ b) (suc n) k = get_dropped b n k ∙ ap (slice_get (x ∷ b)) (let e : suc (n + k) ≡ suc n + k = omega arith in e)
 
--- a longer content agrees with the first
+-- A longer content agrees with the shorter one.
 agree_append : (b c : List ℕ) → Agree b (b ++ c) 0 (length b)
 agree_append b c = record { long = omega (arith, length-append b c); same = λ k l h. get_append b c k h }
 
--- a name stands in every longer content
+-- An encoded name is encoded in every longer content.
 pub stands_append : {b : List ℕ} {p : ℕ} {name : Labels} (c : List ℕ) → Stands b p name → Stands (b ++ c) p name
 stands_append {b = b} c s = in_stands (omega (arith, length-append b c)) (agreed (agree_append b c) (stands_in s))
 
--- octets agree before those that are overwritten
+-- Octets agree before overwritten ones.
 agree_front : (b over : List ℕ) (place lo hi : ℕ) → place + length over ≤ length b → hi ≤ place → Agree b (take place b ++ (over ++ drop (place + length over) b)) lo hi
 agree_front b over place lo hi fits l =
     let n = length-take place b in
@@ -116,7 +116,7 @@ agree_front b over place lo hi fits l =
       same = λ k low h. sym (get_take b place k (omega arith)) ∙ get_append (take place b) _ k (omega arith);
     }
 
--- and behind them
+-- Octets agree after overwritten ones.
 agree_back : (b over : List ℕ) (place lo hi : ℕ) → place + length over ≤ length b → place + length over ≤ lo → hi ≤ length b
     → Agree b (take place b ++ (over ++ drop (place + length over) b)) lo hi
 agree_back b over place lo hi fits l small =
@@ -135,26 +135,26 @@ agree_back b over place lo hi fits l small =
           sym (ap (slice_get (take place b ++ (over ++ behind))) e ∙ get_behind (take place b) (over ++ behind) (length over + j) ∙ get_behind over behind j ∙ get_dropped b end j ∙ ap (slice_get b) f);
     }
 
--- either way
+-- Octets agree before or after overwritten ones.
 agree_overwritten : (b over : List ℕ) (place lo hi : ℕ) → place + length over ≤ length b → hi ≤ length b → (place + length over ≤ lo) ⊎ (hi ≤ place)
     → Agree b (take place b ++ (over ++ drop (place + length over) b)) lo hi
 agree_overwritten b over place lo hi fits l (inl w) = agree_back b over place lo hi fits w l
 agree_overwritten b over place lo hi fits l (inr w) = agree_front b over place lo hi fits w
 
--- a name stands where octets are overwritten that it does not take
+-- A name is still encoded after octets that it doesn't use are overwritten.
 pub stands_when_overwritten : StandsWhenOverwritten
 stands_when_overwritten t place over lo hi p name fits l w s =
     let b = t.octets in
     let e : take place b ++ (over ++ drop (place + length over) b) ≡ overwritten b place over = sym (append_assoc (take place b) over (drop (place + length over) b)) in
     subst (λ (c : List ℕ). StandsIn c lo hi p name) e (agreed (agree_overwritten b over place lo hi fits l w) s)
 
--- a name that ends before hi ends before each later place
+-- A name that uses octets in lo..hi uses octets in lo..top, if hi ≤ top.
 wider_in : {b : List ℕ} {lo hi top p : ℕ} {name : Labels} → hi ≤ top → StandsIn b lo hi p name → StandsIn b lo top p name
 wider_in l (root low high h) = root low (omega arith) h
 wider_in l (label {p = p} {n = n} low high h x z) = label low (omega arith) h (wider_in l x) z
 wider_in l (pointer low high h back x) = pointer low (omega arith) h back (wider_in l x)
 
--- A spelled name takes octets from lo on, where what is remembered of names with earlier ends does.
+-- A name encoded up to q uses no octet before lo, if the same holds for each entry of the table whose name ends before q.
 in_if : {m : Memory} {b : List ℕ} {lo q : ℕ} → Remembers b m → ((s : Labels) (x : Spot) → get m s ≡ Some x → x.end < q → StandsIn b lo x.end x.place s)
     → {p : ℕ} {name : Labels} → lo ≤ p → name_size name ≤ max_size → Spelled m b q p name → StandsIn b lo q p name
 in_if r ih low short (Spelled.root h e) = root low (omega arith) (octets_at.root_at h)
@@ -167,14 +167,14 @@ in_if r ih low short (Spelled.pointer {p = p} {name = name} {x = x} e before h i
     let w = spelled_long (kept_spelled name x k) in
     pointer low (omega arith) (octets_at.pointer_at x.place k.near h) (omega (arith, w.0)) (wider_in (omega arith) (ih name x e (omega arith)))
 
--- by induction on the end
+-- By induction on the end.
 in_below : {m : Memory} {b : List ℕ} {lo : ℕ} → Remembers b m → IsBehind m lo → (k q p : ℕ) (name : Labels) → q < k → lo ≤ p → name_size name ≤ max_size
     → Spelled m b q p name → StandsIn b lo q p name
 in_below r all zero q p name h low short s = absurd (omega arith)
 in_below r all (suc k) q p name h low short s =
     in_if r (λ t x e less. let kept = r.each t x e in in_below r all k x.end x.place t (omega arith) (all.each t x e) kept.short (kept_spelled t x kept)) low short s
 
--- where all suffixes are behind a place, no octet before that place is taken
+-- If all entries of the table are at or after an offset, their suffixes use no octet before it.
 pub stands_behind : StandsBehind
 stands_behind b m lo s x r all e =
     let kept = r.each s x e in

@@ -1,4 +1,4 @@
--- What is remembered stands, and what is put reads back.
+-- Suffixes in the table are encoded where it says, and what is written reads back.
 use Rattle.std.proofs.Common.{◌≡◌, ℕ, List, [], ◌∷◌, length, arith, ◌+◌, ◌<◌, ◌≤◌, ◌++◌, append-nil, sym, refl, subst}
 use Rattle.std.specs.Prelude.{Ok}
 use Rattle.dns_name.specs.Names.{Labels, head_at, WalkedBehind}
@@ -14,12 +14,12 @@ use Rattle.dns_wire.proofs.theory.PutNames.{put_name_grows}
 use Rattle.dns_wire.proofs.theory.SpelledNames.{root_at, label_begins, pointer_at, spelled_long, kept_spelled, spelled_stands, spelled_walked, stands_within}
 use Rattle.dns_wire.proofs.theory.PieceLaws.{puts_put_name, puts_parts, parts_stand, HasName, HasParts}
 
--- a label begins where a name is spelled that begins with one
+-- A label begins where an encoded name begins with one.
 begins : (m : Memory) (b : List ℕ) (q p : ℕ) (name : Labels) → Labelled m b q p name → (n : ℕ) × (head_at b p ≡ Ok (Label n))
 begins m b q p [] h = absurd h
 begins m b q p (first ∷ rest) h = (length first, label_begins h.0 h.1)
 
--- the pointers of a spelled name lead to earlier labels
+-- The pointers of an encoded name lead to earlier labels.
 pub pointed : {m : Memory} {b : List ℕ} {q p : ℕ} {name : Labels} → Remembers b m → Spelled m b q p name → WellPointed b q p
 pointed r (root h e) = WellPointed.root (root_at h) e
 pointed r (label l h x) = WellPointed.label (label_begins l h) (pointed r x)
@@ -28,7 +28,7 @@ pointed {m = m} {b = b} r (pointer {name = name} {x = x} e before h is) =
     let w = spelled_long (kept_spelled name x k) in
     WellPointed.pointer (pointer_at x.place k.near h) (omega (arith, w.0)) k.near (begins m b x.end x.place name k.spelled).1 is
 
--- what is remembered stands
+-- Suffixes in the table are encoded where it says.
 pub remembers_what_stands : RemembersWhatStands
 remembers_what_stands b m s x r e =
     let k = r.each s x e in
@@ -43,19 +43,19 @@ remembers_what_stands b m s x r e =
       stands_within = stands_within x.end r (omega arith) k.short h;
     }
 
--- all octets are a target with nothing remembered
+-- An empty table is sound for all octets.
 pub nothing_is_target : NothingIsTarget
 nothing_is_target b = nothing_is_kept b
 
--- what a growing piece adds is behind what was there
+-- A growing encoding keeps all entries at or after an offset.
 pub pieces_stay_behind : PiecesStayBehind
 pieces_stay_behind piece t place grows l h = behind_more place l (grows.grows t.memory (length t.octets)) h
 
--- so is what a name adds
+-- So does a name.
 pub names_stay_behind : NamesStayBehind
 names_stay_behind rule t name place l h = pieces_stay_behind _ t place (put_name_grows rule name) l h
 
--- a name reads back
+-- A written name reads back.
 pub names_read_back : NamesReadBack
 names_read_back rule t name is h =
     let p = puts_put_name rule name is in
@@ -63,20 +63,20 @@ names_read_back rule t name is h =
     let s = p.puts t h in
     record { stands = spelled_stands u is.short s; walked = spelled_walked 0 u (omega (arith, is.short)) s; pointed = pointed u s }
 
--- parts read back
+-- Written parts read back.
 pub parts_read_back : PartsReadBack
 parts_read_back rule t parts is h =
     let p = puts_parts rule parts is in
     let u = lay (put_parts rule parts) t in
     (parts_stand parts u (length t.octets) (length u.octets) is (p.keeps t h) (p.puts t h), p.keeps t h)
 
--- Where the labels and the pointers of parts that are put stand.
+-- The labels and the pointers of written parts.
 
--- what holds of each name that is spelled in a target
+-- `IsWritten` holds of each name encoded in a target.
 abbrev pub OfEachName : Written → (ℕ → ℕ → Type 0) → Type 0
 OfEachName t IsWritten = (p q : ℕ) (name : Labels) → HasName name t p q → IsWritten p q
 
--- parts that a target has between two places fill them, and so do others behind them
+-- Parts that a target has between two offsets fill the octets there, before other parts.
 pub parts_fill : {IsWritten : ℕ → ℕ → Type 0} (t : Written) → OfEachName t IsWritten → (parts rest : List Part) (p q end : ℕ) → HasParts parts t p q
     → PartsFill IsWritten end q rest → PartsFill IsWritten end p (parts ++ rest)
 parts_fill {IsWritten} t each [] rest p q end h more = subst (λ k. PartsFill IsWritten end k rest) (sym h) more
@@ -84,7 +84,7 @@ parts_fill {IsWritten} t each (Octets xs ∷ parts) rest p q end h more =
     subst (λ k. PartsFill IsWritten end k (parts ++ rest)) h.1.1 (parts_fill t each parts rest h.0 q end h.2 more)
 parts_fill t each (CompressibleName name ∷ parts) rest p q end h more = (h.0, each p h.0 name h.1, parts_fill t each parts rest h.0 q end h.2 more)
 
--- so do parts that are put at the end
+-- Parts that are written at the end fill the octets there.
 put_parts_fill : {IsWritten : ℕ → ℕ → Type 0} (rule : Rule) (t : Written) (parts : List Part) → AreParts parts → IsTarget t
     → let u = lay (put_parts rule parts) t in OfEachName u IsWritten → PartsFill IsWritten (length u.octets) (length t.octets) parts
 put_parts_fill {IsWritten} rule t parts is good each =
@@ -93,42 +93,42 @@ put_parts_fill {IsWritten} rule t parts is good each =
     subst (λ (l : List Part). PartsFill IsWritten end (length t.octets) l) (append-nil parts)
     (parts_fill u each parts [] (length t.octets) end end ((puts_parts rule parts is).puts t good) refl)
 
--- each pointer of parts that are put leads to an earlier label
+-- Each pointer in written parts leads to an earlier label.
 pub parts_point_to_labels : PartsPointToLabels
 parts_point_to_labels rule t parts is good =
     let keeps = (puts_parts rule parts is).keeps t good in put_parts_fill rule t parts is good (λ p q name h. pointed keeps h)
 
--- in at most 16,384 octets the labels of a name begin below 16,384
+-- In at most 16,384 octets, the labels of a name are within pointer range.
 pub spelled_near : {m : Memory} {b : List ℕ} {q p : ℕ} {name : Labels} → length b ≤ 16384 → Remembers b m → Spelled m b q p name → LabelsNear b q p
 spelled_near l r (root h e) = LabelsNear.root (root_at h) e
 spelled_near l r (label is h x) = let w = spelled_long x in LabelsNear.label (label_begins is h) (omega (arith, w)) (spelled_near l r x)
 spelled_near l r (pointer {name = name} {x = x} e before h is) = LabelsNear.pointer (pointer_at x.place (r.each name x e).near h) is
 
--- so do those of parts
+-- So are those of parts.
 pub short_parts_are_near : ShortPartsAreNear
 short_parts_are_near rule t parts is good l =
     let keeps = (puts_parts rule parts is).keeps t good in put_parts_fill rule t parts is good (λ p q name h. spelled_near l keeps h)
 
--- a label that is near begins below 16,384, and the labels behind it are near
+-- If labels are within pointer range, the first one is, and so are the labels after it.
 pub near_label : {b : List ℕ} {q p n : ℕ} → LabelsNear b q p → head_at b p ≡ Ok (Label n) → (p < 16384) × LabelsNear b q (p + 1 + n)
 near_label (LabelsNear.root h end) e = cc
 near_label (LabelsNear.pointer h end) e = cc
 near_label {b = b} {q = q} {p = p} (LabelsNear.label {n = k} h near x) e =
     let P : ℕ → Type 0 = λ n. (p < 16384) × LabelsNear b q (p + 1 + n) in subst P (cc) (near, x)
 
--- at a zero octet, what is near ends behind it
+-- At a zero octet they end after it.
 near_root : {b : List ℕ} {q p : ℕ} → LabelsNear b q p → head_at b p ≡ Ok Root → q ≡ p + 1
 near_root (LabelsNear.root h end) e = end
 near_root (LabelsNear.label h near x) e = cc
 near_root (LabelsNear.pointer h end) e = cc
 
--- at a pointer, what is near ends behind its two octets
+-- At a pointer they end after its two octets.
 near_pointer : {b : List ℕ} {q p t : ℕ} → LabelsNear b q p → head_at b p ≡ Ok (Pointer t) → q ≡ p + 2
 near_pointer (LabelsNear.root h end) e = cc
 near_pointer (LabelsNear.label h near x) e = cc
 near_pointer (LabelsNear.pointer h end) e = end
 
--- labels that are near end where the walked extent does
+-- They end where the encoding of the name does.
 pub near_end : {b : List ℕ} {q r p s : ℕ} → WalkedBehind b p s r → LabelsNear b q p → q ≡ r
 near_end (WalkedBehind.root h) near = near_root near h
 near_end (WalkedBehind.pointer h) near = near_pointer near h
