@@ -10,7 +10,7 @@ use Rattle.dns_name.specs.NameTexts.{dot, SpellsOctet, SpellsFirst, SpellsLabel,
 use Rattle.dns_name.specs.NameReading.{LabelFirst, AreOctets}
 use Rattle.dns_name.specs.declared.name_error.PresentationError.{PresentationError}
 
--- A prefix of the text represents the octets of a label that are read so far, after labels of `size` octets. A fault met in the remaining text is a fault of the text.
+-- A prefix of the text represents the octets of a label that are read so far, after labels of `size` octets. A fault of the remaining text is a fault of the text.
 pub record InLabel (text : List ℕ) (size : ℕ) (label left : List ℕ) : Type 0 where
   pub front : List ℕ
   pub whole : text ≡ front ++ left
@@ -52,7 +52,7 @@ label_more text size label left rest o x s short room =
       faults = λ f h. x.faults f (NameTextFaulty.octet s short room (subst (λ n. NameTextFaulty rest n size f) more h));
     }
 
--- The labels that are read so far have these octets. Labels that the remaining text represents follow them in what the whole text represents. A fault met in the remaining text is a fault of the text.
+-- The labels that are read so far have these octets. Labels that the remaining text represents follow them in what the whole text represents. A fault of the remaining text is a fault of the text.
 pub record InLabels (text octets left : List ℕ) : Type 0 where
   pub name : Labels
   pub same : flat_map framed name ≡ octets

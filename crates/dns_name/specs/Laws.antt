@@ -10,7 +10,7 @@ use Rattle.dns_octets.specs.declared.error.ParseError.{ParseError}
 use Rattle.dns_name.specs.declared.parser.Parser.{Parser}
 use Rattle.dns_name.specs.declared.parsed_name.ParsedName.{ParsedName}
 
--- At each offset a name is encoded, or reading meets a fault.
+-- At each offset a name is encoded, or reading fails.
 abbrev pub NameOrFault : Type 0
 NameOrFault = (b : List ℕ) (p : ℕ) → ((name : Labels) × Stands b p name) ⊎ ((f : Fault) × FaultAt b p f)
 
@@ -22,7 +22,7 @@ NameOrFaultNotBoth = (b : List ℕ) (p : ℕ) (name : Labels) (f : Fault) → St
 abbrev pub OneName : Type 0
 OneName = (b : List ℕ) (p : ℕ) (m n : Labels) → Stands b p m → Stands b p n → m ≡ n
 
--- Reading meets at most one fault at an offset.
+-- At most one fault is that of reading at an offset.
 abbrev pub OneFault : Type 0
 OneFault = (b : List ℕ) (p : ℕ) (f g : Fault) → FaultAt b p f → FaultAt b p g → f ≡ g
 
@@ -30,7 +30,7 @@ OneFault = (b : List ℕ) (p : ℕ) (f g : Fault) → FaultAt b p f → FaultAt 
 abbrev pub StandingNames : Type 0
 StandingNames = (b : List ℕ) (p : ℕ) (name : Labels) → Stands b p name → IsName name
 
--- At each offset the encoding of a name has an end, or skipping meets a fault.
+-- At each offset the encoding of a name has an end, or skipping fails.
 abbrev pub EndOrSkipFault : Type 0
 EndOrSkipFault = (b : List ℕ) (p : ℕ) → ((q : ℕ) × Walked b p q) ⊎ ((f : Fault) × SkipFaultAt b p f)
 
@@ -46,7 +46,7 @@ OneEnd = (b : List ℕ) (p q r : ℕ) → Walked b p q → Walked b p r → q �
 abbrev pub StandingNamesEnd : Type 0
 StandingNamesEnd = (b : List ℕ) (p : ℕ) (name : Labels) → Stands b p name → (q : ℕ) × Walked b p q
 
--- A fault that skipping meets is one that reading meets.
+-- If skipping fails, reading fails with the same fault.
 abbrev pub SkipFaultsAreFaults : Type 0
 SkipFaultsAreFaults = (b : List ℕ) (p : ℕ) (f : Fault) → SkipFaultAt b p f → FaultAt b p f
 

@@ -33,7 +33,7 @@ StepsLabel text n size (Ok None) = EndsLabel text × (0 < length text → 0 < n)
 StepsLabel text n size (Ok (Some (o, rest))) = SpellsFirst text o rest.now × (n < 63) × (size + n + 2 ≤ max_size)
 StepsLabel text n size (Err f) = NameTextFaulty text n size f
 
--- A prefix of the text represents a label, after labels of `size` octets, and `rest` follows it. A fault met in `rest` is a fault of the text.
+-- A prefix of the text represents a label, after labels of `size` octets, and `rest` follows it. A fault of `rest` is a fault of the text.
 pub record LabelFirst (text : List ℕ) (size : ℕ) (label rest : List ℕ) : Type 0 where
   pub front : List ℕ
   pub whole : text ≡ front ++ rest

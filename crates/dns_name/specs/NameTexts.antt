@@ -86,7 +86,7 @@ pub record SpellsFirst (text : List ℕ) (o : ℕ) (rest : List ℕ) : Type 0 wh
 abbrev pub SpellsNone : List ℕ → Type 0
 SpellsNone text = (o : ℕ) (rest : List ℕ) → SpellsFirst text o rest → ⊥
 
--- The fault met in the remaining text, after n octets of a label and labels of `size` octets. Faults are met from the left.
+-- The leftmost fault of the remaining text, after n octets of a label and labels of `size` octets.
 pub data NameTextFaulty : List ℕ → ℕ → ℕ → PresentationError → Type 0 where
   empty : {text : List ℕ} {size : ℕ} → NameTextFaulty (dot ∷ text) 0 size EmptyLabel
   symbol : {text : List ℕ} {c n size : ℕ} → IsTrue (not (is_graphic c)) → NameTextFaulty (c ∷ text) n size BadSymbol

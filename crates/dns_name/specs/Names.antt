@@ -25,6 +25,7 @@ name_size (label ∷ name) = length label + 1 + name_size name
 abbrev pub max_size : ℕ
 max_size = 254
 
+-- A name: labels of 1 to 63 octets, which take at most 254 octets in all. RFC 1035 section 2.3.4.
 pub record IsName (name : Labels) : Type 0 where
   pub labels : All IsLabel name
   pub short : name_size name ≤ max_size
@@ -106,7 +107,7 @@ pub data Stands (b : List ℕ) : ℕ → Labels → Type 0 where
   pointer : {p t : ℕ} {name : Labels} → head_at b p ≡ Ok (Pointer t) → t < p
       → Stands b t name → Stands b p name
 
--- In a name whose labels so far take s octets, reading on at offset p meets this fault. Faults are met from the left.
+-- In a name whose labels so far take s octets, reading on at offset p fails with this fault, the leftmost one.
 pub data Faulty (b : List ℕ) : ℕ → ℕ → Fault → Type 0 where
   -- What begins there is malformed or missing.
   head : {p s : ℕ} {f : Fault} → head_at b p ≡ Err f → Faulty b p s f
@@ -122,7 +123,7 @@ pub data Faulty (b : List ℕ) : ℕ → ℕ → Fault → Type 0 where
   -- The fault is where a pointer leads.
   pointer : {p t s : ℕ} {f : Fault} → head_at b p ≡ Ok (Pointer t) → t < p → Faulty b t s f → Faulty b p s f
 
--- Reading a name at offset p meets this fault.
+-- Reading a name at offset p fails with this fault.
 abbrev pub FaultAt : List ℕ → ℕ → Fault → Type 0
 FaultAt b p f = Faulty b p 0 f
 
@@ -130,18 +131,18 @@ FaultAt b p f = Faulty b p 0 f
 --
 -- It doesn't depend on where the pointer leads.
 
--- In a name whose labels so far take s octets, the encoding continues at offset p and ends before q. A pointer ends it and isn't followed.
+-- In a name whose labels so far take s octets, the rest of its encoding takes the octets p..q. A pointer ends it and isn't followed.
 pub data WalkedBehind (b : List ℕ) : ℕ → ℕ → ℕ → Type 0 where
   root : {p s : ℕ} → head_at b p ≡ Ok Root → WalkedBehind b p s (p + 1)
   pointer : {p s t : ℕ} → head_at b p ≡ Ok (Pointer t) → WalkedBehind b p s (p + 2)
   label : {p n s q : ℕ} → head_at b p ≡ Ok (Label n) → s + n + 1 ≤ max_size → p + 1 + n ≤ length b
       → WalkedBehind b (p + 1 + n) (s + n + 1) q → WalkedBehind b p s q
 
--- The encoding of a name at offset p ends before q.
+-- The encoding of a name at offset p takes the octets p..q.
 abbrev pub Walked : List ℕ → ℕ → ℕ → Type 0
 Walked b p q = WalkedBehind b p 0 q
 
--- In a name whose labels so far take s octets, skipping on at offset p meets this fault. Skipping doesn't follow pointers.
+-- In a name whose labels so far take s octets, skipping on at offset p fails with this fault. Skipping doesn't follow pointers.
 pub data SkipFaulty (b : List ℕ) : ℕ → ℕ → Fault → Type 0 where
   -- What begins there is malformed or missing.
   head : {p s : ℕ} {f : Fault} → head_at b p ≡ Err f → SkipFaulty b p s f
@@ -153,7 +154,7 @@ pub data SkipFaulty (b : List ℕ) : ℕ → ℕ → Fault → Type 0 where
   label : {p n s : ℕ} {f : Fault} → head_at b p ≡ Ok (Label n) → s + n + 1 ≤ max_size → p + 1 + n ≤ length b
       → SkipFaulty b (p + 1 + n) (s + n + 1) f → SkipFaulty b p s f
 
--- Skipping a name at offset p meets this fault.
+-- Skipping a name at offset p fails with this fault.
 abbrev pub SkipFaultAt : List ℕ → ℕ → Fault → Type 0
 SkipFaultAt b p f = SkipFaulty b p 0 f
 
@@ -171,7 +172,7 @@ pub record Begins (b : List ℕ) (p s : ℕ) (head : Head) : Type 0 where
   pub short : (n : ℕ) → head ≡ Label n → s + n + 1 ≤ max_size
   pub fits : (n : ℕ) → head ≡ Label n → p + 1 + n ≤ length b
 
--- The result begins there, or its fault is the one that skipping meets there.
+-- The result is what begins at offset p, or its fault is that of skipping on there.
 abbrev pub BeginsOrFails : List ℕ → ℕ → ℕ → Result Head ParseError → Type 0
 BeginsOrFails b p s (Ok it) = Begins b p s it
 BeginsOrFails b p s (Err e) = SkipFaulty b p s (fault_of e)

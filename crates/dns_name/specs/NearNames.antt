@@ -29,7 +29,7 @@ IsInReach Root = ⊤
 IsInReach (Label n) = ⊤
 IsInReach (Pointer target) = target < pointer_end
 
--- In a name whose labels so far take s octets, consecutive labels begin at offset p and end before q. The labels then take r octets.
+-- In a name whose labels so far take s octets, consecutive labels take the octets p..q. The labels then take r octets.
 pub data LabelsTo (b : List ℕ) : ℕ → ℕ → ℕ → ℕ → Type 0 where
   none : {p s : ℕ} → LabelsTo b p s p s
   label : {p n s q r : ℕ} → head_at b p ≡ Ok (Label n) → s + n + 1 ≤ max_size → p + 1 + n ≤ length b
@@ -45,7 +45,7 @@ abbrev pub row_end : Option ℕ → Head
 row_end None = Root
 row_end (Some target) = Pointer target
 
--- In a name whose labels so far take s octets, `count` consecutive labels begin at offset p and end before q, where the root label or a pointer to `target` begins.
+-- In a name whose labels so far take s octets, `count` consecutive labels take the octets p..q. At q the root label or a pointer to `target` begins.
 pub record PassesLabels (b : List ℕ) (p s q count : ℕ) (target : Option ℕ) : Type 0 where
   pub from : p ≤ q
   pub within : q < length b
@@ -56,7 +56,7 @@ pub record PassesLabels (b : List ℕ) (p s q count : ℕ) (target : Option ℕ)
   pub there : head_at b q ≡ Ok (row_end target)
   pub in_reach : IsInReach (row_end target)
 
--- The result describes these labels, or its fault is the one that reading meets there.
+-- The result describes these labels, or its fault is that of reading on there.
 abbrev pub PassesLabelsOrFails : List ℕ → ℕ → ℕ → Result LabelRow ParseError → Type 0
 PassesLabelsOrFails b p s (Ok row) = PassesLabels b p s row.end row.count row.target
 PassesLabelsOrFails b p s (Err e) = Faulty b p s (fault_of e)
@@ -67,18 +67,18 @@ pub record Measures (b : List ℕ) (p s size count : ℕ) : Type 0 where
   pub few : count ≤ size
   pub name : NameOfSizeAndCount b p size count
 
--- The result is this size and number, or its fault is the one that reading meets there.
+-- The result is this size and number, or its fault is that of reading on there.
 abbrev pub MeasuresOrFails : List ℕ → ℕ → ℕ → Result (ℕ × ℕ) ParseError → Type 0
 MeasuresOrFails b p s (Ok found) = Measures b p s found.0 found.1
 MeasuresOrFails b p s (Err e) = Faulty b p s (fault_of e)
 
--- A name of this size and number of labels is encoded at offset p, and its encoding ends before `end`.
+-- A name of this size and number of labels is encoded at offset p, and its encoding takes the octets p..end.
 pub record Arrives (b : List ℕ) (p end size count : ℕ) : Type 0 where
   pub name : NameOfSizeAndCount b p size count
   pub walked : Walked b p end
   pub within : end ≤ length b
 
--- The result is this extent, or its fault is the one that reading meets there.
+-- The result is this extent, or its fault is that of reading a name there.
 abbrev pub ArrivesOrFails : List ℕ → ℕ → Result NameExtent ParseError → Type 0
 ArrivesOrFails b p (Ok extent) = Arrives b p extent.end extent.size extent.count
 ArrivesOrFails b p (Err e) = FaultAt b p (fault_of e)

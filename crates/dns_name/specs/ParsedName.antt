@@ -25,7 +25,7 @@ abbrev pub ParsesName : Parser → Parser → Result ParsedName ParseError → T
 ParsesName old new (Ok name) = Stands (seen old) (place old) (labels name) × MovesBehindName old new
 ParsesName old new (Err e) = FaultAt (seen old) (place old) (fault_of e) × (new ≡ old)
 
--- The parser moved past the encoding of a name; or the result is the fault that skipping meets, and the parser is unchanged.
+-- The parser moved past the encoding of a name; or the result is the fault of skipping, and the parser is unchanged.
 abbrev pub SkipsName : Parser → Parser → Result Unit ParseError → Type 0
 SkipsName old new (Ok _) = MovesBehindName old new
 SkipsName old new (Err e) = SkipFaultAt (seen old) (place old) (fault_of e) × (new ≡ old)

@@ -9,7 +9,7 @@ use Rattle.dns_name.specs.Unique.{NameAt, NameAt-prop}
 abbrev pub IsUncompressed : List ℕ → Type 0
 IsUncompressed b = (name : Labels) × IsName name × (uncompressed name ≡ b)
 
--- Why octets aren't one uncompressed name: skipping a name meets this fault; or a name can be skipped, but it has a pointer or octets follow it, which is `Form`.
+-- Why octets aren't one uncompressed name: skipping a name fails with this fault; or a name can be skipped, but it has a pointer or octets follow it, which is `Form`.
 pub data NotUncompressed (b : List ℕ) : Fault → Type 0 where
   fault : {f : Fault} → SkipFaultAt b 0 f → NotUncompressed b f
   other : {q : ℕ} → Walked b 0 q → (IsUncompressed b → ⊥) → NotUncompressed b Form

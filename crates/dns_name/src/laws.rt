@@ -4,8 +4,8 @@ ghost use Rattle.dns_name.specs.Laws.{NameOrFault, NameOrFaultNotBoth, OneName, 
 ghost use Rattle.dns_name.specs.Laws.{NameOrderIsTotal, ComposedOrderIsTotal, NameOrderAgrees, ComposedOrderAgrees, EqualNamesHashAlike};
 ghost use Rattle.dns_name.specs.NameTexts.{OneTextFault, OneTextName, PrintedNamesSpell, TextNameOrFault, TextNameOrFaultNotBoth};
 
-/// At each offset either exactly one name is encoded, or reading meets exactly one fault, never
-/// both.
+/// At each offset either exactly one name is encoded, or reading fails with exactly one fault,
+/// never both.
 pub fn one_name_or_fault()
     ensures some { NameOrFault }
     ensures not_both { NameOrFaultNotBoth }
@@ -18,8 +18,8 @@ pub fn standing_names()
     ensures { StandingNames }
 {}
 
-/// At each offset either the encoding of a name has exactly one end, or skipping meets exactly one
-/// fault, never both.
+/// At each offset either the encoding of a name has exactly one end, or skipping fails with exactly
+/// one fault, never both.
 pub fn one_end_or_fault()
     ensures some { EndOrSkipFault }
     ensures not_both { EndOrSkipFaultNotBoth }

@@ -25,7 +25,7 @@ pub record IsFirstKnown (m : Memory) (name : Labels) (j : ℕ) : Type 0 where
 abbrev pub EndsWith : Memory → Labels → List ℕ → Type 0
 EndsWith m others end = ((others ≡ []) × (end ≡ 0 ∷ [])) ⊎ ((x : Spot) × (get m others ≡ Some x) × (end ≡ pointer x.place))
 
--- A suffix at offset `place` can't enter the table, which has `held` entries. Under the hash rule every suffix counts as able.
+-- A suffix at offset `place` can't enter the table, which has `held` entries. This never holds under the hash rule, which decides once the name is written.
 abbrev pub IsFar : Rule → ℕ → ℕ → Type 0
 IsFar Plain held place = Unit {0}
 IsFar Static held place = (pointer_end ≤ place) ⊎ (24 ≤ held)

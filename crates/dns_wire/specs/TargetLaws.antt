@@ -82,27 +82,27 @@ CutKeeps = (t : Written) (len : ℕ) → IsTarget t → IsTarget (cut_to len t)
 abbrev pub OverwriteKeeps : Type 0
 OverwriteKeeps = (t : Written) (place : ℕ) (octets : List ℕ) → IsClear t.memory place (length octets) → IsTarget t → IsTarget (overwrite place octets t)
 
--- Truncating to the old length undoes an append, for an encoding that only adds entries within its own octets.
+-- Truncating to the old length undoes the append of a growing encoding.
 abbrev pub CutUndoes : Type 0
 CutUndoes = (piece : Piece) (t : Written) → IsGrowing piece → IsTarget t → cut_to (length t.octets) (lay piece t) ≡ t
 
--- The encoding of a name only adds such entries, under each rule.
+-- The encoding of a name is growing, under each rule.
 abbrev pub NamesGrow : Type 0
 NamesGrow = (rule : Rule) (name : Labels) → IsGrowing (put_name rule name)
 
--- So does the encoding of octets.
+-- So is the encoding of octets.
 abbrev pub OctetsGrow : Type 0
 OctetsGrow = (octets : List ℕ) → IsGrowing (put_octets octets)
 
--- So does the encoding of parts.
+-- So is the encoding of parts.
 abbrev pub PartsGrow : Type 0
 PartsGrow = (rule : Rule) (parts : List Part) → IsGrowing (put_parts rule parts)
 
--- So do two such encodings in order.
+-- So are two growing encodings in order.
 abbrev pub BothGrow : Type 0
 BothGrow = (a b : Piece) → IsGrowing a → IsGrowing b → IsGrowing (both a b)
 
--- If all entries are at or after an offset within the content, they still are after such an encoding is appended.
+-- If all entries are at or after an offset within the content, they still are after a growing encoding is appended.
 abbrev pub PiecesStayBehind : Type 0
 PiecesStayBehind = (piece : Piece) (t : Written) (place : ℕ) → IsGrowing piece → place ≤ length t.octets → IsBehind t.memory place → IsBehind (lay piece t).memory place
 
@@ -110,7 +110,7 @@ PiecesStayBehind = (piece : Piece) (t : Written) (place : ℕ) → IsGrowing pie
 abbrev pub NamesStayBehind : Type 0
 NamesStayBehind = (rule : Rule) (t : Written) (name : Labels) (place : ℕ) → place ≤ length t.octets → IsBehind t.memory place → IsBehind (lay (put_name rule name) t).memory place
 
--- A name is encoded at offset p, its encoding ends before q, and each pointer between p and q leads to an earlier label below offset 16,384.
+-- A name is encoded at offset p, its encoding takes the octets p..q, and a pointer there leads to an earlier label below offset 16,384.
 pub record ReadsName (b : List ℕ) (p q : ℕ) (name : Labels) : Type 0 where
   pub stands : Stands b p name
   pub walked : Walked b p q

@@ -1,4 +1,4 @@
--- At each offset exactly one name is encoded, or reading meets exactly one fault.
+-- At each offset exactly one name is encoded, or reading fails with exactly one fault.
 use Rattle.std.proofs.Common.{◌≡◌, ℕ, zero, suc, ◌+◌, ◌-◌, ◌*◌, ◌<◌, ◌≤◌, ◌⊎◌, inl, inr, List, [], ◌∷◌, length, arith, ap, sym, ◌∙◌, refl, subst}
 use Rattle.std.specs.Prelude.{Result, Ok, Err}
 use Rattle.std.proofs.lemmas.Bool.Decides.{leb_tells}
@@ -16,7 +16,7 @@ module _ (b : List ℕ) where
   no_head (Stands.label h w x z) e = cc
   no_head (Stands.pointer h w x) e = cc
 
-  -- If a name is encoded and short enough, reading meets no fault.
+  -- If a name is encoded and short enough, reading doesn't fail.
   pub not_both : {p s : ℕ} {f : Fault} → Faulty b p s f → (name : Labels) → Stands b p name → s + name_size name ≤ max_size → ⊥
   not_both (head h) name x small = no_head x h
   not_both (long {p = p} {n = n} h big) name x small =
@@ -61,7 +61,7 @@ module _ (b : List ℕ) where
   fault_head (label h small fits x) e = cc
   fault_head (pointer h back x) e = cc
 
-  -- Reading meets at most one fault.
+  -- Reading fails with at most one fault.
   pub one_fault : {p s : ℕ} {f g : Fault} → Faulty b p s f → Faulty b p s g → f ≡ g
   one_fault (head h) y = sym (fault_head y h)
   one_fault (long h big) y = elim (fault_label y h) [ inl l ↦ sym l.1 | inr r ↦ elim r [ inl l ↦ absurd (omega (arith, l.0)) | inr l ↦ absurd (omega (arith, l.0)) ] ]
@@ -70,7 +70,7 @@ module _ (b : List ℕ) where
   one_fault (label h small fits x) y = elim (fault_label y h) [ inl l ↦ absurd (omega (arith, l.0)) | inr r ↦ elim r [ inl l ↦ absurd (omega (arith, l.1)) | inr l ↦ one_fault x l.2 ] ]
   one_fault (pointer h back x) y = elim (fault_pointer y h) [ inl l ↦ absurd (omega (arith, l.0)) | inr r ↦ one_fault x r.1 ]
 
-  -- A name that is short enough is encoded at offset p, or reading meets a fault.
+  -- A name that is short enough is encoded at offset p, or reading fails.
   abbrev Answer : ℕ → ℕ → Type 0
   Answer p s = ((name : Labels) × Stands b p name × (s + name_size name ≤ max_size)) ⊎ ((f : Fault) × Faulty b p s f)
 

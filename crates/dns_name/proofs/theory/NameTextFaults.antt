@@ -63,7 +63,7 @@ fault_known (NameTextFaulty.behind_dot {n = n} some more) (suc k) h =
 one_faulty : {text : List ℕ} {n size : ℕ} {f g : PresentationError} → NameTextFaulty text n size f → NameTextFaulty text n size g → f ≡ g
 one_faulty {text = text} x y = let e = sym (fault_known x (length text) (omega arith)) ∙ fault_known y (length text) (omega arith) in cc
 
--- No fault is met in the empty text before its first octet. Its fault is a case of its own in `NameTextFault`.
+-- The empty text has no fault as the start of a label. `NameTextFault` has a case of its own for it.
 nil_faulty : (text : List ℕ) (f : PresentationError) → text ≡ [] → NameTextFaulty text 0 0 f → ⊥
 nil_faulty text f e x = let none = fault_known (subst (λ t. NameTextFaulty t 0 0 f) e x) 0 (omega arith) in cc
 

@@ -160,7 +160,7 @@ spells_pointer b at t s h u = go (s.rest u).name (s.rest u).is_name (s.rest u).o
     go [] is o = let r = rooted b at o in cc (r.0, h)
     go (label ∷ name) is o = let l = labelled b at label name (name_tail label name is).0 o in cc (l.begins, h)
 
--- If skipping meets a fault, they aren't one.
+-- If skipping fails, they aren't one.
 pub spells_fault : (b : List ℕ) (at : ℕ) (f : Fault) → Spells b at → SkipFaulty b at at f → IsUncompressed b → ⊥
 spells_fault b at f s h u =
     let r = s.rest u in

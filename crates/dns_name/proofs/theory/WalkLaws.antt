@@ -1,4 +1,4 @@
--- At each offset the encoding of a name has exactly one end, or skipping meets exactly one fault.
+-- At each offset the encoding of a name has exactly one end, or skipping fails with exactly one fault.
 use Rattle.std.proofs.Common.{◌≡◌, ℕ, zero, suc, ◌+◌, ◌-◌, ◌<◌, ◌≤◌, ◌⊎◌, inl, inr, List, length, arith, sym, refl, subst}
 use Rattle.std.specs.Prelude.{Result, Ok, Err}
 use Rattle.std.proofs.lemmas.Bool.Decides.{leb_tells}
@@ -42,7 +42,7 @@ module _ (b : List ℕ) where
   one_end (WalkedBehind.pointer h) y = sym (end_pointer y h)
   one_end (WalkedBehind.label h small fits x) y = one_end x (end_label y h).2
 
-  -- A fault that skipping meets is one that reading meets.
+  -- If skipping fails, reading fails with the same fault.
   pub skip_fault : {p s : ℕ} {f : Fault} → SkipFaulty b p s f → Faulty b p s f
   skip_fault (head h) = Faulty.head h
   skip_fault (long h big) = Faulty.long h big

@@ -198,7 +198,7 @@ pub kept_more : {m : Memory} {b : List ℕ} (n : Memory) (c : List ℕ) (s : Lab
     → ((s : Labels) (x : Spot) → get m s ≡ Some x → get n s ≡ Some x) → IsRemembered b m s x → IsRemembered (b ++ c) n s x
 kept_more {m = m} {b = b} n c s x g k = kept_moved m n b (b ++ c) s x (λ p xs low fits h. at_append c h) (λ t y e less. g t y e) k
 
--- A written name is encoded as the reader understands it (`Stands`), if the same holds for each entry of the table whose name ends before q.
+-- A written name (`Spelled`) is encoded in the sense of `Stands`, if so is each entry of the table whose name ends before q.
 stands_if : {m : Memory} {b : List ℕ} {q : ℕ} → Remembers b m → ((s : Labels) (x : Spot) → get m s ≡ Some x → x.end < q → Stands b x.place s)
     → {p : ℕ} {name : Labels} → name_size name ≤ max_size → Spelled m b q p name → Stands b p name
 stands_if r ih short (root h e) = Stands.root (root_at h)
@@ -217,7 +217,7 @@ stands_below r zero q p name h short s = absurd (omega arith)
 stands_below r (suc k) q p name h short s =
     stands_if r (λ t x e less. let kept = r.each t x e in stands_below r k x.end x.place t (omega arith) kept.short (kept_spelled t x kept)) short s
 
--- A written name that is short enough is encoded as the reader understands it.
+-- A written name that is short enough is encoded in the sense of `Stands`.
 pub spelled_stands : {m : Memory} {b : List ℕ} {q p : ℕ} {name : Labels} → Remembers b m → name_size name ≤ max_size → Spelled m b q p name → Stands b p name
 spelled_stands {q = q} {p = p} {name = name} r short s = stands_below r (q + 1) q p name (omega arith) short s
 
@@ -261,7 +261,7 @@ remembers_over {m = m} {b = b} place over clear r = record {
       ];
 }
 
--- A written name is encoded, as the reader understands it, in the octets up to any later end.
+-- A written name is encoded in the sense of `Stands` in the octets up to any later end.
 pub stands_within : {m : Memory} {b : List ℕ} {q p : ℕ} {name : Labels} (end : ℕ) → Remembers b m → q ≤ end → name_size name ≤ max_size
     → Spelled m b q p name → Stands (take end b) p name
 stands_within end r l short s = spelled_stands (remembers_cut end r) short (spelled_cut end l s)
