@@ -26,7 +26,7 @@ OneName = (b : List ℕ) (p : ℕ) (m n : Labels) → Stands b p m → Stands b 
 abbrev pub OneFault : Type 0
 OneFault = (b : List ℕ) (p : ℕ) (f g : Fault) → FaultAt b p f → FaultAt b p g → f ≡ g
 
--- What is encoded is a name: labels of 1 to 63 octets that take at most 254 octets, each with its length octet.
+-- An encoded name satisfies `IsName`: its labels have 1 to 63 octets, and take at most 254 octets, each with its length octet.
 abbrev pub StandingNames : Type 0
 StandingNames = (b : List ℕ) (p : ℕ) (name : Labels) → Stands b p name → IsName name
 

@@ -129,7 +129,7 @@ LabelsAt-prop b p left x y =
     let P : NameAt b p → Type 0 = λ name. (z : FrontOfSize name.0 left) → x ≡ (name, z) in
     subst P (NameAt-prop b x.0 y.0) (λ z. ap (λ (w : FrontOfSize x.0.0 left). let labels : LabelsAt b p left = (x.0, w) in labels) (FrontOfSize-prop x.0.0 left x.1 z)) y.1
 
--- What is encoded at an offset is a name. `ToName` promises this of each of its values.
+-- An encoded name satisfies `IsName`. `ToName` promises this of each of its values.
 
 pub label_of : (first second : Option ℕ) (n : ℕ) → head_of first second ≡ Ok (Label n) → (first ≡ Some n) × (0 < n) × (n < 64)
 label_of None second n h = cc

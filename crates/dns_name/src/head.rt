@@ -79,8 +79,8 @@ impl Head {
 
     /// Returns what begins at offset `place` in a name, after labels of `size` octets.
     ///
-    /// Errors: `Form` if a label would make the name too long, `ShortInput` if it runs past the
-    /// end, else as `at`.
+    /// Errors: those of `at`; `Form` if a label would make the name too long; `ShortInput` if a
+    /// label runs past the end.
     pub(crate) fn behind(octets: &[u8], place: usize, size: usize) -> Result<Head, ParseError>
         requires { size ≤ MAX_SIZE }
         ensures { BeginsOrFails octets.now place size result }

@@ -19,7 +19,7 @@ impl<'a> LabelIter<'a> {
     ghost use Rattle.dns_name.specs.ParsedName.{labels_left};
     ghost use Rattle.dns_name.specs.Unique.{NameOfSize};
 
-    /// Iterates over the labels of the name at offset `pos`, which take `size` octets.
+    /// Creates an iterator over the labels of the name at offset `pos`, which take `size` octets.
     pub(crate) fn new(octets: &'a [u8], pos: usize, size: usize) -> Self
         requires { NameOfSize octets.now pos size }
         ensures { (name : Labels) → Stands octets.now pos name → labels_left result

@@ -13,7 +13,7 @@ pub fn one_name_or_fault()
     ensures one_fault { OneFault }
 {}
 
-/// What is encoded at an offset is a name: labels of 1 to 63 octets, at most 255 octets in all.
+/// An encoded name has labels of 1 to 63 octets, and at most 255 octets in all.
 pub fn standing_names()
     ensures { StandingNames }
 {}

@@ -11,7 +11,7 @@ use std::alloc::AllocError;
 use std::cmp::Ordering;
 use std::hash::{Hash, Hasher};
 
-/// One uncompressed name, generic over the type that stores its octets (RFC 1035 section 3.1).
+/// One uncompressed name, in octets of type `Octs` (RFC 1035 section 3.1).
 #[derive(Debug, Drop)]
 pub struct Name<Octs: Octets> {
     octets: Octs,
@@ -34,7 +34,7 @@ impl<Octs: Octets> Name<Octs> {
     ghost use Rattle.dns_name.specs.NameReading.{name_labels};
     ghost use Rattle.dns_name.specs.Uncompressed.{IsUncompressed, NotUncompressed};
 
-    /// Returns the uncompressed name that `octets` are, from the first octet to the last.
+    /// Creates a name from `octets`, which must be exactly one uncompressed name.
     ///
     /// Errors: `ShortInput` if octets are missing. `Form` if there is a malformed label, a pointer,
     /// a name of more than 255 octets, or an octet after the root label.
@@ -47,7 +47,7 @@ impl<Octs: Octets> Name<Octs> {
         Ok(Name::of_whole(octets))
     }
 
-    /// Returns the name that `octets` are already known to be.
+    /// Creates a name from `octets`, which are known to be exactly one uncompressed name.
     pub(crate) fn of_whole(octets: Octs) -> Self
         requires { WholeName (Octs.octets octets) }
         ensures { uncompressed (name_labels result) ≡ Octs.octets octets }

@@ -1,7 +1,8 @@
 ghost use Rattle.std.specs.Prelude.{ℕ, List, ◌≤◌, ◌<◌, IsTrue, length};
 ghost use Rattle.dns_name.specs.Names.{max_size, pointer_end};
 
-/// A name read before in the same octets: its offset, the size of its labels, and their number.
+/// A name read before in the same octets: its offset, the size of its labels, and the number of its
+/// labels.
 ///
 /// The names of a message often point to one offset. With the name there cached, `parse_near` reads
 /// them without walking over it again.

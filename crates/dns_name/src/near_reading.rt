@@ -1,4 +1,4 @@
-//! Parsing of names with a cached name of the same octets.
+//! Parsing of names that may point to a cached name.
 ghost use Rattle.std.specs.Prelude.{ℕ, List};
 ghost use Rattle.dns_name.specs.Names.{Stands};
 ghost use Rattle.dns_name.specs.NearNames.{IsNear};

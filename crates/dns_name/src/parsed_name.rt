@@ -41,7 +41,7 @@ impl<'a> ParsedName<'a> {
     /// Reads the name at the parser's offset and moves past its encoding.
     ///
     /// A name takes at most 255 octets without pointers, and a pointer leads strictly back. The
-    /// parser's end bounds the name after a pointer too.
+    /// parser's end bounds the octets that pointers lead to as well.
     ///
     /// Errors: `ShortInput` if an octet is missing, `Form` if the name is malformed; the leftmost
     /// error is returned.
@@ -53,8 +53,8 @@ impl<'a> ParsedName<'a> {
         parse_near(parser, &mut NearName::new())
     }
 
-    /// Returns the end of the name at offset `start`, the octets that its labels take, and their
-    /// number. Uses and updates the cached name `near`.
+    /// Returns the end of the name at offset `start`, the octets that its labels take, and the
+    /// number of its labels. Uses and updates the cached name `near`.
     #[inline(always)]
     pub(crate) fn walk(
         octets: &[u8],
@@ -103,7 +103,7 @@ impl<'a> ParsedName<'a> {
     }
 
     /// Returns the octets that the labels of the name at offset `start` take, and their number. A
-    /// pointer leads to it, after labels of `before` octets.
+    /// pointer leads to this name, after labels of `before` octets.
     #[inline(always)]
     fn size_at(octets: &[u8], start: u16, before: usize) -> Result<(usize, usize), ParseError>
         requires within { start ≤ length octets.now }
@@ -152,7 +152,7 @@ impl<'a> ParsedName<'a> {
         Ok(())
     }
 
-    /// Returns the uncompressed name that `octets` are known to be.
+    /// Returns the name in `octets`, which are known to be exactly one uncompressed name.
     pub(crate) fn of_whole(octets: &'a [u8]) -> ParsedName<'a>
         requires { WholeName octets.now }
         ensures { (name : Labels) → Stands octets.now 0 name → labels result ≡ name }
@@ -165,8 +165,8 @@ impl<'a> ParsedName<'a> {
         }
     }
 
-    /// Returns the number of labels of the uncompressed name that `octets` are, without the root
-    /// label.
+    /// Counts the labels of the name in `octets`, which are known to be exactly one uncompressed
+    /// name. The root label isn't counted.
     fn count_whole(octets: &[u8]) -> usize
         requires { WholeName octets.now }
         ensures { (name : Labels) → Stands octets.now 0 name → result ≡ length name }

@@ -22,7 +22,7 @@ pub trait ToName {
         self.as_parsed().as_flat_slice()
     }
 
-    /// Each value represents a name: labels of 1 to 63 octets, 255 octets in all.
+    /// Each value represents a name: labels of 1 to 63 octets, at most 255 octets in all.
     ghost is_name: { (n : Self) → IsName (name n) };
 }
 

@@ -37,7 +37,8 @@ impl<T: Composer> Model for StreamTarget<T> {
 }
 
 impl StreamTarget<Vec<u8>> {
-    /// Creates a target over an empty vector.
+    /// Creates a target over an empty vector. Returns `OutOfMemory` if an allocation from `alloc`
+    /// fails.
     pub fn new_vec(alloc: Global) -> Result<Self, AppendError>
         ensures empty { IfOk result (λ stream. stream ≡ []) }
         ensures memory { IfErr result (λ error. error ≡ AppendError.OutOfMemory) }
