@@ -110,7 +110,7 @@ with_length piece m w =
     let laid = piece m (w + 2) in
     record { octets = to_be_bytes w16 (length laid.octets) ++ laid.octets; memory = laid.memory }
 
--- An encoding is growing: it only adds table entries, for suffixes within its own octets.
+-- An encoding is growing if it only adds table entries, and only for suffixes within its own octets.
 pub record IsGrowing (piece : Piece) : Type 0 where
   pub grows : (m : Memory) (w : ℕ) → Extends m (piece m w).memory w (w + length (piece m w).octets)
 

@@ -17,7 +17,7 @@ abbrev pub IsShared : List Labels → Labels → Type 0
 IsShared [] suffix = ⊥
 IsShared (name ∷ names) suffix = IsSuffix suffix name ⊎ IsShared names suffix
 
--- One way to write the parts after the `earlier` names, and its length in octets. Octets are written as they are. A name is written whole, as its labels and the zero octet, or as k ≥ 0 labels and a 2-octet pointer to a suffix of an earlier name.
+-- One way to write the parts after the `earlier` names (newest first), and its length in octets. Octets are written as they are. A name is written whole, as its labels and the zero octet, or as k ≥ 0 labels and a 2-octet pointer to a suffix of an earlier name.
 pub data Spelling : List Labels → List Part → ℕ → Type 0 where
   none : {earlier : List Labels} → Spelling earlier [] 0
   octets : {earlier : List Labels} {xs : List ℕ} {parts : List Part} {n : ℕ} → Spelling earlier parts n
@@ -55,7 +55,7 @@ ShortPartsAreNear = (rule : Rule) (t : Written) (parts : List Part) → AreParts
 abbrev pub AddsShortest : List Part → Written → Written → Type 0
 AddsShortest parts before after = (n : ℕ) × (length after.octets ≡ length before.octets + n) × IsShortest parts n
 
--- Parts are written in the octets of a shortest compression, if the table was empty and all their labels are within pointer range.
+-- Parts take the octets of a shortest compression, if the table was empty, all their labels are within pointer range, and `SharesAll` holds of the table after them.
 abbrev pub PartsAreShortest : Type 0
 PartsAreShortest = (rule : Rule) (b : List ℕ) (parts : List Part) → AreParts parts
     → let t : Written = record { octets = b; memory = nothing } in
