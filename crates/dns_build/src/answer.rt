@@ -1,4 +1,4 @@
-//! Answers that are started from a message (RFC 1035 section 4.1).
+//! Starting an answer to a message (RFC 1035 section 4.1).
 ghost use Rattle.std.specs.Prelude.{◌≡◌};
 ghost use Rattle.dns_read.specs.Message.{message_octets};
 ghost use Rattle.dns_build.specs.State.{InBuilder, InQuestion};
@@ -14,11 +14,13 @@ use dns_read::Message;
 use dns_wire::{Composer, Octets};
 
 impl<T: Composer> Builder<T, AtBuilder> {
-    /// Starts creating an answer for the given message.
+    /// Starts an answer to the given message.
     ///
-    /// Sets QR and the rcode, and takes ID, opcode and RD from the message; the other fields stay (RFC 1035 section 4.1.1).
-    /// Then pushes the message's questions before the first that can't be read, which is no error. The error of a refused
-    /// push is answered, and then the builder is dropped.
+    /// Sets QR and the rcode, and copies ID, opcode and RD from the message. The other header
+    /// fields stay (RFC 1035 section 4.1.1). Then pushes the message's questions up to the first
+    /// malformed one. A malformed question is no error.
+    ///
+    /// Returns the error of the first push that fails. The builder is dropped then.
     pub fn start_answer<Octs: Octets>(
         self,
         msg: &Message<Octs>,
@@ -35,8 +37,9 @@ impl<T: Composer> Builder<T, AtBuilder> {
         }
     }
 
-    /// As `start_answer`. But where a push is refused, the answer builder with the questions before the refused one is
-    /// given back as `Err`, and its rcode is SERVFAIL. A growth that is refused is a refused push too.
+    /// Like `start_answer`, but keeps the builder if a push fails. It returns `Err` with that
+    /// builder, which has the questions before the failed one and the rcode SERVFAIL. A failed
+    /// allocation fails a push too.
     pub fn try_start_answer<Octs: Octets>(
         self,
         msg: &Message<Octs>,
@@ -56,9 +59,10 @@ impl<T: Composer> Builder<T, AtBuilder> {
         }
     }
 
-    /// Starts creating an error for the given message.
+    /// Starts an error response to the given message.
     ///
-    /// It is either builder that `try_start_answer` gives, so a question without room or memory is told as SERVFAIL.
+    /// Returns the builder that `try_start_answer` returns, be it `Ok` or `Err`. So a failed push
+    /// of a question only shows as the rcode SERVFAIL.
     pub fn start_error<Octs: Octets>(self, msg: &Message<Octs>, rcode: Rcode) -> AnswerBuilder<T>
         ensures { InEach InBuilder T.rule self (λ s.
             let b = message_octets msg.now in
@@ -70,7 +74,7 @@ impl<T: Composer> Builder<T, AtBuilder> {
         }
     }
 
-    /// The builder of the questions of an answer, with its header.
+    /// The question builder of an answer: with its header, and without questions.
     fn answering<Octs: Octets>(self, msg: &Message<Octs>, rcode: Rcode) -> QuestionBuilder<T>
         ensures { MovesState InBuilder InQuestion T.rule
             (answering rcode (message_octets msg.now)) self result }
@@ -81,7 +85,8 @@ impl<T: Composer> Builder<T, AtBuilder> {
     }
 }
 
-/// Pushes the questions of a message, up to the first that can't be read or is refused.
+/// Pushes the questions of a message up to the first malformed one. Returns the error of the first
+/// push that fails.
 fn push_questions<T: Composer, Octs: Octets>(
     builder: &mut QuestionBuilder<T>,
     msg: &Message<Octs>,

@@ -2,13 +2,13 @@ use crate::push_error::PushError;
 use dns_wire::ParseError;
 use thiserror::Error;
 
-/// Why the records of a message aren't copied.
+/// Why the records of a message can't be copied.
 #[derive(Clone, Copy, Debug, Error)]
 pub enum CopyRecordsError {
-    /// The message can't be read.
+    /// The message is malformed.
     #[error("{0}")]
     Parse(ParseError),
-    /// A record isn't pushed.
+    /// A record can't be pushed.
     #[error("{0}")]
     Push(PushError),
 }

@@ -1,4 +1,4 @@
-//! Records copied from one message into another.
+//! Copying records from one message into another.
 ghost use Rattle.std.specs.Prelude.{ℕ, List, IfOk};
 ghost use Rattle.dns_item.specs.ParsedRecord.{standing_record};
 ghost use Rattle.dns_read.specs.Message.{message_octets};
@@ -17,12 +17,13 @@ use dns_read::Message;
 use dns_section::{RecordSection, following};
 use dns_wire::{Composer, Octets};
 
-/// What records can be copied from.
+/// A message whose records can be copied.
 pub trait CopyRecords {
     /// The octets of the message.
     ghost octets: { Self → List ℕ };
 
-    /// As the function `copy_records`, for a closure whose answer borrows nothing of the record. It asks the same of it.
+    /// Like the function `copy_records`, with the same requirement, for a closure whose result
+    /// borrows nothing from the record.
     fn copy_records<T: Composer, R: ComposeRecord + Drop, F: FnMut(ParsedRecord<'_>) -> Option<R>>(
         &self,
         target: AnswerBuilder<T>,
@@ -49,14 +50,16 @@ impl<Octs: Octets> CopyRecords for Message<Octs> {
     }
 }
 
-/// Copies records of the answer, authority and additional sections of a message into the same sections of a builder
-/// (RFC 1035 section 4.1).
+/// Copies the answer, authority and additional records of a message into the same sections of a
+/// builder (RFC 1035 section 4.1). The builder's own answers stay before the copied ones.
 ///
-/// The closure is given each record, in the order in which they stand. What it answers is pushed into the section of that
-/// record; for `None` nothing is pushed. The first error, of reading the message or of a push, is answered, and then the
-/// builder is dropped.
+/// Calls the closure on each record in order, and pushes what it returns into the section of that
+/// record. Pushes nothing for `None`.
 ///
-/// It asks that the closure can be called with any record, as one can that asks nothing itself.
+/// Returns the first error, of reading the message or of a push. The builder is dropped then.
+///
+/// Requires that the closure can be called on any record. A closure without a `requires` of its own
+/// can.
 pub fn copy_records<
     'a,
     Octs: Octets,
@@ -87,7 +90,7 @@ pub fn copy_records<
     Ok(additionals)
 }
 
-/// Copies the records that are left in a section.
+/// Copies the remaining records of a section.
 fn copy_section<
     'a,
     T: Composer,
@@ -114,7 +117,7 @@ fn copy_section<
     Ok(())
 }
 
-/// Gives a record to the closure, and pushes what it answers.
+/// Calls the closure on a record and pushes what it returns.
 fn copy_record<
     'a,
     T: Composer,

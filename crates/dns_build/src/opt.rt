@@ -1,4 +1,4 @@
-//! OPT records, pushed (RFC 6891 section 6.1).
+//! Pushing OPT records (RFC 6891 section 6.1).
 ghost use Rattle.std.specs.Prelude.{◌≡◌, [], OnErr};
 ghost use Rattle.std.specs.Fn.{FnOnceReturnsAtMut};
 ghost use Rattle.dns_name.specs.NameReading.{name_labels};
@@ -22,10 +22,11 @@ use dns_wire::{AppendError, Composer, Name};
 use std::alloc::Global;
 
 impl<T: Composer> Builder<T, AtAdditional> {
-    /// Appends the OPT record whose fields and options a closure sets on a fresh `OptBuilder`, which has a copy of the
-    /// header (RFC 6891 section 6.1.1). Where it is accepted, the header takes the rcode of that copy.
+    /// Appends an OPT record (RFC 6891 section 6.1.1). The closure sets its fields and options on a
+    /// new `OptBuilder`, which has a copy of the header. On success the header takes the rcode of
+    /// that copy.
     ///
-    /// An error of the closure is answered first. Else the record is refused as by `push`. Then nothing changes.
+    /// Returns the error of the closure, or else that of `push`. Nothing changes on error.
     pub fn opt<F: FnOnce(&mut OptBuilder) -> Result<(), AppendError>>(
         &mut self,
         alloc: Global,
@@ -45,7 +46,7 @@ impl<T: Composer> Builder<T, AtAdditional> {
     }
 }
 
-/// The OPT record of what was gathered.
+/// The OPT record with the fields and options of `builder`.
 fn record_of(builder: &OptBuilder) -> Record<Name<&'static [u8]>, Opt<&[u8]>>
     ensures owner { name_labels (owner_of result) ≡ [] }
     ensures class { class_of result ≡ (gathered builder.now).fields.udp_payload_size }
@@ -59,7 +60,7 @@ fn record_of(builder: &OptBuilder) -> Record<Name<&'static [u8]>, Opt<&[u8]>>
     Record::new(Name::root_slice(), header.class(), ttl, data)
 }
 
-/// A header with another rcode, and nothing else changed. The contract is on its octets; that of `set_rcode` is on its
+/// Sets the rcode and changes nothing else. The contract is on octets; that of `set_rcode` is on
 /// fields.
 pub(crate) fn with_rcode(header: Header, rcode: Rcode) -> Header
     ensures { result ≡ with_rcode rcode header }
