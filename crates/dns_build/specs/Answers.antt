@@ -1,4 +1,4 @@
--- How an answer to a message is started: its header, and the questions that are asked. RFC 1035 section 4.1.
+-- How an answer to a message is started: its header and its questions. RFC 1035 section 4.1.
 use Rattle.std.specs.Prelude.{◌≡◌, ◌<◌, ◌⊎◌, ℕ, Bool, true, List, [], ◌∷◌, ◌++◌, length, take, bit_and, bit_or, slice_index, Option, Result, Ok, Err}
 use Rattle.std.specs.List.{filter_map}
 use Rattle.std.specs.Result.{result_ok}
@@ -14,7 +14,7 @@ use Rattle.dns_build.specs.Standing.{Built, PushAnswers, StandsFor, size_after}
 use Rattle.dns_build.specs.State.{State, InQuestion, InAnswer, move_to, with_header, with_question, with_questions}
 use Rattle.dns_build.specs.declared.push_error.PushError.{PushError}
 
--- the questions of a message before the first that can't be read, whose fault is the last of the reading
+-- the questions of a message up to the first malformed one, whose fault ends the reading
 abbrev pub readable_questions : List ℕ → List QuestionItem
 readable_questions b = filter_map result_ok (questions_from b (question_count b) header_size)
 
@@ -22,7 +22,7 @@ readable_questions b = filter_map result_ok (questions_from b (question_count b)
 abbrev pub header_in : List ℕ → Header
 header_in b = record { octets = take 4 b }
 
--- The header of an answer: ID, opcode and RD of the asked header, QR set, and an rcode. The other bits are those of its own header. Of octet 2, 0x06 is AA and TC, 0x79 is opcode and RD, and 0x80 is QR. RFC 1035 section 4.1.1.
+-- The header of an answer, by its octets: ID, opcode and RD of `asked`, QR set, and the rcode. The other bits are those of `own`. In octet 2, 0x06 is AA and TC, 0x79 is opcode and RD, and 0x80 is QR. RFC 1035 section 4.1.1.
 abbrev pub answer_header : ℕ → Header → Header → Header
 answer_header rcode asked own = record {
   octets = slice_index asked.octets 0 ∷ slice_index asked.octets 1
@@ -30,30 +30,30 @@ answer_header rcode asked own = record {
       ∷ bit_or (bit_and (slice_index own.octets 3) 0xf0) rcode ∷ [];
 }
 
--- the state that the questions of an answer are pushed onto
+-- the state onto which the questions of an answer are pushed
 abbrev pub answering : ℕ → List ℕ → State → State
 answering rcode b s = move_to InQuestion (with_header (answer_header rcode (header_in b) s.header) s)
 
--- what a push of a question onto a state answers
+-- the result of pushing a question onto a state
 abbrev pub AnswersQuestion : Option ℕ → Bool → Rule → QuestionItem → State → Result (Unit {0}) PushError → Type 0
 AnswersQuestion room grows rule x s = PushAnswers room grows s.limit (size_after rule (with_question x) s) (length s.questions)
 
--- an answer builder stands for the state, moved to the answer section
+-- a builder at the answer section represents the state, moved there
 abbrev pub IsAnswer : Rule → State → Built → Type 0
 IsAnswer rule s b = StandsFor InAnswer rule (move_to InAnswer s) b
 
--- it does so with the rcode SERVFAIL
+-- the same, with the rcode SERVFAIL, which is 2
 abbrev pub IsFailure : Rule → State → Built → Type 0
 IsFailure rule s b = IsAnswer rule (with_header (with_rcode 2 s.header) s) b
 
--- What pushing questions onto a state gives. Room, growth and rule are the target's.
+-- Pushing questions onto the state `s`, over a target with capacity `room`, which allocates if `grows`, under the compression rule `rule`.
 module _ (room : Option ℕ) (grows : Bool) (rule : Rule) (s : State) where
-  -- each of these questions, pushed behind those before it, is accepted
+  -- each of these questions can be pushed after those before it
   abbrev pub AreAccepted : List QuestionItem → Type 0
   AreAccepted xs = (before : List QuestionItem) (x : QuestionItem) (behind : List QuestionItem) → xs ≡ before ++ x ∷ behind
       → AnswersQuestion room grows rule x (with_questions before s) (Ok tt)
 
-  -- the first questions are accepted, and the next one is refused
+  -- the questions `first` can be pushed, and pushing the next one fails
   pub record RefusesBehind (xs first : List QuestionItem) (e : PushError) : Type 0 where
     pub accepted : AreAccepted first
     pub next : QuestionItem
@@ -61,26 +61,26 @@ module _ (room : Option ℕ) (grows : Bool) (rule : Rule) (s : State) where
     pub all : xs ≡ first ++ next ∷ others
     pub refused : AnswersQuestion room grows rule next (with_questions first s) (Err e)
 
-  -- a question builder with all of the questions, or with those before the refused one
+  -- a question builder with all questions, or with those before the one that fails
   abbrev pub Asks : List QuestionItem → Result (Unit {0}) PushError → Built → Type 0
   Asks xs (Ok _) b = AreAccepted xs × StandsFor InQuestion rule (with_questions xs s) b
   Asks xs (Err e) b = (first : List QuestionItem) × RefusesBehind xs first e × StandsFor InQuestion rule (with_questions first s) b
 
-  -- an answer builder with all of the questions, or the error of the one that is refused
+  -- an answer builder with all questions, or the error of the one that fails
   abbrev pub GivesAnswer : List QuestionItem → Result Built PushError → Type 0
   GivesAnswer xs (Ok b) = AreAccepted xs × IsAnswer rule (with_questions xs s) b
   GivesAnswer xs (Err e) = (first : List QuestionItem) × RefusesBehind xs first e
 
-  -- an answer builder with all of the questions as `Ok`, or one with those before the refused one, and SERVFAIL, as `Err`
+  -- `Ok` with an answer builder that has all questions, or `Err` with one that has those before the one that fails, and the rcode SERVFAIL
   abbrev pub GivesEither : List QuestionItem → Result Built Built → Type 0
   GivesEither xs (Ok b) = AreAccepted xs × IsAnswer rule (with_questions xs s) b
   GivesEither xs (Err b) = (e : PushError) × (first : List QuestionItem) × RefusesBehind xs first e × IsFailure rule (with_questions first s) b
 
-  -- the former or the latter
+  -- an answer builder as in either case of `GivesEither`
   abbrev pub IsEither : List QuestionItem → Built → Type 0
   IsEither xs b = GivesEither xs (Ok b) ⊎ GivesEither xs (Err b)
 
--- The header of an answer has ID, opcode and RD of the asked header, QR, and the rcode, and its own other fields.
+-- The header of an answer has ID, opcode and RD of `asked`, QR set, and the rcode. Its other fields are those of `own`. RFC 1035 section 4.1.1.
 abbrev pub AnswerHeaderIsSet : Type 0
 AnswerHeaderIsSet = (rcode : ℕ) (asked own : Header) → length (header_octets asked) ≡ 4 → length (header_octets own) ≡ 4 → rcode < 16
     → fields (answer_header rcode asked own) ≡ record (fields own) { id = (fields asked).id; qr = true; opcode = (fields asked).opcode; rd = (fields asked).rd; rcode = rcode }

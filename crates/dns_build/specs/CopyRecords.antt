@@ -1,4 +1,4 @@
--- How the records of a message are copied into a builder, step by step up to the first error. What a copy that succeeds leaves is said without steps in KeptRecords.antt. RFC 1035 section 4.1.
+-- How the records of a message are copied into a builder, step by step, up to the first error. KeptRecords.antt says without steps what a successful copy leaves. RFC 1035 section 4.1.
 use Rattle.std.specs.Prelude.{◌≡◌, ℕ, Bool, List, [], ◌∷◌, length, Option, Some, None, option_map, Result, Ok, Err}
 use Rattle.dns_octets.specs.declared.error.ParseError.{ParseError}
 use Rattle.dns_name.specs.Names.{Fault, fault_of}
@@ -16,25 +16,25 @@ use Rattle.dns_build.specs.declared.push_error.PushError.{PushError}
 use Rattle.dns_build.specs.declared.copy_records_error.CopyRecordsError.{CopyRecordsError}
 use Rattle.dns_build.specs.declared.copy_records_error.CopyRecordsError.TheVariants.{Parse, Push}
 
--- a record is pushed into the section of a stage: it is accepted and stands at the end, or it is refused and nothing changes
+-- pushing a record into the section of a stage: it is appended, or it fails and nothing changes
 abbrev pub PushesRecord : Option ℕ → Bool → Rule → Stage → RecordItem → State → Result (Unit {0}) PushError → State → Type 0
 PushesRecord room grows rule stage x s (Ok _) after =
     PushAnswers room grows s.limit (size_after rule (with_record stage x) s) (length (records_at stage s)) (Ok tt) × (after ≡ with_record stage x s)
 PushesRecord room grows rule stage x s (Err e) after =
     PushAnswers room grows s.limit (size_after rule (with_record stage x) s) (length (records_at stage s)) (Err e) × (after ≡ s)
 
--- a record that was kept is pushed so, and nothing changes where none was kept
+-- pushing the record that the closure returned; for `None` nothing changes
 abbrev pub PushesKept : Option ℕ → Bool → Rule → Stage → Option RecordItem → State → Result (Unit {0}) PushError → State → Type 0
 PushesKept room grows rule stage (Some x) s result after = PushesRecord room grows rule stage x s result after
 PushesKept room grows rule stage None s result after = (result ≡ Ok tt) × (after ≡ s)
 
--- the record sections of a message, in their order
+-- the record sections of a message, in order
 abbrev pub record_sections : List Section
 record_sections = Answer ∷ Authority ∷ Additional ∷ []
 
--- `call` are the calls of a closure: from one state of it, on a record, with an answer, to another state. `item` is what an answer is pushed as. Room, growth and rule are the target's.
+-- `call f x r g` says that the closure in state `f`, called on the record `x`, returns `r` and is then in state `g`. `item r` is the record to push for `r`. The target has capacity `room`, allocates if `grows`, and compresses by `rule`.
 module _ {F R : Type 0} (call : F → ParsedRecord → Option R → F → Type 0) (item : R → RecordItem) (room : Option ℕ) (grows : Bool) (rule : Rule) where
-  -- The closure is called on a record that stands so, and what it answers is pushed, if it answers one.
+  -- The closure is called on the record `x`. The record that it returns, if any, is pushed.
   pub record CopiesRecord (stage : Stage) (x : StandingRecord) (f : F) (s : State) (result : Result (Unit {0}) PushError) (f' : F) (s' : State) : Type 0 where
     pub shown : ParsedRecord
     pub stands : standing_record shown ≡ x
@@ -42,7 +42,7 @@ module _ {F R : Type 0} (call : F → ParsedRecord → Option R → F → Type 0
     pub called : call f shown kept f'
     pub pushed : PushesKept room grows rule stage (option_map item kept) s result s'
 
-  -- The records of a reading are copied in order, up to the first push that is refused or the fault that ends the reading.
+  -- The records of a reading are copied in order, up to the first push that fails or the fault that ends the reading.
   pub data CopiesList (stage : Stage) : List (Result StandingRecord Fault) → F → State → Result (Unit {0}) CopyRecordsError → F → State → Type 0 where
     none : {f : F} {s : State} → CopiesList stage [] f s (Ok tt) f s
     copied : {x : StandingRecord} {xs : List (Result StandingRecord Fault)} {f g h : F} {s t u : State} {result : Result (Unit {0}) CopyRecordsError}
@@ -52,13 +52,13 @@ module _ {F R : Type 0} (call : F → ParsedRecord → Option R → F → Type 0
     fault : {xs : List (Result StandingRecord Fault)} {f : F} {s : State} {e : ParseError}
         → CopiesList stage (Err (fault_of e) ∷ xs) f s (Err (Parse e)) f s
 
-  -- A section of the message is copied into that of its stage. Where it has no start, the fault of that is answered.
+  -- A section of the message is copied into the same section of the builder. If the section has no start, the result is the fault that says why.
   pub data CopiesSection (b : List ℕ) (section : Section) : F → State → Result (Unit {0}) CopyRecordsError → F → State → Type 0 where
     started : {f g : F} {s t : State} {result : Result (Unit {0}) CopyRecordsError} (p : ℕ)
         → StartsAt section b p → CopiesList (stage_of section) (records_in b (record_count section b) p) f s result g t → CopiesSection b section f s result g t
     unstarted : {f : F} {s : State} {e : ParseError} → StartFault section b (fault_of e) → CopiesSection b section f s (Err (Parse e)) f s
 
-  -- Sections of the message are copied in order, up to the first error. The state moves to the stage of each.
+  -- Sections of the message are copied in order, up to the first error. The builder moves to each section before its records are copied.
   pub data CopiesSections (b : List ℕ) : List Section → F → State → Result (Unit {0}) CopyRecordsError → F → State → Type 0 where
     none : {f : F} {s : State} → CopiesSections b [] f s (Ok tt) f s
     copied : {section : Section} {sections : List Section} {f g h : F} {s t u : State} {result : Result (Unit {0}) CopyRecordsError}
@@ -66,15 +66,15 @@ module _ {F R : Type 0} (call : F → ParsedRecord → Option R → F → Type 0
     stopped : {section : Section} {sections : List Section} {f g : F} {s t : State} {e : CopyRecordsError}
         → CopiesSection b section f (move_to (stage_of section) s) (Err e) g t → CopiesSections b (section ∷ sections) f s (Err e) g t
 
-  -- what a builder stands for after one record was copied into it
+  -- one record is copied, and the builder represents the state that is left
   abbrev pub CopiesRecordTo : Stage → StandingRecord → F → State → Result (Unit {0}) PushError → F → Built → Type 0
   CopiesRecordTo stage x f s result g new = (left : State) × CopiesRecord stage x f s result g left × StandsFor stage rule left new
 
-  -- and after a reading was
+  -- a reading is copied, and the builder represents the state that is left
   abbrev pub CopiesListTo : Stage → List (Result StandingRecord Fault) → F → State → Result (Unit {0}) CopyRecordsError → F → Built → Type 0
   CopiesListTo stage xs f s result g new = (left : State) × CopiesList stage xs f s result g left × StandsFor stage rule left new
 
-  -- The three record sections of a message are copied: a builder of the last of them stands for what results, or the first error is answered.
+  -- The three record sections of a message are copied, and the builder represents the state that is left; or the result is the first error.
   abbrev pub CopiesMessage : List ℕ → F → State → Result Built CopyRecordsError → Type 0
   CopiesMessage b f s (Ok new) = (g : F) × (left : State) × CopiesSections b record_sections f s (Ok tt) g left × StandsFor InAdditional rule left new
   CopiesMessage b f s (Err e) = (g : F) × (left : State) × CopiesSections b record_sections f s (Err e) g left

@@ -1,4 +1,4 @@
--- What a copy of the records of a message leaves: the builder's own items, and the records that the closure kept. It follows from CopyRecords.antt. RFC 1035 section 4.1.
+-- What a successful copy of a message's records leaves: the builder's own items, and the records that the closure returned. It follows from CopyRecords.antt. RFC 1035 section 4.1.
 use Rattle.std.specs.Prelude.{ℕ, List, [], ◌∷◌, ◌++◌, Option, Some, None, Result, Ok}
 use Rattle.dns_name.specs.Names.{Fault}
 use Rattle.dns_wire.specs.Pieces.{Rule}
@@ -12,13 +12,13 @@ use Rattle.dns_section.specs.declared.section.Section.TheVariants.{Answer, Autho
 use Rattle.dns_build.specs.State.{InAdditional, State}
 use Rattle.dns_build.specs.Standing.{Built, StandsFor}
 
--- at the additional section, with records behind the answers, and with these in the two sections behind
+-- the state at the additional section, with `xs` after its answers, and with the authority records `ys` and the additional records `zs`
 abbrev pub with_copies : List RecordItem → List RecordItem → List RecordItem → State → State
 with_copies xs ys zs s = record s { stage = InAdditional; answers = s.answers ++ xs; authorities = ys; additionals = zs }
 
--- `call` are the calls of a closure: from one state of it, on a record, with an answer, to another state. `item` is what an answer is pushed as.
+-- `call f x r g` says that the closure in state `f`, called on the record `x`, returns `r` and is then in state `g`. `item r` is the record to push for `r`.
 module _ {F R : Type 0} (call : F → ParsedRecord → Option R → F → Type 0) (item : R → RecordItem) where
-  -- The closure is called on each record of a reading without a fault, in order, and these are what it keeps.
+  -- The reading has no fault. The closure is called on each of its records in order, and the items are the records that it returns.
   pub data Keeps : List (Result StandingRecord Fault) → F → List RecordItem → F → Type 0 where
     none : {f : F} → Keeps [] f [] f
     dropped : {xs : List (Result StandingRecord Fault)} {items : List RecordItem} {f g h : F} (shown : ParsedRecord)
@@ -26,13 +26,13 @@ module _ {F R : Type 0} (call : F → ParsedRecord → Option R → F → Type 0
     kept : {xs : List (Result StandingRecord Fault)} {items : List RecordItem} {f g h : F} (shown : ParsedRecord) (answer : R)
         → call f shown (Some answer) g → Keeps xs g items h → Keeps (Ok (standing_record shown) ∷ xs) f (item answer ∷ items) h
 
-  -- so in a section of the message, from its start
+  -- the same for a section of the message, read from its start
   pub record KeepsSection (b : List ℕ) (section : Section) (f : F) (items : List RecordItem) (g : F) : Type 0 where
     pub start : ℕ
     pub starts : StartsAt section b start
     pub keeps : Keeps (records_in b (record_count section b) start) f items g
 
-  -- What is kept of each of the three sections, one behind the other, stands in that section of the builder. The closure is called from the state in which the section before left it.
+  -- The records that the closure returns for each section of the message are in that section of the builder. The closure keeps its state from one section to the next.
   pub record KeepsAll (rule : Rule) (b : List ℕ) (f : F) (s : State) (new : Built) : Type 0 where
     pub answers : List RecordItem
     pub authorities : List RecordItem

@@ -1,4 +1,4 @@
--- The octets of a message with a state's header and items: what they are, and what they give. RFC 1035 section 4.1.
+-- The octets of a message with a state's header and items: what they are, and what reading them gives. RFC 1035 section 4.1.
 use Rattle.std.specs.Prelude.{◌≡◌, ℕ, List, [], ◌∷◌, length, map, take, Ok, ◌+◌, ◌++◌, ◌≤◌, true}
 use Rattle.std.specs.FinMap.{len}
 use Rattle.dns_name.specs.Names.{pointer_end}
@@ -16,22 +16,22 @@ use Rattle.dns_section.specs.Reading.{Passed}
 use Rattle.dns_section.specs.Sections.{question_count, answer_count, authority_count, additional_count, AnswersStart, AuthoritiesStart, AdditionalsStart, ReadingRecords}
 use Rattle.dns_build.specs.State.{State, fold, IsState, with_tc}
 
--- What reading the octets of a state gives: the state. RFC 1035 section 4.1.
+-- Reading the octets of a state gives back the state. RFC 1035 section 4.1.
 
--- the entries are those of the records, one for each, whose parts their data have
+-- the entries read are the records, one for one, and the parts of each record fill its RDATA
 abbrev pub AllTell : List ℕ → List RecordEntry → List RecordItem → Type 0
 AllTell b [] [] = Unit {0}
 AllTell b [] (x ∷ xs) = ⊥
 AllTell b (e ∷ es) [] = ⊥
 AllTell b (e ∷ es) (x ∷ xs) = TellsRecord b e x × AllTell b es xs
 
--- reading so many records from a place on gives exactly these, without a fault
+-- reading n records from offset p yields exactly the records `xs`, without a fault
 pub record GivesRecords (b : List ℕ) (n p : ℕ) (xs : List RecordItem) : Type 0 where
   pub entries : List RecordEntry
   pub reading : ReadingRecords b n p (map Ok entries)
   pub tell : AllTell b entries xs
 
--- The header section has the state's header and the lengths of its lists. Each section starts somewhere, and reading it gives its list without a fault. The last ends where the octets end.
+-- The header section has the state's header and the lengths of its lists as counts. Each section has a start, and reading it yields its list without a fault. The last section ends where the octets end.
 pub record ReadsBack (s : State) (b : List ℕ) : Type 0 where
   pub header : take 4 b ≡ header_octets s.header
   pub questions_counted : question_count b ≡ length s.questions
@@ -50,39 +50,39 @@ pub record ReadsBack (s : State) (b : List ℕ) : Type 0 where
   pub additionals : GivesRecords b (additional_count b) additionals_start s.additionals
   pub ends : Passed (SkipsRecord b) (additional_count b) additionals_start (length b)
 
--- The items of a state as parts: the ways to spell their names, and where the names are written. RFC 1035 sections 4.1.2 to 4.1.4.
+-- The items of a state as parts, for where their names are encoded and how they can be compressed. RFC 1035 sections 4.1.2 to 4.1.4.
 
--- a question: its name, and its fields
+-- a question: its name, then its type and class
 abbrev pub question_parts : QuestionItem → List Part
 question_parts x = CompressibleName x.name ∷ Octets (question_fields x) ∷ []
 
--- a record: its owner, its fields, two octets for the length of its data, whatever they are, and its data
+-- a record: its owner, then its type, class and TTL, two octets for RDLENGTH, whatever they are, and its RDATA
 abbrev pub record_parts : RecordItem → List Part
 record_parts x = CompressibleName x.owner ∷ Octets (record_fields x) ∷ Octets (0 ∷ 0 ∷ []) ∷ x.parts
 
--- the parts of all items of a list
+-- the parts of all items of a list, in order
 abbrev pub all_parts : {X : Type 0} → (X → List Part) → List X → List Part
 all_parts parts [] = []
 all_parts parts (x ∷ xs) = parts x ++ all_parts parts xs
 
--- the parts of all items in order
+-- the parts of all items of a state, in order
 abbrev pub parts_of : State → List Part
 parts_of s =
     all_parts question_parts s.questions ++ (all_parts record_parts s.answers ++ (all_parts record_parts s.authorities ++ all_parts record_parts s.additionals))
 
--- In the octets of a message with these items, each pointer of a name leads to an earlier place below 16,384 where a label begins. Octets in data are no names.
+-- In the octets of a message with these items, each pointer of a name leads to an earlier label below offset 16,384. Octets in RDATA aren't names.
 abbrev pub PointsToLabels : State → List ℕ → Type 0
 PointsToLabels s b = PartsPointed b (length b) header_size (parts_of s)
 
--- in such octets, each label begins below 16,384
+-- in these octets, each label of a name begins below offset 16,384
 abbrev pub HasLabelsNear : State → List ℕ → Type 0
 HasLabelsNear s b = PartsNear b (length b) header_size (parts_of s)
 
--- they are as many as a header section and a spelling of the items have, and no spelling is shorter
+-- these octets are a header section and the items in the shortest compression of their names
 abbrev pub IsShortestOf : State → List ℕ → Type 0
 IsShortestOf s b = (n : ℕ) × (length b ≡ header_size + n) × IsShortest (parts_of s) n
 
--- They are one fold's over the state, and read back as it. Each pointer of a name leads to an earlier label below 16,384. While each label begins below 16,384, as it does in at most 16,384 octets, no spelling of the items is shorter: under the tree and the hash rule, and under the static rule while the fold remembers fewer than 24 suffixes.
+-- The octets are the encoding of the state and read back as it. Each pointer of a name leads to an earlier label below offset 16,384. While all labels begin below 16,384, as they do in at most 16,384 octets, no compression of the names is shorter: under the tree and the hash rule, and under the static rule while the table has fewer than 24 suffixes.
 pub record IsMessageOf (rule : Rule) (s : State) (b : List ℕ) : Type 0 where
   pub octets : b ≡ (fold rule s).octets
   pub reads_back : ReadsBack s b
@@ -90,20 +90,20 @@ pub record IsMessageOf (rule : Rule) (s : State) (b : List ℕ) : Type 0 where
   pub shortest : SharesAll rule (len (fold rule s).memory) → HasLabelsNear s b → IsShortestOf s b
   pub near : length b ≤ pointer_end → HasLabelsNear s b
 
--- What holds of all states, rules and headers. RFC 1035 section 4.1.
+-- Theorems over all states, rules and headers. RFC 1035 section 4.1.
 
--- the fold of a state reads back as the state
+-- the encoding of a state reads back as the state
 abbrev pub FoldsReadBack : Type 0
 FoldsReadBack = (rule : Rule) (s : State) → IsState s → ReadsBack s (fold rule s).octets
 
--- what it remembers stands there, and behind the header section
+-- each suffix in its compression table is encoded at its offset, after the header section
 abbrev pub FoldsRemember : Type 0
 FoldsRemember = (rule : Rule) (s : State) → IsState s → IsTarget (fold rule s) × IsBehind (fold rule s).memory header_size
 
--- a header with TC set has all other fields as they were
+-- setting TC changes no other field of a header
 abbrev pub TcIsSet : Type 0
 TcIsSet = (header : Header) → length (header_octets header) ≡ 4 → fields (with_tc header) ≡ record (fields header) { tc = true }
 
--- the octets of a fold are those of a message with the state's header and items
+-- the encoding of a state is the octets of a message with the state's header and items
 abbrev pub FoldsAreMessages : Type 0
 FoldsAreMessages = (rule : Rule) (s : State) → IsState s → IsMessageOf rule s (fold rule s).octets

@@ -1,4 +1,4 @@
--- How a builder pushes an OPT record that a closure gathers. RFC 6891 sections 6.1.1 to 6.1.3.
+-- How a builder pushes an OPT record whose fields and options a closure sets. RFC 6891 sections 6.1.1 to 6.1.3.
 use Rattle.std.specs.Prelude.{◌≡◌, ℕ, Bool, [], ◌∷◌, length, bit_and, bit_or, slice_index, slice_set, Option, OnOk, Result, Ok, Err}
 use Rattle.dns_octets.specs.declared.error.AppendError.{AppendError}
 use Rattle.dns_wire.specs.Parts.Part.{Octets}
@@ -13,7 +13,7 @@ use Rattle.dns_build.specs.State.{State, InAdditional, with_record, with_header}
 use Rattle.dns_build.specs.Standing.{Built, StandsFor, PushAnswers, push_error, size_after}
 use Rattle.dns_build.specs.declared.push_error.PushError.{PushError}
 
--- The OPT record of what was gathered: the root owns it, its type is 41, its class is the UDP payload size, its TTL has the other fields, and its data are the options, one behind the other.
+-- The OPT record with the gathered fields and options: owned by the root, type 41, the UDP payload size as class, the other fields as TTL, and the options in order as RDATA.
 abbrev pub opt_record : Gathered → RecordItem
 opt_record g = record {
   owner = [];
@@ -23,15 +23,15 @@ opt_record g = record {
   parts = Octets (put_options g.options) ∷ [];
 }
 
--- a header with another rcode, which is the lower half of octet 3, and nothing else changed
+-- sets the rcode, the lower four bits of octet 3, and changes nothing else
 abbrev pub with_rcode : ℕ → Header → Header
 with_rcode rcode header = record header { octets = slice_set header.octets 3 (bit_or (bit_and (slice_index header.octets 3) 240) rcode) }
 
--- with the OPT record as the last additional record, and the rcode that was gathered
+-- appends the OPT record to the additional section, and sets the gathered rcode in the header
 abbrev pub with_opt : Gathered → State → State
 with_opt g s = with_header (with_rcode g.header.rcode s.header) (with_record InAdditional (opt_record g) s)
 
--- A closure was called on a fresh OPT builder with a header: it gave this answer, and then this had been gathered.
+-- The closure was called on a new `OptBuilder` with a copy of `header`. It returned `answer`, and the builder had then gathered `g`.
 pub record Gathers (call : OptBuilder → Result (Unit {0}) AppendError → OptBuilder → Type 0) (header : Header) (answer : Result (Unit {0}) AppendError) (g : Gathered) : Type 0 where
   pub before : OptBuilder
   pub after : OptBuilder
@@ -39,12 +39,12 @@ pub record Gathers (call : OptBuilder → Result (Unit {0}) AppendError → OptB
   pub called : call before answer after
   pub left : gathered after ≡ g
 
--- the answer, by that of the closure: its error, or what a push answers
+-- the result of `opt`: the error of the closure, or else the result of the push
 abbrev pub OptAnswers : Option ℕ → Bool → ℕ → ℕ → ℕ → Result (Unit {0}) AppendError → Result (Unit {0}) PushError → Type 0
 OptAnswers room grows limit n count (Err e) result = result ≡ Err (push_error e)
 OptAnswers room grows limit n count (Ok _) result = PushAnswers room grows limit n count result
 
--- What a closure gathers is pushed as an OPT record, for a state: answered so, and where it is accepted the builder stands for the state with the record and the rcode.
+-- The fields and options that a closure sets are pushed as an OPT record. On success the builder represents the state with the record and the rcode.
 pub record PushesOpt (room : Option ℕ) (grows : Bool) (rule : Rule) (call : OptBuilder → Result (Unit {0}) AppendError → OptBuilder → Type 0) (s : State) (new : Built) (result : Result (Unit {0}) PushError) : Type 0 where
   pub g : Gathered
   pub answer : Result (Unit {0}) AppendError

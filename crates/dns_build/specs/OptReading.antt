@@ -1,4 +1,4 @@
--- What reading the octets of a message says of an OPT record that was pushed. RFC 6891 section 6.1.
+-- A pushed OPT record reads back from the octets of the message. RFC 6891 section 6.1.
 use Rattle.std.specs.Prelude.{◌≡◌, ℕ, ◌+◌, ◌*◌, ◌<◌, List, ◌∷◌, ◌++◌, length, Some}
 use Rattle.std.specs.List.{All}
 use Rattle.dns_code.specs.Header.{header_octets, fields}
@@ -11,7 +11,7 @@ use Rattle.dns_build.specs.MessageOf.{ReadsBack}
 use Rattle.dns_build.specs.Opt.{opt_record, with_rcode}
 use Rattle.dns_build.specs.State.{State}
 
--- what an OPT record says that has what was gathered
+-- what the OPT record of `g` says: its fields and options
 abbrev pub said : Gathered → OptItem
 said g = record { fields = g.fields; options = g.options }
 
@@ -19,11 +19,11 @@ said g = record { fields = g.fields; options = g.options }
 abbrev pub HasNoOpt : List RecordItem → Type 0
 HasNoOpt = All (λ x. x.rtype ≡ 41 → ⊥)
 
--- An OPT record that was gathered and is an additional record, behind others that are none, is read back: its fields, its options, and the rcode of which the header has the lower bits.
+-- A gathered OPT record that is the first of the additional section reads back: its fields, its options, and the 12-bit rcode, whose lower four bits are in the header.
 abbrev pub OptsReadBack : Type 0
 OptsReadBack = (g : Gathered) (s : State) (b : List ℕ) (before behind : List RecordItem) → s.additionals ≡ before ++ opt_record g ∷ behind → IsGathered g → HasNoOpt before → ReadsBack s b
     → (opt_of b ≡ Some (said g)) × (opt_rcode_of b ≡ g.fields.ext * 16 + (fields s.header).rcode)
 
--- A header with another rcode has all other fields as they were.
+-- setting the rcode changes no other field of a header
 abbrev pub RcodeIsSet : Type 0
 RcodeIsSet = (header : Header) (rcode : ℕ) → length (header_octets header) ≡ 4 → rcode < 16 → fields (with_rcode rcode header) ≡ record (fields header) { rcode = rcode }

@@ -1,4 +1,4 @@
--- What a data type answers to the records that were pushed. RFC 1035 sections 3.3 and 4.1.3.
+-- What a data type yields of the records that were pushed. RFC 1035 sections 3.3 and 4.1.3.
 use Rattle.std.specs.Prelude.{◌≡◌, ℕ, ◌==◌, List, [], ◌∷◌, filter, map, is_some, IfSome, IsOkAnd, IsSomeAnd, Option, Result, Ok}
 use Rattle.std.specs.List.{All}
 use Rattle.dns_octets.specs.declared.error.ParseError.{ParseError}
@@ -25,15 +25,15 @@ use Rattle.dns_build.specs.State.{State, records_at, stage_of}
 abbrev pub pushed : Section → State → List RecordItem
 pushed which s = records_at (stage_of which) s
 
--- the parts of the record are those that the data type lays out for its type, if it takes the type
+-- if the data type accepts the type of the record, its layout accepts the record's parts
 abbrev pub IsLaidOutBy : (ℕ → Option Layout) → RecordItem → Type 0
 IsLaidOutBy layouts x = IfSome (layouts x.rtype) (λ layout. IsLaidOut layout x.parts)
 
--- the data type takes the type of the record, and lays out its parts
+-- the data type accepts the type of the record, and its layout accepts the record's parts
 abbrev pub IsTakenBy : (ℕ → Option Layout) → RecordItem → Type 0
 IsTakenBy layouts x = IsSomeAnd (layouts x.rtype) (λ layout. IsLaidOut layout x.parts)
 
--- the records whose types a data type takes
+-- the records whose types the data type accepts
 abbrev pub taken : (ℕ → Option Layout) → List RecordItem → List RecordItem
 taken layouts = filter (λ x. is_some (layouts x.rtype))
 
@@ -41,7 +41,7 @@ taken layouts = filter (λ x. is_some (layouts x.rtype))
 abbrev pub of_class_in : List RecordItem → List RecordItem
 of_class_in = filter (λ x. x.class == 1)
 
--- a record stands in octets as it was pushed: its fields are those of the record, whose parts fill the data, and each layout that the parts have answers with the record
+-- a record is in the octets as it was pushed: its fields are those of `x`, the parts of `x` fill its RDATA, and each layout that accepts these parts reads `x`
 pub record StandsAs (b : List ℕ) (x : RecordItem) (standing : StandingRecord) : Type 0 where
   pub octets : standing.octets ≡ b
   pub there : HasSpan standing
@@ -49,44 +49,44 @@ pub record StandsAs (b : List ℕ) (x : RecordItem) (standing : StandingRecord) 
   pub item : item_of standing.entry x.parts ≡ x
   pub answer : (layout : Layout) → IsLaidOut layout x.parts → laid_out standing layout ≡ Ok x
 
--- the items of a reading are such records, one for each, without a fault
+-- the items of a reading are the pushed records, one for one, without a fault
 abbrev pub AllStandAs : List ℕ → List RecordItem → List (Result StandingRecord Fault) → Type 0
 AllStandAs b [] [] = Unit {0}
 AllStandAs b [] (item ∷ items) = ⊥
 AllStandAs b (x ∷ xs) [] = ⊥
 AllStandAs b (x ∷ xs) (item ∷ items) = IsOkAnd item (StandsAs b x) × AllStandAs b xs items
 
--- What holds of all octets that read back as a state. RFC 1035 section 4.1.3.
+-- Theorems over all octets that read back as a state. RFC 1035 section 4.1.3.
 
--- each record that was pushed stands in its section
+-- each pushed record reads back in its section
 abbrev pub PushedRecordsStand : Type 0
 PushedRecordsStand = (s : State) (b : List ℕ) → ReadsBack s b → (which : Section) → AllStandAs b (pushed which s) (records_of which b)
 
--- Where a data type lays out the parts of each pushed record that it takes, it gives of their section exactly these records, in order and without a fault.
+-- If a data type lays out the parts of each pushed record whose type it accepts, it yields exactly these records of the section, in order and without a fault.
 abbrev pub TypedRecordsReadBack : Type 0
 TypedRecordsReadBack = (s : State) (b : List ℕ) → ReadsBack s b → (which : Section) (layouts : ℕ → Option Layout)
     → All (IsLaidOutBy layouts) (pushed which s) → limited layouts (records_of which b) ≡ map Ok (taken layouts (pushed which s))
 
--- the same of a data type that takes every type: all records of the section are given
+-- the same for a data type that accepts every type: it yields all records of the section
 abbrev pub AnyRecordsReadBack : Type 0
 AnyRecordsReadBack = (s : State) (b : List ℕ) → ReadsBack s b → (which : Section) (layouts : ℕ → Layout)
     → All (λ x. IsLaidOut (layouts x.rtype) x.parts) (pushed which s) → limited (every layouts) (records_of which b) ≡ map Ok (pushed which s)
 
--- the same where records of other classes than IN are passed over; these may be of any layout
+-- the same if records of classes other than IN are skipped; these may have any layout
 abbrev pub TypedRecordsInReadBack : Type 0
 TypedRecordsInReadBack = (s : State) (b : List ℕ) → ReadsBack s b → (which : Section) (layouts : ℕ → Option Layout)
     → All (IsLaidOutBy layouts) (of_class_in (pushed which s)) → limited layouts (in_class_in (records_of which b)) ≡ map Ok (taken layouts (of_class_in (pushed which s)))
 
--- What holds of one record that stands as it was pushed, whatever reading its data with a data type answers. RFC 1035 section 4.1.3.
+-- Theorems on one record that is in the octets as it was pushed, for any result of reading its RDATA with a data type. RFC 1035 section 4.1.3.
 module _ {D : Type 0} (rtype_of : D → ℕ) (parts_of : D → List Part) where
-  -- Where the data type takes the type of the record and lays out its parts, a record with the same owner, type, class, TTL and parts is read.
+  -- If the data type accepts the type of the record and lays out its parts, a record with the same owner, type, class, TTL and parts is read.
   abbrev pub ToRecordReadsBack : (ℕ → Option Layout) → Type 0
   ToRecordReadsBack layouts = (b : List ℕ) (x : RecordItem) (standing : StandingRecord) (result : Result (Option (Record ParsedName D)) ParseError)
       → StandsAs b x standing → IsTakenBy layouts x
       → AnswersTaken rtype_of parts_of standing.octets standing.entry (layouts standing.entry.rtype) result
       → IsOkAnd result (λ o. IsSomeAnd o (λ r. record_item labels rtype_of parts_of r ≡ x))
 
-  -- the same of a data type that takes every type
+  -- the same for a data type that accepts every type
   abbrev pub ToAnyRecordReadsBack : (ℕ → Layout) → Type 0
   ToAnyRecordReadsBack layouts = (b : List ℕ) (x : RecordItem) (standing : StandingRecord) (result : Result (Record ParsedName D) ParseError)
       → StandsAs b x standing → IsLaidOut (layouts x.rtype) x.parts
