@@ -1,4 +1,4 @@
-//! A target that compresses names, by an index of the suffixes that it remembers.
+//! A target that compresses names, over an index of the suffixes in its compression table.
 ghost use Rattle.std.specs.Prelude.{◌≡◌, ◌||◌, [], true, ℕ, List, IfOk, OnErr, IsTrue};
 ghost use Rattle.dns_wire.specs.Pieces.{nothing, Plain, put_octets, put_name};
 ghost use Rattle.dns_target.specs.FlatNames.{flat_labels};
@@ -26,20 +26,26 @@ pub struct Compressor<Target: Composer, Index: SuffixIndex> {
     index: Index,
 }
 
-/// A compressor that remembers the first 24 suffixes that it writes out below 16,384, and knows them again octet for octet.
-/// It takes no memory but what its target takes.
+/// A compressor whose table takes the first 24 suffixes that are written as labels below offset
+/// 16,384. It allocates nothing itself. Suffixes match octet for octet.
 pub type StaticCompressor<Target> = Compressor<Target, Places>;
 
-/// A compressor that remembers each suffix that it writes out below 16,384, and knows it again octet for octet.
+/// A compressor whose table takes each suffix that is written as labels below offset 16,384.
+/// Suffixes match octet for octet.
 pub type TreeCompressor<Target> = Compressor<Target, Tree>;
 
-/// A compressor that remembers all suffixes that it writes out of a name, or none of them where one begins at 16,384 or
-/// further on, and knows them again octet for octet. Its hash is fast and has a fixed seed: for names that strangers choose,
-/// [`TreeCompressor`] is the one to use.
+/// A compressor whose table takes all new suffixes of a name, or none of them if one begins at
+/// offset 16,384 or above. Suffixes match octet for octet.
+///
+/// The hash is fast and has a fixed seed. Use [`TreeCompressor`] for names from untrusted input.
 pub type HashCompressor<Target> = Compressor<Target, HashIndex>;
 
-/// A compressor that remembers each suffix that it writes out below 16,384, by its place and its hash, and knows it again
-/// octet for octet. Its hash is fast and has a fixed seed: names with one hash are compared one after another.
+/// A compressor whose table takes each suffix that is written as labels below offset 16,384. The
+/// table has offsets and hashes; labels are compared with the octets written so far. Suffixes match
+/// octet for octet.
+///
+/// The hash is fast and has a fixed seed, and suffixes with equal hashes are compared one by one.
+/// Use [`TreeCompressor`] for names from untrusted input.
 pub type IndexCompressor<Target> = Compressor<Target, Hashes>;
 
 impl<Target: Composer, Index: SuffixIndex> Model for Compressor<Target, Index> {
@@ -57,7 +63,8 @@ impl<Target: Composer, Index: SuffixIndex> Model for Compressor<Target, Index> {
 }
 
 impl<Target: Composer> Compressor<Target, Places> {
-    /// A compressor over a target that doesn't compress. The content stays, and nothing is remembered.
+    /// Returns a compressor over `target`, which must not compress. The octets stay, and the table
+    /// is empty.
     pub fn new(target: Target) -> Self
         requires { Target.rule ≡ Plain }
         ensures { result ≡ record { octets = (Target.written target).octets; memory = nothing } }
@@ -67,9 +74,10 @@ impl<Target: Composer> Compressor<Target, Places> {
 }
 
 impl<Target: Composer> Compressor<Target, Tree> {
-    /// A compressor over a target that doesn't compress. The content stays, and nothing is remembered.
+    /// Returns a compressor over `target`, which must not compress. The octets stay, and the table
+    /// is empty.
     ///
-    /// What is remembered takes memory from `alloc`.
+    /// The table allocates from `alloc`.
     pub fn new(alloc: Global, target: Target) -> Self
         requires { Target.rule ≡ Plain }
         ensures { result ≡ record { octets = (Target.written target).octets; memory = nothing } }
@@ -79,9 +87,10 @@ impl<Target: Composer> Compressor<Target, Tree> {
 }
 
 impl<Target: Composer> Compressor<Target, HashIndex> {
-    /// A compressor over a target that doesn't compress. The content stays, and nothing is remembered.
+    /// Returns a compressor over `target`, which must not compress. The octets stay, and the table
+    /// is empty.
     ///
-    /// What is remembered takes memory from `alloc`.
+    /// The table allocates from `alloc`.
     pub fn new(alloc: Global, target: Target) -> Self
         requires { Target.rule ≡ Plain }
         ensures { result ≡ record { octets = (Target.written target).octets; memory = nothing } }
@@ -91,9 +100,10 @@ impl<Target: Composer> Compressor<Target, HashIndex> {
 }
 
 impl<Target: Composer> Compressor<Target, Hashes> {
-    /// A compressor over a target that doesn't compress. The content stays, and nothing is remembered.
+    /// Returns a compressor over `target`, which must not compress. The octets stay, and the table
+    /// is empty.
     ///
-    /// What is remembered takes memory from `alloc`.
+    /// The table allocates from `alloc`.
     pub fn new(alloc: Global, target: Target) -> Self
         requires { Target.rule ≡ Plain }
         ensures { result ≡ record { octets = (Target.written target).octets; memory = nothing } }
@@ -103,7 +113,7 @@ impl<Target: Composer> Compressor<Target, Hashes> {
 }
 
 impl<Target: Composer, Index: SuffixIndex> Compressor<Target, Index> {
-    /// A compressor over a target that doesn't compress, by an index that holds nothing.
+    /// A compressor over `target` with an empty index.
     fn over(target: Target, index: Index) -> Self
         requires plain { Target.rule ≡ Plain }
         requires empty { Index.spots index ≡ [] }
@@ -113,7 +123,7 @@ impl<Target: Composer, Index: SuffixIndex> Compressor<Target, Index> {
         Compressor { target, index }
     }
 
-    /// The target, which holds the content.
+    /// Returns the target, which holds the octets.
     pub fn as_target(&self) -> &Target
         ensures { Target.written result.now
             ≡ record { octets = self.now.octets; memory = nothing } }
@@ -121,21 +131,21 @@ impl<Target: Composer, Index: SuffixIndex> Compressor<Target, Index> {
         &self.target
     }
 
-    /// The target, which holds the content. What was remembered is given up.
+    /// Returns the target, which holds the octets. The table is dropped.
     pub fn into_target(self) -> Target
         ensures { Target.written result ≡ record { octets = self.octets; memory = nothing } }
     {
         self.target
     }
 
-    /// The content.
+    /// Returns the octets written so far.
     pub fn as_slice(&self) -> &[u8]
         ensures { result.now ≡ self.now.octets }
     {
         self.target.as_slice()
     }
 
-    /// Appends a name, and remembers it.
+    /// Appends a name and adds its new suffixes to the table. Nothing changes on error.
     fn append_name(&mut self, name: FlatName<'_>) -> Result<(), AppendError>
         ensures { Appends Target.room (Index.takes_memory || Target.grows)
             (put_name Index.rule (flat_labels name.entry)) self.old self.new result }
@@ -164,7 +174,7 @@ impl<Target: Composer, Index: SuffixIndex> Compressor<Target, Index> {
 }
 
 impl<Target: CloneTarget, Index: SuffixIndex> Compressor<Target, Index> {
-    /// A compressor with the same content that remembers the same.
+    /// Returns a compressor with the same octets and the same table entries.
     pub fn clone(&self) -> Result<Self, AllocError>
         ensures equal { IfOk result (λ clone. clone ≡ self.now) }
         ensures memory { OnErr result (IsTrue (Index.takes_memory || Target.grows)) }

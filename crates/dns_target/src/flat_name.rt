@@ -1,8 +1,8 @@
-//! Names by their octets without pointers.
+//! Names as their uncompressed octets.
 ghost use Rattle.std.specs.Prelude.{◌≡◌};
 ghost use Rattle.dns_name.specs.Uncompressed.{WholeName, WholeName-prop};
 
-/// A name by its octets without pointers.
+/// A name, as its uncompressed octets.
 #[derive(Clone, Copy)]
 pub(crate) struct FlatName<'a> {
     octets: &'a [u8],
@@ -13,7 +13,7 @@ impl<'a> FlatName<'a> {
     ghost use Rattle.dns_name.specs.Names.{uncompressed};
     ghost use Rattle.dns_target.specs.FlatNames.{flat_labels};
 
-    /// The name that has the octets.
+    /// The name with these octets.
     pub(crate) fn new(octets: &'a [u8]) -> Self
         requires { WholeName octets.now }
         ensures { uncompressed (flat_labels result) ≡ octets.now }
@@ -21,7 +21,7 @@ impl<'a> FlatName<'a> {
         FlatName { octets }
     }
 
-    /// The octets of the name without pointers.
+    /// The uncompressed octets of the name.
     pub(crate) fn octets(&self) -> &'a [u8]
         ensures { result.now ≡ uncompressed (flat_labels self.now) }
     {

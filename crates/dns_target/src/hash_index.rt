@@ -1,4 +1,5 @@
-//! The index of a hash compressor: suffixes of which each is looked up by its first label and the place of the others.
+//! The index of a hash compressor. It finds a suffix by its first label and the offset of its
+//! parent.
 ghost use Rattle.std.specs.Prelude.{◌≡◌, ◌≤◌, [], None, length, drop};
 ghost use Rattle.dns_target.specs.Held.{memory_in};
 ghost use Rattle.dns_target.specs.Indexes.{AreHeld};
@@ -11,13 +12,14 @@ use crate::suffixes::{Key, Suffixes};
 use crate::texts::{Found, reaches};
 use std::alloc::{AllocError, Global};
 
-/// Suffixes, and one of them that the last name ends with: names that follow each other mostly share it, so it is tried first.
+/// The suffixes in the table, and the one that the last name ended with. Consecutive names often
+/// share it, so it is tried first.
 #[derive(Debug, Drop)]
 pub struct HashIndex {
     suffixes: Suffixes,
-    /// Where that suffix was written, if there is one.
+    /// The offset of that suffix, if there is one.
     recent: Option<u16>,
-    /// How many labels it has.
+    /// The number of its labels.
     recent_labels: usize,
 }
 
@@ -33,7 +35,7 @@ impl HashIndex {
         }
     }
 
-    /// The recent suffix where a name ends with it, else no labels of the name.
+    /// Finds the recent suffix if the name ends with it, and else nothing.
     #[inline(always)]
     fn recent_in(&self, content: &[u8], labels: &LabelStarts<'_>) -> Found
         requires held { AreHeld content.now (spots_in self.now.suffixes.suffixes) }
@@ -60,7 +62,8 @@ impl HashIndex {
     }
 }
 
-/// How many of the labels before `from` are remembered of a name at a place: all or none.
+/// The number of suffixes to add for a name at offset `place`, whose new suffixes begin at the
+/// labels before `from`: all of these, or none if one begins at 16,384 or above.
 fn near_count(labels: &LabelStarts<'_>, place: usize, from: usize) -> usize
     requires { from ≤ length labels.now }
     ensures { result ≡ near_count_of place labels.now from }
@@ -72,7 +75,8 @@ fn near_count(labels: &LabelStarts<'_>, place: usize, from: usize) -> usize
     }
 }
 
-/// Where the suffix begins that is tried first for the next name: what was found of a name, else all of it.
+/// The first label of the suffix to try first for the next name: of the suffix that was found, or
+/// else of the whole name.
 fn shared_from(found: Found) -> usize
     ensures { result ≤ found.from }
 {

@@ -8,7 +8,7 @@ use arrayvec::ArrayVec;
 use std::alloc::AllocError;
 use std::marker::Model;
 
-/// A label and its hash, by which it is mostly told from others.
+/// A label and its hash. Labels are only compared if their hashes are equal.
 #[derive(Debug, Drop)]
 pub(crate) struct HashedLabel {
     octets: ArrayVec<u8, 63>,
@@ -41,7 +41,7 @@ impl HashedLabel {
         }
     }
 
-    /// Whether it is a given label, which has this hash.
+    /// Whether this is `label`, which has this hash.
     #[inline]
     pub(crate) fn is(&self, label: &[u8], hash: u32) -> bool
         requires { hash ≡ octets_hash label.now }

@@ -1,10 +1,10 @@
-//! The hash by which octets are mostly told from others.
+//! A hash of octets, which spares comparing them.
 ghost use Rattle.std.specs.Prelude.{◌≡◌};
 ghost use Rattle.dns_target.specs.OctetHashes.{octets_hash as hash_of};
 
 use std::hash::{FoldHasher, Hasher};
 
-/// The hash of octets: a fast one, with a fixed seed.
+/// The hash of octets. It is fast and has a fixed seed.
 #[inline(always)]
 pub(crate) fn octets_hash(octets: &[u8]) -> u32
     ensures { result ≡ hash_of octets.now }
