@@ -1,4 +1,4 @@
--- Names by their octets without pointers.
+-- Names as their uncompressed octets.
 use Rattle.dns_name.specs.Names.{Labels}
 use Rattle.dns_target.specs.declared.flat_name.FlatName.{FlatName}
 

@@ -1,4 +1,4 @@
--- The hashes of octets: those of labels and of whole names.
+-- The hash of octets, of labels and of whole names.
 use Rattle.std.specs.Prelude.{ℕ, ◌/◌, ◌^◌, List}
 use Rattle.std.specs.Hash.FoldHasher.{initial, write, finish}
 
