@@ -1,4 +1,4 @@
--- The questions that are pushed when an answer is started, and the answer's header.
+-- The questions pushed when an answer is started, and the header of the answer.
 use Rattle.std.proofs.Common.{◌≡◌, ◌⊎◌, ℕ, ◌+◌, ◌*◌, Bool, true, min, max, nat_eq, Option, Result, Ok, Err, List, [], ◌∷◌, ◌++◌, append_assoc, append-nil, bit_and, bit_or, slice_index, ap, sym, ◌∙◌, refl, subst, inl, inr, arith}
 use Rattle.std.proofs.lemmas.Nat.Bits.{bit_at_and, bit_at_or, bit_at-lt}
 use Rattle.std.specs.List.{filter_map}
@@ -17,12 +17,12 @@ use Rattle.dns_build.specs.Standing.{Built, StandsFor, MovesState, InEach}
 use Rattle.dns_build.specs.State.{State, InQuestion, with_question, with_questions}
 use Rattle.dns_build.specs.declared.push_error.PushError.{PushError}
 
--- no list without elements has a place
+-- an empty list has no element
 none_there : {X : Type 0} (before behind : List X) (x : X) → [] ≡ before ++ x ∷ behind → ⊥
 none_there [] behind x is = cc
 none_there (y ∷ before) behind x is = cc
 
--- a place in a list with one element more is its end, or a place in the list
+-- an element of a list with one more element is the last one, or is in the list
 at_end_or_before : {X : Type 0} (xs before behind : List X) (x y : X) → xs ++ x ∷ [] ≡ before ++ y ∷ behind
     → ((before ≡ xs) × (y ≡ x)) ⊎ ((less : List X) × (xs ≡ before ++ y ∷ less))
 at_end_or_before [] [] behind x y is = inl (refl, cc)
@@ -39,11 +39,11 @@ at_end_or_before {X} (w ∷ xs) (z ∷ before) behind x y is =
     by (inr p) same = inr (p.0, (λ i. same i ∷ p.1 i))
 
 module _ (room : Option ℕ) (grows : Bool) (rule : Rule) (s : State) where
-  -- no question is accepted
+  -- an empty list of questions can be pushed
   pub none_accepted : AreAccepted room grows rule s []
   none_accepted before x behind is = absurd (none_there before behind x is)
 
-  -- and one more is
+  -- if one more question can be pushed, all of them can
   one_accepted : (xs : List QuestionItem) (x : QuestionItem) → AreAccepted room grows rule s xs → AnswersQuestion room grows rule x (with_questions xs s) (Ok tt)
       → AreAccepted room grows rule s (xs ++ x ∷ [])
   one_accepted xs x accepted more before y behind is = by (at_end_or_before xs before behind x y is)
@@ -52,14 +52,14 @@ module _ (room : Option ℕ) (grows : Bool) (rule : Rule) (s : State) where
       by (inl p) = subst (λ (q : QuestionItem × List QuestionItem). AnswersQuestion room grows rule q.0 (with_questions q.1 s) (Ok tt)) (λ i. (sym p.1 i, sym p.0 i)) more
       by (inr p) = accepted before y p.0 p.1
 
-  -- Where the pushes of questions have come to: the first are accepted, and the rest is left.
+  -- During a push of the questions `xs`: those before `rest` are pushed.
   pub record Pushing (xs rest : List QuestionItem) (now : Built) : Type 0 where
     pub first : List QuestionItem
     pub all : xs ≡ first ++ rest
     pub accepted : AreAccepted room grows rule s first
     pub stands : StandsFor InQuestion rule (with_questions first s) now
 
-  -- at first the rest is all
+  -- at first all questions remain
   pub begins : (xs rest : List QuestionItem) (now : Built) → rest ≡ xs → StandsFor InQuestion rule s now → Pushing xs rest now
   begins xs rest now is stands = record {
     first = [];
@@ -68,7 +68,7 @@ module _ (room : Option ℕ) (grows : Bool) (rule : Rule) (s : State) where
     stands = let same : s ≡ with_questions [] s = λ i. record s { questions = sym (append-nil s.questions) i } in subst (λ (t : State). StandsFor InQuestion rule t now) same stands;
   }
 
-  -- at the end nothing is left
+  -- at the end none remains
   pub ends : (xs rest : List QuestionItem) (now : Built) → rest ≡ [] → Pushing xs rest now → Asks room grows rule s xs (Ok tt) now
   ends xs rest now is p =
       let all : p.first ≡ xs = sym (append-nil p.first) ∙ ap (λ (ys : List QuestionItem). p.first ++ ys) (sym is) ∙ sym p.all in
@@ -78,7 +78,7 @@ module _ (room : Option ℕ) (grows : Bool) (rule : Rule) (s : State) where
     behind : (p : Pushing xs rest old) → xs ≡ p.first ++ x ∷ less
     behind p = p.all ∙ ap (λ (ys : List QuestionItem). p.first ++ ys) is
 
-    -- a question is pushed
+    -- the next question is pushed
     pub takes-next : InEach InQuestion rule old (λ t. AnswersQuestion room grows rule x t (Ok tt)) → MovesState InQuestion InQuestion rule (with_question x) old new
         → Pushing xs rest old → Pushing xs less new
     takes-next fits moves p = record {
@@ -90,7 +90,7 @@ module _ (room : Option ℕ) (grows : Bool) (rule : Rule) (s : State) where
           subst (λ (t : State). StandsFor InQuestion rule t new) same (moves (with_questions p.first s) p.stands);
     }
 
-    -- a question is refused
+    -- pushing the next question fails
     pub refuses-next : (e : PushError) → InEach InQuestion rule old (λ t. AnswersQuestion room grows rule x t (Err e)) → new ≡ old → Pushing xs rest old → Asks room grows rule s xs (Err e) new
     refuses-next e refused same p = (
       p.first,
@@ -98,17 +98,17 @@ module _ (room : Option ℕ) (grows : Bool) (rule : Rule) (s : State) where
       subst (StandsFor InQuestion rule (with_questions p.first s)) (sym same) p.stands,
     )
 
--- behind a question that was read are the other readable ones
+-- after a question that was read come the other readable ones
 pub readable-next : (rest left : List (Result QuestionItem Fault)) (x : QuestionItem) → rest ≡ Ok x ∷ left → filter_map result_ok rest ≡ x ∷ filter_map result_ok left
 readable-next rest left x is = ap (filter_map result_ok) is
 
--- a fault is the last
+-- a fault is the last item
 pub readable-fault : (rest : List (Result QuestionItem Fault)) (new : QuestionSection) (f : Fault) (e : ParseError) → rest ≡ Err f ∷ questions_left new → to_come new ≡ Err e → filter_map result_ok rest ≡ []
 readable-fault rest new f e is faulted =
     ap (filter_map result_ok) is
     ∙ ap (λ (left : Result ℕ ParseError). filter_map result_ok (items_left (λ n. questions_from (octets_of new) n (position new)) left)) faulted
 
--- either builder is taken
+-- the builder is taken from `Ok` or from `Err`
 pub takes_either : (room : Option ℕ) (grows : Bool) (rule : Rule) (s : State) (xs : List QuestionItem) (result : Result Built Built) (b : Built)
     → (result ≡ Ok b) ⊎ (result ≡ Err b) → GivesEither room grows rule s xs result → IsEither room grows rule s xs b
 takes_either room grows rule s xs result b (inl is) gives = inl (subst (GivesEither room grows rule s xs) is gives)
@@ -120,15 +120,15 @@ second_bit own asked k =
     bit_at_or (bit_or (bit_and own 6) (bit_and asked 121)) 128 k
     ∙ ap (λ (t : ℕ). max t (bits 128 k 1)) (bit_at_or (bit_and own 6) (bit_and asked 121) k ∙ (λ i. max (bit_at_and own 6 k i) (bit_at_and asked 121 k i)))
 
--- and of octet 3
+-- a bit of octet 3 of an answer's header
 third_bit : (own rcode k : ℕ) → bits (bit_or (bit_and own 240) rcode) k 1 ≡ max (min (bits own k 1) (bits 240 k 1)) (bits rcode k 1)
 third_bit own rcode k = bit_at_or (bit_and own 240) rcode k ∙ ap (λ (t : ℕ). max t (bits rcode k 1)) (bit_at_and own 240 k)
 
--- a bit that is the same
+-- bits that are equal as numbers are equal as Booleans
 same_bit : (m n k : ℕ) → bits n k 1 ≡ bits m k 1 → bit n k ≡ bit m k
 same_bit m n k same = ap (λ (x : ℕ). nat_eq x 1) same
 
--- the opcode stays with its four bits
+-- octets with the same four opcode bits have the same opcode
 opcode_kept : (m n : ℕ) → bits n 3 1 ≡ bits m 3 1 → bits n 4 1 ≡ bits m 4 1 → bits n 5 1 ≡ bits m 5 1 → bits n 6 1 ≡ bits m 6 1 → bits n 3 4 ≡ bits m 3 4
 opcode_kept m n h3 h4 h5 h6 = omega arith
 

@@ -1,4 +1,4 @@
--- How the parts of a copy are put together.
+-- How the steps of a copy combine.
 use Rattle.std.proofs.Common.{◌≡◌, sym, refl, subst, ap, ℕ, ◌<◌, ◌≤◌, Bool, List, [], ◌∷◌, length}
 use Rattle.std.specs.Prelude.{Option, Result, Ok, Err, OnOk, OnErr, IsTrue}
 use Rattle.dns_octets.specs.declared.error.ParseError.{ParseError}
@@ -35,17 +35,17 @@ pushes_record room grows rule stage x s old new (Err e) stands accepted same fit
 )
 
 module _ {F R : Type 0} (call : F → ParsedRecord → Option R → F → Type 0) (item : R → RecordItem) (room : Option ℕ) (grows : Bool) (rule : Rule) (stage : Stage) where
-  -- what is copied so far of a reading: whatever copying the rest gives, copying the whole gives
+  -- a reading is copied up to `ys`: whatever copying `ys` gives, copying all of `xs` gives
   pub record SoFar (xs : List (Result StandingRecord Fault)) (f : F) (s : State) (ys : List (Result StandingRecord Fault)) (g : F) (now : Built) : Type 0 where
     pub state : State
     pub stands : StandsFor stage rule state now
     pub rest : (result : Result (Unit {0}) CopyRecordsError) (h : F) (u : State) → CopiesList call item room grows rule stage ys g state result h u → CopiesList call item room grows rule stage xs f s result h u
 
-  -- nothing is copied
+  -- nothing is copied yet
   pub so_far_none : (xs : List (Result StandingRecord Fault)) (f : F) (s : State) (now : Built) → StandsFor stage rule s now → SoFar xs f s xs f now
   so_far_none xs f s now stands = record { state = s; stands = stands; rest = λ result h u c. c }
 
-  -- one record more
+  -- one more record is copied
   pub so_far_more : (xs : List (Result StandingRecord Fault)) (f : F) (s : State) (ys : List (Result StandingRecord Fault)) (g : F) (now : Built) (x : StandingRecord) (zs : List (Result StandingRecord Fault)) (h : F) (new : Built)
       → SoFar xs f s ys g now → ys ≡ Ok x ∷ zs → ((t : State) → StandsFor stage rule t now → CopiesRecordTo call item room grows rule stage x g t (Ok tt) h new) → SoFar xs f s zs h new
   so_far_more xs f s ys g now x zs h new p is step =
@@ -56,19 +56,19 @@ module _ {F R : Type 0} (call : F → ParsedRecord → Option R → F → Type 0
         rest = λ result k u c. p.rest result k u (subst (λ (l : List (Result StandingRecord Fault)). CopiesList call item room grows rule stage l g p.state result k u) (sym is) (copied made.1 c));
       }
 
-  -- all is copied
+  -- all records are copied
   pub so_far_all : (xs : List (Result StandingRecord Fault)) (f : F) (s : State) (ys : List (Result StandingRecord Fault)) (g : F) (now : Built) → SoFar xs f s ys g now → ys ≡ []
       → CopiesListTo call item room grows rule stage xs f s (Ok tt) g now
   so_far_all xs f s ys g now p is =
       (p.state, p.rest (Ok tt) g p.state (subst (λ (l : List (Result StandingRecord Fault)). CopiesList call item room grows rule stage l g p.state (Ok tt) g p.state) (sym is) none), p.stands)
 
-  -- a fault is next
+  -- the next item is a fault
   pub so_far_fault : (xs : List (Result StandingRecord Fault)) (f : F) (s : State) (ys : List (Result StandingRecord Fault)) (g : F) (now : Built) (e : ParseError) (zs : List (Result StandingRecord Fault))
       → SoFar xs f s ys g now → ys ≡ Err (fault_of e) ∷ zs → CopiesListTo call item room grows rule stage xs f s (Err (Parse e)) g now
   so_far_fault xs f s ys g now e zs p is =
       (p.state, p.rest (Err (Parse e)) g p.state (subst (λ (l : List (Result StandingRecord Fault)). CopiesList call item room grows rule stage l g p.state (Err (Parse e)) g p.state) (sym is) fault), p.stands)
 
-  -- the next record is refused
+  -- pushing the next record fails
   pub so_far_refused : (xs : List (Result StandingRecord Fault)) (f : F) (s : State) (ys : List (Result StandingRecord Fault)) (g : F) (now : Built) (x : StandingRecord) (zs : List (Result StandingRecord Fault)) (e : PushError) (h : F) (new : Built)
       → SoFar xs f s ys g now → ys ≡ Ok x ∷ zs → ((t : State) → StandsFor stage rule t now → CopiesRecordTo call item room grows rule stage x g t (Err e) h new)
       → CopiesListTo call item room grows rule stage xs f s (Err (Push e)) h new

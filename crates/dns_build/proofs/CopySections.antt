@@ -1,4 +1,4 @@
--- How copies of sections are put together.
+-- How the copies of sections combine.
 use Rattle.std.proofs.Common.{◌≡◌, ◌∙◌, subst, ap, inr, ℕ, Bool, List, [], ◌∷◌}
 use Rattle.std.specs.Prelude.{Option, Some, Result, Ok, Err}
 use Rattle.dns_octets.specs.declared.error.ParseError.{ParseError}
@@ -22,7 +22,7 @@ use Rattle.dns_build.specs.Standing.{Built, StandsFor, MovesState, InEach}
 use Rattle.dns_build.specs.declared.copy_records_error.CopyRecordsError.{CopyRecordsError}
 use Rattle.dns_build.specs.declared.copy_records_error.CopyRecordsError.TheVariants.{Parse}
 
--- a state of the answer section is moved to that section already
+-- moving a state at the answer section to that section changes nothing
 in_answer_already : (s : State) → s.stage ≡ InAnswer → s ≡ up_to InAnswer s → s ≡ move_to InAnswer s
 in_answer_already s here last = (λ i. record s { stage = here i }) ∙ ap (λ (t : State). record t { stage = InAnswer }) last
 
@@ -40,21 +40,21 @@ next_fault which next b cursor e behind begins stops =
     start_fault which next b (position cursor) (fault_of e) behind begins.start there
 
 module _ {F R : Type 0} (call : F → ParsedRecord → Option R → F → Type 0) (item : R → RecordItem) (room : Option ℕ) (grows : Bool) (rule : Rule) (b : List ℕ) where
-  -- some sections are copied, these are left, and the builder has moved to the first of them
+  -- some sections are copied, `which` and `sections` remain, and the builder has moved to `which`
   pub record Entered (f : F) (s : State) (which : Section) (sections : List Section) (g : F) (now : Built) : Type 0 where
     pub state : State
     pub stands : StandsFor (stage_of which) rule (move_to (stage_of which) state) now
     pub rest : (result : Result (Unit {0}) CopyRecordsError) (h : F) (u : State) → CopiesSections call item room grows rule b (which ∷ sections) g state result h u
         → CopiesSections call item room grows rule b record_sections f s result h u
 
-  -- some sections are copied, and these are left
+  -- some sections are copied, and `sections` remain
   pub record Left (f : F) (s : State) (stage : Stage) (sections : List Section) (g : F) (now : Built) : Type 0 where
     pub state : State
     pub stands : StandsFor stage rule state now
     pub rest : (result : Result (Unit {0}) CopyRecordsError) (h : F) (u : State) → CopiesSections call item room grows rule b sections g state result h u
         → CopiesSections call item room grows rule b record_sections f s result h u
 
-  -- nothing is copied
+  -- nothing is copied yet
   pub enters_first : (f : F) (s : State) (now : Built) → StandsFor InAnswer rule s now → Entered f s Answer (Authority ∷ Additional ∷ []) f now
   enters_first f s now stands = record {
     state = s;
@@ -67,7 +67,7 @@ module _ {F R : Type 0} (call : F → ParsedRecord → Option R → F → Type 0
       → MovesState stage (stage_of which) rule (move_to (stage_of which)) now new → Entered f s which sections g new
   enters f s stage which sections g now new p moves = record { state = p.state; stands = moves p.state p.stands; rest = p.rest }
 
-  -- the copy of a section's records is one of the section
+  -- copying the records of a section from its start copies the section
   from_start : (which : Section) (cursor : RecordSection) (f g : F) (s t : State) (result : Result (Unit {0}) CopyRecordsError) → BeginsSection which b cursor
       → CopiesList call item room grows rule (stage_of which) (records_left cursor) f s result g t → CopiesSection call item room grows rule b which f s result g t
   from_start which cursor f g s t result begins copies =
@@ -89,7 +89,7 @@ module _ {F R : Type 0} (call : F → ParsedRecord → Option R → F → Type 0
       → CopiesMessage call item room grows rule b f s (Err (Parse e))
   stops_before f s which sections g now e p faulty = (g, move_to (stage_of which) p.state, p.rest (Err (Parse e)) g _ (stopped (unstarted faulty)))
 
-  -- the copy of a section stops
+  -- the copy of a section stops at an error
   pub stops_within : (f : F) (s : State) (which : Section) (sections : List Section) (g h : F) (now new : Built) (cursor : RecordSection) (e : CopyRecordsError) → Entered f s which sections g now → BeginsSection which b cursor
       → InEach (stage_of which) rule now (λ t. CopiesListTo call item room grows rule (stage_of which) (records_left cursor) g t (Err e) h new) → CopiesMessage call item room grows rule b f s (Err e)
   stops_within f s which sections g h now new cursor e p begins copies =

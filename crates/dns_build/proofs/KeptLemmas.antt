@@ -1,4 +1,4 @@
--- What a copy keeps.
+-- What a copy leaves.
 use Rattle.std.proofs.Common.{◌≡◌, ◌∙◌, ap, sym, refl, subst, append_assoc, ℕ, Bool, List, [], ◌∷◌}
 use Rattle.std.proofs.lemmas.List.{append-nil}
 use Rattle.std.specs.Prelude.{Option, Some, None, option_map, Result, Ok}
@@ -19,7 +19,7 @@ use Rattle.dns_build.specs.State.{Stage, InBuilder, InQuestion, InAnswer, InAuth
 use Rattle.dns_build.specs.Standing.{Built, StandsFor}
 use Rattle.dns_build.specs.declared.copy_records_error.CopyRecordsError.{CopyRecordsError}
 
--- with no records, and with the first of some
+-- appending no records changes nothing
 no_records : (stage : Stage) (s : State) → s ≡ with_records stage [] s
 no_records InBuilder s = refl
 no_records InQuestion s = refl
@@ -35,7 +35,7 @@ one_more InAuthority x xs s = λ i. record s { authorities = append_assoc s.auth
 one_more InAdditional x xs s = λ i. record s { additionals = append_assoc s.additionals (x ∷ []) xs i }
 
 module _ {F R : Type 0} (call : F → ParsedRecord → Option R → F → Type 0) (item : R → RecordItem) (room : Option ℕ) (grows : Bool) (rule : Rule) where
-  -- a reading is kept so, and the state has what is kept
+  -- the closure returns some records of a reading, and the state has them in its section
   record KeepsList (stage : Stage) (xs : List (Result StandingRecord Fault)) (f : F) (s : State) (g : F) (t : State) : Type 0 where
     items : List RecordItem
     keeps : Keeps call item xs f items g
@@ -63,7 +63,7 @@ module _ {F R : Type 0} (call : F → ParsedRecord → Option R → F → Type 0
   keeps_list stage (refused one) e = absurd (cc)
   keeps_list stage fault e = absurd (cc)
 
-  -- so of a section
+  -- the same for a section of the message
   record KeepsOf (b : List ℕ) (section : Section) (f : F) (s : State) (g : F) (t : State) : Type 0 where
     items : List RecordItem
     keeps : KeepsSection call item b section f items g
@@ -76,7 +76,7 @@ module _ {F R : Type 0} (call : F → ParsedRecord → Option R → F → Type 0
       record { items = k.items; keeps = record { start = p; starts = starts; keeps = k.keeps }; left = k.left }
   keeps_section b section (unstarted faulty) e = absurd (cc)
 
-  -- the first of some sections, and those behind it
+  -- copying sections copies the first, and then the others
   first_of : (b : List ℕ) (which : Section) (sections : List Section) {f h : F} {s u : State} {result : Result (Unit {0}) CopyRecordsError} → CopiesSections call item room grows rule b (which ∷ sections) f s result h u → result ≡ Ok tt
       → (g : F) × (t : State) × KeepsOf b which f (move_to (stage_of which) s) g t × CopiesSections call item room grows rule b sections g t result h u
   first_of b which sections (section_copied {g = g} {t = t} one rest) e = (g, t, keeps_section b which one refl, rest)

@@ -1,4 +1,4 @@
--- A builder is known by the state that it stands for.
+-- A builder is determined by the state that it represents.
 use Rattle.std.proofs.Common.{◌≡◌, ◌∙◌, sym, refl, subst, List}
 use Rattle.dns_item.specs.Items.{RecordItem}
 use Rattle.dns_build.specs.KnownByState.{BuildersAreKnown, PushesLeaveNothing, RewindsLeaveNothing}
@@ -12,7 +12,7 @@ builders_are_known stage rule s a b h k =
     let starts = h.starts ∙ sym k.starts in
     λ i. record { written = written i; limit = limit i; starts = starts i }
 
--- a rewind takes records that were pushed out again
+-- a rewind removes records that were pushed
 records_rewound : (stage : Stage) (xs : List RecordItem) (s : State) → rewound stage (with_records stage xs s) ≡ rewound stage s
 records_rewound InBuilder xs s = refl
 records_rewound InQuestion xs s = refl
@@ -20,7 +20,7 @@ records_rewound InAnswer xs s = refl
 records_rewound InAuthority xs s = refl
 records_rewound InAdditional xs s = refl
 
--- items that a rewind takes out leave nothing
+-- items that a rewind removes leave no trace
 leave_nothing : {X : Type 0} (stage : Stage) (with_items : List X → State → State) → ((xs : List X) (s : State) → rewound stage (with_items xs s) ≡ rewound stage s)
     → PushesLeaveNothing stage with_items
 leave_nothing stage with_items out rule s xs empty full new emptied pushed moves =

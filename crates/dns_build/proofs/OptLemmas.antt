@@ -1,4 +1,4 @@
--- What is gathered for an OPT record is pushed.
+-- Pushing the OPT record that a closure gathers.
 use Rattle.std.proofs.Common.{◌≡◌, ap, sym, refl, subst, ℕ, ◌<◌, ◌≤◌, Bool, List, [], ◌∷◌, length, arith}
 use Rattle.std.specs.Option.{option_map_or}
 use Rattle.std.specs.Prelude.{Option, Some, None, is_some, Result, Ok, Err, IsTrue}
@@ -18,30 +18,30 @@ use Rattle.dns_build.specs.Standing.{PushAnswers, push_error}
 use Rattle.dns_build.specs.declared.push_error.PushError.{PushError}
 use Rattle.dns_build.specs.declared.push_error.PushError.TheVariants.{CountOverflow, LimitExceeded, ShortBuf, OutOfMemory}
 
--- an item with the fields of the OPT record of what was gathered
+-- a record with the fields of the OPT record of `g` is that record
 pub same_item : (x : RecordItem) (g : Gathered) → x.owner ≡ [] → x.rtype ≡ 41 → x.class ≡ g.fields.udp_payload_size → x.ttl ≡ ttl_in g.fields → x.parts ≡ Octets (put_options g.options) ∷ [] → x ≡ opt_record g
 same_item x g o r c t p = λ i. record { owner = o i; rtype = r i; class = c i; ttl = t i; parts = p i }
 
--- the causes of a refused push, one by one
+-- the result of a failed push, from the cause of each error
 pub refused_answers : (room : Option ℕ) (grows : Bool) (limit n count : ℕ) (e : PushError) → (e ≡ ShortBuf → Passes room n) → (e ≡ OutOfMemory → IsTrue grows) → (e ≡ LimitExceeded → Fits room n × (limit < n)) → (e ≡ CountOverflow → Fits room n × (n ≤ limit) × (count ≡ most_entries)) → PushAnswers room grows limit n count (Err e)
 refused_answers room grows limit n count CountOverflow s m l c = c refl
 refused_answers room grows limit n count LimitExceeded s m l c = l refl
 refused_answers room grows limit n count ShortBuf s m l c = s refl
 refused_answers room grows limit n count OutOfMemory s m l c = m refl
 
--- the answer where the closure refused, and where it didn't
+-- the result if the closure fails, and if it doesn't
 pub closure_refused : (room : Option ℕ) (grows : Bool) (limit n count : ℕ) (e : AppendError) (r : Result (Unit {0}) AppendError) → r ≡ Err e → OptAnswers room grows limit n count r (Err (push_error e))
 closure_refused room grows limit n count e r is = subst (λ (x : Result (Unit {0}) AppendError). OptAnswers room grows limit n count x (Err (push_error e))) (sym is) refl
 
 pub closure_done : (room : Option ℕ) (grows : Bool) (limit n count : ℕ) (r : Result (Unit {0}) AppendError) (result : Result (Unit {0}) PushError) → r ≡ Ok tt → PushAnswers room grows limit n count result → OptAnswers room grows limit n count r result
 closure_done room grows limit n count r result is told = subst (λ (x : Result (Unit {0}) AppendError). OptAnswers room grows limit n count x result) (sym is) told
 
--- the list that octets are, by the answer that they are one
+-- if octets are a list of options, `options_of` gives this list
 list_in : (b : List ℕ) (o : Option (List OptionItem)) → options_of b ≡ o → IsTrue (is_some o) → AreOptions b (option_map_or (λ (xs : List OptionItem). xs) o [])
 list_in b (Some xs) e h = options_of-holds b xs e
 list_in b None e h = absurd (cc)
 
--- what a builder has gathered can be gathered, since its TTL is a number of 32 bits
+-- what an `OptBuilder` has gathered satisfies `IsGathered`, since its TTL has 32 bits
 pub is_gathered : (b : OptBuilder) → (gathered b).fields.ext < 256 → IsGathered (gathered b)
 is_gathered b ext = record {
   rcode = omega arith;

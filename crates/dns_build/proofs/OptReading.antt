@@ -1,4 +1,4 @@
--- An OPT record that was pushed is read back.
+-- A pushed OPT record reads back.
 use Rattle.std.proofs.Common.{◌≡◌, ◌∙◌, ap, sym, refl, subst, ℕ, ◌+◌, ◌*◌, ◌/◌, ◌%◌, ◌-◌, ◌<◌, Bool, true, false, List, [], ◌∷◌, ◌++◌, length, map, take, drop, arith, rules, tests}
 use Rattle.std.proofs.lemmas.Grind.{common_steps}
 use Rattle.std.proofs.lemmas.List.{drop-take}
@@ -41,46 +41,46 @@ use Rattle.dns_build.specs.OptReading.{said, HasNoOpt, OptsReadBack, RcodeIsSet}
 use Rattle.dns_build.specs.State.{State}
 use Rattle.dns_build.proofs.OptLemmas.{same_item}
 
--- entries that are read from octets, as the items of a reading
+-- entries that were read from octets, as the items of a reading
 abbrev pub items_of : List ℕ → List RecordEntry → List (Result StandingRecord Fault)
 items_of b entries = let read : List (Result RecordEntry Fault) = map Ok entries in map (in_octets b) read
 
--- a reading of entries alone is what is read at its place
+-- a reading without a fault is the one reading at its offset
 pub records_in-entries : (b : List ℕ) (n p : ℕ) (entries : List RecordEntry) → ReadingRecords b n p (map Ok entries) → records_in b n p ≡ items_of b entries
 unfolding records_in
 records_in-entries b n p entries reading = ap (map (in_octets b)) ((records_from_are_read b).only n p (map Ok entries) reading)
 
--- the additional section of octets that read back is read as the entries there
+-- the additional section of octets that read back is read as its entries
 additionals_read : (s : State) (b : List ℕ) (h : ReadsBack s b) → records_of Additional b ≡ items_of b h.additionals.entries
 additionals_read s b h =
     ap (λ (o : Option ℕ). option_map_or (records_in b (additional_count b)) o []) (start_found Additional b h.additionals_start h.additionals_at)
     ∙ records_in-entries b (additional_count b) h.additionals_start h.additionals.entries h.additionals.reading
 
--- a reading that begins with an entry reads it there, and the rest behind it
+-- a reading that begins with an entry reads it at its offset, and the remaining items after it
 pub first_read : {b : List ℕ} {n p : ℕ} {e : RecordEntry} {xs : List (Result RecordEntry Fault)} → ReadingRecords b n p (Ok e ∷ xs)
     → (m : ℕ) × (q : ℕ) × ReadsRecord b p q e × ReadingRecords b m q xs
 first_read (entry {n = n} {q = q} reads rest) = (n, q, reads, rest)
 
--- octets that fill the data are all octets from its start to its end
+-- octets that fill the RDATA are all octets from its start to its end
 data_filled : (b : List ℕ) (start end : ℕ) (octets : List ℕ) → PartsStand b end start (Octets octets ∷ []) → drop start (take end b) ≡ octets
 data_filled b start end octets h =
     let size : length octets ≡ start + length octets - start = omega arith in
     ap (λ (n : ℕ). drop start (take n b)) (sym h.1) ∙ drop-take start (length octets) b ∙ ap (λ (n : ℕ). take n (drop start b)) size ∙ h.0
 
--- the octets of options that were gathered are data of an OPT record
+-- gathered options are valid RDATA of an OPT record
 gathered_accepted : (g : Gathered) → IsGathered g → IsTrue (is_opt_data (put_options g.options))
 gathered_accepted g ok =
     let e : options_of (put_options g.options) ≡ Some g.options = options_of-is (put_options g.options) g.options ok.listed in
     let short = ok.short in
     rw e (search (rules, tests))
 
--- a record that tells what was gathered
+-- an entry that was read as the OPT record of `g`
 module _ (g : Gathered) (b : List ℕ) (p q : ℕ) (e : RecordEntry) (ok : IsGathered g) (reads : ReadsRecord b p q e) (tells : TellsRecord b e (opt_record g)) where
-  -- the record where it stands
+  -- the entry with the octets that it is read from
   abbrev standing : StandingRecord
   standing = record { octets = b; entry = e }
 
-  -- its data lies within the octets
+  -- its RDATA is within the octets
   data_within : HasSpan standing
   data_within =
       let filled = tells.parts.1 in
@@ -88,7 +88,7 @@ module _ (g : Gathered) (b : List ℕ) (p q : ℕ) (e : RecordEntry) (ok : IsGat
       let within = reads.skips.within in
       record { start = omega arith; end = omega arith }
 
-  -- its data is that of an OPT record
+  -- its RDATA is the options, by the layout of OPT
   data_stands : HasData b e opt_layout (Octets (put_options g.options) ∷ [])
   data_stands =
       let filled = data_filled b e.data_start e.data_end (put_options g.options) tells.parts in
@@ -96,7 +96,7 @@ module _ (g : Gathered) (b : List ℕ) (p q : ℕ) (e : RecordEntry) (ok : IsGat
       let end : e.data_end ≡ length (take e.data_end b) = grind (arith, common_steps) in
       (end, ap (λ (octets : List ℕ). Octets octets ∷ []) (sym filled), rw filled (gathered_accepted g ok))
 
-  -- so it is answered as the record that was pushed
+  -- so `Opt` reads it as the record that was pushed
   opt_answered : answer_to (only 41 opt_layout) standing ≡ Some (Ok (opt_record g))
   opt_answered =
       let parts : List Part = Octets (put_options g.options) ∷ [] in
@@ -104,17 +104,17 @@ module _ (g : Gathered) (b : List ℕ) (p q : ℕ) (e : RecordEntry) (ok : IsGat
       ∙ ap (λ (r : Result (List Part) Fault). Some (with_parts e r)) (data_is_answered.only standing opt_layout (Ok parts) (whole data_within data_stands))
       ∙ ap (λ (x : RecordItem). let r : Result RecordItem Fault = Ok x in Some r) (same_item (item_of e parts) g tells.owner tells.rtype tells.class tells.ttl refl)
 
--- a record of another type isn't answered
+-- `Opt` skips a record of another type
 others_unanswered : (x : StandingRecord) → (x.entry.rtype ≡ 41 → ⊥) → answer_to (only 41 opt_layout) x ≡ None
 others_unanswered x other =
     let e : (x.entry.rtype == 41) ≡ false = search (rules, tests) in
     ap (λ (t : Bool). option_map (laid_out x) (if t then Some opt_layout else None)) e
 
--- the first value that is answered to a reading, by the answer to its first record
+-- the first value that `Opt` yields, by what it yields of the first record
 abbrev first_by : List ℕ → List RecordEntry → Option (Result RecordItem Fault) → Option RecordItem
 first_by b entries answer = first_value (cons_option answer (limited (only 41 opt_layout) (items_of b entries)))
 
--- the first OPT record among entries that tell records without one, and then one, is that
+-- the first OPT record after records of other types is the one that was pushed
 first_told : (g : Gathered) (b : List ℕ) (n p : ℕ) (xs ys : List RecordItem) (entries : List RecordEntry) → IsGathered g → HasNoOpt xs → ReadingRecords b n p (map Ok entries)
     → AllTell b entries (xs ++ opt_record g ∷ ys) → first_opt_in (items_of b entries) ≡ Some (opt_record g)
 first_told g b n p [] ys [] ok none reading tell = absurd tell
@@ -128,7 +128,7 @@ first_told g b n p (x ∷ xs) ys (e ∷ entries) ok none reading tell =
     ap (first_by b entries) (others_unanswered (record { octets = b; entry = e }) other)
     ∙ first_told g b r.0 r.1 xs ys entries ok (All-tail (λ (y : RecordItem). y.rtype ≡ 41 → ⊥) x xs none) r.3 tell.1
 
--- the numbers that a TTL was made of are read from it; that of DO is 0 or 1
+-- the numbers of which a TTL was made are read from it; that of DO is 0 or 1
 numbers_read : (size ext version dnssec z : ℕ) → version < 256 → dnssec < 2 → z < 32768
     → opt_fields_in size (ext * 16777216 + version * 65536 + dnssec * 32768 + z) ≡ record { udp_payload_size = size; ext = ext; version = version; dnssec_ok = dnssec == 1; z = z }
 numbers_read size ext version dnssec z version_fits dnssec_fits z_fits =
@@ -139,7 +139,7 @@ numbers_read size ext version dnssec z version_fits dnssec_fits z_fits =
     let z_read : ttl % 32768 ≡ z = omega arith in
     λ i. record { udp_payload_size = size; ext = ext_read i; version = version_read i; dnssec_ok = dnssec_read i == 1; z = z_read i }
 
--- so are the fields
+-- so are the fields of an OPT record
 fields_read : (f : OptFields) → f.version < 256 → f.z < 32768 → opt_fields_in f.udp_payload_size (ttl_in f) ≡ f
 fields_read f version z =
     elim f.dnssec_ok as (λ (set : Bool). let g = record f { dnssec_ok = set } in opt_fields_in g.udp_payload_size (ttl_in g) ≡ g) [
@@ -147,14 +147,14 @@ fields_read f version z =
       | false ↦ numbers_read f.udp_payload_size f.ext f.version 0 f.z version (omega arith) z
     ]
 
--- what an OPT record that was pushed says is what was gathered
+-- the OPT record of `g` says the fields and options of `g`
 said_gathered : (g : Gathered) → IsGathered g → opt_said (opt_record g) ≡ Some (said g)
 said_gathered g ok =
     let fields = fields_read g.fields ok.version ok.z in
     let options = ap (λ (o : Option (List OptionItem)). option_map_or (λ (xs : List OptionItem). xs) o []) (options_of-is (put_options g.options) g.options ok.listed) in
     λ i. Some (record { fields = fields i; options = options i })
 
--- the OPT record of octets that read back is the one that stands there
+-- the OPT record that octets give back is the one that was pushed
 opt_read : (g : Gathered) (s : State) (b : List ℕ) (xs ys : List RecordItem) → s.additionals ≡ xs ++ opt_record g ∷ ys → IsGathered g → HasNoOpt xs → ReadsBack s b → opt_of b ≡ Some (said g)
 opt_read g s b xs ys is ok none h =
     let list = h.additionals in
@@ -169,6 +169,6 @@ opts_read_back g s b xs ys is ok none h =
     let rcode = ap (λ (octets : List ℕ). (fields_in octets).rcode) h.header in
     (opt, λ i. extended_rcode (opt i) (rcode i))
 
--- a header has the rcode that is set, and its other fields
+-- setting the rcode changes no other field of a header
 pub rcode_is_set : RcodeIsSet
 rcode_is_set header rcode four below = rcode_changed (header_octets header) rcode four below

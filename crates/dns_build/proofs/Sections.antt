@@ -1,4 +1,4 @@
--- The sections that a builder can be at, and the fold under one item more and without the last section's items.
+-- The sections of a builder, and the encoding of a state with one more item or without the last section's items.
 use Rattle.std.proofs.Common.{◌≡◌, ℕ, ◌+◌, ◌*◌, ◌-◌, ◌<◌, List, [], ◌∷◌, ◌++◌, map, length, replicate, take, ap, sym, ◌∙◌, refl, arith}
 use Rattle.std.proofs.lemmas.List.{length-map, map-append}
 use Rattle.dns_wire.specs.Pieces.{IsGrowing, Rule, Piece}
@@ -14,19 +14,19 @@ use Rattle.dns_section.specs.declared.section.Section.TheVariants.{Answer, Autho
 use Rattle.dns_build.specs.State.{fold, stage_of, Stage, InBuilder, InQuestion, InAnswer, InAuthority, State, Every, with_question, with_record, records_at, up_to}
 use Rattle.dns_build.proofs.theory.Folds.{pieces, message, sections_of, fold-message, sections_grow, between, every_map, count-message, size-more, message-more, message-less}
 
--- the section of questions, or one of records
+-- the question section, or a record section
 pub data Kind : Type 0 where
   Questions : Kind
   Records : Section → Kind
 
--- how many sections are before it
+-- the number of sections before it
 abbrev pub number : Kind → ℕ
 number Questions = 0
 number (Records Answer) = 1
 number (Records Authority) = 2
 number (Records Additional) = 3
 
--- where its count stands in a message
+-- the offset of its count in a message
 abbrev pub place_of : Kind → ℕ
 place_of k = 4 + 2 * number k
 
@@ -35,14 +35,14 @@ abbrev pub at : Kind → Stage
 at Questions = InQuestion
 at (Records k) = stage_of k
 
--- the stage before
+-- the stage before it
 abbrev pub prior : Kind → Stage
 prior Questions = InBuilder
 prior (Records Answer) = InQuestion
 prior (Records Authority) = InAnswer
 prior (Records Additional) = InAuthority
 
--- its items
+-- the type of its items
 abbrev pub Item : Kind → Type 0
 Item Questions = QuestionItem
 Item (Records k) = RecordItem
@@ -63,7 +63,7 @@ abbrev pub with_item : (k : Kind) → Item k → State → State
 with_item Questions x s = with_question x s
 with_item (Records k) x s = with_record (stage_of k) x s
 
--- each grows what it is put behind
+-- encoding an item only adds its own suffixes to the table
 items_grow : (k : Kind) (rule : Rule) (x : Item k) → IsGrowing (put k rule x)
 items_grow Questions rule x = questions_grow rule x
 items_grow (Records k) rule x = records_grow rule x
@@ -72,15 +72,15 @@ items_grow (Records k) rule x = records_grow rule x
 abbrev before : Kind → Rule → State → List (List Piece)
 before k rule s = take (number k) (sections_of rule s)
 
--- those behind it, which are empty
+-- the sections after it, which are empty
 abbrev empty : Kind → List (List Piece)
 empty k = replicate (3 - number k) []
 
--- the sections of a state with these pieces in it
+-- the sections of a state, with these encodings as the section's own
 abbrev sections : Kind → Rule → State → List Piece → List (List Piece)
 sections k rule s = between (before k rule s) (empty k)
 
--- the folds of a state without the sections behind it, and without its own items
+-- the encodings of a state without the sections after this one, and without this one's items
 record Splits (k : Kind) (rule : Rule) (s : State) : Type 0 where
   all : length (before k rule s) + length (empty k) ≡ 3
   number : length (before k rule s) ≡ number k
@@ -96,7 +96,7 @@ splits (Records Answer) rule s = record { all = refl; number = refl; last = refl
 splits (Records Authority) rule s = record { all = refl; number = refl; last = refl; whole = fold-message rule _; less = fold-message rule _; grow = sections_grow rule (up_to InAuthority s); front = sections_grow rule (up_to InAnswer s) }
 splits (Records Additional) rule s = record { all = refl; number = refl; last = refl; whole = fold-message rule _; less = fold-message rule _; grow = sections_grow rule s; front = sections_grow rule (up_to InAuthority s) }
 
--- the fold of a state with one item more, which has no section behind it
+-- the encoding of a state with one more item, without the sections after this one
 splits_more : (k : Kind) (rule : Rule) (s : State) (x : Item k) → fold rule (with_item k x (up_to (at k) s)) ≡ message (header_octets s.header) (sections k rule s (map (put k rule) (items k s ++ x ∷ [])))
 splits_more Questions rule s x = fold-message rule _
 splits_more (Records Answer) rule s x = fold-message rule _
@@ -115,7 +115,7 @@ module _ (k : Kind) (rule : Rule) (s : State) (four : length (header_octets s.he
       ap (λ (t : State). fold rule (with_item k x t)) last ∙ splits_more k rule s x
       ∙ ap (λ ps. message (header_octets s.header) (sections k rule s ps)) (map-append (put k rule) (items k s) (x ∷ []))
 
-  -- its items are counted
+  -- the section's count is the number of its items
   pub fold-count : length (items k s) < 65536 → count_at (place_of k) (fold rule s) ≡ length (items k s)
   fold-count few =
       let is = splits k rule s in
@@ -123,7 +123,7 @@ module _ (k : Kind) (rule : Rule) (s : State) (four : length (header_octets s.he
       (λ i. count_at (sym place i) (whole i))
       ∙ count-message (header_octets s.header) four (before k rule s) (empty k) is.all is.last (map (put k rule) (items k s)) is.grow (omega arith) ∙ size
 
-  -- the octets of a fold with one item more, also where it can't be counted
+  -- the length of an encoding with one more item, even one that can't be counted
   pub fold-size : (x : Item k) → length (lay (put k rule x) (fold rule s)).octets ≡ length (fold rule (with_item k x s)).octets
   fold-size x =
       let is = splits k rule s in
@@ -131,7 +131,7 @@ module _ (k : Kind) (rule : Rule) (s : State) (four : length (header_octets s.he
       ∙ size-more (header_octets s.header) four (before k rule s) (empty k) is.all is.last (map (put k rule) (items k s)) is.grow (put k rule x)
       ∙ ap (λ (w : Written). length w.octets) (sym (more x))
 
-  -- a fold with one item more
+  -- the encoding of a state with one more item
   pub fold-more : (x : Item k) → length (items k s) < 65535 → counted (place_of k) (lay (put k rule x) (fold rule s)) ≡ fold rule (with_item k x s)
   fold-more x few =
       let is = splits k rule s in
@@ -140,7 +140,7 @@ module _ (k : Kind) (rule : Rule) (s : State) (four : length (header_octets s.he
       ∙ message-more (header_octets s.header) four (before k rule s) (empty k) is.all is.last (map (put k rule) (items k s)) is.grow (put k rule x) (omega arith)
       ∙ sym (more x)
 
-  -- a fold without its items
+  -- the encoding of a state without the section's items
   pub fold-less : emptied_from (length (fold rule (up_to (prior k) s)).octets) (place_of k) (fold rule s) ≡ fold rule (up_to (prior k) s)
   fold-less =
       let is = splits k rule s in

@@ -1,4 +1,4 @@
--- That a builder stands for some state.
+-- A builder always represents some state.
 use Rattle.std.proofs.Common.{◌≡◌, ◌∙◌, ap, refl, sym, subst, ℕ, Bool, Option, Result, Ok, Err, List, length}
 use Rattle.std.proofs.Math.Logic.{∥∥₁_map, ∥∥₁_elim}
 use Rattle.std.specs.Coded.{coded_ℕ}
@@ -20,7 +20,7 @@ pub some_pushed : (stage : Stage) (room : Option ℕ) (grows : Bool) (rule : Rul
 some_pushed stage room grows rule after count old new (Ok u) push some = some_moved stage stage rule after old new push.accepted some
 some_pushed stage room grows rule after count old new (Err e) push some = subst (StandsForSome stage rule) (sym push.refused) some
 
--- it has the starts of the record sections up to its stage
+-- a builder has the starts of the record sections up to its stage
 starts_count : (stage : Stage) (rule : Rule) (s : State) → length (starts_of stage rule s) ≡ record_depth stage
 starts_count InBuilder rule s = refl
 starts_count InQuestion rule s = refl

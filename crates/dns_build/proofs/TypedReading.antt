@@ -1,4 +1,4 @@
--- Records that were pushed are read back by a data type.
+-- A data type reads back the records that were pushed.
 use Rattle.std.proofs.Common.{◌≡◌, ◌∙◌, ap, sym, refl, subst, ℕ, List, [], ◌∷◌, map, arith, Bool, true, false}
 use Rattle.std.proofs.lemmas.List.Elements.{All-head, All-tail}
 use Rattle.std.specs.List.{All, cons_option}
@@ -34,25 +34,25 @@ use Rattle.dns_build.specs.State.{State}
 use Rattle.dns_build.specs.TypedReading.{pushed, IsLaidOutBy, IsTakenBy, taken, TypedRecordsReadBack, AnyRecordsReadBack, StandsAs, AllStandAs, PushedRecordsStand, of_class_in, TypedRecordsInReadBack, ToRecordReadsBack, ToAnyRecordReadsBack}
 use Rattle.dns_build.proofs.OptReading.{items_of, records_in-entries, first_read}
 
--- where a section starts, and its records there
+-- the start of a section, and its records from there
 section_read : (s : State) (b : List ℕ) (which : Section) → ReadsBack s b → (p : ℕ) × StartsAt which b p × GivesRecords b (record_count which b) p (pushed which s)
 section_read s b Answer h = (h.answers_start, h.answers_at, h.answers)
 section_read s b Authority h = (h.authorities_start, h.authorities_at, h.authorities)
 section_read s b Additional h = (h.additionals_start, h.additionals_at, h.additionals)
 
--- a section that starts and gives records is read as the entries there
+-- a section with a start and these records is read as its entries
 section_is : (b : List ℕ) (which : Section) (p : ℕ) (xs : List RecordItem) → StartsAt which b p → (list : GivesRecords b (record_count which b) p xs) → records_of which b ≡ items_of b list.entries
 section_is b which p xs start list =
     ap (λ (o : Option ℕ). option_map_or (records_in b (record_count which b)) o []) (start_found which b p start)
     ∙ records_in-entries b (record_count which b) p list.entries list.reading
 
--- a record with the fields and the parts of another is that
+-- a record with the fields and the parts of another is that record
 same_record : (e : RecordEntry) (x : RecordItem) → e.owner ≡ x.owner → e.rtype ≡ x.rtype → e.class ≡ x.class → e.ttl ≡ x.ttl → item_of e x.parts ≡ x
 same_record e x owner rtype class ttl = λ i. record { owner = owner i; rtype = rtype i; class = class i; ttl = ttl i; parts = x.parts }
 
--- a record that tells what was pushed
+-- an entry that was read as the pushed record `x`
 module _ (x : RecordItem) (b : List ℕ) (p q : ℕ) (e : RecordEntry) (reads : ReadsRecord b p q e) (tells : TellsRecord b e x) where
-  -- its data lies within the octets
+  -- its RDATA is within the octets
   data_within : HasSpan (record { octets = b; entry = e })
   data_within =
       let start = reads.data_start in
@@ -61,7 +61,7 @@ module _ (x : RecordItem) (b : List ℕ) (p q : ℕ) (e : RecordEntry) (reads : 
       let within = reads.skips.within in
       record { start = omega arith; end = omega arith }
 
-  -- a layout that its parts have answers it
+  -- each layout that accepts the parts reads `x`
   told : (layout : Layout) → IsLaidOut layout x.parts → laid_out (record { octets = b; entry = e }) layout ≡ Ok x
   told layout laid =
       let stands = standing_parts_read b e.data_end e.data_start layout x.parts data_within.end tells.parts laid in
@@ -71,7 +71,7 @@ module _ (x : RecordItem) (b : List ℕ) (p q : ℕ) (e : RecordEntry) (reads : 
   stands_as : StandsAs b x (record { octets = b; entry = e })
   stands_as = record { octets = refl; there = data_within; parts = tells.parts; item = same_record e x tells.owner tells.rtype tells.class tells.ttl; answer = told }
 
--- so are all of them
+-- the same for all records
 all_stand_as : (xs : List RecordItem) (b : List ℕ) (n p : ℕ) (entries : List RecordEntry) → ReadingRecords b n p (map Ok entries) → AllTell b entries xs
     → AllStandAs b xs (items_of b entries)
 all_stand_as [] b n p [] reading tell = tt
@@ -88,7 +88,7 @@ pushed_records_stand s b h which =
     (all_stand_as (pushed which s) b (record_count which b) found.0 found.2.entries found.2.reading found.2.tell)
 
 module _ (layouts : ℕ → Option Layout) (b : List ℕ) where
-  -- what a data type answers to a record that stands so
+  -- what a data type yields of such a record
   answered : (x : RecordItem) (standing : StandingRecord) → StandsAs b x standing → IsLaidOutBy layouts x
       → answer_to layouts standing ≡ option_map (λ (layout : Layout). let r : Result RecordItem Fault = Ok x in r) (layouts x.rtype)
   answered x standing h laid =
@@ -99,13 +99,13 @@ module _ (layouts : ℕ → Option Layout) (b : List ℕ) where
       by None laid = refl
       by (Some layout) laid = ap (λ (r : Result RecordItem Fault). Some r) (h.answer layout laid)
 
-  -- the first of the records that are taken
+  -- the first of the records that the data type accepts
   first_taken : (x : RecordItem) (xs : List RecordItem) (o : Option Layout)
       → cons_option (option_map (λ (layout : Layout). let r : Result RecordItem Fault = Ok x in r) o) (map Ok xs) ≡ map Ok (if is_some o then x ∷ xs else xs)
   first_taken x xs None = refl
   first_taken x xs (Some layout) = refl
 
-  -- and to all of them
+  -- what it yields of all records
   all_answered : (xs : List RecordItem) (items : List (Result StandingRecord Fault)) → AllStandAs b xs items → All (IsLaidOutBy layouts) xs
       → limited layouts items ≡ map Ok (taken layouts xs)
   all_answered [] [] h laid = refl
@@ -121,7 +121,7 @@ pub typed_records_read_back : TypedRecordsReadBack
 typed_records_read_back s b h which layouts laid =
     all_answered layouts b (pushed which s) (records_of which b) (pushed_records_stand s b h which) laid
 
--- a data type that takes every type takes all
+-- a data type that accepts every type accepts all records
 all_taken : (layouts : ℕ → Layout) (xs : List RecordItem) → taken (every layouts) xs ≡ xs
 all_taken layouts [] = refl
 all_taken layouts (x ∷ xs) = ap (λ (ys : List RecordItem). x ∷ ys) (all_taken layouts xs)
@@ -130,7 +130,7 @@ pub any_records_read_back : AnyRecordsReadBack
 any_records_read_back s b h which layouts laid =
     typed_records_read_back s b h which (every layouts) laid ∙ ap (λ (xs : List RecordItem). map Ok xs) (all_taken layouts (pushed which s))
 
--- records of class IN stand as such
+-- the records of class IN are there as they were pushed
 in_class_stand : (b : List ℕ) (xs : List RecordItem) (items : List (Result StandingRecord Fault)) → AllStandAs b xs items → AllStandAs b (of_class_in xs) (in_class_in items)
 in_class_stand b [] [] h = tt
 in_class_stand b [] (item ∷ items) h = absurd h
@@ -152,7 +152,7 @@ typed_records_in_read_back s b h which layouts laid =
     all_answered layouts b (of_class_in (pushed which s)) (in_class_in (records_of which b)) (in_class_stand b (pushed which s) (records_of which b) (pushed_records_stand s b h which)) laid
 
 module _ {D : Type 0} (rtype_of : D → ℕ) (parts_of : D → List Part) where
-  -- what says the record is a record that says it
+  -- a result that says the record `x` is a record that says it
   is_record : (x : RecordItem) (result : Result (Record ParsedName D) ParseError) → typed_answer rtype_of parts_of result ≡ Ok x
       → IsOkAnd result (λ r. record_item labels rtype_of parts_of r ≡ x)
   is_record x (Ok r) is = let item = record_item labels rtype_of parts_of r in let same : Ok item ≡ Ok x = is in cc
@@ -164,7 +164,7 @@ module _ {D : Type 0} (rtype_of : D → ℕ) (parts_of : D → List Part) where
   is_taken x (Ok (Some r)) is = is_record x (Ok r) (let answer = typed_answer rtype_of parts_of (Ok r) in let same : Some answer ≡ Some (Ok x) = is in cc)
   is_taken x (Err e) is = absurd (cc)
 
-  -- what a layout of its type answers
+  -- what the layout of a record's type reads
   one_taken : (layouts : ℕ → Option Layout) (b : List ℕ) (x : RecordItem) (standing : StandingRecord) → StandsAs b x standing → IsTakenBy layouts x
       → answer_to layouts standing ≡ Some (Ok x)
   one_taken layouts b x standing h laid = ap (λ (y : RecordItem). option_map (laid_out standing) (layouts y.rtype)) h.item ∙ by (layouts x.rtype) laid

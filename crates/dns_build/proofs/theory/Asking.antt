@@ -1,4 +1,4 @@
--- The messages of questions that are pushed.
+-- The lengths of messages to which questions are pushed.
 use Rattle.std.proofs.Common.{◌≡◌, ◌≤◌, ℕ, Bool, Option, List, [], ◌∷◌, ◌++◌, append_assoc, append-nil, sym, refl, subst}
 use Rattle.dns_wire.specs.Pieces.{Rule}
 use Rattle.dns_question.specs.Questions.{QuestionItem}
@@ -7,7 +7,7 @@ use Rattle.dns_build.specs.Standing.{size_after}
 use Rattle.dns_build.specs.State.{State, with_question, with_questions}
 
 module _ (room : Option ℕ) (grows : Bool) (rule : Rule) (s : State) where
-  -- behind questions within the limit, all are within it
+  -- if the message is within the limit after the first questions, and the others can be pushed, it is within the limit after all
   all_within : (xs ys : List QuestionItem) → AreAccepted room grows rule s (xs ++ ys) → size_after rule (with_questions xs) s ≤ s.limit → size_after rule (with_questions (xs ++ ys)) s ≤ s.limit
   all_within xs [] accepted l = subst (λ (zs : List QuestionItem). size_after rule (with_questions zs) s ≤ s.limit) (sym (append-nil xs)) l
   all_within xs (y ∷ ys) accepted l =
@@ -16,7 +16,7 @@ module _ (room : Option ℕ) (grows : Bool) (rule : Rule) (s : State) where
       let others = all_within (xs ++ y ∷ []) ys (subst (AreAccepted room grows rule s) (sym (append_assoc xs (y ∷ []) ys)) accepted) m in
       subst (λ (zs : List QuestionItem). size_after rule (with_questions zs) s ≤ s.limit) (append_assoc xs (y ∷ []) ys) others
 
-  -- where questions are accepted, a message within its limit stays so
+  -- a message within its limit stays so when questions are pushed
   pub accepted_within : (xs : List QuestionItem) → AreAccepted room grows rule s xs → size_after rule (λ t. t) s ≤ s.limit → size_after rule (with_questions xs) s ≤ s.limit
   accepted_within xs accepted l =
       let e : s ≡ with_questions [] s = λ i. record s { questions = sym (append-nil s.questions) i } in
