@@ -1,4 +1,4 @@
--- What is known of names by their octets without pointers.
+-- Names as their uncompressed octets.
 use Rattle.std.proofs.Common.{◌≡◌, ◌∙◌}
 use Rattle.dns_name.specs.Names.{IsName, Labels, uncompressed}
 use Rattle.dns_name.specs.Unique.{same_name, standing_name}
@@ -9,6 +9,6 @@ use Rattle.dns_target.specs.declared.flat_name.FlatName.{FlatName}
 pub flat_is : (name : FlatName) → IsName (flat_labels name)
 flat_is name = standing_name name.whole.0.1
 
--- a name with the same octets has the same labels
+-- names with the same octets have the same labels
 pub flat_named : (flat : FlatName) (name : Labels) → IsName name → uncompressed name ≡ uncompressed (flat_labels flat) → flat_labels flat ≡ name
 flat_named flat name is e = same_name _ flat.whole.0.1 (stands_spelled _ 0 name is (e ∙ flat.whole.1))

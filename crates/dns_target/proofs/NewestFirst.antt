@@ -1,4 +1,4 @@
--- Entries that lie in memory with the newest last, and are read with the newest first; and what cutting the newest off leaves.
+-- Entries that are stored with the newest last and read with the newest first; and what is left if the newest are cut off.
 use Rattle.std.proofs.Common.{◌≡◌, ℕ, ◌+◌, ◌-◌, ◌<◌, nat_le, Bool, true, false, cond, Some, List, [], ◌∷◌, ◌++◌, map, reverse, length, length-append, take, get_or, ap, sym, ◌∙◌, refl, subst, arith}
 use Rattle.std.specs.Prelude.{slice_get}
 use Rattle.std.proofs.lemmas.Bool.Decides.{nat_tests}
@@ -10,11 +10,11 @@ use Rattle.dns_target.specs.Held.{cut_by}
 pub pushed : {A B : Type 0} (f : A → B) (xs : List A) (x : A) → reverse (map f (xs ++ x ∷ [])) ≡ f x ∷ reverse (map f xs)
 pushed f xs x = ap reverse (map_push f xs x) ∙ reverse-append (map f xs) (f x ∷ [])
 
--- so does the last of the first ones
+-- so does the last of the first k + 1 entries
 pub taken : {A B : Type 0} (f : A → B) (xs : List A) (k : ℕ) (d : A) → k < length xs → reverse (map f (take (k + 1) xs)) ≡ f (get_or xs k d) ∷ reverse (map f (take k xs))
 taken f xs k d l = ap (λ ys. reverse (map f ys)) (take_more xs k d l) ∙ pushed f (take k xs) (get_or xs k d)
 
--- what holds without the first entry, wherever it holds with it, holds of what a cut leaves
+-- what holds without the first entry whenever it holds with it, holds of what a cut leaves
 pub cut_keeps : {A : Type 0} (end : A → ℕ) (len : ℕ) (P : List A → Type 0) → ((x : A) (xs : List A) → P (x ∷ xs) → P xs) → (xs : List A) → P xs → P (cut_by end len xs)
 cut_keeps end len P tail [] h = h
 cut_keeps end len P tail (x ∷ xs) h = keep_by (nat_le (end x) len) (cut_keeps end len P tail xs (tail x xs h))
@@ -23,7 +23,7 @@ cut_keeps end len P tail (x ∷ xs) h = keep_by (nat_le (end x) len) (cut_keeps 
     keep_by true k = h
     keep_by false k = k
 
--- a cut leaves the same of entries that are seen in another way
+-- cutting entries and cutting what they are mapped to is the same
 pub map-cut : {A B : Type 0} (f : A → B) (end : B → ℕ) (len : ℕ) (xs : List A) → map f (cut_by (λ x. end (f x)) len xs) ≡ cut_by end len (map f xs)
 map-cut f end len [] = refl
 map-cut f end len (x ∷ xs) = map_by (nat_le (end (f x)) len) (map-cut f end len xs)
@@ -37,7 +37,7 @@ map-cut f end len (x ∷ xs) = map_by (nat_le (end (f x)) len) (map-cut f end le
 pub past : {A : Type 0} (end : A → ℕ) (len : ℕ) (x : A) (xs : List A) → len < end x → cut_by end len (x ∷ xs) ≡ cut_by end len xs
 past end len x xs l = let b : nat_le (end x) len ≡ false = grind (arith, nat_tests) in ap (λ c. cond c (x ∷ xs) (cut_by end len xs)) b
 
--- the last of the entries, as it is read and then taken out
+-- the last entry, as it is read and then removed
 popped : {A : Type 0} (all list rest : List A) (x last : A) → all ≡ rest ++ x ∷ [] → list ≡ all → Some last ≡ slice_get list (length list - 1) → last ≡ x
 popped all list rest x last e same is =
     let whole : list ≡ rest ++ x ∷ [] = same ∙ e in
