@@ -4,7 +4,7 @@ use Rattle.dns_wire.specs.Pieces.{Rule}
 use Rattle.dns_build.specs.Standing.{Built, StandsFor, MovesState}
 use Rattle.dns_build.specs.State.{Stage, InQuestion, State, with_questions, with_records, rewound}
 
--- builders at one stage that represent one state are equal as contracts see them: octets, compression table, limit and section starts
+-- builders at the same stage that represent the same state are equal as contracts see them: octets, compression table, limit and section starts
 abbrev pub BuildersAreKnown : Type 0
 BuildersAreKnown = (stage : Stage) (rule : Rule) (s : State) (a b : Built) → StandsFor stage rule s a → StandsFor stage rule s b → a ≡ b
 

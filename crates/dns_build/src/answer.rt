@@ -106,7 +106,6 @@ fn push_questions<T: Composer, Octs: Octets>(
     Ok(())
 }
 
-/// The header of an answer. The contract is on its octets.
 fn answer_header(rcode: Rcode, asked: Header, own: Header) -> Header
     ensures { result ≡ answer_header rcode asked own }
 {

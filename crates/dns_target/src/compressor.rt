@@ -113,7 +113,6 @@ impl<Target: Composer> Compressor<Target, Hashes> {
 }
 
 impl<Target: Composer, Index: SuffixIndex> Compressor<Target, Index> {
-    /// A compressor over `target` with an empty index.
     fn over(target: Target, index: Index) -> Self
         requires plain { Target.rule ≡ Plain }
         requires empty { Index.spots index ≡ [] }

@@ -13,7 +13,6 @@ impl<'a> FlatName<'a> {
     ghost use Rattle.dns_name.specs.Names.{uncompressed};
     ghost use Rattle.dns_target.specs.FlatNames.{flat_labels};
 
-    /// The name with these octets.
     pub(crate) fn new(octets: &'a [u8]) -> Self
         requires { WholeName octets.now }
         ensures { uncompressed (flat_labels result) ≡ octets.now }
@@ -21,7 +20,6 @@ impl<'a> FlatName<'a> {
         FlatName { octets }
     }
 
-    /// The uncompressed octets of the name.
     pub(crate) fn octets(&self) -> &'a [u8]
         ensures { result.now ≡ uncompressed (flat_labels self.now) }
     {

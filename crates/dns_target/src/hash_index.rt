@@ -75,8 +75,8 @@ fn near_count(labels: &LabelStarts<'_>, place: usize, from: usize) -> usize
     }
 }
 
-/// The first label of the suffix to try first for the next name: of the suffix that was found, or
-/// else of the whole name.
+/// The label at which the suffix to try first for the next name begins: that of the suffix that was
+/// found, or else the first.
 fn shared_from(found: Found) -> usize
     ensures { result ≤ found.from }
 {

@@ -27,7 +27,6 @@ impl Model for HashedLabel {
 }
 
 impl HashedLabel {
-    /// A label with its hash.
     #[inline]
     pub(crate) fn new(label: &[u8]) -> Self
         requires { length label.now ≤ 63 }

@@ -1,4 +1,4 @@
-//! A hash of octets, which spares comparing them.
+//! A hash of octets, to avoid comparing them.
 ghost use Rattle.std.specs.Prelude.{◌≡◌};
 ghost use Rattle.dns_target.specs.OctetHashes.{octets_hash as hash_of};
 
