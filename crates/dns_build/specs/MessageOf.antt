@@ -78,7 +78,7 @@ PointsToLabels s b = PartsPointed b (length b) header_size (parts_of s)
 abbrev pub HasLabelsNear : State → List ℕ → Type 0
 HasLabelsNear s b = PartsNear b (length b) header_size (parts_of s)
 
--- these octets are a header section and the items in the shortest compression of their names
+-- these octets are as many as a header section and the items, in the shortest compression of their names
 abbrev pub IsShortestOf : State → List ℕ → Type 0
 IsShortestOf s b = (n : ℕ) × (length b ≡ header_size + n) × IsShortest (parts_of s) n
 

@@ -26,23 +26,23 @@ pub struct Compressor<Target: Composer, Index: SuffixIndex> {
     index: Index,
 }
 
-/// A compressor whose table takes the first 24 suffixes that are written as labels below offset
+/// A compressor whose table stores the first 24 suffixes that are written as labels below offset
 /// 16,384. It allocates nothing itself. Suffixes match octet for octet.
 pub type StaticCompressor<Target> = Compressor<Target, Places>;
 
-/// A compressor whose table takes each suffix that is written as labels below offset 16,384.
+/// A compressor whose table stores each suffix that is written as labels below offset 16,384.
 /// Suffixes match octet for octet.
 pub type TreeCompressor<Target> = Compressor<Target, Tree>;
 
-/// A compressor whose table takes all new suffixes of a name, or none of them if one begins at
+/// A compressor whose table stores all new suffixes of a name, or none of them if one begins at
 /// offset 16,384 or above. Suffixes match octet for octet.
 ///
 /// The hash is fast and has a fixed seed. Use [`TreeCompressor`] for names from untrusted input.
 pub type HashCompressor<Target> = Compressor<Target, HashIndex>;
 
-/// A compressor whose table takes each suffix that is written as labels below offset 16,384. The
-/// table has offsets and hashes; labels are compared with the octets written so far. Suffixes match
-/// octet for octet.
+/// A compressor whose table stores each suffix that is written as labels below offset 16,384, by
+/// its offset and its hash. Suffixes match octet for octet: they are compared with the octets
+/// written so far.
 ///
 /// The hash is fast and has a fixed seed, and suffixes with equal hashes are compared one by one.
 /// Use [`TreeCompressor`] for names from untrusted input.
