@@ -1,4 +1,4 @@
--- The text of flags: tokens with single spaces between them, each empty or the name of a flag in any ASCII case.
+-- The text of flags: tokens separated by single spaces, each empty or the name of a flag, ignoring ASCII case.
 use Rattle.std.specs.Prelude.{ℕ, Bool, true, false, ◌==◌, ◌||◌, List, [], ◌∷◌, length, codes, Option, Some, None, if◌then◌else◌}
 use Rattle.std.specs.Borrow.{Bor}
 use Rattle.std.specs.List.{flat_map, list_all, list_any, slice_split, join_with_byte}
@@ -17,15 +17,15 @@ flag_names = codes "QR" ∷ codes "AA" ∷ codes "TC" ∷ codes "RD" ∷ codes "
 abbrev pub tokens : List ℕ → List (List ℕ)
 tokens text = slice_split (λ c. c == space) text
 
--- whether a token may stand in a text of flags
+-- whether a token is allowed in a text of flags: it is empty or the name of a flag
 abbrev pub is_flags_token : List ℕ → Bool
 is_flags_token token = (length token == 0) || list_any (str_eq_ignore_ascii_case token) flag_names
 
--- whether one of the tokens is a name
+-- whether one of the tokens is the name, ignoring ASCII case
 abbrev pub is_named : List (List ℕ) → List ℕ → Bool
 is_named ts name = list_any (λ token. str_eq_ignore_ascii_case token name) ts
 
--- a flag is set exactly if a token names it
+-- the flags that tokens denote: a flag is set if and only if a token is its name
 abbrev pub flags_named : List (List ℕ) → Flags
 flags_named ts = record {
   qr = is_named ts (codes "QR");
@@ -37,11 +37,11 @@ flags_named ts = record {
   cd = is_named ts (codes "CD");
 }
 
--- the flags that a text tells, where each of its tokens may stand in one
+-- the flags that a text denotes, if each of its tokens is allowed
 abbrev pub flags_read : List ℕ → Option Flags
 flags_read text = if list_all is_flags_token (tokens text) then Some (flags_named (tokens text)) else None
 
--- a name, where its flag is set
+-- the name, if its flag is set
 abbrev pub name_if_set : Bool → List ℕ → List (List ℕ)
 name_if_set true name = name ∷ []
 name_if_set false name = []
@@ -59,14 +59,14 @@ set_names flags = flat_map (λ (set, name). name_if_set set name) (
     ∷ []
     )
 
--- the same of any names that are given
+-- as `set_names`, of any flags with their names
 abbrev pub names_shown : List (Bool × Bor (List ℕ)) → List (List ℕ)
 names_shown names = flat_map (λ (set, name). name_if_set set name.now) names
 
--- tokens with single spaces between them
+-- the tokens, separated by single spaces
 abbrev pub joined : List (List ℕ) → List ℕ
 joined ts = join_with_byte space ts
 
--- how flags are printed
+-- the printed text of flags
 abbrev pub flags_text : Flags → List ℕ
 flags_text flags = joined (set_names flags)

@@ -4,7 +4,7 @@ use Rattle.dns_code.specs.Bits.{bit, bits, number_in}
 use Rattle.dns_code.specs.declared.flags.Flags.{Flags}
 use Rattle.dns_code.specs.declared.header.Header.{Header}
 
--- what a header says; the opcode and the rcode are numbers of four bits
+-- the fields of a header; the opcode and the rcode are numbers of four bits
 pub record HeaderFields : Type 0 where
   pub id : ℕ
   pub qr : Bool
@@ -18,7 +18,7 @@ pub record HeaderFields : Type 0 where
   pub cd : Bool
   pub rcode : ℕ
 
--- Where the fields stand in four octets. Bit 7 of an octet is its highest, the first that the RFC draws.
+-- The fields in the four octets of a header. Bit 7 of an octet is the most significant, which RFC 1035 draws first.
 abbrev pub fields_in : List ℕ → HeaderFields
 fields_in b = record {
   id = number_in b 0;
@@ -42,6 +42,6 @@ header_octets header = header.octets
 abbrev pub fields : Header → HeaderFields
 fields header = fields_in (header_octets header)
 
--- the seven flags among the fields; Z is none of them
+-- the seven flags among the fields, without Z
 abbrev pub flags_in : HeaderFields → Flags
 flags_in f = record { qr = f.qr; aa = f.aa; tc = f.tc; rd = f.rd; ra = f.ra; ad = f.ad; cd = f.cd }

@@ -3,14 +3,14 @@ use Rattle.std.specs.Prelude.{ℕ, List}
 use Rattle.dns_code.specs.Bits.{number_in}
 use Rattle.dns_code.specs.declared.counts.HeaderCounts.{HeaderCounts}
 
--- How many entries each section has. In an UPDATE message these are ZOCOUNT, PRCOUNT, UPCOUNT and ADCOUNT.
+-- The number of entries of each section. In an UPDATE message they are ZOCOUNT, PRCOUNT, UPCOUNT and ADCOUNT.
 pub record Counts : Type 0 where
   pub qdcount : ℕ
   pub ancount : ℕ
   pub nscount : ℕ
   pub arcount : ℕ
 
--- where the counts stand in eight octets
+-- the counts in the eight octets, each big-endian
 abbrev pub counts_in : List ℕ → Counts
 counts_in b = record { qdcount = number_in b 0; ancount = number_in b 2; nscount = number_in b 4; arcount = number_in b 6 }
 

@@ -4,7 +4,7 @@ use Rattle.dns_code.specs.declared.header.Header.{Header}
 use Rattle.dns_code.specs.declared.counts.HeaderCounts.{HeaderCounts}
 use Rattle.dns_code.specs.declared.section.HeaderSection.{HeaderSection}
 
--- the octets of a header section
+-- the number of octets of a header section
 abbrev pub header_size : ℕ
 header_size = 12
 
@@ -12,10 +12,10 @@ header_size = 12
 abbrev pub section_octets : HeaderSection → List ℕ
 section_octets s = s.octets
 
--- the first four are the header
+-- the header: the first four octets
 abbrev pub section_header : HeaderSection → Header
 section_header s = record { octets = take 4 (section_octets s) }
 
--- the eight behind them are the counts
+-- the counts: the following eight octets
 abbrev pub section_counts : HeaderSection → HeaderCounts
 section_counts s = record { octets = drop 4 (section_octets s) }

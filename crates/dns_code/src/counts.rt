@@ -3,15 +3,16 @@ ghost use Rattle.dns_code.specs.Bits.{number_in, ChangesNumber};
 
 use crate::error::CountOverflow;
 
-/// Octets 4 to 11 of a message: how many entries each section has (RFC 1035 section 4.1.1).
+/// The four counts of a message, its octets 4 to 11: the number of entries of each section (RFC
+/// 1035 section 4.1.1).
 ///
-/// In UPDATE messages the same counts go by other names (RFC 2136 section 2.2).
+/// In UPDATE messages the same counts have other names (RFC 2136 section 2.2).
 #[derive(Clone, Copy, Debug, PartialEq, Eq)]
 pub struct HeaderCounts {
     octets: [u8; 8],
 }
 
-/// All counts are 0, as of `HeaderCounts::new`.
+/// All counts are 0, as in `HeaderCounts::new`.
 impl Default for HeaderCounts {
     ghost use Rattle.dns_code.specs.HeaderCounts.{counts_octets};
 
@@ -34,7 +35,7 @@ impl HeaderCounts {
         HeaderCounts { octets: [0; 8] }
     }
 
-    /// The counts of a message: its octets 4 to 11.
+    /// Copies the counts of a message, its octets 4 to 11.
     pub fn for_message_slice(message: &[u8]) -> Self
         requires { header_size ≤ length message.now }
         ensures { counts_octets result ≡ slice_range message.now 4 header_size }
@@ -44,7 +45,7 @@ impl HeaderCounts {
         HeaderCounts { octets }
     }
 
-    /// The eight octets as they stand in a message.
+    /// The eight octets as in a message.
     pub fn as_slice(&self) -> &[u8]
         ensures octets { result.now ≡ counts_octets self.now }
         ensures length { length result.now ≡ 8 }
@@ -52,28 +53,28 @@ impl HeaderCounts {
         &self.octets
     }
 
-    /// Takes all four counts.
+    /// Replaces all four counts.
     pub fn set(&mut self, counts: HeaderCounts)
         ensures { self.new ≡ counts }
     {
         *self = counts;
     }
 
-    /// The number of questions in the question section.
+    /// QDCOUNT: the number of questions in the question section.
     pub fn qdcount(self) -> u16
         ensures { result ≡ (counts self).qdcount }
     {
         self.number_at(0)
     }
 
-    /// Changes QDCOUNT.
+    /// Sets QDCOUNT.
     pub fn set_qdcount(&mut self, count: u16)
         ensures { counts self.new ≡ record (counts self.old) { qdcount = count } }
     {
         self.set_number_at(0, count);
     }
 
-    /// Raises QDCOUNT by one. At 65,535 it is refused, and nothing changes.
+    /// Increments QDCOUNT. At 65,535 it returns an error and changes nothing.
     pub fn inc_qdcount(&mut self) -> Result<(), CountOverflow>
         ensures ok { OnOk result (counts self.new ≡ with_qdcount (λ n. n + 1) (counts self.old)) }
         ensures full { IsErr result ↔ ((counts self.old).qdcount ≡ u16.MAX) }
@@ -82,7 +83,7 @@ impl HeaderCounts {
         self.raise_number_at(0)
     }
 
-    /// Lowers QDCOUNT by one.
+    /// Decrements QDCOUNT.
     pub fn dec_qdcount(&mut self)
         requires { 0 < (counts self.old).qdcount }
         ensures { counts self.new ≡ with_qdcount (λ n. n - 1) (counts self.old) }
@@ -90,21 +91,21 @@ impl HeaderCounts {
         self.set_qdcount(self.qdcount() - 1);
     }
 
-    /// The number of records in the answer section.
+    /// ANCOUNT: the number of records in the answer section.
     pub fn ancount(self) -> u16
         ensures { result ≡ (counts self).ancount }
     {
         self.number_at(2)
     }
 
-    /// Changes ANCOUNT.
+    /// Sets ANCOUNT.
     pub fn set_ancount(&mut self, count: u16)
         ensures { counts self.new ≡ record (counts self.old) { ancount = count } }
     {
         self.set_number_at(2, count);
     }
 
-    /// Raises ANCOUNT by one. At 65,535 it is refused, and nothing changes.
+    /// Increments ANCOUNT. At 65,535 it returns an error and changes nothing.
     pub fn inc_ancount(&mut self) -> Result<(), CountOverflow>
         ensures ok { OnOk result (counts self.new ≡ with_ancount (λ n. n + 1) (counts self.old)) }
         ensures full { IsErr result ↔ ((counts self.old).ancount ≡ u16.MAX) }
@@ -113,7 +114,7 @@ impl HeaderCounts {
         self.raise_number_at(2)
     }
 
-    /// Lowers ANCOUNT by one.
+    /// Decrements ANCOUNT.
     pub fn dec_ancount(&mut self)
         requires { 0 < (counts self.old).ancount }
         ensures { counts self.new ≡ with_ancount (λ n. n - 1) (counts self.old) }
@@ -121,21 +122,21 @@ impl HeaderCounts {
         self.set_ancount(self.ancount() - 1);
     }
 
-    /// The number of records in the authority section.
+    /// NSCOUNT: the number of records in the authority section.
     pub fn nscount(self) -> u16
         ensures { result ≡ (counts self).nscount }
     {
         self.number_at(4)
     }
 
-    /// Changes NSCOUNT.
+    /// Sets NSCOUNT.
     pub fn set_nscount(&mut self, count: u16)
         ensures { counts self.new ≡ record (counts self.old) { nscount = count } }
     {
         self.set_number_at(4, count);
     }
 
-    /// Raises NSCOUNT by one. At 65,535 it is refused, and nothing changes.
+    /// Increments NSCOUNT. At 65,535 it returns an error and changes nothing.
     pub fn inc_nscount(&mut self) -> Result<(), CountOverflow>
         ensures ok { OnOk result (counts self.new ≡ with_nscount (λ n. n + 1) (counts self.old)) }
         ensures full { IsErr result ↔ ((counts self.old).nscount ≡ u16.MAX) }
@@ -144,7 +145,7 @@ impl HeaderCounts {
         self.raise_number_at(4)
     }
 
-    /// Lowers NSCOUNT by one.
+    /// Decrements NSCOUNT.
     pub fn dec_nscount(&mut self)
         requires { 0 < (counts self.old).nscount }
         ensures { counts self.new ≡ with_nscount (λ n. n - 1) (counts self.old) }
@@ -152,21 +153,21 @@ impl HeaderCounts {
         self.set_nscount(self.nscount() - 1);
     }
 
-    /// The number of records in the additional section.
+    /// ARCOUNT: the number of records in the additional section.
     pub fn arcount(self) -> u16
         ensures { result ≡ (counts self).arcount }
     {
         self.number_at(6)
     }
 
-    /// Changes ARCOUNT.
+    /// Sets ARCOUNT.
     pub fn set_arcount(&mut self, count: u16)
         ensures { counts self.new ≡ record (counts self.old) { arcount = count } }
     {
         self.set_number_at(6, count);
     }
 
-    /// Raises ARCOUNT by one. At 65,535 it is refused, and nothing changes.
+    /// Increments ARCOUNT. At 65,535 it returns an error and changes nothing.
     pub fn inc_arcount(&mut self) -> Result<(), CountOverflow>
         ensures ok { OnOk result (counts self.new ≡ with_arcount (λ n. n + 1) (counts self.old)) }
         ensures full { IsErr result ↔ ((counts self.old).arcount ≡ u16.MAX) }
@@ -175,7 +176,7 @@ impl HeaderCounts {
         self.raise_number_at(6)
     }
 
-    /// Lowers ARCOUNT by one.
+    /// Decrements ARCOUNT.
     pub fn dec_arcount(&mut self)
         requires { 0 < (counts self.old).arcount }
         ensures { counts self.new ≡ with_arcount (λ n. n - 1) (counts self.old) }
@@ -183,63 +184,63 @@ impl HeaderCounts {
         self.set_arcount(self.arcount() - 1);
     }
 
-    /// The number of zones in an UPDATE message: QDCOUNT.
+    /// ZOCOUNT: the number of zones in an UPDATE message, which is QDCOUNT.
     pub fn zocount(self) -> u16
         ensures { result ≡ (counts self).qdcount }
     {
         self.qdcount()
     }
 
-    /// Changes ZOCOUNT, which is QDCOUNT.
+    /// Sets ZOCOUNT, which is QDCOUNT.
     pub fn set_zocount(&mut self, count: u16)
         ensures { counts self.new ≡ record (counts self.old) { qdcount = count } }
     {
         self.set_qdcount(count);
     }
 
-    /// The number of prerequisites in an UPDATE message: ANCOUNT.
+    /// PRCOUNT: the number of prerequisites in an UPDATE message, which is ANCOUNT.
     pub fn prcount(self) -> u16
         ensures { result ≡ (counts self).ancount }
     {
         self.ancount()
     }
 
-    /// Changes PRCOUNT, which is ANCOUNT.
+    /// Sets PRCOUNT, which is ANCOUNT.
     pub fn set_prcount(&mut self, count: u16)
         ensures { counts self.new ≡ record (counts self.old) { ancount = count } }
     {
         self.set_ancount(count);
     }
 
-    /// The number of updates in an UPDATE message: NSCOUNT.
+    /// UPCOUNT: the number of updates in an UPDATE message, which is NSCOUNT.
     pub fn upcount(self) -> u16
         ensures { result ≡ (counts self).nscount }
     {
         self.nscount()
     }
 
-    /// Changes UPCOUNT, which is NSCOUNT.
+    /// Sets UPCOUNT, which is NSCOUNT.
     pub fn set_upcount(&mut self, count: u16)
         ensures { counts self.new ≡ record (counts self.old) { nscount = count } }
     {
         self.set_nscount(count);
     }
 
-    /// The number of additional records in an UPDATE message: ARCOUNT.
+    /// ADCOUNT: the number of additional records in an UPDATE message, which is ARCOUNT.
     pub fn adcount(self) -> u16
         ensures { result ≡ (counts self).arcount }
     {
         self.arcount()
     }
 
-    /// Changes ADCOUNT, which is ARCOUNT.
+    /// Sets ADCOUNT, which is ARCOUNT.
     pub fn set_adcount(&mut self, count: u16)
         ensures { counts self.new ≡ record (counts self.old) { arcount = count } }
     {
         self.set_arcount(count);
     }
 
-    /// The number that two octets are.
+    /// The big-endian number in the two octets at `place`.
     fn number_at(self, place: usize) -> u16
         requires { place < 7 }
         ensures { result ≡ number_in (counts_octets self) place }
@@ -247,7 +248,7 @@ impl HeaderCounts {
         u16::from_be_bytes([self.octets[place], self.octets[place + 1]])
     }
 
-    /// Writes a number over two octets.
+    /// Writes a big-endian number over the two octets at `place`.
     fn set_number_at(&mut self, place: usize, number: u16)
         requires { place < 7 }
         ensures { ChangesNumber (counts_octets self.old) (counts_octets self.new) place number }
@@ -257,7 +258,7 @@ impl HeaderCounts {
         self.octets[place + 1] = low;
     }
 
-    /// Raises the number that two octets are by one.
+    /// Increments the number in the two octets at `place`.
     fn raise_number_at(&mut self, place: usize) -> Result<(), CountOverflow>
         requires { place < 7 }
         ensures ok { OnOk result (

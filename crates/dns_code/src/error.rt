@@ -11,7 +11,7 @@ impl FlagsFromStrError {
     }
 }
 
-/// A count of a header is 65,535 and can't be raised.
+/// A count of the header is 65,535 and can't be incremented.
 #[derive(Debug, Drop, Error)]
 #[error("increasing a header count lead to an overflow")]
 pub struct CountOverflow(());

@@ -7,30 +7,30 @@ use crate::error::FlagsFromStrError;
 use std::fmt;
 use std::str::FromStr;
 
-/// The flags of a header, all but Z (RFC 1035 section 4.1.1; AD and CD: RFC 4035 section 3).
+/// The flags of a header, without Z (RFC 1035 section 4.1.1; AD and CD: RFC 4035 section 3).
 ///
-/// Their text is the two-letter names of those that are set, with one space between two.
+/// The text of flags is the names of those that are set, each two letters, separated by one space.
 #[derive(Clone, Copy, Debug, Default, PartialEq, Eq, Hash)]
 pub struct Flags {
-    /// This is an answer, and not a query.
+    /// QR: the message is a response, not a query.
     pub qr: bool,
 
-    /// The server that answers is an authority for the name.
+    /// AA: the responding server is an authority for the queried name.
     pub aa: bool,
 
-    /// The message was cut short.
+    /// TC: the message was truncated.
     pub tc: bool,
 
-    /// The server is asked to query others.
+    /// RD: the client asks for recursion.
     pub rd: bool,
 
-    /// The server queries others where it is asked to.
+    /// RA: the server offers recursion.
     pub ra: bool,
 
-    /// The server holds all data for authentic.
+    /// AD: the server considers all data authentic.
     pub ad: bool,
 
-    /// The server is to leave the check of signatures to others.
+    /// CD: the client accepts data whose signatures the server hasn't checked.
     pub cd: bool,
 }
 
@@ -71,7 +71,7 @@ impl fmt::Display for Flags {
     }
 }
 
-/// Prints the names of the flags that are set, with one space between two.
+/// Prints the names whose flag is set, separated by one space.
 fn write_names<W: fmt::Write>(f: &mut fmt::Formatter<W>, names: &[(bool, &str)]) -> fmt::Result
     ensures { WritesOnOk W.write_str_gives f.old result (joined (names_shown names.now)) f.new }
 {
@@ -86,7 +86,7 @@ fn write_names<W: fmt::Write>(f: &mut fmt::Formatter<W>, names: &[(bool, &str)])
     Ok(())
 }
 
-/// Reads names of flags in any ASCII case. Each space ends a token, and empty tokens are passed over.
+/// Reads names of flags, ignoring ASCII case. Each space ends a token. Empty tokens are skipped.
 impl FromStr for Flags {
     type Err = FlagsFromStrError;
 
@@ -109,7 +109,7 @@ impl FromStr for Flags {
     }
 }
 
-/// Whether a token may stand in a text of flags.
+/// Whether a token is allowed in a text of flags: it is empty or the name of a flag.
 fn is_token(token: &str) -> bool
     ensures { result ≡ is_flags_token token.now }
 {
@@ -123,14 +123,14 @@ fn is_token(token: &str) -> bool
         || token.eq_ignore_ascii_case("CD")
 }
 
-/// Whether each token of the text may stand in one.
+/// Whether each token of the text is allowed in a text of flags.
 fn is_flags_text(text: &str) -> bool
     ensures { result ≡ list_all is_flags_token (tokens text.now) }
 {
     text.split(' ').all(is_token)
 }
 
-/// Whether a token of the text is that name.
+/// Whether a token of the text is `name`, ignoring ASCII case.
 fn names(text: &str, name: &str) -> bool
     ensures { result ≡ is_named (tokens text.now) name.now }
 {

@@ -1,4 +1,4 @@
-//! The header of a message; and its flags, its counts, and the section that it begins.
+//! The header section of a message and its parts: header, flags and counts.
 ghost use Rattle.std.specs.Prelude.{◌≡◌, ◌≤◌, ◌%◌, length, take, replicate};
 
 use crate::bits::{is_bit_set, with_bit};
@@ -8,13 +8,14 @@ pub use crate::flags::Flags;
 pub use crate::section::HeaderSection;
 use dns_number::{Opcode, Rcode};
 
-/// The first four octets of a message: its ID, opcode, flags and rcode (RFC 1035 section 4.1.1; RFC 4035 section 3).
+/// The first four octets of a message: ID, opcode, flags and rcode (RFC 1035 section 4.1.1; RFC
+/// 4035 section 3).
 #[derive(Clone, Copy, Debug, PartialEq, Eq)]
 pub struct Header {
     octets: [u8; 4],
 }
 
-/// Zero bits, as `Header::new`.
+/// All bits are 0, as in `Header::new`.
 impl Default for Header {
     ghost use Rattle.dns_code.specs.Header.{header_octets};
 
@@ -28,14 +29,14 @@ impl Default for Header {
 impl Header {
     ghost use Rattle.dns_code.specs.Header.{fields, flags_in, header_octets};
 
-    /// A header of zero bits: ID 0, no flag, `Opcode::QUERY` and `Rcode::NOERROR`.
+    /// A header with all bits 0: ID 0, no flag, `Opcode::QUERY` and `Rcode::NOERROR`.
     pub fn new() -> Self
         ensures { header_octets result ≡ replicate 4 0 }
     {
         Header { octets: [0; 4] }
     }
 
-    /// The header of a message: its first four octets.
+    /// Copies the header of a message, its first four octets.
     pub fn for_message_slice(message: &[u8]) -> Self
         requires { 4 ≤ length message.now }
         ensures { header_octets result ≡ take 4 message.now }
@@ -45,7 +46,7 @@ impl Header {
         Header { octets }
     }
 
-    /// The four octets as they stand in a message.
+    /// The four octets as in a message.
     pub fn as_slice(&self) -> &[u8]
         ensures octets { result.now ≡ header_octets self.now }
         ensures length { length result.now ≡ 4 }
@@ -53,14 +54,14 @@ impl Header {
         &self.octets
     }
 
-    /// The ID, which ties an answer to its query.
+    /// The ID, by which a response matches its query.
     pub fn id(self) -> u16
         ensures { result ≡ (fields self).id }
     {
         u16::from_be_bytes([self.octets[0], self.octets[1]])
     }
 
-    /// Changes the ID.
+    /// Sets the ID.
     pub fn set_id(&mut self, id: u16)
         ensures { fields self.new ≡ record (fields self.old) { id = id } }
     {
@@ -69,14 +70,14 @@ impl Header {
         self.octets[1] = low;
     }
 
-    /// The kind of query.
+    /// The opcode: the kind of query.
     pub fn opcode(self) -> Opcode
         ensures { result ≡ (fields self).opcode }
     {
         Opcode::from_int(self.octets[2] >> 3 & 0x0f)
     }
 
-    /// Changes the kind of query, to the low four bits of the number.
+    /// Sets the opcode. Only the low four bits of the number are stored.
     #[tactic(auto, using(crate::proofs::theory::HeaderLemmas::opcode_changed))]
     pub fn set_opcode(&mut self, opcode: Opcode)
         ensures { fields self.new ≡ record (fields self.old) { opcode = opcode % 16 } }
@@ -84,7 +85,7 @@ impl Header {
         self.octets[2] = self.octets[2] & 0x87 | (opcode.to_int() & 0x0f) << 3;
     }
 
-    /// The seven flags. Z is none of them.
+    /// The seven flags, without Z.
     pub fn flags(self) -> Flags
         ensures { result ≡ flags_in (fields self) }
     {
@@ -99,7 +100,7 @@ impl Header {
         }
     }
 
-    /// Changes the seven flags. Z stays.
+    /// Sets the seven flags. Z stays.
     pub fn set_flags(&mut self, flags: Flags)
         ensures { fields self.new ≡ record (fields self.old) {
           qr = flags.qr;
@@ -120,14 +121,14 @@ impl Header {
         self.set_cd(flags.cd);
     }
 
-    /// Whether this is an answer, and not a query (QR).
+    /// QR: whether the message is a response, not a query.
     pub fn qr(self) -> bool
         ensures { result ≡ (fields self).qr }
     {
         is_bit_set(self.octets[2], 7)
     }
 
-    /// Changes QR.
+    /// Sets or clears QR.
     #[tactic(auto, using(crate::proofs::theory::HeaderLemmas::qr_changed))]
     pub fn set_qr(&mut self, set: bool)
         ensures { fields self.new ≡ record (fields self.old) { qr = set } }
@@ -135,14 +136,14 @@ impl Header {
         self.octets[2] = with_bit(self.octets[2], 7, set);
     }
 
-    /// Whether the server that answers is an authority for the name (AA).
+    /// AA: whether the responding server is an authority for the queried name.
     pub fn aa(self) -> bool
         ensures { result ≡ (fields self).aa }
     {
         is_bit_set(self.octets[2], 2)
     }
 
-    /// Changes AA.
+    /// Sets or clears AA.
     #[tactic(auto, using(crate::proofs::theory::HeaderLemmas::aa_changed))]
     pub fn set_aa(&mut self, set: bool)
         ensures { fields self.new ≡ record (fields self.old) { aa = set } }
@@ -150,14 +151,14 @@ impl Header {
         self.octets[2] = with_bit(self.octets[2], 2, set);
     }
 
-    /// Whether the message was cut short (TC).
+    /// TC: whether the message was truncated.
     pub fn tc(self) -> bool
         ensures { result ≡ (fields self).tc }
     {
         is_bit_set(self.octets[2], 1)
     }
 
-    /// Changes TC.
+    /// Sets or clears TC.
     #[tactic(auto, using(crate::proofs::theory::HeaderLemmas::tc_changed))]
     pub fn set_tc(&mut self, set: bool)
         ensures { fields self.new ≡ record (fields self.old) { tc = set } }
@@ -165,14 +166,14 @@ impl Header {
         self.octets[2] = with_bit(self.octets[2], 1, set);
     }
 
-    /// Whether the server is asked to query others (RD).
+    /// RD: whether the client asks for recursion.
     pub fn rd(self) -> bool
         ensures { result ≡ (fields self).rd }
     {
         is_bit_set(self.octets[2], 0)
     }
 
-    /// Changes RD.
+    /// Sets or clears RD.
     #[tactic(auto, using(crate::proofs::theory::HeaderLemmas::rd_changed))]
     pub fn set_rd(&mut self, set: bool)
         ensures { fields self.new ≡ record (fields self.old) { rd = set } }
@@ -180,14 +181,14 @@ impl Header {
         self.octets[2] = with_bit(self.octets[2], 0, set);
     }
 
-    /// Whether the server queries others where it is asked to (RA).
+    /// RA: whether the server offers recursion.
     pub fn ra(self) -> bool
         ensures { result ≡ (fields self).ra }
     {
         is_bit_set(self.octets[3], 7)
     }
 
-    /// Changes RA.
+    /// Sets or clears RA.
     #[tactic(auto, using(crate::proofs::theory::HeaderLemmas::ra_changed))]
     pub fn set_ra(&mut self, set: bool)
         ensures { fields self.new ≡ record (fields self.old) { ra = set } }
@@ -195,14 +196,14 @@ impl Header {
         self.octets[3] = with_bit(self.octets[3], 7, set);
     }
 
-    /// The bit that is reserved (Z).
+    /// Z: the reserved bit.
     pub fn z(self) -> bool
         ensures { result ≡ (fields self).z }
     {
         is_bit_set(self.octets[3], 6)
     }
 
-    /// Changes Z.
+    /// Sets or clears Z.
     #[tactic(auto, using(crate::proofs::theory::HeaderLemmas::z_changed))]
     pub fn set_z(&mut self, set: bool)
         ensures { fields self.new ≡ record (fields self.old) { z = set } }
@@ -210,14 +211,14 @@ impl Header {
         self.octets[3] = with_bit(self.octets[3], 6, set);
     }
 
-    /// Whether the server holds all data for authentic (AD, RFC 4035 section 3.2.3).
+    /// AD: whether the server considers all data authentic (RFC 4035 section 3.2.3).
     pub fn ad(self) -> bool
         ensures { result ≡ (fields self).ad }
     {
         is_bit_set(self.octets[3], 5)
     }
 
-    /// Changes AD.
+    /// Sets or clears AD.
     #[tactic(auto, using(crate::proofs::theory::HeaderLemmas::ad_changed))]
     pub fn set_ad(&mut self, set: bool)
         ensures { fields self.new ≡ record (fields self.old) { ad = set } }
@@ -225,14 +226,15 @@ impl Header {
         self.octets[3] = with_bit(self.octets[3], 5, set);
     }
 
-    /// Whether the server is to leave the check of signatures to others (CD, RFC 4035 section 3.2.2).
+    /// CD: whether the client accepts data whose signatures the server hasn't checked (RFC 4035
+    /// section 3.2.2).
     pub fn cd(self) -> bool
         ensures { result ≡ (fields self).cd }
     {
         is_bit_set(self.octets[3], 4)
     }
 
-    /// Changes CD.
+    /// Sets or clears CD.
     #[tactic(auto, using(crate::proofs::theory::HeaderLemmas::cd_changed))]
     pub fn set_cd(&mut self, set: bool)
         ensures { fields self.new ≡ record (fields self.old) { cd = set } }
@@ -240,14 +242,14 @@ impl Header {
         self.octets[3] = with_bit(self.octets[3], 4, set);
     }
 
-    /// How the request went.
+    /// The rcode: the status of the response. It is the low four bits of an extended rcode.
     pub fn rcode(self) -> Rcode
         ensures { result ≡ (fields self).rcode }
     {
         Rcode::masked_from_int(self.octets[3])
     }
 
-    /// Changes the rcode.
+    /// Sets the rcode.
     #[tactic(auto, using(crate::proofs::theory::HeaderLemmas::rcode_changed))]
     pub fn set_rcode(&mut self, rcode: Rcode)
         ensures { fields self.new ≡ record (fields self.old) { rcode = rcode } }

@@ -1,7 +1,9 @@
-//! Headers of DNS messages, with their flags and counts, and the numbers in them: record types, classes and codes.
+//! Headers of DNS messages, with their flags and counts, and the numbers in them: record types,
+//! classes and codes.
 //!
-//! It promises what RFC 1035 section 4.1.1 draws: each field is its bits, each setter changes its field alone, and what is
-//! printed of types, classes and flags reads back.
+//! The contracts follow the diagram of RFC 1035 section 4.1.1: each field is its bits, and each
+//! setter changes its field alone. The printed text of a type, a class or flags reads back as the
+//! same value.
 #![tactic(auto)]
 
 mod bits;

@@ -4,13 +4,13 @@ use crate::counts::HeaderCounts;
 use crate::header::Header;
 use dns_wire::{AppendError, Composer, ParseError, Parser};
 
-/// The first twelve octets of a message: the header and then the counts (RFC 1035 section 4.1.1).
+/// The first twelve octets of a message: the header, then the counts (RFC 1035 section 4.1.1).
 #[derive(Clone, Copy, Debug, PartialEq, Eq)]
 pub struct HeaderSection {
     octets: [u8; 12],
 }
 
-/// Zero bits, as `HeaderSection::new`.
+/// All bits are 0, as in `HeaderSection::new`.
 impl Default for HeaderSection {
     ghost use Rattle.dns_code.specs.HeaderSection.{header_size, section_octets};
 
@@ -29,14 +29,14 @@ impl HeaderSection {
     ghost use Rattle.dns_code.specs.HeaderCounts.{counts_octets};
     ghost use Rattle.dns_code.specs.HeaderSection.{header_size, section_octets, section_header, section_counts};
 
-    /// A header section of zero bits.
+    /// A header section with all bits 0.
     pub fn new() -> Self
         ensures { section_octets result ≡ replicate header_size 0 }
     {
         HeaderSection { octets: [0; 12] }
     }
 
-    /// The header section of a message: its first twelve octets.
+    /// Copies the header section of a message, its first twelve octets.
     pub fn for_message_slice(message: &[u8]) -> Self
         requires { header_size ≤ length message.now }
         ensures { section_octets result ≡ take header_size message.now }
@@ -46,7 +46,8 @@ impl HeaderSection {
         HeaderSection { octets }
     }
 
-    /// Reads twelve octets and passes them. Where they aren't there it is `ShortInput`, and the parser stays.
+    /// Reads twelve octets and advances past them. If fewer remain, it returns `ShortInput` and the
+    /// parser doesn't move.
     pub fn parse(parser: &mut Parser<'_>) -> Result<Self, ParseError>
         ensures { Takes parser.old parser.new header_size result (λ section.
             section_octets section
@@ -57,7 +58,7 @@ impl HeaderSection {
         Ok(HeaderSection::for_message_slice(octets))
     }
 
-    /// Appends the twelve octets. A refused append changes nothing.
+    /// Appends the twelve octets. A failed append changes nothing.
     pub fn compose<T: Composer>(&self, target: &mut T) -> Result<(), AppendError>
         ensures { Appends T.room T.grows (put_octets (section_octets self.now))
             (T.written target.old) (T.written target.new) result }
@@ -65,7 +66,7 @@ impl HeaderSection {
         target.append_slice(&self.octets)
     }
 
-    /// The twelve octets as they stand in a message.
+    /// The twelve octets as in a message.
     pub fn as_slice(&self) -> &[u8]
         ensures octets { result.now ≡ section_octets self.now }
         ensures length { length result.now ≡ header_size }
@@ -87,7 +88,7 @@ impl HeaderSection {
         HeaderCounts::for_message_slice(&self.octets)
     }
 
-    /// Changes the header. The counts stay.
+    /// Sets the header. The counts stay.
     pub fn set_header(&mut self, header: Header)
         ensures header { section_header self.new ≡ header }
         ensures counts { section_counts self.new ≡ section_counts self.old }
@@ -95,7 +96,7 @@ impl HeaderSection {
         self.octets[..4].copy_from_slice(header.as_slice());
     }
 
-    /// Changes the counts. The header stays.
+    /// Sets the counts. The header stays.
     pub fn set_counts(&mut self, counts: HeaderCounts)
         ensures header { section_header self.new ≡ section_header self.old }
         ensures counts { section_counts self.new ≡ counts }

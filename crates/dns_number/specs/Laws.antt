@@ -1,4 +1,4 @@
--- What is printed of numbers is read back. RFC 3597 section 5.
+-- The printed texts of numbers read back. RFC 3597 section 5.
 use Rattle.std.specs.Prelude.{◌≡◌, ℕ, ◌<◌, ◌^◌, Result, Ok}
 use Rattle.dns_number.specs.NumberTexts.{ReadsNumber}
 use Rattle.dns_number.specs.Types.{type_text, SpellsType}
@@ -6,10 +6,10 @@ use Rattle.dns_number.specs.Classes.{class_text, SpellsClass}
 use Rattle.dns_number.specs.declared.rtype.FromStrError.{FromStrError as TypeError}
 use Rattle.dns_number.specs.declared.class.FromStrError.{FromStrError as ClassError}
 
--- the text of each record type is read as that type
+-- the printed text of each record type reads back as that type
 abbrev pub TypesReadBack : Type 0
 TypesReadBack = (n : ℕ) (r : Result ℕ TypeError) → n < 2 ^ 16 → ReadsNumber (SpellsType (type_text n)) r → r ≡ Ok n
 
--- the text of each class is read as that class
+-- the printed text of each class reads back as that class
 abbrev pub ClassesReadBack : Type 0
 ClassesReadBack = (n : ℕ) (r : Result ℕ ClassError) → n < 2 ^ 16 → ReadsNumber (SpellsClass (class_text n)) r → r ≡ Ok n

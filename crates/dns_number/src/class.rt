@@ -9,7 +9,7 @@ use std::marker::Model;
 use std::str::FromStr;
 use thiserror::Error;
 
-/// The class of a record, as a number of 16 bits (RFC 1035 section 3.2.4).
+/// The class of a record, a 16-bit number (RFC 1035 section 3.2.4).
 #[derive(Clone, Copy, Debug, PartialEq, Eq, PartialOrd, Ord, Hash)]
 pub struct Class(u16);
 
@@ -38,7 +38,7 @@ impl Class {
     /// Hesiod, 4 (RFC 1035 section 3.2.4).
     pub const HS: Class = Class(4);
 
-    /// The class of a number.
+    /// The class with this number.
     pub fn from_int(number: u16) -> Self
         ensures { result ≡ number }
     {
@@ -53,7 +53,7 @@ impl Class {
     }
 }
 
-/// The mnemonic where there is one, else `CLASS` and the number (RFC 3597 section 5).
+/// The mnemonic if the class has one, else `CLASS` and the decimal number (RFC 3597 section 5).
 impl fmt::Display for Class {
     ghost output = { λ class. Some (class_text class) };
 
@@ -63,7 +63,7 @@ impl fmt::Display for Class {
     }
 }
 
-/// Reads a mnemonic, or `CLASS` and a number up to 65,535 in decimal digits; ASCII letters in any case.
+/// Reads a mnemonic, or `CLASS` and a decimal number up to 65,535, ignoring ASCII case.
 impl FromStr for Class {
     type Err = FromStrError;
 
@@ -75,7 +75,7 @@ impl FromStr for Class {
     }
 }
 
-/// The text is neither a mnemonic of a class nor `CLASS` and a number.
+/// The text is neither the mnemonic of a class nor `CLASS` and a number.
 #[derive(Clone, Copy, Debug, PartialEq, Eq, Error)]
 #[error("unknown class")]
 pub struct FromStrError;

@@ -1,4 +1,4 @@
-//! Theorems on numbers and their texts: the contracts are the theorems.
+//! Theorems on numbers and their texts. Each contract is a theorem.
 ghost use Rattle.std.specs.Prelude.{◌≡◌, ◌∷◌, []};
 ghost use Rattle.dns_number.specs.Laws.{TypesReadBack, ClassesReadBack};
 ghost use Rattle.dns_number.specs.Mnemonics.{type_mnemonics, class_mnemonics};
@@ -9,14 +9,14 @@ use crate::opcode::Opcode;
 use crate::rcode::Rcode;
 use crate::rtype::Rtype;
 
-/// What is printed for a record type or a class is read as that number, for every number of 16 bits.
+/// The printed text of each record type and each class, named or not, reads back as that number.
 pub fn printed_numbers_read_back()
     ensures types { TypesReadBack }
     ensures classes { ClassesReadBack }
 {}
 
-/// The numbers of `QUERY` and `NOTIFY`; and of `NOERROR`, `SERVFAIL`, `NXDOMAIN` and `REFUSED` (RFC 1035 section 4.1.1,
-/// RFC 1996 section 3).
+/// The numbers of `QUERY` and `NOTIFY`, then of `NOERROR`, `SERVFAIL`, `NXDOMAIN` and `REFUSED`
+/// (RFC 1035 section 4.1.1, RFC 1996 section 3).
 pub fn code_numbers() -> ([u8; 2], [u8; 4])
     ensures opcodes { result.0 ≡ 0 ∷ 4 ∷ [] }
     ensures rcodes { result.1 ≡ 0 ∷ 2 ∷ 3 ∷ 5 ∷ [] }
@@ -31,8 +31,8 @@ pub fn code_numbers() -> ([u8; 2], [u8; 4])
     (opcodes, rcodes)
 }
 
-/// The record types that have names, each with its mnemonic: their numbers are those of the table of mnemonics (RFC 1035
-/// section 3.2.2).
+/// The named record types, each with its mnemonic. Their numbers are those of the table of
+/// mnemonics (RFC 1035 section 3.2.2).
 #[tactic(auto, unfolding(crate::specs::Mnemonics::type_mnemonics))]
 pub fn named_types() -> [(Rtype, &'static str); 12]
     ensures { table result ≡ type_mnemonics }
@@ -53,7 +53,7 @@ pub fn named_types() -> [(Rtype, &'static str); 12]
     ]
 }
 
-/// The classes that have names, each with its mnemonic (RFC 1035 section 3.2.4).
+/// The named classes, each with its mnemonic (RFC 1035 section 3.2.4).
 #[tactic(auto, unfolding(crate::specs::Mnemonics::class_mnemonics))]
 pub fn named_classes() -> [(Class, &'static str); 3]
     ensures { table result ≡ class_mnemonics }

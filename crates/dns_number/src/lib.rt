@@ -1,7 +1,8 @@
-//! Numbers of DNS messages that IANA registers, with their mnemonics: record types, classes, opcodes, rcodes, option codes.
+//! Numbers of DNS messages that IANA registers: record types, classes, opcodes, rcodes and option
+//! codes.
 //!
-//! It promises that what is printed of a type or a class is read as that number, and that a mnemonic is read in any ASCII
-//! case (RFC 3597 section 5).
+//! Types and classes have texts. The printed text of a type or a class reads back as that number,
+//! and mnemonics are read ignoring ASCII case (RFC 3597 section 5).
 #![tactic(auto)]
 
 pub mod class;

@@ -1,4 +1,4 @@
-//! Tables of numbers with their mnemonics, and the texts that spell a number (RFC 3597 section 5).
+//! Tables of numbers with their mnemonics, and the texts of such numbers (RFC 3597 section 5).
 ghost use Rattle.std.specs.Prelude.{◌≡◌, ℕ, ◌↔◌, IsTrue, Some, option_map, ◌<◌, ◌^◌};
 ghost use Rattle.std.specs.Fmt.{WritesOnOk};
 ghost use Rattle.std.specs.Option.{SomeIff};
@@ -24,7 +24,7 @@ fn of(entries: &[Entry], number: u16) -> Option<&'static str>
     None
 }
 
-/// Prints the mnemonic of the number, or the word and the number in decimal digits.
+/// Prints the mnemonic of the number if it has one, else the word and the decimal number.
 pub(crate) fn write<W: fmt::Write>(
     f: &mut fmt::Formatter<W>,
     entries: &[Entry],
@@ -40,7 +40,7 @@ pub(crate) fn write<W: fmt::Write>(
     }
 }
 
-/// The number whose mnemonic the text is, in any ASCII case.
+/// The number that has the text as its mnemonic, ignoring ASCII case.
 fn named(entries: &[Entry], text: &str) -> Option<u16>
     requires { IsTrue (is_distinct (table entries.now)) }
     ensures { (n : ℕ) → IsMnemonic (table entries.now) text.now n ↔ (result ≡ Some n) }
@@ -53,7 +53,7 @@ fn named(entries: &[Entry], text: &str) -> Option<u16>
     None
 }
 
-/// The number that decimal digits write, `None` above 65,535 and for any other text.
+/// The number in decimal digits. `None` above 65,535 and for any other text.
 fn decimal_number(digits: &str) -> Option<u16>
     ensures { let value = digits_value 10 digits.now in
         SomeIff result (IsNumeral 10 digits.now × (value < 2 ^ 16)) value }
@@ -64,7 +64,7 @@ fn decimal_number(digits: &str) -> Option<u16>
     digits.parse().ok()
 }
 
-/// The number of which the text is the word, in any ASCII case, and decimal digits.
+/// The number if the text is the word, ignoring ASCII case, followed by decimal digits.
 fn numbered(word: &str, text: &str) -> Option<u16>
     ensures { (n : ℕ) → IsNumbered word.now text.now n ↔ (result ≡ Some n) }
 {
@@ -75,7 +75,7 @@ fn numbered(word: &str, text: &str) -> Option<u16>
     decimal_number(digits)
 }
 
-/// The number that the text spells: its mnemonic, or the word and decimal digits.
+/// The number whose text this is: its mnemonic, or the word followed by decimal digits.
 pub(crate) fn read(entries: &[Entry], word: &str, text: &str) -> Option<u16>
     requires distinct { IsTrue (is_distinct (table entries.now)) }
     requires apart { IsTrue (is_apart word.now (table entries.now)) }

@@ -2,7 +2,8 @@ ghost use Rattle.std.specs.Prelude.{◌≡◌, ℕ};
 
 use std::marker::Model;
 
-/// What a message asks for, as a number of 8 bits. A header has room for four of them (RFC 1035 section 4.1.1).
+/// The kind of a query, an 8-bit number. A header stores its low four bits (RFC 1035 section
+/// 4.1.1).
 #[derive(Clone, Copy, Debug, PartialEq, Eq, PartialOrd, Ord, Hash)]
 pub struct Opcode(u8);
 
@@ -18,10 +19,10 @@ impl Opcode {
     /// A standard query, 0 (RFC 1035 section 4.1.1).
     pub const QUERY: Opcode = Opcode(0);
 
-    /// A notice that a zone changed, 4 (RFC 1996).
+    /// A notification that a zone changed, 4 (RFC 1996).
     pub const NOTIFY: Opcode = Opcode(4);
 
-    /// The opcode of a number.
+    /// The opcode with this number.
     pub fn from_int(number: u8) -> Self
         ensures { result ≡ number }
     {

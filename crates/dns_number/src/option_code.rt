@@ -2,7 +2,7 @@ ghost use Rattle.std.specs.Prelude.{◌≡◌, ℕ};
 
 use std::marker::Model;
 
-/// The kind of an option of an OPT record, as a number of 16 bits (RFC 6891 section 6.1.2).
+/// The code of an EDNS option in an OPT record, a 16-bit number (RFC 6891 section 6.1.2).
 #[derive(Clone, Copy, Debug, PartialEq, Eq, PartialOrd, Ord, Hash)]
 pub struct OptionCode(u16);
 
@@ -15,7 +15,7 @@ impl Model for OptionCode {
 }
 
 impl OptionCode {
-    /// The option code of a number.
+    /// The option code with this number.
     pub fn from_int(number: u16) -> Self
         ensures { result ≡ number }
     {

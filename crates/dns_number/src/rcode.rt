@@ -4,7 +4,7 @@ ghost use Rattle.dns_number.specs.Rcodes.{IsRcode, IsOptRcode};
 
 use std::marker::Model;
 
-/// How a query was answered, as a number from 0 to 15 (RFC 1035 section 4.1.1).
+/// The response code in a header, a number from 0 to 15 (RFC 1035 section 4.1.1).
 #[derive(Clone, Copy, Debug, PartialEq, Eq, PartialOrd, Ord, Hash)]
 pub struct Rcode(u8);
 
@@ -28,10 +28,10 @@ impl Rcode {
     /// The name doesn't exist, 3 (RFC 1035 section 4.1.1).
     pub const NXDOMAIN: Rcode = Rcode(3);
 
-    /// The server refuses to answer, 5 (RFC 1035 section 4.1.1).
+    /// The server refuses to respond, 5 (RFC 1035 section 4.1.1).
     pub const REFUSED: Rcode = Rcode(5);
 
-    /// The rcode of a number, `None` above 15.
+    /// The rcode with this number, `None` above 15.
     pub fn checked_from_int(number: u8) -> Option<Self>
         ensures { SomeIff result (IsRcode number) number }
     {
@@ -42,7 +42,7 @@ impl Rcode {
         }
     }
 
-    /// The rcode of the low four bits of a number.
+    /// The rcode in the low four bits of the number.
     pub fn masked_from_int(number: u8) -> Self
         ensures { result ≡ number % 16 }
     {
@@ -58,8 +58,8 @@ impl Rcode {
     }
 }
 
-/// How a query was answered, as a number from 0 to 4,095: that of the header, with eight higher bits of the OPT record
-/// (RFC 6891 section 6.1.3).
+/// The extended response code, a number from 0 to 4,095: the low four bits are in the header, the
+/// upper eight in the OPT record (RFC 6891 section 6.1.3).
 #[derive(Clone, Copy, Debug, PartialEq, Eq, PartialOrd, Ord, Hash)]
 pub struct OptRcode(u16);
 
@@ -74,7 +74,7 @@ impl Model for OptRcode {
 }
 
 impl OptRcode {
-    /// The rcode of a number, `None` above 4,095.
+    /// The extended rcode with this number, `None` above 4,095.
     pub fn checked_from_int(number: u16) -> Option<Self>
         ensures { SomeIff result (IsOptRcode number) number }
     {
@@ -85,28 +85,29 @@ impl OptRcode {
         }
     }
 
-    /// The rcode with the low four bits of a header and the eight bits above them of an OPT record.
+    /// The extended rcode of the four bits in the header and the upper eight bits in the OPT
+    /// record.
     pub fn from_parts(rcode: Rcode, ext: u8) -> Self
         ensures { result ≡ ext * 16 + rcode }
     {
         OptRcode(u16::from(ext) * 16 + u16::from(rcode.to_int()))
     }
 
-    /// The low four bits, which stand in the header.
+    /// The low four bits, which are in the header.
     pub fn rcode(self) -> Rcode
         ensures { result ≡ self % 16 }
     {
         Rcode((self.0 % 16) as u8)
     }
 
-    /// The eight bits above the low four, which stand in the OPT record.
+    /// The upper eight bits, which are in the OPT record (EXTENDED-RCODE).
     pub fn ext(self) -> u8
         ensures { result ≡ self / 16 }
     {
         (self.0 / 16) as u8
     }
 
-    /// The number of the rcode.
+    /// The number of the extended rcode.
     pub fn to_int(self) -> u16
         ensures value { result ≡ self }
         ensures within { IsOptRcode result }

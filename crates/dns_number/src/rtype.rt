@@ -9,7 +9,7 @@ use std::marker::Model;
 use std::str::FromStr;
 use thiserror::Error;
 
-/// The type of a record, as a number of 16 bits (RFC 1035 section 3.2.2).
+/// The type of a record, a 16-bit number (RFC 1035 section 3.2.2).
 #[derive(Clone, Copy, Debug, PartialEq, Eq, PartialOrd, Ord, Hash)]
 pub struct Rtype(u16);
 
@@ -56,25 +56,25 @@ impl Rtype {
     /// A mail exchange, 15 (RFC 1035 section 3.3.9).
     pub const MX: Rtype = Rtype(15);
 
-    /// Texts, 16 (RFC 1035 section 3.3.14).
+    /// Text strings, 16 (RFC 1035 section 3.3.14).
     pub const TXT: Rtype = Rtype(16);
 
     /// An IPv6 address, 28 (RFC 3596 section 2.1).
     pub const AAAA: Rtype = Rtype(28);
 
-    /// The options of a message, 41 (RFC 6891 section 6.1.1).
+    /// The EDNS options of a message, 41 (RFC 6891 section 6.1.1).
     pub const OPT: Rtype = Rtype(41);
 
-    /// A request for the changes of a zone, 251 (RFC 1995).
+    /// A request for an incremental zone transfer, 251 (RFC 1995).
     pub const IXFR: Rtype = Rtype(251);
 
-    /// A request for a whole zone, 252 (RFC 1035 section 3.2.3).
+    /// A request for a full zone transfer, 252 (RFC 1035 section 3.2.3).
     pub const AXFR: Rtype = Rtype(252);
 
     /// A request for all records, 255 (RFC 1035 section 3.2.3).
     pub const ANY: Rtype = Rtype(255);
 
-    /// The record type of a number.
+    /// The record type with this number.
     pub fn from_int(number: u16) -> Self
         ensures { result ≡ number }
     {
@@ -89,7 +89,7 @@ impl Rtype {
     }
 }
 
-/// The mnemonic where there is one, else `TYPE` and the number (RFC 3597 section 5).
+/// The mnemonic if the type has one, else `TYPE` and the decimal number (RFC 3597 section 5).
 impl fmt::Display for Rtype {
     ghost output = { λ rtype. Some (type_text rtype) };
 
@@ -99,7 +99,7 @@ impl fmt::Display for Rtype {
     }
 }
 
-/// Reads a mnemonic, or `TYPE` and a number up to 65,535 in decimal digits; ASCII letters in any case.
+/// Reads a mnemonic, or `TYPE` and a decimal number up to 65,535, ignoring ASCII case.
 impl FromStr for Rtype {
     type Err = FromStrError;
 
@@ -111,7 +111,7 @@ impl FromStr for Rtype {
     }
 }
 
-/// The text is neither a mnemonic of a record type nor `TYPE` and a number.
+/// The text is neither the mnemonic of a record type nor `TYPE` and a number.
 #[derive(Clone, Copy, Debug, PartialEq, Eq, Error)]
 #[error("unknown record type")]
 pub struct FromStrError;
