@@ -1,4 +1,4 @@
--- What a conversion of data keeps.
+-- What a conversion of RDATA keeps.
 use Rattle.std.specs.Prelude.{◌≡◌}
 use Rattle.dns_octets.specs.declared.octets.Octets.{Ghosts}
 use Rattle.dns_data.specs.Opt.{opt_octets}
@@ -8,7 +8,7 @@ use Rattle.dns_data.specs.declared.opt.Opt.{Opt}
 use Rattle.dns_data.specs.declared.soa.Soa.{Soa}
 use Rattle.dns_data.specs.declared.unknown.UnknownRecordData.{UnknownRecordData}
 
--- the start of a zone of authority: what is kept of its two names, and its five numbers
+-- SOA data: what `keeps` says of its two names, and its five numbers
 abbrev pub keeps_soa : {M N : Type 0} → (M → N → Type 0) → Soa M → Soa N → Type 0
 keeps_soa keeps source soa =
     keeps (mname_of source) (mname_of soa) × keeps (rname_of source) (rname_of soa) × (numbers_of soa ≡ numbers_of source)
@@ -19,6 +19,6 @@ module _ {X Y : Type 0} {holds : Ghosts X} {holds_too : Ghosts Y} where
   keeps_unknown source unknown =
       (unknown_rtype_of unknown ≡ unknown_rtype_of source) × (unknown_octets unknown ≡ unknown_octets source)
 
-  -- options: the octets
+  -- OPT data: the octets
   abbrev pub keeps_opt : Opt X holds → Opt Y holds_too → Type 0
   keeps_opt source opt = opt_octets opt ≡ opt_octets source

@@ -1,4 +1,4 @@
--- How the start of a zone compares: field by field. How opaque data and options compare: by their octets, whatever holds them. What is hashed of all three.
+-- How SOA data compares, field by field; how opaque data and OPT data compare, by their octets, whatever type holds them; and what the three feed a hasher.
 use Rattle.std.specs.Prelude.{ℕ, Bool, List, ◌==◌, ◌++◌}
 use Rattle.std.specs.Cmp.Lexicographic.{pointwise}
 use Rattle.std.specs.Ordering.{nat_cmp, on, then_cmp, eq_of_both}
@@ -22,32 +22,32 @@ abbrev pub octets_hash_input : List ℕ → fed.HashWrites
 octets_hash_input = fed.slice fed.u8
 
 module _ {X : Type 0} {holds : Ghosts X} where
-  -- opaque data is equal where the types and the octets are
+  -- opaque data is equal if the types and the octets are
   abbrev pub unknown_equal : UnknownRecordData X holds → UnknownRecordData X holds → Bool
   unknown_equal = eq_of_both (on unknown_rtype_of ◌==◌) (on unknown_octets octets_equal)
 
-  -- its order: by the type, then by the octets
+  -- the order of opaque data: by the type, then by the octets
   abbrev pub unknown_order : UnknownRecordData X holds → UnknownRecordData X holds → Ordering
   unknown_order = then_cmp (on unknown_rtype_of nat_cmp) (on unknown_octets octet_order)
 
-  -- what it feeds a hasher: the type, then the octets
+  -- what opaque data feeds a hasher: the type, then the octets
   abbrev pub unknown_hash_input : UnknownRecordData X holds → fed.HashWrites
   unknown_hash_input unknown = fed.u16 (unknown_rtype_of unknown) ++ octets_hash_input (unknown_octets unknown)
 
-  -- options are equal where their octets are
+  -- OPT data is equal if the octets are
   abbrev pub opt_equal : Opt X holds → Opt X holds → Bool
   opt_equal = on opt_octets octets_equal
 
-  -- their order: by the octets
+  -- the order of OPT data: by the octets
   abbrev pub opt_order : Opt X holds → Opt X holds → Ordering
   opt_order = on opt_octets octet_order
 
-  -- what they feed a hasher: the octets
+  -- what OPT data feeds a hasher: the octets
   abbrev pub opt_hash_input : Opt X holds → fed.HashWrites
   opt_hash_input opt = octets_hash_input (opt_octets opt)
 
 module _ {N : Type 0} where
-  -- the starts of two zones are equal where all fields are
+  -- SOA data is equal if all fields are
   abbrev pub zones_equal : (N → N → Bool) → Soa N → Soa N → Bool
   zones_equal same_name =
       eq_of_both (on mname_of same_name)
@@ -55,7 +55,7 @@ module _ {N : Type 0} where
       (eq_of_both (on serial_of ◌==◌)
       (eq_of_both (on refresh_of ◌==◌) (eq_of_both (on retry_of ◌==◌) (eq_of_both (on expire_of ◌==◌) (on minimum_of ◌==◌))))))
 
-  -- their order: that of the two names, else of the five numbers, in the order of the wire (RFC 1035 section 3.3.13)
+  -- the order of SOA data: by the two names, then by the five numbers, in the order of the wire (RFC 1035 section 3.3.13)
   abbrev pub zone_order : (N → N → Ordering) → Soa N → Soa N → Ordering
   zone_order name_order =
       then_cmp (on mname_of name_order)
@@ -63,7 +63,7 @@ module _ {N : Type 0} where
       (then_cmp (on serial_of nat_cmp)
       (then_cmp (on refresh_of nat_cmp) (then_cmp (on retry_of nat_cmp) (then_cmp (on expire_of nat_cmp) (on minimum_of nat_cmp))))))
 
-  -- what the start of a zone feeds a hasher
+  -- what SOA data feeds a hasher: its fields, in the order of the wire
   abbrev pub zone_hash_input : (N → fed.HashWrites) → Soa N → fed.HashWrites
   zone_hash_input of_name zone =
       of_name (mname_of zone)

@@ -1,4 +1,4 @@
--- What holds of all parts that are composed, and of all data in all octets. RFC 1035 sections 3.3 and 4.1.4.
+-- Theorems over all parts that are composed and all RDATA in all octets. RFC 1035 sections 3.3 and 4.1.4.
 use Rattle.std.specs.Prelude.{◌≡◌, ◌⊎◌, ℕ, ◌≤◌, List, [], ◌∷◌, length, take, Bool, Option, Result, Ok, Err}
 use Rattle.dns_name.specs.Names.{Fault, Labels, IsName, uncompressed}
 use Rattle.dns_wire.specs.Parts.{Part, PartsStand, put_part, put_parts}
@@ -7,42 +7,42 @@ use Rattle.dns_wire.specs.Targets.{Written, Fits, lay, Appends, Composes}
 use Rattle.dns_octets.specs.declared.error.AppendError.{AppendError}
 use Rattle.dns_data.specs.Layout.{Layout, IsLaidOut, DataStands, DataFaultAt}
 
--- no part composes nothing
+-- composing no parts changes nothing
 abbrev pub NoPartComposes : Type 0
 NoPartComposes = (room : Option ℕ) (grows : Bool) (rule : Rule) (t : Written)
     → Fits room (length t.octets) → Composes room grows (put_parts rule []) t t {X = Unit} (Ok tt)
 
--- one append of a part composes it
+-- appending one part composes it
 abbrev pub OnePartComposes : Type 0
 OnePartComposes = (room : Option ℕ) (grows : Bool) (rule : Rule) (part : Part) (t u : Written) (r : Result Unit AppendError)
     → Appends room grows (put_part rule part) t u r → Composes room grows (put_parts rule (part ∷ [])) t u r
 
--- a part that is there, and others that are composed behind it, whatever the answer, compose all of them
+-- if a part is appended, composing the remaining parts after it composes all, whatever the result is
 abbrev pub PartsComposeBehind : Type 0
 PartsComposeBehind = (room : Option ℕ) (grows : Bool) (rule : Rule) (part : Part) (parts : List Part) (t u v : Written) (r : Result Unit AppendError)
     → u ≡ lay (put_part rule part) t → Composes room grows (put_parts rule parts) u v r → Composes room grows (put_parts rule (part ∷ parts)) t v r
 
--- where the first of some parts is refused, so are all
+-- if the first part can't be appended, composing all parts fails with the same error
 abbrev pub RefusedPartComposes : Type 0
 RefusedPartComposes = (room : Option ℕ) (grows : Bool) (rule : Rule) (part : Part) (parts : List Part) (t u : Written) (r q : Result Unit AppendError) (e : AppendError)
     → r ≡ Err e → q ≡ Err e → Appends room grows (put_part rule part) t u r → Composes room grows (put_parts rule (part ∷ parts)) t u q
 
--- without pointers, a name takes at most 255 octets
+-- an uncompressed name has at most 255 octets
 abbrev pub NamesAreBounded : Type 0
 NamesAreBounded = (name : Labels) → IsName name → length (uncompressed name) ≤ 255
 
--- from a place exactly one list of parts stands in a layout, with one end, or exactly one fault is met, and never both
+-- at offset p, either exactly one list of parts has the layout, with one end, or there is exactly one fault, never both
 pub record DatumOrFault (b : List ℕ) (layout : Layout) (p : ℕ) : Type 0 where
   pub some : ((q : ℕ) × (parts : List Part) × DataStands b layout p q parts) ⊎ ((f : Fault) × DataFaultAt b layout p f)
   pub one : (q r : ℕ) (xs ys : List Part) → DataStands b layout p q xs → DataStands b layout p r ys → (q ≡ r) × (xs ≡ ys)
   pub not_both : (q : ℕ) (parts : List Part) (f : Fault) → DataStands b layout p q parts → DataFaultAt b layout p f → ⊥
   pub one_fault : (f g : Fault) → DataFaultAt b layout p f → DataFaultAt b layout p g → f ≡ g
 
--- so it is at each place in all octets, and at their end
+-- `DatumOrFault` holds at each offset in all octets, and at their end
 abbrev pub OneDatumOrFault : Type 0
 OneDatumOrFault = (b : List ℕ) (layout : Layout) (p : ℕ) → p ≤ length b → DatumOrFault b layout p
 
--- parts that fill the places up to an end stand in each layout that they have, where only the octets up to that end are seen
+-- parts that fill the octets from p to an end are there in each layout that they have, if only the octets up to that end are seen
 abbrev pub StandingPartsRead : Type 0
 StandingPartsRead = (b : List ℕ) (end p : ℕ) (layout : Layout) (parts : List Part)
     → end ≤ length b → PartsStand b end p parts → IsLaidOut layout parts → DataStands (take end b) layout p end parts

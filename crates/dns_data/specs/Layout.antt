@@ -1,30 +1,30 @@
--- How the data of a record is laid out, where such data stands, and which fault is met first. RFC 1035 sections 3.3 and 4.1.4.
---
--- `b` are the octets that are seen: those of the message up to the end of the data.
+-- The layout of the RDATA of a record type, what it says of octets, and which fault comes first. RFC 1035 sections 3.3 and 4.1.4.
+-- 
+-- `b` is the octets that are seen: those of the message up to the end of the RDATA.
 use Rattle.std.specs.Prelude.{◌≡◌, ◌⊎◌, ℕ, ◌+◌, ◌<◌, ◌≤◌, Bool, IsTrue, List, [], ◌∷◌, length, drop, slice_index, slice_range}
 use Rattle.dns_name.specs.Names.{Fault, Labels, Stands, FaultAt, Walked}
 use Rattle.dns_name.specs.Names.Fault.{ShortInput}
 use Rattle.dns_wire.specs.Parts.{Part}
 use Rattle.dns_wire.specs.Parts.Part.{Octets, CompressibleName}
 
--- the fields of data, one behind the other
+-- the fields of RDATA, in order
 pub data Layout : Type 0 where
-  -- no more
+  -- no more fields
   End : Layout
-  -- all octets that are left, where a test accepts them
+  -- all remaining octets, if the test accepts them
   Rest : (List ℕ → Bool) → Layout
-  -- so many octets, and the fields behind them
+  -- n octets, and then the remaining fields
   Fixed : ℕ → Layout → Layout
-  -- a character string, which is a length octet and so many octets, and the fields behind it
+  -- a character string, which is a length octet and that number of octets, and then the remaining fields
   CharacterString : Layout → Layout
-  -- a name, which may be compressed, and the fields behind it
+  -- a name, which may be compressed, and then the remaining fields
   DomainName : Layout → Layout
 
--- how many octets a character string that begins at p has: its first octet says how many are behind it
+-- the number of octets of a character string at offset p, its length octet included
 abbrev pub string_size : List ℕ → ℕ → ℕ
 string_size b p = 1 + slice_index b p
 
--- parts that are those of the fields, one for each
+-- the parts have the layout: one part for each field
 abbrev pub IsLaidOut : Layout → List Part → Type 0
 IsLaidOut End parts = parts ≡ []
 IsLaidOut (Rest accepts) parts = (octets : List ℕ) × (parts ≡ Octets octets ∷ []) × IsTrue (accepts octets)
@@ -38,7 +38,7 @@ IsLaidOut (DomainName layout) [] = ⊥
 IsLaidOut (DomainName layout) (Octets octets ∷ parts) = ⊥
 IsLaidOut (DomainName layout) (CompressibleName name ∷ parts) = IsLaidOut layout parts
 
--- the fields stand from p to q, and these are their parts
+-- the fields are at offset p and end before q, with these parts
 abbrev pub DataStands : List ℕ → Layout → ℕ → ℕ → List Part → Type 0
 DataStands b End p q parts = (q ≡ p) × (parts ≡ [])
 DataStands b (Rest accepts) p q parts = (q ≡ length b) × (parts ≡ Octets (drop p b) ∷ []) × IsTrue (accepts (drop p b))
@@ -55,7 +55,7 @@ DataStands b (DomainName layout) p q (Octets octets ∷ parts) = ⊥
 DataStands b (DomainName layout) p q (CompressibleName name ∷ parts) =
     (r : ℕ) × Stands b p name × Walked b p r × DataStands b layout r q parts
 
--- why the fields don't stand at p: octets of the first field that doesn't are missing, or its name has a fault
+-- why the fields aren't at offset p: the first field that isn't there lacks octets, or its name has a fault
 abbrev pub DataFaultAt : List ℕ → Layout → ℕ → Fault → Type 0
 DataFaultAt b End p f = ⊥
 DataFaultAt b (Rest accepts) p f = (f ≡ ShortInput) × (IsTrue (accepts (drop p b)) → ⊥)

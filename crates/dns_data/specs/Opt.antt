@@ -1,4 +1,4 @@
--- The data of an OPT record. RFC 6891 section 6.1.2.
+-- The RDATA of an OPT record. RFC 6891 section 6.1.2.
 use Rattle.std.specs.Prelude.{ℕ, Bool, nat_le, ◌&&◌, List, length}
 use Rattle.dns_octets.specs.declared.octets.Octets.{Ghosts}
 use Rattle.dns_opt.specs.Options.{OptionItem}
@@ -8,7 +8,7 @@ use Rattle.dns_data.specs.Layout.Layout.{Rest}
 use Rattle.dns_data.specs.declared.opt.Opt.{Opt}
 
 module _ {X : Type 0} {holds : Ghosts X} where
-  -- the holder of the octets
+  -- the value that holds the octets
   abbrev pub opt_holder_of : Opt X holds → X
   opt_holder_of opt = opt.octets
 
@@ -16,14 +16,14 @@ module _ {X : Type 0} {holds : Ghosts X} where
   abbrev pub opt_octets : Opt X holds → List ℕ
   opt_octets opt = holds.octets (opt_holder_of opt)
 
-  -- the options that they are
+  -- the options in the octets
   abbrev pub opt_options : Opt X holds → List OptionItem
   opt_options opt = options_in (opt_octets opt)
 
--- octets are a list of options, and the length of the data, a number of 16 bits, can tell how many they are
+-- whether octets are a list of options, of at most 65,535 octets, the most that RDLENGTH can say
 abbrev pub is_opt_data : List ℕ → Bool
 is_opt_data octets = are_options octets && nat_le (length octets) 65535
 
--- all octets that are left, where they are such a list
+-- all remaining octets, if they are such a list
 abbrev pub opt_layout : Layout
 opt_layout = Rest is_opt_data

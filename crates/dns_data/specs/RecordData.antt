@@ -1,4 +1,4 @@
--- What reading and writing the data of a record answers. RFC 1035 sections 3.3 and 4.1.3; the canonical form is that of RFC 4034 section 6.2.
+-- What reading and writing RDATA returns. RFC 1035 sections 3.3 and 4.1.3; the canonical form: RFC 4034 section 6.2.
 use Rattle.std.specs.Prelude.{◌≡◌, ℕ, ◌≤◌, ◌==◌, if◌then◌else◌, List, map, Option, None, Some, Result, Ok, Err}
 use Rattle.dns_name.specs.Names.{fault_of, lowered, uncompressed}
 use Rattle.dns_name.specs.Parsers.{seen, place, MovesTo}
@@ -8,12 +8,12 @@ use Rattle.dns_octets.specs.declared.error.ParseError.{ParseError}
 use Rattle.dns_name.specs.declared.parser.Parser.{Parser}
 use Rattle.dns_data.specs.Layout.{Layout, DataStands, DataFaultAt}
 
--- parts that the data of a record can have: their names are names, and without compression they take at most 65,535 octets
+-- parts that RDATA can have: their names are names, and uncompressed they take at most 65,535 octets
 pub record IsData (parts : List Part) : Type 0 where
   pub names : AreParts parts
   pub short : parts_size parts ≤ 65535
 
--- a part in canonical form: a name is lowercased, and never compressed
+-- a part in canonical form: a name is lowercased and never compressed
 abbrev pub canonical_part : Part → Part
 canonical_part (Octets octets) = Octets octets
 canonical_part (CompressibleName name) = Octets (uncompressed (lowered name))
@@ -27,13 +27,13 @@ abbrev pub only : ℕ → Layout → ℕ → Option Layout
 only taken layout rtype = if rtype == taken then Some layout else None
 
 module _ {D : Type 0} (rtype_of : D → ℕ) (parts_of : D → List Part) where
-  -- What reading data that is laid out so gives: the data that stands at the parser's place, behind which the parser then stands; or the first fault there, and the parser stays.
+  -- What reading RDATA of a layout returns: the value whose parts are at the parser's offset, with the parser moved past them; or the first fault there, and the parser doesn't move.
   abbrev pub ParsesLaidOut : Layout → ℕ → Parser → Parser → Result D ParseError → Type 0
   ParsesLaidOut layout rtype old new (Ok value) =
       (rtype_of value ≡ rtype) × DataStands (seen old) layout (place old) (place new) (parts_of value) × MovesTo old new (place new)
   ParsesLaidOut layout rtype old new (Err e) = DataFaultAt (seen old) layout (place old) (fault_of e) × (new ≡ old)
 
-  -- The same where the type may not be taken: then there is no value, and the parser stays.
+  -- As `ParsesLaidOut`, for a type that may have no layout: then it returns `None`, and the parser doesn't move.
   abbrev pub ParsesTaken : Option Layout → ℕ → Parser → Parser → Result (Option D) ParseError → Type 0
   ParsesTaken None rtype old new (Ok None) = new ≡ old
   ParsesTaken None rtype old new (Ok (Some value)) = ⊥

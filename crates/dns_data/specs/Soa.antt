@@ -1,4 +1,4 @@
--- The fields of the start of a zone of authority. RFC 1035 section 3.3.13.
+-- The fields of SOA data. RFC 1035 section 3.3.13.
 use Rattle.std.specs.Prelude.{◌≡◌, ℕ, List, [], ◌∷◌, length}
 use Rattle.std.proofs.Common.{arith}
 use Rattle.std.specs.Int.{to_be_bytes, w32}
@@ -35,15 +35,15 @@ module _ {N : Type 0} where
   abbrev pub numbers_of : Soa N → List ℕ
   numbers_of soa = serial_of soa ∷ refresh_of soa ∷ retry_of soa ∷ expire_of soa ∷ minimum_of soa ∷ []
 
-  -- the octets of the numbers, four for each
+  -- the octets of the numbers, four for each, big-endian
   unfoldable pub number_octets : Soa N → List ℕ
   number_octets soa = flat_map (to_be_bytes w32) (numbers_of soa)
 
-  -- twenty octets
+  -- they are twenty octets
   pub length-number_octets : (soa : Soa N) → length (number_octets soa) ≡ 20
   unfolding number_octets
   length-number_octets soa = omega arith
 
-  -- two names, and the numbers
+  -- the parts of SOA data: two names, and the octets of the numbers
   abbrev pub soa_parts : (N → Labels) → Soa N → List Part
   soa_parts name soa = CompressibleName (name (mname_of soa)) ∷ CompressibleName (name (rname_of soa)) ∷ Octets (number_octets soa) ∷ []

@@ -10,7 +10,7 @@ module _ {X : Type 0} {holds : Ghosts X} where
   abbrev pub unknown_rtype_of : UnknownRecordData X holds → ℕ
   unknown_rtype_of unknown = unknown.rtype
 
-  -- the holder of the octets
+  -- the value that holds the octets
   abbrev pub unknown_holder_of : UnknownRecordData X holds → X
   unknown_holder_of unknown = unknown.octets
 
@@ -18,6 +18,6 @@ module _ {X : Type 0} {holds : Ghosts X} where
   abbrev pub unknown_octets : UnknownRecordData X holds → List ℕ
   unknown_octets unknown = holds.octets (unknown_holder_of unknown)
 
--- all octets that are left, where the length of the data, a number of 16 bits, can tell how many they are
+-- all remaining octets, if they are at most 65,535, the most that RDLENGTH can say
 abbrev pub opaque_layout : Layout
 opaque_layout = Rest (λ octets. nat_le (length octets) 65535)

@@ -1,4 +1,4 @@
-//! Addresses (RFC 1035 section 3.4.1).
+//! IPv4 addresses (RFC 1035 section 3.4.1).
 ghost use Rattle.std.specs.Prelude.{◌≡◌, [], ◌∷◌, length, refl};
 ghost use Rattle.dns_wire.specs.Parts.{Octets};
 ghost use Rattle.dns_data.specs.Layout.{Fixed, End};
@@ -9,7 +9,7 @@ use crate::record_data::{ComposeRecordData, ParseRecordData, RecordData};
 use dns_code::Rtype;
 use dns_wire::{AppendError, Composer, ParseError, Parser};
 
-/// An IPv4 address (RFC 1035 section 3.4.1).
+/// The RDATA of an A record: an IPv4 address (RFC 1035 section 3.4.1).
 #[derive(Clone, Copy, Debug, PartialEq, Eq, PartialOrd, Ord, Hash)]
 pub struct A {
     octets: [u8; 4],
@@ -19,7 +19,7 @@ pub struct A {
 impl A {
     ghost use Rattle.dns_data.specs.A.{address_of};
 
-    /// The address of four octets, from the left.
+    /// The address of four octets, in the order of dotted notation.
     pub fn from_octets(a: u8, b: u8, c: u8, d: u8) -> Self
         ensures { address_of result ≡ a ∷ b ∷ c ∷ d ∷ [] }
     {
@@ -52,7 +52,7 @@ impl ComposeRecordData for A {
     ghost use Rattle.std.specs.Prelude.{◌≡◌, IfSome, IsSome};
     ghost use Rattle.dns_data.specs.A.{address_of};
 
-    /// The address.
+    /// Returns the four octets of the address.
     #[inline(always)]
     fn flat_rdata(&self) -> Option<&[u8]>
         ensures lent { IsSome result }

@@ -1,4 +1,4 @@
-//! The order of canonical data (RFC 4034 section 6.3). It takes no memory.
+//! The canonical order of RDATA (RFC 4034 section 6.3). Comparing allocates no memory.
 ghost use Rattle.std.proofs.Common.{rules};
 ghost use Rattle.std.specs.Cmp.Rules.{comparing};
 ghost use Rattle.std.specs.Prelude.{◌≡◌};
@@ -23,7 +23,7 @@ impl CanonicalOrd for A {
     ghost canonical_total = { Prim.search (comparing, rules) };
 }
 
-/// By the octets of the name, lowercased.
+/// By the octets of the uncompressed name, lowercased.
 impl<N: ToName> CanonicalOrd for Ns<N> {
     ghost canonical_order = { ns_canonical_order N.name };
 
@@ -34,7 +34,7 @@ impl<N: ToName> CanonicalOrd for Ns<N> {
     ghost canonical_total = { Prim.search (comparing, rules) };
 }
 
-/// By the octets of the name, lowercased.
+/// By the octets of the uncompressed name, lowercased.
 impl<N: ToName> CanonicalOrd for Cname<N> {
     ghost canonical_order = { cname_canonical_order N.name };
 
@@ -45,7 +45,7 @@ impl<N: ToName> CanonicalOrd for Cname<N> {
     ghost canonical_total = { Prim.search (comparing, rules) };
 }
 
-/// By the octets of the two names, lowercased, and then by the five numbers.
+/// By the octets of the two uncompressed names, lowercased, then by the five numbers.
 impl<N: ToName> CanonicalOrd for Soa<N> {
     ghost canonical_order = { soa_canonical_order N.name };
 
@@ -59,7 +59,7 @@ impl<N: ToName> CanonicalOrd for Soa<N> {
     ghost canonical_total = { Prim.search (comparing, rules) depth 9 };
 }
 
-/// Compares the five numbers, one by one.
+/// Compares the five numbers in the order of the wire.
 fn compare_numbers<N>(soa: &Soa<N>, other: &Soa<N>) -> Ordering
     ensures { result ≡ numbers_order soa.now other.now }
 {
@@ -71,7 +71,7 @@ fn compare_numbers<N>(soa: &Soa<N>, other: &Soa<N>) -> Ordering
         .then(soa.minimum().cmp(&other.minimum()))
 }
 
-/// By the type, and then by the octets.
+/// By the type, then by the octets.
 impl<Octs: Octets> CanonicalOrd for UnknownRecordData<Octs> {
     ghost canonical_order = { unknown_canonical_order };
 

@@ -1,4 +1,4 @@
-//! Conversions of data into the same data with other names and holders.
+//! Conversions of RDATA to the same RDATA with other types of names and octets.
 ghost use Rattle.std.specs.Prelude.{◌≡◌, ◌⊎◌};
 ghost use Rattle.dns_octets.specs.Converts.{Converts};
 ghost use Rattle.dns_data.specs.A.{address_of};
@@ -93,7 +93,8 @@ impl<N, S: FlattenInto<N>> FlattenInto<Cname<N>> for Cname<S> {
     }
 }
 
-/// Both names are converted before the answer: `ShortBuf` comes before want of memory.
+/// Converts both names before it returns an error: `ShortBuf` of either name takes precedence over
+/// `OutOfMemory`.
 impl<S, N: OctetsFrom<S> + Drop> OctetsFrom<Soa<S>> for Soa<N> {
     ghost keeps = { keeps_soa N.keeps };
 
@@ -110,7 +111,8 @@ impl<S, N: OctetsFrom<S> + Drop> OctetsFrom<Soa<S>> for Soa<N> {
     }
 }
 
-/// Both names are converted before the answer: `ShortBuf` comes before want of memory.
+/// Converts both names before it returns an error: `ShortBuf` of either name takes precedence over
+/// `OutOfMemory`.
 impl<N: Drop, S: FlattenInto<N>> FlattenInto<Soa<N>> for Soa<S> {
     ghost keeps = { keeps_soa S.keeps };
 
@@ -127,7 +129,7 @@ impl<N: Drop, S: FlattenInto<N>> FlattenInto<Soa<N>> for Soa<S> {
     }
 }
 
-/// The holder is converted, and the type stays.
+/// Converts the octets. The type stays.
 impl<S: Octets, T: HolderFrom<S>> OctetsFrom<UnknownRecordData<S>> for UnknownRecordData<T> {
     ghost keeps = { keeps_unknown };
 
@@ -155,7 +157,7 @@ impl<S: Octets, T: HolderFrom<S>> FlattenInto<UnknownRecordData<T>> for UnknownR
     }
 }
 
-/// The holder is converted.
+/// Converts the octets.
 impl<S: Octets, T: HolderFrom<S>> OctetsFrom<Opt<S>> for Opt<T> {
     ghost keeps = { keeps_opt };
 

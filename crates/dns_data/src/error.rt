@@ -1,6 +1,6 @@
 use thiserror::Error;
 
-/// Octets are too many to be the data of a record: the length of the data is a number of 16 bits.
+/// The octets are too many for RDATA: RDLENGTH is a 16-bit number.
 #[derive(Clone, Copy, Debug, PartialEq, Eq, Error)]
 #[error("record data too long")]
 pub struct LongRecordData;

@@ -1,4 +1,4 @@
-//! Data behind its length (RFC 1035 section 4.1.3).
+//! RDATA with its RDLENGTH (RFC 1035 section 4.1.3).
 ghost use Rattle.std.specs.Prelude.{◌≡◌, ◌+◌, ◌-◌, ◌≤◌, length, OnOk};
 ghost use Rattle.std.specs.Int.{to_be_bytes, w16};
 ghost use Rattle.dns_wire.specs.Pieces.{IsClear, with_length};
@@ -9,10 +9,10 @@ ghost use Rattle.dns_data.specs.RecordData.{IsData, canonical};
 use crate::record_data::ComposeRecordData;
 use dns_wire::{AppendError, Composer};
 
-/// Appends the number of octets that the data takes, in two octets, and the data.
+/// Appends RDLENGTH, the number of octets of the RDATA as written, and then the RDATA.
 ///
-/// Where it is refused the content still begins with the old one, and a `truncate` to the old length gives the old target
-/// back.
+/// On error the content still begins with the old content. A `truncate` to the old length restores
+/// the old target.
 pub fn compose_len_rdata<D: ComposeRecordData, T: Composer>(
     data: &D,
     target: &mut T,
@@ -28,8 +28,8 @@ pub fn compose_len_rdata<D: ComposeRecordData, T: Composer>(
     Ok(())
 }
 
-/// Appends the number of octets that the data takes in canonical form, in two octets, and the data in this form (RFC 4034
-/// section 6.2). It is refused as `compose_len_rdata` is.
+/// Appends the RDATA in canonical form after its RDLENGTH (RFC 4034 section 6.2). Errors are as for
+/// `compose_len_rdata`.
 pub fn compose_canonical_len_rdata<D: ComposeRecordData, T: Composer>(
     data: &D,
     target: &mut T,
@@ -45,9 +45,9 @@ pub fn compose_canonical_len_rdata<D: ComposeRecordData, T: Composer>(
     Ok(())
 }
 
-/// Writes how many octets stand behind the two at a place into these two.
+/// Writes the number of octets after the two at offset `place` into these two.
 ///
-/// Data has at most 65,535 octets, so the other octets of the length are zero.
+/// RDATA has at most 65,535 octets, so the other octets of `len` are zero.
 fn write_length<T: Composer>(target: &mut T, place: usize)
     requires within { place + 2 ≤ length (T.written target.old).octets }
     requires clear { IsClear (T.written target.old).memory place 2 }

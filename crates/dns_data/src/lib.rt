@@ -1,10 +1,14 @@
-//! The data of DNS records: what data is, A, NS, CNAME, SOA, OPT and opaque data, and data behind its length.
+//! The RDATA of DNS records: its traits, the types A, NS, CNAME, SOA and OPT, opaque data, and
+//! RDATA with its RDLENGTH.
 //!
-//! It promises that a datum is one fixed list of parts of at most 65,535 octets, which is what it appends, under every rule
-//! of compression, and in canonical form with its names lowercased. A value is read exactly where its parts stand, and the
-//! first fault is answered elsewhere (RFC 1035 sections 3.3 and 4.1.3). Canonical data is ordered as RFC 4034 section 6.3
-//! says, and a conversion keeps what its source holds. Data types of others keep the same promises by the contracts of the
-//! traits; `laws` has the theorems for their proofs.
+//! An RDATA value is a list of parts, octets and names, of at most 65,535 octets without
+//! compression. It appends these parts under every compression rule of a target, and with
+//! lowercased, uncompressed names in canonical form. Reading returns a value if its parts are in
+//! the octets, and otherwise the first fault (RFC 1035 sections 3.3 and 4.1.3). The canonical order
+//! is that of RFC 4034 section 6.3. A conversion keeps the value.
+//!
+//! The contracts of the traits require the same of RDATA types of your own. The module `laws` has
+//! the theorems for their proofs.
 #![tactic(auto)]
 
 mod a;

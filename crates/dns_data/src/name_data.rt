@@ -1,4 +1,4 @@
-//! Data that is one name (RFC 1035 sections 3.3.1 and 3.3.11).
+//! RDATA that is one name (RFC 1035 sections 3.3.1 and 3.3.11).
 ghost use Rattle.std.specs.Prelude.{◌≡◌, [], ◌∷◌, refl};
 ghost use Rattle.dns_name.specs.Names.{lowered, uncompressed};
 ghost use Rattle.dns_wire.specs.Parts.{CompressibleName, Octets, put_parts};
@@ -11,7 +11,7 @@ use crate::record_data::{ComposeRecordData, ParseRecordData, RecordData};
 use dns_code::Rtype;
 use dns_wire::{AppendError, Composer, ParseError, ParsedName, Parser, ToName, ToNameExt};
 
-/// Appends data that is one name.
+/// Appends RDATA that is one name.
 fn compose_name<N: ToName, T: Composer>(name: &N, target: &mut T) -> Result<(), AppendError>
     ensures composes { Composes T.room T.grows
         (put_parts T.rule (CompressibleName (N.name name.now) ∷ [])) (T.written target.old)
@@ -21,7 +21,7 @@ fn compose_name<N: ToName, T: Composer>(name: &N, target: &mut T) -> Result<(), 
     target.append_compressed_name(name)
 }
 
-/// Appends data that is one name in canonical form.
+/// Appends RDATA that is one name, in canonical form.
 fn compose_canonical_name<N: ToName, T: Composer>(
     name: &N,
     target: &mut T,
@@ -33,28 +33,28 @@ fn compose_canonical_name<N: ToName, T: Composer>(
     name.compose_canonical(target)
 }
 
-/// The name of a name server (RFC 1035 section 3.3.11).
+/// The RDATA of an NS record: the name of a name server (RFC 1035 section 3.3.11).
 #[derive(Clone, Copy, Debug, PartialEq, Eq, PartialOrd, Ord, Hash, Drop)]
 pub struct Ns<N> {
     nsdname: N,
 }
 
 impl<N> Ns<N> {
-    /// The data with this name server.
+    /// The RDATA with this name server.
     pub fn new(nsdname: N) -> Self
         ensures { nsdname_of result ≡ nsdname }
     {
         Ns { nsdname }
     }
 
-    /// The name server.
+    /// The name of the name server.
     pub fn nsdname(&self) -> &N
         ensures { result.now ≡ nsdname_of self.now }
     {
         &self.nsdname
     }
 
-    /// The name server, taken out.
+    /// Takes out the name of the name server.
     pub(crate) fn into_nsdname(self) -> N
         ensures { result ≡ nsdname_of self }
     {
@@ -97,14 +97,14 @@ impl<'a> ParseRecordData<'a> for Ns<ParsedName<'a>> {
     ghost laid_out = { λ _. refl };
 }
 
-/// The canonical name of an alias (RFC 1035 section 3.3.1).
+/// The RDATA of a CNAME record: the canonical name of an alias (RFC 1035 section 3.3.1).
 #[derive(Clone, Copy, Debug, PartialEq, Eq, PartialOrd, Ord, Hash, Drop)]
 pub struct Cname<N> {
     cname: N,
 }
 
 impl<N> Cname<N> {
-    /// The data with this canonical name.
+    /// The RDATA with this canonical name.
     pub fn new(cname: N) -> Self
         ensures { cname_of result ≡ cname }
     {
@@ -118,7 +118,7 @@ impl<N> Cname<N> {
         &self.cname
     }
 
-    /// The canonical name, taken out.
+    /// Takes out the canonical name.
     pub fn into_cname(self) -> N
         ensures { result ≡ cname_of self }
     {

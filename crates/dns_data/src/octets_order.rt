@@ -1,4 +1,5 @@
-//! Comparisons and hashes of data that is octets. They are by the octets, whatever holds them.
+//! Comparisons and hashes of RDATA that is octets. They depend on the octets, not on the type that
+//! holds them.
 ghost use Rattle.std.proofs.Common.{rules};
 ghost use Rattle.std.specs.Cmp.Rules.{comparing, hashing};
 ghost use Rattle.dns_data.specs.DataOrders.{unknown_equal, unknown_order, unknown_hash_input, opt_equal, opt_order, opt_hash_input};
@@ -10,7 +11,7 @@ use dns_wire::Octets;
 use std::cmp::Ordering;
 use std::hash::{Hash, Hasher};
 
-/// By type and octets.
+/// By the type and the octets.
 impl<Octs: Octets> PartialEq for UnknownRecordData<Octs> {
     ghost eq = { unknown_equal };
 
@@ -40,7 +41,7 @@ impl<Octs: Octets> PartialOrd for UnknownRecordData<Octs> {
     }
 }
 
-/// By the type, and then by the octets.
+/// By the type, then by the octets.
 impl<Octs: Octets> Ord for UnknownRecordData<Octs> {
     ghost cmp = { unknown_order };
 
@@ -58,7 +59,7 @@ impl<Octs: Octets> Ord for UnknownRecordData<Octs> {
     }
 }
 
-/// Type and octets.
+/// Hashes the type, then the octets.
 impl<Octs: Octets> Hash for UnknownRecordData<Octs> {
     ghost hash_input = { unknown_hash_input };
 
@@ -70,7 +71,7 @@ impl<Octs: Octets> Hash for UnknownRecordData<Octs> {
     }
 }
 
-/// By octets.
+/// By the octets.
 impl<Octs: Octets> PartialEq for Opt<Octs> {
     ghost eq = { opt_equal };
 
@@ -114,7 +115,7 @@ impl<Octs: Octets> Ord for Opt<Octs> {
     }
 }
 
-/// The octets.
+/// Hashes the octets.
 impl<Octs: Octets> Hash for Opt<Octs> {
     ghost hash_input = { opt_hash_input };
 

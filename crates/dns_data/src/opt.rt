@@ -1,4 +1,4 @@
-//! The options of an OPT record (RFC 6891 section 6.1.2).
+//! The RDATA of an OPT record: its options (RFC 6891 section 6.1.2).
 ghost use Rattle.std.proofs.Common.{rules};
 ghost use Rattle.std.specs.Prelude.{◌≤◌, IsTrue, length, refl};
 ghost use Rattle.dns_opt.specs.OptionsOf.{are_options};
@@ -9,7 +9,7 @@ use dns_opt::{OptionIter, are_options, known_options};
 use dns_wire::{AppendError, Composer, Octets, ParseError, Parser};
 use std::alloc::AllocError;
 
-/// The options of an OPT record, one behind the other, at most 65,535 octets (RFC 6891 section 6.1.2).
+/// The options of an OPT record in wire format, at most 65,535 octets (RFC 6891 section 6.1.2).
 #[derive(Debug, Drop)]
 pub struct Opt<Octs: Octets> {
     octets: Octs,
@@ -24,7 +24,8 @@ impl<Octs: Octets> Opt<Octs> {
     ghost use Rattle.dns_opt.specs.OptionIter.{options_left};
     ghost use Rattle.dns_data.specs.Opt.{opt_holder_of, opt_options, is_opt_data};
 
-    /// The data that the octets are. Octets that aren't a list of options, or too many, are `ShortInput`.
+    /// Takes octets as the RDATA. Returns `ShortInput` if they aren't a list of options or are more
+    /// than 65,535.
     pub fn from_octets(octets: Octs) -> Result<Self, ParseError>
         ensures octets { IfOk result (λ opt. opt_holder_of opt ≡ octets) }
         ensures accepted { IsOk result ↔ IsTrue (is_opt_data (Octs.octets octets)) }
@@ -37,21 +38,21 @@ impl<Octs: Octets> Opt<Octs> {
         Ok(Opt { octets })
     }
 
-    /// The holder of the octets.
+    /// The value that holds the octets.
     pub fn data(&self) -> &Octs
         ensures { result.now ≡ opt_holder_of self.now }
     {
         &self.octets
     }
 
-    /// The options, each as its code and its octets.
+    /// The options in order, each as its code and its octets.
     pub fn iter(&self) -> OptionIter<'_>
         ensures { options_left result ≡ opt_options self.now }
     {
         known_options(self.octets.octets())
     }
 
-    /// The data of octets that are known to be a list of options, and at most 65,535.
+    /// The RDATA of octets that are known to be a list of options of at most 65,535 octets.
     pub(crate) fn of_options(octets: Octs) -> Self
         requires { IsTrue (is_opt_data (Octs.octets octets)) }
         ensures { opt_holder_of result ≡ octets }
@@ -59,7 +60,7 @@ impl<Octs: Octets> Opt<Octs> {
         Opt { octets }
     }
 
-    /// The holder of the octets, taken out.
+    /// Takes out the value that holds the octets.
     pub(crate) fn into_data(self) -> Octs
         ensures holder { result ≡ opt_holder_of self }
         ensures options { IsTrue (is_opt_data (Octs.octets result)) }
@@ -93,7 +94,8 @@ impl<Octs: Octets> ComposeRecordData for Opt<Octs> {
     }
 }
 
-/// All octets up to the parser's end. Octets that `Opt::from_octets` refuses are `ShortInput`.
+/// Reads all octets up to the parser's end. Returns `ShortInput` if `Opt::from_octets` doesn't
+/// accept them.
 impl<'a> ParseRecordData<'a> for Opt<&'a [u8]> {
     ghost use Rattle.dns_data.specs.Opt.{opt_layout};
     ghost use Rattle.dns_data.specs.RecordData.{only};
@@ -113,7 +115,7 @@ impl<'a> ParseRecordData<'a> for Opt<&'a [u8]> {
     ghost laid_out = { λ opt. (_, refl, Prim.search rules) };
 }
 
-/// A clone of the holder. One that doesn't hold the same octets is answered by `AllocError`.
+/// Clones the octets. Returns `AllocError` if the clone doesn't hold the same octets.
 impl<Octs: Octets + Clone> Clone for Opt<Octs> {
     ghost use Rattle.std.specs.Prelude.{◌≡◌};
     ghost use Rattle.dns_octets.specs.Octets.{ClonesSurely};

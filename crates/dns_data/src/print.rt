@@ -1,4 +1,4 @@
-//! Data printed (RFC 1035 section 5.1; opaque data by RFC 3597 section 5).
+//! RDATA in presentation format (RFC 1035 section 5.1; opaque data: RFC 3597 section 5).
 ghost use Rattle.std.specs.Prelude.{Some};
 ghost use Rattle.std.specs.Fmt.{WritesOnOk};
 ghost use Rattle.std.specs.List.{flat_map};
@@ -13,7 +13,7 @@ use crate::unknown::UnknownRecordData;
 use dns_wire::Octets;
 use std::fmt;
 
-/// Four decimal numbers with dots.
+/// Four decimal numbers separated by dots.
 impl fmt::Display for A {
     ghost output = { λ a. Some (address_text a) };
 
@@ -41,7 +41,7 @@ impl<N: fmt::Display> fmt::Display for Cname<N> {
     }
 }
 
-/// The two names, each with a dot, and the five numbers, with one space between two.
+/// The two names, each with a dot, and the five numbers, separated by one space.
 impl<N: fmt::Display> fmt::Display for Soa<N> {
     ghost output = { soa_text N.output };
 
@@ -60,14 +60,14 @@ impl<N: fmt::Display> fmt::Display for Soa<N> {
     }
 }
 
-/// Prints an octet in two hexadecimal digits of lower case.
+/// Prints an octet as two lowercase hexadecimal digits.
 fn write_octet<W: fmt::Write>(f: &mut fmt::Formatter<W>, octet: u8) -> fmt::Result
     ensures { WritesOnOk W.write_str_gives f.old result (hex_octet octet) f.new }
 {
     write!(f, "{octet:02x}")
 }
 
-/// Prints octets in hexadecimal digits of lower case, two for each.
+/// Prints each octet as two lowercase hexadecimal digits.
 fn write_hex<W: fmt::Write>(f: &mut fmt::Formatter<W>, octets: &[u8]) -> fmt::Result
     ensures { WritesOnOk W.write_str_gives f.old result (flat_map hex_octet octets.now) f.new }
 {
@@ -77,7 +77,8 @@ fn write_hex<W: fmt::Write>(f: &mut fmt::Formatter<W>, octets: &[u8]) -> fmt::Re
     Ok(())
 }
 
-/// `\#`, the number of octets, and the octets in hexadecimal digits if there are any, with one space between two.
+/// `\#`, the number of octets and, if there are any, the octets in hexadecimal digits, separated by
+/// one space.
 impl<Octs: Octets> fmt::Display for UnknownRecordData<Octs> {
     ghost output = { λ unknown. Some (opaque_text (unknown_octets unknown)) };
 

@@ -1,4 +1,4 @@
-//! What the data of a record is.
+//! The traits of RDATA types.
 ghost use Rattle.std.specs.Prelude.{◌≡◌, ℕ, List, [], ◌∷◌, Option, IsSomeAnd, IfSome};
 ghost use Rattle.dns_wire.specs.Parts.{Part, Octets, put_parts};
 ghost use Rattle.dns_wire.specs.Targets.{Composes};
@@ -8,7 +8,7 @@ ghost use Rattle.dns_data.specs.RecordData.{IsData, canonical, ParsesLaidOut, Pa
 use dns_code::Rtype;
 use dns_wire::{AppendError, Composer, ParseError, Parser};
 
-/// The data of a record: a type, and one list of parts.
+/// The RDATA of a record: a record type and a list of parts, each octets or a name.
 pub trait RecordData {
     /// The record type.
     ghost rtype_of: { Self → ℕ };
@@ -21,61 +21,65 @@ pub trait RecordData {
         ensures { result ≡ rtype_of self.now };
 }
 
-/// Data that can be appended to a message.
+/// RDATA that can be appended to a message.
 pub trait ComposeRecordData: RecordData {
-    /// All octets of the data, if it lends them; `None` says nothing of the data.
+    /// All octets of the RDATA, if the value can lend them as one slice. `None` says nothing about
+    /// the RDATA.
     ///
-    /// A record with at most 16 octets that are lent is appended at once, without a call of `compose_rdata`.
+    /// If the slice has at most 16 octets, a record is appended at once, without a call of
+    /// `compose_rdata`.
     fn flat_rdata(&self) -> Option<&[u8]>
         ensures { IfSome result (λ octets. Self.parts self.now ≡ Octets octets.now ∷ []) }
     {
         None
     }
 
-    /// Appends the parts, each name by the target's rule.
+    /// Appends the parts, each name by the target's compression rule.
     ///
-    /// Where it is refused the content still begins with the old one, and a `truncate` to the old length gives the old
-    /// target back.
+    /// On error the content still begins with the old content. A `truncate` to the old length
+    /// restores the old target.
     fn compose_rdata<T: Composer>(&self, target: &mut T) -> Result<(), AppendError>
         ensures composes { Composes T.room T.grows (put_parts T.rule (Self.parts self.now))
             (T.written target.old) (T.written target.new) result }
         ensures is_data { IsData (Self.parts self.now) };
 
-    /// Appends the parts in canonical form: names lowercased, and without pointers (RFC 4034 section 6.2). It is refused as
-    /// `compose_rdata` is.
+    /// Appends the parts in canonical form: names lowercased and uncompressed (RFC 4034 section
+    /// 6.2). Errors are as for `compose_rdata`.
     fn compose_canonical_rdata<T: Composer>(&self, target: &mut T) -> Result<(), AppendError>
         ensures { Composes T.room T.grows (put_parts T.rule (canonical (Self.parts self.now)))
             (T.written target.old) (T.written target.new) result };
 }
 
-/// Data that can be read from a message.
+/// RDATA that can be read from a message, for some record types.
 pub trait ParseRecordData<'a>: RecordData + Sized {
-    /// How the data of a record type is laid out, where it is taken.
+    /// The layout of the RDATA of a record type, if the type is accepted.
     ghost layout: { ℕ → Option Layout };
 
-    /// Reads the data of a record of a type from the parser's place to the parser's end, `None` for a type that isn't taken.
+    /// Reads the RDATA of a record of this type, from the parser's offset to at most its end.
+    /// Returns `None` if the type isn't accepted.
     ///
-    /// Octets may be left over. Data that doesn't stand there is answered by its first fault, and the parser stays.
+    /// Octets may be left over. If the RDATA isn't there, the error is its first fault and the
+    /// parser doesn't move.
     fn parse_rdata(rtype: Rtype, parser: &mut Parser<'a>) -> Result<Option<Self>, ParseError>
         ensures { ParsesTaken Self.rtype_of Self.parts (layout rtype) rtype parser.old parser.new
             result };
 
-    /// The type of each value is taken, and the value's parts are those of its layout.
+    /// Each value has an accepted type, and its parts have that type's layout.
     ghost laid_out: { (d : Self) → IsSomeAnd (layout (Self.rtype_of d))
         (λ l. IsLaidOut l (Self.parts d)) };
 }
 
-/// Data that can be read from a message for every record type.
+/// RDATA that can be read from a message for every record type.
 pub trait ParseAnyRecordData<'a>: RecordData + Sized {
-    /// How the data of a record type is laid out.
+    /// The layout of the RDATA of a record type.
     ghost any_layout: { ℕ → Layout };
 
-    /// Reads the data of a record of a type, as `ParseRecordData::parse_rdata` does.
+    /// Reads the RDATA of a record of this type, as `ParseRecordData::parse_rdata` does.
     fn parse_any_rdata(rtype: Rtype, parser: &mut Parser<'a>) -> Result<Self, ParseError>
         ensures { ParsesLaidOut Self.rtype_of Self.parts (any_layout rtype) rtype parser.old
             parser.new result };
 
-    /// The parts of each value are those of its type's layout.
+    /// The parts of each value have the layout of its type.
     ghost any_laid_out: { (d : Self) → IsLaidOut (any_layout (Self.rtype_of d)) (Self.parts d) };
 }
 

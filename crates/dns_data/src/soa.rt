@@ -10,7 +10,7 @@ use crate::record_data::{ComposeRecordData, ParseRecordData, RecordData};
 use dns_code::Rtype;
 use dns_wire::{AppendError, Composer, ParseError, ParsedName, Parser, ToName, ToNameExt};
 
-/// The start of a zone of authority (RFC 1035 section 3.3.13).
+/// The RDATA of an SOA record: the start of a zone of authority (RFC 1035 section 3.3.13).
 #[derive(Clone, Copy, Debug, PartialEq, Eq, PartialOrd, Ord, Hash, Drop)]
 pub struct Soa<N> {
     mname: N,
@@ -23,7 +23,7 @@ pub struct Soa<N> {
 }
 
 impl<N> Soa<N> {
-    /// The data of these fields. All times are in seconds.
+    /// The RDATA with these fields. All times are in seconds.
     pub fn new(
         mname: N,
         rname: N,
@@ -52,56 +52,56 @@ impl<N> Soa<N> {
         }
     }
 
-    /// The primary name server of the zone.
+    /// MNAME: the primary name server of the zone.
     pub fn mname(&self) -> &N
         ensures { result.now ≡ mname_of self.now }
     {
         &self.mname
     }
 
-    /// The mailbox of the person responsible for the zone.
+    /// RNAME: the mailbox of the person responsible for the zone.
     pub fn rname(&self) -> &N
         ensures { result.now ≡ rname_of self.now }
     {
         &self.rname
     }
 
-    /// The version number of the zone.
+    /// SERIAL: the version number of the zone.
     pub fn serial(&self) -> u32
         ensures { result ≡ serial_of self.now }
     {
         self.serial
     }
 
-    /// The seconds until the zone should be refreshed.
+    /// REFRESH: the seconds until the zone should be refreshed.
     pub fn refresh(&self) -> u32
         ensures { result ≡ refresh_of self.now }
     {
         self.refresh
     }
 
-    /// The seconds until a refresh that failed should be tried again.
+    /// RETRY: the seconds until a failed refresh should be retried.
     pub fn retry(&self) -> u32
         ensures { result ≡ retry_of self.now }
     {
         self.retry
     }
 
-    /// The seconds after which the zone is no longer authoritative.
+    /// EXPIRE: the seconds after which the zone is no longer authoritative.
     pub fn expire(&self) -> u32
         ensures { result ≡ expire_of self.now }
     {
         self.expire
     }
 
-    /// The seconds for which a negative answer may be kept (RFC 2308 section 4).
+    /// MINIMUM: the seconds for which a negative answer may be cached (RFC 2308 section 4).
     pub fn minimum(&self) -> u32
         ensures { result ≡ minimum_of self.now }
     {
         self.minimum
     }
 
-    /// The two names, taken out, and the five numbers.
+    /// Takes out the two names and the five numbers.
     pub(crate) fn into_parts(self) -> (N, N, [u32; 5])
         ensures mname { result.0 ≡ mname_of self }
         ensures rname { result.1 ≡ rname_of self }
@@ -117,7 +117,7 @@ impl<N> Soa<N> {
         (self.mname, self.rname, numbers)
     }
 
-    /// The data of two names and the five numbers.
+    /// The RDATA of two names and the five numbers.
     pub(crate) fn of_parts(mname: N, rname: N, numbers: [u32; 5]) -> Self
         ensures mname { mname_of result ≡ mname }
         ensures rname { rname_of result ≡ rname }
@@ -141,7 +141,7 @@ impl<N> Soa<N> {
         octets
     }
 
-    /// The data of two names and the octets of the five numbers.
+    /// The RDATA of two names and the octets of the five numbers.
     fn of_octets(mname: N, rname: N, octets: &[u8]) -> Self
         requires { length octets.now ≡ 20 }
         ensures mname { mname_of result ≡ mname }
@@ -160,7 +160,7 @@ impl<N> Soa<N> {
     }
 }
 
-/// The number of four octets at a place.
+/// The big-endian number in the four octets at `place`.
 fn number_at(octets: &[u8], place: usize) -> u32
     requires { place + 4 ≤ length octets.now }
     ensures { to_be_bytes w32 result ≡ slice_range octets.now place (place + 4) }

@@ -1,4 +1,4 @@
-//! Opaque data (RFC 3597 section 4).
+//! Opaque RDATA (RFC 3597 section 4).
 ghost use Rattle.std.proofs.Common.{rules};
 ghost use Rattle.std.specs.Prelude.{◌≤◌, length, refl};
 
@@ -8,7 +8,8 @@ use dns_code::Rtype;
 use dns_wire::{AppendError, Composer, Octets, ParseError, Parser};
 use std::alloc::AllocError;
 
-/// The data of a record of any type as mere octets, at most 65,535 (RFC 3597 section 4).
+/// The RDATA of a record of any type as octets without structure, at most 65,535 (RFC 3597 section
+/// 4).
 #[derive(Debug, Drop)]
 pub struct UnknownRecordData<Octs: Octets> {
     rtype: u16,
@@ -20,7 +21,7 @@ impl<Octs: Octets> UnknownRecordData<Octs> {
     ghost use Rattle.std.specs.Prelude.{◌≡◌, ◌<◌, ◌↔◌, length, IfOk, IsErr};
     ghost use Rattle.dns_data.specs.UnknownData.{unknown_rtype_of, unknown_holder_of};
 
-    /// The data of a record of this type. More than 65,535 octets are refused.
+    /// The RDATA of a record of this type. Returns an error for more than 65,535 octets.
     pub fn from_octets(rtype: Rtype, octets: Octs) -> Result<Self, LongRecordData>
         ensures rtype { IfOk result (λ unknown. unknown_rtype_of unknown ≡ rtype) }
         ensures octets { IfOk result (λ unknown. unknown_holder_of unknown ≡ octets) }
@@ -32,14 +33,14 @@ impl<Octs: Octets> UnknownRecordData<Octs> {
         Ok(UnknownRecordData::of_short(rtype, octets))
     }
 
-    /// The holder of the octets.
+    /// The value that holds the octets.
     pub fn data(&self) -> &Octs
         ensures { result.now ≡ unknown_holder_of self.now }
     {
         &self.octets
     }
 
-    /// The data of octets that are known to be at most 65,535.
+    /// The RDATA of octets that are known to be at most 65,535.
     pub(crate) fn of_short(rtype: Rtype, octets: Octs) -> Self
         requires { length (Octs.octets octets) ≤ 65535 }
         ensures rtype { unknown_rtype_of result ≡ rtype }
@@ -51,7 +52,7 @@ impl<Octs: Octets> UnknownRecordData<Octs> {
         }
     }
 
-    /// The type, and the holder of the octets, taken out.
+    /// Takes out the type and the value that holds the octets.
     pub(crate) fn into_parts(self) -> (Rtype, Octs)
         ensures rtype { result.0 ≡ unknown_rtype_of self }
         ensures octets { result.1 ≡ unknown_holder_of self }
@@ -80,7 +81,7 @@ impl<Octs: Octets> ComposeRecordData for UnknownRecordData<Octs> {
     ghost use Rattle.std.specs.Prelude.{◌≡◌, IfSome, IsSome};
     ghost use Rattle.dns_data.specs.UnknownData.{unknown_octets};
 
-    /// All octets of the data.
+    /// Returns all octets of the RDATA.
     #[inline(always)]
     fn flat_rdata(&self) -> Option<&[u8]>
         ensures lent { IsSome result }
@@ -98,7 +99,7 @@ impl<Octs: Octets> ComposeRecordData for UnknownRecordData<Octs> {
     }
 }
 
-/// All octets up to the parser's end. More than 65,535 are `ShortInput`.
+/// Reads all octets up to the parser's end. Returns `ShortInput` for more than 65,535.
 impl<'a> ParseAnyRecordData<'a> for UnknownRecordData<&'a [u8]> {
     ghost use Rattle.dns_data.specs.UnknownData.{opaque_layout};
 
@@ -133,7 +134,7 @@ impl<'a> ParseRecordData<'a> for UnknownRecordData<&'a [u8]> {
     ghost laid_out = { λ unknown. (_, refl, Prim.search rules) };
 }
 
-/// A clone of the holder. One that doesn't hold the same octets is answered by `AllocError`.
+/// Clones the octets. Returns `AllocError` if the clone doesn't hold the same octets.
 impl<Octs: Octets + Clone> Clone for UnknownRecordData<Octs> {
     ghost use Rattle.std.specs.Prelude.{◌≡◌};
     ghost use Rattle.dns_octets.specs.Octets.{ClonesSurely};

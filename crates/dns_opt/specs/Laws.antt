@@ -1,18 +1,18 @@
--- What holds of lists of options. RFC 6891 section 6.1.2.
+-- Theorems over all lists of options. RFC 6891 section 6.1.2.
 use Rattle.std.specs.Prelude.{◌≡◌, ◌↔◌, ◌<◌, ℕ, List, length, Some}
 use Rattle.std.specs.List.{All}
 use Rattle.dns_opt.specs.Options.{OptionItem, AreOptions, put_options}
 use Rattle.dns_opt.specs.OptionsOf.{options_of}
 
--- the options of octets are those, and no others, of which the octets are the list
+-- `options_of` returns exactly the list of options that the octets are
 abbrev pub OptionsAreOne : Type 0
 OptionsAreOne = (b : List ℕ) (xs : List OptionItem) → (options_of b ≡ Some xs) ↔ AreOptions b xs
 
--- the code of an option, and how many octets it has, are numbers of 16 bits
+-- an option whose code and length are 16-bit numbers
 pub record IsOption (x : OptionItem) : Type 0 where
   pub code : x.code < 65536
   pub short : length x.octets < 65536
 
--- options that are put are read back
+-- options that are written are read back
 abbrev pub OptionsAreReadBack : Type 0
 OptionsAreReadBack = (xs : List OptionItem) → All IsOption xs → options_of (put_options xs) ≡ Some xs

@@ -1,10 +1,10 @@
--- An option as a code and octets that are held. RFC 6891 section 6.1.2.
+-- An option as its code and the value that holds its octets. RFC 6891 section 6.1.2.
 use Rattle.dns_octets.specs.declared.octets.Octets.{Ghosts}
 use Rattle.dns_opt.specs.Options.{OptionItem}
 use Rattle.dns_opt.specs.declared.option.UnknownOptData.{UnknownOptData}
 
 module _ {X : Type 0} {holds : Ghosts X} where
-  -- the holder of the octets
+  -- the value that holds the octets
   abbrev pub holder_of : UnknownOptData X holds → X
   holder_of unknown = unknown.octets
 

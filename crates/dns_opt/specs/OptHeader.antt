@@ -1,8 +1,8 @@
--- The header of an OPT record: what its class and its TTL say. RFC 6891 sections 6.1.2 and 6.1.3.
+-- The header of an OPT record: the fields in its class and its TTL. RFC 6891 sections 6.1.2 and 6.1.3.
 use Rattle.std.specs.Prelude.{ℕ, Bool, ◌+◌, ◌*◌, ◌/◌, ◌%◌, ◌==◌, if◌then◌else◌}
 use Rattle.dns_opt.specs.declared.header.OptHeader.{OptHeader}
 
--- what it says: the UDP payload size in octets, the eight higher bits of the rcode, the version, DO, and the 15 bits Z
+-- the fields: the UDP payload size in octets, the upper eight bits of the rcode, the version, DO, and the 15 bits Z
 pub record OptFields : Type 0 where
   pub udp_payload_size : ℕ
   pub ext : ℕ
@@ -10,7 +10,7 @@ pub record OptFields : Type 0 where
   pub dnssec_ok : Bool
   pub z : ℕ
 
--- Where the fields stand: the payload size is the class, and the TTL has 8, 8, 1 and 15 bits.
+-- The fields in a class and a TTL: the class is the payload size, and the TTL has 8, 8, 1 and 15 bits.
 abbrev pub fields_in : ℕ → ℕ → OptFields
 fields_in class ttl = record {
   udp_payload_size = class;
@@ -20,7 +20,7 @@ fields_in class ttl = record {
   z = ttl % 32768;
 }
 
--- the TTL that has these fields
+-- the TTL with these fields
 abbrev pub ttl_in : OptFields → ℕ
 ttl_in f = f.ext * 16777216 + f.version * 65536 + (if f.dnssec_ok then 32768 else 0) + f.z
 

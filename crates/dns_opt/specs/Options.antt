@@ -1,4 +1,4 @@
--- The options of an OPT record: what they are, and how they stand in its data. RFC 6891 section 6.1.2.
+-- The options of an OPT record, and how they are encoded in its RDATA. RFC 6891 section 6.1.2.
 use Rattle.std.specs.Prelude.{◌≡◌, ◌≤◌, ℕ, List, [], ◌∷◌, ◌++◌, length, drop}
 use Rattle.std.specs.Int.{to_be_bytes, w16}
 use Rattle.std.specs.List.{flat_map}
@@ -9,19 +9,19 @@ pub record OptionItem : Type 0 where
   pub code : ℕ
   pub octets : List ℕ
 
--- An option stands at the start of octets, and these are behind it: two octets tell its code, two how many octets it has, and then those stand.
+-- Octets `b` begin with the option, and `behind` follows it. An option is encoded as two octets of code, two octets of length, and its octets.
 pub record OptionBegins (x : OptionItem) (b behind : List ℕ) : Type 0 where
   pub there : 4 ≤ length b
   pub code : number_in b 0 ≡ x.code
   pub size : number_in b 2 ≡ length x.octets
   pub octets : drop 4 b ≡ x.octets ++ behind
 
--- octets are these options, one behind the other
+-- octets are exactly these options, in order
 abbrev pub AreOptions : List ℕ → List OptionItem → Type 0
 AreOptions b [] = b ≡ []
 AreOptions b (x ∷ xs) = (behind : List ℕ) × OptionBegins x b behind × AreOptions behind xs
 
--- the octets of an option, and those of options, one behind the other
+-- the octets of an option, and those of options in order
 abbrev pub put_option : OptionItem → List ℕ
 put_option x = to_be_bytes w16 x.code ++ to_be_bytes w16 (length x.octets) ++ x.octets
 

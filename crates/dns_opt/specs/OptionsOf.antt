@@ -1,4 +1,4 @@
--- The one list of options that octets are. RFC 6891 section 6.1.2. It is taken from the proof, which stands here too, that octets are one list of options or none.
+-- The one list of options that octets are. RFC 6891 section 6.1.2. The list comes from the proof, which is here too, that octets are one list of options or none.
 use Rattle.std.proofs.Common.{◌≡◌, ◌∙◌, ap, sym, refl, subst, ℕ, zero, suc, ◌<◌, ◌≤◌, ◌⊎◌, inl, inr, List, [], ◌∷◌, length, length-append, take, drop, arith}
 use Rattle.std.proofs.lemmas.Bool.{cases_lt}
 use Rattle.std.proofs.lemmas.List.{take_at, drop_at, take-append-drop, length-take-le, length-drop}
@@ -7,7 +7,7 @@ use Rattle.std.specs.Prelude.{Bool, Option, Some, None, is_some}
 use Rattle.dns_code.specs.Bits.{number_in}
 use Rattle.dns_opt.specs.Options.{OptionItem, OptionBegins, AreOptions}
 
--- the option that stands at the start where one does, and what is behind it
+-- the option at the start, if there is one, and the octets after it
 abbrev pub first_option : List ℕ → OptionItem
 first_option b = record { code = number_in b 0; octets = take (number_in b 2) (drop 4 b) }
 
@@ -28,19 +28,19 @@ first_begins b there fits = record {
   octets = sym (take-append-drop (number_in b 2) (drop 4 b));
 }
 
--- it takes four octets at least
+-- an option takes at least four octets
 less_behind : (b : List ℕ) → 4 ≤ length b → length (behind_first b) < length b
 less_behind b there = let e = length-drop (number_in b 2) (drop 4 b) in let f = length-drop 4 b in omega (arith, e, f)
 
--- octets that are options, or none
+-- octets are a list of options, or no list is one of them
 abbrev IsOneOrNone : List ℕ → Type 0
 IsOneOrNone b = ((xs : List OptionItem) × AreOptions b xs) ⊎ ((xs : List OptionItem) → AreOptions b xs → ⊥)
 
--- no option stands in too few octets
+-- fewer than four octets don't begin with an option
 pub none_in_short : (b : List ℕ) → length b < 4 → (x : OptionItem) (behind : List ℕ) → OptionBegins x b behind → ⊥
 none_in_short b short x behind h = let there = h.there in omega arith
 
--- nor where its own aren't all there
+-- nor do octets that end before the option does
 pub none_in_cut : (b : List ℕ) → length (drop 4 b) < number_in b 2 → (x : OptionItem) (behind : List ℕ) → OptionBegins x b behind → ⊥
 none_in_cut b short x behind h =
     let size = h.size in
@@ -81,7 +81,7 @@ one_list b (x ∷ xs) (y ∷ ys) h k =
     let rest = one_list (behind_first b) xs ys (subst (λ (o : List ℕ). AreOptions o xs) p.1 h.2) (subst (λ (o : List ℕ). AreOptions o ys) q.1 k.2) in
     λ i. (p.0 ∙ sym q.0) i ∷ rest i
 
--- the list, where octets are one
+-- the list, if octets are one
 abbrev pub chosen : {b : List ℕ} → ((xs : List OptionItem) × AreOptions b xs) ⊎ ((xs : List OptionItem) → AreOptions b xs → ⊥) → Option (List OptionItem)
 chosen (inl p) = Some p.0
 chosen (inr never) = None
@@ -96,6 +96,6 @@ options_of b = chosen (one_or_none b)
 abbrev pub are_options : List ℕ → Bool
 are_options b = is_some (options_of b)
 
--- the options that octets are, or none
+-- the options in octets, the empty list if they aren't a list of options
 abbrev pub options_in : List ℕ → List OptionItem
 options_in b = option_map_or (λ xs. xs) (options_of b) []

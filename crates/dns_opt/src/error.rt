@@ -1,6 +1,6 @@
 use thiserror::Error;
 
-/// Octets are too many for an option: its length is a number of 16 bits.
+/// The octets are too many for an option: OPTION-LENGTH is a 16-bit number.
 #[derive(Clone, Copy, Debug, PartialEq, Eq, Error)]
 #[error("option data too long")]
 pub struct LongOptData;

@@ -5,15 +5,16 @@ ghost use Rattle.dns_opt.specs.OptHeader.{class_of, ttl_of, ttl_in, fields};
 
 use dns_code::{Class, Header, OptRcode};
 
-/// What the class and the TTL of an OPT record say (RFC 6891 section 6.1.3).
+/// The fields of an OPT record that are in its class and its TTL (RFC 6891 section 6.1.3).
 #[derive(Clone, Copy, Debug, PartialEq, Eq)]
 pub struct OptHeader {
     udp_payload_size: u16,
-    /// From the highest octet on: the higher bits of the rcode, the version, and 16 bits, the first of them DO.
+    /// From the most significant octet: the upper bits of the rcode, the version, and 16 bits, the
+    /// first of them DO.
     ttl: u32,
 }
 
-/// The header of a class 0 and a TTL 0: each of its fields is 0.
+/// Class 0 and TTL 0: each field is 0.
 impl Default for OptHeader {
     ghost is_default = { λ header. (class_of header ≡ 0) × (ttl_of header ≡ 0) };
 
@@ -26,7 +27,7 @@ impl Default for OptHeader {
 }
 
 impl OptHeader {
-    /// The header that a class and a TTL in seconds say.
+    /// The header in a class and a TTL in seconds.
     pub fn from_fields(class: Class, ttl: u32) -> Self
         ensures class { class_of result ≡ class }
         ensures ttl { ttl_of result ≡ ttl }
@@ -52,28 +53,28 @@ impl OptHeader {
         self.ttl
     }
 
-    /// How many octets of a message the sender can take over UDP.
+    /// The most octets of a UDP payload that the sender can receive.
     pub fn udp_payload_size(self) -> u16
         ensures { result ≡ (fields self).udp_payload_size }
     {
         self.udp_payload_size
     }
 
-    /// Changes the UDP payload size.
+    /// Sets the UDP payload size in octets.
     pub fn set_udp_payload_size(&mut self, size: u16)
         ensures { fields self.new ≡ record (fields self.old) { udp_payload_size = size } }
     {
         self.udp_payload_size = size;
     }
 
-    /// The rcode, of which the lower four bits stand in the header of the message.
+    /// The extended rcode. Its lower four bits are those of the message's `header`.
     pub fn rcode(self, header: Header) -> OptRcode
         ensures { result ≡ (fields self).ext * 16 + (header_fields header).rcode }
     {
         OptRcode::from_parts(header.rcode(), (self.ttl / 0x100_0000) as u8)
     }
 
-    /// Changes the bits of the rcode that don't stand in the header of the message.
+    /// Sets the upper eight bits of the extended rcode. The lower four are in the message's header.
     pub fn set_rcode(&mut self, rcode: OptRcode)
         ensures { fields self.new ≡ record (fields self.old) { ext = rcode / 16 } }
     {
@@ -87,7 +88,7 @@ impl OptHeader {
         (self.ttl / 0x1_0000 % 0x100) as u8
     }
 
-    /// Changes the version.
+    /// Sets the version of EDNS.
     pub fn set_version(&mut self, version: u8)
         ensures { fields self.new ≡ record (fields self.old) { version = version } }
     {
@@ -95,14 +96,14 @@ impl OptHeader {
         self.ttl = ext * 0x100_0000 + u32::from(version) * 0x1_0000 + self.ttl % 0x1_0000;
     }
 
-    /// Whether the sender can take DNSSEC's records (DO, RFC 3225).
+    /// DO: whether the sender accepts DNSSEC records (RFC 3225).
     pub fn dnssec_ok(self) -> bool
         ensures { result ≡ (fields self).dnssec_ok }
     {
         self.ttl / 0x8000 % 2 == 1
     }
 
-    /// Changes DO.
+    /// Sets or clears DO.
     pub fn set_dnssec_ok(&mut self, set: bool)
         ensures { fields self.new ≡ record (fields self.old) { dnssec_ok = set } }
     {

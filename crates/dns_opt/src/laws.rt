@@ -1,4 +1,4 @@
-//! Laws of lists of options. A call of one does nothing: its contract is the law.
+//! Theorems on lists of options. The functions do nothing: each contract is a theorem.
 ghost use Rattle.dns_opt.specs.Laws.{OptionsAreOne, OptionsAreReadBack};
 
 /// Octets are at most one list of options.
@@ -6,7 +6,7 @@ pub fn options_are_one()
     ensures { OptionsAreOne }
 {}
 
-/// Options that are put one behind the other are read back.
+/// Options that are written in order are read back.
 pub fn options_read_back()
     ensures { OptionsAreReadBack }
 {}

@@ -1,7 +1,8 @@
-//! Values of OPT records: their header, which the class and the TTL say, and their options (RFC 6891 section 6.1).
+//! Values of OPT records: the header, which is in the class and the TTL, and the options (RFC 6891
+//! section 6.1).
 //!
-//! It promises that each field of the header is its bits, that a setter changes its field alone, and that octets are at most
-//! one list of options, which an iterator gives.
+//! Each field of the header is its bits, and a setter changes its field alone. Octets are at most
+//! one list of options, and an iterator yields these.
 #![tactic(auto)]
 
 mod error;

@@ -11,16 +11,16 @@ pub trait ComposeOptData {
     /// The option.
     ghost option: { Self → OptionItem };
 
-    /// Its code.
+    /// The code of the option.
     fn code(&self) -> OptionCode
         ensures { result ≡ (option self.now).code };
 
-    /// Its octets, without the code and the length before them.
+    /// The octets of the option, without its code and length.
     fn octets(&self) -> &[u8]
         ensures { result.now ≡ (option self.now).octets };
 }
 
-/// An option of any code, as mere octets, at most 65,535.
+/// An option of any code, as octets without structure, at most 65,535.
 #[derive(Debug, Drop)]
 pub struct UnknownOptData<Octs: Octets> {
     code: u16,
@@ -32,7 +32,7 @@ impl<Octs: Octets> UnknownOptData<Octs> {
     ghost use Rattle.std.specs.Prelude.{◌<◌, ◌↔◌, IfOk, IsErr};
     ghost use Rattle.dns_opt.specs.OptData.{holder_of, option_of};
 
-    /// The option of this code. More than 65,535 octets are refused.
+    /// The option with this code and these octets. Returns an error for more than 65,535 octets.
     pub fn new(code: OptionCode, octets: Octs) -> Result<Self, LongOptData>
         ensures code { IfOk result (λ unknown. (option_of unknown).code ≡ code) }
         ensures octets { IfOk result (λ unknown. holder_of unknown ≡ octets) }
@@ -62,11 +62,11 @@ impl<Octs: Octets> ComposeOptData for UnknownOptData<Octs> {
     }
 }
 
-/// An address of the option that tells a client's subnet (RFC 7871 section 6).
+/// The address in a client subnet option (RFC 7871 section 6).
 #[derive(Clone, Copy, Debug, PartialEq, Eq)]
 pub enum SubnetAddr {
-    /// Of IPv4.
+    /// An IPv4 address.
     V4([u8; 4]),
-    /// Of IPv6.
+    /// An IPv6 address.
     V6([u8; 16]),
 }

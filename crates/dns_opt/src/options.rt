@@ -5,7 +5,7 @@ ghost use Rattle.dns_opt.specs.OptionsOf.{are_options};
 use crate::split::split_option;
 use dns_code::OptionCode;
 
-/// Whether octets are a list of options, one behind the other.
+/// Whether octets are a list of options.
 #[tactic(auto, using(crate::proofs::theory::OptionsLemmas::told_empty, crate::proofs::theory::OptionsLemmas::told_none))]
 pub fn are_options(octets: &[u8]) -> bool
     ensures { result ≡ are_options octets.now }
@@ -20,7 +20,7 @@ pub fn are_options(octets: &[u8]) -> bool
     true
 }
 
-/// The options that octets are, each with its code and its octets.
+/// An iterator over the options in octets. It yields the code and the octets of each.
 #[derive(Clone, Copy, Debug)]
 pub struct OptionIter<'a> {
     left: &'a [u8],
@@ -31,7 +31,7 @@ impl<'a> OptionIter<'a> {
     ghost use Rattle.dns_opt.specs.OptionsOf.{options_in};
     ghost use Rattle.dns_opt.specs.OptionIter.{options_left};
 
-    /// The options of octets that are a list of them.
+    /// The options in octets, `None` if the octets aren't a list of options.
     pub fn new(octets: &'a [u8]) -> Option<Self>
         ensures list { is_some result ≡ are_options octets.now }
         ensures options { IfSome result (λ it. options_left it ≡ options_in octets.now) }
@@ -43,7 +43,7 @@ impl<'a> OptionIter<'a> {
         }
     }
 
-    /// The options of octets that are known to be a list of them.
+    /// The options in octets that are known to be a list of options.
     pub(crate) fn of_options(octets: &'a [u8]) -> Self
         requires { IsTrue (are_options octets.now) }
         ensures { options_left result ≡ options_in octets.now }

@@ -1,9 +1,10 @@
-//! Taking options apart (RFC 6891 section 6.1.2).
+//! Splitting off options (RFC 6891 section 6.1.2).
 ghost use Rattle.dns_opt.specs.Splitting.{Splits};
 
 use dns_code::OptionCode;
 
-/// The first option, its code and its octets, and the octets behind it; `None` where no whole option begins.
+/// The code and the octets of the first option, and the octets after it. `None` if the octets don't
+/// begin with a whole option.
 pub(crate) fn split_option(octets: &[u8]) -> Option<(OptionCode, &[u8], &[u8])>
     ensures { Splits octets.now result }
 {

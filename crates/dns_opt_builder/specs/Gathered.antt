@@ -1,4 +1,4 @@
--- What an OPT builder has gathered. RFC 6891 section 6.1.
+-- What an OPT builder has collected. RFC 6891 section 6.1.
 use Rattle.std.specs.Prelude.{vec_capacity, ℕ, ◌/◌, ◌%◌, ◌<◌, ◌≤◌, List, [], length, false}
 use Rattle.dns_code.specs.Header.{HeaderFields, fields as header_fields}
 use Rattle.dns_code.specs.declared.header.Header.{Header}
@@ -13,15 +13,15 @@ pub record Gathered : Type 0 where
   pub fields : OptFields
   pub options : List OptionItem
 
--- the octets of the options that a builder holds, one behind the other
+-- the octets of the options that a builder holds, in order
 abbrev pub option_octets : OptBuilder → List ℕ
 option_octets builder = builder.octets.items
 
--- for how many octets of options a builder has memory
+-- the capacity of a builder: the octets of options that fit without an allocation
 abbrev pub option_capacity : OptBuilder → ℕ
 option_capacity builder = vec_capacity builder.octets
 
--- what a builder has gathered
+-- what a builder has collected
 abbrev pub gathered : OptBuilder → Gathered
 gathered builder = record {
   header = header_fields builder.header;
@@ -29,7 +29,7 @@ gathered builder = record {
   options = options_in (option_octets builder);
 }
 
--- what a fresh builder has gathered beside a header: its fields are 0 or false, and it has no options
+-- what a new builder has collected: the header, fields that are 0 or false, and no options
 abbrev pub nothing_gathered : Header → Gathered
 nothing_gathered header = record {
   header = header_fields header;
@@ -37,11 +37,11 @@ nothing_gathered header = record {
   options = [];
 }
 
--- with another rcode: its lower four bits stand in the header, the others in the record (RFC 6891 section 6.1.3)
+-- with another rcode: its lower four bits are in the header, the others in the record (RFC 6891 section 6.1.3)
 abbrev pub with_rcode : ℕ → Gathered → Gathered
 with_rcode rcode g = record g { header = record g.header { rcode = rcode % 16 }; fields = record g.fields { ext = rcode / 16 } }
 
--- What can be gathered: fields of 4, 8, 8 and 15 bits, and options of which their octets, 65,535 at most, are the list.
+-- What can be collected: fields within their 4, 8, 8 and 15 bits, and options whose octets, at most 65,535, read back as these options.
 pub record IsGathered (g : Gathered) : Type 0 where
   pub rcode : g.header.rcode < 16
   pub ext : g.fields.ext < 256

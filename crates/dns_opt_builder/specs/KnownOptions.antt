@@ -1,4 +1,4 @@
--- The options that a builder has a call for: the code of each, and its octets as its RFC draws them.
+-- The options that a builder has a call for: the code of each, and its octets as its RFC defines them.
 use Rattle.std.specs.Prelude.{ℕ, ◌-◌, ◌*◌, ◌/◌, ◌%◌, ◌^◌, ◌≤◌, min, Option, Some, None, List, [], ◌∷◌, ◌++◌, length, take, replicate, slice_index, if◌then◌else◌, ◌==◌}
 use Rattle.std.specs.Int.{to_be_bytes, w16, w32}
 use Rattle.std.specs.List.{flat_map}
@@ -7,11 +7,11 @@ use Rattle.dns_opt.specs.Options.{OptionItem}
 use Rattle.dns_opt.specs.declared.option.SubnetAddr.{SubnetAddr}
 use Rattle.dns_opt.specs.declared.option.SubnetAddr.TheVariants.{V4, V6}
 
--- NSID: what identifies a name server; a query has none. RFC 5001 sections 2.1 and 2.3.
+-- NSID: the identifier of a name server, empty in a query. RFC 5001 sections 2.1 and 2.3.
 abbrev pub nsid_option : List ℕ → OptionItem
 nsid_option identifier = record { code = 3; octets = identifier }
 
--- DAU, DHU and N3U: the algorithms of signatures, of DS digests, and of NSEC3 hashes that are understood, one octet each. RFC 6975 section 3.
+-- DAU, DHU and N3U: the understood algorithms of signatures, of DS hashes and of NSEC3 hashes, one octet each. RFC 6975 section 3.
 abbrev pub dau_option : List ℕ → OptionItem
 dau_option algorithms = record { code = 5; octets = algorithms }
 
@@ -21,7 +21,7 @@ dhu_option algorithms = record { code = 6; octets = algorithms }
 abbrev pub n3u_option : List ℕ → OptionItem
 n3u_option algorithms = record { code = 7; octets = algorithms }
 
--- Client subnet: the family of an address in two octets, the source and the scope prefix length in one each, and the source prefix. RFC 7871 section 6. The families are 1 for IPv4 and 2 for IPv6.
+-- Client subnet: two octets of address family, one octet each of source and scope prefix length, and the source prefix. RFC 7871 section 6. The families are 1 for IPv4 and 2 for IPv6.
 abbrev pub family : SubnetAddr → ℕ
 family (V4 _) = 1
 family (V6 _) = 2
@@ -30,33 +30,33 @@ abbrev pub address_octets : SubnetAddr → List ℕ
 address_octets (V4 octets) = octets
 address_octets (V6 octets) = octets
 
--- how many bits an address has
+-- the number of bits of an address
 abbrev pub address_bits : SubnetAddr → ℕ
 address_bits (V4 _) = 32
 address_bits (V6 _) = 128
 
--- an octet with its first bits alone, the others zero
+-- an octet with only its first `count` bits; the others are zero
 abbrev pub first_bits : ℕ → ℕ → ℕ
 first_bits count octet = octet / 2 ^ (8 - count) * 2 ^ (8 - count)
 
--- the first bits of an address in the fewest octets, those behind them zero
+-- the first bits of an address in the fewest octets; the bits after them are zero
 abbrev pub prefix_octets : ℕ → List ℕ → List ℕ
 prefix_octets bits address =
     take (bits / 8) address ++ (if bits % 8 == 0 then [] else first_bits (bits % 8) (slice_index address (bits / 8)) ∷ [])
 
--- a prefix length is at most the bits of the address
+-- the option, with both prefix lengths capped at the number of bits of the address
 abbrev pub client_subnet_option : ℕ → ℕ → SubnetAddr → OptionItem
 client_subnet_option source scope address =
     let most = address_bits address in
     let lengths = min source most ∷ min scope most ∷ [] in
     record { code = 8; octets = to_be_bytes w16 (family address) ++ lengths ++ prefix_octets (min source most) (address_octets address) }
 
--- EXPIRE: in how many seconds a zone expires, in four octets; a query has none. RFC 7314 sections 2 and 3.
+-- EXPIRE: the seconds until a zone expires, in four octets; empty in a query. RFC 7314 sections 2 and 3.
 abbrev pub expire_option : Option ℕ → OptionItem
 expire_option None = record { code = 9; octets = [] }
 expire_option (Some seconds) = record { code = 9; octets = to_be_bytes w32 seconds }
 
--- COOKIE: eight octets of the client, and those of the server, 8 to 32, once the client has them. RFC 7873 section 4.
+-- COOKIE: eight octets of the client, and those of the server, 8 to 32, if the client has them. RFC 7873 section 4.
 abbrev pub cookie_option : List ℕ → Option (List ℕ) → OptionItem
 cookie_option client None = record { code = 10; octets = client }
 cookie_option client (Some server) = record { code = 10; octets = client ++ server }
@@ -64,12 +64,12 @@ cookie_option client (Some server) = record { code = 10; octets = client ++ serv
 abbrev pub IsServerCookie : List ℕ → Type 0
 IsServerCookie server = (8 ≤ length server) × (length server ≤ 32)
 
--- TCP keepalive: for how long an idle connection is kept, in units of 100 milliseconds, in two octets; a query has none. RFC 7828 section 3.1.
+-- TCP keepalive: the idle timeout of the connection in units of 100 milliseconds, in two octets; empty in a query. RFC 7828 section 3.1.
 abbrev pub tcp_keepalive_option : Option ℕ → OptionItem
 tcp_keepalive_option None = record { code = 11; octets = [] }
 tcp_keepalive_option (Some timeout) = record { code = 11; octets = to_be_bytes w16 timeout }
 
--- Padding: octets that mean nothing, and are zero if nothing speaks for others. RFC 7830 section 3.
+-- Padding: octets without meaning, which should be zero unless there is a reason for others. RFC 7830 section 3.
 abbrev pub padding_option : List ℕ → OptionItem
 padding_option octets = record { code = 12; octets = octets }
 

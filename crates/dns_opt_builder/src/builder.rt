@@ -1,4 +1,4 @@
-//! What is gathered for an OPT record (RFC 6891 section 6.1).
+//! A builder of OPT records (RFC 6891 section 6.1).
 ghost use Rattle.std.specs.Prelude.{◌≡◌, ◌≤◌, length, IsTrue};
 ghost use Rattle.dns_opt.specs.Options.{put_options};
 ghost use Rattle.dns_opt.specs.OptionsOf.{are_options, options_in};
@@ -12,10 +12,11 @@ use dns_opt::{ComposeOptData, OptHeader, OptionIter};
 use dns_wire::{AppendError, Octets};
 use std::alloc::Global;
 
-/// The fields and the options of an OPT record, and a copy of its message's header, for the lower bits of the rcode.
+/// The fields and options of an OPT record, and a copy of the message's header, which has the lower
+/// bits of the rcode.
 ///
-/// An option that is refused changes nothing. It is `ShortBuf` where the options would take more than 65,535 octets, and
-/// else `OutOfMemory`.
+/// A call that adds an option returns `ShortBuf` if the options would take more than 65,535 octets,
+/// and `OutOfMemory` if an allocation fails. Nothing changes on error.
 #[derive(Debug, Drop)]
 pub struct OptBuilder {
     header: Header,
@@ -37,7 +38,8 @@ impl OptBuilder {
     ghost use Rattle.dns_opt_builder.specs.Additions.{Adds};
     ghost use Rattle.dns_item.specs.OptRecord.{opt_item};
 
-    /// A builder with the header of the message, whose other fields are 0 or false, and with no options.
+    /// A builder with a copy of the message's header and without options. The fields of the OPT
+    /// record are 0 or false.
     pub fn new(alloc: Global, header: Header) -> Self
         ensures { gathered result ≡ nothing_gathered header }
     {
@@ -48,21 +50,21 @@ impl OptBuilder {
         }
     }
 
-    /// The copy of the message's header, with the lower bits of the rcode.
+    /// The copy of the message's header, which has the lower bits of the rcode.
     pub fn header(&self) -> Header
         ensures { header_fields result ≡ (gathered self.now).header }
     {
         self.header
     }
 
-    /// What the class and the TTL of the record say.
+    /// The fields in the class and the TTL of the record.
     pub fn opt_header(&self) -> OptHeader
         ensures { opt_fields result ≡ (gathered self.now).fields }
     {
         self.opt_header
     }
 
-    /// The octets of the options, one behind the other: the data of the record.
+    /// The options in wire format, which is the RDATA of the record.
     pub fn option_octets(&self) -> &[u8]
         ensures octets { result.now ≡ option_octets self.now }
         ensures options { result.now ≡ put_options (gathered self.now).options }
@@ -71,14 +73,14 @@ impl OptBuilder {
         self.octets.as_slice()
     }
 
-    /// How many octets of a message the sender can take over UDP.
+    /// The most octets of a UDP payload that the sender can receive.
     pub fn udp_payload_size(&self) -> u16
         ensures { result ≡ (gathered self.now).fields.udp_payload_size }
     {
         self.opt_header.udp_payload_size()
     }
 
-    /// Changes the UDP payload size.
+    /// Sets the UDP payload size in octets.
     pub fn set_udp_payload_size(&mut self, size: u16)
         ensures { let old = gathered self.old in gathered self.new ≡
             record old { fields = record old.fields { udp_payload_size = size } } }
@@ -86,14 +88,14 @@ impl OptBuilder {
         self.opt_header.set_udp_payload_size(size);
     }
 
-    /// The rcode, of which the lower four bits stand in the header.
+    /// The extended rcode. Its lower four bits are in the header.
     pub fn rcode(&self) -> OptRcode
         ensures { let all = gathered self.now in result ≡ all.fields.ext * 16 + all.header.rcode }
     {
         self.opt_header.rcode(self.header)
     }
 
-    /// Changes the rcode, in the header and in the record.
+    /// Sets the extended rcode, in the header and in the record.
     pub fn set_rcode(&mut self, rcode: OptRcode)
         ensures { gathered self.new ≡ with_rcode rcode (gathered self.old) }
     {
@@ -108,7 +110,7 @@ impl OptBuilder {
         self.opt_header.version()
     }
 
-    /// Changes the version.
+    /// Sets the version of EDNS.
     pub fn set_version(&mut self, version: u8)
         ensures { let old = gathered self.old in gathered self.new ≡
             record old { fields = record old.fields { version = version } } }
@@ -116,14 +118,14 @@ impl OptBuilder {
         self.opt_header.set_version(version);
     }
 
-    /// Whether the sender can take DNSSEC's records (DO, RFC 3225).
+    /// DO: whether the sender accepts DNSSEC records (RFC 3225).
     pub fn dnssec_ok(&self) -> bool
         ensures { result ≡ (gathered self.now).fields.dnssec_ok }
     {
         self.opt_header.dnssec_ok()
     }
 
-    /// Changes DO.
+    /// Sets or clears DO.
     pub fn set_dnssec_ok(&mut self, set: bool)
         ensures { let old = gathered self.old in gathered self.new ≡
             record old { fields = record old.fields { dnssec_ok = set } } }
@@ -133,7 +135,7 @@ impl OptBuilder {
 
     /// Replaces the fields and the options by those of an OPT record. The copy of the header stays.
     ///
-    /// Where memory is refused nothing changes.
+    /// The only error is `OutOfMemory`, and then nothing changes.
     pub fn clone_from<Octs: Octets>(&mut self, opt: &OptRecord<Octs>) -> Result<(), AppendError>
         ensures cloned { OnOk result (gathered self.new ≡ record (gathered self.old) {
           fields = (opt_item opt.now).fields;
@@ -150,7 +152,7 @@ impl OptBuilder {
         Ok(())
     }
 
-    /// Adds the options that an iterator gives, up to the first that is refused.
+    /// Adds the options of an iterator, up to the first that can't be added.
     fn append_all(&mut self, options: OptionIter) -> Result<(), AppendError>
         ensures added { OnOk result (gathered self.new ≡ record (gathered self.old) {
           options = (gathered self.old).options ++ options_left options.entry;
@@ -171,21 +173,21 @@ impl OptBuilder {
         self.append(option.code().to_int(), option.octets())
     }
 
-    /// Adds the option of this code with these octets.
+    /// Adds the option with this code and these octets.
     pub fn push_raw_option(&mut self, code: OptionCode, octets: &[u8]) -> Result<(), AppendError>
         ensures { Adds (record { code = code; octets = octets.now }) self.old self.new result }
     {
         self.append(code.to_int(), octets)
     }
 
-    /// Adds the option of a code with these octets.
+    /// Adds the option with this code and these octets.
     pub(crate) fn append(&mut self, code: u16, octets: &[u8]) -> Result<(), AppendError>
         ensures { Adds (record { code = code; octets = octets.now }) self.old self.new result }
     {
         append_option(&mut self.octets, code, octets)
     }
 
-    /// Adds the option of a code with the octets of both.
+    /// Adds the option with this code and the octets of `first`, then `rest`.
     pub(crate) fn append_joined(
         &mut self,
         code: u16,
@@ -198,7 +200,7 @@ impl OptBuilder {
         append_joined_option(&mut self.octets, code, first, rest)
     }
 
-    /// Adds the option of a code with so many octets that are zero.
+    /// Adds the option with this code and `count` zero octets.
     pub(crate) fn append_zeros(&mut self, code: u16, count: u16) -> Result<(), AppendError>
         ensures { Adds (record { code = code; octets = replicate count 0 })
             self.old self.new result }
@@ -206,7 +208,7 @@ impl OptBuilder {
         append_zeros_option(&mut self.octets, code, count)
     }
 
-    /// Adds the option of a code with numbers of two octets each.
+    /// Adds the option with this code and the numbers, two octets each, big-endian.
     pub(crate) fn append_numbers(&mut self, code: u16, numbers: &[u16]) -> Result<(), AppendError>
         ensures { Adds (record { code = code; octets = flat_map (to_be_bytes w16) numbers.now })
             self.old self.new result }

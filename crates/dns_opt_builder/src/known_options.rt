@@ -1,4 +1,4 @@
-//! The options that the RFCs give, as they draw them.
+//! The options that RFCs define, encoded as these say.
 ghost use Rattle.std.specs.Prelude.{◌*◌, ◌≤◌, ◌++◌, length, [], ◌∷◌, None, Some, option_copied};
 ghost use Rattle.std.specs.Option.{ForSome};
 ghost use Rattle.dns_opt_builder.specs.Additions.{Adds};
@@ -12,7 +12,7 @@ use crate::subnet::address_prefix;
 use dns_opt::SubnetAddr;
 use dns_wire::{AppendError, ToName};
 
-// The codes of the options, as IANA's registry has them.
+// The codes of the options in IANA's registry.
 const NSID: u16 = 3;
 
 const DAU: u16 = 5;
@@ -38,43 +38,44 @@ const KEY_TAG: u16 = 14;
 const EXTENDED_ERROR: u16 = 15;
 
 impl OptBuilder {
-    /// Adds what identifies a name server (NSID, RFC 5001).
+    /// Adds the identifier of the name server (NSID, RFC 5001).
     pub fn nsid(&mut self, identifier: &[u8]) -> Result<(), AppendError>
         ensures { Adds (nsid_option identifier.now) self.old self.new result }
     {
         self.append(NSID, identifier)
     }
 
-    /// Asks for what identifies the name server (NSID, RFC 5001).
+    /// Requests the identifier of the name server (NSID, RFC 5001).
     pub fn client_nsid(&mut self) -> Result<(), AppendError>
         ensures { Adds (nsid_option []) self.old self.new result }
     {
         self.append(NSID, &[])
     }
 
-    /// Adds the numbers of the algorithms of signatures that are understood (DAU, RFC 6975).
+    /// Adds the numbers of the understood signature algorithms (DAU, RFC 6975).
     pub fn dau(&mut self, algorithms: &[u8]) -> Result<(), AppendError>
         ensures { Adds (dau_option algorithms.now) self.old self.new result }
     {
         self.append(DAU, algorithms)
     }
 
-    /// Adds the numbers of the algorithms of DS digests that are understood (DHU, RFC 6975).
+    /// Adds the numbers of the understood DS hash algorithms (DHU, RFC 6975).
     pub fn dhu(&mut self, algorithms: &[u8]) -> Result<(), AppendError>
         ensures { Adds (dhu_option algorithms.now) self.old self.new result }
     {
         self.append(DHU, algorithms)
     }
 
-    /// Adds the numbers of the algorithms of NSEC3 hashes that are understood (N3U, RFC 6975).
+    /// Adds the numbers of the understood NSEC3 hash algorithms (N3U, RFC 6975).
     pub fn n3u(&mut self, algorithms: &[u8]) -> Result<(), AppendError>
         ensures { Adds (n3u_option algorithms.now) self.old self.new result }
     {
         self.append(N3U, algorithms)
     }
 
-    /// Adds the subnet of a client: the first bits of its address, as many as `source` says, and to how many the answer
-    /// applies (RFC 7871). Both numbers are lowered to the bits that the address has.
+    /// Adds the subnet of a client: the first `source` bits of its address, and the number of bits
+    /// for which the response is valid, `scope` (RFC 7871). Both numbers are capped at the number
+    /// of bits of the address.
     pub fn client_subnet(
         &mut self,
         source: u8,
@@ -94,7 +95,7 @@ impl OptBuilder {
         }
     }
 
-    /// Adds a client's subnet, of an address of a family.
+    /// Adds a client's subnet, with an address of this family.
     fn append_subnet(
         &mut self,
         family: u8,
@@ -116,7 +117,8 @@ impl OptBuilder {
         )
     }
 
-    /// Adds in how many seconds the zone expires, or asks for it (EXPIRE, RFC 7314).
+    /// Adds the number of seconds until the zone expires, or requests it with `None` (EXPIRE, RFC
+    /// 7314).
     pub fn expire(&mut self, seconds: Option<u32>) -> Result<(), AppendError>
         ensures { Adds (expire_option seconds) self.old self.new result }
     {
@@ -126,7 +128,8 @@ impl OptBuilder {
         }
     }
 
-    /// Adds the cookie of the client and, where it has one, that of the server, 8 to 32 octets (COOKIE, RFC 7873).
+    /// Adds the cookie of the client and, if the client has one, that of the server, 8 to 32 octets
+    /// (COOKIE, RFC 7873).
     pub fn cookie(&mut self, client: [u8; 8], server: Option<&[u8]>) -> Result<(), AppendError>
         requires { ForSome server (λ octets. IsServerCookie octets.now) }
         ensures { Adds (cookie_option client (option_copied server.entry))
@@ -138,14 +141,15 @@ impl OptBuilder {
         }
     }
 
-    /// Adds the cookie of a client that has none of the server (COOKIE, RFC 7873).
+    /// Adds the cookie of a client that has no cookie of the server (COOKIE, RFC 7873).
     pub fn initial_cookie(&mut self, client: [u8; 8]) -> Result<(), AppendError>
         ensures { Adds (cookie_option client None) self.old self.new result }
     {
         self.append(COOKIE, &client)
     }
 
-    /// Adds for how long an idle connection is kept, in units of 100 milliseconds, or asks for it (RFC 7828).
+    /// Adds the idle timeout of the connection in units of 100 milliseconds, or requests it with
+    /// `None` (RFC 7828).
     pub fn tcp_keepalive(&mut self, timeout: Option<u16>) -> Result<(), AppendError>
         ensures { Adds (tcp_keepalive_option timeout) self.old self.new result }
     {
@@ -155,7 +159,7 @@ impl OptBuilder {
         }
     }
 
-    /// Adds padding of so many octets, which are zero (RFC 7830).
+    /// Adds padding of `len` zero octets (RFC 7830).
     pub fn padding(&mut self, len: u16) -> Result<(), AppendError>
         ensures { Adds (padding_option (zeros len)) self.old self.new result }
     {
@@ -169,7 +173,8 @@ impl OptBuilder {
         self.append(PADDING, octets)
     }
 
-    /// Adds the closest trust point, from which on the chain of signatures is asked for (CHAIN, RFC 7901).
+    /// Adds the closest trust point. The chain of signatures is requested from there on (CHAIN, RFC
+    /// 7901).
     pub fn chain<N: ToName>(&mut self, trust_point: &N) -> Result<(), AppendError>
         ensures { Adds (chain_option (N.name trust_point.now)) self.old self.new result }
     {
@@ -186,7 +191,8 @@ impl OptBuilder {
         self.append_numbers(KEY_TAG, tags)
     }
 
-    /// Adds why a query failed, as a code and, if there is more to say, a text (RFC 8914).
+    /// Adds an extended error: the code says why the query failed, and the text, if any, gives
+    /// details (RFC 8914).
     pub fn extended_error(&mut self, code: u16, text: Option<&str>) -> Result<(), AppendError>
         ensures { Adds (extended_error_option code (option_copied text.entry))
             self.old self.new result }

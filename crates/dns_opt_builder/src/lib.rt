@@ -1,8 +1,8 @@
-//! A builder of OPT records (RFC 6891 section 6.1): it gathers the fields of the record, its options, and the rcode, of
-//! which the header of the message has the lower bits.
+//! A builder of OPT records (RFC 6891 section 6.1). It collects the fields of the record, its
+//! options, and the rcode, whose lower bits are in the header of the message.
 //!
-//! It promises that a setter changes its field alone, that each option stands behind those before it with the octets
-//! that its RFC draws, and that the options never take more than the 65,535 octets that a record can have.
+//! A setter changes its field alone. Each option is added after the earlier ones, encoded as its
+//! RFC says. The options never take more than 65,535 octets, the most that a record can have.
 #![tactic(auto)]
 
 mod builder;

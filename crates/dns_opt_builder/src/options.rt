@@ -1,4 +1,4 @@
-//! Lists of options that grow (RFC 6891 section 6.1.2). What is refused changes nothing.
+//! Appending to lists of options (RFC 6891 section 6.1.2). Nothing changes on error.
 ghost use Rattle.std.specs.Prelude.{◌≡◌, ◌+◌, ◌<◌, ◌≤◌, ◌++◌, length, vec_len, vec_capacity, OnOk, OnErr, Some, true, replicate};
 ghost use Rattle.std.specs.Int.{to_be_bytes, w16};
 ghost use Rattle.std.specs.List.{flat_map};
@@ -7,10 +7,10 @@ ghost use Rattle.dns_opt_builder.specs.OptionLists.{AppendsOption};
 
 use dns_wire::AppendError;
 
-/// The most octets that a list of options can have: they are the data of one record.
+/// The most octets of a list of options, which is the RDATA of one record.
 const MOST_OCTETS: usize = 65_535;
 
-/// How many octets stand before those of an option: its code and its length.
+/// The number of octets of an option's code and length.
 const HEAD_LEN: usize = 4;
 
 /// Appends an option.
@@ -24,7 +24,7 @@ pub(crate) fn append_option(list: &mut Vec<u8>, code: u16, octets: &[u8]) -> Res
     Ok(())
 }
 
-/// Appends an option with the octets of both.
+/// Appends an option with the octets of `first`, then `rest`.
 pub(crate) fn append_joined_option(
     list: &mut Vec<u8>,
     code: u16,
@@ -41,7 +41,7 @@ pub(crate) fn append_joined_option(
     Ok(())
 }
 
-/// Appends an option with so many octets that are zero.
+/// Appends an option with `count` zero octets.
 pub(crate) fn append_zeros_option(
     list: &mut Vec<u8>,
     code: u16,
@@ -57,7 +57,7 @@ pub(crate) fn append_zeros_option(
     Ok(())
 }
 
-/// Appends an option with numbers of two octets each.
+/// Appends an option with the numbers, two octets each, big-endian.
 #[tactic(auto, using(crate::proofs::OptionListLemmas::numbers_length))]
 pub(crate) fn append_numbers_option(
     list: &mut Vec<u8>,
@@ -76,7 +76,8 @@ pub(crate) fn append_numbers_option(
     Ok(())
 }
 
-/// Appends the code and the length of an option of so many octets, with memory for these.
+/// Appends the code and the length of an option of `len` octets, and reserves memory for these
+/// octets.
 fn begin_option(list: &mut Vec<u8>, code: u16, len: usize) -> Result<(), AppendError>
     requires { length list.old.items ≤ 65535 }
     ensures head { OnOk result (list.new.items ≡
@@ -97,7 +98,7 @@ fn begin_option(list: &mut Vec<u8>, code: u16, len: usize) -> Result<(), AppendE
     Ok(())
 }
 
-/// Appends octets for which there is memory.
+/// Appends octets for which memory is reserved.
 fn append_reserved(list: &mut Vec<u8>, octets: &[u8])
     requires { vec_len list.old + length octets.now ≤ vec_capacity list.old }
     ensures items { list.new.items ≡ list.old.items ++ octets.now }

@@ -4,7 +4,7 @@ ghost use Rattle.dns_opt_builder.specs.KnownOptions.{first_bits, prefix_octets};
 
 use arrayvec::ArrayVec;
 
-/// The first bits of an address in the fewest octets, those behind them zero.
+/// The first `bits` bits of an address in the fewest octets. The bits after them are zero.
 pub(crate) fn address_prefix(address: &[u8], bits: u8) -> ArrayVec<u8, 16>
     requires bits { bits ≤ 8 * length address.now }
     requires few { length address.now ≤ 16 }
@@ -19,7 +19,7 @@ pub(crate) fn address_prefix(address: &[u8], bits: u8) -> ArrayVec<u8, 16>
     octets
 }
 
-/// An octet with its first bits alone, the others zero.
+/// The octet with only its first `count` bits. The others are zero.
 fn keep_first_bits(octet: u8, count: u8) -> u8
     requires some { 1 ≤ count }
     requires within { count ≤ 8 }

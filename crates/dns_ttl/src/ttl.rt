@@ -11,9 +11,9 @@ use std::marker::Model;
 use std::ops::{Add, AddAssign, Div, DivAssign, Mul, MulAssign, Sub, SubAssign};
 use std::time::Duration;
 
-/// How long a record may be kept: a whole number of seconds below 2^32 (RFC 8767 section 4).
+/// How long a record may be cached: a whole number of seconds below 2^32 (RFC 8767 section 4).
 ///
-/// A contract sees it as the number of seconds.
+/// In a contract it is the number of seconds.
 #[derive(Clone, Copy, Debug, PartialEq, Eq, PartialOrd, Ord, Hash)]
 pub struct Ttl(u32);
 
@@ -38,25 +38,25 @@ impl Ttl {
     /// A day, 86,400 seconds.
     pub const DAY: Ttl = Ttl(86_400);
 
-    /// No seconds.
+    /// Zero seconds.
     pub const ZERO: Ttl = Ttl(0);
 
     /// The greatest TTL, 4,294,967,295 seconds.
     pub const MAX: Ttl = Ttl(u32::MAX);
 
-    /// The most that a record should be kept: seven days (RFC 8767 section 4).
+    /// The longest that a record should be cached: seven days (RFC 8767 section 4).
     pub const CAP: Ttl = Ttl(604_800);
 
-    /// The most whole minutes that a TTL has.
+    /// The most whole minutes in a TTL.
     pub const MAX_MINUTES: u32 = 71_582_788;
 
-    /// The most whole hours that a TTL has.
+    /// The most whole hours in a TTL.
     pub const MAX_HOURS: u32 = 1_193_046;
 
-    /// The most whole days that a TTL has.
+    /// The most whole days in a TTL.
     pub const MAX_DAYS: u16 = 49_710;
 
-    /// How many octets a TTL takes in a message.
+    /// The number of octets of a TTL in a message.
     pub const COMPOSE_LEN: u16 = 4;
 
     /// The number of seconds.
@@ -90,21 +90,21 @@ impl Ttl {
         (self.0 / Self::DAY.0) as u16
     }
 
-    /// The seconds as a duration.
+    /// The TTL as a duration.
     pub fn into_duration(&self) -> Duration
         ensures { as_nanos result ≡ nanos_of_seconds self.now }
     {
         Duration::from_secs(u64::from(self.0))
     }
 
-    /// A TTL of so many seconds.
+    /// A TTL of this number of seconds.
     pub fn from_secs(secs: u32) -> Self
         ensures { result ≡ secs }
     {
         Ttl(secs)
     }
 
-    /// A TTL of so many minutes, at most `MAX_MINUTES`.
+    /// A TTL of this number of minutes, at most `MAX_MINUTES`.
     pub fn from_mins(minutes: u32) -> Self
         requires { minutes ≤ Self.MAX_MINUTES }
         ensures { result ≡ minutes * 60 }
@@ -112,7 +112,7 @@ impl Ttl {
         Ttl(minutes * Self::MINUTE.0)
     }
 
-    /// A TTL of so many hours, at most `MAX_HOURS`.
+    /// A TTL of this number of hours, at most `MAX_HOURS`.
     pub fn from_hours(hours: u32) -> Self
         requires { hours ≤ Self.MAX_HOURS }
         ensures { result ≡ hours * 3_600 }
@@ -120,7 +120,7 @@ impl Ttl {
         Ttl(hours * Self::HOUR.0)
     }
 
-    /// A TTL of so many days, at most `MAX_DAYS`.
+    /// A TTL of this number of days, at most `MAX_DAYS`.
     pub fn from_days(days: u16) -> Self
         requires { days ≤ Self.MAX_DAYS }
         ensures { result ≡ days * 86_400 }
@@ -128,77 +128,77 @@ impl Ttl {
         Ttl(u32::from(days) * Self::DAY.0)
     }
 
-    /// The low 32 bits of the whole seconds of a duration. The rest is lost.
+    /// The low 32 bits of the duration's whole seconds. Higher bits and fractions are dropped.
     pub fn from_duration_lossy(duration: Duration) -> Self
         ensures { result ≡ whole_seconds duration % 2 ^ 32 }
     {
         Ttl((duration.as_secs() % (1 << 32)) as u32)
     }
 
-    /// Whether there are no seconds.
+    /// Whether the TTL is 0.
     pub fn is_zero(&self) -> bool
         ensures { IsTrue result ↔ (self.now ≡ 0) }
     {
         *self == Self::ZERO
     }
 
-    /// The sum, or `None` where it is no TTL.
+    /// The sum, or `None` if it exceeds `MAX`.
     pub fn checked_add(self, rhs: Ttl) -> Option<Ttl>
         ensures { SomeIff result (FitsTtl (self + rhs)) (self + rhs) }
     {
         self.0.checked_add(rhs.0).map(Ttl::from_secs)
     }
 
-    /// The sum, or `MAX` where it is no TTL.
+    /// The sum, or `MAX` if it exceeds `MAX`.
     pub fn saturating_add(self, rhs: Ttl) -> Ttl
         ensures { result ≡ min (self + rhs) most_seconds }
     {
         self.checked_add(rhs).unwrap_or(Self::MAX)
     }
 
-    /// The difference, or `None` where `rhs` is greater.
+    /// The difference, or `None` if `rhs` is greater.
     pub fn checked_sub(self, rhs: Ttl) -> Option<Ttl>
         ensures { SomeIff result (rhs ≤ self) (self - rhs) }
     {
         self.0.checked_sub(rhs.0).map(Ttl::from_secs)
     }
 
-    /// The difference, or `ZERO` where `rhs` is greater.
+    /// The difference, or `ZERO` if `rhs` is greater.
     pub fn saturating_sub(self, rhs: Ttl) -> Ttl
         ensures { result ≡ self - rhs }
     {
         self.checked_sub(rhs).unwrap_or(Self::ZERO)
     }
 
-    /// The product, or `None` where it is no TTL.
+    /// The product, or `None` if it exceeds `MAX`.
     pub fn checked_mul(self, rhs: u32) -> Option<Ttl>
         ensures { SomeIff result (FitsTtl (self * rhs)) (self * rhs) }
     {
         self.0.checked_mul(rhs).map(Ttl::from_secs)
     }
 
-    /// The product, or `MAX` where it is no TTL.
+    /// The product, or `MAX` if it exceeds `MAX`.
     pub fn saturating_mul(self, rhs: u32) -> Ttl
         ensures { result ≡ min (self * rhs) most_seconds }
     {
         self.checked_mul(rhs).unwrap_or(Self::MAX)
     }
 
-    /// The quotient, rounded down, or `None` where the divisor is 0.
+    /// The quotient, rounded down, or `None` if the divisor is 0.
     pub fn checked_div(self, rhs: u32) -> Option<Ttl>
         ensures { SomeIff result (0 < rhs) (self / rhs) }
     {
         self.0.checked_div(rhs).map(Ttl::from_secs)
     }
 
-    /// The same TTL, but at most `CAP`.
+    /// The smaller of this TTL and `CAP`.
     pub fn cap(self) -> Ttl
         ensures { result ≡ min self cap_seconds }
     {
         self.min(Self::CAP)
     }
 
-    /// The sum of all. It asks that the sum is a TTL.
+    /// The sum of all. Requires that it is at most `MAX`.
     pub fn sum(ttls: &[Ttl]) -> Ttl
         requires { FitsTtl (sum ttls.now) }
         ensures { result ≡ sum ttls.now }
@@ -206,7 +206,7 @@ impl Ttl {
         Ttl(ttls.iter().map(Ttl::as_secs).sum())
     }
 
-    /// The sum of all, or `None` where it is no TTL. Of none it is `ZERO`.
+    /// The sum of all, or `None` if it exceeds `MAX`. The sum of no TTLs is `ZERO`.
     pub fn checked_sum(ttls: &[Ttl]) -> Option<Ttl>
         ensures { SomeIff result (FitsTtl (sum ttls.now)) (sum ttls.now) }
     {
@@ -217,8 +217,8 @@ impl Ttl {
         Some(total)
     }
 
-    /// Appends the number of seconds as four octets, the highest one first (RFC 1035 section 4.1.3). A refused append
-    /// changes nothing.
+    /// Appends the number of seconds as four octets, big-endian (RFC 1035 section 4.1.3). A failed
+    /// append changes nothing.
     pub fn compose<T: Composer>(&self, target: &mut T) -> Result<(), AppendError>
         ensures { Appends T.room T.grows (put_octets (to_be_bytes w32 self.now))
             (T.written target.old) (T.written target.new) result }
@@ -226,8 +226,8 @@ impl Ttl {
         target.append_slice(&self.0.to_be_bytes())
     }
 
-    /// Reads four octets as the number of seconds, the highest one first, and passes them
-    /// (RFC 1035 section 4.1.3). Where they aren't there it is `ShortInput`.
+    /// Reads four octets as the number of seconds, big-endian, and advances past them (RFC 1035
+    /// section 4.1.3). Returns `ShortInput` if fewer remain.
     pub fn parse(parser: &mut Parser<'_>) -> Result<Self, ParseError>
         ensures { Takes parser.old parser.new Self.COMPOSE_LEN result
             (λ ttl. ttl ≡ number_at w32 (seen parser.old) (place parser.old)) }
@@ -245,7 +245,7 @@ impl Default for Ttl {
     }
 }
 
-/// Asks that the sum is a TTL.
+/// Requires that the sum is at most `MAX`.
 impl Add for Ttl {
     type Output = Ttl;
 
@@ -258,7 +258,7 @@ impl Add for Ttl {
     }
 }
 
-/// Asks that the sum is a TTL.
+/// Requires that the sum is at most `MAX`.
 impl AddAssign for Ttl {
     ghost can_add_assign = { λ ttl rhs. FitsTtl (ttl + rhs) };
 
@@ -269,7 +269,7 @@ impl AddAssign for Ttl {
     }
 }
 
-/// Asks that the right side isn't greater.
+/// Requires that the right side isn't greater.
 impl Sub for Ttl {
     type Output = Ttl;
 
@@ -282,7 +282,7 @@ impl Sub for Ttl {
     }
 }
 
-/// Asks that the right side isn't greater.
+/// Requires that the right side isn't greater.
 impl SubAssign for Ttl {
     ghost can_sub_assign = { λ ttl rhs. rhs ≤ ttl };
 
@@ -293,7 +293,7 @@ impl SubAssign for Ttl {
     }
 }
 
-/// Asks that the product is a TTL.
+/// Requires that the product is at most `MAX`.
 impl Mul<u32> for Ttl {
     type Output = Ttl;
 
@@ -306,7 +306,7 @@ impl Mul<u32> for Ttl {
     }
 }
 
-/// Asks that the product is a TTL.
+/// Requires that the product is at most `MAX`.
 impl MulAssign<u32> for Ttl {
     ghost can_mul_assign = { λ ttl rhs. FitsTtl (ttl * rhs) };
 
@@ -317,7 +317,7 @@ impl MulAssign<u32> for Ttl {
     }
 }
 
-/// Rounds down. Asks that the divisor isn't 0.
+/// Rounds down. Requires that the divisor isn't 0.
 impl Div<u32> for Ttl {
     type Output = Ttl;
 
@@ -330,7 +330,7 @@ impl Div<u32> for Ttl {
     }
 }
 
-/// Rounds down. Asks that the divisor isn't 0.
+/// Rounds down. Requires that the divisor isn't 0.
 impl DivAssign<u32> for Ttl {
     ghost can_div_assign = { λ _ rhs. 0 < rhs };
 
@@ -341,7 +341,7 @@ impl DivAssign<u32> for Ttl {
     }
 }
 
-/// The seconds as a duration.
+/// The TTL as a duration.
 impl From<Ttl> for Duration {
     ghost from_gives = { λ ttl duration. as_nanos duration ≡ nanos_of_seconds ttl };
 
