@@ -1,5 +1,5 @@
 -- The layout of the RDATA of a record type, what it says of octets, and which fault comes first. RFC 1035 sections 3.3 and 4.1.4.
--- 
+--
 -- `b` is the octets that are seen: those of the message up to the end of the RDATA.
 use Rattle.std.specs.Prelude.{◌≡◌, ◌⊎◌, ℕ, ◌+◌, ◌<◌, ◌≤◌, Bool, IsTrue, List, [], ◌∷◌, length, drop, slice_index, slice_range}
 use Rattle.dns_name.specs.Names.{Fault, Labels, Stands, FaultAt, Walked}

@@ -1,4 +1,4 @@
--- Records and their headers in canonical form: names are lowercased and never compressed, in the owner and in the data. RFC 4034 section 6.2.
+-- Records and record headers in canonical form: the owner and the names in the RDATA are lowercased and never compressed. RFC 4034 section 6.2.
 use Rattle.dns_name.specs.Names.{Labels, lowered, uncompressed}
 use Rattle.dns_wire.specs.Pieces.{Rule, Piece, put_octets, both, with_length}
 use Rattle.dns_wire.specs.Parts.{put_parts}
@@ -6,11 +6,11 @@ use Rattle.dns_data.specs.RecordData.{canonical}
 use Rattle.dns_item.specs.Items.{RecordItem, record_fields, HeaderEntry}
 use Rattle.dns_item.specs.RecordHeader.{header_fields}
 
--- the octets of a name, lowercased and without pointers
+-- the octets of an uncompressed name, lowercased
 abbrev pub put_canonical_name : Labels → Piece
 put_canonical_name name = put_octets (uncompressed (lowered name))
 
--- a record: its owner, its fields, and its data behind the length that this has in canonical form
+-- a record: its owner, its fields, and the RDATA in canonical form after its RDLENGTH
 unfoldable pub put_canonical_record : Rule → RecordItem → Piece
 put_canonical_record rule x = both (put_canonical_name x.owner) (both (put_octets (record_fields x)) (with_length (put_parts rule (canonical x.parts))))
 

@@ -1,4 +1,4 @@
--- What a layout answers to the data of a record, and that there is exactly one answer. RFC 1035 sections 3.3 and 4.1.3. It stands here since the answer is taken from it.
+-- The result of reading the RDATA of a record by a layout, and that there is exactly one. RFC 1035 sections 3.3 and 4.1.3. The proof is here because the result is taken from it.
 use Rattle.std.proofs.Common.{◌≡◌, ap, sym, refl, subst, ℕ, ◌≤◌, ◌⊎◌, inl, inr, List, length, arith}
 use Rattle.std.proofs.lemmas.Bool.Decides.{leb_tells}
 use Rattle.std.proofs.lemmas.Grind.{common_steps}
@@ -12,23 +12,23 @@ use Rattle.dns_item.specs.ParsedRecord.{StandingRecord}
 use Rattle.dns_item.specs.RecordReading.{WholeDataFaultAt, IsThere, up_to_data_end, HasData, HasDataFault}
 use Rattle.dns_item.specs.RecordReading.WholeDataFaultAt.{first, left_over}
 
--- the data of a record lies within the octets that it is read from
+-- the RDATA of a record lies within the octets that it is read from
 pub record HasSpan (x : StandingRecord) : Type 0 where
   pub start : x.entry.data_start ≤ x.entry.data_end
   pub end : IsThere x.octets x.entry
 
--- What a layout answers to the data of a record: the parts that fill it, or the fault in it; `ShortInput` where the data isn't there.
+-- The result of reading the RDATA by a layout: the parts that fill it, or its fault; `ShortInput` if the RDATA isn't all there.
 pub data IsDataAnswer (x : StandingRecord) (layout : Layout) : Result (List Part) Fault → Type 0 where
   whole : {parts : List Part} → HasSpan x → HasData x.octets x.entry layout parts → IsDataAnswer x layout (Ok parts)
   fault : {f : Fault} → HasSpan x → HasDataFault x.octets x.entry layout f → IsDataAnswer x layout (Err f)
   missing : (HasSpan x → ⊥) → IsDataAnswer x layout (Err ShortInput)
 
--- there is an answer, and no other
+-- there is a result, and no other
 pub record OneDataAnswer (x : StandingRecord) (layout : Layout) : Type 0 where
   pub some : (r : Result (List Part) Fault) × IsDataAnswer x layout r
   pub one : (r s : Result (List Part) Fault) → IsDataAnswer x layout r → IsDataAnswer x layout s → r ≡ s
 
--- data of a layout that goes from p to the end, or the fault of octets that aren't such data
+-- RDATA of a layout that takes all octets from p on, or the fault of octets that aren't such RDATA
 module _ (b : List ℕ) (layout : Layout) (p : ℕ) (within : p ≤ length b) where
   some_whole : ((parts : List Part) × DataStands b layout p (length b) parts) ⊎ ((f : Fault) × WholeDataFaultAt b layout p f)
   some_whole =
@@ -43,7 +43,7 @@ module _ (b : List ℕ) (layout : Layout) (p : ℕ) (within : p ≤ length b) wh
         | inr f ↦ inr (f.0, first f.1)
       ]
 
-  -- where data goes to the end, there is no fault
+  -- if RDATA takes all octets, there is no fault
   pub no_fault : (parts : List Part) (f : Fault) → DataStands b layout p (length b) parts → WholeDataFaultAt b layout p f → ⊥
   no_fault parts f h (first g) = (one_datum_or_fault b layout p within).not_both (length b) parts f h g
   no_fault parts f h (left_over q others k short) =
@@ -57,7 +57,7 @@ module _ (b : List ℕ) (layout : Layout) (p : ℕ) (within : p ≤ length b) wh
   one_whole_fault (left_over q parts h short) (left_over r others k less) = refl
 
 module _ (x : StandingRecord) (layout : Layout) where
-  -- the octets up to the end of data that is there
+  -- the number of octets up to the end of the RDATA, if that is all there
   pub ends_there : HasSpan x → length (up_to_data_end x.octets x.entry) ≡ x.entry.data_end
   ends_there span = let there = span.end in grind (arith, common_steps)
 
@@ -74,7 +74,7 @@ module _ (x : StandingRecord) (layout : Layout) where
         | inr short ↦ inr (λ span. omega (arith, span.start, short.1))
       ]
 
-  -- the data up to its end, which is the end of the octets that are seen
+  -- RDATA up to its end, which is the end of the octets that are seen
   to_end : HasSpan x → (parts : List Part) → HasData x.octets x.entry layout parts
       → DataStands (up_to_data_end x.octets x.entry) layout x.entry.data_start (length (up_to_data_end x.octets x.entry)) parts
   to_end span parts h =
@@ -92,12 +92,12 @@ module _ (x : StandingRecord) (layout : Layout) where
         | inr none ↦ (Err ShortInput, missing none)
       ]
 
-  -- the parts that fill the data, and not others
+  -- the parts that fill the RDATA, and no others
   pub one_data : HasSpan x → (xs ys : List Part) → HasData x.octets x.entry layout xs → HasData x.octets x.entry layout ys → xs ≡ ys
   one_data span xs ys h k =
       ((one_datum_or_fault (up_to_data_end x.octets x.entry) layout x.entry.data_start (starts_within span)).one x.entry.data_end x.entry.data_end xs ys h k).1
 
-  -- parts that fill the data, and no fault
+  -- parts that fill the RDATA, and no fault
   pub no_data_fault : HasSpan x → (parts : List Part) (f : Fault) → HasData x.octets x.entry layout parts → HasDataFault x.octets x.entry layout f → ⊥
   no_data_fault span parts f h k =
       no_fault (up_to_data_end x.octets x.entry) layout x.entry.data_start (starts_within span) parts f (to_end span parts h) k

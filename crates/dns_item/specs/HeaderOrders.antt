@@ -7,13 +7,13 @@ use Rattle.dns_item.specs.RecordHeader.{owner_of, rtype_of, class_of, ttl_of, rd
 use Rattle.dns_item.specs.declared.record_header.RecordHeader.{RecordHeader}
 
 module _ {N : Type 0} where
-  -- headers are equal where all fields are
+  -- headers are equal if all fields are
   abbrev pub headers_equal : (N → N → Bool) → RecordHeader N → RecordHeader N → Bool
   headers_equal same_name =
       eq_of_both (on owner_of same_name)
       (eq_of_both (on rtype_of ◌==◌) (eq_of_both (on class_of ◌==◌) (eq_of_both (on ttl_of ◌==◌) (on rdlen_of ◌==◌))))
 
-  -- their order: that of their owners, else of their types, classes, TTLs and the lengths of their data
+  -- the order of headers: by owner, then by type, class, TTL and RDLENGTH
   abbrev pub header_order : (N → N → Ordering) → RecordHeader N → RecordHeader N → Ordering
   header_order name_order =
       then_cmp (on owner_of name_order)

@@ -1,4 +1,4 @@
--- The parts of a record that was read, and what parsing and skipping one answer. RFC 1035 section 4.1.3.
+-- The parts of a parsed record, and what parsing and skipping one returns. RFC 1035 section 4.1.3.
 use Rattle.std.specs.Prelude.{◌≡◌, ℕ, List, Result, Ok, Err}
 use Rattle.dns_name.specs.Names.{fault_of}
 use Rattle.dns_name.specs.Parsers.{seen, place, MovesTo}
@@ -14,11 +14,11 @@ use Rattle.dns_item.specs.declared.record_header.RecordHeader.{RecordHeader}
 abbrev pub header_of : ParsedRecord → RecordHeader ParsedName
 header_of r = r.header
 
--- the parser that stands at the data
+-- the parser at the RDATA
 abbrev pub data_parser : ParsedRecord → Parser
 data_parser r = r.«data»
 
--- the octets that the record and its data are read from
+-- the octets that the record and its RDATA are read from
 abbrev pub octets_of : ParsedRecord → List ℕ
 octets_of r = seen (data_parser r)
 
@@ -26,22 +26,22 @@ octets_of r = seen (data_parser r)
 abbrev pub parsed_entry : ParsedRecord → RecordEntry
 parsed_entry r = record_at (header_of r) (place (data_parser r))
 
--- a record where it stands: the octets that it is read from, and what is read of it
+-- a record in octets: the octets that it is read from, and what is read of it
 pub record StandingRecord : Type 0 where
   pub octets : List ℕ
   pub entry : RecordEntry
 
--- so of a record that was read
+-- a parsed record in its octets
 abbrev pub standing_record : ParsedRecord → StandingRecord
 standing_record r = record { octets = octets_of r; entry = parsed_entry r }
 
--- What parsing gives is the record that can be read at the parser's place, behind which the parser then stands, and the data's parser sees the same octets. Or it is the fault there, and the parser stays.
+-- What parsing returns: the record at the parser's offset, with the parser moved past it, and a parser for the RDATA that sees the same octets; or the fault there, and the parser doesn't move.
 abbrev pub ParsesRecord : Parser → Parser → Result ParsedRecord ParseError → Type 0
 ParsesRecord old new (Ok r) =
     ReadsRecord (seen old) (place old) (place new) (parsed_entry r) × MovesTo old new (place new) × MovesTo old (data_parser r) (place (data_parser r))
 ParsesRecord old new (Err e) = RecordFaultAt (seen old) (place old) (fault_of e) × (new ≡ old)
 
--- Skipping moves behind the record, or answers the fault of one that can't be skipped, and the parser stays.
+-- Skipping moves the parser past the record. If it can't be skipped, it returns the fault, and the parser doesn't move.
 abbrev pub SkipsOverRecord : Parser → Parser → Result Unit ParseError → Type 0
 SkipsOverRecord old new (Ok _) = SkipsRecord (seen old) (place old) (place new) × MovesTo old new (place new)
 SkipsOverRecord old new (Err e) = RecordSkipFaultAt (seen old) (place old) (fault_of e) × (new ≡ old)

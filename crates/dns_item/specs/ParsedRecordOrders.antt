@@ -1,4 +1,4 @@
--- When records whose data isn't read are equal. RFC 1035 section 4.1.3.
+-- Equality of records whose RDATA isn't parsed. RFC 1035 section 4.1.3.
 use Rattle.std.specs.Prelude.{ℕ, ◌+◌, Bool, List, length, slice_range, Option, None, Some, nat_le, ◌==◌, if◌then◌else◌}
 use Rattle.std.specs.Cmp.Lexicographic.{pointwise}
 use Rattle.std.specs.Option.{option_eq}
@@ -12,24 +12,24 @@ use Rattle.dns_item.specs.ParsedRecord.{header_of, data_parser, octets_of}
 use Rattle.dns_item.specs.declared.parsed_record.ParsedRecord.{ParsedRecord}
 use Rattle.dns_item.specs.declared.record_header.RecordHeader.{RecordHeader}
 
--- headers are equal where their owners are up to ASCII case, and their numbers are
+-- headers are equal if their owners are, ignoring ASCII case, and their numbers are
 abbrev pub headers_equal : RecordHeader ParsedName → RecordHeader ParsedName → Bool
 headers_equal =
     eq_of_both (on (λ h. labels (owner_of h)) names_equal)
     (eq_of_both (on rtype_of ◌==◌) (eq_of_both (on class_of ◌==◌) (eq_of_both (on ttl_of ◌==◌) (on rdlen_of ◌==◌))))
 
--- so many octets from a place on, or `None` where they aren't all there
+-- the n octets at offset p, or `None` if they aren't all there
 abbrev pub octets_from : List ℕ → ℕ → ℕ → Option (List ℕ)
 octets_from b p n = if nat_le (p + n) (length b) then Some (slice_range b p (p + n)) else None
 
--- the octets of a record's data, or `None` where they aren't all there
+-- the octets of a record's RDATA, or `None` if they aren't all there
 abbrev pub raw_data : ParsedRecord → Option (List ℕ)
 raw_data r = octets_from (octets_of r) (place (data_parser r)) (rdlen_of (header_of r))
 
--- data is the same octet for octet, or missing in both
+-- RDATA is the same octet for octet, or missing in both
 abbrev pub same_raw_data : Option (List ℕ) → Option (List ℕ) → Bool
 same_raw_data = option_eq (pointwise ◌==◌)
 
--- records are equal where their headers are and their data is the same; pointers in data aren't followed
+-- records are equal if their headers are and their RDATA is the same; pointers in RDATA aren't followed
 abbrev pub parsed_records_equal : ParsedRecord → ParsedRecord → Bool
 parsed_records_equal = eq_of_both (on header_of headers_equal) (on raw_data same_raw_data)

@@ -19,7 +19,7 @@ module _ {N D : Type 0} where
   abbrev pub data_of : Record N D → D
   data_of r = r.data
 
-  -- a record with other data
+  -- a record with other RDATA
   abbrev pub with_data : Record N D → D → Record N D
   with_data r value = record r { «data» = value }
 
@@ -31,11 +31,11 @@ module _ {N D : Type 0} where
     pub same_data : data_of r ≡ value
 
   module _ (labels_of : N → Labels) (rtype_of : D → ℕ) (parts_of : D → List Part) where
-    -- the record of these fields, by the labels of its owner, and by the type and the parts of its data
+    -- the record with these fields as a value: the labels of its owner, and the type and parts of its RDATA
     abbrev pub item_of_fields : N → ℕ → ℕ → D → RecordItem
     item_of_fields owner class ttl value =
         record { owner = labels_of owner; rtype = rtype_of value; class = class; ttl = ttl; parts = parts_of value }
 
-    -- what a record says
+    -- a record as a value
     abbrev pub record_item : Record N D → RecordItem
     record_item r = item_of_fields (owner_of r) (class_of r) (ttl_of r) (data_of r)

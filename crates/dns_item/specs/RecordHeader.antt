@@ -1,4 +1,4 @@
--- The fields of a record's header, and what parsing one answers. RFC 1035 section 4.1.3.
+-- The fields of a record's header, and what parsing one returns. RFC 1035 section 4.1.3.
 use Rattle.std.specs.Prelude.{◌≡◌, ℕ, ◌+◌, List, ◌++◌, Result, Ok, Err}
 use Rattle.std.specs.Int.{to_be_bytes, w16, w32}
 use Rattle.dns_name.specs.Names.{fault_of, Labels}
@@ -27,24 +27,24 @@ ttl_of header = header.ttl
 abbrev pub rdlen_of : {N : Type 0} → RecordHeader N → ℕ
 rdlen_of header = header.rdlen
 
--- what a header says, by the labels of its owner
+-- a header as a value, with the labels of its owner
 abbrev pub header_item : {N : Type 0} → (N → Labels) → RecordHeader N → HeaderEntry
 header_item labels_of header =
     record { owner = labels_of (owner_of header); rtype = rtype_of header; class = class_of header; ttl = ttl_of header; rdlen = rdlen_of header }
 
--- what a header over a name in an input says
+-- a parsed header as a value
 abbrev pub parsed_header : RecordHeader ParsedName → HeaderEntry
 parsed_header = header_item labels
 
--- type, class, TTL and the length of the data
+-- type, class, TTL and RDLENGTH, big-endian
 abbrev pub header_fields : ℕ → ℕ → ℕ → ℕ → List ℕ
 header_fields rtype class ttl rdlen = to_be_bytes w16 rtype ++ to_be_bytes w16 class ++ to_be_bytes w32 ttl ++ to_be_bytes w16 rdlen
 
--- a header: its owner, and its fields
+-- the encoding of a header: its owner, and its fields
 unfoldable pub put_header : Rule → HeaderEntry → Piece
 put_header rule x = both (put_name rule x.owner) (put_octets (header_fields x.rtype x.class x.ttl x.rdlen))
 
--- the record of a header whose data starts at a place
+-- the record of a header whose RDATA begins at offset `start`
 abbrev pub record_at : RecordHeader ParsedName → ℕ → RecordEntry
 record_at header start =
     record {
@@ -56,22 +56,22 @@ record_at header start =
       data_end = start + rdlen_of header;
     }
 
--- What parsing gives is the header that can be read at the parser's place, behind which the parser then stands; or the fault there, and the parser stays.
+-- What parsing returns: the header at the parser's offset, with the parser moved past it; or the fault there, and the parser doesn't move.
 abbrev pub ParsesHeader : Parser → Parser → Result (RecordHeader ParsedName) ParseError → Type 0
 ParsesHeader old new (Ok header) = ReadsHeader (seen old) (place old) (place new) (parsed_header header) × MovesTo old new (place new)
 ParsesHeader old new (Err e) = HeaderFaultAt (seen old) (place old) (fault_of e) × (new ≡ old)
 
--- The same of a parser that is given back beside the header.
+-- As `ParsesHeader`, with the parser after the header returned beside it.
 abbrev pub ReadsAhead : Parser → Result (RecordHeader ParsedName × Parser) ParseError → Type 0
 ReadsAhead parser (Ok (header, behind)) = ParsesHeader parser behind (Ok header)
 ReadsAhead parser (Err e) = HeaderFaultAt (seen parser) (place parser) (fault_of e)
 
--- The same where the data is passed too: a header is given where a record of its fields can be read, behind which the parser then stands.
+-- As `ParsesHeader`, for a call that skips the RDATA too: the header is that of a record that can be read, and the parser moves past the record.
 abbrev pub ParsesAndSkips : Parser → Parser → Result (RecordHeader ParsedName) ParseError → Type 0
 ParsesAndSkips old new (Ok header) = ((start : ℕ) × ReadsRecord (seen old) (place old) (place new) (record_at header start)) × MovesTo old new (place new)
 ParsesAndSkips old new (Err e) = RecordFaultAt (seen old) (place old) (fault_of e) × (new ≡ old)
 
--- the numbers at a place, behind an owner that ends there: type, class, TTL and the length of the data
+-- the numbers at offset p, which is the end of an owner: type, class, TTL and RDLENGTH
 pub record AreFieldsAt (b : List ℕ) (p type_field class_field ttl_field length_field : ℕ) : Type 0 where
   pub rtype : type_field ≡ number_at w16 b p
   pub class : class_field ≡ number_at w16 b (p + 2)

@@ -1,4 +1,4 @@
--- How records compare: by owner, class and data, never by the TTL (RFC 2136 section 1.1.1), and in canonical form (RFC 4034 section 6).
+-- How records compare: by owner, class and RDATA, never by the TTL (RFC 2136 section 1.1.1), and their canonical order (RFC 4034 section 6).
 use Rattle.std.specs.Prelude.{ℕ, Bool, ◌++◌, ◌==◌}
 use Rattle.std.specs.Hash.{HashWrites, u16}
 use Rattle.std.specs.Ordering.{on, nat_cmp, then_cmp, eq_of_both}
@@ -9,11 +9,11 @@ use Rattle.dns_item.specs.Record.{owner_of, class_of, data_of}
 use Rattle.dns_item.specs.declared.record.Record.{Record}
 
 module _ {N D : Type 0} where
-  -- records are equal where their owners, classes and data are
+  -- records are equal if their owners, classes and RDATA are
   abbrev pub records_equal : (N → N → Bool) → (D → D → Bool) → Record N D → Record N D → Bool
   records_equal same_name same_data = eq_of_both (on owner_of same_name) (eq_of_both (on class_of ◌==◌) (on data_of same_data))
 
-  -- their order: that of their owners, else of their classes, else of their data
+  -- the order of records: by owner, then by class, then by RDATA
   abbrev pub record_order : (N → N → Ordering) → (D → D → Ordering) → Record N D → Record N D → Ordering
   record_order owner_order data_order = then_cmp (on owner_of owner_order) (then_cmp (on class_of nat_cmp) (on data_of data_order))
 
@@ -21,7 +21,7 @@ module _ {N D : Type 0} where
   abbrev pub record_hash_input : (N → HashWrites) → (D → HashWrites) → Record N D → HashWrites
   record_hash_input of_name of_data r = of_name (owner_of r) ++ (u16 (class_of r) ++ of_data (data_of r))
 
-  -- The canonical order: by class, else by owner, else by type, else by the canonical order of the data. RFC 4034 sections 6.1 and 6.3.
+  -- The canonical order: by class, then by owner, then by type, then by the canonical order of the RDATA. RFC 4034 sections 6.1 and 6.3.
   abbrev pub canonical_record_order : (N → Labels) → (D → ℕ) → (D → D → Ordering) → Record N D → Record N D → Ordering
   canonical_record_order labels_of rtype_of data_order =
       then_cmp (on class_of nat_cmp)

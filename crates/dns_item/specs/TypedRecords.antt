@@ -1,4 +1,4 @@
--- What a data type answers to a record, as a function of the octets. RFC 1035 sections 3.3 and 4.1.3.
+-- The result of reading a record by an RDATA type, as a function of the octets. RFC 1035 sections 3.3 and 4.1.3.
 use Rattle.std.specs.Prelude.{◌≡◌, ℕ, List, Option, option_map, Result, Ok, Err}
 use Rattle.dns_name.specs.Names.{Fault, fault_of}
 use Rattle.dns_name.specs.ParsedName.{labels}
@@ -13,29 +13,29 @@ use Rattle.dns_item.specs.Record.{record_item}
 use Rattle.dns_item.specs.RecordReading.{item_of}
 use Rattle.dns_item.specs.declared.record.Record.{Record}
 
--- the one answer of a layout to the data of a record: its parts, or the fault; `ShortInput` where the data isn't there
+-- the one result of reading a record's RDATA by a layout: its parts, or the fault; `ShortInput` if the RDATA isn't all there
 unfoldable pub data_in : StandingRecord → Layout → Result (List Part) Fault
 data_in x layout = (one_data_answer x layout).some.0
 
--- so it is answered: `data_in` is what the layout answers, and nothing else is
+-- `data_in` is the result of reading by the layout, and there is no other
 pub record DataIsAnswered : Type 0 where
   pub answer : (x : StandingRecord) (layout : Layout) → IsDataAnswer x layout (data_in x layout)
   pub only : (x : StandingRecord) (layout : Layout) (r : Result (List Part) Fault) → IsDataAnswer x layout r → data_in x layout ≡ r
 
--- a record with the parts of its data, or the fault of the data
+-- a record with the parts of its RDATA, or the fault of the RDATA
 abbrev pub with_parts : RecordEntry → Result (List Part) Fault → Result RecordItem Fault
 with_parts x (Ok parts) = Ok (item_of x parts)
 with_parts x (Err f) = Err f
 
--- a layout's answer to a record: the record with the parts of its data, or the fault of the data
+-- the result of reading a record by a layout: the record with the parts of its RDATA, or the fault of the RDATA
 abbrev pub laid_out : StandingRecord → Layout → Result RecordItem Fault
 laid_out x layout = with_parts x.entry (data_in x layout)
 
--- a data type's answer to a record, by how it lays out the record's type: none where it doesn't take the type
+-- the result of reading a record by an RDATA type, given its layouts: `None` if it doesn't accept the record type
 abbrev pub answer_to : (ℕ → Option Layout) → StandingRecord → Option (Result RecordItem Fault)
 answer_to layouts x = option_map (laid_out x) (layouts x.entry.rtype)
 
--- what a record that was read with its data says, or the fault
+-- a record that was read with its RDATA as a value, or the fault
 abbrev pub typed_answer : {D : Type 0} → (D → ℕ) → (D → List Part) → Result (Record ParsedName D) ParseError → Result RecordItem Fault
 typed_answer rtype_of parts_of (Ok r) = Ok (record_item labels rtype_of parts_of r)
 typed_answer rtype_of parts_of (Err e) = Err (fault_of e)

@@ -1,4 +1,4 @@
-//! Records and their headers in canonical form (RFC 4034 section 6.2).
+//! Records and record headers in canonical form (RFC 4034 section 6.2).
 ghost use Rattle.dns_wire.specs.Targets.{Composes};
 ghost use Rattle.dns_item.specs.Canonical.{put_canonical_record, put_canonical_header};
 ghost use Rattle.dns_item.specs.Record.{record_item};
@@ -10,11 +10,11 @@ use dns_data::{ComposeRecordData, compose_canonical_len_rdata};
 use dns_wire::{AppendError, Composer, ToName, ToNameExt};
 
 impl<N: ToName, D: ComposeRecordData> Record<N, D> {
-    /// Appends the record in canonical form (RFC 4034 section 6.2): all its names lowercased and uncompressed, in the owner
-    /// and in the data.
+    /// Appends the record in canonical form (RFC 4034 section 6.2): the owner and the names in the
+    /// RDATA are lowercased and uncompressed.
     ///
-    /// Where it is refused the content still begins with the old one, and a `truncate` to the old length gives the old
-    /// target back.
+    /// On error the content still begins with the old content. A `truncate` to the old length
+    /// restores the old target.
     pub fn compose_canonical<T: Composer>(&self, target: &mut T) -> Result<(), AppendError>
         ensures { Composes T.room T.grows
             (put_canonical_record T.rule (record_item N.name D.rtype_of D.parts self.now))
@@ -28,11 +28,11 @@ impl<N: ToName, D: ComposeRecordData> Record<N, D> {
 }
 
 impl<N: ToName> RecordHeader<N> {
-    /// Appends the header with its owner lowercased and uncompressed (RFC 4034 section 6.2); the length of the data, in
-    /// octets, is the given one.
+    /// Appends the header in canonical form (RFC 4034 section 6.2): the owner is lowercased and
+    /// uncompressed. RDLENGTH is the header's `rdlen`, in octets.
     ///
-    /// Where it is refused the content still begins with the old one, and a `truncate` to the old length gives the old
-    /// target back.
+    /// On error the content still begins with the old content. A `truncate` to the old length
+    /// restores the old target.
     pub fn compose_canonical<T: Composer>(&self, target: &mut T) -> Result<(), AppendError>
         ensures { Composes T.room T.grows
             (put_canonical_header (header_item N.name self.now)) (T.written target.old)

@@ -8,7 +8,8 @@ use dns_data::RecordData;
 use dns_wire::{CanonicalOrd, ToName, ToNameExt};
 use std::cmp::Ordering;
 
-/// By class, owner, type and data (RFC 4034 sections 6.1 and 6.3). The owners compare from the root leftwards.
+/// By class, then by owner, then by type, then by RDATA (RFC 4034 sections 6.1 and 6.3). Owners
+/// compare by their labels from the right.
 impl<N: ToName, D: RecordData + CanonicalOrd> CanonicalOrd for Record<N, D> {
     ghost canonical_order = { canonical_record_order N.name D.rtype_of D.canonical_order };
 

@@ -1,4 +1,4 @@
-//! Conversions of records between kinds of owners and data.
+//! Conversions of records between types of owners and RDATA.
 ghost use Rattle.std.specs.Prelude.{◌≡◌, ◌⊎◌};
 ghost use Rattle.dns_item.specs.Record.{owner_of, data_of};
 ghost use Rattle.dns_item.specs.RecordConversions.{KeepsRecord, joined_record};
@@ -10,8 +10,10 @@ use dns_ttl::Ttl;
 use dns_wire::{AppendError, FlattenInto, OctetsFrom};
 use std::alloc::Global;
 
-/// The record with its owner and its data converted, and its class and TTL. Both are converted before the answer, so it
-/// is `ShortBuf` exactly where one of them doesn't fit, though memory is wanting for the other.
+/// Converts the owner and the RDATA. The class and the TTL stay.
+///
+/// Both are converted before an error is returned: `ShortBuf` of either takes precedence over
+/// `OutOfMemory`.
 impl<S, E, N, D> OctetsFrom<Record<S, E>> for Record<N, D>
 where
     N: OctetsFrom<S> + Drop,
@@ -33,8 +35,10 @@ where
     }
 }
 
-/// The record with its owner and its data flattened, and its class and TTL. Both are flattened before the answer, so it
-/// is `ShortBuf` exactly where one of them doesn't fit, though memory is wanting for the other.
+/// Flattens the owner and the RDATA. The class and the TTL stay.
+///
+/// Both are flattened before an error is returned: `ShortBuf` of either takes precedence over
+/// `OutOfMemory`.
 impl<S, E, N, D> FlattenInto<Record<N, D>> for Record<S, E>
 where
     S: FlattenInto<N>,
@@ -58,7 +62,7 @@ where
     }
 }
 
-/// The record of an owner and data that were both converted.
+/// The record of a converted owner and converted RDATA, or the error.
 fn join_record<N: Drop, D: Drop>(
     owner: Result<N, AppendError>,
     class: Class,

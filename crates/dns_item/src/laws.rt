@@ -1,5 +1,6 @@
-//! Theorems on questions and records where they stand and where they are put, on questions as texts, and on how record
-//! headers compare. The functions do nothing: each contract is a theorem over all octets, places, items, texts or headers.
+//! Theorems on questions and records in octets, as written, and as texts, and on how record headers
+//! compare. The functions do nothing: each contract is a theorem over all octets, offsets, items,
+//! texts or headers.
 ghost use Rattle.std.specs.Prelude.{◌≡◌};
 ghost use Rattle.std.specs.Ordering.{as_partial_cmp};
 ghost use Rattle.dns_question.specs.Questions.{QuestionOrFault, QuestionEndOrFault, QuestionSkipAgrees, QuestionsGrow, QuestionsReadBack};
@@ -13,26 +14,30 @@ pub use dns_question::laws::{question_equality, question_hash, question_orders};
 pub use dns_ttl::laws::ttl_units;
 use std::hash::Hash;
 
-/// At each place exactly one question can be read or exactly one fault is met, never both; so for records and their headers.
+/// At each offset either exactly one question can be read, or there is exactly one fault. The same
+/// holds of records and of their headers.
 pub fn one_entry_or_fault()
     ensures questions { QuestionOrFault }
     ensures headers { HeaderOrFault }
     ensures records { RecordOrFault }
 {}
 
-/// At each place a question can be skipped to exactly one end or there is exactly one fault, never both; so for records.
+/// At each offset either a question can be skipped to exactly one end, or there is exactly one
+/// fault. The same holds of records.
 pub fn one_end_or_fault()
     ensures questions { QuestionEndOrFault }
     ensures records { RecordEndOrFault }
 {}
 
-/// Where a question or a record can be read, skipping ends at the same place; where it can't be skipped it can't be read.
+/// If a question or a record can be read, skipping it ends at the same offset. If it can't be
+/// skipped, it can't be read.
 pub fn skipping_agrees()
     ensures questions { QuestionSkipAgrees }
     ensures records { RecordSkipAgrees }
 {}
 
-/// Questions and records that are put remember only what they write, and can be read where they were put, under every rule.
+/// A question or record that is written reads back at its offset, under every compression rule. It
+/// adds only suffixes of its own names to the compression table.
 pub fn items_read_back()
     ensures questions_grow { QuestionsGrow }
     ensures records_grow { RecordsGrow }
@@ -40,12 +45,13 @@ pub fn items_read_back()
     ensures records { RecordsReadBack }
 {}
 
-/// To the data of each record a layout has exactly one answer: the parts that fill it, or its fault. It is what `data_in` says.
+/// Reading the RDATA of a record by a layout has exactly one result: the parts that fill the RDATA,
+/// or its fault. It is what `data_in` says.
 pub fn one_data_answer()
     ensures { DataIsAnswered }
 {}
 
-/// Every text is read as a question or as one that has a fault, and as one thing only. So is every list of words.
+/// Every text, and every list of words, is read as exactly one question or exactly one error.
 pub fn questions_as_texts()
     ensures each_text { EachTextAnswered }
     ensures one_answer { OneTextAnswer }
@@ -53,19 +59,19 @@ pub fn questions_as_texts()
     ensures one_answer_of_words { OneWordsAnswer }
 {}
 
-/// Two record headers are equal where all fields are.
+/// Two record headers are equal if and only if all their fields are.
 pub fn header_equality<N: PartialEq>()
     ensures { ⟦<RecordHeader<N> as PartialEq>⟧.eq ≡ headers_equal N.eq }
 {}
 
-/// Record headers compare by owner, type, class, TTL, then by the length of the data.
+/// Record headers compare by owner, type, class and TTL, then by RDLENGTH.
 pub fn header_orders<N: Ord>()
     ensures total { ⟦<RecordHeader<N> as Ord>⟧.cmp ≡ header_order N.cmp }
     ensures partial { (a : _) (b : _) → ⟦<RecordHeader<N> as PartialOrd>⟧.partial_cmp a b
         ≡ as_partial_cmp (header_order N.cmp) a b }
 {}
 
-/// A record header feeds a hasher its fields in this order.
+/// Hashing a record header feeds the hasher the fields in this order.
 pub fn header_hash<N: Hash>()
     ensures { ⟦<RecordHeader<N> as Hash>⟧.hash_input ≡ header_hash_input N.hash_input }
 {}

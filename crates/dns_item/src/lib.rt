@@ -1,9 +1,11 @@
-//! Records of DNS messages and OPT records, with the questions of `dns_question` and the TTL of `dns_ttl`.
+//! Records of DNS messages and OPT records, with the questions of `dns_question` and the TTL of
+//! `dns_ttl`.
 //!
-//! It promises that a question or record is read exactly where one stands (RFC 1035 sections 4.1.2 and 4.1.3) and is composed
-//! as one piece under every rule of compression, that what is put is read back, that the data of a record is read to its end
-//! as its type is laid out, that a text is read as a question by one table, that questions and records have a canonical order
-//! (RFC 4034 section 6), and that a record whose owner and data are converted keeps its class and TTL.
+//! Reading returns a question or record if and only if one is encoded there (RFC 1035 sections
+//! 4.1.2 and 4.1.3). Items that are written read back, under every compression rule. RDATA is read
+//! by the layout of its record type, up to its end. One table says which texts are questions.
+//! Questions and records have a canonical order (RFC 4034 section 6). A record whose owner and
+//! RDATA are converted keeps its class and TTL.
 #![tactic(auto)]
 
 mod canonical;

@@ -11,7 +11,7 @@ use dns_data::{Opt, OptHeader};
 use dns_ttl::Ttl;
 use dns_wire::{Name, Octets};
 
-/// An OPT record: what its class and its TTL say, and its options (RFC 6891 section 6.1).
+/// An OPT record: the fields in its class and TTL, and its options (RFC 6891 section 6.1).
 #[derive(Clone, Copy, Debug, Drop)]
 pub struct OptRecord<Octs: Octets> {
     header: OptHeader,
@@ -19,14 +19,14 @@ pub struct OptRecord<Octs: Octets> {
 }
 
 impl<Octs: Octets> OptRecord<Octs> {
-    /// How many octets of a message the sender can take over UDP.
+    /// The most octets of a UDP payload that the sender can receive.
     pub fn udp_payload_size(&self) -> u16
         ensures { result ≡ (opt_item self.now).fields.udp_payload_size }
     {
         self.header.udp_payload_size()
     }
 
-    /// The rcode, of which the lower four bits stand in the header of the message.
+    /// The extended rcode. Its lower four bits are those of the message's `header`.
     pub fn rcode(&self, header: Header) -> OptRcode
         ensures { result ≡ (opt_item self.now).fields.ext * 16 + (header_fields header).rcode }
     {
@@ -40,21 +40,21 @@ impl<Octs: Octets> OptRecord<Octs> {
         self.header.version()
     }
 
-    /// Whether the sender can take DNSSEC's records (DO, RFC 3225).
+    /// DO: whether the sender accepts DNSSEC records (RFC 3225).
     pub fn dnssec_ok(&self) -> bool
         ensures { result ≡ (opt_item self.now).fields.dnssec_ok }
     {
         self.header.dnssec_ok()
     }
 
-    /// The data, which has the options.
+    /// The RDATA, which has the options.
     pub fn opt(&self) -> &Opt<Octs>
         ensures { result.now ≡ opt_data self.now }
     {
         &self.data
     }
 
-    /// The record of this class, TTL and data; its owner is the root.
+    /// The record with this class, TTL and RDATA. Its owner is the root.
     pub fn as_record(&self) -> Record<Name<&'static [u8]>, &Opt<Octs>>
         ensures owner { name_labels (owner_of result) ≡ [] }
         ensures class { class_of result ≡ opt_class self.now }
@@ -66,7 +66,8 @@ impl<Octs: Octets> OptRecord<Octs> {
     }
 }
 
-/// The OPT record of a record's class, TTL and data. The owner, which should be the root, is dropped.
+/// The OPT record in a record's class, TTL and RDATA. The owner, which should be the root, is
+/// dropped.
 impl<N: Drop, Octs: Octets> From<Record<N, Opt<Octs>>> for OptRecord<Octs> {
     ghost from_gives = { λ r opt. HasOptFields opt (class_of r) (ttl_of r) (data_of r) };
 

@@ -1,4 +1,4 @@
-//! Records whose data isn't read yet (RFC 1035 section 4.1.3).
+//! Records whose RDATA isn't parsed yet (RFC 1035 section 4.1.3).
 ghost use Rattle.std.specs.Prelude.{◌≡◌};
 ghost use Rattle.dns_name.specs.NearNames.{IsNear};
 ghost use Rattle.dns_name.specs.Parsers.{seen};
@@ -11,17 +11,17 @@ use dns_name::NearName;
 use dns_ttl::Ttl;
 use dns_wire::{ParseError, ParsedName, Parser};
 
-/// A record as it stands in a message: its header, and the place of its data, which isn't read yet
-/// (RFC 1035 section 4.1.3). It borrows the message.
+/// A record in a message: its header, and the offset of its RDATA, which isn't parsed yet (RFC 1035
+/// section 4.1.3). It borrows the message.
 #[derive(Clone, Copy, Debug, Drop)]
 pub struct ParsedRecord<'a> {
     pub(crate) header: RecordHeader<ParsedName<'a>>,
-    /// Stands at the data, and sees all of the message.
+    /// Is at the RDATA, and sees the whole message.
     pub(crate) data: Parser<'a>,
 }
 
 impl<'a> ParsedRecord<'a> {
-    /// The record of a header and a parser that stands at the data.
+    /// The record of a header and a parser at the RDATA.
     pub fn new(header: RecordHeader<ParsedName<'a>>, data: Parser<'a>) -> Self
         ensures header { header_of result ≡ header.entry }
         ensures parser { data_parser result ≡ «data».entry }
@@ -29,7 +29,7 @@ impl<'a> ParsedRecord<'a> {
         ParsedRecord { header, data }
     }
 
-    /// The name that the record belongs to.
+    /// The owner: the name that the record belongs to.
     pub fn owner(&self) -> ParsedName<'a>
         ensures { result ≡ owner_of (header_of self.now) }
     {
@@ -50,34 +50,34 @@ impl<'a> ParsedRecord<'a> {
         self.header.class()
     }
 
-    /// How long the record may be kept.
+    /// How long the record may be cached.
     pub fn ttl(&self) -> Ttl
         ensures { result ≡ ttl_of (header_of self.now) }
     {
         self.header.ttl()
     }
 
-    /// How many octets the data has.
+    /// RDLENGTH: the number of octets of the RDATA.
     pub fn rdlen(&self) -> u16
         ensures { result ≡ rdlen_of (header_of self.now) }
     {
         self.header.rdlen()
     }
 
-    /// Reads the record at the parser's place, but for its data, and moves behind the data.
+    /// Reads the record at the parser's offset and advances past it. The RDATA isn't parsed.
     ///
-    /// The fault of its owner is answered, or `ShortInput` where the octets behind the owner or the data aren't all there.
-    /// Then the parser stays.
+    /// Returns the error of its owner, or `ShortInput` if the octets after the owner or the RDATA
+    /// aren't all there. The parser doesn't move on error.
     pub fn parse(parser: &mut Parser<'a>) -> Result<Self, ParseError>
         ensures { ParsesRecord parser.old parser.new result }
     {
         parse_record_near(parser, &mut NearName::new())
     }
 
-    /// Passes a record without following a pointer in its owner, and without a look at its data.
+    /// Skips a record without following a pointer in its owner and without parsing its RDATA.
     ///
-    /// The fault of passing its owner is answered, or `ShortInput` where the octets behind the owner or the data aren't all
-    /// there. Then the parser stays.
+    /// Returns the error of skipping its owner, or `ShortInput` if the octets after the owner or
+    /// the RDATA aren't all there. The parser doesn't move on error.
     pub fn skip(parser: &mut Parser<'_>) -> Result<(), ParseError>
         ensures { SkipsOverRecord parser.old parser.new result }
     {
@@ -91,7 +91,8 @@ impl<'a> ParsedRecord<'a> {
     }
 }
 
-/// As [`ParsedRecord::parse`], with the owner read by `parse_near` of `dns_name`.
+/// As [`ParsedRecord::parse`], with the owner read by `parse_near` of `dns_name`, which uses the
+/// cached name `near`.
 #[inline(always)]
 pub fn parse_record_near<'a>(
     parser: &mut Parser<'a>,

@@ -1,4 +1,4 @@
-//! Equality of records whose data isn't read (RFC 1035 section 4.1.3).
+//! Equality of records whose RDATA isn't parsed (RFC 1035 section 4.1.3).
 ghost use Rattle.std.specs.Prelude.{◌≡◌, option_map};
 ghost use Rattle.std.proofs.Common.{rules};
 ghost use Rattle.std.specs.Cmp.Rules.{comparing};
@@ -6,10 +6,11 @@ ghost use Rattle.dns_item.specs.ParsedRecordOrders.{raw_data, same_raw_data, par
 
 use crate::parsed_record::ParsedRecord;
 
-/// By header and the octets of the data, in which pointers aren't followed.
+/// By header and the octets of the RDATA.
 ///
-/// Names in data that say the same by different pointers are different. Where the data's octets aren't all there, as
-/// `ParsedRecord::new` allows, records are equal only if this is so in both.
+/// Pointers in the RDATA aren't followed, so the same name compressed in two ways is different. If
+/// the RDATA isn't all there, as `ParsedRecord::new` allows, records are equal only if this is so
+/// in both.
 impl PartialEq for ParsedRecord<'_> {
     ghost eq = { parsed_records_equal };
 
@@ -25,7 +26,7 @@ impl Eq for ParsedRecord<'_> {
 }
 
 impl<'a> ParsedRecord<'a> {
-    /// The octets of the data, where they are all there.
+    /// The octets of the RDATA, or `None` if they aren't all there.
     fn raw_data(&self) -> Option<&'a [u8]>
         ensures { option_map (λ octets. octets.now) result ≡ raw_data self.now }
     {
@@ -36,7 +37,7 @@ impl<'a> ParsedRecord<'a> {
     }
 }
 
-/// Whether octets are the same, or missing in both.
+/// Whether the octets are the same, or missing in both.
 fn same_octets(first: Option<&[u8]>, second: Option<&[u8]>) -> bool
     ensures { result ≡ same_raw_data (option_map (λ octets. octets.now) first.entry)
         (option_map (λ octets. octets.now) second.entry) }

@@ -15,10 +15,10 @@ use dns_data::{ComposeRecordData, RecordData, compose_len_rdata};
 pub use dns_ttl::Ttl;
 use dns_wire::{AppendError, Composer, ToName};
 
-/// The most octets of data that are appended at once with the fields before them.
+/// The most octets of RDATA that are appended at once with the fields before them.
 const MOST_AT_ONCE: usize = 16;
 
-/// A record: its owner, its class, its TTL and its data, which tells its type (RFC 1035 section 4.1.3).
+/// A record: owner, class, TTL and RDATA, which has the record type (RFC 1035 section 4.1.3).
 #[derive(Clone, Copy, Debug, Drop)]
 pub struct Record<N, D> {
     owner: N,
@@ -28,7 +28,7 @@ pub struct Record<N, D> {
 }
 
 impl<N, D> Record<N, D> {
-    /// A record of this name with this data.
+    /// The record with these fields.
     pub fn new(owner: N, class: Class, ttl: Ttl, data: D) -> Self
         ensures { HasFields result owner class ttl «data» }
     {
@@ -40,7 +40,7 @@ impl<N, D> Record<N, D> {
         }
     }
 
-    /// The record with its owner and its data converted.
+    /// Converts the owner and the RDATA. The class and the TTL stay.
     pub fn from_record<M, E>(record: Record<M, E>) -> Self
     where
         N: From<M>,
@@ -56,7 +56,7 @@ impl<N, D> Record<N, D> {
         Record::new(N::from(owner), class, ttl, D::from(data))
     }
 
-    /// The name that the record is about.
+    /// The owner: the name that the record belongs to.
     pub fn owner(&self) -> &N
         ensures { result.now ≡ owner_of self.now }
     {
@@ -70,7 +70,7 @@ impl<N, D> Record<N, D> {
         Class::from_int(self.class)
     }
 
-    /// Changes the class.
+    /// Sets the class.
     pub fn set_class(&mut self, class: Class)
         ensures { HasFields self.new (owner_of self.old) class (ttl_of self.old)
             (data_of self.old) }
@@ -78,14 +78,14 @@ impl<N, D> Record<N, D> {
         self.class = class.to_int();
     }
 
-    /// How long the record may be kept.
+    /// How long the record may be cached.
     pub fn ttl(&self) -> Ttl
         ensures { result ≡ ttl_of self.now }
     {
         Ttl::from_secs(self.ttl)
     }
 
-    /// Changes how long the record may be kept.
+    /// Sets how long the record may be cached.
     pub fn set_ttl(&mut self, ttl: Ttl)
         ensures { HasFields self.new (owner_of self.old) (class_of self.old) ttl
             (data_of self.old) }
@@ -93,7 +93,7 @@ impl<N, D> Record<N, D> {
         self.ttl = ttl.as_secs();
     }
 
-    /// The data.
+    /// The RDATA.
     pub fn data(&self) -> &D
         ensures { result.now ≡ data_of self.now }
     {
@@ -106,7 +106,7 @@ impl<N, D> Record<N, D> {
     ghost use Rattle.dns_item.specs.contracts.record.Record.{the_row};
     ghost use Rattle.dns_item.specs.Record.{with_data};
 
-    /// The data, lent to be changed.
+    /// Borrows the RDATA mutably.
     pub fn data_mut(&mut self) -> &mut D
         ensures value { result.now ≡ data_of self.old }
         ensures* writes_back { sem 𝓛 (Lends (the_row N.row D.row) D.row self.entry result
@@ -117,7 +117,7 @@ impl<N, D> Record<N, D> {
 }
 
 impl<N: Drop, D> Record<N, D> {
-    /// The data, taken out.
+    /// Takes out the RDATA.
     pub fn into_data(self) -> D
         ensures { result ≡ data_of self }
     {
@@ -127,7 +127,7 @@ impl<N: Drop, D> Record<N, D> {
 }
 
 impl<N, D> Record<N, D> {
-    /// The owner and the data, taken out.
+    /// Takes out the owner and the RDATA.
     pub fn into_owner_and_data(self) -> (N, D)
         ensures owner { result.0 ≡ owner_of self }
         ensures value { result.1 ≡ data_of self }
@@ -138,7 +138,7 @@ impl<N, D> Record<N, D> {
 }
 
 impl<N, D: RecordData> Record<N, D> {
-    /// The type of the data.
+    /// The record type, which is that of the RDATA.
     pub fn rtype(&self) -> Rtype
         ensures { result ≡ D.rtype_of (data_of self.now) }
     {
@@ -155,7 +155,7 @@ impl<N, D> AsRef<Record<N, D>> for Record<N, D> {
     }
 }
 
-/// The record of an owner, a class, a TTL and data.
+/// The record with an owner, a class, a TTL and RDATA.
 impl<N, D> From<(N, Class, Ttl, D)> for Record<N, D> {
     ghost from_gives = { λ fields r. HasFields r fields.0 fields.1 fields.2 fields.3 };
 
@@ -164,7 +164,7 @@ impl<N, D> From<(N, Class, Ttl, D)> for Record<N, D> {
     }
 }
 
-/// The same with the TTL in seconds.
+/// The record with an owner, a class, a TTL in seconds and RDATA.
 impl<N, D> From<(N, Class, u32, D)> for Record<N, D> {
     ghost from_gives = { λ fields r. HasFields r fields.0 fields.1 fields.2 fields.3 };
 
@@ -183,10 +183,11 @@ impl<N, D> From<(N, u32, D)> for Record<N, D> {
 }
 
 impl<N: ToName, D: ComposeRecordData> Record<N, D> {
-    /// Appends the record: its owner by the target's rule, type, class, TTL, and its data behind the length of the data.
+    /// Appends the record: its owner by the target's compression rule, type, class, TTL, RDLENGTH
+    /// and RDATA.
     ///
-    /// Where it is refused the content still begins with the old one, and a `truncate` to the old length gives the old
-    /// target back.
+    /// On error the content still begins with the old content. A `truncate` to the old length
+    /// restores the old target.
     #[inline(always)]
     pub fn compose<T: Composer>(&self, target: &mut T) -> Result<(), AppendError>
         ensures composes { Composes T.room T.grows
@@ -207,7 +208,7 @@ impl<N: ToName, D: ComposeRecordData> Record<N, D> {
     }
 }
 
-/// Appends fields, and octets behind their length.
+/// Appends the fields, then the number of `octets` as RDLENGTH, then the octets.
 #[inline(always)]
 fn append_at_once<T: Composer>(
     fields: &[u8; 8],
@@ -227,7 +228,7 @@ fn append_at_once<T: Composer>(
     target.append_slice(&text[..10 + len])
 }
 
-/// The octets of a type, a class and a TTL.
+/// The octets of a type, a class and a TTL, big-endian.
 pub(crate) fn field_octets(rtype: Rtype, class: Class, ttl: Ttl) -> [u8; 8]
     ensures { result ≡ to_be_bytes w16 rtype ++ to_be_bytes w16 class ++ to_be_bytes w32 ttl }
 {
@@ -237,15 +238,16 @@ pub(crate) fn field_octets(rtype: Rtype, class: Class, ttl: Ttl) -> [u8; 8]
     [a, b, c, d, e, f, g, h]
 }
 
-/// What can be pushed into a record section.
+/// A value that can be pushed into a record section.
 pub trait ComposeRecord {
     /// The record.
     ghost item: { Self → RecordItem };
 
-    /// Appends the record: its owner by the target's rule, type, class, TTL, and its data behind the length of the data.
+    /// Appends the record: its owner by the target's compression rule, type, class, TTL, RDLENGTH
+    /// and RDATA.
     ///
-    /// Where it is refused the content still begins with the old one, and a `truncate` to the old length gives the old
-    /// target back.
+    /// On error the content still begins with the old content. A `truncate` to the old length
+    /// restores the old target.
     fn compose_record<T: Composer>(&self, target: &mut T) -> Result<(), AppendError>
         ensures composes { Composes T.room T.grows (put_record T.rule (item self.now))
             (T.written target.old) (T.written target.new) result }
@@ -277,7 +279,7 @@ impl<N: ToName, D: ComposeRecordData> ComposeRecord for (N, Class, Ttl, D) {
     }
 }
 
-/// With the TTL in seconds.
+/// A record with the TTL in seconds.
 impl<N: ToName, D: ComposeRecordData> ComposeRecord for (N, Class, u32, D) {
     ghost item = { λ fields. item_of_fields N.name D.rtype_of D.parts fields.0 fields.1 fields.2 fields.3 };
 
@@ -287,7 +289,7 @@ impl<N: ToName, D: ComposeRecordData> ComposeRecord for (N, Class, u32, D) {
     }
 }
 
-/// In the class IN.
+/// A record in the class IN.
 impl<N: ToName, D: ComposeRecordData> ComposeRecord for (N, Ttl, D) {
     ghost item = { λ fields. item_of_fields N.name D.rtype_of D.parts fields.0 1 fields.1 fields.2 };
 
@@ -297,7 +299,7 @@ impl<N: ToName, D: ComposeRecordData> ComposeRecord for (N, Ttl, D) {
     }
 }
 
-/// In the class IN, with the TTL in seconds.
+/// A record in the class IN, with the TTL in seconds.
 impl<N: ToName, D: ComposeRecordData> ComposeRecord for (N, u32, D) {
     ghost item = { λ fields. item_of_fields N.name D.rtype_of D.parts fields.0 1 fields.1 fields.2 };
 

@@ -1,20 +1,20 @@
-//! Why a record can't be parsed.
+//! Errors of parsing a record.
 use dns_wire::ShortBuf;
 use std::error::Error;
 use std::fmt;
 
-/// Why a record can't be parsed: the fault of its owner, that of its data, or that octets are missing.
+/// An error of parsing a record: that of its owner, that of its RDATA, or that octets are missing.
 #[derive(Clone, Copy, Debug, PartialEq, Eq)]
 pub enum RecordParseError<N, D> {
     /// The owner can't be parsed.
     Name(N),
-    /// The data can't be parsed.
+    /// The RDATA can't be parsed.
     Data(D),
     /// Octets are missing.
     ShortBuf,
 }
 
-/// That octets are missing.
+/// Octets are missing.
 impl<N, D> From<ShortBuf> for RecordParseError<N, D> {
     ghost use Rattle.std.specs.Prelude.{◌≡◌};
     ghost use Rattle.dns_item.specs.declared.record_error.RecordParseError.TheVariants as errors;
@@ -26,7 +26,7 @@ impl<N, D> From<ShortBuf> for RecordParseError<N, D> {
     }
 }
 
-/// The text of the part, or that of missing octets.
+/// The text of the owner's or the RDATA's error, or that of missing octets.
 impl<N: fmt::Display, D: fmt::Display> fmt::Display for RecordParseError<N, D> {
     ghost use Rattle.dns_item.specs.RecordPrinting.{parse_error_text};
 

@@ -12,7 +12,8 @@ use dns_name::{NearName, parse_near};
 use dns_ttl::Ttl;
 use dns_wire::{AppendError, Composer, ParseError, ParsedName, Parser, ToName};
 
-/// A record but for its data: owner, type, class, TTL and the length of the data in octets (RFC 1035 section 4.1.3).
+/// The fields of a record before its RDATA: owner, type, class, TTL and RDLENGTH (RFC 1035 section
+/// 4.1.3).
 #[derive(Clone, Copy, Debug, PartialEq, Eq, PartialOrd, Ord, Hash, Drop)]
 pub struct RecordHeader<N> {
     owner: N,
@@ -23,7 +24,7 @@ pub struct RecordHeader<N> {
 }
 
 impl<N> RecordHeader<N> {
-    /// The header of a record with these fields, the length of its data in octets the last.
+    /// The header with these fields. `rdlen` is the number of octets of the RDATA.
     pub fn new(owner: N, rtype: Rtype, class: Class, ttl: Ttl, rdlen: u16) -> Self
         ensures owner { owner_of result ≡ owner }
         ensures rtype { rtype_of result ≡ rtype }
@@ -40,7 +41,7 @@ impl<N> RecordHeader<N> {
         }
     }
 
-    /// The name that the record belongs to.
+    /// The owner: the name that the record belongs to.
     pub fn owner(&self) -> &N
         ensures { result.now ≡ owner_of self.now }
     {
@@ -61,21 +62,21 @@ impl<N> RecordHeader<N> {
         Class::from_int(self.class)
     }
 
-    /// How long the record may be kept.
+    /// How long the record may be cached.
     pub fn ttl(&self) -> Ttl
         ensures { result ≡ ttl_of self.now }
     {
         Ttl::from_secs(self.ttl)
     }
 
-    /// How many octets the data has.
+    /// RDLENGTH: the number of octets of the RDATA.
     pub fn rdlen(&self) -> u16
         ensures { result ≡ rdlen_of self.now }
     {
         self.rdlen
     }
 
-    /// The record of this owner, class and TTL with data, which tells the type.
+    /// The record with this owner, class and TTL, and with RDATA, which has the record type.
     pub fn into_record<D>(self, data: D) -> Record<N, D>
         ensures { HasFields result (owner_of self) (class_of self) (ttl_of self) «data» }
     {
@@ -87,10 +88,11 @@ impl<N> RecordHeader<N> {
 }
 
 impl<N: ToName> RecordHeader<N> {
-    /// Appends the header: its owner by the target's rule, type, class, TTL and the length of the data, but no data.
+    /// Appends the header: its owner by the target's compression rule, type, class, TTL and
+    /// RDLENGTH, but no RDATA.
     ///
-    /// Where it is refused the content still begins with the old one, and a `truncate` to the old length gives the old
-    /// target back.
+    /// On error the content still begins with the old content. A `truncate` to the old length
+    /// restores the old target.
     pub fn compose<T: Composer>(&self, target: &mut T) -> Result<(), AppendError>
         ensures { Composes T.room T.grows (put_header T.rule (header_item N.name self.now))
             (T.written target.old) (T.written target.new) result }
@@ -101,7 +103,7 @@ impl<N: ToName> RecordHeader<N> {
 }
 
 impl<N> RecordHeader<N> {
-    /// The octets behind the owner.
+    /// The ten octets after the owner.
     pub(crate) fn field_octets(&self) -> [u8; 10]
         ensures { result ≡ header_fields (rtype_of self.now) (class_of self.now) (ttl_of self.now)
             (rdlen_of self.now) }
@@ -115,10 +117,11 @@ impl<N> RecordHeader<N> {
 }
 
 impl<'a> RecordHeader<ParsedName<'a>> {
-    /// Reads the header of the record at the parser's place and moves to the record's data, which isn't asked for.
+    /// Reads the header of the record at the parser's offset and advances to its RDATA. The RDATA
+    /// needn't be there.
     ///
-    /// The fault of its owner is answered, or `ShortInput` where the ten octets behind the owner aren't there. Then the
-    /// parser stays.
+    /// Returns the error of its owner, or `ShortInput` if the ten octets after the owner aren't all
+    /// there. The parser doesn't move on error.
     pub fn parse(parser: &mut Parser<'a>) -> Result<Self, ParseError>
         ensures { ParsesHeader parser.old parser.new result }
     {
@@ -134,10 +137,10 @@ impl<'a> RecordHeader<ParsedName<'a>> {
         RecordHeader::parse(parser)
     }
 
-    /// Reads the header of the record at the parser's place and passes its data too.
+    /// Reads the header of the record at the parser's offset and advances past the RDATA.
     ///
-    /// The fault of its owner is answered, or `ShortInput` where the octets behind the owner or the data aren't all there.
-    /// Then the parser stays.
+    /// Returns the error of its owner, or `ShortInput` if the octets after the owner or the RDATA
+    /// aren't all there. The parser doesn't move on error.
     pub fn parse_and_skip(parser: &mut Parser<'a>) -> Result<Self, ParseError>
         ensures { ParsesAndSkips parser.old parser.new result }
     {
@@ -147,8 +150,8 @@ impl<'a> RecordHeader<ParsedName<'a>> {
         Ok(header)
     }
 
-    /// The header at the parser's place, and the parser that stands behind it, at the data. The owner is read by
-    /// `parse_near`.
+    /// The header at the parser's offset, and the parser after it, at the RDATA. The owner is read
+    /// by `parse_near`, which uses the cached name `near`.
     #[inline(always)]
     pub(crate) fn read(
         mut parser: Parser<'a>,
@@ -164,7 +167,7 @@ impl<'a> RecordHeader<ParsedName<'a>> {
     }
 }
 
-/// Reads the ten octets behind an owner.
+/// Reads the ten octets after an owner.
 fn read_fields(parser: &mut Parser<'_>) -> Result<(Rtype, Class, Ttl, u16), ParseError>
     ensures { Takes parser.old parser.new 10 result
         (λ fields. AreFieldsAt (seen parser.old) (place parser.old) fields.0 fields.1 fields.2

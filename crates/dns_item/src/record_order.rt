@@ -1,4 +1,4 @@
-//! Comparisons of records. They leave out the TTL (RFC 2136 section 1.1.1).
+//! Comparisons of records. They ignore the TTL (RFC 2136 section 1.1.1).
 ghost use Rattle.std.proofs.Common.{rules};
 ghost use Rattle.std.specs.Cmp.Rules.{comparing, hashing};
 ghost use Rattle.dns_item.specs.RecordOrders.{records_equal, record_order, record_hash_input};
@@ -7,7 +7,7 @@ use crate::record::Record;
 use std::cmp::Ordering;
 use std::hash::{Hash, Hasher};
 
-/// By owner, class and data (RFC 2136 section 1.1.1).
+/// By owner, class and RDATA (RFC 2136 section 1.1.1).
 impl<N: PartialEq, D: PartialEq> PartialEq for Record<N, D> {
     ghost eq = { records_equal N.eq D.eq };
 
@@ -38,7 +38,7 @@ impl<N: Ord, D: Ord> PartialOrd for Record<N, D> {
     }
 }
 
-/// By owner, class and data.
+/// By owner, then by class, then by RDATA.
 impl<N: Ord, D: Ord> Ord for Record<N, D> {
     ghost cmp = { record_order N.cmp D.cmp };
 
@@ -57,7 +57,7 @@ impl<N: Ord, D: Ord> Ord for Record<N, D> {
     }
 }
 
-/// Owner, class and data.
+/// Hashes the owner, the class and the RDATA.
 impl<N: Hash, D: Hash> Hash for Record<N, D> {
     ghost hash_input = { record_hash_input N.hash_input D.hash_input };
 

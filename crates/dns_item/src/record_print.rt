@@ -1,9 +1,9 @@
-//! Records printed (RFC 1035 section 5.1).
+//! Records in presentation format (RFC 1035 section 5.1).
 use crate::record::Record;
 use dns_data::RecordData;
 use std::fmt;
 
-/// The owner, a dot, the TTL in seconds, the class, the type and the data, with one space between two.
+/// The owner, a dot, the TTL in seconds, the class, the type and the RDATA, separated by one space.
 impl<N: fmt::Display, D: RecordData + fmt::Display> fmt::Display for Record<N, D> {
     ghost use Rattle.dns_item.specs.RecordPrinting.{record_text};
 

@@ -1,4 +1,4 @@
-//! Records read with their data (RFC 1035 section 4.1.3).
+//! Reading records with their RDATA (RFC 1035 section 4.1.3).
 ghost use Rattle.std.specs.Prelude.{◌≡◌, ℕ, IsErrAnd};
 ghost use Rattle.dns_name.specs.Names.{Fault, fault_of};
 ghost use Rattle.dns_name.specs.Parsers.{seen, place, MovesTo};
@@ -14,7 +14,7 @@ use dns_code::Rtype;
 use dns_data::{ParseAnyRecordData, ParseRecordData};
 use dns_wire::{FormError, ParseError, ParsedName, Parser};
 
-/// Reads data from the parser's place to the parser's end.
+/// Reads RDATA that takes all octets from the parser's offset to its end.
 fn read_data<'a, D: ParseRecordData<'a> + Drop>(
     rtype: Rtype,
     parser: &mut Parser<'a>,
@@ -31,7 +31,7 @@ fn read_data<'a, D: ParseRecordData<'a> + Drop>(
     Ok(Some(data))
 }
 
-/// The same for data that takes every type.
+/// As `read_data`, for RDATA types that accept every record type.
 fn read_any_data<'a, D: ParseAnyRecordData<'a> + Drop>(
     rtype: Rtype,
     parser: &mut Parser<'a>,
@@ -47,11 +47,12 @@ fn read_any_data<'a, D: ParseAnyRecordData<'a> + Drop>(
 }
 
 impl<'a> RecordHeader<ParsedName<'a>> {
-    /// Reads the data behind this header, and gives the record, or `None` where the data type doesn't take the record type.
+    /// Reads the RDATA after this header and returns the record, or `None` if `D` doesn't accept
+    /// the record type.
     ///
-    /// The parser stands at the data, and is then behind it, whatever is answered. `ShortInput` is answered where the data
-    /// isn't all there, and then the parser stays; else the first fault in the data, and `Form` where octets are left over
-    /// behind it.
+    /// The parser has to be at the RDATA, and advances past it whatever the result. If the RDATA
+    /// isn't all there, it returns `ShortInput` and the parser doesn't move. Otherwise the error is
+    /// the first in the RDATA, or `Form` if octets are left over.
     pub fn parse_into_record<D: ParseRecordData<'a> + Drop>(
         self,
         parser: &mut Parser<'a>,
@@ -69,7 +70,7 @@ impl<'a> RecordHeader<ParsedName<'a>> {
         }
     }
 
-    /// As `parse_into_record`, for data that takes every record type.
+    /// As `parse_into_record`, for RDATA types that accept every record type.
     pub fn parse_into_any_record<D: ParseAnyRecordData<'a> + Drop>(
         self,
         parser: &mut Parser<'a>,
@@ -88,10 +89,10 @@ impl<'a> RecordHeader<ParsedName<'a>> {
 }
 
 impl<'a> ParsedRecord<'a> {
-    /// The record with its data read, or `None` where the data type doesn't take the record type.
+    /// The record with its RDATA parsed, or `None` if `D` doesn't accept the record type.
     ///
-    /// `ShortInput` is answered where the data isn't all there; else the first fault in the data, and `Form` where octets are
-    /// left over behind it.
+    /// Returns `ShortInput` if the RDATA isn't all there. Otherwise the error is the first in the
+    /// RDATA, or `Form` if octets are left over.
     pub fn to_record<D: ParseRecordData<'a> + Drop>(
         &self,
     ) -> Result<Option<Record<ParsedName<'a>, D>>, ParseError>
@@ -120,7 +121,7 @@ impl<'a> ParsedRecord<'a> {
         self.to_record()
     }
 
-    /// As `to_record`, for data that takes every record type.
+    /// As `to_record`, for RDATA types that accept every record type.
     pub fn to_any_record<D: ParseAnyRecordData<'a> + Drop>(
         &self,
     ) -> Result<Record<ParsedName<'a>, D>, ParseError>
@@ -151,10 +152,11 @@ impl<'a> ParsedRecord<'a> {
 }
 
 impl<'a, D: ParseRecordData<'a> + Drop> Record<ParsedName<'a>, D> {
-    /// Reads the record at the parser's place with its data, `None` where the data type doesn't take the record type.
+    /// Reads the record at the parser's offset with its RDATA, or `None` if `D` doesn't accept the
+    /// record type.
     ///
-    /// The parser is then behind the record, whatever is answered, but where the record's own octets can't be read: then the
-    /// fault of its owner is answered, or `ShortInput`, and the parser stays.
+    /// The parser advances past the record whatever becomes of the RDATA. Only if the record can't
+    /// be read does it stay: then the error is that of the owner, or `ShortInput`.
     pub fn parse(parser: &mut Parser<'a>) -> Result<Option<Self>, ParseError>
         ensures gives { (q : ℕ) (x : RecordEntry)
             → ReadsRecord (seen parser.old) (place parser.old) q x

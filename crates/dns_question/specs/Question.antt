@@ -1,4 +1,4 @@
--- The fields of a question, and what parsing and skipping one answer. RFC 1035 section 4.1.2.
+-- The fields of a question, and what parsing and skipping one returns. RFC 1035 section 4.1.2.
 use Rattle.std.specs.Prelude.{◌≡◌, ℕ, Result, Ok, Err, List, ◌++◌, ◌∷◌, Option, option_map, codes}
 use Rattle.dns_octets.specs.declared.error.ParseError.{ParseError}
 use Rattle.dns_name.specs.Names.{fault_of, Labels}
@@ -27,25 +27,25 @@ pub record HasFields {N : Type 0} (q : Question N) (qname : N) (qtype qclass : �
   pub rtype : qtype_of q ≡ qtype
   pub class : qclass_of q ≡ qclass
 
--- what a question asks, by the labels of its name
+-- a question as a value, with the labels of its name
 abbrev pub question_item : {N : Type 0} → (N → Labels) → Question N → QuestionItem
 question_item labels_of q = record { name = labels_of (qname_of q); rtype = qtype_of q; class = qclass_of q }
 
--- what a question over a name in an input asks
+-- a parsed question as a value
 abbrev pub parsed_question : Question ParsedName → QuestionItem
 parsed_question = question_item labels
 
--- What parsing gives is the question that can be read at the parser's place, behind which the parser then stands; or the fault there, and the parser stays.
+-- What parsing returns: the question at the parser's offset, with the parser moved past it; or the fault there, and the parser doesn't move.
 abbrev pub ParsesQuestion : Parser → Parser → Result (Question ParsedName) ParseError → Type 0
 ParsesQuestion old new (Ok q) = ReadsQuestion (seen old) (place old) (place new) (parsed_question q) × MovesTo old new (place new)
 ParsesQuestion old new (Err e) = QuestionFaultAt (seen old) (place old) (fault_of e) × (new ≡ old)
 
--- Skipping moves behind the question, or answers the fault of one that can't be skipped, and the parser stays.
+-- Skipping moves the parser past the question. If it can't be skipped, it returns the fault, and the parser doesn't move.
 abbrev pub SkipsOverQuestion : Parser → Parser → Result Unit ParseError → Type 0
 SkipsOverQuestion old new (Ok _) = SkipsQuestion (seen old) (place old) (place new) × MovesTo old new (place new)
 SkipsOverQuestion old new (Err e) = QuestionSkipFaultAt (seen old) (place old) (fault_of e) × (new ≡ old)
 
--- How questions are printed. RFC 1035 section 5.1.
+-- Questions in presentation format. RFC 1035 section 5.1.
 
 -- the octet of a tab
 abbrev pub tab : ℕ
@@ -55,6 +55,6 @@ tab = 0x09
 abbrev pub fields_text : List ℕ → ℕ → ℕ → List ℕ
 fields_text name rtype class = name ++ codes "." ++ tab ∷ type_text rtype ++ tab ∷ class_text class
 
--- how a question is printed, where it is known how its name is
+-- the text of a question, if the text of its name is known
 abbrev pub question_text : {N : Type 0} → (N → Option (List ℕ)) → Question N → Option (List ℕ)
 question_text name_text q = option_map (λ name. fields_text name (qtype_of q) (qclass_of q)) (name_text (qname_of q))

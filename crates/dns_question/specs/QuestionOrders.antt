@@ -1,4 +1,4 @@
--- How questions compare and hash, field by field, and how they compare in canonical form. RFC 1035 section 4.1.2, RFC 4034 section 6.
+-- How questions compare and hash, field by field, and their canonical order. RFC 1035 section 4.1.2, RFC 4034 section 6.
 use Rattle.std.specs.Prelude.{Bool, ◌++◌, ◌==◌}
 use Rattle.std.specs.Hash.{HashWrites, u16}
 use Rattle.std.specs.Ordering.{on, nat_cmp, then_cmp, eq_of_both}
@@ -9,11 +9,11 @@ use Rattle.dns_question.specs.Question.{qname_of, qtype_of, qclass_of}
 use Rattle.dns_question.specs.declared.question.Question.{Question}
 
 module _ {N : Type 0} where
-  -- questions are equal where their names, types and classes are
+  -- questions are equal if their names, types and classes are
   abbrev pub questions_equal : (N → N → Bool) → Question N → Question N → Bool
   questions_equal same_name = eq_of_both (on qname_of same_name) (eq_of_both (on qtype_of ◌==◌) (on qclass_of ◌==◌))
 
-  -- their order: that of their names, else of their types, else of their classes
+  -- the order of questions: by name, then by type, then by class
   abbrev pub question_order : (N → N → Ordering) → Question N → Question N → Ordering
   question_order name_order = then_cmp (on qname_of name_order) (then_cmp (on qtype_of nat_cmp) (on qclass_of nat_cmp))
 
@@ -21,6 +21,6 @@ module _ {N : Type 0} where
   abbrev pub question_hash_input : (N → HashWrites) → Question N → HashWrites
   question_hash_input of_name q = of_name (qname_of q) ++ (u16 (qtype_of q) ++ u16 (qclass_of q))
 
-  -- The canonical order: by the octets of their names without pointers, lowercased, else by their types, else by their classes.
+  -- The canonical order: by the octets of the uncompressed names, lowercased, then by type, then by class.
   abbrev pub canonical_question_order : (N → Labels) → Question N → Question N → Ordering
   canonical_question_order labels_of = then_cmp (on (λ q. labels_of (qname_of q)) composed_order) (then_cmp (on qtype_of nat_cmp) (on qclass_of nat_cmp))

@@ -22,22 +22,22 @@ use Rattle.dns_question.specs.declared.question_error.PresentationError.{Present
 use Rattle.dns_question.specs.Question.{question_item}
 use Rattle.dns_question.specs.declared.question.Question.{Question}
 
--- The words of a text, as RFC 1035 section 5.1 has them, but between Unicode white space.
+-- The words of a text, as in RFC 1035 section 5.1, but separated by Unicode white space.
 
--- nothing but white space
+-- only white space, or nothing
 abbrev pub IsGap : List ℕ → Type 0
 IsGap text = NoCharPasses is_not_whitespace text
 
--- characters, none of which is white space
+-- at least one character, and none is white space
 pub record IsWord (text : List ℕ) : Type 0 where
   pub some : 0 < length text
   pub no_white : NoCharPasses is_whitespace text
 
--- nothing, or white space and whatever stands behind it
+-- empty, or beginning with white space
 abbrev pub StartsWhite : List ℕ → Type 0
 StartsWhite text = (behind : List ℕ) × EmptyOrStartsWithPassing is_whitespace text behind
 
--- the words of a text from the left, each as long as it can be
+-- the words of a text from the left, each as long as possible
 pub data AreWords : List ℕ → List (List ℕ) → Type 0 where
   none : {gap : List ℕ} → IsGap gap → AreWords gap []
   word : {gap word text : List ℕ} {words : List (List ℕ)} → IsGap gap → IsWord word → StartsWhite text → AreWords text words → AreWords (gap ++ (word ++ text)) (word ∷ words)
@@ -46,11 +46,11 @@ pub data AreWords : List ℕ → List (List ℕ) → Type 0 where
 abbrev pub class_in : ℕ
 class_in = 1
 
--- no type is spelled
+-- the word is not the text of a type
 abbrev pub SpellsNoType : List ℕ → Type 0
 SpellsNoType a = (n : ℕ) → SpellsType a n → ⊥
 
--- no class is spelled
+-- the word is not the text of a class
 abbrev pub SpellsNoClass : List ℕ → Type 0
 SpellsNoClass a = (n : ℕ) → SpellsClass a n → ⊥
 
@@ -62,7 +62,7 @@ asks name rtype class = record { name = name; rtype = rtype; class = class }
 abbrev pub Answer : Type 0
 Answer = Result QuestionItem PresentationErrorEnum
 
--- What words are read as: a name, and behind it a type, or a type and a class in any order. Whatever stands before a fault is right.
+-- What words are read as: a name, followed by a type, or by a type and a class in either order. The words before the wrong one are right.
 pub data ReadsWords : List (List ℕ) → Answer → Type 0 where
   no_name : ReadsWords [] (Err MissingQname)
   bad_name : {a : List ℕ} {more : List (List ℕ)} {f : NamePresentationError} → NameTextFault a f → ReadsWords (a ∷ more) (Err (BadName f))
@@ -82,38 +82,38 @@ pub data ReadsWords : List (List ℕ) → Answer → Type 0 where
       → ReadsWords (a ∷ b ∷ c ∷ []) (Ok (asks name rtype class))
   trailing : {a b c d : List ℕ} {more : List (List ℕ)} {x : QuestionItem} → ReadsWords (a ∷ b ∷ c ∷ []) (Ok x) → ReadsWords (a ∷ b ∷ c ∷ d ∷ more) (Err TrailingData)
 
--- what a text is read as: what its words are
+-- a text is read as its words are
 pub record ReadsText (text : List ℕ) (answer : Answer) : Type 0 where
   pub words : List (List ℕ)
   pub are_words : AreWords text words
   pub reads : ReadsWords words answer
 
--- What holds of all texts of questions.
+-- Theorems over all texts of questions.
 
--- every text is read as something
+-- every text is read as a question or an error
 abbrev pub EachTextAnswered : Type 0
 EachTextAnswered = (text : List ℕ) → IsUtf8 text → (answer : Answer) × ReadsText text answer
 
--- and as one thing
+-- and as only one
 abbrev pub OneTextAnswer : Type 0
 OneTextAnswer = (text : List ℕ) (x y : Answer) → ReadsText text x → ReadsText text y → x ≡ y
 
--- so is every list of words
+-- the same of every list of words
 abbrev pub EachWordsAnswered : Type 0
 EachWordsAnswered = (words : List (List ℕ)) → (answer : Answer) × ReadsWords words answer
 
 abbrev pub OneWordsAnswer : Type 0
 OneWordsAnswer = (words : List (List ℕ)) (x y : Answer) → ReadsWords words x → ReadsWords words y → x ≡ y
 
--- What reading questions from texts answers. RFC 1035 section 5.1.
+-- What reading questions from texts returns. RFC 1035 section 5.1.
 
--- Why a question can't be read from a text. RFC 1035 section 5.1.
+-- The errors of reading a question from a text. RFC 1035 section 5.1.
 
 -- what is wrong
 abbrev pub kind_of : PresentationError → PresentationErrorEnum
 kind_of error = error.0
 
--- the error tells that this is wrong with the text
+-- the error says that this is wrong with the text
 abbrev pub IsKind : PresentationErrorEnum → FromStrError → Type 0
 IsKind kind e = (error : PresentationError) × (e ≡ Presentation error) × (kind_of error ≡ kind)
 
@@ -123,26 +123,26 @@ IsErrorOfName (NamePresentation fault) e = IsKind (BadName fault) e
 IsErrorOfName NameShortBuf e = e ≡ ShortBuf
 IsErrorOfName NameOutOfMemory e = e ≡ OutOfMemory
 
--- a type and a class, or what is wrong with the words for them
+-- a type and a class, or what is wrong with their words
 abbrev pub Fields : Type 0
 Fields = Result (ℕ × ℕ) PresentationErrorEnum
 
--- what is read of the name and of the words behind it
+-- the result of a name and the fields after it
 abbrev pub named : Labels → Fields → Answer
 named name (Ok (rtype, class)) = Ok (asks name rtype class)
 named name (Err f) = Err f
 
--- behind every word that spells a name, the words are read so
+-- after every word that is the text of a name, the words are read as these fields
 abbrev pub ReadsBehindName : List (List ℕ) → Fields → Type 0
 ReadsBehindName words fields = (a : List ℕ) (name : Labels) → SpellsName a name → ReadsWords (a ∷ words) (named name fields)
 
--- What is read of the second word and of the third, if there is one. A fault of three words is one whatever stands behind them.
+-- What the second word and the third, if there is one, are read as. If three words are wrong, they are so whatever words follow.
 abbrev pub ReadsFields : List ℕ → Option (Bor (List ℕ)) → Fields → Type 0
 ReadsFields b None fields = ReadsBehindName (b ∷ []) fields
 ReadsFields b (Some c) (Ok x) = ReadsBehindName (b ∷ c.now ∷ []) (Ok x)
 ReadsFields b (Some c) (Err f) = (more : List (List ℕ)) → ReadsBehindName (b ∷ c.now ∷ more) (Err f)
 
--- what is read of the text behind the first word
+-- what the text after the first word is read as
 abbrev pub ReadsTextBehindName : List ℕ → Fields → Type 0
 ReadsTextBehindName text fields = IsUtf8 text → (words : List (List ℕ)) × AreWords text words × ReadsBehindName words fields
 
@@ -150,13 +150,13 @@ ReadsTextBehindName text fields = IsUtf8 text → (words : List (List ℕ)) × A
 abbrev pub ReadsSomeQuestion : List ℕ → Type 0
 ReadsSomeQuestion text = (x : QuestionItem) × ReadsText text (Ok x)
 
--- What is wrong with the text. Nothing else is wrong but a want of memory, and `Memory` says when that may be.
+-- The error says what is wrong with the text, or it is `OutOfMemory`, only if `Memory` holds. It is never `ShortBuf`.
 abbrev pub ReadsFault : Type 0 → List ℕ → FromStrError → Type 0
 ReadsFault Memory text (Presentation error) = ReadsText text (Err (kind_of error))
 ReadsFault Memory text ShortBuf = ⊥
 ReadsFault Memory text OutOfMemory = Memory
 
--- the question that the text is read as, or what is wrong
+-- the question that the text is read as, or the error
 abbrev pub ReadsQuestionText : {X : Type 0} {holder : Ghosts X} → Type 0 → List ℕ → Result (Question (Name X holder)) FromStrError → Type 0
 ReadsQuestionText Memory text (Ok question) = ReadsText text (Ok (question_item name_labels question))
 ReadsQuestionText Memory text (Err e) = ReadsFault Memory text e

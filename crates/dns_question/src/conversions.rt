@@ -1,4 +1,4 @@
-//! Conversions of questions between kinds of names.
+//! Conversions of questions between types of names.
 ghost use Rattle.dns_question.specs.Question.{qname_of};
 ghost use Rattle.dns_question.specs.QuestionConversions.{KeepsQuestion};
 
@@ -6,7 +6,7 @@ use crate::question::Question;
 use dns_wire::{AppendError, FlattenInto, OctetsFrom};
 use std::alloc::Global;
 
-/// The question with its name converted, and its type and class.
+/// Converts the name. The type and the class stay.
 impl<S, N: OctetsFrom<S>> OctetsFrom<Question<S>> for Question<N> {
     ghost keeps = { KeepsQuestion N.keeps };
 
@@ -24,7 +24,7 @@ impl<S, N: OctetsFrom<S>> OctetsFrom<Question<S>> for Question<N> {
     }
 }
 
-/// The question with its name flattened, and its type and class.
+/// Flattens the name. The type and the class stay.
 impl<S: FlattenInto<N>, N> FlattenInto<Question<N>> for Question<S> {
     ghost keeps = { KeepsQuestion S.keeps };
 

@@ -1,4 +1,5 @@
-//! Theorems on how questions compare and hash. The functions do nothing: each contract is a theorem over all questions.
+//! Theorems on how questions compare and hash. The functions do nothing: each contract is a theorem
+//! over all questions.
 ghost use Rattle.std.specs.Prelude.{◌≡◌};
 ghost use Rattle.std.specs.Ordering.{as_partial_cmp};
 ghost use Rattle.dns_question.specs.QuestionOrders.{questions_equal, question_order, question_hash_input};
@@ -6,7 +7,7 @@ ghost use Rattle.dns_question.specs.QuestionOrders.{questions_equal, question_or
 use crate::question::Question;
 use std::hash::Hash;
 
-/// Two questions are equal where their names, types and classes are.
+/// Two questions are equal if and only if their names, types and classes are.
 pub fn question_equality<N: PartialEq>()
     ensures { ⟦<Question<N> as PartialEq>⟧.eq ≡ questions_equal N.eq }
 {}
@@ -18,7 +19,7 @@ pub fn question_orders<N: Ord>()
         ≡ as_partial_cmp (question_order N.cmp) a b }
 {}
 
-/// A question feeds a hasher its name, type and class.
+/// Hashing a question feeds the hasher the name, then the type, then the class.
 pub fn question_hash<N: Hash>()
     ensures { ⟦<Question<N> as Hash>⟧.hash_input ≡ question_hash_input N.hash_input }
 {}

@@ -1,8 +1,9 @@
 //! Questions of DNS messages, and their texts.
 //!
-//! It promises that a question is read exactly where one stands (RFC 1035 section 4.1.2), is composed as one piece under
-//! every rule of compression and read back, that a text is read as a question by one table, that questions have a canonical
-//! order, and that a question whose name is converted keeps its type and class.
+//! Reading returns a question if and only if one is encoded there (RFC 1035 section 4.1.2). A
+//! question that is written reads back, under every compression rule. One table says which texts
+//! are questions. Questions have a canonical order. A question whose name is converted keeps its
+//! type and class.
 #![tactic(auto)]
 
 mod conversions;

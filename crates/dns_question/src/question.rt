@@ -8,7 +8,7 @@ pub use crate::question_error::{FromStrError, PresentationError, PresentationErr
 use dns_code::{Class, Rtype};
 use dns_wire::{AppendError, Composer, ParseError, ParsedName, Parser, ToName};
 
-/// What is asked: a name, a record type and a class (RFC 1035 section 4.1.2).
+/// A question: a name, a record type and a class (RFC 1035 section 4.1.2).
 #[derive(Clone, Copy, Debug, PartialEq, Eq, PartialOrd, Ord, Hash, Drop)]
 pub struct Question<N> {
     qname: N,
@@ -39,14 +39,14 @@ impl<N> Question<N> {
         Question::new(qname, qtype, Class::IN)
     }
 
-    /// The name.
+    /// QNAME: the name.
     pub fn qname(&self) -> &N
         ensures { result.now ≡ qname_of self.now }
     {
         &self.qname
     }
 
-    /// The name, taken out.
+    /// Takes out the name.
     pub fn into_qname(self) -> N
         ensures { result ≡ qname_of self }
     {
@@ -54,14 +54,14 @@ impl<N> Question<N> {
         qname
     }
 
-    /// The record type.
+    /// QTYPE: the record type.
     pub fn qtype(&self) -> Rtype
         ensures { result ≡ qtype_of self.now }
     {
         Rtype::from_int(self.qtype)
     }
 
-    /// The class.
+    /// QCLASS: the class.
     pub fn qclass(&self) -> Class
         ensures { result ≡ qclass_of self.now }
     {
@@ -69,7 +69,7 @@ impl<N> Question<N> {
     }
 }
 
-/// The question of a name, a type and a class.
+/// The question with a name, a type and a class.
 impl<N> From<(N, Rtype, Class)> for Question<N> {
     ghost from_gives = { λ fields question. HasFields question fields.0 fields.1 fields.2 };
 
@@ -88,10 +88,10 @@ impl<N> From<(N, Rtype)> for Question<N> {
 }
 
 impl<'a> Question<ParsedName<'a>> {
-    /// Reads the question at the parser's place and moves behind it.
+    /// Reads the question at the parser's offset and advances past it.
     ///
-    /// The fault of its name is answered, or `ShortInput` where the four octets behind the name aren't there. Then the
-    /// parser stays.
+    /// Returns the error of its name, or `ShortInput` if the four octets after the name aren't all
+    /// there. The parser doesn't move on error.
     pub fn parse(parser: &mut Parser<'a>) -> Result<Self, ParseError>
         ensures { ParsesQuestion parser.old parser.new result }
     {
@@ -105,10 +105,10 @@ impl<'a> Question<ParsedName<'a>> {
 }
 
 impl Question<()> {
-    /// Passes a question without following a pointer in its name.
+    /// Skips a question without following a pointer in its name.
     ///
-    /// The fault of passing its name is answered, or `ShortInput` where the four octets behind the name aren't there.
-    /// Then the parser stays.
+    /// Returns the error of skipping its name, or `ShortInput` if the four octets after the name
+    /// aren't all there. The parser doesn't move on error.
     pub fn skip(parser: &mut Parser<'_>) -> Result<(), ParseError>
         ensures { SkipsOverQuestion parser.old parser.new result }
     {
@@ -121,10 +121,10 @@ impl Question<()> {
 }
 
 impl<N: ToName> Question<N> {
-    /// Appends the question: its name by the target's rule, type and class.
+    /// Appends the question: its name by the target's compression rule, then type and class.
     ///
-    /// Where it is refused the content still begins with the old one, and a `truncate` to the old length gives the old
-    /// target back.
+    /// On error the content still begins with the old content. A `truncate` to the old length
+    /// restores the old target.
     #[inline(always)]
     pub fn compose<T: Composer>(&self, target: &mut T) -> Result<(), AppendError>
         ensures composes { Composes T.room T.grows
@@ -139,7 +139,7 @@ impl<N: ToName> Question<N> {
     }
 }
 
-/// What can be pushed into a question section.
+/// A value that can be pushed into a question section.
 pub trait ComposeQuestion {
     /// The question.
     ghost question: { Self → QuestionItem };
@@ -179,7 +179,7 @@ impl<N: ToName> ComposeQuestion for (N, Rtype, Class) {
     }
 }
 
-/// In the class IN.
+/// A question in the class IN.
 impl<N: ToName> ComposeQuestion for (N, Rtype) {
     ghost question = { λ fields. record { name = N.name fields.0; rtype = fields.1; class = 1 } };
 

@@ -1,28 +1,28 @@
-//! Why a question can't be read from a text.
+//! Errors of reading a question from a text.
 ghost use Rattle.std.specs.Prelude.{◌≡◌};
 
 use dns_wire::name;
 use thiserror::Error;
 
-/// What is wrong with a text that is to spell a question.
+/// What is wrong with the text of a question.
 #[derive(Clone, Copy, Debug, PartialEq, Eq, Error)]
 pub enum PresentationErrorEnum {
-    /// The first word doesn't spell a name.
+    /// The first word isn't the text of a name.
     #[error("{0}")]
     BadName(name::PresentationError),
     /// There is no word.
     #[error("missing qname")]
     MissingQname,
-    /// There is a name alone.
+    /// There is only a name.
     #[error("missing class and qtype")]
     MissingClassAndQtype,
-    /// There are a name and a class alone.
+    /// There are only a name and a class.
     #[error("missing qtype")]
     MissingQtype,
-    /// A word that is to be a class isn't one.
+    /// The word where a class is expected isn't one.
     #[error("invalid class")]
     BadClass,
-    /// A word that is to be a type isn't one.
+    /// The word where a type is expected isn't one.
     #[error("invalid qtype")]
     BadQtype,
     /// There is a fourth word.
@@ -30,7 +30,7 @@ pub enum PresentationErrorEnum {
     TrailingData,
 }
 
-/// What is wrong with a text that is to spell a question; `kind` tells it.
+/// The text of a question is malformed. `kind` says what is wrong.
 #[derive(Clone, Copy, Debug, PartialEq, Eq, Error)]
 #[error("{0}")]
 pub struct PresentationError(PresentationErrorEnum);
@@ -38,7 +38,7 @@ pub struct PresentationError(PresentationErrorEnum);
 impl PresentationError {
     ghost use Rattle.dns_question.specs.QuestionTexts.{kind_of};
 
-    /// What is wrong.
+    /// What is wrong with the text.
     pub fn kind(&self) -> PresentationErrorEnum
         ensures { result ≡ kind_of self.now }
     {
@@ -46,7 +46,7 @@ impl PresentationError {
     }
 }
 
-/// The fault of the name.
+/// The error of the name.
 impl From<name::PresentationError> for PresentationError {
     ghost use Rattle.dns_question.specs.QuestionTexts.{kind_of};
     ghost use Rattle.dns_question.specs.declared.question_error.PresentationErrorEnum.TheVariants.{BadName};
@@ -58,16 +58,16 @@ impl From<name::PresentationError> for PresentationError {
     }
 }
 
-/// Why a question can't be read from a text.
+/// An error of reading a question from a text.
 #[derive(Clone, Copy, Debug, PartialEq, Eq, Error)]
 pub enum FromStrError {
-    /// The text doesn't spell a question.
+    /// The text isn't that of a question.
     #[error("{0}")]
     Presentation(PresentationError),
-    /// The question passes the room that there is.
+    /// The question exceeds the capacity of its buffer.
     #[error("buffer size exceeded")]
     ShortBuf,
-    /// There is no memory for the question.
+    /// An allocation for the question failed.
     #[error("out of memory")]
     OutOfMemory,
 }
@@ -82,7 +82,7 @@ impl FromStrError {
     }
 }
 
-/// The same error; the fault of a name is that of the question.
+/// The same error. A malformed name makes the question malformed.
 impl From<name::FromStrError> for FromStrError {
     ghost use Rattle.dns_question.specs.QuestionTexts.{IsErrorOfName};
 

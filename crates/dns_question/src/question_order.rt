@@ -7,7 +7,8 @@ use crate::question::Question;
 use dns_wire::{CanonicalOrd, ToName, ToNameExt};
 use std::cmp::Ordering;
 
-/// By name, lowercased and without pointers, type and class (RFC 4034 section 6).
+/// By the octets of the uncompressed name, lowercased, then by type, then by class (RFC 4034
+/// section 6).
 impl<N: ToName> CanonicalOrd for Question<N> {
     ghost canonical_order = { canonical_question_order N.name };
 

@@ -1,4 +1,4 @@
-//! Questions printed.
+//! Questions in presentation format.
 use crate::question::Question;
 use std::fmt;
 

@@ -1,4 +1,4 @@
-//! Questions read from texts (RFC 1035 section 5.1).
+//! Reading questions from texts (RFC 1035 section 5.1).
 ghost use Rattle.std.specs.Prelude.{◌≡◌, ℕ, List};
 ghost use Rattle.std.specs.Str.Iter.{split_whitespace_rest};
 ghost use Rattle.dns_number.specs.Classes.{SpellsClass};
@@ -12,7 +12,7 @@ use dns_wire::{Name, OctetsFrom};
 use std::alloc::Global;
 use std::str::{FromStr, SplitWhitespace};
 
-/// Reads the type behind a class.
+/// Reads the type that follows a class.
 fn read_type(class: Class, word: Option<&str>) -> Result<(Rtype, Class), PresentationErrorEnum>
     ensures { (first : List ℕ) → SpellsClass first class → ReadsFields first word.entry result }
 {
@@ -25,7 +25,7 @@ fn read_type(class: Class, word: Option<&str>) -> Result<(Rtype, Class), Present
     }
 }
 
-/// Reads a type and the class behind it, which is IN where there is no word for it.
+/// Reads a type and the class that follows it. Without a second word the class is IN.
 fn read_type_first(
     first: &str,
     second: Option<&str>,
@@ -45,7 +45,7 @@ fn read_type_first(
     }
 }
 
-/// Reads a class and a type, or a type and perhaps a class.
+/// Reads a class and a type, or a type with an optional class.
 fn read_fields(first: &str, second: Option<&str>) -> Result<(Rtype, Class), PresentationErrorEnum>
     ensures { ReadsFields first.now second.entry result }
 {
@@ -55,7 +55,7 @@ fn read_fields(first: &str, second: Option<&str>) -> Result<(Rtype, Class), Pres
     }
 }
 
-/// Reads what stands behind the name.
+/// Reads the words after the name.
 fn read_behind_name(mut words: SplitWhitespace<'_>) -> Result<(Rtype, Class), PresentationErrorEnum>
     ensures { ReadsTextBehindName (split_whitespace_rest words.entry) result }
 {
@@ -72,10 +72,10 @@ fn read_behind_name(mut words: SplitWhitespace<'_>) -> Result<(Rtype, Class), Pr
     }
 }
 
-/// Reads a question: a name, and behind it a type and perhaps a class, in any order. Words stand between Unicode white
-/// space, and the class is IN where there is none.
+/// Reads a name, then a type and an optional class, in either order. The words are separated by
+/// Unicode white space. Without a class it is IN.
 ///
-/// What is wrong is a `Presentation`; the leftmost fault is answered. It takes no memory.
+/// A malformed text is a `Presentation` error: the leftmost. Reading allocates no memory.
 impl FromStr for Question<Name<ArrayVec<u8, 255>>> {
     type Err = FromStrError;
 
@@ -95,8 +95,8 @@ impl FromStr for Question<Name<ArrayVec<u8, 255>>> {
 }
 
 impl Question<Name<Vec<u8>>> {
-    /// Reads a question into memory from `alloc`. It is `OutOfMemory` for want of that, where the text is read as a
-    /// question, and `Presentation` for each fault of the text.
+    /// Reads a question, with its name in memory from `alloc`. A malformed text is a `Presentation`
+    /// error. Otherwise it returns `OutOfMemory` if the allocation fails.
     pub fn vec_from_str(alloc: Global, text: &str) -> Result<Self, FromStrError>
         ensures { ReadsQuestionText (ReadsSomeQuestion text.now) text.now result }
     {
