@@ -4,33 +4,33 @@ use Rattle.std.proofs.lemmas.List.{take_more}
 use Rattle.std.proofs.lemmas.List.Concat.{flat_map-append}
 use Rattle.dns_code.specs.Flags.{space, joined, name_if_set, names_shown}
 
--- what is printed before the next name
+-- the separator that is printed after some names and before the next
 abbrev pub separator_behind : List (List ℕ) → List ℕ
 separator_behind [] = []
 separator_behind (x ∷ xs) = space ∷ []
 
--- one name more
+-- joining one more name
 joined-push : (xs : List (List ℕ)) (x : List ℕ) → joined (xs ++ x ∷ []) ≡ joined xs ++ (separator_behind xs ++ x)
 joined-push [] x = refl
 joined-push (y ∷ []) x = refl
 joined-push (y ∷ z ∷ xs) x = ap (λ (t : List ℕ). y ++ (space ∷ t)) (joined-push (z ∷ xs) x) ∙ sym (append_assoc y (space ∷ joined (z ∷ xs)) (space ∷ x))
 
--- the separator and a name are printed behind the others
+-- the names with a separator and one more name printed after them
 pub joined_more : (xs : List (List ℕ)) (separator x : List ℕ) → separator ≡ separator_behind xs → joined xs ++ (separator ++ x) ≡ joined (xs ++ x ∷ [])
 joined_more xs separator x e = ap (λ (s : List ℕ). joined xs ++ (s ++ x)) e ∙ sym (joined-push xs x)
 
--- a space follows it
+-- after a name the separator is a space
 pub separator_behind-push : (xs : List (List ℕ)) (x : List ℕ) → separator_behind (xs ++ x ∷ []) ≡ space ∷ []
 separator_behind-push [] x = refl
 separator_behind-push (y ∷ xs) x = refl
 
--- one flag more, which is set
+-- one more flag, which is set
 pub names_shown-set : (names : List (Bool × Bor (List ℕ))) (i : ℕ) (d : Bool × Bor (List ℕ)) → i < length names → (get_or names i d).0 ≡ true
     → names_shown (take (i + 1) names) ≡ names_shown (take i names) ++ (get_or names i d).1.now ∷ []
 names_shown-set names i d within set =
     rw (take_more names i d within) (simp flat_map-append (ap (λ (b : Bool). names_shown (take i names) ++ (name_if_set b (get_or names i d).1.now ++ [])) set))
 
--- one flag more, which is not set
+-- one more flag, which is not set
 pub names_shown-unset : (names : List (Bool × Bor (List ℕ))) (i : ℕ) (d : Bool × Bor (List ℕ)) → i < length names → (get_or names i d).0 ≡ false
     → names_shown (take (i + 1) names) ≡ names_shown (take i names)
 names_shown-unset names i d within unset =

@@ -1,11 +1,11 @@
--- The first octets of a list, and those behind them.
+-- The first octets of a list, and the remaining ones.
 use Rattle.std.proofs.Common.{◌≡◌, ℕ, List, ◌++◌, length, take, drop, arith}
 use Rattle.std.proofs.lemmas.Grind.{common_steps}
 
--- the first list of two
+-- the first of two lists
 pub front : (n : ℕ) (b c : List ℕ) → length b ≡ n → take n (b ++ c) ≡ b
 front n b c h = grind (arith, common_steps)
 
--- the second list of two
+-- the second of two lists
 pub behind_front : (n : ℕ) (b c : List ℕ) → length b ≡ n → drop n (b ++ c) ≡ c
 behind_front n b c h = grind (arith, common_steps)

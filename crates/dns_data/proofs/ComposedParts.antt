@@ -1,4 +1,4 @@
--- Parts that are appended one behind the other.
+-- Parts that are appended in order.
 use Rattle.std.proofs.Common.{◌≡◌, [], ◌∷◌, length, arith, refl, sym, subst}
 use Rattle.std.specs.Prelude.{Ok, Err}
 use Rattle.std.proofs.lemmas.List.{append-nil}
@@ -12,23 +12,23 @@ use Rattle.dns_name.proofs.theory.LabelsLemmas.{length-uncompressed}
 use Rattle.dns_data.specs.RecordData.{IsData}
 use Rattle.dns_data.specs.Laws.{NoPartComposes, OnePartComposes, PartsComposeBehind, RefusedPartComposes, NamesAreBounded}
 
--- no octets change nothing
+-- appending no octets changes nothing
 lay-nothing : (t : Written) → t ≡ lay (put_octets []) t
 lay-nothing t = same_written _ _ (sym (append-nil t.octets)) refl
 
--- no part composes nothing
+-- composing no parts changes nothing
 pub no_part_composes : NoPartComposes
 unfolding put_parts
 no_part_composes room grows rule t fits =
     record { ok = lay-nothing t; err = tt; answer = subst (λ (u : Written). Fits room (length u.octets)) (lay-nothing t) fits }
 
--- what is behind a part composes with it
+-- parts composed after an appended part compose all
 pub parts_compose_behind : PartsComposeBehind
 unfolding put_parts
 parts_compose_behind room grows rule part parts t u v r is h =
     composes_both room grows (put_part rule part) (put_parts rule parts) t u v r (put_part_grows rule part) is h
 
--- where the first is refused, so are all
+-- if the first part can't be appended, composing all parts fails
 pub refused_part_composes : RefusedPartComposes
 unfolding put_parts
 refused_part_composes room grows rule part parts t u r q e is out h =
@@ -41,11 +41,11 @@ one_part_composes room grows rule part t u (Ok done) h =
     (no_part_composes room grows rule u (subst (λ (w : Written). Fits room (length w.octets)) (sym h.ok) h.answer))
 one_part_composes room grows rule part t u (Err e) h = refused_part_composes room grows rule part [] t u (Err e) (Err e) e refl refl h
 
--- a name takes at most 255 octets where it isn't compressed
+-- an uncompressed name has at most 255 octets
 pub names_are_short : NamesAreBounded
 names_are_short name is = let size = length-uncompressed name in let few = is.short in omega arith
 
--- one name is short enough to be data
+-- one name is short enough to be RDATA
 pub name_is_data : (name : Labels) → IsName name → IsData (CompressibleName name ∷ [])
 name_is_data name is = record {
   names = (is, tt);

@@ -1,4 +1,4 @@
--- A piece behind two octets into which its length is written.
+-- Encodings after two octets into which their length is written.
 use Rattle.std.proofs.Common.{◌≡◌, ℕ, ◌+◌, ◌≤◌, ◌⊎◌, inl, inr, Bool, Option, Some, Result, Err, List, [], ◌∷◌, length, length-append, ap, sym, ◌∙◌, subst}
 use Rattle.std.specs.FinMap.{get}
 use Rattle.dns_wire.specs.Pieces.{Spot, IsClear, IsOldOrWithin, Extends, Piece, IsGrowing, put_octets, both, with_length}
@@ -19,7 +19,7 @@ one_clear before after w v (inr new) h y e =
     let is : new.1.0 ≡ y = cc in
     inr (subst (λ (z : Spot). w + 2 ≤ z.place) is new.1.2)
 
--- no remembered name has an octet of the two
+-- no suffix in the table has one of the two octets
 pub clear_length : (a : Piece) (t v u : Written) → IsGrowing a → IsTarget t → v ≡ lay (put_octets blank) t → u ≡ lay a v → IsClear u.memory (length t.octets) 2
 clear_length a t v u grows is first second s x e =
     let start = length t.octets + 2 in
@@ -39,7 +39,7 @@ refused room may_grow a t u e h = record {
       subst (λ n. AnswersInSteps {X = Unit} room may_grow n (Err e)) n h.answer;
 }
 
--- where the piece is refused behind the two octets, it is refused with its length
+-- if composing after the two octets fails, composing with the length fails
 pub piece_refused : (room : Option ℕ) (may_grow : Bool) (a : Piece) (t v u : Written) (r q : Result Unit AppendError) (e : AppendError)
     → r ≡ Err e → q ≡ Err e → v ≡ lay (put_octets blank) t → Composes room may_grow a v u r → Composes room may_grow (with_length a) t u q
 piece_refused room may_grow a t v u r q e is out first h =

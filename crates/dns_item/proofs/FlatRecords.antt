@@ -1,4 +1,4 @@
--- A record whose data is octets alone is appended at once behind its owner.
+-- A record whose RDATA is octets alone is appended at once after its owner.
 use Rattle.std.proofs.Common.{◌≡◌, ℕ, ◌+◌, ◌≤◌, ◌/◌, ◌%◌, Bool, Option, Result, List, [], ◌∷◌, ◌++◌, length, take, length-append, append_assoc, arith, sym, ap, ◌∙◌, refl, subst}
 use Rattle.std.proofs.Math.ListN.{set}
 use Rattle.std.proofs.Math.Seq.{take-append-add}
@@ -12,7 +12,7 @@ use Rattle.dns_wire.specs.Pieces.{Rule, put_octets, both, with_length}
 use Rattle.dns_wire.specs.Targets.{Written, Appends, Composes}
 use Rattle.dns_wire.proofs.theory.PieceLaws.{appends_compose}
 
--- fields, and octets behind their length, are one piece
+-- fields, and octets after their length, are one encoding
 pub at_once : (rule : Rule) (fields octets : List ℕ)
     → put_octets (fields ++ (to_be_bytes w16 (length octets) ++ octets)) ≡ both (put_octets fields) (with_length (put_parts rule (Octets octets ∷ [])))
 unfolding put_parts

@@ -1,4 +1,4 @@
--- What parsing and skipping a record answer.
+-- What parsing and skipping a record return.
 use Rattle.std.proofs.Common.{◌≡◌, ℕ, ◌+◌, ◌<◌, ◌≤◌, Ok, List, length, arith, ap, sym, ◌∙◌, refl, subst}
 use Rattle.std.specs.Int.{w16}
 use Rattle.dns_octets.specs.declared.error.ParseError.{ParseError}
@@ -16,21 +16,21 @@ use Rattle.dns_item.specs.RecordHeader.{rdlen_of, record_at, ParsesHeader}
 use Rattle.dns_item.specs.declared.record_header.RecordHeader.{RecordHeader}
 use Rattle.dns_item.proofs.theory.EntryLemmas.{record_or_fault}
 
--- What parsing the header of a record answers, and where a header and its data are a record.
+-- What parsing a record header returns, and when a header and its RDATA are a record.
 
--- the octets behind an owner that stands are too few
+-- too few octets follow a parsed owner
 pub short : (old mid : Parser) (owner : Labels) (e : ParseError) → Stands (seen old) (place old) owner → MovesBehindName old mid → length (seen mid) < place mid + 10 → e ≡ ShortInput
     → HeaderFaultAt (seen old) (place old) (fault_of e)
 short old mid owner e stands moves l is =
     let n : length (seen mid) ≡ length (seen old) = ap length moves.1.seen in
     subst (λ e. HeaderFaultAt (seen old) (place old) (fault_of e)) (sym is) (short_fields stands moves.0 (omega arith))
 
--- where no header can be read there is no record
+-- if no header can be read, no record can
 pub without_header : (b : List ℕ) (p : ℕ) (f : Fault) → HeaderFaultAt b p f → RecordFaultAt b p f
 without_header b p f (name g) = name g
 without_header b p f (short_fields s w l) = short_fields s w (fields l)
 
--- a header and the data behind it, which is passed, are a record
+-- a header and the RDATA after it, which is skipped, are a record
 pub with_data : (old mid new : Parser) (header : RecordHeader ParsedName) (n : ℕ) → ParsesHeader old mid (Ok header) → n ≡ rdlen_of header
     → place mid + n ≤ length (seen mid) → MovesTo mid new (place mid + n) → ReadsRecord (seen old) (place old) (place new) (record_at header (place mid)) × MovesTo old new (place new)
 with_data old mid new header n parses is long to =
@@ -52,7 +52,7 @@ with_data old mid new header n parses is long to =
       record { input = to.input ∙ parses.1.input; seen = to.seen ∙ there; place = refl },
     )
 
--- the data behind a header isn't all there
+-- the RDATA after a header isn't all there
 pub without_data : (old mid : Parser) (header : RecordHeader ParsedName) (n : ℕ) (e : ParseError) → ParsesHeader old mid (Ok header) → n ≡ rdlen_of header
     → length (seen mid) < place mid + n → e ≡ ShortInput → RecordFaultAt (seen old) (place old) (fault_of e)
 without_data old mid header n e parses is l short_input =
@@ -63,14 +63,14 @@ without_data old mid header n e parses is l short_input =
     let d = reads.rdlen in
     subst (λ e. RecordFaultAt (seen old) (place old) (fault_of e)) (sym short_input) (short_fields reads.owner reads.walked (rdata (omega arith) (omega arith)))
 
--- of the ten octets behind a passed owner, some aren't there
+-- some of the ten octets after a skipped owner aren't there
 pub without_fields : (old mid : Parser) (n : ℕ) (e : ParseError) → MovesBehindName old mid → n < place mid + 10 → n ≡ length (seen mid) → e ≡ ShortInput
     → RecordSkipFaultAt (seen old) (place old) (fault_of e)
 without_fields old mid n e moves l long is =
     let k : length (seen mid) ≡ length (seen old) = ap length moves.1.seen in
     subst (λ e. RecordSkipFaultAt (seen old) (place old) (fault_of e)) (sym is) (unended_record moves.0 (fields (omega arith)))
 
--- the ten octets are there, but not all of the data
+-- the ten octets are there, but not all of the RDATA
 pub lacks_data : (old mid behind last : Parser) (n : ℕ) (e : ParseError) → MovesBehindName old mid → MovesTo mid behind (place mid + 8) → MovesTo behind last (place behind + 2)
     → place behind + 2 ≤ length (seen behind) → n ≡ number_at w16 (seen behind) (place behind) → length (seen last) < place last + n → e ≡ ShortInput → RecordSkipFaultAt (seen old) (place old) (fault_of e)
 lacks_data old mid behind last n e moves first second long is l short_input =
@@ -82,13 +82,13 @@ lacks_data old mid behind last n e moves first second long is l short_input =
     let number : n ≡ number_at w16 (seen old) (place mid + 8) = is ∙ ap (λ (b : List ℕ). number_at w16 b (place behind)) there ∙ ap (number_at w16 (seen old)) p in
     subst (λ e. RecordSkipFaultAt (seen old) (place old) (fault_of e)) (sym short_input) (unended_record moves.0 (rdata (omega arith) (omega arith)))
 
--- what holds of a record that was read, as its parser sees it, holds of each that can be read there
+-- what holds of a parsed record and its octets holds of each record that can be read there
 pub of_read : (P : List ℕ → RecordEntry → Type 0) (b seen_then : List ℕ) (p end q : ℕ) (then x : RecordEntry)
     → ReadsRecord b p end then → seen_then ≡ b → ReadsRecord b p q x → P seen_then then → P b x
 of_read P b seen_then p end q then x h is k holds =
     subst (λ (c : List ℕ). P c x) is (subst (P seen_then) ((record_or_fault b).one p end q then x h k).1 holds)
 
--- all parsers that stand behind a record which can be read at a place stand at the same
+-- a parser past the record that was read is past each record that can be read there
 pub behind_read : (old new : Parser) (q : ℕ) (then x : RecordEntry)
     → ReadsRecord (seen old) (place old) (place new) then → MovesTo old new (place new) → ReadsRecord (seen old) (place old) q x → MovesTo old new q
 behind_read old new q then x h moves k = subst (MovesTo old new) ((record_or_fault (seen old)).one (place old) (place new) q then x h k).0 moves

@@ -1,4 +1,4 @@
--- The data of a record, read to its end.
+-- Reading the RDATA of a record to its end.
 use Rattle.std.proofs.Common.{◌≡◌, ◌∙◌, ap, sym, subst, refl, ℕ, ◌<◌, ◌≤◌, List, length}
 use Rattle.std.specs.Prelude.{Option, None, Some, Result, Ok, Err, IsOkAnd, IsSomeAnd}
 use Rattle.dns_name.specs.Names.{Fault, fault_of}
@@ -19,19 +19,19 @@ use Rattle.dns_item.specs.RecordReading.{WholeDataFaultAt, item_of, IsThere, Has
 use Rattle.dns_item.specs.RecordReading.WholeDataFaultAt.{first, left_over}
 
 module _ {D : Type 0} (rtype_of : D → ℕ) (parts_of : D → List Part) (rtype : ℕ) (old new : Parser) where
-  -- a fault in the data is one of the whole
+  -- a fault in the RDATA is a fault of the whole
   pub whole_fault : (layout : Layout) (e : ParseError) → ParsesLaidOut rtype_of parts_of layout rtype old new (Err e)
       → IsWhole rtype_of parts_of (seen old) (place old) rtype layout (Err e)
   whole_fault layout e h = first h.0
 
-  -- octets left over behind data are a fault of the whole
+  -- octets that are left over are a fault of the whole
   pub whole_left_over : (layout : Layout) (value : D) → ParsesLaidOut rtype_of parts_of layout rtype old new (Ok value)
       → place new < length (seen new) → WholeDataFaultAt (seen old) layout (place old) Form
   whole_left_over layout value h l =
       let short : place new < length (seen old) = subst (λ (b : List ℕ). place new < length b) h.2.seen l in
       left_over (place new) (parts_of value) h.1 short
 
-  -- the same where the type may not be taken
+  -- as `whole_fault`, for a type that may have no layout
   pub whole_fault_taken : (o : Option Layout) (e : ParseError) → ParsesTaken rtype_of parts_of o rtype old new (Err e)
       → IsWholeTaken rtype_of parts_of (seen old) (place old) rtype o (Err e)
   whole_fault_taken None e h = h
@@ -44,24 +44,24 @@ module _ {D : Type 0} (rtype_of : D → ℕ) (parts_of : D → List Part) (rtype
       subst (WholeDataFaultAt (seen old) layout (place old)) (sym f) (whole_left_over layout value h l)
 
 module _ {D : Type 0} (rtype_of : D → ℕ) (parts_of : D → List Part) (b : List ℕ) (x : RecordEntry) (start : x.data_start ≤ x.data_end) where
-  -- data that is there is within the octets
+  -- RDATA that is all there is within the octets
   span : IsThere b x → HasSpan (record { octets = b; entry = x })
   span there = record { start = start; end = there }
 
-  -- parts that fill the data stand there in each layout that they have
+  -- parts that fill the RDATA are read there by each layout that they have
   stands_there : (layout : Layout) (parts : List Part) → IsThere b x → IsLaidOut layout parts → PartsStand b x.data_end x.data_start parts → HasData b x layout parts
   stands_there layout parts there laid stands = standing_parts_read b x.data_end x.data_start layout parts there stands laid
 
-  -- what is read where data of the layout stands are its parts
+  -- the parts that are read are those of the RDATA of the layout
   read_there : (layout : Layout) (parts : List Part) (r : Record ParsedName D) → IsThere b x → HasData b x layout parts → GivesLaidOut rtype_of parts_of b x layout (Ok r)
       → IsRecordOf rtype_of parts_of b x parts r
   read_there layout parts r there d h = h.0 ∙ ap (item_of x) (one_data (record { octets = b; entry = x }) layout (span there) (parts_of (data_of r)) parts h.1 d)
 
-  -- no fault is met there
+  -- RDATA of the layout has no fault
   no_fault_there : (layout : Layout) (parts : List Part) (f : Fault) → IsThere b x → HasData b x layout parts → HasDataFault b x layout f → ⊥
   no_fault_there layout parts f there d h = no_data_fault (record { octets = b; entry = x }) layout (span there) parts f d h
 
-  -- parts that fill the data are given back
+  -- parts that fill the RDATA are returned
   pub gives_back : (layout : Layout) (result : Result (Record ParsedName D) ParseError) → AnswersLaidOut rtype_of parts_of b x layout result → GivesBack rtype_of parts_of b x layout result
   gives_back layout (Ok r) h parts there laid stands = read_there layout parts r there (stands_there layout parts there laid stands) (h.gives there)
   gives_back layout (Err e) h parts there laid stands = absurd (no_fault_there layout parts (fault_of e) there (stands_there layout parts there laid stands) (h.gives there))
@@ -72,20 +72,20 @@ module _ {D : Type 0} (rtype_of : D → ℕ) (parts_of : D → List Part) (b : L
   given_back layout (Ok (Some r)) parts there d h = read_there layout parts r there d h
   given_back layout (Err e) parts there d h = absurd (no_fault_there layout parts (fault_of e) there d h)
 
-  -- the same where the type may not be taken
+  -- as `gives_back`, for a type that may have no layout
   pub gives_back_taken : (taken : Option Layout) (result : Result (Option (Record ParsedName D)) ParseError) → AnswersTaken rtype_of parts_of b x taken result
       → GivesBackTaken rtype_of parts_of b x taken result
   gives_back_taken taken result h layout parts is there laid stands =
       given_back layout result parts there (stands_there layout parts there laid stands) (subst (λ (o : Option Layout). GivesTaken rtype_of parts_of b x o result) is (h.gives there))
 
 module _ {D : Type 0} (rtype_of : D → ℕ) (parts_of : D → List Part) (b : List ℕ) (x : RecordEntry) where
-  -- so is a value of the data type, as its parts are laid out
+  -- a value of the RDATA type is returned, as its parts have the layout
   pub gives_value_back : (layout : ℕ → Layout) (result : Result (Record ParsedName D) ParseError) → ((value : D) → IsLaidOut (layout (rtype_of value)) (parts_of value))
       → GivesBack rtype_of parts_of b x (layout x.rtype) result → GivesValueBack rtype_of parts_of b x result
   gives_value_back layout result laid back value is there stands =
       back (parts_of value) there (subst (λ n. IsLaidOut (layout n) (parts_of value)) is (laid value)) stands
 
-  -- the same where the type may not be taken
+  -- as `gives_value_back`, for a type that may not be accepted
   pub gives_value_back_taken : (layout : ℕ → Option Layout) (result : Result (Option (Record ParsedName D)) ParseError)
       → ((value : D) → IsSomeAnd (layout (rtype_of value)) (λ l. IsLaidOut l (parts_of value)))
       → GivesBackTaken rtype_of parts_of b x (layout x.rtype) result → GivesValueBackTaken rtype_of parts_of b x result

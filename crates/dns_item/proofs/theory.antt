@@ -1,4 +1,4 @@
--- Lemmas that crates above cite: a change here is one for them too.
+-- Lemmas that other crates cite: a changed statement changes for them too.
 pub mod EntryLemmas
 pub mod ItemLemmas
 pub mod TypedLemmas

@@ -1,4 +1,4 @@
--- Mnemonics found in a table from a place on, where none before the place is the one that is sought.
+-- Searching a table of mnemonics from index `i` on, if no earlier entry is the one searched for.
 use Rattle.std.proofs.Common.{◌≡◌, ℕ, ◌==◌, ◌+◌, true, ◌<◌, ◌≤◌, List, length, drop, get_or, sym, ap, ◌∙◌, ◌↔◌, eq-eqb}
 use Rattle.std.specs.Prelude.{Some, None, option_map, find}
 use Rattle.std.specs.Borrow.{Bor}
@@ -11,24 +11,24 @@ use Rattle.dns_number.specs.NumberTexts.{IsMnemonic}
 use Rattle.dns_number.specs.Tables.{table, is_distinct}
 use Rattle.dns_number.proofs.theory.MnemonicLemmas.{find_mapped, find_here, is_text, one_number, find_later}
 
--- an entry of a table, as the code holds it
+-- an entry of a table as the code stores it
 abbrev Entry : Type 0
 Entry = ℕ × Bor (List ℕ)
 
 module _ (names : List Entry) (i : ℕ) where
-  -- none before the place has the number
+  -- no earlier entry has the number
   abbrev pub NumberFrom : ℕ → Type 0
   NumberFrom n = find (λ name. name.0 == n) (drop i names) ≡ find (λ name. name.0 == n) names
 
-  -- none before the place is the text
+  -- no earlier entry has the text
   abbrev pub TextFrom : List ℕ → Type 0
   TextFrom text = find (λ name. str_eq_ignore_ascii_case name.1.now text) (drop i names) ≡ find (λ name. str_eq_ignore_ascii_case name.1.now text) names
 
-  -- the mnemonic of a number, by the names themselves
+  -- the mnemonic of a number, by the entries as stored
   named : (n : ℕ) → mnemonic (table names) n ≡ option_map (λ name. name.1.now) (find (λ name. name.0 == n) names)
   named n = find_mapped (λ (name : Entry). let entry : ℕ × List ℕ = (name.0, name.1.now) in entry) (λ entry. entry.1) (λ entry. entry.0 == n) names
 
-  -- the entry at the place has the number
+  -- the entry at the index has the number
   pub number_here : (n : ℕ) (d : Entry) → NumberFrom n → i < length names → (get_or names i d).0 ≡ n → Some (get_or names i d).1.now ≡ mnemonic (table names) n
   number_here n d from h e =
       let here = find_here (λ name. name.0 == n) names i d h (eq-eqb (get_or names i d).0 n e) in
@@ -40,11 +40,11 @@ module _ (names : List Entry) (i : ℕ) where
       let none = at_drop_all (find (λ (name : Entry). name.0 == n)) names i h in
       ap (option_map (λ (name : Entry). name.1.now)) (sym none ∙ from) ∙ sym (named n)
 
-  -- the number that a text stands for, by the names themselves
+  -- the number of a mnemonic, by the entries as stored
   stands_for : (text : List ℕ) → option_map (λ entry. entry.0) (find (is_text text) (table names)) ≡ option_map (λ name. name.0) (find (λ name. str_eq_ignore_ascii_case name.1.now text) names)
   stands_for text = find_mapped (λ (name : Entry). let entry : ℕ × List ℕ = (name.0, name.1.now) in entry) (λ entry. entry.0) (is_text text) names
 
-  -- the mnemonic at the place is the text
+  -- the mnemonic at the index is the text
   pub text_here : (text : List ℕ) (d : Entry) → is_distinct (table names) ≡ true → TextFrom text → i < length names
       → str_to_ascii_lowercase (get_or names i d).1.now ≡ str_to_ascii_lowercase text
       → (n : ℕ) → IsMnemonic (table names) text n ↔ (Some (get_or names i d).0 ≡ Some n)
@@ -59,7 +59,7 @@ module _ (names : List Entry) (i : ℕ) where
       let none = at_drop_all (find (λ (name : Entry). str_eq_ignore_ascii_case name.1.now text)) names i h in
       one_number text (table names) None distinct (stands_for text ∙ ap (option_map (λ (name : Entry). name.0)) (sym from ∙ none))
 
-  -- the mnemonic at the place isn't the text either
+  -- the mnemonic at the index isn't the text either
   pub text_later : (text : List ℕ) (d : Entry) → TextFrom text → i < length names
       → (str_to_ascii_lowercase (get_or names i d).1.now ≡ str_to_ascii_lowercase text → ⊥)
       → find (λ name. str_eq_ignore_ascii_case name.1.now text) (drop (i + 1) names) ≡ find (λ name. str_eq_ignore_ascii_case name.1.now text) names

@@ -1,3 +1,3 @@
--- Lemmas that crates above cite: a change here is one for them too.
+-- Lemmas that other crates cite: a changed statement changes for them too.
 pub mod MnemonicLemmas
 pub mod NumberedLemmas

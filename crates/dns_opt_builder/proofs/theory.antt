@@ -1,2 +1,2 @@
--- Lemmas that crates above cite: a change here is one for them too.
+-- Lemmas that other crates cite: a changed statement changes for them too.
 pub mod OptBuilderLemmas

@@ -1,4 +1,4 @@
--- What parsing and skipping a question answer.
+-- What parsing and skipping a question return.
 use Rattle.std.proofs.Common.{◌≡◌, ℕ, ◌+◌, ◌<◌, ◌≤◌, List, length, arith, ap, sym, ◌∙◌, refl, subst}
 use Rattle.std.specs.Int.{w16}
 use Rattle.dns_name.specs.Names.{fault_of, Labels, Stands}
@@ -11,20 +11,20 @@ use Rattle.dns_question.specs.Questions.{QuestionItem, ReadsQuestion, QuestionFa
 use Rattle.dns_question.specs.BehindNames.FieldsFaultAt.{short as short_question}
 use Rattle.dns_question.specs.BehindNames.FieldsSkipFaultAt.{short as unended_question}
 
--- the octets behind a passed name that ends at the place are too few
+-- too few octets follow a skipped name
 pub unended : (old mid : Parser) (e : ParseError) → MovesBehindName old mid → length (seen mid) < place mid + 4 → e ≡ ShortInput → QuestionSkipFaultAt (seen old) (place old) (fault_of e)
 unended old mid e moves l is =
     let n : length (seen mid) ≡ length (seen old) = ap length moves.1.seen in
     subst (λ e. QuestionSkipFaultAt (seen old) (place old) (fault_of e)) (sym is) (unended_question moves.0 (omega arith))
 
--- the octets behind a name that stands are too few
+-- too few octets follow a parsed name
 pub short : (old mid : Parser) (name : Labels) (n : ℕ) (e : ParseError) → Stands (seen old) (place old) name → MovesBehindName old mid → n < place mid + 4 → n ≡ length (seen mid) → e ≡ ShortInput
     → QuestionFaultAt (seen old) (place old) (fault_of e)
 short old mid name n e stands moves l long is =
     let k : length (seen mid) ≡ length (seen old) = ap length moves.1.seen in
     subst (λ e. QuestionFaultAt (seen old) (place old) (fault_of e)) (sym is) (short_question stands moves.0 (omega arith))
 
--- the numbers behind a name that stands are the type and the class
+-- the numbers after a parsed name are the type and the class
 pub reads_fields : (old mid behind new : Parser) (x : QuestionItem) → Stands (seen old) (place old) x.name → MovesBehindName old mid
     → MovesTo mid behind (place mid + 2) → x.rtype ≡ number_at w16 (seen mid) (place mid)
     → place behind + 2 ≤ length (seen behind) → MovesTo behind new (place behind + 2) → x.class ≡ number_at w16 (seen behind) (place behind)

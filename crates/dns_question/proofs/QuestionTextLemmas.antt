@@ -1,4 +1,4 @@
--- From what is read of the words to what is read of the text.
+-- From what the words are read as to what the text is read as.
 use Rattle.std.proofs.Common.{◌≡◌, ℕ, List, Bor, sym, subst, ◌∷◌, ap, ◌∙◌}
 use Rattle.std.specs.Prelude.{Option, Some, None, Result, Ok, Err}
 use Rattle.std.specs.Str.{IsUtf8}
@@ -20,13 +20,13 @@ use Rattle.dns_question.specs.declared.question_error.FromStrError.{FromStrError
 use Rattle.dns_question.specs.declared.question_error.PresentationErrorEnum.{PresentationErrorEnum}
 use Rattle.dns_question.proofs.WordLemmas.{word_before, utf8_behind, some_words}
 
--- What is read of the words for a type and a class.
+-- What the words for a type and a class are read as.
 
--- what is read of a text is what it spells
+-- a text that is read as a number is a text of that number
 pub spelled : {E : Type 0} (P : ℕ → Type 0) (r : Result ℕ E) (n : ℕ) → ReadsNumber P r → r ≡ Ok n → P n
 spelled P r n h e = (h n).1 e
 
--- and where nothing is read it spells nothing
+-- a text that is read as an error is the text of no number
 pub unspelled : {E : Type 0} (P : ℕ → Type 0) (r : Result ℕ E) (f : E) → ReadsNumber P r → r ≡ Err f → (n : ℕ) → P n → ⊥
 unspelled P r f h e n p = let read : r ≡ Ok n = (h n).0 p in cc
 
@@ -56,37 +56,37 @@ module _ (b : List ℕ) where
       → ReadsFields b o (Ok (rtype, class))
   read_type_and_class o c rtype class e n t h = subst (λ o'. ReadsFields b o' (Ok (rtype, class))) (sym e) (λ a name s. type_and_class {name = name} {rtype = rtype} {class = class} s n t h)
 
--- a question of these fields asks this
+-- a question with these fields as a value
 pub question_item_is : {N : Type 0} (labels_of : N → Labels) (q : Question N) (n : N) (rtype class : ℕ) → qname_of q ≡ n → qtype_of q ≡ rtype → qclass_of q ≡ class
     → question_item labels_of q ≡ asks (labels_of n) rtype class
 question_item_is labels_of q n rtype class e f g =
     ap (λ m. asks (labels_of m) (qtype_of q) (qclass_of q)) e ∙ ap (λ t. asks (labels_of n) t (qclass_of q)) f ∙ ap (λ c. asks (labels_of n) rtype c) g
 
--- what is wrong with the text is what the error tells
+-- the error says what is wrong with the text
 pub answers_kind : (Memory : Type 0) (text : List ℕ) (kind : PresentationErrorEnum) (e : FromStrError) → IsKind kind e → ReadsText text (Err kind) → ReadsFault Memory text e
 answers_kind Memory text kind e h reads = subst (λ e'. ReadsFault Memory text e') (sym h.1) (subst (λ k. ReadsText text (Err k)) (sym h.2) reads)
 
--- why a word spells no name
+-- why a word is not the text of a name
 abbrev NoName : List ℕ → NameError → Type 0
 NoName word (NamePresentation f) = NameTextFault word f
 NoName word NameShortBuf = ⊥
 NoName word NameOutOfMemory = ⊥
 
 module _ (text : List ℕ) (s t : SplitWhitespace) (x : Bor (List ℕ)) (start : split_whitespace_rest s ≡ text) (step : split_whitespace_steps s (Some x) t) (u : IsUtf8 text) where
-  -- the words of the text are the first word and those behind it
+  -- the words of the text are the first word and those after it
   all_words : (words : List (List ℕ)) → AreWords (split_whitespace_rest t) words → AreWords text (x.now ∷ words)
   all_words words w = subst (λ bs. AreWords bs (x.now ∷ words)) start (word_before s t x words step w)
 
   behind : IsUtf8 (split_whitespace_rest t)
   behind = utf8_behind s t x step (subst (λ bs. IsUtf8 bs) (sym start) u)
 
-  -- the first word spells a name
+  -- the first word is the text of a name
   pub reads_named : (name : Labels) (fields : Fields) → SpellsName x.now name → ReadsTextBehindName (split_whitespace_rest t) fields → ReadsText text (named name fields)
   reads_named name fields h reads =
       let r = reads behind in
       record { words = x.now ∷ r.0; are_words = all_words r.0 r.1; reads = r.2 x.now name h }
 
-  -- the first word doesn't
+  -- the first word is not the text of a name
   pub reads_bad_name : (e : NameError) (f : FromStrError) → NoName x.now e → IsErrorOfName e f → ReadsFault ⊥ text f
   reads_bad_name (NamePresentation fault) f h is =
       let more = some_words (split_whitespace_rest t) behind in

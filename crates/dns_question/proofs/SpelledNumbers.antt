@@ -1,4 +1,4 @@
--- Each text spells one number as a type, or none, and so as a class.
+-- Each text is the text of one type, or of none. The same holds of classes.
 use Rattle.std.proofs.Common.{◌≡◌, ℕ, ◌<◌, ◌^◌, ◌⊎◌, inl, inr, true, List, [], ◌∷◌, length, take, drop, ◌↔◌, refl, sym, ap, ◌∙◌, codes, arith}
 use Rattle.std.specs.Prelude.{Option, Some, None, option_map, find}
 use Rattle.std.specs.Char.{digit_value}
@@ -34,7 +34,7 @@ numeral ds = elim (cases_lt 0 (length ds)) [
   | inr h ↦ inr (λ x. let some = x.0 in absurd (omega arith))
 ]
 
--- the number that digits write, where it has 16 bits
+-- the number in decimal digits, if it has 16 bits
 decimal_number : (ds : List ℕ) → (r : Option ℕ) × SomeIff r (IsNumeral 10 ds × (digits_value 10 ds < 2 ^ 16)) (digits_value 10 ds)
 decimal_number ds = elim (numeral ds) [
   | inl is ↦ elim (cases_lt (digits_value 10 ds) (2 ^ 16)) [
@@ -45,7 +45,7 @@ decimal_number ds = elim (numeral ds) [
 ]
 
 module _ (word text : List ℕ) where
-  -- the front of the text is the word, in any ASCII case
+  -- the front of the text is the word, ignoring ASCII case
   same_front : {n : ℕ} → IsNumbered word text n → str_to_ascii_lowercase (take (length word) text) ≡ str_to_ascii_lowercase word
   same_front x =
       let same_length : length x.front ≡ length word = sym (length-map x.front _) ∙ ap length x.same ∙ length-map word _ in
@@ -79,11 +79,11 @@ pub class_of : (text : List ℕ) → OneOrNone (SpellsClass text)
 unfolding class_mnemonics
 class_of text = spelled_of (codes "CLASS") text class_mnemonics refl refl
 
--- a number that is spelled is the one that is found
+-- the number whose text it is is the one that is found
 pub found : (Holds : ℕ → Type 0) (x : OneOrNone Holds) (n : ℕ) → Holds n → x.0 ≡ Some n
 found Holds x n h = (x.1 n).0 h
 
--- where none is spelled, none is found
+-- if it is the text of no number, none is found
 pub none_found : (Holds : ℕ → Type 0) (x : OneOrNone Holds) → ((n : ℕ) → Holds n → ⊥) → x.0 ≡ None
 none_found Holds x none = by x.0 x.1
   where

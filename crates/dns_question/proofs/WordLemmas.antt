@@ -13,18 +13,18 @@ use lib.Utf8.{scalar}
 
 -- ---- a step
 
--- the words of what a step leaves, with its word before them, are those of the text
+-- the words of the text are the word of a step, followed by the words of what it leaves
 pub word_before : (s t : SplitWhitespace) (x : Bor (List ℕ)) (words : List (List ℕ)) → split_whitespace_steps s (Some x) t
     → AreWords (split_whitespace_rest t) words → AreWords (split_whitespace_rest s) (x.now ∷ words)
 word_before s t x words h w =
     subst (λ text. AreWords text (x.now ∷ words)) (sym h.1)
     (word {gap = h.0} {word = x.now} {text = split_whitespace_rest t} {words = words} h.3 (record { some = h.2; no_white = h.4 }) (h.5.0, h.5.1) w)
 
--- where there is no step there are no words
+-- if there is no further step, there are no words
 pub no_words : (s t : SplitWhitespace) → split_whitespace_steps s None t → AreWords (split_whitespace_rest s) []
 no_words s t h = none {gap = split_whitespace_rest s} h.1
 
--- ---- what stands behind characters of a text is a text
+-- ---- what follows characters of a text is a text
 and_left : (a b : Bool) → (a && b) ≡ true → a ≡ true
 and_left true b e = refl
 and_left false b e = e
@@ -136,16 +136,16 @@ some_words text u =
 
 -- A text has its words in one way: they are cut from its characters.
 
--- characters without white space, and the words behind them
+-- characters without white space, and the words after them
 abbrev Cut : Type 0
 Cut = List ℕ × List (List ℕ)
 
--- all the words
+-- the words, the first one included
 abbrev finished : Cut → List (List ℕ)
 finished ([], words) = words
 finished (c ∷ cs, words) = encode_utf8_all (c ∷ cs) ∷ words
 
--- the characters up to the first white space, and the words behind it
+-- the characters up to the first white space, and the words after it
 abbrev cut : List ℕ → Cut
 cut [] = ([], [])
 cut (c ∷ cs) = cond (is_whitespace c) ([], finished (cut cs)) (c ∷ (cut cs).0, (cut cs).1)
@@ -166,18 +166,18 @@ cut_white c cs e = ap (λ (b : Bool). let made : Cut = cond b ([], finished (cut
 cut_word : (c : ℕ) (cs : List ℕ) → is_whitespace c ≡ false → cut (c ∷ cs) ≡ (c ∷ (cut cs).0, (cut cs).1)
 cut_word c cs e = ap (λ (b : Bool). let made : Cut = cond b ([], finished (cut cs)) (c ∷ (cut cs).0, (cut cs).1) in made) e
 
--- white space before characters makes no word
+-- white space before characters adds no word
 behind_gap : (gap cs : List ℕ) → NonePass is_not_whitespace gap → words_in (gap ++ cs) ≡ words_in cs
 behind_gap [] cs h = refl
 behind_gap (c ∷ gap) cs h = ap finished (cut_white c (gap ++ cs) (white_is c h.0)) ∙ behind_gap gap cs h.1
 
--- other characters go before those that are there
+-- characters that aren't white space extend the first word
 before_cut : (first cs : List ℕ) → NonePass is_whitespace first → cut (first ++ cs) ≡ (first ++ (cut cs).0, (cut cs).1)
 before_cut [] cs h = refl
 before_cut (c ∷ first) cs h =
     cut_word c (first ++ cs) h.0 ∙ ap (λ (x : Cut). let made : Cut = (c ∷ x.0, x.1) in made) (before_cut first cs h.1)
 
--- characters that begin with white space, or none
+-- no characters, or characters that begin with white space, have no first word
 cut_behind : (cs : List ℕ) → StartsWhite (encode_utf8_all cs) → cut cs ≡ ([], words_in cs)
 cut_behind [] h = refl
 cut_behind (c ∷ cs) h =
@@ -187,7 +187,7 @@ cut_behind (c ∷ cs) h =
     let white : is_whitespace c ≡ true = ap is_whitespace same.0 ∙ x.1 in
     cut_white c cs white ∙ ap (λ ws. let made : Cut = ([], ws) in made) (sym (ap finished (cut_white c cs white)))
 
--- a word of characters, and the words behind it
+-- a word of characters, and the words after it
 first_word : (first cs : List ℕ) → NonePass is_whitespace first → 0 < length (encode_utf8_all first) → StartsWhite (encode_utf8_all cs)
     → words_in (first ++ cs) ≡ encode_utf8_all first ∷ words_in cs
 first_word [] cs h some white = absurd (omega arith)

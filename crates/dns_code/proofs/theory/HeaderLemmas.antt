@@ -6,104 +6,104 @@ use Rattle.std.proofs.lemmas.Grind.{common_steps}
 use Rattle.dns_code.specs.Bits.{bit, bits, ChangesBit}
 use Rattle.dns_code.specs.Header.{fields_in}
 
--- with another octet 2
+-- the fields after octet 2 is replaced
 octet_2 : (b : List ℕ) (x : ℕ) (qr aa tc rd : Bool) (opcode : ℕ) → length b ≡ 4 → bit x 7 ≡ qr → bits x 3 4 ≡ opcode → bit x 2 ≡ aa → bit x 1 ≡ tc → bit x 0 ≡ rd
     → fields_in (slice_set b 2 x) ≡ record (fields_in b) { qr = qr; opcode = opcode; aa = aa; tc = tc; rd = rd }
 octet_2 b x qr aa tc rd opcode h h7 h3 h2 h1 h0 = grind (arith, common_steps)
 
--- with another octet 3
+-- the fields after octet 3 is replaced
 octet_3 : (b : List ℕ) (x : ℕ) (ra z ad cd : Bool) (rcode : ℕ) → length b ≡ 4 → bit x 7 ≡ ra → bit x 6 ≡ z → bit x 5 ≡ ad → bit x 4 ≡ cd → bits x 0 4 ≡ rcode
     → fields_in (slice_set b 3 x) ≡ record (fields_in b) { ra = ra; z = z; ad = ad; cd = cd; rcode = rcode }
 octet_3 b x ra z ad cd rcode h h7 h6 h5 h4 h0 = grind (arith, common_steps)
 
--- a bit that is the same
+-- a bit as a Boolean stays if its number does
 same_bit : (m n k : ℕ) → bits n k 1 ≡ bits m k 1 → bit n k ≡ bit m k
 same_bit m n k same = ap (λ (x : ℕ). nat_eq x 1) same
 
--- the opcode stays with its four bits
+-- the opcode stays if its four bits do
 opcode_kept : (m n : ℕ) → ((k : ℕ) → 3 ≤ k → k < 7 → bits n k 1 ≡ bits m k 1) → bits n 3 4 ≡ bits m 3 4
 opcode_kept m n same = omega (arith, same 3 (omega arith) (omega arith), same 4 (omega arith) (omega arith), same 5 (omega arith) (omega arith), same 6 (omega arith) (omega arith))
 
--- the rcode stays with its four bits
+-- the rcode stays if its four bits do
 rcode_kept : (m n : ℕ) → ((k : ℕ) → k < 4 → bits n k 1 ≡ bits m k 1) → bits n 0 4 ≡ bits m 0 4
 rcode_kept m n same = omega (arith, same 0 (omega arith), same 1 (omega arith), same 2 (omega arith), same 3 (omega arith))
 
 module _ (b : List ℕ) (x : ℕ) (set : Bool) (all : length b ≡ 4) where
-  -- a bit that is not the changed one stays
+  -- a bit other than the changed one stays
   kept : (octet place : ℕ) → ChangesBit octet x place set → (k : ℕ) → k < 8 → k ≢ place → bit x k ≡ bit octet k
   kept octet place changes k within other = same_bit octet x k (changes.others k within other)
 
-  -- so does the opcode where the bit is none of its own
+  -- the opcode stays if the changed bit isn't one of its own
   opcode_stays : (place : ℕ) → ChangesBit (slice_index b 2) x place set → (place ≡ 7) ⊎ (place < 3) → bits x 3 4 ≡ bits (slice_index b 2) 3 4
   opcode_stays place changes h = opcode_kept _ _ (λ k low high. changes.others k (omega arith) (omega arith))
 
-  -- and the rcode
+  -- the rcode stays if the changed bit isn't one of its own
   rcode_stays : (place : ℕ) → ChangesBit (slice_index b 3) x place set → 4 ≤ place → bits x 0 4 ≡ bits (slice_index b 3) 0 4
   rcode_stays place changes h = rcode_kept _ _ (λ k low. changes.others k (omega arith) (omega arith))
 
-  -- QR is written
+  -- writing bit 7 of octet 2 changes QR alone
   pub qr_changed : ChangesBit (slice_index b 2) x 7 set → fields_in (slice_set b 2 x) ≡ record (fields_in b) { qr = set }
   qr_changed changes =
       let o : (k : ℕ) → k < 8 → k ≢ 7 → bit x k ≡ bit (slice_index b 2) k = kept _ 7 changes in
       octet_2 b x set _ _ _ _ all changes.changed (opcode_stays 7 changes (inl refl)) (o 2 (omega arith) (omega arith)) (o 1 (omega arith) (omega arith)) (o 0 (omega arith) (omega arith))
 
-  -- AA is written
+  -- writing bit 2 of octet 2 changes AA alone
   pub aa_changed : ChangesBit (slice_index b 2) x 2 set → fields_in (slice_set b 2 x) ≡ record (fields_in b) { aa = set }
   aa_changed changes =
       let o : (k : ℕ) → k < 8 → k ≢ 2 → bit x k ≡ bit (slice_index b 2) k = kept _ 2 changes in
       octet_2 b x _ set _ _ _ all (o 7 (omega arith) (omega arith)) (opcode_stays 2 changes (inr (omega arith))) changes.changed (o 1 (omega arith) (omega arith)) (o 0 (omega arith) (omega arith))
 
-  -- TC is written
+  -- writing bit 1 of octet 2 changes TC alone
   pub tc_changed : ChangesBit (slice_index b 2) x 1 set → fields_in (slice_set b 2 x) ≡ record (fields_in b) { tc = set }
   tc_changed changes =
       let o : (k : ℕ) → k < 8 → k ≢ 1 → bit x k ≡ bit (slice_index b 2) k = kept _ 1 changes in
       octet_2 b x _ _ set _ _ all (o 7 (omega arith) (omega arith)) (opcode_stays 1 changes (inr (omega arith))) (o 2 (omega arith) (omega arith)) changes.changed (o 0 (omega arith) (omega arith))
 
-  -- RD is written
+  -- writing bit 0 of octet 2 changes RD alone
   pub rd_changed : ChangesBit (slice_index b 2) x 0 set → fields_in (slice_set b 2 x) ≡ record (fields_in b) { rd = set }
   rd_changed changes =
       let o : (k : ℕ) → k < 8 → k ≢ 0 → bit x k ≡ bit (slice_index b 2) k = kept _ 0 changes in
       octet_2 b x _ _ _ set _ all (o 7 (omega arith) (omega arith)) (opcode_stays 0 changes (inr (omega arith))) (o 2 (omega arith) (omega arith)) (o 1 (omega arith) (omega arith)) changes.changed
 
-  -- RA is written
+  -- writing bit 7 of octet 3 changes RA alone
   pub ra_changed : ChangesBit (slice_index b 3) x 7 set → fields_in (slice_set b 3 x) ≡ record (fields_in b) { ra = set }
   ra_changed changes =
       let o : (k : ℕ) → k < 8 → k ≢ 7 → bit x k ≡ bit (slice_index b 3) k = kept _ 7 changes in
       octet_3 b x set _ _ _ _ all changes.changed (o 6 (omega arith) (omega arith)) (o 5 (omega arith) (omega arith)) (o 4 (omega arith) (omega arith)) (rcode_stays 7 changes (omega arith))
 
-  -- Z is written
+  -- writing bit 6 of octet 3 changes Z alone
   pub z_changed : ChangesBit (slice_index b 3) x 6 set → fields_in (slice_set b 3 x) ≡ record (fields_in b) { z = set }
   z_changed changes =
       let o : (k : ℕ) → k < 8 → k ≢ 6 → bit x k ≡ bit (slice_index b 3) k = kept _ 6 changes in
       octet_3 b x _ set _ _ _ all (o 7 (omega arith) (omega arith)) changes.changed (o 5 (omega arith) (omega arith)) (o 4 (omega arith) (omega arith)) (rcode_stays 6 changes (omega arith))
 
-  -- AD is written
+  -- writing bit 5 of octet 3 changes AD alone
   pub ad_changed : ChangesBit (slice_index b 3) x 5 set → fields_in (slice_set b 3 x) ≡ record (fields_in b) { ad = set }
   ad_changed changes =
       let o : (k : ℕ) → k < 8 → k ≢ 5 → bit x k ≡ bit (slice_index b 3) k = kept _ 5 changes in
       octet_3 b x _ _ set _ _ all (o 7 (omega arith) (omega arith)) (o 6 (omega arith) (omega arith)) changes.changed (o 4 (omega arith) (omega arith)) (rcode_stays 5 changes (omega arith))
 
-  -- CD is written
+  -- writing bit 4 of octet 3 changes CD alone
   pub cd_changed : ChangesBit (slice_index b 3) x 4 set → fields_in (slice_set b 3 x) ≡ record (fields_in b) { cd = set }
   cd_changed changes =
       let o : (k : ℕ) → k < 8 → k ≢ 4 → bit x k ≡ bit (slice_index b 3) k = kept _ 4 changes in
       octet_3 b x _ _ _ set _ all (o 7 (omega arith) (omega arith)) (o 6 (omega arith) (omega arith)) (o 5 (omega arith) (omega arith)) changes.changed (rcode_stays 4 changes (omega arith))
 
--- a bit of an octet, some of whose bits are kept and the others replaced
+-- bit k of an octet whose bits under a mask are kept and whose others are those of `y`
 mixed_bit : (n mask y k : ℕ) → bits (bit_or (bit_and n mask) y) k 1 ≡ max (min (bits n k 1) (bits mask k 1)) (bits y k 1)
 mixed_bit n mask y k = bit_at_or (bit_and n mask) y k ∙ ap (λ (t : ℕ). max t (bits y k 1)) (bit_at_and n mask k)
 
--- an octet 2 with another opcode
+-- octet 2 with another opcode
 abbrev with_opcode : ℕ → ℕ → ℕ
 with_opcode n opcode = bit_or (bit_and n 135) (bit_and opcode 15 * 8 % 256)
 
--- its bits
+-- the bits of octet 2 with another opcode
 with_opcode_bit : (n opcode k : ℕ) → bits (with_opcode n opcode) k 1 ≡ max (min (bits n k 1) (bits 135 k 1)) (bits (opcode % 16 * 8) k 1)
 with_opcode_bit n opcode k =
     let low : bit_and opcode 15 * 8 % 256 ≡ opcode % 16 * 8 = omega (arith, and_mask opcode 4) in
     mixed_bit n 135 _ k ∙ ap (λ (y : ℕ). max (min (bits n k 1) (bits 135 k 1)) (bits y k 1)) low
 
--- the opcode is written
+-- replacing octet 2 so changes the opcode alone
 pub opcode_changed : (b : List ℕ) (opcode : ℕ) → length b ≡ 4 → fields_in (slice_set b 2 (with_opcode (slice_index b 2) opcode)) ≡ record (fields_in b) { opcode = opcode % 16 }
 opcode_changed b opcode all =
     let n : ℕ = slice_index b 2 in
@@ -115,11 +115,11 @@ opcode_changed b opcode all =
     (same_bit n x 1 (omega (arith, with_opcode_bit n opcode 1, bit_at-lt n 1)))
     (same_bit n x 0 (omega (arith, with_opcode_bit n opcode 0, bit_at-lt n 0)))
 
--- an octet 3 with another rcode
+-- octet 3 with another rcode
 abbrev with_rcode : ℕ → ℕ → ℕ
 with_rcode n rcode = bit_or (bit_and n 240) rcode
 
--- the rcode is written
+-- replacing octet 3 so changes the rcode alone
 pub rcode_changed : (b : List ℕ) (rcode : ℕ) → length b ≡ 4 → rcode < 16 → fields_in (slice_set b 3 (with_rcode (slice_index b 3) rcode)) ≡ record (fields_in b) { rcode = rcode }
 rcode_changed b rcode all low =
     let n : ℕ = slice_index b 3 in

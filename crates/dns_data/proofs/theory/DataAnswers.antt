@@ -1,4 +1,4 @@
--- From each place one datum stands or one fault is met.
+-- At each offset the fields of a layout are there with one list of parts, or have one fault.
 use Rattle.std.proofs.Common.{◌≡◌, ℕ, ◌+◌, ◌-◌, ◌≤◌, ◌⊎◌, inl, inr, List, [], ◌∷◌, length, drop, slice_range, length-take, length-drop, ap, sym, ◌∙◌, refl, subst, arith}
 use Rattle.std.proofs.lemmas.Bool.{cases_Bool}
 use Rattle.std.proofs.lemmas.Bool.Decides.{leb_tells}
@@ -15,14 +15,14 @@ use Rattle.dns_data.specs.Layout.Layout.{End, Rest, Fixed, CharacterString, Doma
 use Rattle.dns_data.specs.Laws.{OneDatumOrFault}
 
 module _ (b : List ℕ) where
-  -- a name and a fault never both
+  -- no offset has both a name and a fault
   name_or_fault : {p : ℕ} {name : Labels} {f : Fault} → Stands b p name → FaultAt b p f → ⊥
   name_or_fault {name = name} x f = names.not_both b f name x (let short = standing_short x in omega arith)
 
   length-range : (p n : ℕ) → p + n ≤ length b → length (slice_range b p (p + n)) ≡ n
   length-range p n l = simp (length-take, length-drop) (omega arith)
 
-  -- octets that are there are within
+  -- octets that are there are within the input
   range_within : (p n : ℕ) (octets : List ℕ) → p ≤ length b → length octets ≡ n → slice_range b p (p + n) ≡ octets → p + n ≤ length b
   range_within p n octets l size is =
       let long : length (slice_range b p (p + n)) ≡ n = ap length is ∙ size in
@@ -30,7 +30,7 @@ module _ (b : List ℕ) where
       let m = length-drop p b in
       omega arith
 
-  -- data ends within the octets
+  -- RDATA ends within the octets
   pub data_within : (layout : Layout) (p q : ℕ) (parts : List Part) → p ≤ length b → DataStands b layout p q parts → q ≤ length b
   data_within End p q parts l h = let end = h.0 in omega arith
   data_within (Rest accepts) p q parts l h = let end = h.0 in omega arith

@@ -1,4 +1,4 @@
--- Parts that fill a span are read in each layout that they have.
+-- Parts that fill a range of octets are read by each layout that they have.
 use Rattle.std.proofs.Common.{◌≡◌, ℕ, ◌+◌, ◌-◌, ◌<◌, ◌≤◌, List, [], ◌∷◌, length, take, drop, slice_index, slice_range, ap, sym, ◌∙◌, refl, subst, arith}
 use Rattle.std.specs.Prelude.{IsTrue}
 use Rattle.std.proofs.lemmas.List.{drop-take, take-take, length-take-le, get_or-take, get_or-drop}
@@ -9,20 +9,20 @@ use Rattle.dns_data.specs.Layout.{string_size, DataStands}
 use Rattle.dns_data.specs.Layout.Layout.{End, Rest, Fixed, CharacterString, DomainName}
 use Rattle.dns_data.specs.Laws.{StandingPartsRead}
 
--- parts go on from their place
+-- parts end at or after their offset
 parts_rise : (b : List ℕ) (end p : ℕ) (parts : List Part) → PartsStand b end p parts → p ≤ end
 parts_rise b end p [] h = omega arith
 parts_rise b end p (Octets octets ∷ parts) h = let l = parts_rise b end (p + length octets) parts h.1 in omega arith
 parts_rise b end p (CompressibleName name ∷ parts) h = let l = parts_rise b end h.0 parts h.3 in let w = walked_rises h.2 in omega arith
 
--- octets before an end stand where only the octets up to it are seen
+-- octets before an end are the same if only the octets up to it are seen
 range_before : (b : List ℕ) (end p n : ℕ) → p + n ≤ end → slice_range (take end b) p (p + n) ≡ slice_range b p (p + n)
 range_before b end p n l =
     let more : end ≡ p + (end - p) = omega arith in
     let few : p + n - p ≤ end - p = omega arith in
     ap (λ e. take (p + n - p) (drop p (take e b))) more ∙ ap (take (p + n - p)) (drop-take p (end - p) b) ∙ take-take (p + n - p) (end - p) (drop p b) few
 
--- a character string begins with the octet at its place
+-- the size of a character string is given by the octet at its offset
 string_size-range : (b : List ℕ) (p n : ℕ) (octets : List ℕ) → 0 < n → slice_range b p (p + n) ≡ octets → string_size octets 0 ≡ string_size b p
 string_size-range b p n octets l is =
     let size : p + n - p ≡ n = omega arith in

@@ -1,4 +1,4 @@
--- At each place a record or its header is read, or there is one fault.
+-- At each offset a record or its header is read, or there is one fault.
 use Rattle.std.proofs.Common.{◌≡◌, ℕ, ◌+◌, ◌<◌, ◌≤◌, ◌⊎◌, inl, inr, List, length, arith, ap, sym, ◌∙◌, refl}
 use Rattle.std.specs.Int.{w16, w32}
 use Rattle.dns_name.specs.Parsers.{number_at}
@@ -18,7 +18,7 @@ module _ (b : List ℕ) where
       let rdlen : x.rdlen ≡ y.rdlen = h.rdlen ∙ ap (λ n. number_at w16 b (n + 8)) e ∙ sym k.rdlen in
       λ i. record { owner = owner i; rtype = rtype i; class = class i; ttl = ttl i; rdlen = rdlen i }
 
-  -- how many octets the fields and the data take behind an owner that ends at a place
+  -- the number of octets of the fields and the RDATA after an owner that ends at r
   abbrev size : ℕ → ℕ
   size r = 10 + number_at w16 b (r + 8)
 

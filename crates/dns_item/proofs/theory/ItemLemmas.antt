@@ -1,4 +1,4 @@
--- Records that are put stand where they were put, and are read there.
+-- Records that are written are at their offset, and are read there.
 use Rattle.std.proofs.Common.{◌≡◌, ℕ, ◌+◌, ◌-◌, ◌≤◌, ◌++◌, length, arith, sym, refl, subst}
 use Rattle.std.specs.Int.{to_be_bytes, w16, w32}
 use Rattle.dns_wire.specs.Pieces.{Memory, Rule, put_octets, both, with_length, put_name}
@@ -12,23 +12,23 @@ use Rattle.dns_wire.proofs.theory.NameSizes.{parts_are_short}
 use Rattle.dns_wire.proofs.theory.SpelledNames.{at_first, at_second, at_place, spelled_stands, spelled_walked}
 use Rattle.dns_item.specs.Items.{RecordEntry, ReadsRecordItem, RecordItem, IsRecord, record_fields, put_record, RecordsGrow, RecordsReadBack}
 
--- a record is a growing piece
+-- writing a record adds only its own suffixes to the compression table
 pub records_grow : RecordsGrow
 unfolding put_record
 records_grow rule x =
     both_grows _ _ (put_name_grows rule x.owner) (both_grows _ _ (put_octets_grows (record_fields x)) (with_length_grows _ (put_parts_grows rule x.parts)))
 
--- the octets of a record go from a place to another
+-- the octets of a record go from p to q
 abbrev pub HasRecord : RecordItem → Written → ℕ → ℕ → Type 0
 HasRecord x = Behind (HasName x.owner) (Behind (HasOctets (record_fields x)) (HasLength (HasParts x.parts)))
 
--- octets that a record has stay its octets
+-- octets of a record stay its octets
 pub stable_record : (x : RecordItem) → IsStable (HasRecord x)
 stable_record x =
     stable_behind (HasName x.owner) (Behind (HasOctets (record_fields x)) (HasLength (HasParts x.parts))) (stable_name x.owner)
     (stable_behind (HasOctets (record_fields x)) (HasLength (HasParts x.parts)) (stable_octets (record_fields x)) (stable_length (HasParts x.parts) (stable_parts x.parts)))
 
--- a record stands where it was put
+-- a record is at the offset where it was written
 pub puts_record : (rule : Rule) (x : RecordItem) → IsRecord x → Puts (put_record rule x) (HasRecord x)
 unfolding put_record
 puts_record rule x is =
@@ -39,11 +39,11 @@ puts_record rule x is =
     puts_both (put_name rule x.owner) (both (put_octets (record_fields x)) (with_length inner)) (HasName x.owner) (Behind (HasOctets (record_fields x)) (HasLength (HasParts x.parts)))
     (stable_name x.owner) (puts_put_name rule x.owner is.owner) behind
 
--- what is read of a record whose data goes from one place to another
+-- what is read of a record whose RDATA goes from one offset to another
 entry_of : RecordItem → ℕ → ℕ → RecordEntry
 entry_of x from to = record { owner = x.owner; rtype = x.rtype; class = x.class; ttl = x.ttl; data_start = from; data_end = to }
 
--- it is read there
+-- a record is read there
 pub reads_record : (x : RecordItem) (t : Written) (p q : ℕ) → IsRecord x → IsTarget t → HasRecord x t p q → ReadsRecordItem t.octets p q x
 unfolding entry_of
 reads_record x t p q is good h =

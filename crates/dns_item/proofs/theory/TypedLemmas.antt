@@ -1,4 +1,4 @@
--- What reading the data of a record gives is what the data type answers.
+-- Reading the RDATA of a record returns what the RDATA type's layout says.
 use Rattle.std.proofs.Common.{◌≡◌, ◌∙◌, ap, sym, refl, ℕ, List}
 use Rattle.std.specs.Prelude.{Option, None, Some, option_map, Result, Ok, Err}
 use Rattle.std.specs.Result.{result_transpose}
@@ -24,7 +24,7 @@ data_is_answered = record {
 }
 
 module _ {D : Type 0} (rtype_of : D → ℕ) (parts_of : D → List Part) (x : StandingRecord) (span : HasSpan x) where
-  -- a record, or the fault, of data that is laid out so
+  -- reading RDATA of the layout returns the record, or the fault
   pub laid_out-given : (layout : Layout) (r : Result (Record ParsedName D) ParseError) → GivesLaidOut rtype_of parts_of x.octets x.entry layout r
       → typed_answer rtype_of parts_of r ≡ laid_out x layout
   laid_out-given layout (Ok r) h =
@@ -41,7 +41,7 @@ module _ {D : Type 0} (rtype_of : D → ℕ) (parts_of : D → List Part) (x : S
   given (Some layout) (Ok (Some r)) h = ap (λ (y : Result RecordItem Fault). Some y) (laid_out-given layout (Ok r) h)
   given (Some layout) (Err e) h = ap (λ (y : Result RecordItem Fault). Some y) (laid_out-given layout (Err e) h)
 
-  -- so it is of a record whose data is there
+  -- the same of a record whose RDATA is all there
   pub laid_out-answered : (layout : Layout) (r : Result (Record ParsedName D) ParseError) → AnswersLaidOut rtype_of parts_of x.octets x.entry layout r
       → typed_answer rtype_of parts_of r ≡ laid_out x layout
   laid_out-answered layout r h = laid_out-given layout r (h.gives span.end)

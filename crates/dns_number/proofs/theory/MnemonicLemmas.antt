@@ -11,7 +11,7 @@ use Rattle.dns_number.specs.Mnemonics.{Mnemonics}
 use Rattle.dns_number.specs.Tables.{is_distinct}
 use Rattle.dns_number.specs.NumberTexts.{IsMnemonic}
 
--- the first element that does, of a list that a function made
+-- finding in a mapped list is finding in the list
 pub find_mapped : {X Y Z : Type 0} (g : X → Y) (f : Y → Z) (p : Y → Bool) (xs : List X)
     → option_map f (find p (map g xs)) ≡ option_map (λ x. f (g x)) (find (λ x. p (g x)) xs)
 find_mapped g f p [] = refl
@@ -21,20 +21,20 @@ find_mapped g f p (x ∷ xs) =
       | false ↦ find_mapped g f p xs
     ]
 
--- the first element from a place on is the one at the place, where that does
+-- the first match from index `i` on is the element there, if that matches
 pub find_here : {X : Type 0} (p : X → Bool) (xs : List X) (i : ℕ) (d : X) → i < length xs → p (get_or xs i d) ≡ true → find p (drop i xs) ≡ Some (get_or xs i d)
 find_here p xs i d h t = rw (drop-cons xs i d) (cond-true _ _ _ t)
 
--- else it is the first one behind the place
+-- otherwise it is the first match after it
 pub find_later : {X : Type 0} (p : X → Bool) (xs : List X) (i : ℕ) (d : X) → i < length xs → p (get_or xs i d) ≡ false → find p (drop (i + 1) xs) ≡ find p (drop i xs)
 find_later p xs i d h t = rw (add-one, drop-cons xs i d) (sym (cond-false _ _ _ t))
 
 module _ (text : List ℕ) where
-  -- whether the entry's mnemonic is the text, in any ASCII case
+  -- whether the entry's mnemonic is the text, ignoring ASCII case
   abbrev pub is_text : ℕ × List ℕ → Bool
   is_text entry = str_eq_ignore_ascii_case entry.1 text
 
-  -- a text that passes a test is no mnemonic of a table where none passes it
+  -- a text that satisfies a test is no mnemonic of a table where none satisfies it
   pub no_mnemonic : (p : List ℕ → Bool) (names : Mnemonics) (n : ℕ) → list_all (λ other. not (p (str_to_ascii_lowercase other.1))) names ≡ true
       → IsMnemonic names text n → p (str_to_ascii_lowercase text) ≡ true → ⊥
   no_mnemonic p [] n all h t = cc
@@ -46,7 +46,7 @@ module _ (text : List ℕ) where
       let f : not (p (str_to_ascii_lowercase entry.1)) ≡ false = ap not (ap p e ∙ t) in cc (parts.0, f))
       (λ other h. no_mnemonic p names n parts.1 h t) h
 
-  -- a number that none has is not the first one by a test
+  -- a number that no entry has isn't found by any test
   no_number : (p : ℕ × List ℕ → Bool) (names : Mnemonics) (k n : ℕ) → list_all (λ other. not (k == other.0)) names ≡ true
       → option_map (λ other. other.0) (find p names) ≡ Some n → k ≡ n → ⊥
   no_number p [] k n all h e = cc
@@ -58,7 +58,7 @@ module _ (text : List ℕ) where
       let same : not (k == entry.0) ≡ false = ap not (eq-eqb k entry.0 (e ∙ sym f)) in cc (parts.0, same))
       (λ other h. no_number p names k n parts.1 h e) h
 
-  -- no entry of a table has the number or the mnemonic of the first one, and the others are distinct
+  -- no entry has the number or the mnemonic of the first one, and the others are distinct
   record Distinct (entry : ℕ × List ℕ) (names : Mnemonics) : Type 0 where
     numbers : list_all (λ other. not (entry.0 == other.0)) names ≡ true
     texts : list_all (λ other. not (str_eq_ignore_ascii_case entry.1 other.1)) names ≡ true
@@ -72,7 +72,7 @@ module _ (text : List ℕ) where
       let second = and_parts (list_all (λ other. not (str_eq_ignore_ascii_case entry.1 other.1)) names) (is_distinct names) first.1 in
       record { numbers = first.0; texts = second.0; rest = second.1 }
 
-  -- the number of a mnemonic is found by the text
+  -- searching for a mnemonic finds its number
   text_finds : (names : Mnemonics) (n : ℕ) → is_distinct names ≡ true → IsMnemonic names text n → option_map (λ entry. entry.0) (find is_text names) ≡ Some n
   text_finds [] n d h = cc
   text_finds (entry ∷ names) n d h =
@@ -89,7 +89,7 @@ module _ (text : List ℕ) where
       ap (option_map (λ other. other.0)) later ∙ text_finds names n differ.rest h)
       h
 
-  -- what is found by the text is the number of that mnemonic
+  -- the number that is found has the text as its mnemonic
   finds_text : (names : Mnemonics) (n : ℕ) → is_distinct names ≡ true → option_map (λ entry. entry.0) (find is_text names) ≡ Some n → IsMnemonic names text n
   finds_text [] n d h = cc
   finds_text (entry ∷ names) n d h =
@@ -105,7 +105,7 @@ module _ (text : List ℕ) where
       ap (λ o. option_map str_to_ascii_lowercase (option_map (λ (other : ℕ × List ℕ). other.1) o)) later ∙ finds_text names n differ.rest h)
       h
 
-  -- a text is the mnemonic of the number that it finds, and of no other
+  -- a text is the mnemonic of the number that is found, and of no other
   pub one_number : (names : Mnemonics) (r : Option ℕ) → is_distinct names ≡ true → option_map (λ entry. entry.0) (find is_text names) ≡ r
       → (n : ℕ) → IsMnemonic names text n ↔ (r ≡ Some n)
   one_number names r d e n = (λ h. sym e ∙ text_finds names n d h, λ h. finds_text names n d (e ∙ h))

@@ -1,4 +1,4 @@
--- Texts of a word and decimal digits.
+-- Texts that are a word followed by decimal digits.
 use Rattle.std.proofs.Common.{◌≡◌, ℕ, ◌<◌, ◌^◌, true, List, ◌++◌, length, take, drop, ◌↔◌, refl, sym, ap, ◌∙◌, subst, inl, inr, nat_eq}
 use Rattle.std.specs.Prelude.{Option, Some, None}
 use Rattle.std.specs.List.{starts_with}
@@ -22,19 +22,19 @@ module _ (word text : List ℕ) where
   front_is : {n : ℕ} (x : IsNumbered word text n) → take (length word) text ≡ x.front
   front_is x = ap (λ k. take k text) (sym (same_length x)) ∙ ap (take (length x.front)) x.whole ∙ take-append_seam x.front x.digits
 
-  -- and the digits are the text behind it
+  -- the digits are the text after it
   digits_are : {n : ℕ} (x : IsNumbered word text n) → drop (length word) text ≡ x.digits
   digits_are x = ap (λ k. drop k text) (sym (same_length x)) ∙ ap (drop (length x.front)) x.whole ∙ drop-append_seam x.front x.digits
 
-  -- what stands behind is a numeral
+  -- the text after the word is a numeral
   numeral_behind : {n : ℕ} (x : IsNumbered word text n) → IsNumeral 10 (drop (length word) text)
   numeral_behind x = subst (λ ds. IsNumeral 10 ds) (sym (digits_are x)) x.numeral
 
-  -- of a number of 16 bits
+  -- its value is a 16-bit number
   value_behind : {n : ℕ} (x : IsNumbered word text n) → digits_value 10 (drop (length word) text) < 2 ^ 16
   value_behind x = subst (λ m. m < 2 ^ 16) (sym (ap (digits_value 10) (digits_are x) ∙ x.value)) x.fits
 
-  -- where the text begins with the word, its number is the one that the digits behind the word write
+  -- if the text begins with the word, its number is that of the digits after the word
   pub numbered_is : (r : Option ℕ) → str_to_ascii_lowercase (take (length word) text) ≡ str_to_ascii_lowercase word
       → SomeIff r (IsNumeral 10 (drop (length word) text) × (digits_value 10 (drop (length word) text) < 2 ^ 16)) (digits_value 10 (drop (length word) text))
       → (n : ℕ) → IsNumbered word text n ↔ (r ≡ Some n)
@@ -52,7 +52,7 @@ module _ (word text : List ℕ) where
     },
   )
 
-  -- a word and digits are no mnemonic of a table in which none begins with the word
+  -- a word followed by digits is no mnemonic of a table in which none begins with the word
   pub apart : (names : Mnemonics) (k n : ℕ) → is_apart word names ≡ true → IsMnemonic names text k → IsNumbered word text n → ⊥
   apart names k n all h x =
       let seam : str_to_ascii_lowercase text ≡ str_to_ascii_lowercase word ++ str_to_ascii_lowercase x.digits =
@@ -61,14 +61,14 @@ module _ (word text : List ℕ) where
       ap (take (length (str_to_ascii_lowercase word))) seam ∙ take-append_seam (str_to_ascii_lowercase word) (str_to_ascii_lowercase x.digits) in
       no_mnemonic text (λ m. starts_with nat_eq m (str_to_ascii_lowercase word)) names k all h ((bytes_eq-Decides _ _).1 (sym first))
 
-  -- a text that is a mnemonic spells that number and no other
+  -- a text that is a mnemonic is the text of that number and of no other
   pub spells_mnemonic : (names : Mnemonics) (k : ℕ) → is_apart word names ≡ true → ((n : ℕ) → IsMnemonic names text n ↔ (Some k ≡ Some n)) → (n : ℕ) → Spells names word text n ↔ (Some k ≡ Some n)
   spells_mnemonic names k all h n = (
     elim [ inl x ↦ (h n).0 x | inr x ↦ absurd (apart names k n all ((h k).1 refl) x) ],
     λ e. inl ((h n).1 e),
   )
 
-  -- a text that is no mnemonic spells what its word and digits do
+  -- a text that is no mnemonic is the text of the number in the digits after its word
   pub spells_numbered : (names : Mnemonics) (r : Option ℕ) → ((n : ℕ) → IsMnemonic names text n ↔ (None ≡ Some n)) → ((n : ℕ) → IsNumbered word text n ↔ (r ≡ Some n))
       → (n : ℕ) → Spells names word text n ↔ (r ≡ Some n)
   spells_numbered names r none h n = (

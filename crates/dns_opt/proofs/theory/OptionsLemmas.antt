@@ -1,4 +1,4 @@
--- What the list of options is that octets are.
+-- Which list of options octets are.
 use Rattle.std.proofs.Common.{◌≡◌, ◌∙◌, ap, sym, refl, subst, ℕ, ◌<◌, ◌⊎◌, inl, inr, true, false, List, [], ◌∷◌, ◌++◌, append_assoc, append-nil, length, length-append, length-drop, arith}
 use Rattle.std.specs.Option.{option_map_or}
 use Rattle.std.specs.Prelude.{Option, Some, None, is_some, IsSome}
@@ -41,7 +41,7 @@ some_of : (b : List ℕ) (o : Option (List OptionItem)) → options_of b ≡ o �
 some_of b (Some xs) e h = (xs, options_of-holds b xs e)
 some_of b None e h = absurd (cc)
 
--- what is behind an option is a list where all of it is, and the other way about
+-- the octets after an option are a list of options if all octets are
 behind_list : (x : OptionItem) (b behind : List ℕ) (xs : List OptionItem) → OptionBegins x b behind → AreOptions b xs → (ys : List OptionItem) × (xs ≡ x ∷ ys) × AreOptions behind ys
 behind_list x b behind [] begins h = let there = begins.there in let e = ap length h in absurd (omega (arith, e))
 behind_list x b behind (y ∷ ys) begins h =
@@ -67,7 +67,7 @@ no_options b never (x ∷ xs) h = absurd (never x h.0 h.1)
 pub given_none : (b : List ℕ) → ((x : OptionItem) (behind : List ℕ) → OptionBegins x b behind → ⊥) → IsSome (options_of b) → options_in b ≡ []
 given_none b never some = let all = some_of b (options_of b) refl some in no_options b never all.0 all.1
 
--- whether octets are options hangs on what is behind the first
+-- octets that begin with an option are a list of options if and only if the octets after it are
 told : (x : OptionItem) (b behind : List ℕ) → OptionBegins x b behind → ((ys : List OptionItem) × AreOptions behind ys) ⊎ ((ys : List OptionItem) → AreOptions behind ys → ⊥) → are_options b ≡ are_options behind
 told x b behind begins (inl p) =
     let e : options_of behind ≡ Some p.0 = options_of-is behind p.0 p.1 in
@@ -81,16 +81,16 @@ told x b behind begins (inr never) =
 pub told_behind : (x : OptionItem) (b behind : List ℕ) → OptionBegins x b behind → are_options b ≡ are_options behind
 told_behind x b behind begins = told x b behind begins (one_or_none behind)
 
--- no octets are options
+-- no octets are a list of options
 pub told_empty : (b : List ℕ) → length b ≡ 0 → are_options b ≡ true
 told_empty [] e = ap (λ (o : Option (List OptionItem)). is_some o) options_of-nil
 told_empty (o ∷ os) e = absurd (omega (arith, e))
 
--- and octets at whose start no option stands are none
+-- octets that don't begin with an option are no list of options
 pub told_none : (b : List ℕ) → 0 < length b → ((x : OptionItem) (behind : List ℕ) → OptionBegins x b behind → ⊥) → are_options b ≡ false
 told_none b there never = ap (λ (o : Option (List OptionItem)). is_some o) (options_of-none b (none_at_all b there never))
 
--- an option that is put stands at the start
+-- an encoded option is at the start
 put_begins : (x : OptionItem) (behind : List ℕ) → IsOption x → OptionBegins x (put_option x ++ behind) behind
 put_begins x behind h = record {
   there = omega arith;
@@ -103,7 +103,7 @@ pub options_put : (xs : List OptionItem) → All IsOption xs → AreOptions (put
 options_put [] each = refl
 options_put (x ∷ xs) each = (put_options xs, put_begins x (put_options xs) (All-head IsOption x xs each), options_put xs (All-tail IsOption x xs each))
 
--- an option at the start of octets is one at the start of longer ones
+-- octets that begin with an option still do with others appended
 begins_longer : (x : OptionItem) (b behind c : List ℕ) → OptionBegins x b behind → OptionBegins x (b ++ c) (behind ++ c)
 begins_longer x (o ∷ p ∷ q ∷ r ∷ os) behind c h = record {
   there = omega arith;
@@ -116,25 +116,25 @@ begins_longer x (o ∷ []) behind c h = absurd (let there = h.there in omega ari
 begins_longer x (o ∷ p ∷ []) behind c h = absurd (let there = h.there in omega arith)
 begins_longer x (o ∷ p ∷ q ∷ []) behind c h = absurd (let there = h.there in omega arith)
 
--- two lists, one behind the other, are one
+-- two lists of options in order are one list
 pub options_joined : (b c : List ℕ) (xs ys : List OptionItem) → AreOptions b xs → AreOptions c ys → AreOptions (b ++ c) (xs ++ ys)
 options_joined b c [] ys h k = subst (λ (d : List ℕ). AreOptions (d ++ c) ys) (sym h) k
 options_joined b c (x ∷ xs) ys h k = (h.0 ++ c, begins_longer x b h.0 c h.1, options_joined h.0 c xs ys h.2 k)
 
--- octets that are a list are that of the options in them
+-- octets that are a list of options are the list of the options in them
 pub listed_are : (b : List ℕ) → IsSome (options_of b) → AreOptions b (options_in b)
 listed_are b some =
     let all = some_of b (options_of b) refl some in
     let e = ap (λ (o : Option (List OptionItem)). option_map_or (λ (xs : List OptionItem). xs) o []) (options_of-is b all.0 all.1) in
     subst (λ (xs : List OptionItem). AreOptions b xs) (sym e) all.1
 
--- an option that is put behind a list is the last of it
+-- an option appended to a list becomes its last
 pub one_more : (b : List ℕ) (x : OptionItem) → IsSome (options_of b) → IsOption x → options_of (b ++ put_option x) ≡ Some (options_in b ++ x ∷ [])
 one_more b x some is =
     let one : AreOptions (put_option x) (x ∷ []) = subst (λ (c : List ℕ). AreOptions c (x ∷ [])) (append-nil (put_option x)) ([], put_begins x [] is, refl) in
     options_of-is (b ++ put_option x) (options_in b ++ x ∷ []) (options_joined b (put_option x) (options_in b) (x ∷ []) (listed_are b some) one)
 
--- options that are put have as many octets as those that they are read from
+-- options have as many octets as those that they are read from
 put_length : (b : List ℕ) (xs : List OptionItem) → AreOptions b xs → length (put_options xs) ≡ length b
 put_length b [] h = sym (ap length h)
 put_length b (x ∷ xs) h =
@@ -143,6 +143,6 @@ put_length b (x ∷ xs) h =
     let behind = ap length h.1.octets ∙ length-append x.octets h.0 in
     omega (arith, rest, there, behind, length-drop 4 b, length-append (put_option x) (put_options xs))
 
--- the same of octets that are a list of options, and of the options in them
+-- as `put_length`, of the options in octets that are a list of options
 pub options_length : (b : List ℕ) → IsSome (options_of b) → length (put_options (options_in b)) ≡ length b
 options_length b some = put_length b (options_in b) (listed_are b some)

@@ -22,7 +22,7 @@ pub record AreKept (b : List ℕ) : Type 0 where
   pub whole : put_options (options_in b) ≡ b
   pub short : length b ≤ 65535
 
--- the second octets are kept, and have one option more than the first
+-- the octets `c` keep this, and have one more option than `b`
 record Grown (x : OptionItem) (b c : List ℕ) : Type 0 where
   kept : AreKept c
   options : options_in c ≡ options_in b ++ x ∷ []
@@ -49,7 +49,7 @@ grown x b c h code fits is =
 of_builder : (builder : OptBuilder) → AreKept (option_octets builder)
 of_builder builder = record { listed = builder.listed; whole = builder.whole; short = builder.short }
 
--- an append keeps what is true, whatever it answers
+-- an append keeps this, whatever it returns
 pub kept : (x : OptionItem) (old : OptBuilder) (c : List ℕ) (r : Result (Unit {0}) AppendError) → x.code < 65536 → AppendsOption x (option_capacity old) (option_octets old) c r → AreKept c
 kept x old c (Ok _) code a = (grown x (option_octets old) c (of_builder old) code a.answer a.ok).kept
 kept x old c (Err e) code a = subst (λ (d : List ℕ). AreKept d) (sym a.err) (of_builder old)
@@ -65,7 +65,7 @@ holding old list h = record {
   short = h.short;
 }
 
--- an append to the octets is one to the options
+-- appending an option to the octets adds it to the options
 pub adds : (x : OptionItem) (old : OptBuilder) (list : Vec ℕ Global) (r : Result (Unit {0}) AppendError) (code : x.code < 65536)
     (a : AppendsOption x (option_capacity old) (option_octets old) list.items r) → Adds x old (holding old list (kept x old list.items r code a)) r
 adds x old list (Ok _) code a =
@@ -78,11 +78,11 @@ adds x old list (Err OutOfMemory) code a =
     let g : List ℕ → Gathered = λ c. record (gathered old) { options = options_in c } in
     (omega (arith, ap length old.whole, a.answer.0), ap g a.err, omega (arith, ap length old.whole, a.full refl))
 
--- what a builder has gathered, and behind its options those that are left
+-- what a builder has collected, with the remaining options after its own
 abbrev pub with_left : OptBuilder → List OptionItem → Gathered
 with_left builder left = record (gathered builder) { options = (gathered builder).options ++ left }
 
--- an option that is added was the first of those left
+-- the option that is added is the first of the remaining ones
 pub one_added : (x : OptionItem) (old new : OptBuilder) (left behind : List OptionItem) → gathered new ≡ record (gathered old) { options = (gathered old).options ++ x ∷ [] }
     → left ≡ x ∷ behind → with_left new behind ≡ with_left old left
 one_added x old new left behind added first =
@@ -90,13 +90,13 @@ one_added x old new left behind added first =
     ap (λ (all : Gathered). record all { options = all.options ++ behind }) added
     ∙ ap g (append_assoc (gathered old).options (x ∷ []) behind) ∙ ap (with_left old) (sym first)
 
--- no options are left
+-- no options remain
 pub none_left : (builder : OptBuilder) (left : List OptionItem) → left ≡ [] → with_left builder left ≡ gathered builder
 none_left builder left none =
     let g : List OptionItem → Gathered = λ xs. record (gathered builder) { options = xs } in
     ap (with_left builder) none ∙ ap g (append-nil (gathered builder).options)
 
--- where there is no room for the first of the options left, there is none for all of them
+-- if the first of the remaining options exceeds the limit, so do all of them
 pub too_many : (x : OptionItem) (old new : OptBuilder) (left behind : List OptionItem) (r : Result (Unit {0}) AppendError) → Adds x old new r → r ≡ Err ShortBuf → left ≡ x ∷ behind
     → 65535 < length (put_options (with_left old left).options)
 too_many x old new left behind (Err ShortBuf) h e first =
@@ -108,12 +108,12 @@ too_many x old new left behind (Err ShortBuf) h e first =
 too_many x old new left behind (Ok _) h e first = absurd (cc)
 too_many x old new left behind (Err OutOfMemory) h e first = absurd (cc)
 
--- what isn't refused for want of room is refused for want of memory
+-- an error that isn't `ShortBuf` is `OutOfMemory`
 pub of_memory : (e : AppendError) → (e ≡ ShortBuf → ⊥) → e ≡ OutOfMemory
 of_memory ShortBuf never = absurd (never refl)
 of_memory OutOfMemory never = refl
 
--- a class and a TTL of 0, and no octets, are nothing gathered
+-- a class and a TTL of 0, and no octets, are what a new builder has collected
 pub nothing_yet : (header : Header) (class ttl : ℕ) (b : List ℕ) → class ≡ 0 → ttl ≡ 0 → b ≡ []
     → (let all : Gathered = record { header = header_fields header; fields = fields_in class ttl; options = options_in b } in all ≡ nothing_gathered header)
 nothing_yet header class ttl b same_class same_ttl empty =

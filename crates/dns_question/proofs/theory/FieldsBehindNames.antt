@@ -1,4 +1,4 @@
--- At each place fields behind a name are read, or there is one fault.
+-- At each offset a name and the fields after it are read, or there is one fault.
 use Rattle.std.proofs.Common.{◌≡◌, ℕ, ◌+◌, ◌<◌, ◌≤◌, ◌⊎◌, inl, inr, List, length, arith, ap, sym, ◌∙◌, refl}
 use Rattle.std.proofs.lemmas.Bool.Decides.{leb_tells}
 use Rattle.dns_name.specs.Names.{Labels, Fault, Stands, Walked, ReadsOrFaults, EndsOrFaults}
@@ -8,24 +8,24 @@ use Rattle.dns_question.specs.BehindNames.{SkipsFields, FieldsFaultAt, FieldsSki
 use Rattle.dns_question.specs.BehindNames.FieldsFaultAt.{name as name_fault, short as short_fields}
 use Rattle.dns_question.specs.BehindNames.FieldsSkipFaultAt.{name as name_skip_fault, short as unended_fields}
 
--- so many octets are there, or they aren't
+-- either n octets are there, or they aren't
 pub long_or_short : (b : List ℕ) (n : ℕ) → (n ≤ length b) ⊎ (length b < n)
 long_or_short b n = elim (leb_tells n (length b)) [ inl l ↦ inl l.1 | inr l ↦ inr (omega (arith, l.1)) ]
 
 module _ (b : List ℕ) (size : ℕ → ℕ) where
-  -- where their name ends decides where they end
+  -- the end of the name decides the end of the fields
   pub one_name_end : {p q r : ℕ} (h : SkipsFields b size p q) (k : SkipsFields b size p r) → h.name_end ≡ k.name_end
   one_name_end h k = one_end b _ _ _ h.walked k.walked
 
   pub one_fields_end : {p q r : ℕ} → SkipsFields b size p q → SkipsFields b size p r → q ≡ r
   one_fields_end h k = h.end ∙ ap (λ n. n + size n) (one_name_end h k) ∙ sym k.end
 
-  -- those behind a name that ends at r, where they are within
+  -- the fields after a name that ends at r, if they are within the octets
   abbrev pub fields_from : {p r : ℕ} → Walked b p r → r + size r ≤ length b → SkipsFields b size p (r + size r)
   fields_from {r = r} w l = record { name_end = r; walked = w; end = refl; within = l }
 
   module _ (Lacks : ℕ → Type 0) (long : (r : ℕ) → (r + size r ≤ length b) ⊎ Lacks r) (lacks : (r : ℕ) → Lacks r → length b < r + size r) where
-    -- what is too short behind one end is too short behind each
+    -- the fields after a name can't be all there and lack octets
     lacking : (p q r : ℕ) → SkipsFields b size p q → Walked b p r → Lacks r → ⊥
     lacking p q r h w l =
         let e : h.name_end + size h.name_end ≡ r + size r = ap (λ n. n + size n) (one_end b p _ _ h.walked w) in
@@ -58,7 +58,7 @@ module _ (b : List ℕ) (size : ℕ → ℕ) where
     one_read_fault p f g (short_fields s w l) (name_fault k) = absurd (not_both b p _ g s k)
     one_read_fault p f g (short_fields s w l) (short_fields t v m) = refl
 
-    -- entries that are read of a name that stands and of the fields behind it
+    -- entries that are a name and the fields after it
     module _ {X : Type 0} (Reads : ℕ → ℕ → X → Type 0) (labels : X → Labels)
         (skips : (p q : ℕ) (x : X) → Reads p q x → SkipsFields b size p q × Stands b p (labels x))
         (read : (p r : ℕ) (name : Labels) → Stands b p name → Walked b p r → r + size r ≤ length b → (x : X) × Reads p (r + size r) x)

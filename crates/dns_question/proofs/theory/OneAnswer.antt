@@ -1,4 +1,4 @@
--- Words are read as one thing: it is found by deciding what the first, the second and the third spell.
+-- Words are read as exactly one question or error. It is found by deciding what the first, second and third word are texts of.
 use Rattle.std.proofs.Common.{◌≡◌, ℕ, ◌↔◌, List, [], ◌∷◌, refl, sym, ap, ◌∙◌, inl, inr, subst}
 use Rattle.std.specs.Prelude.{Option, Some, None, Result, Ok, Err}
 use Rattle.dns_name.specs.Names.{Labels}
@@ -13,9 +13,9 @@ use Rattle.dns_question.specs.declared.question_error.PresentationErrorEnum.TheV
 use Rattle.dns_question.proofs.WordLemmas.{one_words, some_words}
 use Rattle.dns_question.proofs.SpelledNumbers.{type_of, class_of, found, none_found}
 
--- ---- what a word is, as a name
+-- ---- the first word, as a name
 
--- the name that a word spells, or its fault
+-- the name whose text a word is, or its fault
 abbrev IsNameOf : List ℕ → Result Labels PresentationError → Type 0
 IsNameOf a (Ok name) = SpellsName a name
 IsNameOf a (Err f) = NameTextFault a f
@@ -31,7 +31,7 @@ name_is a (Err f) (Err g) x y = ap Err (one_text_fault a f g x y)
 
 -- ---- what is found
 
--- behind a type and a class
+-- the words after a type and a class
 abbrev ended : List (List ℕ) → ℕ → ℕ → Fields
 ended [] rtype class = Ok (rtype, class)
 ended (d ∷ more) rtype class = Err TrailingData
@@ -52,7 +52,7 @@ abbrev behind_type : List (List ℕ) → ℕ → Fields
 behind_type [] rtype = Ok (rtype, 1)
 behind_type (c ∷ more) rtype = class_behind (class_of c).0 more rtype
 
--- the second word is that class, or that type, or neither
+-- the second word is a class, or a type, or neither
 abbrev fields_by : Option ℕ → Option ℕ → List (List ℕ) → Fields
 fields_by (Some class) rtype more = behind_class more class
 fields_by None (Some rtype) more = behind_type more rtype

@@ -1,4 +1,4 @@
--- At each place a question is read, or there is one fault.
+-- At each offset a question is read, or there is one fault.
 use Rattle.std.proofs.Common.{◌≡◌, ℕ, ◌+◌, ◌<◌, List, length, ap, sym, ◌∙◌, refl}
 use Rattle.std.specs.Int.{w16}
 use Rattle.dns_name.specs.Parsers.{number_at}

@@ -1,4 +1,4 @@
--- Questions that are put stand where they were put, and are read there.
+-- Questions that are written are at their offset, and are read there.
 use Rattle.std.proofs.Common.{ℕ, ◌+◌, ◌≤◌, length, arith, sym}
 use Rattle.std.specs.Int.{to_be_bytes, w16}
 use Rattle.dns_name.specs.Names.{name_size, max_size}
@@ -9,27 +9,27 @@ use Rattle.dns_wire.proofs.theory.PieceLaws.{number_16, Puts, IsStable, Behind, 
 use Rattle.dns_wire.proofs.theory.SpelledNames.{at_first, at_second, spelled_stands, spelled_walked}
 use Rattle.dns_question.specs.Questions.{ReadsQuestion, QuestionsGrow, QuestionsReadBack, QuestionItem, IsQuestion, question_fields, put_question}
 
--- a question is a growing piece
+-- writing a question adds only its own suffixes to the compression table
 pub questions_grow : QuestionsGrow
 unfolding put_question
 questions_grow rule x = both_grows _ _ (put_name_grows rule x.name) (put_octets_grows (question_fields x))
 
--- the octets of a question go from a place to another
+-- the octets of a question go from p to q
 abbrev pub HasQuestion : QuestionItem → Written → ℕ → ℕ → Type 0
 HasQuestion x = Behind (HasName x.name) (HasOctets (question_fields x))
 
--- they stay
+-- they stay so
 pub stable_question : (x : QuestionItem) → IsStable (HasQuestion x)
 stable_question x = stable_behind (HasName x.name) (HasOctets (question_fields x)) (stable_name x.name) (stable_octets (question_fields x))
 
--- a question stands where it was put
+-- a question is at the offset where it was written
 pub puts_question : (rule : Rule) (x : QuestionItem) → IsQuestion x → Puts (put_question rule x) (HasQuestion x)
 unfolding put_question
 puts_question rule x is =
     puts_both (put_name rule x.name) (put_octets (question_fields x)) (HasName x.name) (HasOctets (question_fields x)) (stable_name x.name)
     (puts_put_name rule x.name is.name) (puts_octets (question_fields x))
 
--- and is read there
+-- a question is read there
 pub reads_question : (x : QuestionItem) (t : Written) (p q : ℕ) → IsQuestion x → IsTarget t → HasQuestion x t p q → ReadsQuestion t.octets p q x
 reads_question x t p q is good h =
     let r = h.0 in

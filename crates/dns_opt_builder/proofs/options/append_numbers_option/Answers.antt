@@ -5,7 +5,7 @@ use Rattle.std.proofs.lemmas.List.{take_all}
 use Rattle.dns_opt_builder.proofs.OptionListLemmas.{numbers_length}
 use Rattle.dns_opt_builder.proofs.options.append_numbers_option.Goals as goal
 
--- a head before numbers of two octets each
+-- code and length, followed by numbers of two octets each
 with_head : (head octets : List ℕ) (ns : List ℕ) (b : List ℕ) (code : ℕ) → head ≡ b ++ (to_be_bytes w16 code ++ to_be_bytes w16 (length ns * 2))
     → octets ≡ head ++ flat_map (to_be_bytes w16) ns → octets ≡ b ++ (to_be_bytes w16 code ++ to_be_bytes w16 (length (flat_map (to_be_bytes w16) ns)) ++ flat_map (to_be_bytes w16) ns)
 with_head head octets ns b code is all =
