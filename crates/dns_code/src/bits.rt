@@ -2,7 +2,6 @@
 ghost use Rattle.std.specs.Prelude.{◌≡◌, ◌<◌, ◌%◌};
 ghost use Rattle.dns_code.specs.Bits.{bit, bits, ChangesBit};
 
-/// Whether bit number `place` is 1.
 pub(crate) fn is_bit_set(octet: u8, place: u32) -> bool
     requires { place < 8 }
     ensures { result ≡ bit octet place }
@@ -10,7 +9,6 @@ pub(crate) fn is_bit_set(octet: u8, place: u32) -> bool
     octet >> place & 1 == 1
 }
 
-/// Sets or clears bit number `place`.
 pub(crate) fn with_bit(octet: u8, place: u32, set: bool) -> u8
     requires { place < 8 }
     ensures { ChangesBit octet result place set }

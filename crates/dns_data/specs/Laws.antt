@@ -17,7 +17,7 @@ abbrev pub OnePartComposes : Type 0
 OnePartComposes = (room : Option ℕ) (grows : Bool) (rule : Rule) (part : Part) (t u : Written) (r : Result Unit AppendError)
     → Appends room grows (put_part rule part) t u r → Composes room grows (put_parts rule (part ∷ [])) t u r
 
--- if a part is appended, composing the remaining parts after it composes all, whatever the result is
+-- after the first part is appended, composing the remaining parts composes all of them, whatever the result
 abbrev pub PartsComposeBehind : Type 0
 PartsComposeBehind = (room : Option ℕ) (grows : Bool) (rule : Rule) (part : Part) (parts : List Part) (t u v : Written) (r : Result Unit AppendError)
     → u ≡ lay (put_part rule part) t → Composes room grows (put_parts rule parts) u v r → Composes room grows (put_parts rule (part ∷ parts)) t v r

@@ -3,9 +3,9 @@
 //!
 //! An RDATA value is a list of parts, octets and names, of at most 65,535 octets without
 //! compression. It appends these parts under every compression rule of a target, and with
-//! lowercased, uncompressed names in canonical form. Reading returns a value if its parts are in
-//! the octets, and otherwise the first fault (RFC 1035 sections 3.3 and 4.1.3). The canonical order
-//! is that of RFC 4034 section 6.3. A conversion keeps the value.
+//! lowercased, uncompressed names in canonical form. Reading returns the value whose parts are
+//! encoded in the octets, or the first error in them (RFC 1035 sections 3.3 and 4.1.3). The
+//! canonical order is that of RFC 4034 section 6.3. A conversion keeps the value.
 //!
 //! The contracts of the traits require the same of RDATA types of your own. The module `laws` has
 //! the theorems for their proofs.

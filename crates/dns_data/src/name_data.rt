@@ -11,7 +11,6 @@ use crate::record_data::{ComposeRecordData, ParseRecordData, RecordData};
 use dns_code::Rtype;
 use dns_wire::{AppendError, Composer, ParseError, ParsedName, Parser, ToName, ToNameExt};
 
-/// Appends RDATA that is one name.
 fn compose_name<N: ToName, T: Composer>(name: &N, target: &mut T) -> Result<(), AppendError>
     ensures composes { Composes T.room T.grows
         (put_parts T.rule (CompressibleName (N.name name.now) ∷ [])) (T.written target.old)
@@ -21,7 +20,6 @@ fn compose_name<N: ToName, T: Composer>(name: &N, target: &mut T) -> Result<(), 
     target.append_compressed_name(name)
 }
 
-/// Appends RDATA that is one name, in canonical form.
 fn compose_canonical_name<N: ToName, T: Composer>(
     name: &N,
     target: &mut T,

@@ -58,8 +58,8 @@ pub trait ParseRecordData<'a>: RecordData + Sized {
     /// Reads the RDATA of a record of this type, from the parser's offset to at most its end.
     /// Returns `None` if the type isn't accepted.
     ///
-    /// Octets may be left over. If the RDATA isn't there, the error is its first fault and the
-    /// parser doesn't move.
+    /// Octets may be left over. If the octets aren't such RDATA, it returns the first error in
+    /// them, and the parser doesn't move.
     fn parse_rdata(rtype: Rtype, parser: &mut Parser<'a>) -> Result<Option<Self>, ParseError>
         ensures { ParsesTaken Self.rtype_of Self.parts (layout rtype) rtype parser.old parser.new
             result };

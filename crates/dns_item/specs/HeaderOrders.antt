@@ -19,6 +19,6 @@ module _ {N : Type 0} where
       then_cmp (on owner_of name_order)
       (then_cmp (on rtype_of nat_cmp) (then_cmp (on class_of nat_cmp) (then_cmp (on ttl_of nat_cmp) (on rdlen_of nat_cmp))))
 
-  -- what a header feeds a hasher
+  -- what a header feeds a hasher: its fields, in the order of the wire
   abbrev pub header_hash_input : (N → HashWrites) → RecordHeader N → HashWrites
   header_hash_input of_name h = of_name (owner_of h) ++ (u16 (rtype_of h) ++ (u16 (class_of h) ++ (u32 (ttl_of h) ++ u16 (rdlen_of h))))

@@ -29,7 +29,7 @@ pub record IsRecord (x : RecordItem) : Type 0 where
 abbrev pub record_fields : RecordItem → List ℕ
 record_fields x = to_be_bytes w16 x.rtype ++ to_be_bytes w16 x.class ++ to_be_bytes w32 x.ttl
 
--- the encoding of a record: its owner, its fields, RDLENGTH, and its RDATA, whose length as written RDLENGTH is
+-- the encoding of a record: its owner, its fields, and its RDATA after RDLENGTH, which is the length of the RDATA as written
 unfoldable pub put_record : Rule → RecordItem → Piece
 put_record rule x = both (put_name rule x.owner) (both (put_octets (record_fields x)) (with_length (put_parts rule x.parts)))
 

@@ -17,7 +17,7 @@ module _ {N D : Type 0} where
   abbrev pub record_order : (N → N → Ordering) → (D → D → Ordering) → Record N D → Record N D → Ordering
   record_order owner_order data_order = then_cmp (on owner_of owner_order) (then_cmp (on class_of nat_cmp) (on data_of data_order))
 
-  -- what a record feeds a hasher
+  -- what a record feeds a hasher: owner, class and RDATA
   abbrev pub record_hash_input : (N → HashWrites) → (D → HashWrites) → Record N D → HashWrites
   record_hash_input of_name of_data r = of_name (owner_of r) ++ (u16 (class_of r) ++ of_data (data_of r))
 

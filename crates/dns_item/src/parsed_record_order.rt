@@ -6,7 +6,7 @@ ghost use Rattle.dns_item.specs.ParsedRecordOrders.{raw_data, same_raw_data, par
 
 use crate::parsed_record::ParsedRecord;
 
-/// By header and the octets of the RDATA.
+/// By header and the octets of the RDATA. Owners compare ignoring ASCII case.
 ///
 /// Pointers in the RDATA aren't followed, so the same name compressed in two ways is different. If
 /// the RDATA isn't all there, as `ParsedRecord::new` allows, records are equal only if this is so

@@ -50,9 +50,9 @@ impl<'a> RecordHeader<ParsedName<'a>> {
     /// Reads the RDATA after this header and returns the record, or `None` if `D` doesn't accept
     /// the record type.
     ///
-    /// The parser has to be at the RDATA, and advances past it whatever the result. If the RDATA
-    /// isn't all there, it returns `ShortInput` and the parser doesn't move. Otherwise the error is
-    /// the first in the RDATA, or `Form` if octets are left over.
+    /// The parser has to be at the RDATA, and advances past it even if it is malformed. If the
+    /// RDATA isn't all there, it returns `ShortInput` and the parser doesn't move. Otherwise an
+    /// error is the first one in the RDATA, or `Form` if octets are left over.
     pub fn parse_into_record<D: ParseRecordData<'a> + Drop>(
         self,
         parser: &mut Parser<'a>,
@@ -91,8 +91,8 @@ impl<'a> RecordHeader<ParsedName<'a>> {
 impl<'a> ParsedRecord<'a> {
     /// The record with its RDATA parsed, or `None` if `D` doesn't accept the record type.
     ///
-    /// Returns `ShortInput` if the RDATA isn't all there. Otherwise the error is the first in the
-    /// RDATA, or `Form` if octets are left over.
+    /// Errors: `ShortInput` if the RDATA isn't all there, else the first error in the RDATA, or
+    /// `Form` if octets are left over.
     pub fn to_record<D: ParseRecordData<'a> + Drop>(
         &self,
     ) -> Result<Option<Record<ParsedName<'a>, D>>, ParseError>
@@ -155,8 +155,9 @@ impl<'a, D: ParseRecordData<'a> + Drop> Record<ParsedName<'a>, D> {
     /// Reads the record at the parser's offset with its RDATA, or `None` if `D` doesn't accept the
     /// record type.
     ///
-    /// The parser advances past the record whatever becomes of the RDATA. Only if the record can't
-    /// be read does it stay: then the error is that of the owner, or `ShortInput`.
+    /// If the owner is malformed or the record isn't all there, it returns the error of the owner
+    /// or `ShortInput`, and the parser doesn't move. Otherwise the parser advances past the record,
+    /// even if the RDATA is malformed.
     pub fn parse(parser: &mut Parser<'a>) -> Result<Option<Self>, ParseError>
         ensures gives { (q : ℕ) (x : RecordEntry)
             → ReadsRecord (seen parser.old) (place parser.old) q x

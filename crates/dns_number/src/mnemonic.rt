@@ -12,7 +12,6 @@ use std::fmt;
 /// A number and its mnemonic.
 pub(crate) type Entry = (u16, &'static str);
 
-/// The mnemonic of the number, if it has one.
 fn of(entries: &[Entry], number: u16) -> Option<&'static str>
     ensures { option_map (λ text. text.now) result ≡ mnemonic (table entries.now) number }
 {

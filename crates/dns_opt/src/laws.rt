@@ -1,7 +1,7 @@
 //! Theorems on lists of options. The functions do nothing: each contract is a theorem.
 ghost use Rattle.dns_opt.specs.Laws.{OptionsAreOne, OptionsAreReadBack};
 
-/// Octets are at most one list of options.
+/// Octets encode at most one list of options.
 pub fn options_are_one()
     ensures { OptionsAreOne }
 {}

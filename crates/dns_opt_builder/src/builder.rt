@@ -180,7 +180,6 @@ impl OptBuilder {
         self.append(code.to_int(), octets)
     }
 
-    /// Adds the option with this code and these octets.
     pub(crate) fn append(&mut self, code: u16, octets: &[u8]) -> Result<(), AppendError>
         ensures { Adds (record { code = code; octets = octets.now }) self.old self.new result }
     {

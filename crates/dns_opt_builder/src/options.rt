@@ -13,7 +13,6 @@ const MOST_OCTETS: usize = 65_535;
 /// The number of octets of an option's code and length.
 const HEAD_LEN: usize = 4;
 
-/// Appends an option.
 pub(crate) fn append_option(list: &mut Vec<u8>, code: u16, octets: &[u8]) -> Result<(), AppendError>
     requires { length list.old.items ≤ 65535 }
     ensures { AppendsOption (record { code = code; octets = octets.now })

@@ -17,7 +17,7 @@ module _ {N : Type 0} where
   abbrev pub question_order : (N → N → Ordering) → Question N → Question N → Ordering
   question_order name_order = then_cmp (on qname_of name_order) (then_cmp (on qtype_of nat_cmp) (on qclass_of nat_cmp))
 
-  -- what a question feeds a hasher
+  -- what a question feeds a hasher: name, type and class
   abbrev pub question_hash_input : (N → HashWrites) → Question N → HashWrites
   question_hash_input of_name q = of_name (qname_of q) ++ (u16 (qtype_of q) ++ u16 (qclass_of q))
 

@@ -77,7 +77,6 @@ reads_record x t p q is good h =
       };
     }
 
--- records read back
 pub records_read_back : RecordsReadBack
 records_read_back rule t x is h =
     let p = puts_record rule x is in

@@ -45,7 +45,6 @@ reads_question x t p q is good h =
       class = sym (number_16 t.octets (r + 2) x.class is.class second);
     }
 
--- questions read back
 pub questions_read_back : QuestionsReadBack
 questions_read_back rule t x is h =
     let p = puts_question rule x is in
