@@ -3,7 +3,7 @@ use Rattle.std.specs.Prelude.{ℕ, List}
 use Rattle.dns_octets.specs.declared.octets.Octets.{Ghosts}
 use Rattle.dns_read.specs.declared.message.Message.{Message}
 
--- the holder of a message's octets
+-- the value that holds a message's octets
 abbrev pub holder_of : {X : Type 0} {holds : Ghosts X} → Message X holds → X
 holder_of message = message.octets
 

@@ -1,6 +1,6 @@
--- Where the sections of a message start, and what reading them gives. RFC 1035 section 4.1.
+-- Where the sections of a message start, and what reading them gives, as functions. RFC 1035 section 4.1.
 --
--- `b` are the octets of the message.
+-- `b` is the octets of the message.
 use Rattle.std.proofs.Common.{inl, inr}
 use Rattle.std.specs.Prelude.{◌≡◌, ◌↔◌, ◌⊎◌, ℕ, List, [], Option, Some, None, Result}
 use Rattle.std.specs.Option.{option_map_or}
@@ -12,21 +12,21 @@ use Rattle.dns_section.specs.declared.section.Section.{Section}
 use Rattle.dns_section.specs.declared.section.Section.TheVariants.{Answer, Authority, Additional}
 use Rattle.dns_section.proofs.theory.StartLemmas.{start_or_fault}
 
--- the start, if there is one and no fault
+-- the start, of a start or a fault
 abbrev pub found : {Start : ℕ → Type 0} {FaultOf : Fault → Type 0} → ((p : ℕ) × Start p) ⊎ ((f : Fault) × FaultOf f) → Option ℕ
 found (inl start) = Some start.0
 found (inr fault) = None
 
--- where a section of records starts, if it has a start
+-- the offset where a section of records starts, if it has a start
 unfoldable pub start_of : Section → List ℕ → Option ℕ
 start_of Answer b = found (start_or_fault.answers b).some
 start_of Authority b = found (start_or_fault.authorities b).some
 start_of Additional b = found (start_or_fault.additionals b).some
 
--- the reading of a section of records; nothing where it has no start
+-- the reading of a section of records; empty if it has no start
 abbrev pub records_of : Section → List ℕ → List (Result StandingRecord Fault)
 records_of which b = option_map_or (records_in b (record_count which b)) (start_of which b) []
 
--- so a start is found exactly where the section starts
+-- `start_of` finds an offset exactly if the section starts there
 abbrev pub StartsAreFound : Type 0
 StartsAreFound = (which : Section) (b : List ℕ) (p : ℕ) → (start_of which b ≡ Some p) ↔ StartsAt which b p

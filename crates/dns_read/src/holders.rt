@@ -1,4 +1,4 @@
-//! Conversions of messages between holders of octets.
+//! Conversions of messages between types of octets.
 ghost use Rattle.std.specs.Prelude.{◌≡◌, ◌<◌, length, ⊤};
 ghost use Rattle.dns_octets.specs.Converts.{Converts};
 ghost use Rattle.dns_read.specs.Message.{message_octets};

@@ -1,8 +1,8 @@
 //! Messages, read lazily: their headers, and the questions and records in them.
 //!
-//! A message is twelve octets or more, and nothing else is tested when it is made. It promises that each section starts
-//! behind the entries that can be skipped before it, or has one fault (RFC 1035 section 4.1). The cursors over its sections
-//! are those of `dns_section`.
+//! A `Message` is at least 12 octets; creating one checks nothing else. Each section starts after
+//! the entries before it, which are skipped, or has one error (RFC 1035 section 4.1). The cursors
+//! over its sections are those of `dns_section`.
 #![tactic(auto)]
 
 mod error;

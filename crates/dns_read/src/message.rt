@@ -1,4 +1,4 @@
-//! Messages over octets: their calls, and their contracts; and the cursors and iterators that they give.
+//! `Message`, its methods and their contracts, and the cursors and iterators that it returns.
 ghost use Rattle.std.specs.Prelude.{◌≡◌, ◌≢◌, ◌↔◌, ◌<◌, ◌≤◌, ◌-◌, length, take, drop, slice_range, IsTrue, Ok, IfOk, IfErr, IsErr};
 ghost use Rattle.dns_code.specs.HeaderSection.{header_size};
 
@@ -11,9 +11,10 @@ use dns_wire::{Octets, OctetsMut, ParseError};
 use std::alloc::AllocError;
 use std::convert::AsSlice;
 
-/// A message: octets of which the first twelve are its header section (RFC 1035 section 4.1).
+/// A message: at least 12 octets, of which the first 12 are the header section (RFC 1035 section
+/// 4.1).
 ///
-/// Nothing else is tested when it is made. What stands behind the header section is read where it is asked for.
+/// Creating one checks nothing else. What follows the header section is read on demand.
 #[derive(Debug, Drop)]
 pub struct Message<Octs: Octets> {
     octets: Octs,
@@ -23,7 +24,7 @@ pub struct Message<Octs: Octets> {
 impl<'a> Message<&'a [u8]> {
     ghost use Rattle.dns_read.specs.Message.{message_octets};
 
-    /// The message of these octets. Fewer than twelve are refused.
+    /// The message with these octets. Returns `ShortMessage` if they are fewer than 12.
     pub fn from_slice(slice: &'a [u8]) -> Result<Self, ShortMessage>
         ensures octets { IfOk result (λ message. message_octets message ≡ slice.now) }
         ensures short { IsErr result ↔ (length slice.now < header_size) }
@@ -44,7 +45,7 @@ impl<Octs: Octets> Message<Octs> {
     ghost use Rattle.dns_section.specs.declared.section.Section.TheVariants.{Answer, Authority, Additional};
     ghost use Rattle.dns_name.specs.Names.{fault_of};
 
-    /// The message of these octets. Fewer than twelve are refused.
+    /// The message with these octets. Returns `ShortMessage` if they are fewer than 12.
     pub fn from_octets(octets: Octs) -> Result<Self, ShortMessage>
         ensures holder { IfOk result (λ message. holder_of message ≡ octets) }
         ensures short { IsErr result ↔ (length (Octs.octets octets) < header_size) }
@@ -52,7 +53,7 @@ impl<Octs: Octets> Message<Octs> {
         Message::try_from_octets(octets).map_err(|_| ShortMessage)
     }
 
-    /// The message of these octets. Fewer than twelve are given back.
+    /// The message with these octets. Returns them as the error if they are fewer than 12.
     pub fn try_from_octets(octets: Octs) -> Result<Self, Octs>
         ensures holder { IfOk result (λ message. holder_of message ≡ octets) }
         ensures back { IfErr result (λ refused. refused ≡ octets) }
@@ -64,7 +65,7 @@ impl<Octs: Octets> Message<Octs> {
         Ok(Message::of_long(octets))
     }
 
-    /// The message of these octets, which are known to be twelve or more.
+    /// The message with these octets, which are known to be at least 12.
     pub(crate) fn of_long(octets: Octs) -> Self
         requires { header_size ≤ length (Octs.octets octets) }
         ensures { holder_of result ≡ octets }
@@ -86,14 +87,14 @@ impl<Octs: Octets> Message<Octs> {
         Message::of_long(self.octets.octets())
     }
 
-    /// The holder of the octets.
+    /// The octets, as the message stores them.
     pub fn as_octets(&self) -> &Octs
         ensures { result.now ≡ holder_of self.now }
     {
         &self.octets
     }
 
-    /// The holder of the octets, taken out.
+    /// Converts the message into its octets.
     pub fn into_octets(self) -> Octs
         ensures { result ≡ holder_of self }
     {
@@ -101,7 +102,7 @@ impl<Octs: Octets> Message<Octs> {
         octets
     }
 
-    /// The octets.
+    /// The octets as a slice.
     pub fn as_slice(&self) -> &[u8]
         ensures octets { result.now ≡ message_octets self.now }
         ensures long { header_size ≤ length result.now }
@@ -109,14 +110,14 @@ impl<Octs: Octets> Message<Octs> {
         self.octets.octets()
     }
 
-    /// The header.
+    /// A copy of the header.
     pub fn header(&self) -> Header
         ensures { header_octets result ≡ take 4 (message_octets self.now) }
     {
         Header::for_message_slice(self.as_slice())
     }
 
-    /// The counts of the sections.
+    /// A copy of the counts of the sections.
     pub fn header_counts(&self) -> HeaderCounts
         ensures octets { counts_octets result
             ≡ slice_range (message_octets self.now) 4 header_size }
@@ -128,21 +129,21 @@ impl<Octs: Octets> Message<Octs> {
         HeaderCounts::for_message_slice(self.as_slice())
     }
 
-    /// The header and the counts.
+    /// A copy of the header section: the header and the counts.
     pub fn header_section(&self) -> HeaderSection
         ensures { section_octets result ≡ take header_size (message_octets self.now) }
     {
         HeaderSection::for_message_slice(self.as_slice())
     }
 
-    /// Whether the rcode of the header is `NOERROR`, which is 0.
+    /// Whether the RCODE of the header is `NOERROR` (0).
     pub fn no_error(&self) -> bool
         ensures { IsTrue result ↔ ((fields_in (take 4 (message_octets self.now))).rcode ≡ 0) }
     {
         self.header().rcode() == Rcode::NOERROR
     }
 
-    /// Whether the rcode of the header isn't `NOERROR`, which is 0.
+    /// Whether the RCODE of the header isn't `NOERROR` (0).
     pub fn is_error(&self) -> bool
         ensures { IsTrue result ↔ ((fields_in (take 4 (message_octets self.now))).rcode ≢ 0) }
     {
@@ -171,7 +172,8 @@ impl<Octs: Octets> Message<Octs> {
         self.question()
     }
 
-    /// The answer section, behind the questions. The fault of the first question that can't be skipped is answered.
+    /// The answer section, which begins after the questions. Returns the error of the first
+    /// question that can't be skipped.
     pub fn answer(&self) -> Result<RecordSection<'_>, ParseError>
         ensures starts { IfOk result (λ section. BeginsSection Answer (message_octets self.now)
             section) }
@@ -180,7 +182,8 @@ impl<Octs: Octets> Message<Octs> {
         self.question().answer()
     }
 
-    /// The prerequisite section of an UPDATE message, which is the answer section (RFC 2136 section 2.4).
+    /// The prerequisite section of an UPDATE message, which is the answer section (RFC 2136 section
+    /// 2.4).
     pub fn prerequisite(&self) -> Result<RecordSection<'_>, ParseError>
         ensures starts { IfOk result (λ section. BeginsSection Answer (message_octets self.now)
             section) }
@@ -189,8 +192,8 @@ impl<Octs: Octets> Message<Octs> {
         self.answer()
     }
 
-    /// The authority section, behind the answer section. The fault of the first entry before it that can't be skipped is
-    /// answered.
+    /// The authority section, which begins after the answer section. Returns the error of the first
+    /// entry before it that can't be skipped.
     pub fn authority(&self) -> Result<RecordSection<'_>, ParseError>
         ensures starts { IfOk result (λ section. BeginsSection Authority (message_octets self.now)
             section) }
@@ -200,7 +203,8 @@ impl<Octs: Octets> Message<Octs> {
         following(self.answer()?)
     }
 
-    /// The update section of an UPDATE message, which is the authority section (RFC 2136 section 2.5).
+    /// The update section of an UPDATE message, which is the authority section (RFC 2136 section
+    /// 2.5).
     pub fn update(&self) -> Result<RecordSection<'_>, ParseError>
         ensures starts { IfOk result (λ section. BeginsSection Authority (message_octets self.now)
             section) }
@@ -210,8 +214,8 @@ impl<Octs: Octets> Message<Octs> {
         self.authority()
     }
 
-    /// The additional section, behind the authority section. The fault of the first entry before it that can't be skipped
-    /// is answered.
+    /// The additional section, which begins after the authority section. Returns the error of the
+    /// first entry before it that can't be skipped.
     pub fn additional(&self) -> Result<RecordSection<'_>, ParseError>
         ensures starts { IfOk result (λ section. BeginsSection Additional (message_octets self.now)
             section) }
@@ -221,8 +225,8 @@ impl<Octs: Octets> Message<Octs> {
         following(self.authority()?)
     }
 
-    /// The question, answer, authority and additional sections. The fault of the first entry before the additional section
-    /// that can't be skipped is answered.
+    /// The question, answer, authority and additional sections. Returns the error of the first
+    /// entry before the additional section that can't be skipped.
     pub fn sections(
         &self,
     ) -> Result<
@@ -258,7 +262,7 @@ impl<Octs: OctetsMut> Message<Octs> {
     ghost use Rattle.dns_read.specs.Message.{message_octets};
     ghost use Rattle.dns_section.specs.Sections.{additional_count};
 
-    /// Writes the header over the first four octets. The others stay.
+    /// Overwrites the first 4 octets with `header`. The counts and all later octets stay.
     pub fn set_header(&mut self, header: Header)
         ensures header { take 4 (message_octets self.new) ≡ header_octets header }
         ensures others { drop 4 (message_octets self.new) ≡ drop 4 (message_octets self.old) }
@@ -266,9 +270,10 @@ impl<Octs: OctetsMut> Message<Octs> {
         self.octets.write_at(0, header.as_slice());
     }
 
-    /// Lowers ARCOUNT by one, so that the last additional record isn't read any more (RFC 1035 section 4.1.1).
+    /// Lowers ARCOUNT by one, so that the last additional record isn't read any more (RFC 1035
+    /// section 4.1.1).
     ///
-    /// There is an additional record by ARCOUNT. All other octets stay, those of the record too.
+    /// ARCOUNT must not be 0. All other octets stay, including those of the record.
     pub fn remove_last_additional(&mut self)
         requires { 0 < additional_count (message_octets self.old) }
         ensures count { additional_count (message_octets self.new)
@@ -282,7 +287,7 @@ impl<Octs: OctetsMut> Message<Octs> {
     }
 }
 
-/// A clone of the holder. One that doesn't hold the same octets is answered by `AllocError`.
+/// Clones the octets. Returns `AllocError` if the clone doesn't have the same octets.
 impl<Octs: Octets + Clone> Clone for Message<Octs> {
     ghost use Rattle.dns_octets.specs.Octets.{ClonesSurely};
     ghost use Rattle.dns_read.specs.Message.{holder_of, message_octets};
@@ -303,7 +308,7 @@ impl<Octs: Octets + Clone> Clone for Message<Octs> {
 
 impl<Octs: Octets + Copy> Copy for Message<Octs> {}
 
-/// The holder of the octets.
+/// The octets, as the message stores them.
 impl<Octs: Octets> AsRef<Octs> for Message<Octs> {
     ghost use Rattle.dns_read.specs.Message.{holder_of};
 
@@ -314,7 +319,7 @@ impl<Octs: Octets> AsRef<Octs> for Message<Octs> {
     }
 }
 
-/// The octets.
+/// The octets as a slice.
 impl<Octs: Octets> AsSlice<u8> for Message<Octs> {
     ghost use Rattle.dns_read.specs.Message.{message_octets};
 

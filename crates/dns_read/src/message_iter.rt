@@ -7,11 +7,12 @@ use dns_wire::{Octets, ParseError};
 
 /// An iterator over the records of a message, each with its section (RFC 1035 section 4.1).
 ///
-/// It gives the records that can be read in a row, of the answer, authority and additional sections. The first that can't be
-/// read is answered by its error and, but in the additional section, by the same error once more. Then there are no more.
+/// It yields consecutive records of the answer, authority and additional sections. For the first
+/// record that can't be read it yields an error, twice unless the record is in the additional
+/// section, and then ends.
 #[derive(Clone, Copy, Debug)]
 pub struct MessageIter<'a> {
-    /// The section that is read, or `None` where no more is to come.
+    /// The section that is being read, or `None` at the end.
     cursor: Option<RecordSection<'a>>,
 }
 
@@ -49,7 +50,7 @@ impl<'a> MessageIter<'a> {
     }
 }
 
-/// As the method `next`.
+/// The same as the method `next`.
 impl<'a> Iterator for MessageIter<'a> {
     ghost use Rattle.std.specs.Iterator.{item_count};
     ghost use Rattle.dns_read.specs.MessageIter.{items_left, GivesNext};
@@ -72,7 +73,7 @@ impl<Octs: Octets> Message<Octs> {
 
     /// Iterates over the records of the answer, authority and additional sections.
     ///
-    /// There are none where the answer section has no start.
+    /// The iterator is empty if a question can't be skipped.
     pub fn iter(&self) -> MessageIter<'_>
         ensures items { items_left result ≡ message_items (message_octets self.now) }
         ensures count { length (items_left result) ≤ answer_count (message_octets self.now)
@@ -85,7 +86,7 @@ impl<Octs: Octets> Message<Octs> {
     }
 }
 
-/// As the method `iter`.
+/// The same as the method `iter`.
 impl<'a, Octs: Octets> IntoIterator for &'a Message<Octs> {
     ghost use Rattle.dns_read.specs.Message.{message_octets};
     ghost use Rattle.dns_read.specs.MessageIter.{items_left, message_items};

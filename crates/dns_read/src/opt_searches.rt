@@ -13,8 +13,9 @@ use dns_section::RecordSection;
 use dns_wire::Octets;
 
 impl<Octs: Octets> Message<Octs> {
-    /// The first OPT record of the additional section. There is none where its data is faulty, or an entry before it can't be
-    /// read.
+    /// The first OPT record of the additional section. Returns `None` if there is none, if the
+    /// section has no start, if a record before it in the section can't be read, or if its RDATA is
+    /// malformed.
     pub fn opt(&self) -> Option<OptRecord<&[u8]>>
         ensures { option_map opt_item result ≡ opt_of (message_octets self.now) }
     {
@@ -24,8 +25,8 @@ impl<Octs: Octets> Message<Octs> {
         }
     }
 
-    /// The rcode: its lower four bits stand in the header, the higher eight in the record that `opt` gives. They are zero
-    /// where there is none.
+    /// The RCODE of the message: its lower 4 bits are in the header, its higher 8 in the OPT record
+    /// that `opt` returns. The higher bits are 0 if there is none (RFC 6891 section 6.1.3).
     pub fn opt_rcode(&self) -> OptRcode
         ensures { result ≡ opt_rcode_of (message_octets self.now) }
     {
@@ -36,7 +37,7 @@ impl<Octs: Octets> Message<Octs> {
     }
 }
 
-/// The first OPT record of a section, if it is before each fault.
+/// The first OPT record of a section, unless an error comes first.
 fn first_opt<'a>(section: RecordSection<'a>) -> Option<OptRecord<&'a [u8]>>
     ensures { option_map opt_item result
         ≡ option_and_then opt_said (first_opt_in (records_left section.entry)) }

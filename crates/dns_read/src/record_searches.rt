@@ -1,4 +1,4 @@
-//! What is looked for in the records of a message (RFC 1035 sections 3.3.1 and 4.1).
+//! Searches in the records of a message (RFC 1035 sections 3.3.1 and 4.1).
 ghost use Rattle.std.specs.Prelude.{◌≡◌, ◌↔◌, IfSome, IsTrue, option_map};
 ghost use Rattle.dns_name.specs.ParsedName.{labels};
 ghost use Rattle.dns_item.specs.DataAnswer.{HasSpan};
@@ -15,11 +15,12 @@ use dns_item::{ParsedRecord, Record};
 use dns_section::RecordSection;
 use dns_wire::{Octets, ParsedName};
 
-/// How many names are looked at, from the first question's on, for one that is no alias.
+/// The limit on names that `canonical_name` examines, including the first question's.
 const MOST_NAMES: usize = 20;
 
 impl<Octs: Octets> Message<Octs> {
-    /// Whether the answer section has a record that the data type takes, or a fault.
+    /// Whether the answer section has a record whose type `D` accepts, or a record that can't be
+    /// read.
     pub fn contains_answer<'a, D: ParseRecordData<'a> + Drop>(&'a self) -> bool
         ensures { IsTrue result ↔ HasAnswer D.layout (message_octets self.now) }
     {
@@ -29,7 +30,9 @@ impl<Octs: Octets> Message<Octs> {
         }
     }
 
-    /// The last additional record with its data, if all additional records can be read and the data type takes it.
+    /// The last additional record, with RDATA parsed. Returns `None` if the additional section has
+    /// no start or no records, if one of its records can't be read, if `D` doesn't accept the type
+    /// of the last, or if the RDATA of the last is malformed.
     pub fn get_last_additional<'a, D: ParseRecordData<'a> + Drop>(
         &'a self,
     ) -> Option<Record<ParsedName<'a>, D>>
@@ -39,11 +42,12 @@ impl<Octs: Octets> Message<Octs> {
         last_of(self.additional().ok()?)?.to_record().ok()?
     }
 
-    /// The name that the first question's name is an alias of, by the CNAME records of the answer section, in any class (RFC
-    /// 1034 section 3.6.2). It is the question's own name where that is no alias.
+    /// The name that the first question's name is an alias of, by the CNAME records of the answer
+    /// section in any class (RFC 1034 section 3.6.2). Returns the question's own name if that is no
+    /// alias.
     ///
-    /// There is none where twenty aliases follow one another, where no question can be read, or where the answer section has
-    /// no start.
+    /// Returns `None` after 20 aliases in a chain, if the first question can't be read, or if the
+    /// answer section has no start.
     pub fn canonical_name(&self) -> Option<ParsedName<'_>>
         ensures { CanonicalName (message_octets self.now) (option_map labels result) }
     {
@@ -75,7 +79,7 @@ fn last_of<'a>(mut section: RecordSection<'a>) -> Option<ParsedRecord<'a>>
     last
 }
 
-/// What a name is an alias of, by these answers.
+/// The name that `name` is an alias of, by the CNAME records in `answers`.
 fn alias_of<'a>(answers: RecordSection<'a>, name: &ParsedName<'a>) -> Option<ParsedName<'a>>
     ensures { option_map labels result
         ≡ alias_of (limited cname_layout (records_left answers.entry)) (labels name.now) }

@@ -1,4 +1,4 @@
-//! What is looked for in the questions of a message (RFC 1035 section 4.1).
+//! Searches in the questions of a message (RFC 1035 section 4.1).
 ghost use Rattle.std.specs.Prelude.{◌≡◌, ◌<◌, ◌↔◌, Some, Err, option_map, IsTrue};
 ghost use Rattle.dns_question.specs.Question.{parsed_question};
 ghost use Rattle.dns_read.specs.Message.{message_octets};
@@ -12,7 +12,7 @@ use dns_item::Question;
 use dns_wire::{FormError, Octets, ParseError, ParsedName};
 
 impl<Octs: Octets> Message<Octs> {
-    /// The first question, if it can be read.
+    /// The first question. Returns `None` if there is none or it can't be read.
     pub fn first_question(&self) -> Option<Question<ParsedName<'_>>>
         ensures { option_map parsed_question result ≡ asked_first (message_octets self.now) }
     {
@@ -22,7 +22,7 @@ impl<Octs: Octets> Message<Octs> {
         }
     }
 
-    /// The record type that the first question asks for, if the question can be read.
+    /// The QTYPE of the first question. Returns `None` if there is no question or it can't be read.
     pub fn qtype(&self) -> Option<Rtype>
         ensures { result ≡ asked_type (message_octets self.now) }
     {
@@ -32,7 +32,8 @@ impl<Octs: Octets> Message<Octs> {
         }
     }
 
-    /// Whether the first question asks for a zone transfer, by IXFR (RFC 1995 section 3) or AXFR (RFC 5936 section 2).
+    /// Whether the first question asks for a zone transfer, by IXFR (RFC 1995 section 3) or AXFR
+    /// (RFC 5936 section 2).
     pub fn is_xfr(&self) -> bool
         ensures { IsTrue result ↔ AsksForTransfer (message_octets self.now) }
     {
@@ -42,8 +43,8 @@ impl<Octs: Octets> Message<Octs> {
         }
     }
 
-    /// Whether this message is an answer to a query: QR is set, the IDs and the numbers of questions are equal (RFC 1035
-    /// section 4.1.1), and the questions are the same, in order and without a fault.
+    /// Whether this message is a response to `query`: QR is set, the IDs and QDCOUNTs are equal
+    /// (RFC 1035 section 4.1.1), and the questions are the same, in order and all readable.
     pub fn is_answer<Other: Octets>(&self, query: &Message<Other>) -> bool
         ensures { result ≡ answers_query (message_octets self.now) (message_octets query.now) }
     {
@@ -54,10 +55,10 @@ impl<Octs: Octets> Message<Octs> {
             && self.question().same_questions(&query.question())
     }
 
-    /// The question of a message that has to have one.
+    /// The question of a message that has exactly one by QDCOUNT.
     ///
-    /// `NO_QUESTION` is answered where the header says that there is none, `MULTIPLE_QUESTIONS` where it says more than one,
-    /// and else the fault of the question if it can't be read.
+    /// Errors: `NO_QUESTION` if QDCOUNT is 0, `MULTIPLE_QUESTIONS` if it is more than 1; else the
+    /// error of the question if it can't be read.
     pub fn sole_question(&self) -> Result<Question<ParsedName<'_>>, ParseError>
         ensures none { question_count (message_octets self.now) ≡ 0
             → result ≡ Err (ParseError.Form FormError.NO_QUESTION) }

@@ -1,4 +1,4 @@
--- What an iterator over all records with their data has before it. RFC 1035 section 4.1.3.
+-- What an iterator over all records with parsed RDATA has left. RFC 1035 section 4.1.3.
 use Rattle.std.specs.Iterator.{YieldsFirstBy}
 use Rattle.std.specs.Prelude.{ℕ, List, Option, Some, Result}
 use Rattle.dns_octets.specs.declared.error.ParseError.{ParseError}
@@ -16,7 +16,7 @@ use Rattle.dns_section.specs.Skipping.{KeepsError}
 use Rattle.dns_section.specs.declared.any_record_iter.AnyRecordIter.{AnyRecordIter}
 use Rattle.dns_section.specs.declared.record_section.RecordSection.{RecordSection}
 
--- layouts of which each record type has one
+-- a layout for each record type, so that every type is accepted
 abbrev pub every : (ℕ → Layout) → ℕ → Option Layout
 every layouts rtype = Some (layouts rtype)
 
@@ -24,11 +24,11 @@ every layouts rtype = Some (layouts rtype)
 abbrev pub cursor_of : {D : Type 0} → AnyRecordIter D → RecordSection
 cursor_of it = it.cursor
 
--- what is left to be given, by how the data type lays out each record type
+-- what is left to yield, by the layout that the data type gives each record type
 abbrev pub typed_left : {D : Type 0} → (ℕ → Layout) → AnyRecordIter D → List (Result RecordItem Fault)
 typed_left layouts it = limited (every layouts) (records_left (cursor_of it))
 
--- what a call of `next` answers, and where that leaves the iterator
+-- what a call of `next` returns, and the iterator after it
 pub record GivesNext {D : Type 0} (rtype_of : D → ℕ) (parts_of : D → List Part) (layouts : ℕ → Layout) (old : AnyRecordIter D) (result : Option (Result (Record ParsedName D) ParseError)) (new : AnyRecordIter D) : Type 0 where
   pub steps : YieldsFirstBy (typed_answer rtype_of parts_of) (typed_left layouts) old result new
   pub moves : PassesTo (typed_answer rtype_of parts_of) (limited (every layouts)) (cursor_of old) (cursor_of new) result

@@ -1,4 +1,5 @@
--- How a cursor over records passes those that a data type doesn't answer to. RFC 1035 section 4.1.3.
+-- How a cursor over records skips those that a data type doesn't accept. RFC 1035 section 4.1.3.
+-- `answers` maps items to what the data type yields for them: nothing for a record of a type that it doesn't accept.
 use Rattle.std.specs.Prelude.{◌≡◌, List, [], ◌∷◌, ◌++◌, Option, Some, None, Result}
 use Rattle.dns_name.specs.Names.{Fault}
 use Rattle.dns_octets.specs.declared.error.ParseError.{ParseError}
@@ -8,13 +9,13 @@ use Rattle.dns_item.specs.declared.parsed_record.ParsedRecord.{ParsedRecord}
 use Rattle.dns_section.specs.RecordSection.{record_answer, GivesNext}
 use Rattle.dns_section.specs.declared.record_section.RecordSection.{RecordSection}
 
--- A cursor gives these items, one behind the other, and is then another.
+-- A cursor yields these items, in order, and becomes the second cursor.
 pub data Given : RecordSection → List (Result StandingRecord Fault) → RecordSection → Type 0 where
   none : {cursor : RecordSection} → Given cursor [] cursor
   more : {old mid new : RecordSection} {item : Result StandingRecord Fault} {items : List (Result StandingRecord Fault)} (answer : Result ParsedRecord ParseError)
       → GivesNext old (Some answer) mid → record_answer answer ≡ item → Given mid items new → Given old (item ∷ items) new
 
--- The cursor gave items that are not answered, and then one that is: this is its answer.
+-- The cursor skips records of types that the data type doesn't accept, and yields `answer` for the next item.
 pub record PassesToAnswer (answers : List (Result StandingRecord Fault) → List (Result RecordItem Fault)) (old new : RecordSection) (answer : Result RecordItem Fault) : Type 0 where
   pub passed : List (Result StandingRecord Fault)
   pub last : Result StandingRecord Fault
@@ -22,7 +23,7 @@ pub record PassesToAnswer (answers : List (Result StandingRecord Fault) → List
   pub unanswered : answers passed ≡ []
   pub answered : answers (last ∷ []) ≡ answer ∷ []
 
--- The cursor gave all that it had, and nothing of it is answered.
+-- The cursor skips all remaining records, none of which the data type accepts, and ends.
 pub record PassesToEnd (answers : List (Result StandingRecord Fault) → List (Result RecordItem Fault)) (old new : RecordSection) : Type 0 where
   pub passed : List (Result StandingRecord Fault)
   pub before_end : RecordSection
@@ -30,12 +31,12 @@ pub record PassesToEnd (answers : List (Result StandingRecord Fault) → List (R
   pub ended : GivesNext before_end None new
   pub unanswered : answers passed ≡ []
 
--- So a cursor moves where the first of what it has left that is answered is given, or nothing.
+-- The cursor skips records of types that the data type doesn't accept and yields the first that it accepts, or the error; or it skips all and ends.
 abbrev pub PassesTo : {A : Type 0} → (A → Result RecordItem Fault) → (List (Result StandingRecord Fault) → List (Result RecordItem Fault)) → RecordSection → RecordSection → Option A → Type 0
 PassesTo answer_of answers old new (Some answer) = PassesToAnswer answers old new (answer_of answer)
 PassesTo answer_of answers old new None = PassesToEnd answers old new
 
--- What was left before is items that are not answered, one that is, and what is left behind it: this is its answer.
+-- What was left is what was skipped, then the item yielded as `answer`, then what is left now.
 pub record YieldsAnswer (answers : List (Result StandingRecord Fault) → List (Result RecordItem Fault)) (before behind : List (Result StandingRecord Fault)) (answer : Result RecordItem Fault) : Type 0 where
   pub skipped : List (Result StandingRecord Fault)
   pub last : Result StandingRecord Fault
@@ -43,7 +44,7 @@ pub record YieldsAnswer (answers : List (Result StandingRecord Fault) → List (
   pub unanswered : answers skipped ≡ []
   pub answered : answers (last ∷ []) ≡ answer ∷ []
 
--- The answer to the first item that is answered is yielded. Where there is none, nothing is yielded, and nothing is left.
+-- The first item that the data type accepts is yielded. If there is none, nothing is yielded and nothing is left.
 abbrev pub YieldsNext : {A : Type 0} → (A → Result RecordItem Fault) → (List (Result StandingRecord Fault) → List (Result RecordItem Fault)) → List (Result StandingRecord Fault) → List (Result StandingRecord Fault) → Option A → Type 0
 YieldsNext answer_of answers before behind (Some answer) = YieldsAnswer answers before behind (answer_of answer)
 YieldsNext answer_of answers before behind None = (answers before ≡ []) × (behind ≡ [])

@@ -1,4 +1,4 @@
--- What a cursor over the questions of a message has before it, and how it moves. RFC 1035 sections 4.1 and 4.1.2.
+-- What a cursor over the questions of a message has left, and how it moves. RFC 1035 sections 4.1 and 4.1.2.
 use Rattle.std.specs.Iterator.{YieldsFirstBy}
 use Rattle.std.specs.Prelude.{◌≡◌, ℕ, List, Option, Some, None, Result, Ok, Err}
 use Rattle.dns_name.specs.Names.{Fault, fault_of}
@@ -18,37 +18,37 @@ use Rattle.dns_section.specs.declared.question_section.QuestionSection.{Question
 abbrev pub octets_of : QuestionSection → List ℕ
 octets_of section = seen section.parser
 
--- the place behind the questions that were given
+-- the offset after the questions that were yielded
 abbrev pub position : QuestionSection → ℕ
 position section = place section.parser
 
--- how many questions may still come, or the error that was given
+-- the count of questions that may still come, or the error that was yielded
 abbrev pub to_come : QuestionSection → Result ℕ ParseError
 to_come section = section.left
 
--- what is left to be given
+-- what is left to yield
 abbrev pub questions_left : QuestionSection → List (Result QuestionItem Fault)
 questions_left section = items_left (λ n. questions_from (octets_of section) n (position section)) (to_come section)
 
--- what an answer of the cursor says: a question, or a fault
+-- what a result of the cursor says: a question, or a fault
 abbrev pub question_answer : Result (Question ParsedName) ParseError → Result QuestionItem Fault
 question_answer (Ok question) = Ok (parsed_question question)
 question_answer (Err e) = Err (fault_of e)
 
--- The cursor moves behind a question that it gave. Else it stays: where no question can be read, and at the end.
+-- The cursor moves past a question that it yielded. It doesn't move at a question that can't be read, nor at the end.
 abbrev pub PassesQuestion : QuestionSection → QuestionSection → Option (Result (Question ParsedName) ParseError) → Type 0
 PassesQuestion old new (Some (Ok question)) = ReadsQuestion (octets_of old) (position old) (position new) (parsed_question question)
 PassesQuestion old new (Some (Err e)) = QuestionFaultAt (octets_of old) (position old) (fault_of e) × (position new ≡ position old)
 PassesQuestion old new None = position new ≡ position old
 
--- what a call of `next` answers, and where that leaves the cursor
+-- what a call of `next` returns, and the cursor after it
 pub record GivesNext (old : QuestionSection) (result : Option (Result (Question ParsedName) ParseError)) (new : QuestionSection) : Type 0 where
   pub steps : YieldsFirstBy question_answer questions_left old result new
   pub passes : PassesQuestion old new result
   pub counts : CountsDown (to_come old) (to_come new) result
   pub octets : octets_of new ≡ octets_of old
 
--- a cursor over the question section of these octets, with all of its questions to come
+-- a cursor at the start of the question section of `b`, with all of its questions to come
 pub record BeginsQuestions (b : List ℕ) (section : QuestionSection) : Type 0 where
   pub octets : octets_of section ≡ b
   pub start : position section ≡ header_size

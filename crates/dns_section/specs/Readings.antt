@@ -1,4 +1,4 @@
--- Each section of all octets has one reading, and one start or one fault. RFC 1035 section 4.1.
+-- In all octets each section has one reading, and one start or one fault. RFC 1035 section 4.1.
 use Rattle.std.specs.Prelude.{◌≡◌, ℕ, suc, ◌≤◌, ◌⊎◌, List, [], ◌∷◌, ◌++◌, length, Result, Ok, Err}
 use Rattle.dns_name.specs.Names.{Fault, EndsOrFaults}
 use Rattle.dns_question.specs.Questions.{SkipsQuestion, ReadsQuestion, QuestionFaultAt, QuestionSkipFaultAt}
@@ -6,20 +6,20 @@ use Rattle.dns_item.specs.Items.{SkipsRecord, ReadsRecord, RecordFaultAt, Record
 use Rattle.dns_section.specs.Reading.{Passed, StopsPassing, Reading}
 use Rattle.dns_section.specs.Sections.{AnswersStart, AuthoritiesStart, AdditionalsStart, AnswersFault, AuthoritiesFault, AdditionalsFault}
 
--- from each place on there is a reading of at most so many entries, and no other
+-- from each offset there is exactly one reading of at most n entries
 pub record OneReading {X : Type 0} (Reads : ℕ → ℕ → X → Type 0) (FaultOf : ℕ → Fault → Type 0) : Type 0 where
   pub some : (n p : ℕ) → (xs : List (Result X Fault)) × Reading Reads FaultOf n p xs
   pub one : (n p : ℕ) (xs ys : List (Result X Fault)) → Reading Reads FaultOf n p xs → Reading Reads FaultOf n p ys → xs ≡ ys
 
--- so for questions
+-- there is exactly one reading of questions
 abbrev pub OneReadingOfQuestions : Type 0
 OneReadingOfQuestions = (b : List ℕ) → OneReading (ReadsQuestion b) (QuestionFaultAt b)
 
--- and for records
+-- there is exactly one reading of records
 abbrev pub OneReadingOfRecords : Type 0
 OneReadingOfRecords = (b : List ℕ) → OneReading (ReadsRecord b) (RecordFaultAt b)
 
--- These lists are readings, and every reading is one of them. So each begins with an entry that can be read, or is a fault alone.
+-- `from n p` is the one reading of at most n entries from offset p. It is empty if n is 0; else it begins with an entry that can be read, or is a fault alone.
 pub record AreReadings {X : Type 0} (Reads : ℕ → ℕ → X → Type 0) (FaultOf : ℕ → Fault → Type 0) (from : ℕ → ℕ → List (Result X Fault)) : Type 0 where
   pub reading : (n p : ℕ) → Reading Reads FaultOf n p (from n p)
   pub only : (n p : ℕ) (xs : List (Result X Fault)) → Reading Reads FaultOf n p xs → from n p ≡ xs
@@ -27,41 +27,41 @@ pub record AreReadings {X : Type 0} (Reads : ℕ → ℕ → X → Type 0) (Faul
   pub entry : (n p q : ℕ) (x : X) → Reads p q x → from (suc n) p ≡ Ok x ∷ from n q
   pub stop : (n p : ℕ) (f : Fault) → FaultOf p f → from (suc n) p ≡ Err f ∷ []
 
--- a reading has at most as many items as are asked for, and a fault is the last of them
+-- a reading of at most n entries has at most n items, and a fault is its last item
 pub record ReadingsEnd {X : Type 0} (Reads : ℕ → ℕ → X → Type 0) (FaultOf : ℕ → Fault → Type 0) : Type 0 where
   pub short : (n p : ℕ) (xs : List (Result X Fault)) → Reading Reads FaultOf n p xs → length xs ≤ n
   pub last : (n p : ℕ) (xs before behind : List (Result X Fault)) (f : Fault) → Reading Reads FaultOf n p xs → xs ≡ before ++ Err f ∷ behind → behind ≡ []
 
--- so for questions
+-- `ReadingsEnd` for questions
 abbrev pub ReadingsOfQuestionsEnd : Type 0
 ReadingsOfQuestionsEnd = (b : List ℕ) → ReadingsEnd (ReadsQuestion b) (QuestionFaultAt b)
 
--- and for records
+-- `ReadingsEnd` for records
 abbrev pub ReadingsOfRecordsEnd : Type 0
 ReadingsOfRecordsEnd = (b : List ℕ) → ReadingsEnd (ReadsRecord b) (RecordFaultAt b)
 
--- From each place on, so many questions are passed to exactly one end, or one of them stops passing with exactly one fault, and never both.
+-- From each offset, n questions are skipped to exactly one end, or one of them can't be skipped, with exactly one fault; never both.
 abbrev pub QuestionsPassOrStop : Type 0
 QuestionsPassOrStop = (b : List ℕ) (n : ℕ) → EndsOrFaults (Passed (SkipsQuestion b) n) (StopsPassing (SkipsQuestion b) (QuestionSkipFaultAt b) n)
 
--- so for records
+-- From each offset, n records are skipped to exactly one end, or one of them can't be skipped, with exactly one fault; never both.
 abbrev pub RecordsPassOrStop : Type 0
 RecordsPassOrStop = (b : List ℕ) (n : ℕ) → EndsOrFaults (Passed (SkipsRecord b) n) (StopsPassing (SkipsRecord b) (RecordSkipFaultAt b) n)
 
--- each section starts at one place at most
+-- each section starts at one offset at most
 pub record OneStart : Type 0 where
   pub answers : (b : List ℕ) (p q : ℕ) → AnswersStart b p → AnswersStart b q → p ≡ q
   pub authorities : (b : List ℕ) (p q : ℕ) → AuthoritiesStart b p → AuthoritiesStart b q → p ≡ q
   pub additionals : (b : List ℕ) (p q : ℕ) → AdditionalsStart b p → AdditionalsStart b q → p ≡ q
 
--- there is one start, or one fault, and never both
+-- there is exactly one start or exactly one fault, never both
 pub record StartsOrFaults (Start : ℕ → Type 0) (FaultOf : Fault → Type 0) : Type 0 where
   pub some : ((p : ℕ) × Start p) ⊎ ((f : Fault) × FaultOf f)
   pub one : (p q : ℕ) → Start p → Start q → p ≡ q
   pub not_both : (p : ℕ) (f : Fault) → Start p → FaultOf f → ⊥
   pub one_fault : (f g : Fault) → FaultOf f → FaultOf g → f ≡ g
 
--- so for each section
+-- each section has exactly one start or exactly one fault
 pub record StartOrFault : Type 0 where
   pub answers : (b : List ℕ) → StartsOrFaults (AnswersStart b) (AnswersFault b)
   pub authorities : (b : List ℕ) → StartsOrFaults (AuthoritiesStart b) (AuthoritiesFault b)

@@ -1,4 +1,4 @@
--- What an iterator over the records that a data type takes has before it. RFC 1035 section 4.1.3.
+-- What an iterator over the records that a data type accepts has left. RFC 1035 section 4.1.3.
 use Rattle.std.specs.Iterator.{YieldsFirstBy}
 use Rattle.std.specs.Prelude.{◌≡◌, ℕ, Bool, List, Option, Result}
 use Rattle.dns_octets.specs.declared.error.ParseError.{ParseError}
@@ -20,15 +20,15 @@ use Rattle.dns_section.specs.declared.record_section.RecordSection.{RecordSectio
 abbrev pub cursor_of : {D : Type 0} → RecordIter D → RecordSection
 cursor_of it = it.cursor
 
--- whether only records of class IN are taken
+-- whether only records of class IN are yielded
 abbrev pub takes_in_only : {D : Type 0} → RecordIter D → Bool
 takes_in_only it = it.in_only
 
--- what is left to be given, by how the data type lays out each record type
+-- what is left to yield, by the layout that the data type gives the record types it accepts
 abbrev pub typed_left : {D : Type 0} → (ℕ → Option Layout) → RecordIter D → List (Result RecordItem Fault)
 typed_left layouts it = limited_by layouts (takes_in_only it) (records_left (cursor_of it))
 
--- what a call of `next` answers, and where that leaves the iterator
+-- what a call of `next` returns, and the iterator after it
 pub record GivesNext {D : Type 0} (rtype_of : D → ℕ) (parts_of : D → List Part) (layouts : ℕ → Option Layout) (old : RecordIter D) (result : Option (Result (Record ParsedName D) ParseError)) (new : RecordIter D) : Type 0 where
   pub steps : YieldsFirstBy (typed_answer rtype_of parts_of) (typed_left layouts) old result new
   pub moves : PassesTo (typed_answer rtype_of parts_of) (limited_by layouts (takes_in_only old)) (cursor_of old) (cursor_of new) result

@@ -5,16 +5,16 @@ use Rattle.dns_name.specs.Names.{Fault}
 use Rattle.dns_name.specs.NameOrders.{names_equal}
 use Rattle.dns_question.specs.Questions.{QuestionItem}
 
--- questions are the same: their names up to ASCII case, their types and their classes
+-- whether two questions have equal names, ignoring ASCII case, equal types and equal classes
 abbrev pub same_question : QuestionItem → QuestionItem → Bool
 same_question x y = names_equal x.name y.name && (x.rtype == y.rtype) && (x.class == y.class)
 
--- items of two readings are the same questions; a fault is the same as nothing
+-- whether two items are the same question; a fault is never the same
 abbrev pub same_item : Result QuestionItem Fault → Result QuestionItem Fault → Bool
 same_item (Ok x) (Ok y) = same_question x y
 same_item (Ok x) (Err g) = false
 same_item (Err f) y = false
 
--- two readings have no fault, and the same questions in order
+-- whether two readings have no fault and the same questions in order
 abbrev pub same_readings : List (Result QuestionItem Fault) → List (Result QuestionItem Fault) → Bool
 same_readings = pointwise same_item

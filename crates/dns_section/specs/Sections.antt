@@ -1,6 +1,6 @@
 -- The sections of a message: how many entries each has, where it starts, and what reading it gives. RFC 1035 sections 4.1 and 4.1.1.
 --
--- `b` are the octets of the message.
+-- `b` is the octets of the message.
 use Rattle.std.specs.Prelude.{ℕ, ◌⊎◌, List, Option, Some, None, Result}
 use Rattle.std.specs.Int.{w16}
 use Rattle.dns_name.specs.Names.{Fault}
@@ -12,7 +12,7 @@ use Rattle.dns_section.specs.Reading.{Passed, StopsPassing, Reading}
 use Rattle.dns_section.specs.declared.section.Section.{Section}
 use Rattle.dns_section.specs.declared.section.Section.TheVariants.{Answer, Authority, Additional}
 
--- the counts of the header section
+-- QDCOUNT, ANCOUNT, NSCOUNT and ARCOUNT of the header section
 abbrev pub question_count : List ℕ → ℕ
 question_count b = number_at w16 b 4
 
@@ -25,7 +25,7 @@ authority_count b = number_at w16 b 8
 abbrev pub additional_count : List ℕ → ℕ
 additional_count b = number_at w16 b 10
 
--- each section behind the first starts at a place, where all entries of those before it can be skipped
+-- a section of records starts at p: all entries of the sections before it can be skipped, and p follows them
 abbrev pub AnswersStart : List ℕ → ℕ → Type 0
 AnswersStart b p = Passed (SkipsQuestion b) (question_count b) header_size p
 
@@ -35,7 +35,7 @@ AuthoritiesStart b p = (before : ℕ) × AnswersStart b before × Passed (SkipsR
 abbrev pub AdditionalsStart : List ℕ → ℕ → Type 0
 AdditionalsStart b p = (before : ℕ) × AuthoritiesStart b before × Passed (SkipsRecord b) (authority_count b) before p
 
--- Where an entry of a section can't be skipped, no section behind that one has a start. This is the fault of the first such entry.
+-- a section of records has no start: an entry of a section before it can't be skipped, and this is the fault of the first such entry
 abbrev pub AnswersFault : List ℕ → Fault → Type 0
 AnswersFault b f = StopsPassing (SkipsQuestion b) (QuestionSkipFaultAt b) (question_count b) header_size f
 
@@ -47,7 +47,7 @@ abbrev pub AdditionalsFault : List ℕ → Fault → Type 0
 AdditionalsFault b f =
     AuthoritiesFault b f ⊎ ((before : ℕ) × AuthoritiesStart b before × StopsPassing (SkipsRecord b) (RecordSkipFaultAt b) (authority_count b) before f)
 
--- of a section of records: its count, where it starts, the fault where it has no start, and the section behind it
+-- for a section of records: its count, the offset where it starts, the fault if it has no start, and the section after it
 abbrev pub record_count : Section → List ℕ → ℕ
 record_count Answer b = answer_count b
 record_count Authority b = authority_count b
@@ -68,10 +68,10 @@ section_behind Answer = Some Authority
 section_behind Authority = Some Additional
 section_behind Additional = None
 
--- the reading of at most so many questions from a place on
+-- the reading of at most n questions from offset p
 abbrev pub ReadingQuestions : List ℕ → ℕ → ℕ → List (Result QuestionItem Fault) → Type 0
 ReadingQuestions b n p xs = Reading (ReadsQuestion b) (QuestionFaultAt b) n p xs
 
--- the reading of at most so many records from a place on
+-- the reading of at most n records from offset p
 abbrev pub ReadingRecords : List ℕ → ℕ → ℕ → List (Result RecordEntry Fault) → Type 0
 ReadingRecords b n p xs = Reading (ReadsRecord b) (RecordFaultAt b) n p xs

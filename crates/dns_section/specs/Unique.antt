@@ -1,4 +1,4 @@
--- That each section has one reading. RFC 1035 section 4.1. It stands here since the list that is the reading is taken from it.
+-- Each section has exactly one reading. RFC 1035 section 4.1. The proof is in `specs` because `questions_from` and `records_from` take their list from it.
 use Rattle.std.proofs.Common.{◌≡◌, ℕ, zero, suc, ◌⊎◌, inl, inr, List, [], ◌∷◌, ap, sym, ◌∙◌, refl, subst}
 use Rattle.std.specs.Prelude.{Result, Ok, Err}
 use Rattle.dns_name.specs.Names.{Fault, ReadsOrFaults}
@@ -19,7 +19,7 @@ module _ {X : Type 0} (Reads : ℕ → ℕ → X → Type 0) (FaultOf : ℕ → 
         | inr a ↦ (Err a.0 ∷ [], stop a.1)
       ]
 
-  -- what a reading is, by how many entries there may be
+  -- what a reading is, by the number n of entries that it may have
   abbrev Parts : ℕ → ℕ → List (Result X Fault) → Type 0
   Parts zero p xs = xs ≡ []
   Parts (suc n) p xs =

@@ -14,10 +14,10 @@ use dns_wire::{ParseError, ParsedName};
 use std::alloc::AllocError;
 use std::marker::PhantomData;
 
-/// An iterator over all records of a section, read with their data (RFC 1035 section 4.1.3).
+/// An iterator over all records of a section, with RDATA parsed (RFC 1035 section 4.1.3).
 ///
-/// Data that can't be read is answered by an error, and the iterator goes on behind it; a record that can't be read is
-/// answered by an error, and then there are no more.
+/// For malformed RDATA it yields an error and continues with the next record. For a record that
+/// can't be read it yields an error and then ends.
 #[derive(Drop)]
 #[derive_where(Debug)]
 pub struct AnyRecordIter<'a, D> {
@@ -26,7 +26,7 @@ pub struct AnyRecordIter<'a, D> {
 }
 
 impl<'a> RecordSection<'a> {
-    /// The records before this cursor, read with their data.
+    /// The remaining records of this cursor, with RDATA parsed as `D`.
     pub fn into_records<D: ParseAnyRecordData<'a>>(self) -> AnyRecordIter<'a, D>
         ensures cursor { cursor_of result ≡ self.entry }
         ensures left { typed_left D.any_layout result
@@ -40,14 +40,14 @@ impl<'a> RecordSection<'a> {
 }
 
 impl<'a, D> AnyRecordIter<'a, D> {
-    /// The cursor, behind the last record that was given.
+    /// The cursor, after the last record that was yielded.
     pub fn unwrap(self) -> RecordSection<'a>
         ensures { result ≡ cursor_of self.entry }
     {
         self.cursor
     }
 
-    /// The next section, as `RecordSection::next_section` answers of the cursor.
+    /// The next section, as `RecordSection::next_section` of the cursor returns it.
     pub fn next_section(self) -> Result<Option<RecordSection<'a>>, ParseError>
         ensures { MovesOn (cursor_of self.entry) result }
     {
@@ -56,10 +56,10 @@ impl<'a, D> AnyRecordIter<'a, D> {
 }
 
 impl<'a, D: ParseAnyRecordData<'a> + Drop> AnyRecordIter<'a, D> {
-    /// The next record, or the error of its data; or the error of the first record that can't be read, after which there
-    /// are no more.
+    /// The next record, or the error in its RDATA. If the record itself can't be read, its error;
+    /// the iterator then ends.
     ///
-    /// The cursor is then behind what was given, and nothing behind that was read.
+    /// The cursor is then after the record that was yielded, and no later record has been read.
     pub fn next(&mut self) -> Option<Result<Record<ParsedName<'a>, D>, ParseError>>
         ensures steps { YieldsFirstBy (typed_answer D.rtype_of D.parts) (typed_left D.any_layout)
             self.old result self.new }
@@ -77,7 +77,7 @@ impl<'a, D: ParseAnyRecordData<'a> + Drop> AnyRecordIter<'a, D> {
     }
 }
 
-/// A clone goes on where the iterator stands. There always is one.
+/// The clone continues at the same record. Cloning never fails.
 impl<'a, D> Clone for AnyRecordIter<'a, D> {
     ghost use Rattle.std.specs.Bool.{⊤};
 
@@ -93,7 +93,7 @@ impl<'a, D> Clone for AnyRecordIter<'a, D> {
     }
 }
 
-/// As the method `next`.
+/// The same as the method `next`.
 impl<'a, D: ParseAnyRecordData<'a> + Drop> Iterator for AnyRecordIter<'a, D> {
     type Item = Result<Record<ParsedName<'a>, D>, ParseError>;
 

@@ -1,8 +1,9 @@
-//! The sections of a message, read by cursors: the questions and records in them, one after another.
+//! Cursors over the sections of a message: its questions and records, in order.
 //!
-//! A cursor promises that it gives the questions or records that can be read in a row, at most as many as the header says, and
-//! the fault of the first that can't be read (RFC 1035 section 4.1); that the next section starts behind the entries that are
-//! left and can be skipped, or has one fault; and that of all octets there is exactly one such reading, start or fault.
+//! A cursor yields consecutive readable entries, at most as many as the header's count, and then
+//! the error of the first entry that can't be read (RFC 1035 section 4.1). The next section starts
+//! after the remaining entries, which are skipped, or has one error. For all octets there is
+//! exactly one such reading, and exactly one such start or error.
 #![tactic(auto)]
 
 mod any_record_iter;

@@ -15,14 +15,14 @@ use dns_wire::{ParseError, ParsedName, Parser};
 
 /// A cursor over the questions of a message (RFC 1035 section 4.1.2).
 ///
-/// It gives the questions in a row, at most as many as the header says. The first that can't be read is answered by one
-/// error, and then there are no more.
+/// It yields consecutive questions, at most as many as QDCOUNT. For the first that can't be read it
+/// yields an error and then ends.
 #[derive(Clone, Copy, Debug)]
 pub struct QuestionSection<'a> {
     parser: Parser<'a>,
-    /// How many questions may still come, or the error that was given.
+    /// The count of questions that may still come, or the error that was yielded.
     left: Result<u16, ParseError>,
-    /// The name of the last question that was given, if there is one: owners may lead there.
+    /// A cached name: that of the last question yielded, if any. Owner names may point to it.
     near: NearName,
     ghost long: { header_size ≤ length (input parser) },
     ghost whole: { seen parser ≡ input parser },
@@ -36,7 +36,7 @@ impl<'a> QuestionSection<'a> {
     ghost use Rattle.dns_section.specs.RecordSection.{MovesToAnswers};
     ghost use Rattle.dns_section.specs.Skipping.{CountsDown};
 
-    /// The question section of a message of these octets.
+    /// The question section of a message with these octets.
     pub(crate) fn new(octets: &'a [u8]) -> Self
         requires { header_size ≤ length octets.now }
         ensures octets { octets_of result ≡ octets.now }
@@ -54,16 +54,18 @@ impl<'a> QuestionSection<'a> {
         }
     }
 
-    /// The place behind the questions that were given, counted in octets from the start of the message.
+    /// The offset after the questions that were yielded, in octets from the start of the message.
     pub fn pos(&self) -> usize
         ensures { result ≡ position self.now }
     {
         self.parser.pos()
     }
 
-    /// The next question, or the error of the first that can't be read. After that there are no more.
+    /// The next question, or the error of the first that can't be read, after which the cursor
+    /// ends.
     ///
-    /// The cursor is then behind the question. At one that can't be read, and at the end, it stays.
+    /// The cursor is then after the question. It doesn't move at a question that can't be read, nor
+    /// at the end.
     pub fn next(&mut self) -> Option<Result<Question<ParsedName<'a>>, ParseError>>
         ensures steps { YieldsFirstBy question_answer questions_left self.old result self.new }
         ensures passes { PassesQuestion self.old self.new result }
@@ -85,10 +87,10 @@ impl<'a> QuestionSection<'a> {
         }
     }
 
-    /// The answer section, behind the questions that are left.
+    /// The answer section, which begins after the remaining questions.
     ///
-    /// The questions that are left are skipped, so they need not be readable. The fault of the first that can't be skipped
-    /// is answered; and where the cursor gave an error, the same error again.
+    /// The remaining questions are skipped, so they need not be readable. Returns the error of the
+    /// first that can't be skipped, or again the error that the cursor yielded, if any.
     pub fn answer(self) -> Result<RecordSection<'a>, ParseError>
         ensures { MovesToAnswers self.entry result }
     {
@@ -97,7 +99,7 @@ impl<'a> QuestionSection<'a> {
         Ok(RecordSection::at(Section::Answer, parser, self.near))
     }
 
-    /// As `answer`.
+    /// The same as `answer`.
     pub fn next_section(self) -> Result<RecordSection<'a>, ParseError>
         ensures { MovesToAnswers self.entry result }
     {
@@ -105,7 +107,7 @@ impl<'a> QuestionSection<'a> {
     }
 }
 
-/// Passes so many questions.
+/// Skips `count` questions.
 fn skip_questions(parser: &mut Parser<'_>, count: u16) -> Result<(), ParseError>
     ensures { SkipsAll (SkipsQuestion (seen parser.old)) (QuestionSkipFaultAt (seen parser.old))
         count parser.old parser.new result }
@@ -116,7 +118,7 @@ fn skip_questions(parser: &mut Parser<'_>, count: u16) -> Result<(), ParseError>
     Ok(())
 }
 
-/// As the method `next`.
+/// The same as the method `next`.
 impl<'a> Iterator for QuestionSection<'a> {
     ghost use Rattle.std.specs.Iterator.{item_count};
     ghost use Rattle.dns_section.specs.QuestionSection.{questions_left, GivesNext};

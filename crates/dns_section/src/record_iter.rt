@@ -18,21 +18,22 @@ use dns_wire::{ParseError, ParsedName};
 use std::alloc::AllocError;
 use std::marker::PhantomData;
 
-/// An iterator over the records of a section that a data type takes, read with their data (RFC 1035 section 4.1.3).
+/// An iterator over the records of a section whose type `D` accepts, with RDATA parsed (RFC 1035
+/// section 4.1.3).
 ///
-/// Records of types that it doesn't take are passed over. Data that can't be read is answered by an error, and the
-/// iterator goes on behind it; a record that can't be read is answered by an error, and then there are no more.
+/// It skips records of other types. For malformed RDATA it yields an error and continues with the
+/// next record. For a record that can't be read it yields an error and then ends.
 #[derive(Drop)]
 #[derive_where(Debug)]
 pub struct RecordIter<'a, D> {
     cursor: RecordSection<'a>,
-    /// Whether records of other classes than IN are passed over too.
+    /// Whether records of classes other than IN are skipped too.
     in_only: bool,
     marker: PhantomData<D>,
 }
 
 impl<'a> RecordSection<'a> {
-    /// The records before this cursor that the data type takes, read with their data.
+    /// The remaining records whose type `D` accepts, with RDATA parsed.
     pub fn limit_to<D: ParseRecordData<'a>>(self) -> RecordIter<'a, D>
         ensures cursor { cursor_of result ≡ self.entry }
         ensures classes { takes_in_only result ≡ false }
@@ -45,8 +46,8 @@ impl<'a> RecordSection<'a> {
         }
     }
 
-    /// The records of class IN before this cursor that the data type takes, read with their data. The data of a record
-    /// of another class isn't read.
+    /// The remaining records of class IN whose type `D` accepts, with RDATA parsed. The RDATA of
+    /// records of other classes isn't read.
     pub fn limit_to_in<D: ParseRecordData<'a>>(self) -> RecordIter<'a, D>
         ensures cursor { cursor_of result ≡ self.entry }
         ensures classes { takes_in_only result ≡ true }
@@ -62,14 +63,14 @@ impl<'a> RecordSection<'a> {
 }
 
 impl<'a, D> RecordIter<'a, D> {
-    /// The cursor over all records, behind the last that was given.
+    /// The cursor over all records, after the last record that was yielded.
     pub fn unwrap(self) -> RecordSection<'a>
         ensures { result ≡ cursor_of self.entry }
     {
         self.cursor
     }
 
-    /// The next section, as `RecordSection::next_section` answers of the cursor.
+    /// The next section, as `RecordSection::next_section` of the cursor returns it.
     pub fn next_section(self) -> Result<Option<RecordSection<'a>>, ParseError>
         ensures { MovesOn (cursor_of self.entry) result }
     {
@@ -78,10 +79,10 @@ impl<'a, D> RecordIter<'a, D> {
 }
 
 impl<'a, D: ParseRecordData<'a> + Drop> RecordIter<'a, D> {
-    /// The next record that the data type takes, or the error of its data; or the error of the first record that can't be
-    /// read, after which there are no more.
+    /// The next record whose type `D` accepts, or the error in its RDATA. If a record itself can't
+    /// be read, its error; the iterator then ends.
     ///
-    /// The cursor is then behind what was given, and nothing behind that was read.
+    /// The cursor is then after the record that was yielded, and no later record has been read.
     pub fn next(&mut self) -> Option<Result<Record<ParsedName<'a>, D>, ParseError>>
         ensures steps { YieldsFirstBy (typed_answer D.rtype_of D.parts) (typed_left D.layout)
             self.old result self.new }
@@ -103,8 +104,9 @@ impl<'a, D: ParseRecordData<'a> + Drop> RecordIter<'a, D> {
     }
 }
 
-/// What a data type answers to what a cursor gave, `None` for a record that isn't taken. The data of a record of another
-/// class is not read where only class IN is taken.
+/// Parses the RDATA of the record that a cursor yielded. Returns `None` for a record whose type `D`
+/// doesn't accept. If `in_only`, returns `None` without reading the RDATA for a record of another
+/// class than IN.
 fn typed<'a, D: ParseRecordData<'a> + Drop>(
     item: Result<ParsedRecord<'a>, ParseError>,
     in_only: bool,
@@ -125,7 +127,7 @@ fn typed<'a, D: ParseRecordData<'a> + Drop>(
     }
 }
 
-/// A clone goes on where the iterator stands, in the same classes. There always is one.
+/// The clone continues at the same record, in the same classes. Cloning never fails.
 impl<'a, D> Clone for RecordIter<'a, D> {
     ghost use Rattle.std.specs.Bool.{⊤};
 
@@ -142,7 +144,7 @@ impl<'a, D> Clone for RecordIter<'a, D> {
     }
 }
 
-/// As the method `next`.
+/// The same as the method `next`.
 impl<'a, D: ParseRecordData<'a> + Drop> Iterator for RecordIter<'a, D> {
     type Item = Result<Record<ParsedName<'a>, D>, ParseError>;
 

@@ -13,16 +13,17 @@ use dns_wire::{ParseError, Parser};
 
 /// A cursor over the records of a section of a message (RFC 1035 section 4.1.3).
 ///
-/// It gives the records in a row, at most as many as the header says. The first that can't be read is answered by one
-/// error, and then there are no more.
+/// It yields consecutive records, at most as many as the section's count in the header. For the
+/// first that can't be read it yields an error and then ends.
 #[derive(Clone, Copy, Debug)]
 pub struct RecordSection<'a> {
     parser: Parser<'a>,
     section: Section,
-    /// How many records may still come, or the error that was given.
+    /// The count of records that may still come, or the error that was yielded.
     left: Result<u16, ParseError>,
-    /// The name where the first pointer of an owner led, of the last that had one, or else of the question, if it was read
-    /// on the way. The next owner may lead there too.
+    /// A cached name: where the first pointer of the last owner with a pointer led. Before the
+    /// first such owner of the answer section, it is the name of the last question yielded, if any.
+    /// The next owner may point to it too.
     near: NearName,
     ghost long: { header_size ≤ length (input parser) },
     ghost whole: { seen parser ≡ input parser },
@@ -34,7 +35,7 @@ impl<'a> RecordSection<'a> {
     ghost use Rattle.dns_section.specs.RecordSection.{octets_of, position, section_of, to_come, records_left, record_answer, PassesRecord, IsFresh, MovesOn};
     ghost use Rattle.dns_section.specs.Skipping.{CountsDown};
 
-    /// The section that begins at the parser's place, with all of its records to come.
+    /// The section that begins at the parser's offset, with all of its records to come.
     #[inline(always)]
     pub(crate) fn at(section: Section, parser: Parser<'a>, near: NearName) -> Self
         requires long { header_size ≤ length (input parser) }
@@ -57,7 +58,7 @@ impl<'a> RecordSection<'a> {
         }
     }
 
-    /// The place behind the records that were given, counted in octets from the start of the message.
+    /// The offset after the records that were yielded, in octets from the start of the message.
     pub fn pos(&self) -> usize
         ensures { result ≡ position self.now }
     {
@@ -71,9 +72,10 @@ impl<'a> RecordSection<'a> {
         self.section
     }
 
-    /// The next record, or the error of the first that can't be read. After that there are no more.
+    /// The next record, or the error of the first that can't be read, after which the cursor ends.
     ///
-    /// The cursor is then behind the record. At one that can't be read, and at the end, it stays.
+    /// The cursor is then after the record. It doesn't move at a record that can't be read, nor at
+    /// the end.
     #[inline(always)]
     pub fn next(&mut self) -> Option<Result<ParsedRecord<'a>, ParseError>>
         ensures steps { YieldsFirstBy record_answer records_left self.old result self.new }
@@ -95,10 +97,12 @@ impl<'a> RecordSection<'a> {
         }
     }
 
-    /// The next section, behind the records that are left, or `None` behind the additional section.
+    /// The next section, which begins after the remaining records, or `None` after the additional
+    /// section.
     ///
-    /// The records that are left are skipped, so they need not be readable. The fault of the first that can't be skipped
-    /// is answered; and where the cursor gave an error, the same error again, save on the additional section.
+    /// The remaining records are skipped, so they need not be readable. Returns the error of the
+    /// first that can't be skipped, or again the error that the cursor yielded, if any. The
+    /// additional section returns `None` even after an error.
     #[inline(always)]
     pub fn next_section(self) -> Result<Option<RecordSection<'a>>, ParseError>
         ensures { MovesOn self.entry result }
@@ -112,7 +116,7 @@ impl<'a> RecordSection<'a> {
     }
 }
 
-/// Passes so many records.
+/// Skips `count` records.
 #[inline(always)]
 fn skip_records(parser: &mut Parser<'_>, count: u16) -> Result<(), ParseError>
     ensures { SkipsAll (SkipsRecord (seen parser.old)) (RecordSkipFaultAt (seen parser.old)) count
@@ -124,7 +128,7 @@ fn skip_records(parser: &mut Parser<'_>, count: u16) -> Result<(), ParseError>
     Ok(())
 }
 
-/// As the method `next`.
+/// The same as the method `next`.
 impl<'a> Iterator for RecordSection<'a> {
     ghost use Rattle.std.specs.Iterator.{item_count};
     ghost use Rattle.dns_section.specs.RecordSection.{records_left, GivesNext};

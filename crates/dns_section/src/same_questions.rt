@@ -1,4 +1,4 @@
-//! Whether the questions before two cursors are the same (RFC 1035 section 4.1.2).
+//! Whether the remaining questions of two cursors are the same (RFC 1035 section 4.1.2).
 ghost use Rattle.std.specs.Prelude.{◌≡◌};
 ghost use Rattle.dns_section.specs.QuestionSection.{question_answer, questions_left};
 ghost use Rattle.dns_section.specs.SameQuestions.{same_item, same_readings};
@@ -8,9 +8,11 @@ use dns_item::Question;
 use dns_wire::{ParseError, ParsedName};
 
 impl QuestionSection<'_> {
-    /// Whether this cursor and another have the same questions before them, in order, and no fault.
+    /// Whether this cursor and another have the same remaining questions, in order and without an
+    /// error.
     ///
-    /// Questions are the same where their names are equal up to ASCII case, and their types and classes are.
+    /// Two questions are the same if their types and classes are equal and their names are,
+    /// ignoring ASCII case.
     pub fn same_questions(&self, other: &QuestionSection<'_>) -> bool
         ensures { result ≡ same_readings (questions_left self.now) (questions_left other.now) }
     {
@@ -28,7 +30,7 @@ impl QuestionSection<'_> {
     }
 }
 
-/// Whether both answers are the same question.
+/// Whether both results are the same question.
 fn same_answers(
     answer: Result<Question<ParsedName<'_>>, ParseError>,
     other: Result<Question<ParsedName<'_>>, ParseError>,

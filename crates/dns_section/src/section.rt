@@ -1,13 +1,13 @@
 ghost use Rattle.std.specs.Prelude.{◌≡◌};
 
-/// A section of records (RFC 1035 section 4.1). They stand in this order.
+/// A section of records, in the order of a message (RFC 1035 section 4.1).
 #[derive(Clone, Copy, Debug, PartialEq, Eq, PartialOrd)]
 pub enum Section {
-    /// The records that answer the question.
+    /// Records that answer the question.
     Answer,
-    /// The records that point to an authority.
+    /// Records that point to an authoritative name server.
     Authority,
-    /// The records that hold more information.
+    /// Records with additional information.
     Additional,
 }
 
@@ -22,7 +22,7 @@ impl Section {
         Section::Answer
     }
 
-    /// The section behind this one, or `None` behind the additional section.
+    /// The section after this one, or `None` after the additional section.
     pub(crate) fn next(self) -> Option<Section>
         ensures { result ≡ section_behind self }
     {

@@ -1,4 +1,4 @@
-//! Where a message calls for a section that it has.
+//! The first section of a message, and the section after one that isn't the last.
 ghost use Rattle.std.specs.Prelude.{◌≡◌, ◌≢◌, ◌≤◌, length, Ok};
 ghost use Rattle.dns_code.specs.HeaderSection.{header_size};
 ghost use Rattle.dns_section.specs.QuestionSection.{octets_of, position, to_come, questions_left};
@@ -11,7 +11,7 @@ use crate::question_section::QuestionSection;
 use crate::record_section::RecordSection;
 use dns_wire::ParseError;
 
-/// The question section of a message of these octets, which are twelve or more.
+/// The question section of a message with these octets, at least 12.
 #[inline(always)]
 pub fn first_section<'a>(octets: &'a [u8]) -> QuestionSection<'a>
     requires { header_size ≤ length octets.now }
@@ -24,7 +24,7 @@ pub fn first_section<'a>(octets: &'a [u8]) -> QuestionSection<'a>
     QuestionSection::new(octets)
 }
 
-/// The next section of one that isn't the last.
+/// The section after one that isn't the additional section.
 #[inline(always)]
 pub fn following<'a>(section: RecordSection<'a>) -> Result<RecordSection<'a>, ParseError>
     requires { section_of section ≢ Additional }
