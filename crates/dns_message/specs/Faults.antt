@@ -1,4 +1,4 @@
--- How the program ends early: with which status, and which line it prints.
+-- How the program ends early: its exit status, and the line that it prints.
 use Rattle.std.specs.Prelude.{ℕ, List, [], ◌∷◌, ◌++◌, codes, decimal}
 use Rattle.dns_message.specs.declared.fault.Fault.{Fault}
 use Rattle.dns_message.specs.declared.fault.Fault.TheVariants.{Usage, BadLine, BadHex, ShortMessage, Failed}
@@ -10,7 +10,7 @@ status_of ShortMessage = 1
 status_of Usage = 2
 status_of Failed = 3
 
--- the line, with its line feed
+-- the line that reports a fault, with its line feed
 abbrev pub fault_line : Fault → List ℕ
 fault_line (BadLine n) = codes "bad line " ++ decimal n ++ 10 ∷ []
 fault_line BadHex = codes "bad hex" ++ 10 ∷ []

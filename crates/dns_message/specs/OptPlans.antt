@@ -1,4 +1,4 @@
--- What an OPT builder has gathered once a plan is carried out. RFC 6891 sections 6.1.2 and 6.1.3.
+-- What an OPT builder has gathered after a plan was carried out. RFC 6891 sections 6.1.2 and 6.1.3.
 use Rattle.std.specs.Prelude.{◌≡◌, ◌⊎◌, ℕ, ◌+◌, ◌<◌, ◌≤◌, List, [], ◌∷◌, ◌++◌, length, map, Option, Some, None, Result, Ok, Err, OnOk}
 use Rattle.dns_octets.specs.declared.error.AppendError.{AppendError}
 use Rattle.dns_octets.specs.declared.error.AppendError.TheVariants.{ShortBuf, OutOfMemory}
@@ -9,7 +9,7 @@ use Rattle.dns_opt_builder.specs.Gathered.{Gathered, gathered, nothing_gathered,
 use Rattle.dns_opt_builder.specs.declared.builder.OptBuilder.{OptBuilder}
 use Rattle.dns_message.specs.declared.opt_plan.OptPlan.{OptPlan}
 
--- with an rcode, if there is one
+-- with this extended RCODE, if there is one
 abbrev pub with_any_rcode : Option ℕ → Gathered → Gathered
 with_any_rcode None g = g
 with_any_rcode (Some rcode) g = with_rcode rcode g
@@ -20,7 +20,7 @@ with_fields plan g = let h = with_any_rcode plan.rcode g in record h {
   fields = record h.fields { udp_payload_size = plan.udp_payload_size; version = plan.version; dnssec_ok = plan.dnssec_ok };
 }
 
--- with options behind those that there are
+-- with more options after those gathered
 abbrev pub with_options : List OptionItem → Gathered → Gathered
 with_options xs g = record g { options = g.options ++ xs }
 
@@ -28,25 +28,25 @@ with_options xs g = record g { options = g.options ++ xs }
 abbrev pub planned_options : OptPlan → List OptionItem
 planned_options plan = map option_of plan.options.items
 
--- with all that a plan asks for
+-- with the fields and options of a plan
 abbrev pub planned : OptPlan → Gathered → Gathered
 planned plan g = with_options (planned_options plan) (with_fields plan g)
 
--- what a plan gathers on a fresh builder beside a header
+-- what a plan gathers on a new builder, for this header
 abbrev pub planned_beside : Header → OptPlan → Gathered
 planned_beside header plan = planned plan (nothing_gathered header)
 
--- Options are added one after the other behind so many octets. One with which they would take more than 65,535 octets is refused as short, another only for memory, and the first refusal is the answer.
+-- The result of adding options in order, when those already gathered take n octets. An option fails with `ShortBuf` if all would then take more than 65,535 octets; any other fails only with `OutOfMemory`. The first failure is the result.
 abbrev pub AddsAll : ℕ → List OptionItem → Result (Unit {0}) AppendError → Type 0
 AddsAll n [] answer = answer ≡ Ok tt
 AddsAll n (x ∷ xs) answer = let m = n + 4 + length x.octets in
     ((65535 < m) × (answer ≡ Err ShortBuf)) ⊎ ((m ≤ 65535) × ((answer ≡ Err OutOfMemory) ⊎ AddsAll m xs answer))
 
--- how many octets the options take that were gathered
+-- the octets that the gathered options take
 abbrev pub gathered_size : Gathered → ℕ
 gathered_size g = length (put_options g.options)
 
--- a plan is carried out on a builder: done, all that it asks for is gathered, and the answer is that of its options
+-- a plan is carried out on a builder: on success everything in it is gathered, and the result is that of adding its options
 pub record CarriesOut (plan : OptPlan) (old new : OptBuilder) (answer : Result (Unit {0}) AppendError) : Type 0 where
   pub done : OnOk answer (gathered new ≡ planned plan (gathered old))
   pub adds : AddsAll (gathered_size (gathered old)) (planned_options plan) answer

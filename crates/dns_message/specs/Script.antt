@@ -1,4 +1,4 @@
--- What a list of calls makes of a builder, by the replies to them. RFC 1035 section 4.1.
+-- What a list of calls does to a builder, and the replies. RFC 1035 section 4.1.
 use Rattle.std.specs.Prelude.{◌≡◌, ℕ, Bool, true, false, Option, Result, Ok, Err, List, [], ◌∷◌, ◌++◌, length, ⊤}
 use Rattle.dns_octets.specs.declared.error.AppendError.{AppendError}
 use Rattle.dns_wire.specs.Pieces.{Rule}
@@ -19,7 +19,7 @@ use Rattle.dns_message.specs.declared.script.Call.TheVariants.{PushQuestion, Pus
 use Rattle.dns_message.specs.declared.script.Reply.{Reply}
 use Rattle.dns_message.specs.declared.script.Reply.TheVariants.{Done, Refused, Misplaced}
 
--- a stage stands for a state
+-- a stage represents a state
 abbrev pub StageStandsFor : {T : Type 0} → Rule → State → Stage T → Type 0
 StageStandsFor rule s (Builder b) = StandsFor InBuilder rule s b
 StageStandsFor rule s (Question b) = StandsFor InQuestion rule s b
@@ -27,7 +27,7 @@ StageStandsFor rule s (Answer b) = StandsFor InAnswer rule s b
 StageStandsFor rule s (Authority b) = StandsFor InAuthority rule s b
 StageStandsFor rule s (Additional b) = StandsFor InAdditional rule s b
 
--- what a contract sees of a stage's builder
+-- what a contract sees of the builder at a stage
 abbrev pub built_of : {T : Type 0} → Stage T → Built
 built_of (Builder b) = b
 built_of (Question b) = b
@@ -35,11 +35,11 @@ built_of (Answer b) = b
 built_of (Authority b) = b
 built_of (Additional b) = b
 
--- the octets of a stage
+-- the octets of the message at a stage
 abbrev pub octets_of : {T : Type 0} → Stage T → List ℕ
 octets_of stage = (built_of stage).written.octets
 
--- Whether a stage lacks a call: a push outside its sections, a rewind where there is no section, and one that sets TC where there is no record section. No stage lacks any other.
+-- Whether a stage lacks a call. A push exists only at the sections that take the item, `Rewind` only at a section, and `TcRewind` only at a record section. Every stage has all other calls.
 abbrev pub lacks : {Q R : Type 0} → state.Stage → Call Q R → Bool
 lacks InQuestion (PushQuestion x) = false
 lacks _ (PushQuestion x) = true
@@ -68,7 +68,7 @@ abbrev pub is_opt : {Q R : Type 0} → Call Q R → Bool
 is_opt (PushOpt plan) = true
 is_opt _ = false
 
--- Whether it does so where OPT records are pushed: at the additional section.
+-- Whether a call pushes an OPT record at the additional section, the only one that has this call.
 abbrev pub has_opt : {Q R : Type 0} → state.Stage → Call Q R → Bool
 has_opt InAdditional call = is_opt call
 has_opt _ call = false
@@ -81,7 +81,7 @@ is_setting ClearLimit = true
 is_setting _ = false
 
 module _ {Q R : Type 0} (question : Q → QuestionItem) (item : R → RecordItem) where
-  -- the state after a call, by the reply to it
+  -- the state after a call, by its reply
   abbrev pub after : State → Call Q R → Reply → State
   after s (PushQuestion x) Done = with_question (question x) s
   after s (PushRecord x) Done = with_record s.stage (item x) s
@@ -99,24 +99,24 @@ module _ {Q R : Type 0} (question : Q → QuestionItem) (item : R → RecordItem
   after s call (Refused error) = s
   after s call Misplaced = s
 
-  -- the state after a list of calls, by the replies to them
+  -- the state after a list of calls, by their replies
   abbrev pub after_all : State → List (Call Q R) → List Reply → State
   after_all s [] replies = s
   after_all s (call ∷ calls) [] = s
   after_all s (call ∷ calls) (reply ∷ replies) = after_all (after s call reply) calls replies
 
 module _ (room : Option ℕ) (grows : Bool) where
-  -- the reply to a push whose result is this
+  -- the reply to a push of which `Answers` says what its result is
   abbrev pub IsReplyBy : (Result (Unit {0}) PushError → Type 0) → Reply → Type 0
   IsReplyBy Answers Done = Answers (Ok tt)
   IsReplyBy Answers (Refused error) = Answers (Err error)
   IsReplyBy Answers Misplaced = ⊥
 
-  -- the reply to a push, after which the message would have n octets, where so many entries are counted
+  -- the reply to a push after which the message would have n octets, at a section that counts `count` entries
   abbrev pub IsPushReply : ℕ → ℕ → ℕ → Reply → Type 0
   IsPushReply limit n count = IsReplyBy (PushAnswers room grows limit n count)
 
-  -- the reply to a push of an OPT record: that of gathering its options where this is refused, else that of a push
+  -- the reply to the push of an OPT record: that of adding its options if this fails, else that of the push
   pub record IsOptReply (g : Gathered) (limit n count : ℕ) (reply : Reply) : Type 0 where
     pub gathering : Result (Unit {0}) AppendError
     pub adds : AddsAll 0 g.options gathering
@@ -131,7 +131,7 @@ module _ (room : Option ℕ) (grows : Bool) where
     IsAnswer s (PushOpt plan) reply = let g = planned_beside s.header plan in IsOptReply g s.limit (length (fold rule (with_record InAdditional (opt_record g) s)).octets) (length s.additionals) reply
     IsAnswer s call reply = reply ≡ Done
 
-    -- the reply to a call: `Misplaced` exactly where the stage lacks it
+    -- the reply to a call: `Misplaced` exactly if the stage lacks the call
     abbrev pub IsReplyWhere : Bool → State → Call Q R → Reply → Type 0
     IsReplyWhere true s call reply = reply ≡ Misplaced
     IsReplyWhere false s call reply = IsAnswer s call reply
@@ -139,32 +139,32 @@ module _ (room : Option ℕ) (grows : Bool) where
     abbrev pub IsReply : State → Call Q R → Reply → Type 0
     IsReply s call reply = IsReplyWhere (lacks s.stage call) s call reply
 
-    -- one reply to each call, each in the state that the call meets
+    -- one reply for each call, by the state that the call finds
     abbrev pub AreReplies : State → List (Call Q R) → List Reply → Type 0
     AreReplies s [] [] = ⊤
     AreReplies s (call ∷ calls) (reply ∷ replies) = IsReply s call reply × AreReplies (after question item s call reply) calls replies
     AreReplies s [] (reply ∷ replies) = ⊥
     AreReplies s (call ∷ calls) [] = ⊥
 
-    -- a step of a stage by a call, for each state that it stands for
+    -- a call takes one stage to another, for each state that the first represents
     abbrev pub Steps : {T : Type 0} → Stage T → Call Q R → Reply → Stage T → Type 0
     Steps old call reply new = (s : State) → StageStandsFor rule s old → IsReply s call reply × StageStandsFor rule (after question item s call reply) new
 
-    -- a step of a builder from its stage, for each state that it stands for
+    -- a call takes a builder at stage `from` to a new stage, for each state that the builder represents
     abbrev pub StepsFrom : {T : Type 0} → state.Stage → Built → Call Q R → Reply → Stage T → Type 0
     StepsFrom from old call reply new = (s : State) → StandsFor from rule s old → IsReply s call reply × StageStandsFor rule (after question item s call reply) new
 
-    -- a step of a builder that stays at its stage, for each state that it stands for
+    -- a call keeps a builder at its stage, for each state that the builder represents
     abbrev pub Stays : state.Stage → Built → Call Q R → Reply → Built → Type 0
     Stays at old call reply new = (s : State) → StandsFor at rule s old → IsReply s call reply × StandsFor at rule (after question item s call reply) new
 
-    -- The headline: from a state, through a list of calls, the replies are those of the calls one by one; the new stage stands for the state after them, and its octets are those of a message with that state's header and items.
+    -- The headline. From a state, through a list of calls: each call has its reply, the new stage represents the state after them, and its octets are those of a message with that state's header and items.
     pub record Runs {T : Type 0} (s : State) (calls : List (Call Q R)) (replies : List Reply) (new : Stage T) : Type 0 where
       pub replied : AreReplies s calls replies
       pub stands : StageStandsFor rule (after_all question item s calls replies) new
       pub message : IsMessageOf rule (after_all question item s calls replies) (octets_of new)
 
-    -- The calls are made in order on a stage, and behind the replies before stands one to each. From each state that the stage stands for, it runs so.
+    -- The calls are made in order on a stage, and one reply for each is appended to the replies before. This is a run from each state that the stage represents.
     pub record RunsAll {T : Type 0} (old : Stage T) (calls : List (Call Q R)) (before replies : List Reply) (new : Stage T) : Type 0 where
       pub told : List Reply
       pub appended : replies ≡ before ++ told

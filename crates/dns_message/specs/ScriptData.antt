@@ -1,4 +1,4 @@
--- The data of a record of a script, as a type and parts. RFC 1035 section 3.3.
+-- The RDATA of a record of a script, as a type and parts. RFC 1035 section 3.3.
 use Rattle.std.specs.Prelude.{ℕ, List, [], ◌∷◌}
 use Rattle.dns_name.specs.NameReading.{name_labels}
 use Rattle.dns_wire.specs.Parts.{Part}
@@ -18,7 +18,7 @@ rtype_of (variants.Cname alias) = 5
 rtype_of (variants.Soa zone) = 6
 rtype_of (variants.Opaque opaque) = unknown_rtype_of opaque
 
--- the parts
+-- the parts of the RDATA
 abbrev pub parts_of : ScriptData → List Part
 parts_of (variants.A address) = Octets (address_of address) ∷ []
 parts_of (variants.Ns server) = CompressibleName (name_labels (nsdname_of server)) ∷ []

@@ -9,18 +9,18 @@ use std::alloc::AllocError;
 use std::io;
 use std::io::Write;
 
-/// Why the program ends before all is done.
+/// Why the program ends before it has finished.
 #[derive(Clone, Copy, Debug)]
 pub(crate) enum Fault {
     /// The arguments aren't those of the program.
     Usage,
-    /// The line with this number, from 1, can't be read, or its call is misplaced.
+    /// The script's line with this number, counted from 1, is malformed, or its call is misplaced.
     BadLine(usize),
-    /// The input isn't hexadecimal digits, two for each octet, with white space between.
+    /// The input isn't pairs of hexadecimal digits with ASCII white space between.
     BadHex,
-    /// There are fewer octets than a header section has.
+    /// The octets are fewer than the 12 of a header section.
     ShortMessage,
-    /// Reading, writing or memory failed.
+    /// Reading, writing or an allocation failed.
     Failed,
 }
 
@@ -60,7 +60,7 @@ impl Fault {
         }
     }
 
-    /// Prints a line that tells the fault.
+    /// Prints the line that reports this fault.
     pub(crate) fn print<W: Write>(self, writer: &mut W) -> io::Result<()>
         ensures { OnOk result (Appends (W.contents writer.old) (W.contents writer.new)
             (fault_line self)) }

@@ -1,25 +1,25 @@
-//! Octets that hexadecimal digits write (RFC 4648 section 8).
+//! Hexadecimal digits read as octets (RFC 4648 section 8).
 ghost use Rattle.std.specs.Prelude.{◌≡◌, ◌<◌, SomeIff, IfOk, option_map};
 ghost use Rattle.std.specs.Char.{digit_value};
 ghost use Rattle.dns_message.specs.Hex.{octet_of, octets_of, unspaced};
 
 use std::alloc::{AllocError, Global};
 
-/// The value of a hexadecimal digit.
+/// The value of a hexadecimal digit, in either case.
 fn value_of(digit: u8) -> Option<u8>
     ensures { SomeIff result (digit_value digit < 16) (digit_value digit) }
 {
     Some(char::from(digit).to_digit(16)? as u8)
 }
 
-/// The octet that two digits write, the higher first.
+/// The octet of two digits, the high one first.
 fn octet(high: u8, low: u8) -> Option<u8>
     ensures { result ≡ octet_of high low }
 {
     Some(value_of(high)? * 16 + value_of(low)?)
 }
 
-/// The octets that digits write, two for each; `None` for any other text.
+/// Reads two digits for each octet. Returns `None` for any other text.
 pub(crate) fn octets(alloc: Global, digits: &[u8]) -> Result<Option<Vec<u8>>, AllocError>
     ensures { IfOk result (λ octets. option_map (λ v. v.items) octets ≡ octets_of digits.now) }
 {
@@ -39,7 +39,8 @@ pub(crate) fn octets(alloc: Global, digits: &[u8]) -> Result<Option<Vec<u8>>, Al
     }
 }
 
-/// The octets that digits write, two for each, with ASCII white space anywhere between; `None` for any other text.
+/// Reads two digits for each octet, with ASCII white space anywhere. Returns `None` for any other
+/// text.
 pub(crate) fn spaced_octets(alloc: Global, text: &[u8]) -> Result<Option<Vec<u8>>, AllocError>
     ensures { IfOk result (λ octets. option_map (λ v. v.items) octets
         ≡ octets_of (unspaced text.now)) }

@@ -1,15 +1,19 @@
-//! DNS messages: read lazily from octets, and built a section at a time.
+//! DNS messages: read lazily from octets, and built section by section.
 //!
-//! A user depends on this crate alone: its modules have what the crates below it hold. It promises, of every list of calls
-//! on a builder (`script::run`), that the octets are those of one fold over the current header and the standing items,
-//! that reading gives these back in order, that each compression pointer leads to an earlier label, that a push is refused
-//! only for room, memory, limit or count, and that a compressor's message is as short as its names can be spelled, where
-//! `Runs` of `specs/Script.antt` says so. It also has the work of the program `dnsmsg` (`tool`), which is safe and ends on
-//! every input.
+//! Users depend on this crate alone: its modules re-export what the crates below it have.
+//!
+//! After any list of calls on a builder (`script::run`), the octets are what writing the current
+//! header and items once, from scratch, would give. They read back as exactly those, in order.
+//! Every compression pointer leads to an earlier label. A failed push changes nothing, and fails
+//! only for capacity, memory, limit or count. While all labels are within pointer range, no
+//! compression of the names is shorter than that of a compressor (`StaticCompressor`: while fewer
+//! than 24 suffixes are in its table). The contract is `Runs` of `specs/Script.antt`.
+//!
+//! `tool` is the program `dnsmsg`, which is safe and terminates on every input.
 #![tactic(auto)]
 
 pub mod builder {
-    //! Builders of messages, answers and copies among them, and theorems on what they build.
+    //! Builders of messages, including answers and copied records, and theorems on what they build.
     pub use dns_build::{
         AdditionalBuilder, AnswerBuilder, AtAdditional, AtAnswer, AtAuthority, AtBuilder,
         AtQuestion, AuthorityBuilder, Builder, BuilderStage, CopyRecords, CopyRecordsError,
@@ -19,7 +23,7 @@ pub mod builder {
 }
 
 pub mod code {
-    //! Types, classes and codes.
+    //! Record types, classes and codes.
     pub use dns_code::{Class, Opcode, OptRcode, OptionCode, Rcode, Rtype, class, rtype};
 }
 
@@ -31,7 +35,7 @@ pub mod header {
 }
 
 pub mod message {
-    //! Messages read lazily, and theorems on what reading them gives.
+    //! Messages, read lazily, and theorems on what reading them gives.
     pub use dns_read::{
         AnyRecordIter, Message, MessageIter, QuestionSection, RecordIter, RecordSection, Section,
         ShortMessage, laws, search_laws,
@@ -45,7 +49,7 @@ pub mod name {
 }
 
 pub mod record {
-    //! Records and their parts, and theorems on questions and records where they stand and are put.
+    //! Records and their parts, and theorems on how questions and records are encoded and read.
     pub use dns_item::record::{
         ComposeRecord, ParsedRecord, Record, RecordHeader, RecordParseError,
     };
@@ -53,7 +57,7 @@ pub mod record {
 }
 
 pub mod data {
-    //! The data of records, and the theorems that a data type of a user's own rests on.
+    //! Record data (RDATA), and the theorems for record data types of your own.
     pub use dns_data::{
         A, Cname, ComposeOptData, ComposeRecordData, LongOptData, LongRecordData, Ns, Opt,
         OptHeader, OptionIter, ParseAnyRecordData, ParseRecordData, RecordData, Soa, SubnetAddr,
@@ -75,7 +79,7 @@ mod script_data;
 mod stage;
 
 pub mod target {
-    //! What messages are written to.
+    //! The targets that messages are written to.
     pub use dns_target::{
         Compressor, HashCompressor, IndexCompressor, StaticCompressor, StreamTarget, TreeCompressor,
     };
@@ -83,7 +87,8 @@ pub mod target {
 }
 
 pub mod wire {
-    //! The parser, holders of octets, the errors of both, canonical order, and theorems on names and targets.
+    //! The parser, buffers of octets, the errors of both, canonical order, and theorems on names
+    //! and targets.
     pub use dns_wire::{
         AppendError, CanonicalOrd, FlattenInto, FormError, HolderFrom, Octets, OctetsFrom,
         OctetsMut, ParseError, Parser, ShortBuf, laws, target_laws,

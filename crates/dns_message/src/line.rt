@@ -1,4 +1,4 @@
-//! The lines of a script, and the calls that they ask for.
+//! The lines of a script, and the calls that they request.
 ghost use Rattle.std.specs.Prelude.{◌≡◌, ◌≤◌, ◌↔◌, IfOk, IsSome, IsTrue};
 ghost use Rattle.std.specs.Option.{SomeIff};
 ghost use Rattle.std.specs.Str.{IsAscii};
@@ -17,13 +17,13 @@ use std::alloc::{AllocError, Global};
 use std::str;
 use std::str::FromStr;
 
-/// The characters between the words of a line.
+/// The separators between the words of a line.
 const BLANKS: [char; 2] = [' ', '\t'];
 
-/// A call of a script.
+/// A call that a line of a script requests.
 pub(crate) type ScriptCall = Call<Question<Name<Vec<u8>>>, ScriptRecord>;
 
-/// A new value of one field of a header, or of its seven flags.
+/// A new value for one field of a header, or for its seven flags.
 #[derive(Clone, Copy, Debug)]
 pub(crate) enum Change {
     Id(u16),
@@ -33,7 +33,7 @@ pub(crate) enum Change {
 }
 
 impl Change {
-    /// The header with the change.
+    /// The header with this change applied.
     pub(crate) fn made_to(self, header: Header) -> Header
         ensures { fields result ≡ changed (fields header) self }
     {
@@ -48,14 +48,15 @@ impl Change {
     }
 }
 
-/// Whether a line is passed over: an empty one, or a comment.
+/// Whether a line is skipped: it is empty, or it is ASCII and begins with `#`.
 pub(crate) fn is_passed_over(line: &[u8]) -> bool
     ensures { IsTrue result ↔ IsPassedOver line.now }
 {
     line.is_empty() || line.starts_with(b"#") && line.is_ascii()
 }
 
-/// The call that a line asks for at a stage, where the line isn't passed over. It is `None` where the line is bad.
+/// The call that a line requests at this stage, if the line isn't skipped. Returns `None` if it is
+/// malformed.
 pub(crate) fn call_of<T: Composer>(
     alloc: Global,
     stage: &Stage<T>,
@@ -69,7 +70,7 @@ pub(crate) fn call_of<T: Composer>(
     }
 }
 
-/// The call that the first word of a text names, with what is read from the text behind it.
+/// The call that the first word of a text names, with the arguments that follow it.
 fn call_of_text<T: Composer>(
     alloc: Global,
     stage: &Stage<T>,
@@ -87,7 +88,7 @@ fn call_of_text<T: Composer>(
     }
 }
 
-/// The first word of a text, and what stands behind it, without blanks around.
+/// Splits a text after its first word. Neither part begins or ends with a blank.
 fn first_word(text: &str) -> (&str, &str) {
     let text = text.trim_matches(BLANKS);
     match text.split_once(BLANKS) {
@@ -96,7 +97,7 @@ fn first_word(text: &str) -> (&str, &str) {
     }
 }
 
-/// The call that one word asks for.
+/// The call that a single word requests.
 fn call_of_word(word: &str) -> Option<ScriptCall> {
     match word {
         "builder" => Some(Call::ToBuilder),
@@ -111,12 +112,12 @@ fn call_of_word(word: &str) -> Option<ScriptCall> {
     }
 }
 
-/// The call that makes a change to the header of a stage.
+/// The call that applies a change to the header of this stage.
 fn header_call<T: Composer>(stage: &Stage<T>, change: Option<Change>) -> Option<ScriptCall> {
     Some(Call::SetHeader(change?.made_to(stage.header())))
 }
 
-/// The change to the flags that are named.
+/// The change to the flags with these names.
 fn flags_change(alloc: Global, names: &str) -> Result<Option<Change>, AllocError> {
     let names = names.replace(alloc, '\t', " ")?;
     match Flags::from_str(&names) {
@@ -125,7 +126,7 @@ fn flags_change(alloc: Global, names: &str) -> Result<Option<Change>, AllocError
     }
 }
 
-/// The change of a field to the number that decimal digits write.
+/// The change of a header field to the number in these decimal digits.
 fn number_change(field: &str, digits: &str) -> Option<Change> {
     match field {
         "id" => Some(Change::Id(number(digits, 0xffff)? as u16)),
@@ -141,7 +142,8 @@ fn number_change(field: &str, digits: &str) -> Option<Change> {
     }
 }
 
-/// The push of the item that a text spells, a question or a record by the stage, `None` where it spells none.
+/// The push of the item in a text: a question or a record, by the stage. Returns `None` if the item
+/// is malformed, or if the stage is before the sections.
 fn push_of<T: Composer>(
     alloc: Global,
     stage: &Stage<T>,
@@ -164,14 +166,14 @@ fn push_of_question(alloc: Global, question: &str) -> Result<Option<ScriptCall>,
     }
 }
 
-/// The words of a text.
+/// The words of a text, which blanks separate.
 pub(crate) fn words(alloc: Global, text: &str) -> Result<Vec<&str>, AllocError> {
     text.split(BLANKS)
         .filter(|word| !word.is_empty())
         .collect(alloc)
 }
 
-/// The number that decimal digits write, `None` above `most` and for any other text.
+/// The number in these decimal digits. Returns `None` if it exceeds `most`, and for any other text.
 pub(crate) fn number(digits: &str, most: usize) -> Option<usize>
     ensures { SomeIff result
         (IsNumeral 10 digits.now × (digits_value 10 digits.now ≤ most))

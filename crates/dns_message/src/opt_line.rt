@@ -6,7 +6,8 @@ use dns_code::{OptRcode, OptionCode};
 use dns_data::UnknownOptData;
 use std::alloc::{AllocError, Global};
 
-/// The plan whose payload size, rcode, version, DO and options are the words of a text, `None` where they are no plan.
+/// The plan in a text, whose words are the UDP payload size, the RCODE, the EDNS version, DO (0 or
+/// 1) and the options. Returns `None` if the text is malformed.
 pub(crate) fn plan(alloc: Global, text: &str) -> Result<Option<OptPlan>, AllocError> {
     let words = words(alloc, text)?;
     let [size, rcode, version, dnssec_ok, options @ ..] = words.as_slice() else {
@@ -32,7 +33,7 @@ pub(crate) fn plan(alloc: Global, text: &str) -> Result<Option<OptPlan>, AllocEr
     }))
 }
 
-/// The rcode that a word writes, which is none for `-`. It is `None` for any other text.
+/// The 12-bit RCODE in a word, or no RCODE for `-`. Returns `None` if the word is malformed.
 fn rcode_of(word: &str) -> Option<Option<OptRcode>> {
     if word == "-" {
         return Some(None);
@@ -41,7 +42,7 @@ fn rcode_of(word: &str) -> Option<Option<OptRcode>> {
     Some(Some(OptRcode::checked_from_int(number)?))
 }
 
-/// The options that words write.
+/// The options in these words, one in each. Returns `None` if a word is malformed.
 fn options_of(
     alloc: Global,
     words: &[&str],
@@ -56,7 +57,8 @@ fn options_of(
     Ok(Some(options))
 }
 
-/// The option of a code, and behind a colon its octets in hexadecimal digits.
+/// The option in a word: its code in decimal digits, a colon, and its data in hexadecimal digits.
+/// Returns `None` if the word is malformed.
 fn option_of(alloc: Global, word: &str) -> Result<Option<UnknownOptData<Vec<u8>>>, AllocError> {
     let Some((code, digits)) = word.split_once(':') else {
         return Ok(None);

@@ -1,4 +1,4 @@
-//! What a call of a script sets and pushes on an OPT builder.
+//! What a call of a script sets and adds on an OPT builder.
 ghost use Rattle.std.specs.Prelude.{◌≡◌, OnOk, map};
 ghost use Rattle.dns_opt.specs.OptData.{option_of};
 ghost use Rattle.dns_opt_builder.specs.Gathered.{gathered};
@@ -9,23 +9,23 @@ use dns_code::OptRcode;
 use dns_data::UnknownOptData;
 use dns_wire::AppendError;
 
-/// What an OPT record of a list of calls says (RFC 6891 section 6.1).
+/// What a list of calls asks to push as an OPT record (RFC 6891 section 6.1).
 #[derive(Debug, Drop)]
 pub struct OptPlan {
-    /// How many octets of a message the sender can take over UDP.
+    /// The UDP payload size that the sender can receive, in octets.
     pub udp_payload_size: u16,
-    /// The rcode; with `None` that of the header stays.
+    /// The extended RCODE. If `None`, the header's RCODE stays.
     pub rcode: Option<OptRcode>,
-    /// The version of EDNS.
+    /// The EDNS version.
     pub version: u8,
-    /// Whether the sender can take DNSSEC's records (DO, RFC 3225).
+    /// Whether the sender accepts DNSSEC records: the DO bit (RFC 3225).
     pub dnssec_ok: bool,
     /// The options, in order.
     pub options: Vec<UnknownOptData<Vec<u8>>>,
 }
 
 impl OptPlan {
-    /// Sets the fields of an OPT builder, and adds the options, as far as none is refused.
+    /// Sets the fields of an OPT builder, then adds the options until one fails.
     pub(crate) fn gather(&self, builder: &mut OptBuilder) -> Result<(), AppendError>
         ensures { CarriesOut self.now builder.old builder.new result }
     {

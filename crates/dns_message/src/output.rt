@@ -1,4 +1,4 @@
-//! What the program prints: replies, octets and why it ends early.
+//! What the program prints of replies and octets.
 ghost use Rattle.std.specs.Prelude.{◌≡◌, ◌<◌, ◌/◌, ◌%◌, ◌++◌, ◌∷◌, [], IfOk, OnOk, codes, decimal};
 ghost use Rattle.std.specs.Io.KnownBytes.{Appends};
 ghost use Rattle.dns_message.specs.Output.{hex_digit, hex_pair, hex_text, refusal};
@@ -27,7 +27,7 @@ fn hex_pair_of(octet: u8) -> [u8; 2]
     [hex_digit_of(octet / 16), hex_digit_of(octet % 16)]
 }
 
-/// The lower-case hexadecimal digits of octets.
+/// The lower-case hexadecimal digits of some octets.
 fn hex_text_of(alloc: Global, octets: &[u8]) -> Result<Vec<u8>, AllocError>
     ensures { IfOk result (λ digits. digits.items ≡ hex_text octets.now) }
 {
@@ -47,7 +47,7 @@ pub(crate) fn print_octets<W: Write>(alloc: Global, writer: &mut W, octets: &[u8
     writer.write_all(b"\n")
 }
 
-/// The word that tells a refusal.
+/// The word that reports why a push failed.
 fn word_of(error: PushError) -> &'static str
     ensures { result.now ≡ refusal error }
 {
@@ -59,7 +59,7 @@ fn word_of(error: PushError) -> &'static str
     }
 }
 
-/// Prints that a call was done, with the length of the message behind it.
+/// Prints that a call was done, with the length of the message after it, in octets.
 pub(crate) fn print_done<W: Write>(writer: &mut W, len: usize) -> io::Result<()>
     ensures { OnOk result (Appends (W.contents writer.old) (W.contents writer.new)
         (codes "ok " ++ decimal len ++ 10 ∷ [])) }
@@ -67,7 +67,7 @@ pub(crate) fn print_done<W: Write>(writer: &mut W, len: usize) -> io::Result<()>
     writeln!(writer, "ok {len}")
 }
 
-/// Prints that a push was refused, with the length of the message behind it.
+/// Prints that a push failed and why, with the length of the message after it, in octets.
 pub(crate) fn print_refused<W: Write>(
     writer: &mut W,
     error: PushError,

@@ -16,20 +16,20 @@ use std::alloc::{AllocError, Global};
 use std::io;
 use std::io::{Read, Write};
 
-/// The target that a message is built over.
+/// The target that a message is built on.
 #[derive(Clone, Copy, Debug)]
 enum Target {
     /// A vector.
     Plain,
     /// An array of 512 octets.
     Fixed,
-    /// A vector, with the length of the message before it.
+    /// A vector that holds the message after its length, as in a stream.
     Stream,
-    /// A vector, with names compressed by places.
+    /// A vector, with names compressed by a `StaticCompressor`.
     Static,
-    /// A vector, with names compressed by a tree.
+    /// A vector, with names compressed by a `TreeCompressor`.
     Tree,
-    /// A vector, with names compressed by a hash map.
+    /// A vector, with names compressed by a `HashCompressor`.
     Hash,
 }
 
@@ -47,10 +47,10 @@ impl Target {
     }
 }
 
-/// What the program is asked to do.
+/// What the arguments ask for.
 #[derive(Clone, Copy, Debug)]
 enum Command {
-    /// Builds a message over a target.
+    /// Builds a message on a target.
     Build(Target),
     /// Prints a message.
     Show,
@@ -68,12 +68,15 @@ impl Command {
     }
 }
 
-/// Does what the program `dnsmsg` does with the words behind its name, and gives its exit status.
+/// Runs the program `dnsmsg` with these arguments, without the program's name, and returns its exit
+/// status.
 ///
-/// `build TARGET` reads a script, builds a message over the target, and prints the replies and the octets. `show` reads a
-/// message in hexadecimal digits, and prints its header, its counts and its items. The status is 0; 1 where a line of a
-/// script is bad, and where the digits are no message; 2 for other words; 3 where reading, writing or memory fails, but for
-/// a push that is refused.
+/// `build TARGET` reads a script, builds a message on the target, and prints the replies and the
+/// octets. `show` reads a message in hexadecimal digits, and prints its header, counts and items.
+///
+/// The exit status is 0; 1 if a line of a script is malformed or its call misplaced, or if the
+/// digits are malformed or fewer than 12 octets; 2 for any other arguments; and 3 if reading,
+/// writing or an allocation fails. A push that fails is reported as its reply, whatever the reason.
 pub fn tool<R: Read + Drop, W: Write + Drop>(
     alloc: Global,
     args: &[String],
@@ -94,7 +97,7 @@ pub fn tool<R: Read + Drop, W: Write + Drop>(
     Fault::Failed.status()
 }
 
-/// Prints a line that tells the fault.
+/// Prints the line that reports a fault.
 fn tell<W: Write>(fault: Fault, writer: &mut W) -> io::Result<()> {
     fault.print(writer)?;
     writer.flush()
@@ -119,7 +122,7 @@ fn perform<R: Read, W: Write>(
     Ok(())
 }
 
-/// Prints the message whose octets hexadecimal digits write.
+/// Prints the message that is given in hexadecimal digits.
 fn show_digits<W: Write>(alloc: Global, digits: &[u8], writer: &mut W) -> Result<(), Fault>
     ensures shows { OnOk result (Shows digits.now (W.contents writer.old)
         (W.contents writer.new)) }
@@ -135,7 +138,8 @@ fn show_digits<W: Write>(alloc: Global, digits: &[u8], writer: &mut W) -> Result
     Ok(())
 }
 
-/// Builds a message over a target of a kind as a script says, and prints the replies and the octets.
+/// Builds a message as a script says, on a target of this kind, and prints the replies and the
+/// octets.
 fn build_over<W: Write>(
     alloc: Global,
     target: Target,
@@ -165,7 +169,7 @@ fn build_over<W: Write>(
     }
 }
 
-/// Builds a message over a target as a script says, and prints the replies and the octets.
+/// Builds a message as a script says, and prints the replies and the octets.
 fn print_build<T: Composer, W: Write>(
     alloc: Global,
     target: T,
@@ -177,7 +181,8 @@ fn print_build<T: Composer, W: Write>(
     Ok(())
 }
 
-/// Builds a message over a target as a script says, prints the replies, and gives the target with the message.
+/// Builds a message as a script says, prints the replies, and returns the target that holds the
+/// message.
 fn build<T: Composer, W: Write>(
     alloc: Global,
     target: T,
@@ -196,7 +201,7 @@ fn build<T: Composer, W: Write>(
     Ok(stage.finish())
 }
 
-/// Makes the call of a line, and prints the reply. `replies` is room for it.
+/// Makes the call of a line, and prints the reply. `replies` is a buffer for it.
 fn follow<T: Composer, W: Write>(
     alloc: Global,
     stage: Stage<T>,
@@ -213,7 +218,8 @@ fn follow<T: Composer, W: Write>(
     Ok(stage)
 }
 
-/// Prints the reply to the call of a line, after which the message has `len` octets. A misplaced call is a bad line.
+/// Prints the reply to the call of a line, after which the message has `len` octets. A misplaced
+/// call is a bad line.
 fn print_reply<W: Write>(
     writer: &mut W,
     reply: Reply,
@@ -228,7 +234,7 @@ fn print_reply<W: Write>(
     Ok(())
 }
 
-/// Makes one call, and gives the reply, which is the only one in `replies` then.
+/// Makes one call and returns the reply, which is then the only one in `replies`.
 fn make<T: Composer>(
     alloc: Global,
     stage: Stage<T>,

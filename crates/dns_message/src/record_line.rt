@@ -13,7 +13,8 @@ use std::str::FromStr;
 /// A record of a script.
 pub(crate) type ScriptRecord = Record<Name<Vec<u8>>, ScriptData>;
 
-/// The record whose owner, TTL, class, type and data are the words of a text, `None` where they are no record.
+/// The record in a text, whose words are the owner, TTL in seconds, class, type and RDATA. Returns
+/// `None` if the text is malformed.
 pub(crate) fn record(alloc: Global, text: &str) -> Result<Option<ScriptRecord>, AllocError> {
     let words = words(alloc, text)?;
     let [owner, ttl, class, rtype, data @ ..] = words.as_slice() else {
@@ -35,7 +36,8 @@ pub(crate) fn record(alloc: Global, text: &str) -> Result<Option<ScriptRecord>, 
     }
 }
 
-/// The data of a record of a type: opaque behind `\#`, else as the type asks for.
+/// The RDATA of a record of this type: opaque after `\#` (RFC 3597 section 5), else the fields of
+/// an A, NS, CNAME or SOA record. Returns `None` if the words are malformed.
 fn data_of(alloc: Global, rtype: Rtype, words: &[&str]) -> Result<Option<ScriptData>, AllocError> {
     match words {
         ["\\#", len, digits @ ..] => opaque(alloc, rtype, len, digits),
@@ -53,7 +55,7 @@ fn data_of(alloc: Global, rtype: Rtype, words: &[&str]) -> Result<Option<ScriptD
     }
 }
 
-/// The name that a word spells.
+/// The name in a word. Returns `None` if the word is malformed.
 fn name(alloc: Global, word: &str) -> Result<Option<Name<Vec<u8>>>, AllocError> {
     match Name::vec_from_str(alloc, word) {
         Ok(name) => Ok(Some(name)),
@@ -62,7 +64,7 @@ fn name(alloc: Global, word: &str) -> Result<Option<Name<Vec<u8>>>, AllocError> 
     }
 }
 
-/// The address of four decimal numbers with dots.
+/// The IPv4 address in a word: four decimal numbers with dots between.
 fn address(word: &str) -> Option<A> {
     let mut numbers = word.split('.');
     let mut octets = [0; 4];
@@ -76,7 +78,7 @@ fn address(word: &str) -> Option<A> {
     }
 }
 
-/// The start of a zone of two names and five numbers.
+/// The RDATA of an SOA record: two names and five numbers.
 fn zone(
     alloc: Global,
     mname: &str,
@@ -113,7 +115,8 @@ fn number_of_32_bits(digits: &str) -> Option<u32> {
     Some(number(digits, 0xffff_ffff)? as u32)
 }
 
-/// Opaque data: the number of octets, and behind it the octets in one word of hexadecimal digits, if there are any.
+/// Opaque RDATA: its length in octets, then the octets as one word of hexadecimal digits, which is
+/// missing if there are none.
 fn opaque(
     alloc: Global,
     rtype: Rtype,

@@ -34,40 +34,40 @@ pub enum Stage<T: Composer> {
 pub enum Call<Q, R> {
     /// Pushes a question.
     PushQuestion(Q),
-    /// Pushes a record into the section.
+    /// Pushes a record to the current section.
     PushRecord(R),
-    /// Pushes an OPT record into the additional section.
+    /// Pushes an OPT record to the additional section.
     PushOpt(OptPlan),
-    /// Takes out all items of the section.
+    /// Removes all items of the current section.
     Rewind,
-    /// Takes out all records of the section, and sets TC.
+    /// Removes all records of the current section, and sets TC.
     TcRewind,
-    /// Moves before the sections, and takes out all items.
+    /// Moves before the sections, and removes all items.
     ToBuilder,
-    /// Moves to the question section, and takes out all records.
+    /// Moves to the question section, and removes all records.
     ToQuestion,
-    /// Moves to the answer section, and takes out the records behind it.
+    /// Moves to the answer section, and removes the records of later sections.
     ToAnswer,
-    /// Moves to the authority section, and takes out the records behind it.
+    /// Moves to the authority section, and removes the records of later sections.
     ToAuthority,
     /// Moves to the additional section.
     ToAdditional,
-    /// Changes the header.
+    /// Replaces the header.
     SetHeader(Header),
-    /// Sets the most octets that the message may have.
+    /// Limits the message to this many octets.
     SetLimit(usize),
-    /// Takes the limit away.
+    /// Removes the limit.
     ClearLimit,
 }
 
 /// The reply to a call.
 #[derive(Clone, Copy, Debug)]
 pub enum Reply {
-    /// It was done.
+    /// The call was done.
     Done,
-    /// The push was refused, and nothing has changed.
+    /// The push failed, and nothing has changed.
     Refused(PushError),
-    /// The stage lacks the call, and nothing has changed.
+    /// The stage doesn't have this call, and nothing has changed.
     Misplaced,
 }
 
@@ -96,7 +96,8 @@ fn reply_of(outcome: Result<(), PushError>) -> Reply
     }
 }
 
-/// The stage that a call moves a builder to. The builder is given back where the call is no move.
+/// Moves a builder to the stage that a call names. Returns the builder as the error if the call is
+/// no move.
 fn moved<T: Composer, S: BuilderStage, Q: ComposeQuestion, R: ComposeRecord>(
     builder: Builder<T, S>,
     call: &Call<Q, R>,
@@ -116,7 +117,8 @@ fn moved<T: Composer, S: BuilderStage, Q: ComposeQuestion, R: ComposeRecord>(
     }
 }
 
-/// Changes the header or the limit, as a call asks for at any stage. Other calls are misplaced.
+/// Makes a call that changes the header or the limit, which every stage has. Any other call is
+/// misplaced.
 fn set<T: Composer, S: BuilderStage, Q: ComposeQuestion, R: ComposeRecord>(
     builder: &mut Builder<T, S>,
     call: &Call<Q, R>,
@@ -135,7 +137,7 @@ fn set<T: Composer, S: BuilderStage, Q: ComposeQuestion, R: ComposeRecord>(
     Reply::Done
 }
 
-/// A call that is no move on the builder of the question section, and the reply.
+/// Makes a call at the question section, other than a move.
 fn stay_in_questions<T: Composer, Q: ComposeQuestion, R: ComposeRecord>(
     builder: &mut QuestionBuilder<T>,
     call: &Call<Q, R>,
@@ -153,7 +155,8 @@ fn stay_in_questions<T: Composer, Q: ComposeQuestion, R: ComposeRecord>(
     }
 }
 
-/// A call that is no move on the builder of a record section, and the reply. That of an OPT record is made elsewhere.
+/// Makes a call at a record section, other than a move, or the push of an OPT record at the
+/// additional section (see `stay_in_additional`).
 fn stay_in_records<T: Composer, S: RecordStage, Q: ComposeQuestion, R: ComposeRecord>(
     mut builder: Builder<T, S>,
     call: &Call<Q, R>,
@@ -176,7 +179,7 @@ fn stay_in_records<T: Composer, S: RecordStage, Q: ComposeQuestion, R: ComposeRe
     }
 }
 
-/// A call that is no move on the builder of the additional section, and the reply.
+/// Makes a call at the additional section, other than a move.
 fn stay_in_additional<T: Composer, Q: ComposeQuestion, R: ComposeRecord>(
     alloc: Global,
     mut builder: AdditionalBuilder<T>,
@@ -194,7 +197,7 @@ fn stay_in_additional<T: Composer, Q: ComposeQuestion, R: ComposeRecord>(
     }
 }
 
-/// The stage that a call moves to. The stage is given back where the call is no move.
+/// Moves to the stage that a call names. Returns the old stage as the error if the call is no move.
 fn go<T: Composer, Q: ComposeQuestion, R: ComposeRecord>(
     stage: Stage<T>,
     call: &Call<Q, R>,
@@ -213,7 +216,7 @@ fn go<T: Composer, Q: ComposeQuestion, R: ComposeRecord>(
     }
 }
 
-/// A call that is no move on a stage, and the reply.
+/// Makes a call other than a move.
 fn stay<T: Composer, Q: ComposeQuestion, R: ComposeRecord>(
     alloc: Global,
     stage: Stage<T>,
@@ -246,7 +249,7 @@ fn stay<T: Composer, Q: ComposeQuestion, R: ComposeRecord>(
     }
 }
 
-/// A call on a stage, and the reply.
+/// Makes a call, and returns the stage after it and the reply.
 fn step<T: Composer, Q: ComposeQuestion, R: ComposeRecord>(
     alloc: Global,
     stage: Stage<T>,
@@ -261,9 +264,10 @@ fn step<T: Composer, Q: ComposeQuestion, R: ComposeRecord>(
     }
 }
 
-/// Makes the calls in order, and appends a reply to each.
+/// Makes the calls in order, and appends a reply for each.
 ///
-/// Memory for the replies is taken first. Where that is refused the stage is given back unchanged, with no reply.
+/// Memory for the replies is reserved first. If the allocation fails, returns the stage unchanged,
+/// as the error, and appends no reply.
 pub fn run<T: Composer, Q: ComposeQuestion, R: ComposeRecord>(
     alloc: Global,
     stage: Stage<T>,

@@ -1,11 +1,11 @@
-//! The data of records of a script.
+//! The RDATA of the records of a script.
 ghost use Rattle.dns_message.specs.ScriptData.{rtype_of, parts_of};
 
 use dns_code::Rtype;
 use dns_data::{A, Cname, ComposeRecordData, Ns, RecordData, Soa, UnknownRecordData};
 use dns_wire::{AppendError, Composer, Name};
 
-/// The data of a record of a script.
+/// The RDATA of a record of a script.
 #[derive(Debug, Drop)]
 pub(crate) enum ScriptData {
     A(A),

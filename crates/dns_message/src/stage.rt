@@ -1,4 +1,4 @@
-//! What a stage gives of its builder.
+//! The header of a stage, and its finished target.
 ghost use Rattle.std.specs.Prelude.{◌≡◌};
 ghost use Rattle.dns_build.specs.State.{State};
 ghost use Rattle.dns_message.specs.Script.{StageStandsFor, built_of};
@@ -8,7 +8,7 @@ use dns_code::Header;
 use dns_wire::Composer;
 
 impl<T: Composer> Stage<T> {
-    /// The header as it stands.
+    /// The current header.
     pub fn header(&self) -> Header
         ensures { (s : State) → StageStandsFor T.rule s self.now → result ≡ s.header }
     {
@@ -21,7 +21,7 @@ impl<T: Composer> Stage<T> {
         }
     }
 
-    /// The target with the message.
+    /// Finishes the message, and returns the target that holds it.
     pub fn finish(self) -> T
         ensures { T.written result ≡ (built_of self).written }
     {

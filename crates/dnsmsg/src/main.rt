@@ -1,10 +1,10 @@
-//! The program `dnsmsg` builds the message that a script on standard input describes, or prints the message that
-//! hexadecimal digits write:
+//! The program `dnsmsg` reads standard input: it builds the message that a script describes, or
+//! prints the message that is given in hexadecimal digits:
 //!
 //!     dnsmsg build TARGET < SCRIPT
 //!     dnsmsg show < DIGITS
 //!
-//! What it does is that of `dns_message::tool`, which is proved to be safe and to end on every input.
+//! `dns_message::tool` does the work. It is proved to be safe and to terminate on every input.
 #![tactic(auto)]
 
 use dns_message::tool;
@@ -12,10 +12,10 @@ use std::io::{BufWriter, ErrorKind};
 use std::process::ExitCode;
 use std::{env, io};
 
-/// The exit status where reading, writing or memory fails.
+/// The exit status if reading, writing or an allocation fails.
 const FAILED: u8 = 3;
 
-/// The words behind the program's name; none where the arguments aren't text.
+/// The arguments after the program's name. Returns none if an argument isn't text.
 fn words(rt: &HostRuntime) -> io::Result<Vec<String>> {
     match env::args(rt) {
         Ok(args) => Ok(args.skip(1).collect(rt.alloc())?),

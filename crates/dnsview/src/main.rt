@@ -1,8 +1,9 @@
-//! The program `dnsview` prints the message that standard input is, as octets or in hexadecimal digits, row by row:
+//! The program `dnsview` reads a message from standard input, as octets or in hexadecimal digits,
+//! and prints it row by row:
 //!
 //!     dnsview [--html] < MESSAGE
 //!
-//! What it does is that of `dns_view::tool`, which is proved to be safe and to end on every input.
+//! `dns_view::tool` does the work. It is proved to be safe and to terminate on every input.
 #![tactic(auto)]
 
 use dns_view::tool;
@@ -10,10 +11,11 @@ use std::io::{BufWriter, ErrorKind};
 use std::process::ExitCode;
 use std::{env, io};
 
-/// The exit status where reading, writing or memory fails.
+/// The exit status if reading, writing or an allocation fails.
 const FAILED: u8 = 3;
 
-/// The words behind the program's name; where an argument isn't text, one word that is none of the program's.
+/// The arguments after the program's name. If an argument isn't text, returns one word that the
+/// program doesn't know.
 fn words(rt: &HostRuntime) -> io::Result<Vec<String>> {
     match env::args(rt) {
         Ok(args) => Ok(args.skip(1).collect(rt.alloc())?),
