@@ -1,6 +1,6 @@
--- The rows of the data of a record, field by field, and where a fault ends them. RFC 1035 sections 3.3 and 3.4, RFC 3596 section 2.2.
+-- The rows of RDATA, field by field, up to its end or a fault. RFC 1035 sections 3.3 and 3.4, RFC 3596 section 2.2.
 --
--- `b` are the octets of the message up to the end of the data.
+-- `b` is the octets of the message up to the end of the RDATA.
 use Rattle.dns_name.specs.Parsers.{number_at}
 use Rattle.std.specs.Int.{w16}
 use Rattle.std.specs.Prelude.{◌≡◌, ℕ, ◌+◌, ◌<◌, ◌≤◌, ◌==◌, if◌then◌else◌, List, [], ◌∷◌, ◌++◌, length, slice_get, Option, Some, None, nat_lt}
@@ -17,32 +17,32 @@ use Rattle.dns_rows.specs.declared.row.Field.{Field}
 use Rattle.dns_rows.specs.declared.row.Field.TheVariants.{Address, LongAddress, Preference, Zone, Data, Text, OptionCode, OptionLength, OptionData}
 use Rattle.dns_rows.specs.declared.row.ZoneNumber.TheVariants.{Serial, Refresh, Retry, Expire, Minimum}
 
--- the fields of data, one behind the other
+-- the fields of RDATA, in order
 pub data Shape : Type 0 where
-  -- no more
+  -- no more fields
   End : Shape
-  -- so many octets that are a field, and the fields behind them
+  -- a field of n octets, then the remaining fields
   Octets : ℕ → Field → Shape → Shape
-  -- a name, and the fields behind it
+  -- a name, then the remaining fields
   Named : NameOf → Shape → Shape
   -- character strings, up to the end
   Texts : Shape
   -- options, up to the end
   Options : Shape
-  -- one field of all octets that are left, if there are any
+  -- one field of all remaining octets, if there are any
   Rest : Shape
 
--- the preference and the server of MX. RFC 1035 section 3.3.9.
+-- the preference and the mail exchanger of MX. RFC 1035 section 3.3.9.
 abbrev pub exchange_shape : Shape
 exchange_shape = Octets 2 Preference (Named Exchange End)
 
--- the server, the mailbox and the five numbers of SOA. RFC 1035 section 3.3.13.
+-- the name server, the mailbox and the five numbers of SOA. RFC 1035 section 3.3.13.
 abbrev pub zone_shape : Shape
 zone_shape =
     Named Primary
     (Named Mailbox (Octets 4 (Zone Serial) (Octets 4 (Zone Refresh) (Octets 4 (Zone Retry) (Octets 4 (Zone Expire) (Octets 4 (Zone Minimum) End))))))
 
--- the fields of the data of a record type: A, NS, CNAME, SOA, PTR, MX, TXT, AAAA, OPT, and any other
+-- the fields of the RDATA of a record type: A, AAAA, NS, CNAME, PTR, MX, SOA, TXT, OPT, and any other
 abbrev pub shape_of : ℕ → Shape
 shape_of rtype =
     if rtype == 1 then Octets 4 Address End
@@ -62,15 +62,15 @@ pub data TextRows (b : List ℕ) (p : ℕ) : ℕ → List Row → Type 0 where
   text : {n q : ℕ} (rows : List Row) → TextRows b p q rows → slice_get b q ≡ Some n → q + (1 + n) ≤ length b
       → TextRows b p (q + (1 + n)) (rows ++ field_row q (q + (1 + n)) Text ∷ [])
 
--- the row of the data of an option, which goes from p to q; none, where it has no octets
+-- the row of an option's data from p to q; none if it has no octets
 abbrev pub option_data_rows : ℕ → ℕ → ℕ → List Row
 option_data_rows code p q = if nat_lt p q then field_row p q (OptionData code) ∷ [] else []
 
--- the rows of an option at p: its code, its length, and its data of so many octets. RFC 6891 section 6.1.2.
+-- the rows of an option at p: its code, its length, and its data of `len` octets. RFC 6891 section 6.1.2.
 abbrev pub option_rows : ℕ → ℕ → ℕ → List Row
 option_rows code len p = field_row p (p + 2) OptionCode ∷ field_row (p + 2) (p + 4) (OptionLength code) ∷ option_data_rows code (p + 4) (p + 4 + len)
 
--- an option goes from p to q, and these are its rows
+-- an option extends from p to q, and has these rows
 pub record ShowsOption (b : List ℕ) (p q : ℕ) (rows : List Row) : Type 0 where
   pub code : ℕ
   pub len : ℕ
@@ -80,7 +80,7 @@ pub record ShowsOption (b : List ℕ) (p q : ℕ) (rows : List Row) : Type 0 whe
   pub within : q ≤ length b
   pub made : rows ≡ option_rows code len p
 
--- an option at p isn't all there: these are its rows up to the field that isn't, and its fault
+-- an option at p is incomplete: `shown` are the rows before the incomplete field, which begins at `place`, and this is its fault
 abbrev pub LacksOption : List ℕ → ℕ → ℕ → rows.Fault → List Row → Type 0
 LacksOption b p place fault shown = CutRows b (option_rows (number_at w16 b p) (number_at w16 b (p + 2)) p) place fault shown
 
@@ -89,7 +89,7 @@ pub data OptionRows (b : List ℕ) (p : ℕ) : ℕ → List Row → Type 0 where
   none : OptionRows b p p []
   option : {q r : ℕ} (rows others : List Row) → OptionRows b p q rows → ShowsOption b q r others → OptionRows b p r (rows ++ others)
 
--- The rows of data from p on. Where it stops with a fault, they end at q, where the field begins that can't be read, or where the name can't be read on. Else all fields go from p to q.
+-- The rows of RDATA from p to q. If a fault stops it, q is where the field that can't be read begins, or where the name can't be read. Else these are the rows of all fields.
 pub data ShowsData (b : List ℕ) : Shape → Option rows.Fault → ℕ → ℕ → List Row → Type 0 where
   done : {p : ℕ} → ShowsData b End None p p []
   octets : {n p q : ℕ} {field : Field} {shape : Shape} {stop : Option rows.Fault} {rows : List Row} → p + n ≤ length b → ShowsData b shape stop (p + n) q rows

@@ -1,6 +1,6 @@
--- Where a name can't be read, and which fault a row tells of what is read. RFC 1035 section 4.1.4.
+-- Where a name can't be read, and how the fault of a row relates to the fault of the reading. RFC 1035 section 4.1.4.
 --
--- `b` are the octets that are seen. `of` is which name it is.
+-- `b` is the octets that are seen, and `of` says which name it is.
 use Rattle.std.specs.Prelude.{◌≡◌, ℕ, ◌+◌, ◌-◌, ◌<◌, ◌≤◌, ⊤, List, length, Ok, Err}
 use Rattle.dns_name.specs.Names.{Fault, FaultAt, Labels, Stands, head_at, max_size}
 use Rattle.dns_name.specs.Names.Fault.{ShortInput, Form}
@@ -12,26 +12,26 @@ use Rattle.dns_rows.specs.declared.row.Fault as rows
 use Rattle.dns_rows.specs.declared.row.Fault.TheVariants.{Short, Label, LongName, Pointer, Behind, LongPointer, Trailing}
 use Rattle.dns_rows.specs.declared.row.Field.TheVariants as fields
 
--- The fault that a row tells where a name that begins at `start` can't be read on from p, behind its labels.
+-- A name that begins at `start` can't be read from p, after its labels, and this is the fault that the row reports.
 pub data StopsName (b : List ℕ) (of : NameOf) (start p : ℕ) : rows.Fault → Type 0 where
-  -- no octet stands there
+  -- no octet is there
   none : length b ≤ p → StopsName b of start p (Short (fields.Label of))
-  -- only the first octet of a pointer
+  -- only the first octet of a pointer is there
   half : p < length b → head_at b p ≡ Err ShortInput → StopsName b of start p (Short (fields.Pointer of start))
-  -- a label that isn't all there
+  -- a label runs past the end
   cut : {n : ℕ} → head_at b p ≡ Ok (heads.Label n) → (p - start) + n + 1 ≤ max_size → length b < p + 1 + n → StopsName b of start p (Short (fields.Label of))
-  -- an octet that begins nothing
+  -- the octet begins neither a label nor a pointer
   label : head_at b p ≡ Err Form → StopsName b of start p Label
-  -- a label with which the name is too long
+  -- the name is too long with this label
   long : {n : ℕ} → head_at b p ≡ Ok (heads.Label n) → max_size < (p - start) + n + 1 → StopsName b of start p LongName
-  -- a pointer that doesn't lead back
+  -- the pointer doesn't lead back
   ahead : {t : ℕ} → head_at b p ≡ Ok (heads.Pointer t) → p ≤ t → StopsName b of start p Pointer
-  -- a pointer that leads to octets from which no name can be read
+  -- the pointer leads to octets from which no name can be read
   behind : {t : ℕ} {f : Fault} → head_at b p ≡ Ok (heads.Pointer t) → t < p → FaultAt b t f → StopsName b of start p Behind
-  -- a pointer that leads to a name
+  -- the pointer leads to a name
   pointed : {t : ℕ} {name : Labels} → head_at b p ≡ Ok (heads.Pointer t) → t < p → Stands b t name → StopsName b of start p LongPointer
 
--- The fault of the reading that a fault of a row tells. Octets that lack are `ShortInput`, and each other fault is one of a name's form; behind a pointer the name may have either. Octets that are left over are no fault of the reading.
+-- The fault of the reading that belongs to a row's fault. For an incomplete field it is `ShortInput`, for a malformed name `Form`. For a pointer to a name that can't be read it is either. Octets after the last field of RDATA are no fault of the reading.
 abbrev pub TellsFault : rows.Fault → Fault → Type 0
 TellsFault (Short field) f = f ≡ ShortInput
 TellsFault Label f = f ≡ Form
@@ -41,7 +41,7 @@ TellsFault Behind f = ⊤
 TellsFault LongPointer f = f ≡ Form
 TellsFault Trailing f = ⊥
 
--- No name can be read at p. Its labels lead to a place, with these rows, and a fault of a row tells why it can't be read on there.
+-- No name can be read at p. Its labels extend to `place` and have these rows, and `fault` is why it can't be read from there.
 pub record LacksName (b : List ℕ) (of : NameOf) (p : ℕ) (f : Fault) (place : ℕ) (fault : rows.Fault) (shown : List Row) : Type 0 where
   pub faulty : FaultAt b p f
   pub labels : LabelRows b of p p place shown

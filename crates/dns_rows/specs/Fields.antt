@@ -14,33 +14,33 @@ use Rattle.dns_rows.specs.Tiles.{Tiles}
 abbrev pub field_row : ℕ → ℕ → Field → Row
 field_row start end field = record { start = start; end = end; kind = kinds.Field field }
 
--- one where an item begins, and none at any other field
+-- 1 for the field where an item begins, 0 for any other
 abbrev pub items_at : Field → ℕ
 items_at (fields.Item _ _) = 1
 items_at _ = 0
 
--- a row of a field: where an item begins it has no octets, and else it has some
+-- the row of a field: it is empty if an item begins there, and else has some octets
 pub record IsField (row : Row) : Type 0 where
   pub field : Field
   pub kind : row.kind ≡ kinds.Field field
   pub some : items_at field ≡ 0 → row.start < row.end
   pub none : items_at field ≡ 1 → row.start ≡ row.end
 
--- the same of a kind
+-- 1 for a row where an item begins, 0 for any other
 abbrev pub items_of : Kind → ℕ
 items_of (kinds.Field field) = items_at field
 items_of _ = 0
 
--- how many items begin at rows
+-- how many items begin at these rows
 abbrev pub item_count : List Row → ℕ
 item_count rows = sum_by (λ row. items_of row.kind) rows
 
--- rows of fields that cover the octets from a place to another
+-- the rows of fields that cover the octets from one offset to another
 pub record AreFields (rows : List Row) (from to : ℕ) : Type 0 where
   pub tiles : Tiles rows from to
   pub fields : All IsField rows
 
--- Of fields one behind the other some first ones are there, up to the place where one begins that isn't all there. The fault tells which it is.
+-- Of consecutive fields, `rows` are the first ones. The next field begins at `place`, within the octets, but runs past their end, and the fault says which field it is.
 pub record CutRows (b : List ℕ) (whole : List Row) (place : ℕ) (fault : Fault) (rows : List Row) : Type 0 where
   pub field : Field
   pub end : ℕ

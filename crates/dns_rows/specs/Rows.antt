@@ -1,25 +1,25 @@
--- The octets of a row, and what it is. RFC 1035 section 4.1.
+-- The octets of a row, and what they are. RFC 1035 section 4.1.
 use Rattle.std.specs.Prelude.{ℕ, ◌+◌, ◌*◌, ◌%◌, ◌^◌, ◌&&◌, Bool, true, false, nat_le, if◌then◌else◌, List, [], ◌∷◌, length, slice_range}
 use Rattle.dns_rows.specs.declared.row.Row.{Row}
 use Rattle.dns_rows.specs.declared.row.Kind.{Kind}
 use Rattle.dns_rows.specs.declared.row.Kind.TheVariants as kinds
 use Rattle.dns_rows.specs.declared.row.Field.TheVariants as fields
 
--- whether an item begins
+-- whether an item begins here
 abbrev pub is_item : Kind → Bool
 is_item (kinds.Field (fields.Item _ _)) = true
 is_item _ = false
 
--- whether it is a compression pointer
+-- whether the octets are a compression pointer
 abbrev pub is_pointer : Kind → Bool
 is_pointer (kinds.Field (fields.Pointer _ _)) = true
 is_pointer _ = false
 
--- the octets of a row; none, where it isn't one of the message
+-- the octets of a row; none if the row isn't within the message
 abbrev pub row_octets : List ℕ → Row → List ℕ
 row_octets message row = if nat_le row.start row.end && nat_le row.end (length message) then slice_range message row.start row.end else []
 
--- the place where a pointer of two octets leads: its lower 14 bits. RFC 1035 section 4.1.4.
+-- the offset that a 2-octet pointer leads to: its lower 14 bits. RFC 1035 section 4.1.4.
 abbrev pub target_in : List ℕ → ℕ
 target_in (high ∷ low ∷ []) = (high * 256 + low) % 2 ^ 14
 target_in _ = 0

@@ -1,4 +1,4 @@
--- The rows of a message: those of its header section, of other fields, of a fault and of what is behind one. RFC 1035 section 4.1.
+-- The rows of a message: of its header section, of its other fields, of a fault, and of the octets after that. RFC 1035 section 4.1.
 use Rattle.std.specs.Prelude.{◌≡◌, ℕ, ◌+◌, ◌≤◌, nat_lt, if◌then◌else◌, List, [], ◌∷◌, ◌++◌, length, Option, Some, None}
 use Rattle.dns_code.specs.HeaderSection.{header_size}
 use Rattle.dns_section.specs.Sections.{question_count, answer_count, authority_count, additional_count}
@@ -10,11 +10,11 @@ use Rattle.dns_rows.specs.declared.row.Fault.{Fault}
 use Rattle.dns_rows.specs.Entries.{all_parts, ShowsParts}
 use Rattle.dns_rows.specs.Fields.{field_row, item_count, AreFields}
 
--- the row of octets that are fewer than a header section has
+-- the row of octets that are fewer than a header section
 abbrev pub short_header : ℕ → Row
 short_header len = record { start = 0; end = len; kind = kinds.ShortHeader }
 
--- the six rows of a header section, each of two octets. RFC 1035 section 4.1.1.
+-- the six rows of a header section, of 2 octets each. RFC 1035 section 4.1.1.
 abbrev pub header_rows : List Row
 header_rows =
     field_row 0 2 fields.Id ∷ field_row 2 4 fields.Flags
@@ -25,20 +25,20 @@ abbrev pub fault_rows : Option Fault → ℕ → List Row
 fault_rows None place = []
 fault_rows (Some fault) place = record { start = place; end = place; kind = kinds.Fault fault } ∷ []
 
--- the one row of the octets that are left, if there are any
+-- the row of the remaining octets, if there are any
 abbrev pub unread_rows : ℕ → ℕ → List Row
 unread_rows place end = if nat_lt place end then record { start = place; end = end; kind = kinds.Unread } ∷ [] else []
 
--- how many items the header section of a message counts. RFC 1035 section 4.1.1.
+-- the number of items that the header section of a message counts. RFC 1035 section 4.1.1.
 abbrev pub counted_items : List ℕ → ℕ
 counted_items b = question_count b + answer_count b + authority_count b + additional_count b
 
--- so many items begin: all of them, or with a fault no more
+-- n items begin: all of them, or at most all if there is a fault
 abbrev pub Begins : Option Fault → ℕ → ℕ → Type 0
 Begins None n all = n ≡ all
 Begins (Some fault) n all = n ≤ all
 
--- The rows of a message: those of its header section, those of the fields behind it up to a place, that of a fault there, if there is one, and that of what is left. Where there is no fault, each item that the header section counts begins at a row. The fields are those of the readings of the four sections, in order, up to the fault.
+-- The rows of a message: those of its header section, those of the fields from there to `place`, that of a fault at `place`, if there is one, and that of the remaining octets. The fields are those of the readings of the four sections, in order, up to the fault. If there is no fault, each item that the header section counts begins at a row.
 pub record ShowsMessage (b : List ℕ) (rows : List Row) : Type 0 where
   pub others : List Row
   pub stop : Option Fault

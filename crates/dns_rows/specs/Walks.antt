@@ -1,4 +1,4 @@
--- What the steps of a walk over a message keep.
+-- What each step of a walk over a message does. In each definition, `old` is the walk before the step and `new` the walk after it.
 use Rattle.dns_rows.specs.Data.{option_rows, shape_of, Shape, ShowsData, TextRows, OptionRows, ShowsOption}
 use Rattle.dns_rows.specs.Named.{LabelRows, NameRows}
 use Rattle.std.specs.Prelude.{◌<◌, ◌≡◌, suc, Bool, true, false, ℕ, ◌+◌, ◌-◌, ◌≤◌, List, ◌++◌, ◌∷◌, length, ⊤, Option, Some, None, Result, Ok, Err, take}
@@ -27,7 +27,7 @@ use Rattle.dns_rows.specs.declared.walk.Stop.{Stop}
 use Rattle.dns_rows.specs.declared.walk.Stop.TheVariants as stops
 use Rattle.dns_rows.specs.declared.walk.Walk.{Walk}
 
--- the place of a walk
+-- the offset of a walk
 abbrev pub at : Walk → ℕ
 at walk = place walk.parser
 
@@ -39,7 +39,7 @@ octets walk = seen walk.parser
 abbrev pub items : Walk → ℕ
 items walk = item_count walk.rows.items
 
--- how many items the four counts are, together
+-- the sum of the four counts
 abbrev pub sum_of : Counts → ℕ
 sum_of all = all.qdcount + all.ancount + all.nscount + all.arcount
 
@@ -50,62 +50,62 @@ pub record AreCountsOf (b : List ℕ) (all : Counts) : Type 0 where
   pub authorities : all.nscount ≡ authority_count b
   pub additionals : all.arcount ≡ additional_count b
 
--- rows of fields cover the octets from the first item to the walk's place
+-- rows of fields cover the octets from the end of the header section to the walk's offset
 abbrev pub IsMarked : Walk → Type 0
 IsMarked walk = AreFields walk.rows.items header_size (at walk)
 
--- a walk over the same octets, with the rows up to its place, and at most so many items more
+-- `new` walks over the same octets, its rows reach its offset, and at most n more items have begun
 pub record Comes (n : ℕ) (old new : Walk) : Type 0 where
   pub marked : IsMarked new
   pub input : input new.parser ≡ input old.parser
   pub more : items old ≤ items new
   pub most : items new ≤ items old + n
 
--- a walk that sees the same octets, with these rows more, at a place
+-- `new` sees the same octets, has these rows added, and is at offset `to`
 pub record Adds (added : List Row) (to : ℕ) (old new : Walk) : Type 0 where
   pub rows : new.rows.items ≡ old.rows.items ++ added
   pub seen : octets new ≡ octets old
   pub place : at new ≡ to
 
--- if a step stops for a fault, this holds of it
+-- if the step stopped with a fault, `P` holds of it
 abbrev pub OnFaultOf : {T : Type 0} → Result T Stop → (rows.Fault → Type 0) → Type 0
 OnFaultOf (Ok _) P = ⊤
 OnFaultOf (Err (stops.Fault fault)) P = P fault
 OnFaultOf (Err stops.Memory) P = ⊤
 
--- if a step stops for a fault, this holds
+-- if the step stopped with a fault, `P` holds
 abbrev pub OnFault : {T : Type 0} → Result T Stop → Type 0 → Type 0
 OnFault result P = OnFaultOf result (λ _. P)
 
--- a field isn't all there, and this is its fault
+-- the field is incomplete: it runs past the end of the octets, and this is its fault
 abbrev pub LacksField : Field → List ℕ → ℕ → rows.Fault → Type 0
 LacksField field b end fault = (fault ≡ Short field) × (length b < end)
 
--- one of some fields isn't all there
+-- some field is incomplete, and this is its fault
 abbrev pub LacksFields : List ℕ → ℕ → rows.Fault → Type 0
 LacksFields b end fault = (field : Field) × LacksField field b end fault
 
--- where a name ends from p on, whose labels stand before p
+-- the root label or the pointer at p ends a name
 pub data IsEnd (b : List ℕ) (p : ℕ) : ℕ → Type 0 where
   root : head_at b p ≡ Ok Root → IsEnd b p (p + 1)
   pointer : {t : ℕ} → head_at b p ≡ Ok (Pointer t) → IsEnd b p (p + 2)
 
--- a label begins at p, behind labels of the size
+-- a label of n octets begins at p, after labels of `size` octets
 pub record IsLabelAt (b : List ℕ) (p size n : ℕ) : Type 0 where
   pub begins : head_at b p ≡ Ok (Label n)
   pub short : size + n + 1 ≤ max_size
   pub fits : p + 1 + n ≤ length b
 
--- whether a name can be read at a place
+-- whether a name can be read at p
 abbrev pub HasName : List ℕ → ℕ → Bool → Type 0
 HasName b p true = (labels : Labels) × Stands b p labels
 HasName b p false = (f : Fault) × FaultAt b p f
 
--- the rows of labels stand before those of what is behind them in a name
+-- these are rows of labels from p to q: before the rows of the remaining name they are rows of the name
 abbrev pub AreLabelRows : List ℕ → NameOf → ℕ → ℕ → List Row → Type 0
 AreLabelRows b of p q rows = (start end : ℕ) (behind : List Row) → NameRows b of start q end behind → NameRows b of start p end (rows ++ behind)
 
--- a walk that passed labels of the size
+-- the walk went over labels of `size` octets
 pub record PassesLabels (of : NameOf) (size : ℕ) (old new : Walk) : Type 0 where
   pub rows : List Row
   pub adds : Adds rows (at new) old new
@@ -114,7 +114,7 @@ pub record PassesLabels (of : NameOf) (size : ℕ) (old new : Walk) : Type 0 whe
   pub faults : (f : Fault) → FaultAt (octets old) (at old) f → Faulty (octets old) (at new) size f
   pub sizes : at new ≡ at old + size
 
--- a walk that passed all labels of a name
+-- the walk went over all labels of a name
 pub record PassesAllLabels (of : NameOf) (old new : Walk) : Type 0 where
   pub rows : List Row
   pub adds : Adds rows (at new) old new
@@ -125,13 +125,13 @@ pub record PassesAllLabels (of : NameOf) (old new : Walk) : Type 0 where
   pub faults : (f : Fault) → FaultAt (octets old) (at old) f → Faulty (octets old) (at new) (at new - at old) f
   pub none : (n : ℕ) → IsLabelAt (octets old) (at new) (at new - at old) n → ⊥
 
--- a walk that passed the root label or the pointer at which a name ends
+-- the walk went over the root label or the pointer that ends a name
 pub record PassesEnd (of : NameOf) (start to : ℕ) (old new : Walk) : Type 0 where
   pub rows : List Row
   pub adds : Adds rows to old new
   pub shows : NameRows (octets old) of start (at old) to rows
 
--- a walk that passed a name
+-- the walk went over a name
 pub record PassesName (of : NameOf) (old new : Walk) : Type 0 where
   pub rows : List Row
   pub adds : Adds rows (at new) old new
@@ -140,14 +140,14 @@ pub record PassesName (of : NameOf) (old new : Walk) : Type 0 where
   pub walked : Walked (octets old) (at old) (at new)
   pub shows : NameRows (octets old) of (at old) (at old) (at new) rows
 
--- a walk that stopped in a name
+-- the walk stopped in a name
 pub record MissesName (of : NameOf) (old new : Walk) (fault : rows.Fault) : Type 0 where
   pub rows : List Row
   pub adds : new.rows.items ≡ old.rows.items ++ rows
   pub f : Fault
   pub lacks : LacksName (octets old) of (at old) f (at new) fault rows
 
--- a walk that passed the name at which an item begins, behind the row of the item
+-- the walk added the row where an item begins, and went over the item's name
 pub record PassesItemName (of : NameOf) (row : Row) (old new : Walk) : Type 0 where
   pub rows : List Row
   pub adds : Adds (row ∷ rows) (at new) old new
@@ -156,111 +156,111 @@ pub record PassesItemName (of : NameOf) (row : Row) (old new : Walk) : Type 0 wh
   pub walked : Walked (octets old) (at old) (at new)
   pub shows : NameRows (octets old) of (at old) (at old) (at new) rows
 
--- a walk that stopped in the name at which an item begins, behind the row of the item
+-- the walk added the row where an item begins, and stopped in the item's name
 pub record MissesItemName (of : NameOf) (row : Row) (old new : Walk) (fault : rows.Fault) : Type 0 where
   pub rows : List Row
   pub adds : new.rows.items ≡ old.rows.items ++ row ∷ rows
   pub f : Fault
   pub lacks : LacksName (octets old) of (at old) f (at new) fault rows
 
--- a walk that stopped in fields one behind the other, of which one isn't all there
+-- the walk stopped in consecutive fields, of which one is incomplete
 pub record CutsFields (whole : List Row) (old new : Walk) (fault : rows.Fault) : Type 0 where
   pub rows : List Row
   pub adds : new.rows.items ≡ old.rows.items ++ rows
   pub cut : CutRows (octets old) whole (at new) fault rows
 
--- a walk that passed the numbers of a record: its type, and how many octets its data has
+-- the walk went over the numbers of a record, whose type and RDLENGTH are these
 pub record PassesNumbers (rtype len : ℕ) (old new : Walk) : Type 0 where
   pub adds : Adds (number_rows rtype (at old)) (at old + 10) old new
   pub within : at old + 10 ≤ length (octets old)
   pub rtype_there : rtype ≡ number_at w16 (octets old) (at old)
   pub len_there : len ≡ number_at w16 (octets old) (at old + 8)
 
--- a walk that passed an item
+-- the walk went over an item
 pub record MarksItem (part : Part) (number : ℕ) (old new : Walk) : Type 0 where
   pub entry : Entry part
   pub rows : List Row
   pub adds : Adds rows (at new) old new
   pub shows : ShowsItem (octets old) part number entry (at old) (at new) rows
 
--- a walk that stopped in an item
+-- the walk stopped in an item
 pub record MarksStop (part : Part) (number : ℕ) (old new : Walk) (fault : rows.Fault) : Type 0 where
   pub item : Result (Entry part) Fault
   pub rows : List Row
   pub adds : new.rows.items ≡ old.rows.items ++ rows
   pub stops : StopsItem (octets old) part number item (at old) (at new) fault rows
 
--- an item of a part can be skipped
+-- an item of a section can be skipped
 abbrev pub SkipsItem : List ℕ → Part → ℕ → ℕ → Type 0
 SkipsItem b Question = SkipsQuestion b
 SkipsItem b Answer = SkipsRecord b
 SkipsItem b Authority = SkipsRecord b
 SkipsItem b Additional = SkipsRecord b
 
--- the rows of the first n items of a part stand before those of what is read behind them
+-- these are the rows of the first n items of a section: before the rows of the items after them they are rows of the section
 abbrev pub AreFirstRows : List ℕ → Part → ℕ → ℕ → ℕ → List Row → Type 0
 AreFirstRows b part n p q first =
     (k end : ℕ) (stop : Option rows.Fault) (behind : List Row) → ReadingRows b part (suc n) (reading_from b part k q) stop q end behind
     → ReadingRows b part 1 (reading_from b part (n + k) p) stop p end (first ++ behind)
 
--- a walk that passed the first n items of a part
+-- the walk went over the first n items of a section
 pub record MarksFirst (part : Part) (n : ℕ) (old new : Walk) : Type 0 where
   pub rows : List Row
   pub adds : Adds rows (at new) old new
   pub first : AreFirstRows (octets old) part n (at old) (at new) rows
   pub skips : (k end : ℕ) → Passed (SkipsItem (octets old) part) k (at new) end → Passed (SkipsItem (octets old) part) (n + k) (at old) end
 
--- a walk that stopped among n items of a part
+-- the walk stopped in one of n items of a section
 pub record MarksAmong (part : Part) (n : ℕ) (old new : Walk) (fault : rows.Fault) : Type 0 where
   pub rows : List Row
   pub adds : new.rows.items ≡ old.rows.items ++ rows
   pub shows : ReadingRows (octets old) part 1 (reading_from (octets old) part n (at old)) (Some fault) (at old) (at new) rows
 
--- a walk that passed parts, or stopped in one
+-- the walk went over these sections, or stopped in one
 pub record MarksParts (parts : List Part) (stop : Option rows.Fault) (old new : Walk) : Type 0 where
   pub rows : List Row
   pub adds : new.rows.items ≡ old.rows.items ++ rows
   pub shows : ShowsParts (octets old) parts stop (at old) (at new) rows
 
--- a walk that passed the fields of data, or stopped in one
+-- the walk went over the fields of RDATA, or stopped in one
 pub record MarksData (shape : Shape) (stop : Option rows.Fault) (old new : Walk) : Type 0 where
   pub rows : List Row
   pub adds : new.rows.items ≡ old.rows.items ++ rows
   pub shows : ShowsData (octets old) shape stop (at old) (at new) rows
 
--- a walk that stopped in the fields of data with a fault
+-- the walk stopped in the fields of RDATA with this fault
 abbrev pub StopsData : Shape → Walk → Walk → rows.Fault → Type 0
 StopsData shape old new fault = MarksData shape (Some fault) old new
 
--- a walk that passed the data of a record, which has so many octets, or stopped in it
+-- the walk went over the RDATA of a record, of `len` octets, or stopped in it
 pub record MarksWithin (rtype len : ℕ) (stop : Option rows.Fault) (old new : Walk) : Type 0 where
   pub rows : List Row
   pub adds : new.rows.items ≡ old.rows.items ++ rows
   pub shows : ShowsData (take (at old + len) (octets old)) (shape_of rtype) stop (at old) (at new) rows
 
--- why a walk stopped at the data of a record: it isn't all there, or a field of it stops, or octets are left over
+-- why a walk stopped at the RDATA of a record: the RDATA is incomplete, a field in it can't be read, or octets follow its last field
 pub data StopsWithin (rtype len : ℕ) (old new : Walk) : rows.Fault → Type 0 where
   missing : length (octets old) < at old + len → new ≡ old → StopsWithin rtype len old new (Short Data)
   stopped : (stop : Option rows.Fault) → at old + len ≤ length (octets old) → MarksWithin rtype len stop old new → (stop ≡ None → at new < at old + len)
       → StopsWithin rtype len old new (data_fault stop)
 
--- a walk that passed character strings
+-- the walk went over character strings
 pub record PassesTexts (old new : Walk) : Type 0 where
   pub rows : List Row
   pub adds : Adds rows (at new) old new
   pub texts : TextRows (octets old) (at old) (at new) rows
 
--- a walk that passed an option
+-- the walk went over an option
 pub record PassesOption (old new : Walk) : Type 0 where
   pub rows : List Row
   pub adds : Adds rows (at new) old new
   pub shows : ShowsOption (octets old) (at old) (at new) rows
 
--- a walk that stopped in an option
+-- the walk stopped in an option
 abbrev pub MissesOption : Walk → Walk → rows.Fault → Type 0
 MissesOption old new = CutsFields (option_rows (number_at w16 (octets old) (at old)) (number_at w16 (octets old) (at old + 2)) (at old)) old new
 
--- a walk that passed options
+-- the walk went over options
 pub record PassesOptions (old new : Walk) : Type 0 where
   pub rows : List Row
   pub adds : Adds rows (at new) old new

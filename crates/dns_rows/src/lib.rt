@@ -1,11 +1,12 @@
 //! The octets of a message as rows, one for each field.
 //!
-//! It promises that the rows of any octets cover them, each exactly once and in order. Fewer than twelve octets are one row; of
-//! others the first six rows are those of the header section. Behind them come those of the readings of the four sections, as
-//! the cursors of `dns_section` give them: of each question and record that is read, field by field and in order, up to the
-//! first that can't be read or whose data can't. Of that one come the fields before its fault, each as what it is: labels up to
-//! where the name can't be read on, and else all fields before the first that isn't all there. Then come the row of the fault,
-//! which tells why, and that of what is left.
+//! The rows of any octets cover them, each octet exactly once and in order. Fewer than 12 octets
+//! are one row. Otherwise the first six rows are the fields of the header section. The rows of the
+//! four sections follow: of each question and record that the cursors of `dns_section` yield, field
+//! by field and in order, up to the first item that can't be read, or whose RDATA can't. Of that
+//! item, the rows of the fields before the fault are shown: the labels up to where the name can't
+//! be read, or all fields before the first that is incomplete. Then come the row of the fault,
+//! which says what is wrong, and the row of the remaining octets.
 #![tactic(auto)]
 
 mod octets;

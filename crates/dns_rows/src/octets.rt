@@ -4,7 +4,7 @@ ghost use Rattle.dns_rows.specs.Rows.{row_octets, target_in};
 
 use crate::row::Row;
 
-/// The octets of a row; none, where it isn't one of the message.
+/// The octets of a row, or none if the row isn't within the message.
 pub fn octets_of<'a>(message: &'a [u8], row: &Row) -> &'a [u8]
     ensures { result.now ≡ row_octets message.now row.now }
 {
@@ -15,7 +15,8 @@ pub fn octets_of<'a>(message: &'a [u8], row: &Row) -> &'a [u8]
     }
 }
 
-/// The place where a pointer of two octets leads (RFC 1035 section 4.1.4); 0 for other octets.
+/// The offset that a 2-octet compression pointer leads to (RFC 1035 section 4.1.4), or 0 for any
+/// other number of octets.
 pub fn target_of(octets: &[u8]) -> usize
     ensures { result ≡ target_in octets.now }
 {

@@ -1,6 +1,6 @@
-//! Rows and what they are.
+//! Rows, and what their octets are.
 
-/// Some adjacent octets of a message, from `start` up to `end`.
+/// Consecutive octets of a message, from offset `start` up to but not including `end`.
 #[derive(Clone, Copy, Debug, PartialEq, Eq)]
 pub struct Row {
     pub start: usize,
@@ -11,12 +11,12 @@ pub struct Row {
 /// What the octets of a row are.
 #[derive(Clone, Copy, Debug, PartialEq, Eq)]
 pub enum Kind {
-    /// All octets, where they are fewer than a header section has.
+    /// All octets, if they are fewer than the 12 of a header section.
     ShortHeader,
     Field(Field),
     /// No octets: the field that begins here can't be read.
     Fault(Fault),
-    /// What is behind the last field that can be read.
+    /// The octets after the last field that can be read.
     Unread,
 }
 
@@ -24,14 +24,14 @@ impl Kind {
     ghost use Rattle.std.specs.Prelude.{◌≡◌};
     ghost use Rattle.dns_rows.specs.Rows.{is_item, is_pointer};
 
-    /// Whether an item begins.
+    /// Whether an item begins here.
     pub fn is_item(self) -> bool
         ensures { result ≡ is_item self }
     {
         matches!(self, Kind::Field(Field::Item(_, _)))
     }
 
-    /// Whether it is a compression pointer.
+    /// Whether the octets are a compression pointer.
     pub fn is_pointer(self) -> bool
         ensures { result ≡ is_pointer self }
     {
@@ -39,7 +39,7 @@ impl Kind {
     }
 }
 
-/// A part of a message that holds items (RFC 1035 section 4.1).
+/// A section of a message (RFC 1035 section 4.1).
 #[derive(Clone, Copy, Debug, PartialEq, Eq)]
 pub enum Part {
     Question,
@@ -48,26 +48,26 @@ pub enum Part {
     Additional,
 }
 
-/// Which name of an item it is (RFC 1035 sections 3.3 and 4.1).
+/// Which name of an item this is (RFC 1035 sections 3.3 and 4.1).
 #[derive(Clone, Copy, Debug, PartialEq, Eq)]
 pub enum NameOf {
     Question,
     Owner,
-    /// The data of NS.
+    /// The name server in NS RDATA.
     Server,
-    /// The data of CNAME.
+    /// The canonical name in CNAME RDATA.
     Canonical,
-    /// The data of PTR.
+    /// The name in PTR RDATA.
     Target,
-    /// In the data of MX.
+    /// The mail exchanger in MX RDATA.
     Exchange,
-    /// MNAME of SOA, the server that is the source of the zone.
+    /// MNAME in SOA RDATA: the name server that is the source of the zone.
     Primary,
-    /// RNAME of SOA, the mailbox of who is responsible for the zone.
+    /// RNAME in SOA RDATA: the mailbox of the person responsible for the zone.
     Mailbox,
 }
 
-/// A number in the data of SOA (RFC 1035 section 3.3.13).
+/// A number in SOA RDATA (RFC 1035 section 3.3.13).
 #[derive(Clone, Copy, Debug, PartialEq, Eq)]
 pub enum ZoneNumber {
     Serial,
@@ -82,57 +82,57 @@ pub enum ZoneNumber {
 pub enum Field {
     Id,
     Flags,
-    /// How many items a part has.
+    /// The count of items in a section.
     Count(Part),
-    /// No octets: an item of a part begins, the first is 1.
+    /// No octets: an item of a section begins here. Items are numbered from 1.
     Item(Part, usize),
     /// A label with its length octet.
     Label(NameOf),
-    /// The root label that ends a name, and where the name begins.
+    /// The root label that ends a name, with the offset where the name begins.
     Root(NameOf, usize),
-    /// The compression pointer that ends a name, and where the name begins.
+    /// The compression pointer that ends a name, with the offset where the name begins.
     Pointer(NameOf, usize),
     Type,
     Class,
     Ttl,
     DataLength,
-    /// An address of four octets.
+    /// An IPv4 address, of 4 octets.
     Address,
-    /// An address of sixteen octets.
+    /// An IPv6 address, of 16 octets.
     LongAddress,
     Preference,
-    /// In the data of SOA.
+    /// A number in SOA RDATA.
     Zone(ZoneNumber),
-    /// A string with its length octet.
+    /// A character string with its length octet.
     Text,
-    /// Data of any other type.
+    /// RDATA of any other type.
     Data,
     PayloadSize,
     ExtendedRcode,
     Version,
     OptFlags,
     OptionCode,
-    /// The length of an option with this code.
+    /// The length of the option with this code.
     OptionLength(u16),
-    /// The data of an option with this code.
+    /// The data of the option with this code.
     OptionData(u16),
 }
 
 /// Why a field can't be read.
 #[derive(Clone, Copy, Debug, PartialEq, Eq)]
 pub enum Fault {
-    /// The message or the data ends before the field does.
+    /// The message or the RDATA ends before the field does.
     Short(Field),
-    /// An octet with the high bits 01 or 10 begins no label.
+    /// The octet has the high bits 01 or 10, so it begins no label.
     Label,
-    /// With this label the name has more than 255 octets.
+    /// The name exceeds 255 octets with this label.
     LongName,
     /// The pointer doesn't lead back.
     Pointer,
     /// The pointer leads to octets from which no name can be read.
     Behind,
-    /// The pointer leads to a name with which this one has more than 255 octets.
+    /// The pointer leads to a name with which this one exceeds 255 octets.
     LongPointer,
-    /// The data of a record has octets behind its value.
+    /// Octets follow the last field of the RDATA.
     Trailing,
 }

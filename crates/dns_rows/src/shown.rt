@@ -14,13 +14,15 @@ use crate::walk::{Stop, Walk};
 use dns_code::HeaderCounts;
 use std::alloc::{AllocError, Global};
 
-/// How many octets a header section has.
+/// The length of a header section in octets.
 const HEADER_LEN: usize = 12;
 
-/// The rows of any octets, each octet in one of them: one for each field of the message up to the first that can't be
-/// read, one for the fault of that, and one for what is behind.
+/// The rows of any octets, each octet in exactly one of them. There is one row for each field of
+/// the message up to the first that can't be read, one for the fault there, and one for the
+/// remaining octets.
 ///
-/// Octets that are fewer than a header section has are one row. Octets behind the last item are unread too.
+/// Octets that are fewer than a header section are one row. Octets after the last item are one row,
+/// too.
 pub fn rows(alloc: Global, octets: &[u8]) -> Result<Vec<Row>, AllocError>
     ensures tiles { IfOk result (λ rows. Tiles rows.items 0 (length octets.now)) }
     ensures short { length octets.now < header_size
@@ -36,7 +38,7 @@ pub fn rows(alloc: Global, octets: &[u8]) -> Result<Vec<Row>, AllocError>
     message_rows(alloc, octets)
 }
 
-/// The row of octets that are fewer than a header section has.
+/// The row of octets that are fewer than a header section.
 fn short_rows(alloc: Global, len: usize) -> Result<Vec<Row>, AllocError>
     ensures { IfOk result (λ rows. rows.items ≡ short_header len ∷ []) }
 {
@@ -49,7 +51,7 @@ fn short_rows(alloc: Global, len: usize) -> Result<Vec<Row>, AllocError>
     Ok(rows)
 }
 
-/// The rows of octets that have a header section.
+/// The rows of octets that include a header section.
 fn message_rows(alloc: Global, octets: &[u8]) -> Result<Vec<Row>, AllocError>
     requires { header_size ≤ length octets.now }
     ensures tiles { IfOk result (λ rows. Tiles rows.items 0 (length octets.now)) }
@@ -63,7 +65,7 @@ fn message_rows(alloc: Global, octets: &[u8]) -> Result<Vec<Row>, AllocError>
     Ok(rows)
 }
 
-/// How many items each section of a message has.
+/// The counts of items in the sections of a message.
 fn counts_of(octets: &[u8]) -> HeaderCounts
     requires { header_size ≤ length octets.now }
     ensures questions { (counts result).qdcount ≡ question_count octets.now }
@@ -74,7 +76,7 @@ fn counts_of(octets: &[u8]) -> HeaderCounts
     HeaderCounts::for_message_slice(octets)
 }
 
-/// Walks over the items of a message, and gives the fault that ends the walk, if one does.
+/// Walks over the items of a message, and returns the fault that ends the walk, if any.
 fn fault_of(walk: &mut Walk, all: HeaderCounts) -> Result<Option<Fault>, AllocError>
     requires marked { IsMarked walk.old }
     requires start { at walk.old ≡ header_size }

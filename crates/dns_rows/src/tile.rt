@@ -1,4 +1,4 @@
-//! Rows put one behind the other.
+//! Rows, and lists of consecutive rows.
 ghost use Rattle.std.specs.Prelude.{◌≡◌, ◌++◌, OnOk, IfOk};
 ghost use Rattle.dns_rows.specs.Fields.{field_row};
 ghost use Rattle.dns_rows.specs.Shown.{header_rows, fault_rows, unread_rows};
@@ -14,7 +14,7 @@ pub(crate) fn field(start: usize, end: usize, field: Field) -> Row
     Row { start, end, kind }
 }
 
-/// The rows of a header section, two octets each (RFC 1035 section 4.1.1).
+/// The rows of a header section, of 2 octets each (RFC 1035 section 4.1.1).
 pub(crate) fn header(alloc: Global) -> Result<Vec<Row>, AllocError>
     ensures { IfOk result (λ rows. rows.items ≡ header_rows) }
 {
@@ -28,7 +28,8 @@ pub(crate) fn header(alloc: Global) -> Result<Vec<Row>, AllocError>
     Ok(rows)
 }
 
-/// Puts behind rows of fields that end at a place the fault there, if there is one, and the octets that are left.
+/// Appends the row of the fault at `place`, if there is one, and that of the octets from `place` to
+/// `len`, if there are any.
 pub(crate) fn push_rest(
     rows: &mut Vec<Row>,
     stop: Option<Fault>,

@@ -1,4 +1,5 @@
-//! A walk over a message that makes a row of each field (RFC 1035 sections 3.3 and 4.1, RFC 6891 section 6.1.2).
+//! A walk over a message that makes a row of each field (RFC 1035 sections 3.3 and 4.1, RFC 6891
+//! section 6.1.2).
 ghost use Rattle.std.specs.Prelude.{◌≡◌, ◌+◌, ◌<◌, ◌≤◌, ◌∷◌, ◌++◌, ℕ, [], IsNone, OnOk, IfOk, IfSome, IsTrue, Ok, ◌-◌, length, slice_get, Some, None};
 ghost use Rattle.std.specs.Int.{w16};
 ghost use Rattle.dns_name.specs.Names.{head_at};
@@ -20,7 +21,8 @@ use dns_code::{HeaderCounts, Rtype};
 use dns_name::{ParsedName, Parser};
 use std::alloc::Global;
 
-/// The most octets that the labels of a name take: 255 less the root's zero octet (RFC 1035 section 2.3.4).
+/// The maximum size of a name's labels in octets: 255 without the root's zero octet (RFC 1035
+/// section 2.3.4).
 const MAX_SIZE: usize = 254;
 
 /// Why a walk ends early.
@@ -30,7 +32,7 @@ pub(crate) enum Stop {
     Memory,
 }
 
-/// A place in a message behind its header section, and the rows of the fields before it.
+/// An offset in a message, after its header section, with the rows of the fields before it.
 #[derive(Drop)]
 pub(crate) struct Walk<'a> {
     pub(crate) parser: Parser<'a>,
@@ -38,7 +40,7 @@ pub(crate) struct Walk<'a> {
 }
 
 impl<'a> Walk<'a> {
-    /// A walk that begins behind the header section.
+    /// A walk that begins after the header section.
     pub(crate) fn new(alloc: Global, octets: &'a [u8]) -> Self
         requires { header_size ≤ length octets.now }
         ensures marked { IsMarked result }
@@ -56,7 +58,8 @@ impl<'a> Walk<'a> {
         }
     }
 
-    /// Marks a field from here up to where a parser stands, and goes on with that.
+    /// Adds the row of a field from here to the offset of the parser `behind`, and continues with
+    /// that parser.
     fn mark(&mut self, behind: Parser<'a>, field: Field) -> Result<(), Stop>
         requires marked { IsMarked self.old }
         requires input { input behind ≡ input self.old.parser }
@@ -77,7 +80,7 @@ impl<'a> Walk<'a> {
         Ok(())
     }
 
-    /// A field of `n` octets.
+    /// Walks over a field of `n` octets.
     fn octets(&mut self, n: usize, field: Field) -> Result<(), Stop>
         requires marked { IsMarked self.old }
         requires some { 0 < n }
@@ -98,7 +101,7 @@ impl<'a> Walk<'a> {
         Ok(())
     }
 
-    /// A field that is a number of two octets.
+    /// Walks over a field that is a 16-bit number, and returns the number.
     fn number(&mut self, field: Field) -> Result<u16, Stop>
         requires marked { IsMarked self.old }
         requires plain { items_at field ≡ 0 }
@@ -119,7 +122,7 @@ impl<'a> Walk<'a> {
         Ok(number)
     }
 
-    /// An item of a part begins here with a name.
+    /// Adds the row where an item begins, and walks over the name that the item begins with.
     fn item(&mut self, part: Part, number: usize, name: NameOf) -> Result<(), Stop>
         requires { IsMarked self.old }
         ensures comes { Comes 1 self.old self.new }
@@ -133,7 +136,7 @@ impl<'a> Walk<'a> {
         self.name(name)
     }
 
-    /// The octet that stands here, if one does.
+    /// The octet at this offset, if there is one.
     fn first(&self) -> Option<u8>
         ensures { slice_get (octets self.now) (at self.now) ≡ result }
     {
@@ -141,7 +144,7 @@ impl<'a> Walk<'a> {
         Some(octets[0])
     }
 
-    /// The octet behind the one that stands here, if both do.
+    /// The octet after the one at this offset, if there is one.
     fn second(&self) -> Option<u8>
         ensures { slice_get (octets self.now) (at self.now + 1) ≡ result }
     {
@@ -149,8 +152,9 @@ impl<'a> Walk<'a> {
         Some(octets[1])
     }
 
-    /// The octets of the label that begins here, without its length octet; `None` where none begins, where it isn't all
-    /// there, and where a name is too long with it, which has `size` octets before it.
+    /// The length of the label that begins here, after labels of `size` octets, without its length
+    /// octet. Returns `None` if no label begins here, if it runs past the end, or if the name is
+    /// too long with it.
     fn label_len(&self, size: usize) -> Option<usize>
         requires { size ≤ MAX_SIZE }
         ensures some { IfSome result (λ len. IsLabelAt (octets self.now) (at self.now) size len) }
@@ -164,7 +168,7 @@ impl<'a> Walk<'a> {
         Some(len)
     }
 
-    /// The labels that begin here, up to what is no label of a name.
+    /// Walks over the labels that begin here, up to what is no label of the name.
     fn labels(&mut self, name: NameOf) -> Result<(), Stop>
         requires { IsMarked self.old }
         ensures comes { Comes 0 self.old self.new }
@@ -179,7 +183,7 @@ impl<'a> Walk<'a> {
         Ok(())
     }
 
-    /// A name: its labels, and the root label or the pointer that ends it.
+    /// Walks over a name: its labels, and the root label or pointer that ends it.
     fn name(&mut self, name: NameOf) -> Result<(), Stop>
         requires { IsMarked self.old }
         ensures comes { Comes 0 self.old self.new }
@@ -196,7 +200,8 @@ impl<'a> Walk<'a> {
         self.end_name(behind, name, start)
     }
 
-    /// The root label or the pointer that ends a name here; the name begins at `start`.
+    /// Walks over the root label or pointer that ends a name here. The name begins at `start`, and
+    /// ends at the offset of the parser `behind`.
     fn end_name(&mut self, behind: Parser<'a>, name: NameOf, start: usize) -> Result<(), Stop>
         requires marked { IsMarked self.old }
         requires input { input behind ≡ input self.old.parser }
@@ -212,7 +217,7 @@ impl<'a> Walk<'a> {
         }
     }
 
-    /// Why a name that begins at `start` can't be read on from here, behind its labels.
+    /// Why a name that begins at `start` can't be read from here, after its labels.
     fn name_fault(&self, name: NameOf, start: usize) -> Fault
         requires order { start ≤ at self.now }
         requires none { (n : ℕ)
@@ -230,9 +235,10 @@ impl<'a> Walk<'a> {
         }
     }
 
-    /// Why a name that begins at `start` can't be read from the pointer that begins here with the octet `high`.
+    /// Why a name that begins at `start` can't be read, when a pointer begins here with the octet
+    /// `high`.
     ///
-    /// A name that can be read where the pointer leads is too long behind the labels before it.
+    /// If a name can be read at the target, this name is too long with it.
     fn pointer_fault(&self, name: NameOf, start: usize, high: u8) -> Fault
         requires first { slice_get (octets self.now) (at self.now) ≡ Some high }
         requires pointer { 192 ≤ high }
@@ -251,7 +257,7 @@ impl<'a> Walk<'a> {
         }
     }
 
-    /// Whether a name can be read at a place before the end.
+    /// Whether a name can be read at this offset.
     fn has_name(&self, place: usize) -> bool
         requires { place ≤ length (octets self.now) }
         ensures { HasName (octets self.now) place result }
@@ -260,7 +266,7 @@ impl<'a> Walk<'a> {
         there.seek(place).is_ok() && ParsedName::parse(&mut there).is_ok()
     }
 
-    /// The items of all parts, as many as the header section of the message says.
+    /// Walks over the items of all sections, as many as the header section counts.
     pub(crate) fn items(&mut self, all: HeaderCounts) -> Result<(), Stop>
         requires marked { IsMarked self.old }
         requires start { at self.old ≡ header_size }
@@ -278,7 +284,7 @@ impl<'a> Walk<'a> {
         Ok(())
     }
 
-    /// The questions, as many as the header says.
+    /// Walks over the questions, as many as the header counts.
     fn questions(&mut self, count: u16) -> Result<(), Stop>
         requires { IsMarked self.old }
         ensures comes { Comes count self.old self.new }
@@ -305,7 +311,7 @@ impl<'a> Walk<'a> {
         Ok(())
     }
 
-    /// The records of a part, as many as the header says.
+    /// Walks over the records of a section, as many as the header counts.
     fn records(&mut self, part: Part, count: u16) -> Result<(), Stop>
         requires marked { IsMarked self.old }
         requires part { IsTrue (holds_records part) }
@@ -334,7 +340,8 @@ impl<'a> Walk<'a> {
         Ok(())
     }
 
-    /// The ten octets behind the owner of a record; gives its type and the length of its data.
+    /// Walks over the ten octets after the owner of a record, and returns the record's type and
+    /// RDLENGTH.
     fn record_fields(&mut self) -> Result<(Rtype, u16), Stop>
         requires { IsMarked self.old }
         ensures comes { Comes 0 self.old self.new }
@@ -350,7 +357,7 @@ impl<'a> Walk<'a> {
         Ok((rtype, len))
     }
 
-    /// What stands between the type of a record and the length of its data.
+    /// Walks over the fields between TYPE and RDLENGTH of a record.
     fn class_and_ttl(&mut self, rtype: Rtype) -> Result<(), Stop>
         requires { IsMarked self.old }
         ensures comes { Comes 0 self.old self.new }
@@ -369,7 +376,7 @@ impl<'a> Walk<'a> {
         Ok(())
     }
 
-    /// What an OPT record has there (RFC 6891 section 6.1.2).
+    /// Walks over the fields that an OPT record has there (RFC 6891 section 6.1.2).
     fn opt_fields(&mut self) -> Result<(), Stop>
         requires { IsMarked self.old }
         ensures comes { Comes 0 self.old self.new }
@@ -385,7 +392,7 @@ impl<'a> Walk<'a> {
         Ok(())
     }
 
-    /// The data of a record, which has `len` octets.
+    /// Walks over the RDATA of a record, of `len` octets.
     fn within(&mut self, rtype: Rtype, len: usize) -> Result<(), Stop>
         requires { IsMarked self.old }
         ensures comes { Comes 0 self.old self.new }
@@ -408,7 +415,7 @@ impl<'a> Walk<'a> {
         Ok(())
     }
 
-    /// The data of a record, up to the end of the parser.
+    /// Walks over the RDATA of a record, up to the end of the parser.
     fn data(&mut self, rtype: Rtype) -> Result<(), Stop>
         requires { IsMarked self.old }
         ensures comes { Comes 0 self.old self.new }
@@ -430,7 +437,7 @@ impl<'a> Walk<'a> {
         }
     }
 
-    /// Data that is a field of `n` octets.
+    /// Walks over RDATA that is one field of `n` octets.
     fn only_octets(&mut self, n: usize, field: Field) -> Result<(), Stop>
         requires marked { IsMarked self.old }
         requires some { 0 < n }
@@ -444,7 +451,7 @@ impl<'a> Walk<'a> {
         Ok(())
     }
 
-    /// Data that is a name.
+    /// Walks over RDATA that is a name.
     fn only_name(&mut self, name: NameOf) -> Result<(), Stop>
         requires { IsMarked self.old }
         ensures comes { Comes 0 self.old self.new }
@@ -456,7 +463,7 @@ impl<'a> Walk<'a> {
         Ok(())
     }
 
-    /// Data that is one field: the octets that are left, if there are any.
+    /// Walks over RDATA that is one field of all remaining octets, if there are any.
     fn rest(&mut self) -> Result<(), Stop>
         requires { IsMarked self.old }
         ensures comes { Comes 0 self.old self.new }
@@ -470,7 +477,7 @@ impl<'a> Walk<'a> {
         }
     }
 
-    /// The data of MX (RFC 1035 section 3.3.9).
+    /// Walks over the RDATA of an MX record (RFC 1035 section 3.3.9).
     fn exchange(&mut self) -> Result<(), Stop>
         requires { IsMarked self.old }
         ensures comes { Comes 0 self.old self.new }
@@ -483,7 +490,7 @@ impl<'a> Walk<'a> {
         Ok(())
     }
 
-    /// The data of SOA (RFC 1035 section 3.3.13).
+    /// Walks over the RDATA of an SOA record (RFC 1035 section 3.3.13).
     fn zone(&mut self) -> Result<(), Stop>
         requires { IsMarked self.old }
         ensures comes { Comes 0 self.old self.new }
@@ -501,7 +508,7 @@ impl<'a> Walk<'a> {
         Ok(())
     }
 
-    /// The data of TXT (RFC 1035 section 3.3.14).
+    /// Walks over the RDATA of a TXT record (RFC 1035 section 3.3.14).
     fn texts(&mut self) -> Result<(), Stop>
         requires { IsMarked self.old }
         ensures comes { Comes 0 self.old self.new }
@@ -515,7 +522,7 @@ impl<'a> Walk<'a> {
         Ok(())
     }
 
-    /// The options of OPT (RFC 6891 section 6.1.2).
+    /// Walks over the options of an OPT record (RFC 6891 section 6.1.2).
     fn options(&mut self) -> Result<(), Stop>
         requires { IsMarked self.old }
         ensures comes { Comes 0 self.old self.new }

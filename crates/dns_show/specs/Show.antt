@@ -1,6 +1,6 @@
--- What `dnsmsg show` prints of a message: its header, its counts, and one line for each item. RFC 1035 sections 4.1 and 5.1, RFC 3597 section 5.
+-- What `dnsmsg show` prints of a message: its header, its counts, and a line for each item. RFC 1035 sections 4.1 and 5.1, RFC 3597 section 5.
 --
--- `b` are the octets of the message.
+-- `b` is the octets of the message.
 use Rattle.std.specs.Prelude.{ℕ, ◌+◌, ◌≤◌, if◌then◌else◌, List, [], ◌∷◌, ◌++◌, take, slice_index, drop, Option, Some, None, Result, Ok, Err, codes, decimal}
 use Rattle.std.specs.Int.{w32}
 use Rattle.std.specs.List.{flat_map}
@@ -53,11 +53,11 @@ abbrev pub question_line : Result QuestionItem Fault → List ℕ
 question_line (Ok q) = line (codes "question " ++ fields_text (name_text q.name) q.rtype q.class)
 question_line (Err f) = line (codes "question error")
 
--- the parts of a record's data, where the data is of a layout
+-- the parts of a record's RDATA by this layout; none if the RDATA is malformed
 abbrev pub data_parts : StandingRecord → Layout → Option (List Part)
 data_parts x layout = result_ok (data_in x layout)
 
--- four octets as an address
+-- four octets as an IPv4 address
 abbrev pub address_octets_text : List ℕ → List ℕ
 address_octets_text octets =
     decimal (slice_index octets 0) ++ codes "." ++ decimal (slice_index octets 1) ++ codes "." ++ decimal (slice_index octets 2) ++ codes "." ++ decimal (slice_index octets 3)
@@ -76,48 +76,48 @@ parts_text (CompressibleName mname ∷ CompressibleName rname ∷ Octets octets 
     name_text mname ++ codes ". " ++ name_text rname ++ codes ". " ++ zone_numbers_text octets
 parts_text _ = []
 
--- the text of a record's data: that of its parts, or else that of its octets
+-- the text of a record's RDATA: that of its parts if they are given, else that of its octets
 abbrev pub shown_data : StandingRecord → Option (List Part) → List ℕ
 shown_data x (Some parts) = parts_text parts
 shown_data x None = opaque_text (drop x.entry.data_start (up_to_data_end x.octets x.entry))
 
--- the parts of a record's data, where its type has a layout and the data is of it
+-- the parts of a record's RDATA; none if its type has no layout, or if the RDATA is malformed
 abbrev pub typed_parts : StandingRecord → Option (List Part)
 typed_parts x = option_and_then (data_parts x) (typed_layout x.entry.rtype)
 
--- the text of a record, whose data is these parts or else its octets
+-- the text of a record with the given parts of its RDATA, or with its RDATA as octets
 abbrev pub text_with : StandingRecord → Option (List Part) → List ℕ
 text_with x parts = record_fields_text (name_text x.entry.owner) x.entry.ttl x.entry.class x.entry.rtype (shown_data x parts)
 
--- the text of a record: data by its fields where its type has a layout and the data is of it, else as octets
+-- the text of a record: its RDATA by its fields if its type has a layout and the RDATA is well-formed, else as octets
 abbrev pub record_text : StandingRecord → List ℕ
 record_text x = text_with x (typed_parts x)
 
--- the word for a section of records
+-- the word that begins each line of a section of records
 abbrev pub section_word : Section → List ℕ
 section_word Answer = codes "answer"
 section_word Authority = codes "authority"
 section_word Additional = codes "additional"
 
--- a record that was read where it stands
+-- the record can be read from its octets
 abbrev pub IsRead : StandingRecord → Type 0
 IsRead x = (p : ℕ) × (q : ℕ) × ReadsRecord x.octets p q x.entry
 
--- its data has at most as many octets as a number of 16 bits can tell
+-- its RDATA has at most 65,535 octets
 abbrev pub HasShortData : StandingRecord → Type 0
 HasShortData x = x.entry.data_end ≤ x.entry.data_start + 65535
 
--- the line of an item of a section of records, behind the section's word: a record, or an error
+-- the line of an item of a section of records, after the section's word: a record, or an error
 abbrev pub record_line : List ℕ → Result StandingRecord Fault → List ℕ
 record_line word (Ok x) = line (word ++ codes " " ++ record_text x)
 record_line word (Err f) = line (word ++ codes " error")
 
--- what is printed from a section on: a line for each item where it starts, and what is behind it; else that it is missing, and nothing more
+-- what is printed from a section on: a line for each of its items, then `behind`; if it has no start, a line that says it is missing, and nothing more
 abbrev pub section_lines : List ℕ → Section → Option ℕ → List ℕ → List ℕ
 section_lines b section (Some start) behind = flat_map (record_line (section_word section)) (records_in b (record_count section b) start) ++ behind
 section_lines b section None behind = line (section_word section ++ codes " missing")
 
--- the sections of records of a message, up to the first that has no start
+-- the lines of the sections of records, up to the first that has no start
 abbrev pub records_text : List ℕ → List ℕ
 records_text b =
     section_lines b Answer (start_of Answer b) (section_lines b Authority (start_of Authority b) (section_lines b Additional (start_of Additional b) []))

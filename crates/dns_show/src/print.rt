@@ -1,4 +1,4 @@
-//! A message printed: its header, its counts, and a line for each item of each section.
+//! Prints a message as text: its header, its counts, and a line for each item of each section.
 ghost use Rattle.std.specs.Prelude.{◌≡◌, ◌++◌, None, Ok, IfOk, OnOk, codes};
 ghost use Rattle.std.specs.Io.KnownBytes.{Appends};
 ghost use Rattle.std.specs.List.{flat_map};
@@ -19,9 +19,11 @@ use dns_wire::{ParseError, ParsedName};
 use std::io;
 use std::io::Write;
 
-/// Prints a message: a line for its header, one for its counts, and one for each item of each section.
+/// Prints a message: a line for its header, one for its counts, and one for each item of each
+/// section.
 ///
-/// Behind a section that has no start no more is printed.
+/// If a section has no start, prints that it is missing, and nothing after that. Returns the error
+/// of `writer` if it fails.
 pub fn print_message<W: Write>(writer: &mut W, message: &Message<&[u8]>) -> io::Result<()>
     ensures { OnOk result (Appends (W.contents writer.old) (W.contents writer.new)
         (message_text (message_octets message.now))) }
@@ -105,7 +107,7 @@ fn print_sections<W: Write>(writer: &mut W, message: &Message<&[u8]>) -> io::Res
     print_records(writer, Section::Additional, additional)
 }
 
-/// The word for a section, with which its lines begin.
+/// The word that begins each line of a section.
 fn word_of(section: Section) -> &'static str
     ensures { result.now ≡ section_word section }
 {
@@ -159,7 +161,8 @@ fn print_record<W: Write>(
     }
 }
 
-/// Prints a record that was read: its data by its fields, where it is data of a type that has them, else as octets.
+/// Prints a record: its RDATA by its fields if `TypedData` accepts its type and the RDATA is
+/// well-formed, else as octets.
 fn print_parsed<W: Write>(writer: &mut W, word: &str, record: &ParsedRecord<'_>) -> io::Result<()>
     requires read { IsRead (standing_record «record».now) }
     requires short { HasShortData (standing_record «record».now) }
@@ -173,7 +176,7 @@ fn print_parsed<W: Write>(writer: &mut W, word: &str, record: &ParsedRecord<'_>)
     }
 }
 
-/// Prints a record that was read, with its data as octets.
+/// Prints a record with its RDATA as octets.
 fn print_opaque<W: Write>(writer: &mut W, word: &str, record: &ParsedRecord<'_>) -> io::Result<()>
     requires read { IsRead (standing_record «record».now) }
     requires short { HasShortData (standing_record «record».now) }

@@ -6,7 +6,7 @@ use dns_data::{A, Cname, Ns, ParseRecordData, RecordData, Soa};
 use dns_wire::{ParseError, ParsedName, Parser};
 use std::fmt;
 
-/// The data of a record of one of the types that are printed by their fields.
+/// RDATA of one of the types that are printed by their fields.
 #[derive(Clone, Copy, Debug, Drop)]
 pub(crate) enum TypedData<'a> {
     A(A),
@@ -58,7 +58,7 @@ impl<'a> ParseRecordData<'a> for TypedData<'a> {
     ghost laid_out = { typed_laid_out };
 }
 
-/// As the data itself is printed.
+/// Prints the data as its own type does.
 impl fmt::Display for TypedData<'_> {
     ghost output = { typed_text };
 
