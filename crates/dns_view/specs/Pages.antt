@@ -1,4 +1,4 @@
--- What `print_page` prints of rows. The words are left open.
+-- What `print_page` prints for rows. The words for their meanings are left open.
 use Rattle.std.specs.Prelude.{◌≡◌, ℕ, ◌+◌, ◌*◌, ◌/◌, ◌%◌, ◌==◌, max, if◌then◌else◌, List, [], ◌∷◌, ◌++◌, length, codes, decimal}
 use Rattle.std.specs.List.{concat, enumerate_from, flat_map, AllZip}
 use Rattle.dns_rows.specs.Rows.{is_item, is_pointer, row_octets, target_in}
@@ -10,23 +10,23 @@ use Rattle.dns_rows.specs.declared.row.Field.{Field}
 use Rattle.dns_rows.specs.declared.row.Field.TheVariants as fields
 use Rattle.dns_view.specs.declared.html.TheConstants.{HEAD, TIP}
 
--- the left edge of an octet's cell: sixteen cells, each 36 wide, stand on a line behind a margin of 60
+-- the left edge of an octet's cell: a line has sixteen cells of width 36, after a margin of 60
 abbrev pub left_edge : ℕ → ℕ
 left_edge place = place % 16 * 36 + 60
 
--- its upper edge: each line is 30 high
+-- the upper edge of an octet's cell: each line has height 30
 abbrev pub upper_edge : ℕ → ℕ
 upper_edge place = place / 16 * 30
 
--- an octet of a text; `<`, `>` and `&` are escaped
+-- an octet of a text, where `<`, `>` and `&` are escaped
 abbrev pub escaped_octet : ℕ → List ℕ
 escaped_octet octet = if octet == 60 then codes "&lt;" else (if octet == 62 then codes "&gt;" else (if octet == 38 then codes "&amp;" else octet ∷ []))
 
--- a text with its markup escaped
+-- a text with its markup characters escaped
 abbrev pub escaped : List ℕ → List ℕ
 escaped text = flat_map escaped_octet text
 
--- the class of a field in the page's style
+-- the class of a field in the page's style sheet
 abbrev pub field_class : Field → List ℕ
 field_class fields.Id = codes "header"
 field_class fields.Flags = codes "header"
@@ -52,11 +52,11 @@ abbrev pub class_text : Kind → List ℕ
 class_text (kinds.Field field) = field_class field
 class_text _ = codes "fault"
 
--- how the picture of so many octets begins: its width and its height
+-- the start of the picture for `count` octets, with its width and height
 abbrev pub opening_text : ℕ → List ℕ
 opening_text count = codes "<svg width=\"" ++ decimal (left_edge 15 + 72) ++ codes "\" height=\"" ++ decimal (upper_edge count + 60) ++ codes "\">\n"
 
--- the number of a line's first place, before its cell; nothing at others
+-- the offset of an octet that is the first on a line, before its cell; nothing for others
 abbrev pub place_label : ℕ → List ℕ
 place_label place =
     if place % 16 == 0 then codes "<text class=\"place\" x=\"50\" y=\"" ++ decimal (upper_edge place + 20) ++ codes "\">" ++ decimal place ++ codes "</text>\n" else []
@@ -65,25 +65,25 @@ place_label place =
 abbrev pub rectangle_text : ℕ → List ℕ
 rectangle_text place = codes "<rect x=\"" ++ decimal (left_edge place) ++ codes "\" y=\"" ++ decimal (upper_edge place) ++ codes "\" width=\"36\" height=\"30\"/>"
 
--- the digits of an octet in its cell, with the place as their name
+-- the digits of an octet in its cell, with an `id` made of the offset
 abbrev pub cell_digits : ℕ → ℕ → List ℕ
 cell_digits place octet =
     codes "<text x=\"" ++ decimal (left_edge place + 18) ++ codes "\" y=\"" ++ decimal (upper_edge place + 20) ++ codes "\" id=\"o" ++ decimal place ++ codes "\">" ++ octet_text octet ++ codes "</text>\n"
 
--- the cell of an octet at a place
+-- the cell of an octet, given with its offset
 abbrev pub cell_text : ℕ × ℕ → List ℕ
 cell_text (place, octet) = place_label place ++ (rectangle_text place ++ cell_digits place octet)
 
--- the cells of octets from a place on, each at its place
+-- the cells of consecutive octets, the first at offset `start`
 abbrev pub octet_cells : ℕ → List ℕ → List ℕ
 octet_cells start octets = flat_map cell_text (enumerate_from start octets)
 
--- the cells of a row, with some words as their title
+-- the cells of a row, with some words as their tooltip
 abbrev pub IsCells : List ℕ → Row → List ℕ → Type 0
 IsCells message row text =
     (words : List ℕ) × (text ≡ codes "<g class=\"" ++ class_text row.kind ++ codes "\"><title>" ++ escaped words ++ codes "</title>\n" ++ octet_cells row.start (row_octets message row) ++ codes "</g>\n")
 
--- a curve with a tip, which leads from one point to another
+-- a curve with a tip, from one point to another
 abbrev pub path_text : ℕ → ℕ → ℕ → ℕ → ℕ → List ℕ
 path_text from_x from_y bend_x to_x to_y =
     codes "<path d=\"M" ++ decimal from_x ++ codes "," ++ decimal from_y ++ codes " Q" ++ decimal bend_x ++ codes "," ++ decimal to_y
@@ -97,11 +97,11 @@ arrow_between from to =
     path_text from_x (upper_edge from + 6) (max from_x to_x + 36) to_x (upper_edge to + 26)
     ++ (codes "<title>" ++ decimal from ++ codes " points to " ++ decimal to ++ codes "</title></path>\n")
 
--- the arrow of a pointer, from its first octet to where it leads; nothing for other rows
+-- the arrow of a pointer, from its first octet to its target; nothing for other rows
 abbrev pub arrow_text : List ℕ → Row → List ℕ
 arrow_text message row = if is_pointer row.kind then arrow_between row.start (target_in (row_octets message row)) else []
 
--- octets in a row of the table, each before a space
+-- the octets in a row of the table, each with a space after it
 abbrev pub table_octets : List ℕ → List ℕ
 table_octets octets = flat_map (λ octet. octet_text octet ++ codes " ") octets
 
@@ -109,7 +109,7 @@ table_octets octets = flat_map (λ octet. octet_text octet ++ codes " ") octets
 abbrev pub item_row_text : List ℕ → List ℕ
 item_row_text words = codes "<tr><th colspan=\"3\">" ++ escaped words ++ codes "</th></tr>\n"
 
--- any other row of the table: its class, place, octets and words
+-- any other row of the table: its class, offset, octets and words
 abbrev pub field_row_text : Row → List ℕ → List ℕ → List ℕ
 field_row_text row octets words =
     codes "<tr class=\"" ++ class_text row.kind ++ codes "\"><td class=\"place\">" ++ decimal row.start ++ codes "</td><td class=\"octets\">" ++ table_octets octets
@@ -119,7 +119,7 @@ field_row_text row octets words =
 abbrev pub IsTableRow : List ℕ → Row → List ℕ → Type 0
 IsTableRow message row text = (words : List ℕ) × (text ≡ (if is_item row.kind then item_row_text words else field_row_text row (row_octets message row) words))
 
--- the text of a page: its head, the picture with the cells of each row and the arrows of pointers, and the table with each row
+-- the text of a page: its head, the picture with the cells of all rows and the arrows of the pointers, and the table of all rows
 pub record IsPage (message : List ℕ) (rows : List Row) (text : List ℕ) : Type 0 where
   pub cells : List (List ℕ)
   pub table : List (List ℕ)

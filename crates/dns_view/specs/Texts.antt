@@ -1,45 +1,45 @@
--- What `print_text` prints of rows. The words are left open.
+-- What `print_text` prints for rows. The words for their meanings are left open.
 use Rattle.std.specs.Prelude.{◌≡◌, ℕ, ◌-◌, ◌*◌, ◌≤◌, List, [], ◌∷◌, ◌++◌, length, replicate, All, MatchBool, codes, decimal}
 use Rattle.std.specs.List.{flat_map}
 use Rattle.dns_rows.specs.Rows.{is_item, row_octets}
 use Rattle.dns_view.specs.Digits.{octet_text}
 use Rattle.dns_rows.specs.declared.row.Row.{Row}
 
--- how many octets stand on a line at most
+-- the octets on a line, at most
 abbrev pub line_octets : ℕ
 line_octets = 8
 
--- how many columns of words stand on a line at most
+-- the columns of words on a line, at most
 abbrev pub columns : ℕ
 columns = 46
 
--- so many spaces
+-- n spaces
 abbrev pub spaces : ℕ → List ℕ
 spaces n = replicate n 32
 
--- a place, right-aligned in six columns
+-- an offset, right-aligned in six columns
 abbrev pub place_text : ℕ → List ℕ
 place_text place = spaces (6 - length (decimal place)) ++ decimal place
 
--- octets, each behind a space
+-- octets in digits, each after a space
 abbrev pub digits_text : List ℕ → List ℕ
 digits_text octets = flat_map (λ octet. 32 ∷ octet_text octet) octets
 
--- what stands for the octets that a line with so many lacks: three spaces for each
+-- the spaces in place of the octets that a line with `count` octets lacks: three for each
 abbrev pub blank_octets : ℕ → List ℕ
 blank_octets count = spaces (3 * (line_octets - count))
 
--- some octets of a row, and words that stand behind them
+-- some octets of a row, and the words after them
 pub record Line : Type 0 where
   pub octets : List ℕ
   pub words : List ℕ
 
--- a line has eight octets at most, and words of 46 columns at most
+-- a line has at most eight octets, and at most 46 columns of words
 pub record IsShort (line : Line) : Type 0 where
   pub octets : length line.octets ≤ line_octets
   pub words : length line.words ≤ columns
 
--- words behind so many octets, always from the same column on; nothing, where there are none
+-- words after `count` octets, always from the same column; nothing if there are none
 abbrev pub words_text : ℕ → List ℕ → List ℕ
 words_text count [] = []
 words_text count words = blank_octets count ++ codes "  " ++ words
@@ -48,7 +48,7 @@ words_text count words = blank_octets count ++ codes "  " ++ words
 abbrev pub line_text : Line → List ℕ
 line_text line = digits_text line.octets ++ words_text (length line.octets) line.words ++ 10 ∷ []
 
--- the text of octets from a place on: lines that have these octets in order, the first behind the place, each other behind seven spaces
+-- the text of consecutive octets from an offset: lines that have these octets in order, the first after the offset, each other after seven spaces
 pub record IsLines (place : ℕ) (octets text : List ℕ) : Type 0 where
   pub first : Line
   pub others : List Line
@@ -60,6 +60,6 @@ pub record IsLines (place : ℕ) (octets text : List ℕ) : Type 0 where
 abbrev pub IsWords : List ℕ → Type 0
 IsWords text = (words : List ℕ) × (text ≡ words ++ 10 ∷ [])
 
--- the text of a row: where an item begins words alone, else its octets from its place on
+-- the text of a row: words alone where an item begins, else its octets from its offset on
 abbrev pub IsRowText : List ℕ → Row → List ℕ → Type 0
 IsRowText message row text = MatchBool (is_item row.kind) (IsWords text) (IsLines row.start (row_octets message row) text)

@@ -1,21 +1,23 @@
-//! Names of opcodes, rcodes and options: those of the library, else the number behind a word.
+//! Names of opcodes, RCODEs and options: those that the library has, else a word with the number.
 use dns_message::code::{Opcode, Rcode};
 use std::fmt;
 
-/// An opcode, to be printed by its name, as `QUERY` or `OPCODE5 (update)`.
+/// An opcode, printed by name, as in `QUERY` or `OPCODE5 (update)`.
 #[derive(Clone, Copy)]
 pub(crate) struct OpcodeName(pub(crate) Opcode);
 
-/// An rcode with the eight bits of an OPT record above those of the header, to be printed by its name, as `NXDOMAIN` or
+/// An RCODE, extended by the eight bits of an OPT record, printed by name, as in `NXDOMAIN` or
 /// `RCODE1 (format error)`.
 #[derive(Clone, Copy)]
 pub(crate) struct RcodeName(pub(crate) u16);
 
-/// The code of an option, to be printed by its name, as `COOKIE` or `OPTION65001` (the names are those of `OptBuilder`).
+/// The code of an option, printed by name, as in `COOKIE` or `OPTION65001`. The codes with names
+/// are those that `OptBuilder` has a call for.
 #[derive(Clone, Copy)]
 pub(crate) struct OptionName(pub(crate) u16);
 
-/// Opcodes that RFCs give and that have no name in the library (RFC 1035 section 4.1.1, RFC 2136, RFC 8490).
+/// Words for opcodes of RFCs that have no name in the library (RFC 1035 section 4.1.1, RFC 2136,
+/// RFC 8490).
 fn opcode_words(opcode: u8) -> &'static str {
     match opcode {
         1 => " (inverse query)",
@@ -40,8 +42,8 @@ impl fmt::Display for OpcodeName {
     }
 }
 
-/// Rcodes that RFCs give and that have no name in the library (RFC 1035 section 4.1.1, RFC 2136 section 2.2, RFC 6891
-/// section 9, RFC 7873 section 8).
+/// Words for RCODEs of RFCs that have no name in the library (RFC 1035 section 4.1.1, RFC 2136
+/// section 2.2, RFC 6891 section 9, RFC 7873 section 8).
 fn rcode_words(rcode: u16) -> &'static str {
     match rcode {
         1 => " (format error)",
@@ -57,7 +59,7 @@ fn rcode_words(rcode: u16) -> &'static str {
     }
 }
 
-/// The name of an rcode in the library.
+/// The library's name of an RCODE.
 fn rcode_name(rcode: u16) -> Option<&'static str> {
     let rcode = Rcode::checked_from_int(u8::try_from(rcode).ok()?)?;
     match rcode {

@@ -1,4 +1,5 @@
-//! Rows printed as a page of HTML: the octets in a grid, coloured by field, with pointers drawn as arrows.
+//! Rows printed as a page of HTML: the octets in a grid, coloured by field, with pointers drawn as
+//! arrows.
 ghost use Rattle.std.specs.Prelude.{◌≡◌, ◌+◌, ◌^◌, ◌<◌, length, OnOk};
 ghost use Rattle.std.specs.Io.KnownBytes.{Appends};
 ghost use Rattle.std.specs.List.{flat_map};
@@ -12,20 +13,21 @@ use std::alloc::Global;
 use std::io;
 use std::io::Write;
 
-/// How many octets stand on a line of the grid.
+/// The octets on a line of the grid.
 const OCTETS: usize = 16;
 
-/// The width and the height of a cell of the grid, and its left margin.
+/// The width of a cell of the grid, in pixels. `HEIGHT` is its height, and `MARGIN` the margin left
+/// of the grid.
 const WIDTH: usize = 36;
 
 const HEIGHT: u128 = 30;
 
 const MARGIN: usize = 60;
 
-/// Where the number of a line's first place ends.
+/// The right edge of the offsets that are printed before the lines of the grid.
 const PLACE_END: usize = 50;
 
-/// What stands before the grid: the page needs no other file.
+/// The text before the grid. The page needs no other file.
 const HEAD: &str = "<!DOCTYPE html>
 <html lang=\"en\">
 <head>
@@ -70,7 +72,7 @@ const TIP: &str =
                    orient=\"auto\"><path d=\"M0,0 L6,3 L0,6\"/></marker></defs>
 ";
 
-/// Prints rows of a message as one page, which needs nothing else: no network, no script.
+/// Prints rows of a message as one page of HTML, which needs no network and no script.
 pub fn print_page<W: Write>(
     alloc: Global,
     writer: &mut W,
@@ -90,7 +92,7 @@ pub fn print_page<W: Write>(
     writer.write_all(b"</table>\n</main>\n</body>\n</html>\n")
 }
 
-/// Prints how the picture of so many octets begins.
+/// Prints the start of the picture for `count` octets.
 fn print_opening<W: Write>(writer: &mut W, count: usize) -> io::Result<()>
     ensures { OnOk result (Appends (W.contents writer.old) (W.contents writer.new)
         (opening_text count)) }
@@ -107,14 +109,14 @@ fn x_of(place: usize) -> usize
     (place % OCTETS) * WIDTH + MARGIN
 }
 
-/// The upper edge of an octet's cell, which can have more than 64 bits.
+/// The upper edge of an octet's cell, which may exceed 64 bits.
 fn y_of(place: usize) -> u128
     ensures { result ≡ upper_edge place }
 {
     (place / OCTETS) as u128 * HEIGHT
 }
 
-/// The class of a row in the page's style.
+/// The class of a row in the page's style sheet.
 fn class_of(kind: Kind) -> &'static str
     ensures { result.now ≡ class_text kind }
 {
@@ -138,7 +140,7 @@ fn field_class(field: Field) -> &'static str
     }
 }
 
-/// Prints a text with the characters of markup escaped.
+/// Prints a text with its markup characters escaped.
 fn print_escaped<W: Write>(writer: &mut W, text: &[u8]) -> io::Result<()>
     ensures { OnOk result (Appends (W.contents writer.old) (W.contents writer.new)
         (escaped text.now)) }
@@ -149,7 +151,7 @@ fn print_escaped<W: Write>(writer: &mut W, text: &[u8]) -> io::Result<()>
     Ok(())
 }
 
-/// Prints an octet of a text, escaped where it is one of markup.
+/// Prints an octet of a text, escaped if it is a markup character.
 fn print_escaped_octet<W: Write>(writer: &mut W, octet: u8) -> io::Result<()>
     ensures { OnOk result (Appends (W.contents writer.old) (W.contents writer.new)
         (escaped_octet octet)) }
@@ -178,7 +180,7 @@ fn print_cells<W: Write>(
     Ok(())
 }
 
-/// Prints the cells of a row's octets, with the meaning as what shows under the mouse.
+/// Prints the cells of a row's octets, with the row's meaning as their tooltip.
 fn print_row_cells<W: Write>(
     alloc: Global,
     writer: &mut W,
@@ -198,7 +200,7 @@ fn print_row_cells<W: Write>(
     writer.write_all(b"</g>\n")
 }
 
-/// Prints the cells of octets from a place on.
+/// Prints the cells of consecutive octets, the first at offset `start`.
 fn print_octet_cells<W: Write>(writer: &mut W, start: usize, octets: &[u8]) -> io::Result<()>
     requires { start + length octets.now < 2 ^ 64 }
     ensures { OnOk result (Appends (W.contents writer.old) (W.contents writer.new)
@@ -210,7 +212,7 @@ fn print_octet_cells<W: Write>(writer: &mut W, start: usize, octets: &[u8]) -> i
     Ok(())
 }
 
-/// Prints the cell of an octet, and at the start of a line its place.
+/// Prints the cell of an octet, and before the first of a line its offset.
 fn print_cell<W: Write>(writer: &mut W, place: usize, octet: u8) -> io::Result<()>
     ensures { OnOk result (Appends (W.contents writer.old) (W.contents writer.new)
         (cell_text (place, octet))) }
@@ -233,7 +235,7 @@ fn print_rectangle<W: Write>(writer: &mut W, place: usize) -> io::Result<()>
     )
 }
 
-/// Prints the digits of an octet into its cell, with the place as their name.
+/// Prints the digits of an octet into its cell, with an `id` made of the offset.
 fn print_cell_digits<W: Write>(writer: &mut W, place: usize, octet: u8) -> io::Result<()>
     ensures { OnOk result (Appends (W.contents writer.old) (W.contents writer.new)
         (cell_digits place octet)) }
@@ -245,7 +247,7 @@ fn print_cell_digits<W: Write>(writer: &mut W, place: usize, octet: u8) -> io::R
     writer.write_all(b"</text>\n")
 }
 
-/// Prints a place before the cell there, at the start of a line.
+/// Prints the offset of an octet if it is the first on a line.
 fn print_place<W: Write>(writer: &mut W, place: usize) -> io::Result<()>
     ensures { OnOk result (Appends (W.contents writer.old) (W.contents writer.new)
         (place_label place)) }
@@ -271,7 +273,8 @@ fn print_arrows<W: Write>(writer: &mut W, message: &[u8], rows: &[Row]) -> io::R
     Ok(())
 }
 
-/// Prints the arrow of a row, from a pointer's first octet to the one where it leads; nothing for other rows.
+/// Prints the arrow of a row that is a pointer, from the pointer's first octet to its target.
+/// Prints nothing for any other row.
 fn print_row_arrow<W: Write>(writer: &mut W, message: &[u8], row: &Row) -> io::Result<()>
     ensures { OnOk result (Appends (W.contents writer.old) (W.contents writer.new)
         (arrow_text message.now row.now)) }
@@ -282,7 +285,7 @@ fn print_row_arrow<W: Write>(writer: &mut W, message: &[u8], row: &Row) -> io::R
     print_arrow(writer, row.start, target_of(octets_of(message, row)))
 }
 
-/// Prints an arrow from the cell of an octet to that of another.
+/// Prints an arrow from the cell of one octet to that of another.
 fn print_arrow<W: Write>(writer: &mut W, from: usize, target: usize) -> io::Result<()>
     ensures { OnOk result (Appends (W.contents writer.old) (W.contents writer.new)
         (arrow_between from target)) }
@@ -296,7 +299,7 @@ fn print_arrow<W: Write>(writer: &mut W, from: usize, target: usize) -> io::Resu
     writeln!(writer, "<title>{from} points to {target}</title></path>")
 }
 
-/// Prints a curve with a tip, which leads from one point to another.
+/// Prints a curve with a tip, from one point to another.
 fn print_path<W: Write>(
     writer: &mut W,
     from_x: usize,
@@ -347,7 +350,7 @@ fn print_table_row<W: Write>(
     }
 }
 
-/// Prints a row of the table where an item begins: what it is.
+/// Prints a row of the table where an item begins: the item's section and number.
 fn print_item_row<W: Write>(writer: &mut W, words: &[u8]) -> io::Result<()>
     ensures { OnOk result (Appends (W.contents writer.old) (W.contents writer.new)
         (item_row_text words.now)) }
@@ -357,7 +360,7 @@ fn print_item_row<W: Write>(writer: &mut W, words: &[u8]) -> io::Result<()>
     writer.write_all(b"</th></tr>\n")
 }
 
-/// Prints any other row of the table: its place, its octets and what they mean.
+/// Prints any other row of the table: its offset, its octets and what they mean.
 fn print_field_row<W: Write>(
     writer: &mut W,
     row: &Row,
@@ -379,7 +382,7 @@ fn print_field_row<W: Write>(
     writer.write_all(b"</td></tr>\n")
 }
 
-/// Prints octets in hexadecimal digits, with a space behind each.
+/// Prints octets in hexadecimal digits, with a space after each octet.
 fn print_octets<W: Write>(writer: &mut W, octets: &[u8]) -> io::Result<()>
     ensures { OnOk result (Appends (W.contents writer.old) (W.contents writer.new)
         (table_octets octets.now)) }

@@ -1,8 +1,10 @@
-//! The rows of a message printed, for people who would rather look: as a text of at most 80 columns, and as a page of HTML.
+//! Prints the rows of a message, as text of at most 80 columns and as a page of HTML. The rows are
+//! those of `dns_rows`.
 //!
-//! It promises that each row is printed once and in order, with its place and all of its octets in digits, and in a page with
-//! a cell for each octet at its place and an arrow from each pointer to where it leads, and that the program prints all rows of
-//! the message that its input gives. Which words say what a row means is tested. The rows are those of `dns_rows`.
+//! Each row is printed once and in order, with its offset and all of its octets in digits. A page
+//! also has a cell for each octet at its offset, and an arrow from each pointer to its target. The
+//! program prints all rows of the message in its input. The words for what a row means are only
+//! tested.
 #![tactic(auto)]
 
 mod codes;

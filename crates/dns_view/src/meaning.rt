@@ -9,13 +9,13 @@ use dns_message::wire::Parser;
 use dns_rows::{Fault, Field, Kind, NameOf, Part, Row, ZoneNumber, octets_of, target_of};
 use std::fmt;
 
-/// The flags of an OPT record have DO as their highest bit (RFC 3225).
+/// DO, the highest bit of the flags of an OPT record (RFC 3225).
 const DNSSEC_OK: u32 = 0x8000;
 
-/// How many octets the header of a message has.
+/// The octets of a header, which is a header section without the counts.
 const HEADER_LEN: usize = 4;
 
-/// A row of a message, to be printed in words, in ASCII.
+/// A row of a message, printed in words, in ASCII.
 #[derive(Clone, Copy)]
 pub(crate) struct Meaning<'a> {
     /// The octets of the message.
@@ -23,7 +23,7 @@ pub(crate) struct Meaning<'a> {
     pub(crate) row: Row,
 }
 
-/// The number that one, two or four octets write.
+/// The big-endian number in one, two or four octets; 0 for any other number of octets.
 fn number_of(octets: &[u8]) -> u32 {
     match octets {
         [only] => u32::from(*only),
@@ -33,7 +33,7 @@ fn number_of(octets: &[u8]) -> u32 {
     }
 }
 
-/// The number that two octets write.
+/// The big-endian number in two octets; 0 for any other number of octets.
 fn short_of(octets: &[u8]) -> u16 {
     match octets {
         [high, low] => u16::from_be_bytes([*high, *low]),
@@ -41,7 +41,7 @@ fn short_of(octets: &[u8]) -> u16 {
     }
 }
 
-/// The word for an item of a part.
+/// The word for an item of a section.
 pub(crate) fn word_of(part: Part) -> &'static str {
     match part {
         Part::Question => "question",
@@ -85,7 +85,7 @@ impl<'a> Meaning<'a> {
         octets_of(self.message, &self.row)
     }
 
-    /// Prints a field: those that need more than their number here, the others by `write_number`.
+    /// Prints a field, by `write_number` unless it needs more than its number.
     fn write_field<W: fmt::Write>(&self, f: &mut fmt::Formatter<W>, field: Field) -> fmt::Result {
         let octets = self.octets();
         match field {
@@ -114,7 +114,7 @@ impl<'a> Meaning<'a> {
         }
     }
 
-    /// Prints where a pointer leads, and the whole name, where it is more than what stands there.
+    /// Prints where a pointer leads and, if labels precede the pointer, the whole name.
     fn write_pointer<W: fmt::Write>(
         &self,
         f: &mut fmt::Formatter<W>,
@@ -158,7 +158,7 @@ impl<'a> Meaning<'a> {
     }
 }
 
-/// The words for a field that can be cut short.
+/// The words for a field that may be incomplete.
 fn field_words(field: Field) -> &'static str {
     match field {
         Field::Label(name) | Field::Root(name, _) | Field::Pointer(name, _) => words_of(name),
@@ -185,7 +185,7 @@ fn field_words(field: Field) -> &'static str {
     }
 }
 
-/// Prints the name that stands at a place, with a dot behind its labels.
+/// Prints the absolute name at an offset, or nothing if no name can be read there.
 fn write_name<W: fmt::Write>(
     f: &mut fmt::Formatter<W>,
     message: &[u8],
@@ -201,7 +201,7 @@ fn write_name<W: fmt::Write>(
     }
 }
 
-/// Prints the bits of a header behind its identifier, in order; of the flags those that are set.
+/// Prints the fields of a header after its ID, in order. Of the flags, prints those that are set.
 fn write_flags<W: fmt::Write>(f: &mut fmt::Formatter<W>, message: &[u8]) -> fmt::Result {
     if message.len() < HEADER_LEN {
         return Ok(());
@@ -219,7 +219,7 @@ fn write_flags<W: fmt::Write>(f: &mut fmt::Formatter<W>, message: &[u8]) -> fmt:
     write!(f, ", rcode {rcode}")
 }
 
-/// Prints the flags of a header that are set, but for QR.
+/// Prints the flags of a header that are set, other than QR.
 fn write_set<W: fmt::Write>(f: &mut fmt::Formatter<W>, header: Header) -> fmt::Result {
     let flags = [
         (header.aa(), "authoritative answer (AA)"),
@@ -238,7 +238,7 @@ fn write_set<W: fmt::Write>(f: &mut fmt::Formatter<W>, header: Header) -> fmt::R
     Ok(())
 }
 
-/// Prints a label, which stands behind its length octet.
+/// Prints a label, which follows its length octet.
 fn write_label<W: fmt::Write>(
     f: &mut fmt::Formatter<W>,
     name: NameOf,
@@ -253,7 +253,7 @@ fn write_label<W: fmt::Write>(
     write!(f, "{words}, label of {count}: {label}")
 }
 
-/// Prints a string, which stands behind its length octet.
+/// Prints a character string, which follows its length octet.
 fn write_text<W: fmt::Write>(f: &mut fmt::Formatter<W>, octets: &[u8]) -> fmt::Result {
     let [len, text @ ..] = octets else {
         return Ok(());
@@ -263,8 +263,8 @@ fn write_text<W: fmt::Write>(f: &mut fmt::Formatter<W>, octets: &[u8]) -> fmt::R
     write!(f, "text of {count}: {text}")
 }
 
-/// Prints the eight bits of an OPT record above those of the header, and the rcode that they make (RFC 6891 section
-/// 6.1.3).
+/// Prints the upper eight bits of an extended RCODE and, unless they are 0, the RCODE that they
+/// form with the header's (RFC 6891 section 6.1.3).
 fn write_extended<W: fmt::Write>(
     f: &mut fmt::Formatter<W>,
     message: &[u8],
@@ -282,7 +282,7 @@ fn write_extended<W: fmt::Write>(
     write!(f, ", with that of the header {rcode}")
 }
 
-/// Prints a field of an option, behind the option's name.
+/// Prints a field of an option, after the option's name.
 fn write_option<W: fmt::Write>(
     f: &mut fmt::Formatter<W>,
     field: Field,
@@ -305,7 +305,7 @@ fn write_option<W: fmt::Write>(
     }
 }
 
-/// Prints a field that is a number, and data that has no more to tell than its length.
+/// Prints a field that is a number, or the length of RDATA that isn't shown in words.
 fn write_number<W: fmt::Write>(
     f: &mut fmt::Formatter<W>,
     field: Field,
@@ -343,7 +343,7 @@ fn write_number<W: fmt::Write>(
     }
 }
 
-/// Prints one of the numbers of a zone: all but the serial are seconds (RFC 1035 section 3.3.13).
+/// Prints a number in SOA RDATA. All but the serial are in seconds (RFC 1035 section 3.3.13).
 fn write_zone_number<W: fmt::Write>(
     f: &mut fmt::Formatter<W>,
     part: ZoneNumber,

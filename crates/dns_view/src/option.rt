@@ -5,10 +5,10 @@ use dns_message::name::ParsedName;
 use dns_message::wire::Parser;
 use std::fmt;
 
-/// The octets of a client's cookie (RFC 7873 section 4).
+/// The octets of a client cookie (RFC 7873 section 4).
 const CLIENT_COOKIE_LEN: usize = 8;
 
-/// The data of an option of an OPT record, to be printed behind the option's name.
+/// The data of an option of an OPT record, printed after the option's name.
 #[derive(Clone, Copy)]
 pub(crate) struct OptionData<'a> {
     pub(crate) code: u16,
@@ -52,7 +52,7 @@ impl fmt::Display for OptionData<'_> {
     }
 }
 
-/// Prints the numbers of algorithms, one octet each (RFC 6975 section 3).
+/// Prints algorithm numbers, of one octet each (RFC 6975 section 3).
 fn write_algorithms<W: fmt::Write>(f: &mut fmt::Formatter<W>, octets: &[u8]) -> fmt::Result {
     f.write_str("algorithms")?;
     for algorithm in octets {
@@ -61,7 +61,7 @@ fn write_algorithms<W: fmt::Write>(f: &mut fmt::Formatter<W>, octets: &[u8]) -> 
     Ok(())
 }
 
-/// Prints the subnet of a client: the families are 1 for IPv4 and 2 for IPv6 (RFC 7871 section 6).
+/// Prints a client subnet. The family is 1 for IPv4 and 2 for IPv6 (RFC 7871 section 6).
 fn write_subnet<W: fmt::Write>(
     f: &mut fmt::Formatter<W>,
     family: u8,
@@ -82,7 +82,7 @@ fn write_subnet<W: fmt::Write>(
     write!(f, "/{source}, scope {scope}")
 }
 
-/// Prints how long the cookies of the client and of the server are.
+/// Prints the lengths of the client cookie and the server cookie.
 fn write_cookie<W: fmt::Write>(f: &mut fmt::Formatter<W>, octets: &[u8]) -> fmt::Result {
     let client = octet_count(octets.len().min(CLIENT_COOKIE_LEN));
     write!(f, "{client} of the client")?;
@@ -101,7 +101,7 @@ fn write_trust_point<W: fmt::Write>(f: &mut fmt::Formatter<W>, octets: &[u8]) ->
     }
 }
 
-/// Prints the key tags of trust anchors, two octets each (RFC 8145 section 4.1).
+/// Prints the key tags of trust anchors, of two octets each (RFC 8145 section 4.1).
 fn write_key_tags<W: fmt::Write>(f: &mut fmt::Formatter<W>, octets: &[u8]) -> fmt::Result {
     f.write_str("tags")?;
     for pair in octets.chunks_exact(2) {

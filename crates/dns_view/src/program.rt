@@ -11,13 +11,13 @@ use std::alloc::{AllocError, Global};
 use std::io;
 use std::io::{Read, Write};
 
-/// The exit status where the input is an odd number of digits.
+/// The exit status if the input is an odd number of digits.
 const BAD_HEX: u8 = 1;
 
-/// The exit status for other arguments.
+/// The exit status for any other arguments.
 const USAGE: u8 = 2;
 
-/// The exit status where reading, writing or memory fails.
+/// The exit status if reading, writing or an allocation fails.
 const FAILED: u8 = 3;
 
 /// What the program prints.
@@ -28,7 +28,7 @@ enum Form {
 }
 
 impl Form {
-    /// What the words ask for; `None` for words that are none of the program's.
+    /// What the arguments ask for. Returns `None` for arguments that the program doesn't know.
     fn of_words(words: &[String]) -> Option<Self>
         ensures { MatchOption result (AskNothing (map string_bytes words.now))
             (λ form. map string_bytes words.now ≡ words_of form) }
@@ -41,11 +41,12 @@ impl Form {
     }
 }
 
-/// Prints the message that a reader gives, as octets or in hexadecimal digits, and gives the exit status of the program.
+/// Reads a message, as octets or in hexadecimal digits, prints it, and returns the exit status of
+/// the program.
 ///
-/// Without words it prints a text, and with `--html` a page. Where all octets are hexadecimal digits and ASCII white space,
-/// they are digits. The status is 0; 1 where the digits are odd in number; 2 for other words; 3 where reading, writing or
-/// memory fails.
+/// Prints text without arguments, and a page with `--html`. If the input is hexadecimal digits and
+/// ASCII white space alone, it is read as digits. The exit status is 0; 1 if the number of digits
+/// is odd; 2 for any other arguments; and 3 if reading, writing or an allocation fails.
 pub fn tool<R: Read + Drop, W: Write + Drop>(
     alloc: Global,
     args: &[String],
@@ -68,7 +69,7 @@ pub fn tool<R: Read + Drop, W: Write + Drop>(
     }
 }
 
-/// Prints what the words ask for of the octets that a reader gives, and gives the exit status.
+/// Reads the input, prints what the arguments ask for, and returns the exit status.
 fn view<R: Read, W: Write>(
     alloc: Global,
     args: &[String],
@@ -93,7 +94,8 @@ fn view<R: Read, W: Write>(
     Ok(status)
 }
 
-/// Prints the message that an input is, or that it writes in digits, and gives the exit status.
+/// Prints the message of an input, which is octets or hexadecimal digits, and returns the exit
+/// status.
 fn print_input<W: Write>(
     alloc: Global,
     form: Form,
@@ -123,7 +125,8 @@ fn print_rows<W: Write>(alloc: Global, form: Form, message: &[u8], writer: &mut 
     }
 }
 
-/// The octets that an input is, or that it writes in digits; `None` where the digits are odd in number.
+/// The octets of an input, or those that its hexadecimal digits encode. Returns `None` if the
+/// number of digits is odd.
 fn message_of(alloc: Global, input: Vec<u8>) -> Result<Option<Vec<u8>>, AllocError>
     ensures { IfOk result (λ message. MatchOption message (IsOdd input.items)
         (λ octets. Gives input.items octets.items)) }
@@ -135,7 +138,7 @@ fn message_of(alloc: Global, input: Vec<u8>) -> Result<Option<Vec<u8>>, AllocErr
     match hex::decode(alloc, &digits) {
         Ok(octets) => Ok(Some(octets)),
         Err(hex::FromHexError::OddLength) => Ok(None),
-        // all are digits, so memory is wanting
+        // all are digits, so an allocation failed
         Err(_) => Err(AllocError),
     }
 }
@@ -151,7 +154,7 @@ fn unspaced(alloc: Global, octets: &[u8]) -> Result<Vec<u8>, AllocError>
         .collect(alloc)
 }
 
-/// Whether all octets are hexadecimal digits and ASCII white space.
+/// Whether all octets are hexadecimal digits or ASCII white space.
 fn is_digits(octets: &[u8]) -> bool
     ensures { result ≡ is_digits octets.now }
 {

@@ -1,25 +1,26 @@
-//! Octets printed as texts, as addresses and by their number.
+//! Octets printed as quoted texts and as addresses, and counts of things.
 use std::fmt;
 use std::net::{Ipv4Addr, Ipv6Addr};
 
-/// Octets to be printed in quotation marks, those that are no printable ASCII as a backslash and three decimal digits.
+/// Octets printed in quotation marks. Those that aren't printable ASCII become a backslash and
+/// three decimal digits; a backslash precedes quotation marks and backslashes.
 #[derive(Clone, Copy)]
 pub(crate) struct Quoted<'a>(pub(crate) &'a [u8]);
 
-/// A number of things, to be printed as `1 octet` or `2 octets`.
+/// A count of things, printed as in `1 octet` or `2 octets`.
 #[derive(Clone, Copy)]
 pub(crate) struct Count {
     number: usize,
     word: &'static str,
 }
 
-/// So many octets.
+/// A count of octets.
 pub(crate) fn octet_count(number: usize) -> Count {
     let word = "octet";
     Count { number, word }
 }
 
-/// So many seconds.
+/// A count of seconds.
 pub(crate) fn second_count(number: u32) -> Count {
     let number = number as usize;
     let word = "second";
@@ -49,7 +50,7 @@ impl fmt::Display for Count {
     }
 }
 
-/// Prints four or sixteen octets as an address.
+/// Prints 4 octets as an IPv4 address, or 16 as an IPv6 address.
 pub(crate) fn write_address<W: fmt::Write>(
     f: &mut fmt::Formatter<W>,
     octets: &[u8],

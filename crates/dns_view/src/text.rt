@@ -1,4 +1,4 @@
-//! Rows printed as a text of at most 80 columns.
+//! Rows printed as text, of at most 80 columns while offsets have at most seven digits.
 ghost use Rattle.std.specs.Prelude.{◌≡◌, ◌<◌, ◌≤◌, length, OnOk};
 ghost use Rattle.std.specs.Io.KnownBytes.{Appends};
 ghost use Rattle.dns_view.specs.Printed.{Prints, PrintsEach};
@@ -11,15 +11,15 @@ use std::alloc::Global;
 use std::io;
 use std::io::Write;
 
-/// How many octets stand on a line.
+/// The octets on a line, at most.
 const OCTETS: usize = 8;
 
-/// How many columns the meaning has on a line.
+/// The columns of the meaning on a line, at most.
 const COLUMNS: usize = 46;
 
-/// Prints rows of a message, each on a line or more: its place, its octets and what they mean.
+/// Prints rows of a message, each on one line or more: its offset, its octets and what they mean.
 ///
-/// An item has one line, with its meaning alone.
+/// The row where an item begins has one line, with its meaning alone.
 pub fn print_text<W: Write>(
     alloc: Global,
     writer: &mut W,
@@ -48,7 +48,7 @@ fn print_row<W: Write>(alloc: Global, writer: &mut W, message: &[u8], row: &Row)
     print_lines(writer, row.start, octets_of(message, row), words.as_bytes())
 }
 
-/// Prints the lines of a row: one, and as many more as its octets and words need.
+/// Prints the lines of a row, as many as its octets and words need, but at least one.
 fn print_lines<W: Write>(
     writer: &mut W,
     start: usize,
@@ -74,9 +74,11 @@ fn print_lines<W: Write>(
     }
 }
 
-/// The words of one line, and those behind them: all fit, or those up to the last space that lets them fit.
+/// Splits words into those of one line and the remaining ones. A line that can't take all words
+/// ends at the last space that keeps it within its columns, which is dropped, or else after its
+/// last column.
 ///
-/// The space where a line ends is in neither.
+/// If all words fit, a space at their end is dropped.
 fn split_line(words: &[u8]) -> (&[u8], &[u8])
     ensures fits { length result.0.now ≤ columns }
     ensures shorter { 0 < length words.now → length result.1.now < length words.now }
@@ -91,7 +93,7 @@ fn split_line(words: &[u8]) -> (&[u8], &[u8])
     }
 }
 
-/// Prints some octets and words behind them, and ends the line.
+/// Prints octets and the words after them, and ends the line.
 fn print_line<W: Write>(writer: &mut W, octets: &[u8], words: &[u8]) -> io::Result<()>
     requires { length octets.now ≤ line_octets }
     ensures { OnOk result (Appends (W.contents writer.old) (W.contents writer.new)
@@ -106,7 +108,7 @@ fn print_line<W: Write>(writer: &mut W, octets: &[u8], words: &[u8]) -> io::Resu
     writer.write_all(b"\n")
 }
 
-/// Prints hexadecimal digits, two for each octet, with a space before each.
+/// Prints hexadecimal digits, two for each octet, with a space before each octet.
 fn print_digits<W: Write>(writer: &mut W, octets: &[u8]) -> io::Result<()>
     ensures { OnOk result (Appends (W.contents writer.old) (W.contents writer.new)
         (digits_text octets.now)) }
@@ -118,7 +120,7 @@ fn print_digits<W: Write>(writer: &mut W, octets: &[u8]) -> io::Result<()>
     Ok(())
 }
 
-/// Prints an octet in two hexadecimal digits of lower case.
+/// Prints an octet in two lower-case hexadecimal digits.
 pub(crate) fn print_octet<W: Write>(writer: &mut W, octet: u8) -> io::Result<()>
     ensures { OnOk result (Appends (W.contents writer.old) (W.contents writer.new)
         (octet_text octet)) }
@@ -126,7 +128,7 @@ pub(crate) fn print_octet<W: Write>(writer: &mut W, octet: u8) -> io::Result<()>
     write!(writer, "{octet:02x}")
 }
 
-/// Prints what stands for the octets that a line lacks.
+/// Prints spaces in place of the octets that a line lacks.
 fn print_blanks<W: Write>(writer: &mut W, count: usize) -> io::Result<()>
     requires { count ≤ line_octets }
     ensures { OnOk result (Appends (W.contents writer.old) (W.contents writer.new)
