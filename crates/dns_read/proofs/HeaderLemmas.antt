@@ -1,4 +1,4 @@
--- A header, and a count, written over octets of a message.
+-- A header, and a count, that overwrite octets of a message.
 use Rattle.std.proofs.Common.{◌≡◌, ◌∙◌, ◌+◌, ◌<◌, ◌≤◌, ◌^◌, ℕ, List, ◌++◌, length, take, drop, ap, arith}
 use Rattle.std.specs.Int.{from_be_bytes, to_be_bytes, w16}
 use Rattle.std.specs.Prelude.{slice_range}
@@ -7,11 +7,11 @@ use Rattle.dns_name.specs.Parsers.{number_at}
 use Rattle.std.proofs.lemmas.Grind.{common_steps}
 use Rattle.dns_octets.specs.Octets.{overwritten}
 
--- the first list of two
+-- the first of two appended lists
 front : (n : ℕ) (b c : List ℕ) → length b ≡ n → take n (b ++ c) ≡ b
 front n b c h = grind (arith, common_steps)
 
--- the second list of two
+-- the second of two appended lists
 behind_front : (n : ℕ) (b c : List ℕ) → length b ≡ n → drop n (b ++ c) ≡ c
 behind_front n b c h = grind (arith, common_steps)
 
@@ -19,25 +19,25 @@ behind_front n b c h = grind (arith, common_steps)
 pub overwritten_front : (b h : List ℕ) → length h ≡ 4 → take 4 (overwritten b 0 h) ≡ h
 overwritten_front b h n = front 4 h (drop (0 + length h) b) n
 
--- the others stay
+-- the octets after them stay
 pub overwritten_behind : (b h : List ℕ) → length h ≡ 4 → drop 4 (overwritten b 0 h) ≡ drop 4 b
 overwritten_behind b h n =
     let e : 0 + length h ≡ 4 = omega arith in
     behind_front 4 h (drop (0 + length h) b) n ∙ ap (λ k. drop k b) e
 
--- what stands before octets that are written over others stays
+-- the octets before those overwritten stay
 pub kept_before : (b xs : List ℕ) (p : ℕ) → p ≤ length b → take p (overwritten b p xs) ≡ take p b
 kept_before b xs p l = grind (arith, common_steps)
 
--- and what stands behind them
+-- the octets after those overwritten stay
 pub kept_behind : (b xs : List ℕ) (p q : ℕ) → p + length xs ≡ q → q ≤ length b → drop q (overwritten b p xs) ≡ drop q b
 kept_behind b xs p q e l = grind (arith, common_steps)
 
--- octets that were written are read
+-- the octets that were written are read
 written_there : (b xs : List ℕ) (p q : ℕ) → p + length xs ≡ q → q ≤ length b → slice_range (overwritten b p xs) p q ≡ xs
 written_there b xs p q e l = grind (arith, common_steps)
 
--- so is a number of two octets
+-- a 16-bit number that was written is read
 pub written_number : (b xs : List ℕ) (p n : ℕ) → p + 2 ≤ length b → length xs ≡ 2 → n < 2 ^ 16 → xs ≡ to_be_bytes w16 n → number_at w16 (overwritten b p xs) p ≡ n
 written_number b xs p n l two small e =
     ap (from_be_bytes w16) (written_there b xs p (p + 2) (omega (arith, two)) l ∙ e) ∙ from_be_bytes-to_be_bytes_2 n small

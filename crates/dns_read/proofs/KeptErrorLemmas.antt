@@ -1,4 +1,4 @@
--- The error that a cursor gave and an iterator over a message gives once more.
+-- The error that a cursor yielded, and that an iterator over a message yields again.
 use Rattle.std.proofs.Common.{◌≡◌, ◌∙◌, ap, sym, subst, inl, inr, ℕ}
 use Rattle.std.specs.Prelude.{IfSome, Option, Some, None, option_and_then, Result, Ok, Err}
 use Rattle.dns_octets.specs.declared.error.ParseError.{ParseError}
@@ -11,7 +11,7 @@ use Rattle.dns_section.specs.declared.section.Section.{Section}
 use Rattle.dns_section.specs.declared.section.Section.TheVariants.{Answer, Authority, Additional}
 use Rattle.dns_read.specs.MessageIter.{error_again, cursor_error, SecondErrorIsFirst}
 
--- an error that is given once more ended its section, which is not the last
+-- an error that is yielded again ended its section, which isn't the additional section
 again_ended : (which : Section) (left : Result ℕ ParseError) (e : ParseError) → error_again which left ≡ Some e → (left ≡ Err e) × (which ≡ Additional → ⊥)
 again_ended which (Ok n) e again = absurd (cc)
 again_ended Answer (Err x) e again = (cc, λ last. (cc))
@@ -22,20 +22,20 @@ module _ (cursor : RecordSection) (e : ParseError) (kept : cursor_error cursor �
   ended : (to_come cursor ≡ Err e) × (section_of cursor ≡ Additional → ⊥)
   ended = again_ended (section_of cursor) (to_come cursor) e kept
 
-  -- then the cursor doesn't move on
+  -- after such an error the cursor doesn't move on
   pub moves_nowhere : (next : Option RecordSection) → MovesOn cursor (Ok next) → ⊥
   moves_nowhere None moves = ended.1 moves
   moves_nowhere (Some new) moves =
       let b = octets_of cursor in
       subst (λ (left : Result ℕ ParseError). SkipsRest (SkipsRecord b) left (position cursor) (position new)) ended.0 moves.skips
 
-  -- but gives that error
+  -- instead it returns that error
   pub stops_again : (answer : ParseError) → MovesOn cursor (Err answer) → answer ≡ e
   stops_again answer moves =
       let b = octets_of cursor in
       subst (λ (left : Result ℕ ParseError). StopsInRest (SkipsRecord b) (RecordSkipFaultAt b) left (position cursor) answer) ended.0 moves.1
 
--- a cursor that gives nothing keeps its error
+-- a cursor that yields nothing keeps its error
 pub keeps_on : (at : Option RecordSection) (old new : RecordSection) (e : ParseError) → at ≡ Some old → CursorGivesNext old None new → option_and_then cursor_error at ≡ Some e
     → cursor_error new ≡ Some e
 keeps_on at old new e is calls kept = (λ i. error_again (calls.section i) (calls.counts i)) ∙ sym (ap (option_and_then cursor_error) is) ∙ kept

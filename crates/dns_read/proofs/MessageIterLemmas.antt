@@ -27,22 +27,22 @@ use Rattle.dns_read.specs.SectionStarts.{start_of}
 use Rattle.dns_read.proofs.ReadingItems.{has_item}
 use Rattle.dns_read.proofs.theory.SectionStartLemmas.{start_found, no_answers}
 
--- what follows a section is the next one
+-- the items after a section are those of the next
 pub behind_next : (which next : Section) (b : List ℕ) (p : ℕ) → section_behind which ≡ Some next → items_behind which b p ≡ items_from next b p
 behind_next Answer next b p e = let same : Authority ≡ next = cc in ap (λ k. items_from k b p) same
 behind_next Authority next b p e = let same : Additional ≡ next = cc in ap (λ k. items_from k b p) same
 behind_next Additional next b p e = absurd (cc)
 
--- the same by what is read
+-- the items of a section and of those after it, by what is read of the section
 abbrev items_by : Section → List ℕ → ℕ → List (Result StandingRecord Fault) → List Item
 items_by which b p xs = in_section which xs (items_behind which b (records_end p xs))
 
 module _ (which : Section) (b : List ℕ) where
-  -- where there is no record, what follows is given
+  -- without records, the items are those after the section
   nothing_first : (n p : ℕ) → records_in b n p ≡ [] → items_in which b n p ≡ items_behind which b p
   nothing_first n p e = ap (items_by which b p) e
 
--- where records are read and there is none, none was asked for
+-- a reading of records is empty only if no record was asked for
 nothing_mapped : (b : List ℕ) (xs : List (Result RecordEntry Fault)) → map (in_octets b) xs ≡ [] → xs ≡ []
 nothing_mapped b [] e = refl
 nothing_mapped b (x ∷ xs) e = absurd (cc)
@@ -52,7 +52,7 @@ unfolding records_in
 no_records b zero p e = refl
 no_records b (suc n) p e = absurd (has_item n p (records_from b (suc n) p) ((records_from_are_read b).reading (suc n) p) (nothing_mapped b (records_from b (suc n) p) e))
 
--- nothing passed leads nowhere, and nothing stops it
+-- skipping no entries ends where it began, and never fails
 stays : {Skips : ℕ → ℕ → Type 0} (n p q : ℕ) → Passed Skips n p q → n ≡ 0 → p ≡ q
 stays n p q no_more e = refl
 stays n p q (more h x) e = absurd (cc)
@@ -61,27 +61,27 @@ never_stops : {Skips : ℕ → ℕ → Type 0} {FaultOf : ℕ → Fault → Type
 never_stops n p f (here h) e = absurd (cc)
 never_stops n p f (stops_behind h x) e = absurd (cc)
 
--- the fault of a section that isn't the last is given once more
+-- the fault of a section is yielded again unless the section is the last
 again : (which : Section) (f : Fault) → (which ≡ Additional → ⊥) → once_more which f ≡ Err f ∷ []
 again Answer f other = refl
 again Authority f other = refl
 again Additional f other = absurd (other refl)
 
 module _ (which : Section) (b : List ℕ) where
-  -- a cursor gave nothing, and the next section begins
+  -- the cursor has nothing left in its section, and the next section begins
   pub rest_next : (next : Section) (left : Result ℕ ParseError) (p q : ℕ) → records_to_come (λ k. records_in b k p) left ≡ [] → section_behind which ≡ Some next
       → SkipsRest (SkipsRecord b) left p q → rest_of which b left p ≡ items_from next b q
   rest_next next (Ok n) p q none behind skips =
       nothing_first which b n p none ∙ behind_next which next b p behind ∙ ap (items_from next b) (stays n p q skips (no_records b n p none))
   rest_next next (Err e) p q none behind skips = absurd skips
 
-  -- a cursor gave nothing, and the next section has no start
+  -- the cursor has nothing left in its section, and the next section has no start
   pub rest_stop : (left : Result ℕ ParseError) (p : ℕ) (e : ParseError) → records_to_come (λ k. records_in b k p) left ≡ [] → (which ≡ Additional → ⊥)
       → StopsInRest (SkipsRecord b) (RecordSkipFaultAt b) left p e → rest_of which b left p ≡ Err (fault_of e) ∷ []
   rest_stop (Ok n) p e none other stops = absurd (never_stops n p (fault_of e) stops (no_records b n p none))
   rest_stop (Err given) p e none other stops = again which (fault_of given) other ∙ ap (λ (g : ParseError). let item : Item = Err (fault_of g) in item ∷ []) (sym stops)
 
--- a cursor of the last section gave nothing
+-- the cursor has nothing left in the additional section
 pub rest_end : (b : List ℕ) (left : Result ℕ ParseError) (p : ℕ) → records_to_come (λ k. records_in b k p) left ≡ [] → rest_of Additional b left p ≡ []
 rest_end b (Ok n) p none = nothing_first Additional b n p none
 rest_end b (Err e) p none = refl
@@ -110,7 +110,7 @@ length-items_from b p =
     λ q. length-items Authority b (authority_count b) q (additional_count b + 1) (omega arith) last in
     omega (arith, length-items Answer b (answer_count b) p (authority_count b + (additional_count b + 1)) (omega arith) two)
 
--- all records of a reading without a fault are passed
+-- all records of a reading without a fault can be skipped
 passed_all : (b : List ℕ) {n p : ℕ} {xs : List (Result RecordEntry Fault)} → Reading (ReadsRecord b) (RecordFaultAt b) n p xs → HasNoFault (map (in_octets b) xs)
     → Passed (SkipsRecord b) n p (records_end p (map (in_octets b) xs))
 passed_all b no_entry h = no_more
@@ -125,13 +125,13 @@ sections_follow which next b p behind start faultless =
     let end = records_end p (records_in b n p) in
     (starts_behind which next b p end behind start (passed_all b ((records_from_are_read b).reading n p) faultless), behind_next which next b end behind)
 
--- how many sections there are from one on
+-- how many sections there are, this one included
 abbrev pub sections_from : Section → ℕ
 sections_from Answer = 3
 sections_from Authority = 2
 sections_from Additional = 1
 
--- and from a cursor on, if there is one
+-- how many sections a cursor has left, if there is a cursor
 abbrev pub sections_left : Option RecordSection → ℕ
 sections_left None = 0
 sections_left (Some cursor) = sections_from (section_of cursor)
@@ -141,15 +141,15 @@ fewer_sections Answer next e = let same : Authority ≡ next = cc in subst (λ k
 fewer_sections Authority next e = let same : Additional ≡ next = cc in subst (λ k. sections_from k < 2) same (omega arith)
 fewer_sections Additional next e = absurd (cc)
 
--- a cursor over a whole section has all of its items, and those of the sections behind it
+-- a cursor over a whole section has all of its items left, and those of the sections after it
 pub fresh_items : (which : Section) (b : List ℕ) (cursor : RecordSection) → IsFresh which b cursor → cursor_items cursor ≡ items_from which b (position cursor)
 fresh_items which b cursor fresh = λ i. rest_of (fresh.section i) (fresh.octets i) (fresh.count i) (position cursor)
 
--- a cursor that gave nothing has the same left
+-- a cursor that yielded nothing has the same left
 pub gave_nothing : (old new : RecordSection) → position new ≡ position old → to_come new ≡ to_come old → octets_of new ≡ octets_of old → section_of new ≡ section_of old → cursor_items new ≡ cursor_items old
 gave_nothing old new position left octets section = λ i. rest_of (section i) (octets i) (left i) (position i)
 
--- behind a section of which nothing is left, the next is given
+-- if a section has nothing left, the items of the next are yielded
 pub moved_on : (cursor : RecordSection) (next : Option RecordSection) → records_left cursor ≡ [] → MovesOn cursor (Ok next) → option_map_or cursor_items next [] ≡ cursor_items cursor
 moved_on cursor None empty last =
     sym (ap (λ k. rest_of k (octets_of cursor) (to_come cursor) (position cursor)) last ∙ rest_end (octets_of cursor) (to_come cursor) (position cursor) empty)
@@ -157,18 +157,18 @@ moved_on cursor (Some new) empty enters =
     fresh_items (section_of new) (octets_of cursor) new enters.fresh
     ∙ sym (rest_next (section_of cursor) (octets_of cursor) (section_of new) (to_come cursor) (position cursor) (position new) empty enters.next enters.skips)
 
--- or the fault for which it has no start
+-- or the fault because of which that has no start
 pub not_moved_on : (cursor : RecordSection) (e : ParseError) → records_left cursor ≡ [] → MovesOn cursor (Err e) → cursor_items cursor ≡ Err (fault_of e) ∷ []
 not_moved_on cursor e empty stops = rest_stop (section_of cursor) (octets_of cursor) (to_come cursor) (position cursor) e empty stops.0 stops.1
 
--- what is left at the start of the answer section is what iterating gives
+-- what is left at the start of the answer section is what iterating yields
 pub iterated : (b : List ℕ) (r : Result RecordSection ParseError) → IfOk r (BeginsSection Answer b) → IfErr r (λ e. AnswersFault b (fault_of e))
     → option_map_or cursor_items (result_ok r) [] ≡ message_items b
 iterated b (Ok cursor) begins fault =
     fresh_items Answer b cursor begins.fresh ∙ sym (ap (λ (o : Option ℕ). option_map_or (items_from Answer b) o []) (start_found Answer b (position cursor) begins.start))
 iterated b (Err e) begins fault = sym (ap (λ (o : Option ℕ). option_map_or (items_from Answer b) o []) (no_answers b (fault_of e) fault))
 
--- and how many that are at most
+-- how many items iterating yields at most
 length-items_at : (b : List ℕ) (o : Option ℕ) → length (option_map_or (items_from Answer b) o []) ≤ answer_count b + authority_count b + additional_count b + 1
 length-items_at b None = omega arith
 length-items_at b (Some p) = length-items_from b p

@@ -1,4 +1,4 @@
--- The names that aliases lead to, one behind the other.
+-- The names in a chain of aliases.
 use Rattle.std.proofs.Common.{◌≡◌, ◌∙◌, ℕ, zero, suc, ◌+◌, ◌-◌, ◌<◌, ◌≤◌, inl, inr, List, ap, sym, refl, subst, add-one, add-zero, add-suc, arith}
 use Rattle.std.proofs.lemmas.Bool.Decides.{leb_tells}
 use Rattle.std.specs.Prelude.{Option, Some, None, option_map, option_and_then}
@@ -21,12 +21,12 @@ name_asked None = refl
 name_asked (Some question) = refl
 
 module _ (b : List ℕ) where
-  -- the first name is the first question's
+  -- the first name is that of the first question
   pub first_name : (o : Option (Question ParsedName)) → option_map parsed_question o ≡ asked_first b → nth_name b 0 ≡ option_map (λ (q : Question ParsedName). labels (qname_of q)) o
   unfolding nth_name
   first_name o e = ap (option_map (λ (q : QuestionItem). q.name)) (sym e) ∙ name_asked o
 
-  -- each other is what the one before is an alias of
+  -- each other name is what the one before is an alias of
   pub next_name : (i : ℕ) (name : Labels) → nth_name b i ≡ Some name → nth_name b (suc i) ≡ alias_of (limited cname_layout (records_of Answer b)) name
   unfolding nth_name
   next_name i name e = ap (option_and_then (alias_of (limited cname_layout (records_of Answer b)))) e
@@ -34,7 +34,7 @@ module _ (b : List ℕ) where
   pub next_target : (i : ℕ) (name target : Labels) → nth_name b i ≡ Some name → Some target ≡ alias_of (limited cname_layout (records_of Answer b)) name → nth_name b (i + 1) ≡ Some target
   next_target i name target e alias = rw add-one (next_name i name e ∙ sym alias)
 
-  -- behind no name there is none
+  -- the chain has no name after it ended
   none_next : (i : ℕ) → nth_name b i ≡ None → nth_name b (suc i) ≡ None
   unfolding nth_name
   none_next i e = ap (option_and_then (alias_of (limited cname_layout (records_of Answer b)))) e
@@ -43,14 +43,14 @@ module _ (b : List ℕ) where
   ended i zero e = rw add-zero e
   ended i (suc k) e = rw add-suc (none_next (i + k) (ended i k e))
 
-  -- so where there is one, there is one before
+  -- if the chain has a name, it has all names before it
   before_some : (i j : ℕ) (name : Labels) → nth_name b i ≡ None → nth_name b j ≡ Some name → i ≤ j → ⊥
   before_some i j name none some l =
       let k : i + (j - i) ≡ j = omega arith in
       let e : nth_name b j ≡ None = subst (λ n. nth_name b n ≡ None) k (ended i (j - i) none) in
       absurd (let same = sym e ∙ some in cc)
 
-  -- the last name is one
+  -- the last name of the chain is unique
   one_last : (i j : ℕ) (x y : Labels) → nth_name b i ≡ Some x → nth_name b (suc i) ≡ None → nth_name b j ≡ Some y → nth_name b (suc j) ≡ None → Some x ≡ Some y
   one_last i j x y at_i behind_i at_j behind_j =
       elim (leb_tells (suc i) j) [
@@ -61,14 +61,14 @@ module _ (b : List ℕ) where
         ]
       ]
 
-  -- an end, and what would be another answer
+  -- if the chain ends with x, no other result is possible
   end_alone : (i p : ℕ) (x : Labels) (y : Option Labels) → i < 20 → start_of Answer b ≡ Some p → nth_name b i ≡ Some x → nth_name b (suc i) ≡ None → CanonicalName b y → Some x ≡ y
   end_alone i p x y l start at_i behind_i (ends j q name k starts at_j behind_j) = one_last i j x name at_i behind_i at_j behind_j
   end_alone i p x y l start at_i behind_i (goes_on name at_end) = absurd (before_some (suc i) 20 name behind_i at_end (omega arith))
   end_alone i p x y l start at_i behind_i (no_question none) = absurd (before_some 0 i x none at_i (omega arith))
   end_alone i p x y l start at_i behind_i (no_section none) = absurd (let same = sym start ∙ none in cc)
 
-  -- without an end there is no name
+  -- if the chain doesn't end, there is no canonical name
   no_end : (y : Option Labels) → CanonicalName b y → CanonicalName b None → None ≡ y
   no_end y (ends i p name l start at_i behind_i) h = sym (end_alone i p name None l start at_i behind_i h)
   no_end y (goes_on name at_end) h = refl

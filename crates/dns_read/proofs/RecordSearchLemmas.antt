@@ -25,7 +25,7 @@ use Rattle.dns_read.specs.SectionStarts.{records_of}
 use Rattle.dns_read.specs.RecordSearches.{last_from, last_item, last_record, last_additional}
 use Rattle.dns_read.proofs.theory.SectionStartLemmas.{begins_reading, no_reading, no_additionals, begun, not_begun}
 
--- the last item, where the last so far is known
+-- the last item of a list, after the last item so far
 abbrev pub last_behind : {X : Type 0} → Option X → List X → Option X
 last_behind None xs = last_item xs
 last_behind (Some x) xs = Some (last_from x xs)
@@ -36,13 +36,13 @@ module _ (b : List ℕ) where
       → last_record (records_left cursor) ≡ last_record (records_of Additional b)
   last_read r cursor begins is = ap last_record (begins_reading Additional b cursor (begun Additional b r cursor begins is))
 
-  -- there is none where the section has no start
+  -- there is none if the section has no start
   pub none_last : (layouts : ℕ → Option Layout) (r : Result RecordSection ParseError) → IfErr r (λ e. AdditionalsFault b (fault_of e)) → None ≡ result_ok r → last_additional layouts b ≡ None
   none_last layouts r fault is =
       let f = not_begun (AdditionalsFault b) r fault is in
       ap (λ xs. option_and_then (λ x. option_and_then result_ok (answer_to layouts x)) (last_record xs)) (no_reading Additional b (no_additionals b f.0 f.1))
 
--- the value, if there is one, of what a data type answers
+-- the value that a data type yields, if there is one
 value_given : {D : Type 0} (rtype_of : D → ℕ) (parts_of : D → List Part) (r : Result (Option (Record ParsedName D)) ParseError) (o : Option (Result RecordItem Fault))
     → option_map (typed_answer rtype_of parts_of) (result_transpose r) ≡ o
     → option_and_then (option_map (record_item labels rtype_of parts_of)) (result_ok r) ≡ option_and_then result_ok o
@@ -50,7 +50,7 @@ value_given rtype_of parts_of (Ok None) o e = ap (option_and_then result_ok) e
 value_given rtype_of parts_of (Ok (Some typed)) o e = ap (option_and_then result_ok) e
 value_given rtype_of parts_of (Err e) o h = ap (option_and_then result_ok) h
 
--- what is given of the last record, by what reading its data answered
+-- the last record with its RDATA, by the result of parsing the RDATA
 pub last_given : {D : Type 0} (rtype_of : D → ℕ) (parts_of : D → List Part) (layouts : ℕ → Option Layout) (b : List ℕ) (last : ParsedRecord) (r : Result (Option (Record ParsedName D)) ParseError)
     → Some (standing_record last) ≡ last_record (records_of Additional b) → HasSpan (standing_record last)
     → AnswersTaken rtype_of parts_of (octets_of last) (parsed_entry last) (layouts (parsed_entry last).rtype) r
@@ -60,7 +60,7 @@ last_given rtype_of parts_of layouts b last r is span answers =
     value_given rtype_of parts_of r (answer_to layouts x) (answer_to-answered rtype_of parts_of x span (layouts x.entry.rtype) r answers)
     ∙ ap (option_and_then (λ y. option_and_then result_ok (answer_to layouts y))) is
 
--- an iterator gives something first exactly where it has something
+-- an iterator yields something exactly if it has something left
 pub some_first : {A B : Type 0} (view : A → B) (o : Option A) (given : Bool) (xs ys rest : List B) → given ≡ is_some o → xs ≡ ys
     → MatchOption o ((xs ≡ []) × (rest ≡ [])) (λ x. xs ≡ view x ∷ rest) → IsTrue given ↔ (ys ≢ [])
 some_first view None given xs ys rest is same h = (λ some. absurd (cc), λ any. absurd (any (sym same ∙ h.0)))

@@ -1,4 +1,4 @@
--- What a data type answers to lists of items that are joined, and how a cursor passes them.
+-- What a data type yields for appended lists of items, and how a cursor skips items.
 use Rattle.std.proofs.Common.{◌≡◌, ◌∙◌, ap, refl, ℕ, Bool, true, false, List, [], ◌∷◌, ◌++◌, length, append_assoc, arith}
 use Rattle.std.proofs.lemmas.List.{append-nil}
 use Rattle.std.proofs.lemmas.List.Elements.{filter-append, filter_map-append}
@@ -30,7 +30,7 @@ cons_option-nil : {X : Type 0} (o : Option X) → cons_option o [] ≡ option_to
 cons_option-nil None = refl
 cons_option-nil (Some x) = refl
 
--- the answer to one record, which is of class IN where only such records may be taken
+-- what a data type yields for one record, which is of class IN if only such records are yielded
 pub limited_by-one : (layouts : ℕ → Option Layout) (in_only : Bool) (x : StandingRecord) → (in_only ≡ true → (x.entry.class == 1) ≡ true)
     → limited_by layouts in_only (Ok x ∷ []) ≡ option_to_list (answer_to layouts x)
 limited_by-one layouts true x class =
@@ -38,7 +38,7 @@ limited_by-one layouts true x class =
     ap (λ (b : Bool). limited layouts (if b then one else [])) (class refl) ∙ cons_option-nil (answer_to layouts x)
 limited_by-one layouts false x class = cons_option-nil (answer_to layouts x)
 
--- the data of a record that a cursor gave lies within the octets
+-- the RDATA of a record that a cursor yielded lies within the octets
 pub given_span : (old new : RecordSection) (r : ParsedRecord) → GivesNext old (Some (Ok r)) new → HasSpan (standing_record r)
 given_span old new r calls =
     let end = calls.passes.0.data_end in
@@ -50,18 +50,18 @@ pub limited_by-none : (layouts : ℕ → Option Layout) (in_only : Bool) → lim
 limited_by-none layouts true = refl
 limited_by-none layouts false = refl
 
--- one more call
+-- the items of one more call
 given_last : {old mid new : RecordSection} {items : List (Result StandingRecord Fault)} (answer : Result ParsedRecord ParseError) → Given old items mid → GivesNext mid (Some answer) new
     → Given old (items ++ record_answer answer ∷ []) new
 given_last answer none calls = more answer calls refl none
 given_last answer (more first call is rest) calls = more first call is (given_last answer rest calls)
 
--- what is given was left before, in front of what is left behind it
+-- what was left is the items that were yielded, then what is left now
 given_left : {old new : RecordSection} {items : List (Result StandingRecord Fault)} → Given old items new → records_left old ≡ items ++ records_left new
 given_left none = refl
 given_left (more answer calls is rest) = calls.steps ∙ (λ i. is i ∷ given_left rest i)
 
--- the item that is answered is the first of what was left that is
+-- the item that is yielded is the first of what was left that the data type accepts
 pub passed_yields : {answers : List (Result StandingRecord Fault) → List (Result RecordItem Fault)} {old new : RecordSection} {x : Result RecordItem Fault} → PassesToAnswer answers old new x
     → YieldsAnswer answers (records_left old) (records_left new) x
 passed_yields {new = new} p = record {
@@ -72,7 +72,7 @@ passed_yields {new = new} p = record {
   answered = p.answered;
 }
 
--- nothing of what was left is answered
+-- the data type accepts nothing of what was left
 pub ended_yields : {answers : List (Result StandingRecord Fault) → List (Result RecordItem Fault)} {old new : RecordSection} → PassesToEnd answers old new
     → (answers (records_left old) ≡ []) × (records_left new ≡ [])
 ended_yields {answers = answers} p = (
@@ -80,7 +80,7 @@ ended_yields {answers = answers} p = (
   p.ended.steps.1,
 )
 
--- the cursor gave items that aren't answered
+-- the cursor yielded items that the data type doesn't accept
 pub record Passing (answers : List (Result StandingRecord Fault) → List (Result RecordItem Fault)) (old now : RecordSection) : Type 0 where
   pub passed : List (Result StandingRecord Fault)
   pub given : Given old passed now
@@ -91,7 +91,7 @@ module _ (answers : List (Result StandingRecord Fault) → List (Result RecordIt
   pub passing_none : (cursor : RecordSection) → Passing answers cursor cursor
   passing_none cursor = record { passed = []; given = none; unanswered = nothing; left = refl }
 
-  -- what is left, by the item that is given next
+  -- what was left, by the item that is yielded next
   one_first : (old new : RecordSection) (answer : Result ParsedRecord ParseError) (given : List (Result RecordItem Fault)) → GivesNext old (Some answer) new → answers (record_answer answer ∷ []) ≡ given
       → answers (records_left old) ≡ given ++ answers (records_left new)
   one_first old new answer given calls is =

@@ -1,4 +1,4 @@
--- Entries skipped one behind the other by a parser.
+-- Consecutive entries that a parser skips.
 use Rattle.std.proofs.Common.{◌∙◌, ℕ, zero, suc, ◌+◌, ◌<◌, List, arith, add-one, refl, subst}
 use Rattle.dns_name.specs.Names.{Fault, fault_of}
 use Rattle.dns_name.specs.Parsers.{seen, place, MovesTo}
@@ -9,20 +9,20 @@ use Rattle.dns_section.specs.Reading.Passed.{none, more}
 use Rattle.dns_section.specs.Reading.StopsPassing.{here, behind}
 
 module _ {Skips : ℕ → ℕ → Type 0} where
-  -- one more behind those that were passed
+  -- one more entry after those skipped
   passed_last : {n p q r : ℕ} → Passed Skips n p q → Skips q r → Passed Skips (suc n) p r
   passed_last none s = more s none
   passed_last (more h x) s = more h (passed_last x s)
 
 module _ {Skips : ℕ → ℕ → Type 0} {FaultOf : ℕ → Fault → Type 0} where
-  -- the fault behind those that were passed, which are too few
+  -- the fault after the entries skipped, which are fewer than n
   stopped : (n : ℕ) {i p q : ℕ} {f : Fault} → Passed Skips i p q → FaultOf q f → i < n → StopsPassing Skips FaultOf n p f
   stopped zero x fault l = absurd (omega arith)
   stopped (suc n) none fault l = here fault
   stopped (suc n) (more h x) fault l = behind h (stopped n x fault (omega arith))
 
 module _ (SkipsIn : List ℕ → ℕ → ℕ → Type 0) (FaultIn : List ℕ → ℕ → Fault → Type 0) (old mid : Parser) (i : ℕ) (passed : Passed (SkipsIn (seen old)) i (place old) (place mid) × MovesTo old mid (place mid)) where
-  -- the parser passes one more
+  -- the parser skips one more entry
   pub skips_more : (new : Parser) → SkipsIn (seen mid) (place mid) (place new) × MovesTo mid new (place new) → Passed (SkipsIn (seen old)) (i + 1) (place old) (place new) × MovesTo old new (place new)
   skips_more new h =
       let s = subst (λ (b : List ℕ). SkipsIn b (place mid) (place new)) passed.1.seen h.0 in (
@@ -30,6 +30,6 @@ module _ (SkipsIn : List ℕ → ℕ → ℕ → Type 0) (FaultIn : List ℕ →
         record { input = h.1.input ∙ passed.1.input; seen = h.1.seen ∙ passed.1.seen; place = refl },
       )
 
-  -- the parser can't pass the next
+  -- the parser can't skip the next entry
   pub skips_stop : (n : ℕ) (e : ParseError) → FaultIn (seen mid) (place mid) (fault_of e) → i < n → StopsPassing (SkipsIn (seen old)) (FaultIn (seen old)) n (place old) (fault_of e)
   skips_stop n e fault l = stopped n passed.0 (subst (λ (b : List ℕ). FaultIn b (place mid) (fault_of e)) passed.1.seen fault) l

@@ -1,4 +1,4 @@
--- Lemmas that crates above cite: a change here is one for them too.
+-- Crates above cite these lemmas, so a change here affects them.
 pub mod QuestionsFromLemmas
 pub mod SectionLemmas
 pub mod StartLemmas

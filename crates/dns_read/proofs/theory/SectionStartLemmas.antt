@@ -26,7 +26,7 @@ module _ {Start : ℕ → Type 0} {FaultOf : Fault → Type 0} (h : StartsOrFaul
   starts_where_found (inl x) p e = let same : x.0 ≡ p = cc in subst Start same x.1
   starts_where_found (inr f) p e = absurd (cc)
 
-  -- where there is a fault, no start is found
+  -- no start is found if there is a fault
   none_found : (s : ((p : ℕ) × Start p) ⊎ ((f : Fault) × FaultOf f)) (f : Fault) → FaultOf f → found s ≡ None
   none_found (inl x) f fault = absurd (h.not_both x.0 f x.1 fault)
   none_found (inr g) f fault = refl
@@ -46,7 +46,7 @@ found_start Additional b p e = let h = start_or_fault.additionals b in starts_wh
 pub starts_are_found : StartsAreFound
 starts_are_found which b p = (found_start which b p, start_found which b p)
 
--- where a section has a fault before it, no start is found
+-- a section has no start if an entry before it has a fault
 pub no_answers : (b : List ℕ) (f : Fault) → AnswersFault b f → start_of Answer b ≡ None
 unfolding start_of
 no_answers b f fault = let h = start_or_fault.answers b in none_found h h.some f fault
@@ -65,16 +65,16 @@ module _ (which : Section) (b : List ℕ) where
   begins_reading cursor begins =
       begins.fresh.records ∙ sym (ap (λ (o : Option ℕ). option_map_or (records_in b (record_count which b)) o []) (start_found which b (position cursor) begins.start))
 
-  -- a section without a start has none
+  -- a section without a start has no reading
   pub no_reading : start_of which b ≡ None → records_of which b ≡ []
   no_reading e = ap (λ (o : Option ℕ). option_map_or (records_in b (record_count which b)) o []) e
 
-  -- so of the cursor that was answered
+  -- the cursor in a result is at the start of its section
   pub begun : (r : Result RecordSection ParseError) (cursor : RecordSection) → IfOk r (BeginsSection which b) → Some cursor ≡ result_ok r → BeginsSection which b cursor
   begun (Ok section) cursor begins is = let same : section ≡ cursor = cc in subst (BeginsSection which b) same begins
   begun (Err e) cursor begins is = absurd (cc)
 
--- where there was none, there is a fault
+-- a result without a cursor has a fault
 pub not_begun : (FaultBefore : Fault → Type 0) (r : Result RecordSection ParseError) → IfErr r (λ e. FaultBefore (fault_of e)) → None ≡ result_ok r → (f : Fault) × FaultBefore f
 not_begun FaultBefore (Ok section) fault is = absurd (cc)
 not_begun FaultBefore (Err e) fault is = (fault_of e, fault)

@@ -1,4 +1,4 @@
--- The lists of `questions_from` are the readings of questions.
+-- `questions_from` gives the readings of questions.
 use Rattle.std.proofs.Common.{◌≡◌, ℕ, List}
 use Rattle.std.specs.Prelude.{Result}
 use Rattle.dns_name.specs.Names.{Fault}

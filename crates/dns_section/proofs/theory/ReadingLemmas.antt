@@ -1,4 +1,4 @@
--- How many items a reading has, where its fault is, and which lists are the readings.
+-- How many items a reading has, where its fault is, and that a function of readings gives all of them.
 use Rattle.std.proofs.Common.{◌≡◌, ℕ, suc, ◌≤◌, List, [], ◌∷◌, ◌++◌, length, arith}
 use Rattle.std.specs.Prelude.{Result, Ok, Err}
 use Rattle.dns_name.specs.Names.{Fault}
@@ -14,12 +14,12 @@ module _ {X : Type 0} (Reads : ℕ → ℕ → X → Type 0) (FaultOf : ℕ → 
   short_reading (entry {n = n} {xs = xs} h r) = let s = short_reading r in omega (arith, s)
   short_reading (stop {n = n} h) = omega arith
 
-  -- what has an item isn't empty
+  -- a list that has an item isn't empty
   not_empty : (before behind : List (Result X Fault)) (x : Result X Fault) → let empty : List (Result X Fault) = [] in empty ≡ before ++ x ∷ behind → ⊥
   not_empty [] behind x e = cc
   not_empty (y ∷ before) behind x e = cc
 
-  -- of a list with one item, that is the last
+  -- the item of a list with one item is its last
   single : (g f : Fault) (before behind : List (Result X Fault)) → let one : List (Result X Fault) = Err g ∷ [] in one ≡ before ++ Err f ∷ behind → behind ≡ []
   single g f [] behind e = cc
   single g f (y ∷ before) behind e = absurd (not_empty before behind (Err f) (cc))
@@ -39,7 +39,7 @@ readings_of_questions_end b = readings_end (ReadsQuestion b) (QuestionFaultAt b)
 pub readings_of_records_end : ReadingsOfRecordsEnd
 readings_of_records_end b = readings_end (ReadsRecord b) (RecordFaultAt b)
 
--- lists that are readings are the readings
+-- a function whose lists are readings gives the only readings
 module _ {X : Type 0} {Reads : ℕ → ℕ → X → Type 0} {FaultOf : ℕ → Fault → Type 0} (one : OneReading Reads FaultOf) (from : ℕ → ℕ → List (Result X Fault)) (reading : (n p : ℕ) → Reading Reads FaultOf n p (from n p)) where
   only_reading : (n p : ℕ) (xs : List (Result X Fault)) → Reading Reads FaultOf n p xs → from n p ≡ xs
   only_reading n p xs r = one.one n p _ xs (reading n p) r

@@ -1,4 +1,4 @@
--- The lists of `records_from` are the readings of records.
+-- `records_from` gives the readings of records.
 use Rattle.std.proofs.Common.{ℕ, List}
 use Rattle.dns_section.specs.Sections.{ReadingRecords}
 use Rattle.dns_section.specs.RecordsFrom.{records_from, RecordsFromAreRead}

@@ -1,4 +1,4 @@
--- Cursors that move on from the start of a section stand at the start of the next.
+-- A cursor that moves on from the start of a section is at the start of the next.
 use Rattle.std.proofs.Common.{◌≡◌, ℕ, List, subst}
 use Rattle.std.specs.Prelude.{Some, Result, Ok}
 use Rattle.dns_octets.specs.declared.error.ParseError.{ParseError}
@@ -16,7 +16,7 @@ use Rattle.dns_section.specs.declared.record_section.RecordSection.{RecordSectio
 use Rattle.dns_section.specs.declared.section.Section.{Section}
 use Rattle.dns_section.specs.declared.section.Section.TheVariants.{Answer, Authority, Additional}
 
--- the answer section, behind all questions
+-- the answer section follows all questions
 pub begins_answers : (b : List ℕ) (old : QuestionSection) (new : RecordSection) → BeginsQuestions b old → EntersAnswers old new → BeginsSection Answer b new
 begins_answers b old new begins enters =
     let counted = subst (λ (left : Result ℕ ParseError). SkipsRest (SkipsQuestion (questions.octets_of old)) left (questions.position old) (position new)) begins.count enters.skips in
@@ -26,7 +26,7 @@ begins_answers b old new begins enters =
       start = subst (λ (o : List ℕ). Passed (SkipsQuestion o) (question_count b) header_size (position new)) begins.octets placed;
     }
 
--- a section starts behind the records of the one before it
+-- a section starts after the records of the section before it
 pub starts_behind : (which next : Section) (b : List ℕ) (p q : ℕ) → section_behind which ≡ Some next → StartsAt which b p → Passed (SkipsRecord b) (record_count which b) p q → StartsAt next b q
 starts_behind Answer next b p q behind start passed = let e : Authority ≡ next = cc in subst (λ k. StartsAt k b q) e (p, start, passed)
 starts_behind Authority next b p q behind start passed = let e : Additional ≡ next = cc in subst (λ k. StartsAt k b q) e (p, start, passed)

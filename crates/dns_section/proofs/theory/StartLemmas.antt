@@ -1,4 +1,4 @@
--- Each section starts at one place or has one fault.
+-- Each section has exactly one start or exactly one fault.
 use Rattle.std.proofs.Common.{◌≡◌, ℕ, zero, suc, ◌⊎◌, inl, inr, List, sym, ◌∙◌, refl, subst}
 use Rattle.dns_name.specs.Names.{Fault, EndsOrFaults}
 use Rattle.dns_code.specs.HeaderSection.{header_size}
@@ -11,7 +11,7 @@ use Rattle.dns_section.specs.Sections.{question_count, answer_count, authority_c
 use Rattle.dns_section.specs.Readings.{QuestionsPassOrStop, RecordsPassOrStop, OneStart, StartsOrFaults, StartOrFault}
 
 module _ {Skips : ℕ → ℕ → Type 0} {FaultOf : ℕ → Fault → Type 0} (each : EndsOrFaults Skips FaultOf) where
-  -- what passing is, and what stopping is, by how many entries there are
+  -- the cases of `Passed` and of `StopsPassing`, by the number of entries
   abbrev Steps : ℕ → ℕ → ℕ → Type 0
   Steps zero p q = q ≡ p
   Steps (suc n) p q = (r : ℕ) × Skips p r × Passed Skips n r q
@@ -63,19 +63,19 @@ module _ {Skips : ℕ → ℕ → Type 0} {FaultOf : ℕ → Fault → Type 0} (
         ]
       ]
 
-  -- so many entries are passed, or one of them has a fault
+  -- n entries can be skipped, or one of them has a fault
   passes_or_stops : (n : ℕ) → EndsOrFaults (Passed Skips n) (StopsPassing Skips FaultOf n)
   passes_or_stops n = record { some = passed_or_stopped n; one = one_passed n; not_both = passed_not_stopped n; one_fault = one_stop n }
 
--- so for questions
+-- the same for questions
 pub questions_pass_or_stop : QuestionsPassOrStop
 questions_pass_or_stop b n = passes_or_stops (question_end_or_fault b) n
 
--- and for records
+-- the same for records
 pub records_pass_or_stop : RecordsPassOrStop
 records_pass_or_stop b n = passes_or_stops (record_end_or_fault b) n
 
--- the section behind one that starts, or has no start
+-- the section after one that has a start, or has none
 module _ {Start : ℕ → Type 0} {NoStart : Fault → Type 0} {Skips : ℕ → ℕ → Type 0} {FaultOf : ℕ → Fault → Type 0} (before : StartsOrFaults Start NoStart) (each : EndsOrFaults Skips FaultOf) where
   abbrev Behind : ℕ → Type 0
   Behind p = (q : ℕ) × Start q × Skips q p

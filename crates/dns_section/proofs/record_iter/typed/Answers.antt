@@ -20,7 +20,7 @@ use Rattle.dns_section.proofs.LimitedLemmas.{limited_by-one}
 use Rattle.dns_section.proofs.record_iter.typed.Goals as goal
 use Rattle.dns_section.proofs.record_iter.typed.Goals.{else-in_only-via-then-in_only+else-ne, else-in_only-via-else-in_only}
 
--- a record that is taken by its class
+-- a record that isn't left out for its class
 record_taken : {D : Type 0} (rtype_of : D → ℕ) (parts_of : D → List Part) (layouts : ℕ → Option Layout) (in_only : Bool) (item : Result ParsedRecord ParseError) (r : ParsedRecord)
     (read : Result (Option (Record ParsedName D)) ParseError) (result : Option (Result (Record ParsedName D) ParseError)) → item ≡ Ok r → HasSpan (standing_record r)
     → AnswersTaken rtype_of parts_of (octets_of r) (parsed_entry r) (layouts (parsed_entry r).rtype) read → result ≡ result_transpose read

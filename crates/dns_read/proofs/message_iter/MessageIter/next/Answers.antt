@@ -10,7 +10,7 @@ use Rattle.dns_read.proofs.MessageIterLemmas.{gave_nothing, moved_on, not_moved_
 use Rattle.dns_read.proofs.KeptErrorLemmas.{moves_nowhere, stops_again, keeps_on}
 use Rattle.dns_read.proofs.message_iter.MessageIter.next.Goals as goal
 
--- what is left from a cursor on, if there is one
+-- what a cursor has left, if there is one
 left_at : Option RecordSection → List Item
 left_at o = option_map_or cursor_items o []
 

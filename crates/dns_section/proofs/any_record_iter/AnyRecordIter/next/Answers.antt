@@ -20,7 +20,7 @@ use Rattle.dns_section.specs.declared.record_section.RecordSection.{RecordSectio
 use Rattle.dns_section.proofs.LimitedLemmas.{limited-append, given_span, passing_none, passing_answered, passing_ended, passed_yields, ended_yields}
 use Rattle.dns_section.proofs.any_record_iter.AnyRecordIter.next.Goals as goal
 
--- a record that the cursor gave is answered
+-- a record that the cursor yielded is parsed with its RDATA and yielded
 record_answered : {D : Type 0} (rtype_of : D → ℕ) (parts_of : D → List Part) (layouts : ℕ → Layout) (old new : RecordSection) (r : ParsedRecord) (answer : Result (Record ParsedName D) ParseError)
     → GivesNext old (Some (Ok r)) new → AnswersLaidOut rtype_of parts_of (octets_of r) (parsed_entry r) (layouts (parsed_entry r).rtype) answer
     → (limited (every layouts) (records_left old) ≡ typed_answer rtype_of parts_of answer ∷ limited (every layouts) (records_left new))

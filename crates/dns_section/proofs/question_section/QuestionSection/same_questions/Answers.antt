@@ -11,12 +11,12 @@ use Rattle.dns_section.specs.SameQuestions.{same_item, same_readings}
 use Rattle.dns_section.specs.declared.question_section.QuestionSection.{QuestionSection}
 use Rattle.dns_section.proofs.question_section.QuestionSection.same_questions.Goals as goal
 
--- two readings are the same where their first items and the rest are
+-- two readings are the same if their first items are and the remaining items are
 heads : (x y : Result QuestionItem Fault) (xs ys all others : List (Result QuestionItem Fault)) → all ≡ x ∷ xs → others ≡ y ∷ ys
     → same_readings all others ≡ same_item x y && same_readings xs ys
 heads x y xs ys all others e f = λ i. same_readings (e i) (f i)
 
--- nothing is the same as what has nothing left
+-- an empty reading is the same as another only if that has nothing left
 ended : (r : Option (Result (Question ParsedName) ParseError)) (old new : QuestionSection) (nothing : Bool) → is_some r ≡ not nothing → YieldsFirstBy question_answer questions_left old r new
     → nothing ≡ same_readings [] (questions_left old)
 ended None old new true e h = ap (same_readings []) (sym h.0)

@@ -12,7 +12,7 @@ use Rattle.dns_section.proofs.CursorLemmas.{nothing_left, gives_entry, gives_fau
 use Rattle.dns_section.proofs.theory.RecordsFromLemmas.{records_from_are_read}
 use Rattle.dns_section.proofs.record_section.RecordSection.next.Goals as goal
 
--- what is left, with the octets
+-- what is left, with the octets that it is read from
 left_in : (b : List ℕ) (p : ℕ) (left : Result ℕ ParseError) (xs : List (Result RecordEntry Fault)) → items_left (λ n. records_from b n p) left ≡ xs
     → items_left (λ n. records_in b n p) left ≡ map (in_octets b) xs
 unfolding records_in
