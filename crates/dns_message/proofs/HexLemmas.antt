@@ -4,7 +4,7 @@ use Rattle.std.proofs.lemmas.List.{take_all}
 use Rattle.std.specs.Prelude.{Option, option_map}
 use Rattle.dns_message.specs.Hex.{octet_of, octets_of, with_octet}
 
--- an octet more, and what is behind it
+-- one octet more, before the others
 joined : (octets : List ℕ) (octet : ℕ) (others : Option (List ℕ)) → option_map (λ xs. octets ++ xs) (option_map (λ xs. octet ∷ xs) others) ≡ option_map (λ xs. (octets ++ octet ∷ []) ++ xs) others
 joined octets octet None = refl
 joined octets octet (Some xs) = ap Some (sym (append_assoc octets (octet ∷ []) xs))

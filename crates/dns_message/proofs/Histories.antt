@@ -1,4 +1,4 @@
--- Runs go on by one step, and what they lead to.
+-- How a run is extended by one call, and what it leads to.
 use Rattle.std.proofs.Common.{◌≡◌, ℕ, Bool, Option, List, [], ◌∷◌, ◌++◌, ap, sym, ◌∙◌, refl, subst, take, length, length-append, get_or, append_assoc, arith, ◌+◌, ◌<◌, ◌≤◌}
 use Rattle.std.proofs.lemmas.Grind.{common_steps}
 use Rattle.std.proofs.lemmas.List.{take_more}
@@ -15,11 +15,11 @@ use Rattle.dns_message.specs.declared.script.Reply.{Reply}
 use Rattle.dns_message.specs.Script.{StageStandsFor, after, after_all, IsReply, AreReplies, Steps, RunsAll, octets_of}
 
 module _ {Q R : Type 0} (room : Option ℕ) (grows : Bool) (question : Q → QuestionItem) (item : R → RecordItem) (rule : Rule) where
-  -- through the calls, for each state that the stage stands for: replies, and a stage that stands for the state after them
+  -- through these calls, for each state that the stage represents: one reply for each, and a stage that represents the state after them
   abbrev pub Goes : {T : Type 0} → Stage T → List (Call Q R) → List Reply → Stage T → Type 0
   Goes old calls replies new = (s : State) → StageStandsFor rule s old → AreReplies room grows question item rule s calls replies × StageStandsFor rule (after_all question item s calls replies) new
 
-  -- one call more
+  -- the state after one call more
   after_more : (s : State) (calls : List (Call Q R)) (replies : List Reply) (call : Call Q R) (reply : Reply) → AreReplies room grows question item rule s calls replies → after_all question item s (calls ++ call ∷ []) (replies ++ reply ∷ []) ≡ after question item (after_all question item s calls replies) call reply
   after_more s [] [] call reply h = refl
   after_more s (c ∷ calls) (p ∷ replies) call reply h = after_more (after question item s c p) calls replies call reply h.1
@@ -40,7 +40,7 @@ module _ {Q R : Type 0} (room : Option ℕ) (grows : Bool) (question : Q → Que
         subst (λ (t : State). StageStandsFor rule t new) (sym (after_more s calls replies call reply ran.0)) next.1,
       )
 
-  -- the calls so far, one reply to each behind those before, and what they lead to
+  -- the calls so far, one reply for each appended to the replies before, and the stage that they lead to
   pub record GoesOn {T : Type 0} (old : Stage T) (calls : List (Call Q R)) (before items : List Reply) (mid : Stage T) : Type 0 where
     pub told : List Reply
     pub appended : items ≡ before ++ told
@@ -61,7 +61,7 @@ module _ {Q R : Type 0} (room : Option ℕ) (grows : Bool) (question : Q → Que
       } in
       subst (λ (xs : List (Call Q R)). GoesOn old xs before items' new) (sym e) one_more
 
-  -- a message stands where a stage stands for a state
+  -- the octets of a stage are a message if the stage represents a state
   stands_message : {T : Type 0} → (s : State) (stage : Stage T) → FoldsAreMessages → StageStandsFor rule s stage → IsMessageOf rule s (octets_of stage)
   stands_message s (Builder b) folds h = subst (λ (w : Written). IsMessageOf rule s w.octets) (sym h.written) (folds rule s h.state)
   stands_message s (Question b) folds h = subst (λ (w : Written). IsMessageOf rule s w.octets) (sym h.written) (folds rule s h.state)
@@ -69,7 +69,7 @@ module _ {Q R : Type 0} (room : Option ℕ) (grows : Bool) (question : Q → Que
   stands_message s (Authority b) folds h = subst (λ (w : Written). IsMessageOf rule s w.octets) (sym h.written) (folds rule s h.state)
   stands_message s (Additional b) folds h = subst (λ (w : Written). IsMessageOf rule s w.octets) (sym h.written) (folds rule s h.state)
 
-  -- at the end they are all the calls, where folds are messages
+  -- once all calls are made, this is a run
   pub runs_all : {T : Type 0} → (old new : Stage T) (calls : List (Call Q R)) (index : ℕ) (before items : List Reply) → index ≤ length calls → length calls ≤ index → FoldsAreMessages
       → GoesOn old (take index calls) before items new → RunsAll room grows question item rule old calls before items new
   runs_all old new calls index before items l k folds so_far =

@@ -1,4 +1,4 @@
--- What the reply to a push of an OPT record says.
+-- What the reply to the push of an OPT record says.
 use Rattle.std.proofs.Common.{◌≡◌, ◌∙◌, ap, sym, refl, subst, inl, inr, ℕ, ◌+◌, Bool, false, List, [], ◌∷◌, ◌++◌, length, length-append, append-nil, arith}
 use Rattle.std.proofs.lemmas.Grind.{flat_map-append}
 use Rattle.std.specs.Prelude.{Option, Some, None, Result, Ok, Err, OnOk, OnErr, MatchResult}
@@ -23,7 +23,7 @@ use Rattle.dns_message.specs.declared.script.Reply.{Reply}
 use Rattle.dns_message.specs.declared.script.Reply.TheVariants.{Done, Refused}
 use Rattle.dns_message.specs.Script.{lacks, Stays}
 
--- the first option is added, and the others are answered behind it
+-- the first option is added, and the result is that of adding the others after it
 pub added_first : (x : OptionItem) (old new : OptBuilder) (xs : List OptionItem) (answer : Result (Unit {0}) AppendError) → Adds x old new (Ok tt)
     → AddsAll (gathered_size (gathered new)) xs answer → AddsAll (gathered_size (gathered old)) (x ∷ xs) answer
 added_first x old new xs answer h rest =
@@ -33,37 +33,37 @@ added_first x old new xs answer h rest =
     let size : gathered_size (gathered new) ≡ gathered_size (gathered old) + 4 + length x.octets = omega (arith, ap gathered_size h.0, put, sum, one) in
     inr (h.1, inr (subst (λ (n : ℕ). AddsAll n xs answer) size rest))
 
--- the first option is refused
+-- adding the first option fails
 pub refused_first : (x : OptionItem) (old new : OptBuilder) (xs : List OptionItem) (e : AppendError) → Adds x old new (Err e) → AddsAll (gathered_size (gathered old)) (x ∷ xs) (Err e)
 refused_first x old new xs ShortBuf h = inl (h.0, refl)
 refused_first x old new xs OutOfMemory h = inr (h.0, inl refl)
 
--- an rcode leaves the options as they are
+-- setting an RCODE leaves the options as they are
 options_stay : (rcode : Option ℕ) (g : Gathered) → (with_any_rcode rcode g).options ≡ g.options
 options_stay None g = refl
 options_stay (Some rcode) g = refl
 
 module _ (room : Option ℕ) (grows : Bool) (rule : Rule) (plan : OptPlan) (s : State) where
-  -- what a plan gathers beside the state's header
+  -- what a plan gathers for the state's header
   abbrev pub asked : Gathered
   asked = planned_beside s.header plan
 
-  -- how long the message is with the OPT record of what is gathered
+  -- the size in octets of the message with the OPT record of what is gathered
   abbrev pub size : Gathered → ℕ
   size g = size_after rule (with_record InAdditional (opt_record g)) s
 
-  -- the answer, where a success gathers what is asked
+  -- the result for what is gathered is the result for what was asked
   answers_asked : (g : Gathered) (a : Result (Unit {0}) AppendError) (r : Result (Unit {0}) PushError) → OnOk a (g ≡ asked)
       → OptAnswers room grows s.limit (size g) (length s.additionals) a r → OptAnswers room grows s.limit (size asked) (length s.additionals) a r
   answers_asked g (Ok u) r same h = subst (λ (x : Gathered). OptAnswers room grows s.limit (size x) (length s.additionals) (Ok u) r) same h
   answers_asked g (Err e) r same h = h
 
-  -- where the record is accepted nothing was refused before
+  -- if the push succeeds, what was asked is gathered
   accepted_asked : (g : Gathered) (n : ℕ) (a : Result (Unit {0}) AppendError) (v : Unit {0}) → OnOk a (g ≡ asked) → OptAnswers room grows s.limit n (length s.additionals) a (Ok v) → g ≡ asked
   accepted_asked g n (Ok u) v same h = same
   accepted_asked g n (Err e) v same h = absurd (cc)
 
-  -- a plan that is carried out in a call of `opt`, for the state
+  -- a call of `opt`, for the state, carries out the plan
   module _ (call : OptBuilder → Result (Unit {0}) AppendError → OptBuilder → Type 0) (carries : (b : OptBuilder) (a : Result (Unit {0}) AppendError) (b' : OptBuilder) → call b a b' → CarriesOut plan b b' a)
       (new : Built) (r : Result (Unit {0}) PushError) (p : PushesOpt room grows rule call s new r) where
     done_asked : (a : Result (Unit {0}) AppendError) → OnOk a (gathered p.gathers.after ≡ planned plan (gathered p.gathers.before)) → OnOk a (p.g ≡ asked)
@@ -79,7 +79,7 @@ module _ (room : Option ℕ) (grows : Bool) (rule : Rule) (plan : OptPlan) (s : 
         (subst (λ (g : Gathered). AddsAll (gathered_size g) (planned_options plan) p.answer) p.gathers.fresh (carries _ _ _ p.gathers.called).adds)
 
 module _ (room : Option ℕ) (grows : Bool) {Q R : Type 0} (question : Q → QuestionItem) (item : R → RecordItem) (rule : Rule) (plan : OptPlan) (old new : Built) where
-  -- a push of an OPT record steps as its contract says
+  -- the push of an OPT record is a step that stays at the additional section
   pub opt_stays : (gathers : OptBuilder → Result (Unit {0}) AppendError → OptBuilder → Type 0) (call : Call Q R) (r : Result (Unit {0}) PushError) (reply : Reply)
       → call ≡ PushOpt plan → MatchResult r (λ _. reply ≡ Done) (λ error. reply ≡ Refused error)
       → ((b : OptBuilder) (a : Result (Unit {0}) AppendError) (b' : OptBuilder) → gathers b a b' → CarriesOut plan b b' a)

@@ -1,4 +1,4 @@
--- What the reply to a push of a record says, at each record section.
+-- What the reply to the push of a record says, at each record section.
 use Rattle.std.proofs.Common.{◌≡◌, ℕ, ◌<◌, ◌≤◌, Bool, false, Option, Result, Ok, Err, length, sym, ◌∙◌, ap, subst, refl}
 use Rattle.std.specs.Prelude.{OnOk, OnErr, IsTrue, MatchResult}
 use Rattle.dns_wire.specs.Pieces.{Rule}
@@ -18,18 +18,18 @@ use Rattle.dns_message.specs.declared.script.Reply.{Reply}
 use Rattle.dns_message.specs.declared.script.Reply.TheVariants.{Done, Refused}
 use Rattle.dns_message.specs.Script.{lacks, Stays}
 
--- records are pushed at each record section
+-- each record section has the call that pushes a record
 has_push : (Q R : Type 0) (section : Section) (x : R) → lacks {Q = Q} (stage_of section) (PushRecord x) ≡ false
 has_push Q R Answer x = refl
 has_push Q R Authority x = refl
 has_push Q R Additional x = refl
 
 module _ (room : Option ℕ) (grows : Bool) (rule : Rule) (stage : state.Stage) (old : Built) (pushed : RecordItem) where
-  -- the answer to a push, for each state that the builder stands for
+  -- the result of a push, for each state that the builder represents
   abbrev pub Answered : Result (Unit {0}) PushError → Type 0
   Answered r = (s : State) → StandsFor stage rule s old → PushAnswers room grows s.limit (size_after rule (with_record stage pushed) s) (length (records_at stage s)) r
 
-  -- it is told by one clause for success, and one for each reason of a refusal
+  -- the result follows from one clause for success and one for each reason to fail
   pub answered : (r : Result (Unit {0}) PushError)
       → OnOk r (InEach stage rule old (λ s. let n = size_after rule (with_record stage pushed) s in Fits room n × (n ≤ s.limit) × (length (records_at stage s) < most_entries)))
       → (r ≡ Err ShortBuf → InEach stage rule old (λ s. Passes room (size_after rule (with_record stage pushed) s)))
@@ -43,14 +43,14 @@ module _ (room : Option ℕ) (grows : Bool) (rule : Rule) (stage : state.Stage) 
   answered (Err LimitExceeded) fits short memory limit count s h = limit refl s h
   answered (Err CountOverflow) fits short memory limit count s h = count refl s h
 
-  -- so it is said of the state's own stage
+  -- the same for the stage of the state itself
   answered_here : (r : Result (Unit {0}) PushError) → Answered r → (s : State) → StandsFor stage rule s old
       → PushAnswers room grows s.limit (size_after rule (with_record s.stage pushed) s) (length (records_at s.stage s)) r
   answered_here r a s h =
       subst (λ at. PushAnswers room grows s.limit (size_after rule (with_record at pushed) s) (length (records_at at s)) r) (sym h.here) (a s h)
 
 module _ (room : Option ℕ) (grows : Bool) {Q R : Type 0} (question : Q → QuestionItem) (item : R → RecordItem) (rule : Rule) (stage : state.Stage) (old new : Built) (x : R) where
-  -- a push of a record steps as its contract says
+  -- the push of a record is a step that stays at its stage
   pub push_stays : (section : Section) (call : Call Q R) (r : Result (Unit {0}) PushError) (reply : Reply)
       → stage ≡ stage_of section → call ≡ PushRecord x → MatchResult r (λ _. reply ≡ Done) (λ error. reply ≡ Refused error)
       → OnOk r (MovesState stage stage rule (with_record stage (item x)) old new) → OnErr r (new ≡ old) → Answered room grows rule stage old (item x) r

@@ -1,4 +1,4 @@
--- The lines of a header and of counts, piece by piece.
+-- The lines of a header and of counts, put together from their fields.
 use Rattle.std.proofs.Common.{◌≡◌, ℕ, Bool, true, false, [], ◌∷◌, append_assoc, ap, refl, codes, Some}
 use Rattle.std.specs.Fmt.{◌++?◌, decimal}
 use Rattle.std.specs.Prelude.{if◌then◌else◌}

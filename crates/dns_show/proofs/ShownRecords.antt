@@ -1,4 +1,4 @@
--- The lines of records, and what is known of the data of a record that was read.
+-- The lines of records, and what is known of the RDATA of a record that was read.
 use Rattle.std.proofs.Common.{◌≡◌, ◌∙◌, ℕ, ◌≤◌, List, [], ◌∷◌, ◌++◌, length, length-drop, append_assoc, append-nil, ap, sym, refl, subst, arith, codes, le-leb, IfOk, Some, None, Ok, Err, OnOk, Result}
 use Rattle.std.proofs.lemmas.List.{length-take-le}
 use Rattle.std.specs.Fmt.{◌++?◌}
@@ -36,7 +36,7 @@ use Rattle.std.specs.Result.{result_ok}
 use Rattle.dns_show.specs.Show.{line, record_line, section_word, section_lines, records_text, IsRead, HasShortData, data_parts}
 use Rattle.dns_show.proofs.theory.AppendedTexts.{prints_both}
 
--- a word, a space and a text
+-- a word, a space and a text are printed as a line
 pub printed_item : (word text : List ℕ) → Some word ++? (Some (codes " ") ++? (Some text ++? Some (10 ∷ []))) ≡ Some (line (word ++ codes " " ++ text))
 printed_item word text = ap Some (simp append_assoc)
 
@@ -45,13 +45,13 @@ module _ (b : List ℕ) (section : Section) (cursor : RecordSection) (begins : B
   lines_are : flat_map (record_line (section_word section)) (records_left cursor) ≡ flat_map (record_line (section_word section)) (records_in b (record_count section b) (position cursor))
   lines_are = ap (flat_map (record_line (section_word section))) begins.fresh.records
 
-  -- a section is printed, and what is behind it
+  -- a section is printed, and then what follows it
   pub section_printed : {E X : Type 0} (old mid new : Option (List ℕ)) (r : Result X E) (behind : List ℕ)
       → Appends old mid (flat_map (record_line (section_word section)) (records_left cursor)) → OnOk r (Appends mid new behind)
       → OnOk r (Appends old new (section_lines b section (Some (position cursor)) behind))
   section_printed old mid new r behind h k = prints_both old mid new _ _ behind r lines_are h k
 
-  -- a section is printed, and nothing more
+  -- a section is printed, and nothing after it
   pub last_printed : {E X : Type 0} (old new : Option (List ℕ)) (r : Result X E)
       → OnOk r (Appends old new (flat_map (record_line (section_word section)) (records_left cursor)))
       → OnOk r (Appends old new (section_lines b section (Some (position cursor)) []))
@@ -64,27 +64,27 @@ module _ (x : StandingRecord) (read : IsRead x) where
   pub rises : x.entry.data_start ≤ x.entry.data_end
   rises = let e = read.2.data_end in let s = read.2.data_start in let w = read.2.skips.end in omega arith
 
-  -- as many octets are seen as there are up to the end of the data
+  -- the octets up to the end of the RDATA are all there
   pub seen_length : length (up_to_data_end x.octets x.entry) ≡ x.entry.data_end
   seen_length = length-take-le x.entry.data_end x.octets there
 
   pub span : HasSpan x
   span = record { start = rises; end = there }
 
-  -- the parts of data that is there
+  -- the parts of well-formed RDATA
   pub parts_there : (layout : Layout) (parts : List Part) → HasData x.octets x.entry layout parts → data_parts x layout ≡ Some parts
   parts_there layout parts h = ap result_ok (data_is_answered.only x layout (Ok parts) (whole span h))
 
-  -- none where there is a fault
+  -- malformed RDATA has no parts
   pub parts_missing : (layout : Layout) (f : Fault) → HasDataFault x.octets x.entry layout f → data_parts x layout ≡ None
   parts_missing layout f h = ap result_ok (data_is_answered.only x layout (Err f) (fault span h))
 
-  -- opaque data that is short enough has no fault
+  -- opaque RDATA of at most 65,535 octets is well-formed
   pub no_fault : HasShortData x → (f : Fault) → HasDataFault x.octets x.entry opaque_layout f → ⊥
   no_fault short f (first h) = h.1 (le-leb _ _ (let l = length-drop x.entry.data_start (up_to_data_end x.octets x.entry) in let s = seen_length in omega arith))
   no_fault short f (left_over q parts stands l) = let e = stands.0 in omega arith
 
--- the sections of records are printed, where their starts are known
+-- the sections of records are printed, by where they start
 pub sections_printed : {E X : Type 0} (b : List ℕ) (old new : Option (List ℕ)) (r : Result X E) (answers authorities additionals : Option ℕ)
     → start_of Answer b ≡ answers → start_of Authority b ≡ authorities → start_of Additional b ≡ additionals
     → OnOk r (Appends old new (section_lines b Answer answers (section_lines b Authority authorities (section_lines b Additional additionals []))))
@@ -97,7 +97,7 @@ module _ {D : Type 0} (rtype_of : D → ℕ) (parts_of : D → List Part) (x : S
   opaque_is_ok short (Ok r) h = refl
   opaque_is_ok short (Err e) h = absurd (no_fault x read short (fault_of e) (h.gives (there x read)))
 
--- a text made of one that is known
+-- a text made of a known text is printed as a line
 pub printed_made : (word : List ℕ) (make : List ℕ → List ℕ) (value : Option (List ℕ)) (text : List ℕ) → value ≡ Some text
     → Some word ++? (Some (codes " ") ++? (option_map make value ++? Some (10 ∷ []))) ≡ Some (line (word ++ codes " " ++ make text))
 printed_made word make value text is =
@@ -109,29 +109,29 @@ module _ {D : Type 0} (rtype_of : D → ℕ) (parts_of : D → List Part) (x : S
       → record_fields_text (name_text (labels (owner_of r))) (ttl_of r) (class_of r) (rtype_of (data_of r)) text ≡ record_fields_text (name_text x.entry.owner) x.entry.ttl x.entry.class x.entry.rtype text
   same_text r parts is text = λ i. record_fields_text (name_text (is i).owner) (is i).ttl (is i).class (is i).rtype text
 
-  -- where a record is given, its type has a layout, and its data is of it
+  -- if a record is returned, its type has a layout and its RDATA has parts of this layout
   pub taken_data : (r : Record ParsedName D) (taken : Option Layout) → GivesTaken rtype_of parts_of x.octets x.entry taken (Ok (Some r))
       → (layout : Layout) × (taken ≡ Some layout) × IsRecordOf rtype_of parts_of x.octets x.entry (parts_of (data_of r)) r × HasData x.octets x.entry layout (parts_of (data_of r))
   taken_data r None h = absurd h
   taken_data r (Some layout) h = (layout, refl, h.0, h.1)
 
   module _ (read : IsRead x) where
-    -- no record is given where no parts are
+    -- if no record is returned, its RDATA has no parts
     pub none_taken : (taken : Option Layout) → GivesTaken rtype_of parts_of x.octets x.entry taken (Ok None) → option_and_then (data_parts x) taken ≡ None
     none_taken None h = refl
     none_taken (Some layout) h = absurd h
 
-    -- nor is an error
+    -- if an error is returned, the RDATA has no parts
     pub fault_taken : (e : ParseError) (taken : Option Layout) → GivesTaken rtype_of parts_of x.octets x.entry taken (Err e) → option_and_then (data_parts x) taken ≡ None
     fault_taken e None h = absurd h
     fault_taken e (Some layout) h = parts_missing x read layout (fault_of e) h
 
--- a record that a cursor gives was read
+-- a record that a cursor yields can be read
 pub given_read : (old new : RecordSection) (r : Result ParsedRecord ParseError) → PassesRecord old new (Some r) → IfOk r (λ p. IsRead (standing_record p))
 given_read old new (Ok r) h = (position old, position new, subst (λ (b : List ℕ). ReadsRecord b (position old) (position new) (parsed_entry r)) (sym h.1) h.0)
 given_read old new (Err e) h = tt
 
--- a fact of each record that is given
+-- what holds of each record that is yielded
 pub given_short : (r : Result ParsedRecord ParseError) → ((p : ParsedRecord) → r ≡ Ok p → HasShortData (standing_record p)) → IfOk r (λ p. HasShortData (standing_record p))
 given_short (Ok r) h = h r refl
 given_short (Err e) h = tt

@@ -13,7 +13,7 @@ use Rattle.dns_show.specs.TypedData.{parts_of, typed_text}
 use Rattle.dns_show.specs.declared.typed_data.TypedData.{TypedData}
 use Rattle.dns_show.specs.declared.typed_data.TypedData.TheVariants as variants
 
--- the numbers have 32 bits
+-- the numbers of an SOA record fit in 32 bits
 pub record NumbersFit (zone : Soa ParsedName) : Type 0 where
   pub serial : serial_of zone < 2 ^ 32
   pub refresh : refresh_of zone < 2 ^ 32

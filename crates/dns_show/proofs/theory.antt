@@ -1,2 +1,2 @@
--- Lemmas that crates above cite: a change here is one for them too.
+-- Crates above cite these lemmas, so a change here affects them.
 pub mod AppendedTexts

@@ -1,4 +1,4 @@
--- The parts of a page, put together from what is written one piece after another.
+-- The parts of a page, put together from what is written in order.
 use Rattle.std.proofs.Common.{Option, Result, OnOk, ◌≡◌, ◌∙◌, ℕ, ◌+◌, ◌%◌, ◌<◌, List, [], ◌∷◌, ◌++◌, length, take, get_or, ap, refl, sym, arith, codes, append_assoc, append-nil, length-take}
 use Rattle.std.specs.Fmt.{decimal, digits}
 use Rattle.std.specs.List.{enumerate_from, flat_map}
@@ -14,7 +14,7 @@ use Rattle.dns_rows.specs.declared.row.Row.{Row}
 use Rattle.dns_view.proofs.Appended.{appends_both, appends_same, on_ok}
 use Rattle.dns_view.specs.Pages.{arrow_text, class_text, escaped, IsCells, IsPage, IsTableRow, arrow_between, cell_text, left_edge, octet_cells, opening_text, path_text, place_label, rectangle_text, upper_edge}
 
--- numbers that never change
+-- decimal texts of the constants
 decimal_thirty : decimal 30 ≡ codes "30"
 unfolding digits
 decimal_thirty = refl
@@ -27,7 +27,7 @@ decimal_fifty : decimal 50 ≡ codes "50"
 unfolding digits
 decimal_fifty = refl
 
--- pieces joined from the last on, and from the first on
+-- texts that are appended from the last to the first, and from the first to the last
 module _ (a b c d e : List ℕ) where
   pub five : a ++ (b ++ (c ++ (d ++ e))) ≡ a ++ b ++ c ++ d ++ e
   five = simp append_assoc
@@ -54,7 +54,7 @@ arrow_pieces from to from_x from_y bend_x to_x to_y e f g h k =
     let path = path_text (left_edge from + 36) (upper_edge from + 6) (max (left_edge from + 36) (left_edge to + 18) + 36) (left_edge to + 18) (upper_edge to + 26) in
     rw (g, e, f, h, k) (ap (λ l. path ++ l) (five (codes "<title>") (decimal from) (codes " points to ") (decimal to) (codes "</title></path>\n")))
 
--- nine pieces, and four behind them
+-- nine texts, and four after them
 nine_and_four : (a b c d e f g h i j k l m : List ℕ)
     → (a ++ (b ++ (c ++ (d ++ (e ++ (f ++ (g ++ (h ++ i)))))))) ++ (j ++ (k ++ (l ++ m))) ≡ a ++ b ++ c ++ d ++ e ++ f ++ g ++ h ++ i ++ j ++ k ++ l ++ m
 nine_and_four a b c d e f g h i j k l m = simp append_assoc
@@ -67,7 +67,7 @@ path_pieces from_x from_y bend_x to_x to_y =
     nine_and_four (codes "<path d=\"M") (decimal from_x) (codes ",") (decimal from_y) (codes " Q") (decimal bend_x) (codes ",") (decimal to_y) (codes " ")
     (decimal to_x) (codes ",") (decimal to_y) (codes "\" marker-end=\"url(#tip)\">")
 
--- one element more, with its place
+-- one element more, with its index
 enumerated_more : (start : ℕ) (xs : List ℕ) (x : ℕ) → enumerate_from start (xs ++ x ∷ []) ≡ enumerate_from start xs ++ (start + length xs, x) ∷ []
 enumerated_more start [] x = ap (λ n. (n, x) ∷ []) (omega arith)
 enumerated_more start (first ∷ xs) x = ap (λ l. (start, first) ∷ l) (enumerated_more (start + 1) xs x ∙ ap (λ n. enumerate_from (start + 1) xs ++ (n, x) ∷ []) (omega arith))
@@ -81,7 +81,7 @@ cells_more start octets i within =
     sym (ap (octet_cells start) (take_more octets i 0 within) ∙ ap (flat_map cell_text) (enumerated_more start (take i octets) octet ∙ ap (λ n. before ++ (n, octet) ∷ []) place)
     ∙ flat_map-append cell_text before ((start + i, octet) ∷ []) ∙ ap (λ l. flat_map cell_text before ++ l) (append-nil (cell_text (start + i, octet))))
 
--- the class, the place and what stands round them
+-- the class, the offset and the texts around them
 pub field_pieces : (kind : Kind) (class : List ℕ) (place : ℕ) → class ≡ class_text kind
     → codes "<tr class=\"" ++ (class ++ (codes "\"><td class=\"place\">" ++ (decimal place ++ codes "</td><td class=\"octets\">")))
     ≡ codes "<tr class=\"" ++ class_text kind ++ codes "\"><td class=\"place\">" ++ decimal place ++ codes "</td><td class=\"octets\">"

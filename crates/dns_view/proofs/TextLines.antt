@@ -17,25 +17,25 @@ use Rattle.std.proofs.lemmas.List.Elements.{All-nil, All-push}
 pub digits_more : (octets : List ℕ) (i : ℕ) → i < length octets → digits_text (take (i + 1) octets) ≡ digits_text (take i octets) ++ 32 ∷ octet_text (get_or octets i 0)
 digits_more octets i h = ap digits_text (take_more octets i 0 h) ∙ flat_map-append (λ octet. 32 ∷ octet_text octet) (take i octets) (get_or octets i 0 ∷ [])
 
--- copies of a list of one
+-- a repeated list of one space is that many spaces
 repeat_one : (n : ℕ) → repeat n (32 ∷ []) ≡ spaces n
 repeat_one zero = refl
 repeat_one (suc n) = ap (λ l. 32 ∷ l) (repeat_one n)
 
--- fill before a text, and none behind it
+-- padding before a text, and none after it
 filled : (n m : ℕ) (text : List ℕ) → m ≡ n → ((repeat m (32 ∷ []) ++ []) ++ [] ++ []) ++ (text ++ repeat (m - m) (32 ∷ [])) ≡ spaces n ++ text
 filled n m text e = rw e (simp (append-nil, sub_self, repeat_one))
 
--- what `{:>6}` writes of a number
+-- what `{:>6}` prints for a number
 pub place_padded : (n : ℕ) → padded_integral (format_spec 32 3 0 6 (2 ^ 64 - 1)) false [] (decimal n) ≡ place_text n
 unfolding padded_integral char_count encode
 place_padded n = filled (6 - length (decimal n)) (6 - length (decimal n) - 0 - 0) (decimal n) (omega arith)
 
--- one more of a list, and its text
+-- one item more of a list, and its text
 flat_map_last : {X : Type 0} (f : X → List ℕ) (xs : List X) (x : X) → flat_map f (xs ++ x ∷ []) ≡ flat_map f xs ++ f x
 flat_map_last f xs x = flat_map-append f xs (x ∷ []) ∙ ap (λ l. flat_map f xs ++ l) (append-nil (f x))
 
--- texts with something behind each but the last, and the same with it before each but the first
+-- texts with a separator after each but the last are texts with it before each but the first
 module _ {X : Type 0} (f : X → List ℕ) (between : List ℕ) where
   joined : (xs : List X) (last : X) → between ++ (flat_map (λ x. f x ++ between) xs ++ f last) ≡ flat_map (λ x. between ++ f x) (xs ++ last ∷ [])
   joined [] last = sym (append-nil (between ++ f last))
@@ -45,24 +45,24 @@ module _ {X : Type 0} (f : X → List ℕ) (between : List ℕ) where
       → front ++ (flat_map (λ x. f x ++ between) (first ∷ xs) ++ f last) ≡ front ++ f first ++ flat_map (λ x. between ++ f x) (xs ++ last ∷ [])
   behind_first front first xs last = rw (← joined xs last) (simp append_assoc)
 
--- the octets of one line more, and those behind them
+-- the octets of one line more, and those after it
 all_octets : (done : List Line) (line : Line) (left behind whole : List ℕ) → left ≡ line.octets ++ behind → flat_map (λ line. line.octets) done ++ left ≡ whole → flat_map (λ line. line.octets) (done ++ line ∷ []) ++ behind ≡ whole
 all_octets done line left behind whole parts e =
     let before = flat_map (λ (l : Line). l.octets) done in
     ap (λ l. l ++ behind) (flat_map_last (λ (l : Line). l.octets) done line) ∙ append_assoc before line.octets behind ∙ ap (λ l. before ++ l) (sym parts) ∙ e
 
--- a list is its front and what is behind
+-- a list is its front and its back
 pub parts_of : (whole front back : List ℕ) (n : ℕ) → front ≡ take n whole → back ≡ drop n whole → whole ≡ front ++ back
 parts_of whole front back n e f = rw (e, f) (sym (take-append-drop n whole))
 
--- between two states of a writer the place of a row and some lines of its octets are printed, and what stands before the next line
+-- from `old` to `new`, the writer got the offset of a row, some lines of its octets, and the spaces before the next line
 pub record Underway (place : ℕ) (whole left : List ℕ) (old new : Option (List ℕ)) : Type 0 where
   pub done : List Line
   pub octets : flat_map (λ line. line.octets) done ++ left ≡ whole
   pub short : All IsShort done
   pub appended : Appends old new (place_text place ++ codes " " ++ flat_map (λ line. line_text line ++ spaces 7) done)
 
--- at first no line is
+-- no line is printed at first
 pub none_done : (place : ℕ) (octets : List ℕ) (old new : Option (List ℕ)) → Appends old new (place_text place ++ codes " ") → Underway place octets octets old new
 none_done place octets old new h = record {
   done = [];
@@ -71,7 +71,7 @@ none_done place octets old new h = record {
   appended = appends_same old new _ _ (sym (append-nil (place_text place ++ codes " "))) h;
 }
 
--- one more
+-- one line more is printed
 pub one_done : (place : ℕ) (whole left octets behind words : List ℕ) (a b c d : Option (List ℕ)) → Underway place whole left a b → left ≡ octets ++ behind → length octets ≤ line_octets → length words ≤ columns
     → Appends b c (line_text record { octets = octets; words = words }) → Appends c d (codes "       ") → Underway place whole behind a d
 one_done place whole left octets behind words a b c d u parts few fits h k =
@@ -87,7 +87,7 @@ one_done place whole left octets behind words a b c d u parts few fits h k =
           (appends_both a c d (head ++ texts ++ line_text line) _ (appends_both a b c (head ++ texts) _ u.appended h) k);
     }
 
--- some lines and one more are the lines of a row
+-- some lines and a last one are the lines of a row
 lines_of : (place : ℕ) (whole : List ℕ) (done : List Line) (last : Line) → flat_map (λ line. line.octets) (done ++ last ∷ []) ≡ whole → All IsShort (done ++ last ∷ [])
     → IsLines place whole (place_text place ++ codes " " ++ (flat_map (λ line. line_text line ++ spaces 7) done ++ line_text last))
 lines_of place whole [] last e short = record { first = last; others = []; whole = e; short = short; is = sym (append-nil (place_text place ++ codes " " ++ line_text last)) }
@@ -99,7 +99,7 @@ lines_of place whole (first ∷ more) last e short = record {
   is = behind_first line_text (spaces 7) (place_text place ++ codes " ") first more last;
 }
 
--- the last
+-- the last line is printed
 pub last_done : (place : ℕ) (whole left octets behind words : List ℕ) (a b c : Option (List ℕ)) → Underway place whole left a b → left ≡ octets ++ behind → behind ≡ [] → length octets ≤ line_octets → length words ≤ columns
     → Appends b c (line_text record { octets = octets; words = words }) → Prints (IsLines place whole) a c
 last_done place whole left octets behind words a b c u parts none few fits h =

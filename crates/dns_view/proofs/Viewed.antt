@@ -1,4 +1,4 @@
--- What is printed of an input, up to a flush, and digits that are odd in number.
+-- What is printed for an input, up to a flush, and odd numbers of digits.
 use Rattle.std.proofs.Common.{◌≡◌, ◌∙◌, ℕ, ◌<◌, ◌≤◌, ◌%◌, ◌-◌, ◌||◌, ◌&&◌, inl, inr, Bool, true, false, Option, Some, None, IfSome, Result, Err, OnOk, List, [], ◌∷◌, ◌++◌, length, get_or, map, ap, refl, sym, subst, arith, codes}
 use Rattle.std.specs.Prelude.{is_some, if◌then◌else◌, not, cond}
 use Rattle.std.specs.Char.{is_ascii_hexdigit, is_ascii_whitespace}
@@ -23,7 +23,7 @@ use Rattle.dns_view.specs.Viewing.IsViewed.{asked, usage}
 use Rattle.dns_view.specs.declared.program.Form.{Form}
 use Rattle.dns_view.specs.declared.program.Form.TheVariants.{Text, Page}
 
--- what was appended is kept
+-- what was appended stays if nothing changes
 pub appends_kept : (a b c : Option (List ℕ)) (xs : List ℕ) → Appends a b xs → Keeps b c → Appends a c xs
 appends_kept None b c xs h k = tt
 appends_kept (Some front) None c xs h k = absurd h
@@ -39,22 +39,22 @@ printed_kept {form = form} {a = a} {b = b} c (shown octets gives p) k = shown oc
 printed_kept {a = a} {b = b} c (bad_hex odd p) k = bad_hex odd (appends_kept a b c _ p k)
 
 module _ {X E : Type 0} (r : Result X E) (octets : List ℕ) {rows given : List Row} (a b : Option (List ℕ)) (are : AreRowsOf octets rows) (same : given ≡ rows) where
-  -- rows are printed as a text
+  -- rows are printed as text
   pub text_printed : (form : Form) → form ≡ Text → OnOk r (PrintsEach (IsRowText octets) given a b) → OnOk r (PrintsRows form octets a b)
   text_printed form is h =
       subst (λ (f : Form). OnOk r (PrintsRows f octets a b)) (sym is) (on_ok r (λ p. (rows, are, subst (λ (xs : List Row). PrintsEach (IsRowText octets) xs a b) same p)) h)
 
-  -- or as a page
+  -- rows are printed as a page
   pub page_printed_of : (form : Form) → form ≡ Page → OnOk r (Prints (IsPage octets given) a b) → OnOk r (PrintsRows form octets a b)
   page_printed_of form is h =
       subst (λ (f : Form). OnOk r (PrintsRows f octets a b)) (sym is) (on_ok r (λ p. (rows, are, subst (λ (xs : List Row). Prints (IsPage octets xs) a b) same p)) h)
 
--- the status is 0 or 1
+-- the exit status is 0 or 1
 pub status_low : {form : Form} {input : List ℕ} {a b : Option (List ℕ)} {status : ℕ} → IsPrinted form input a b status → status ≤ 1
 status_low (shown octets gives p) = omega arith
 status_low (bad_hex odd p) = omega arith
 
--- one word at most asks for something
+-- the program knows at most one argument
 pub few_words : {X : Type 0} (f : X → List ℕ) (words : List X) (form : Form) → map f words ≡ words_of form → length words ≤ 1
 few_words f words Text is = let e : length (map f words) ≡ 0 = ap length is in let l = length-map words f in omega arith
 few_words f words Page is = let e : length (map f words) ≡ 1 = ap length is in let l = length-map words f in omega arith
@@ -66,7 +66,7 @@ one_word f (first ∷ []) word low high at is = ap (λ (t : List ℕ). t ∷ [])
 one_word f (first ∷ second ∷ others) word low high at is = absurd (omega arith)
 
 module _ (remaining : Option (List ℕ)) (words : List (List ℕ)) (a b c : Option (List ℕ)) where
-  -- what is printed of the octets that a reader gave
+  -- what is printed for the octets that a reader yielded
   pub viewed_asked : (form : Form) (status : ℕ) (empty input : List ℕ) → words ≡ words_of form → empty ≡ [] → IfSome remaining (λ xs. input ≡ empty ++ xs)
       → IsPrinted form input a b status → Keeps b c → IfSome remaining (λ xs. IsViewed words xs a c status)
   viewed_asked form status empty input is none read p k =
@@ -77,7 +77,7 @@ module _ (remaining : Option (List ℕ)) (words : List (List ℕ)) (a b c : Opti
             asked form status is (subst (λ (l : List ℕ). IsPrinted form l a c status) same (printed_kept c p k))
       ] read
 
-  -- the usage, whatever a reader has
+  -- the usage, whatever the reader holds
   pub viewed_usage : AskNothing words → Appends a b (codes "usage: dnsview [--html]\n") → Keeps b c → IfSome remaining (λ xs. IsViewed words xs a c 2)
   viewed_usage none p k =
       elim remaining as (λ (o : Option (List ℕ)). IfSome o (λ xs. IsViewed words xs a c 2)) [
@@ -96,7 +96,7 @@ both : (x y : Bool) → (x && y) ≡ true → (x ≡ true) × (y ≡ true)
 both true y h = (refl, h)
 both false y h = absurd (cc h)
 
--- digits and white space, without the white space, are digits
+-- digits and white space without the white space are digits
 digits_left : (text : List ℕ) → is_digits text ≡ true → list_all is_hex_digit (unspaced text) ≡ true
 digits_left [] h = refl
 digits_left (c ∷ text) h =
@@ -110,7 +110,7 @@ digits_left (c ∷ text) h =
           ap (λ b. b && list_all is_hex_digit (unspaced text)) value ∙ rest
     ] parts.0
 
--- where digits don't decode, they are odd in number
+-- if digits can't be decoded, their number is odd
 pub odd_digits : (input : List ℕ) (e : FromHexError) → is_digits input ≡ true → decode_of (unspaced input) ≡ Err e → IsOdd input
 odd_digits input e digits faulty =
     elim (cases_eq (length (unspaced input) % 2) 1) [
@@ -121,7 +121,7 @@ odd_digits input e digits faulty =
           let clash = sym faulty ∙ octets.1 in cc clash
     ]
 
--- what is printed tells its status
+-- what is printed determines what the exit status says
 status_tells : {words : List (List ℕ)} {input : List ℕ} {a b : Option (List ℕ)} {status : ℕ} → IsViewed words input a b status → Tells words input status
 status_tells (asked form status is (shown octets gives p)) =
     record { asked = λ e. (form, is); shown = λ e. (octets, gives); bad_hex = λ e. absurd (let n : 0 ≡ 1 = e in omega arith); usage = λ e. absurd (let n : 0 ≡ 2 = e in omega arith) }
@@ -131,12 +131,12 @@ status_tells (usage none p) =
     record { asked = λ e. absurd (let n : 2 ≤ 1 = e in omega arith); shown = λ e. absurd (let n : 2 ≡ 0 = e in omega arith); bad_hex = λ e. absurd (let n : 2 ≡ 1 = e in omega arith); usage = λ e. none }
 
 module _ (remaining : Option (List ℕ)) (words : List (List ℕ)) where
-  -- so where a reader's octets are known
+  -- the same if the reader's octets are known
   pub viewed_tells : (a b : Option (List ℕ)) (status : ℕ) → IfSome remaining (λ xs. IsViewed words xs a b status) → IfSome remaining (λ xs. Tells words xs status)
   viewed_tells a b status h =
       elim remaining as (λ (o : Option (List ℕ)). IfSome o (λ xs. IsViewed words xs a b status) → IfSome o (λ xs. Tells words xs status)) [ None ↦ λ v. tt | Some xs ↦ λ v. status_tells v ] h
 
-  -- a failure tells nothing
+  -- exit status 3 says nothing
   pub failure_tells : IfSome remaining (λ xs. Tells words xs 3)
   failure_tells =
       elim remaining as (λ (o : Option (List ℕ)). IfSome o (λ xs. Tells words xs 3)) [

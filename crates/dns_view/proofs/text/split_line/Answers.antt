@@ -1,7 +1,7 @@
 use Rattle.std.proofs.Common.{ap, arith, length, length-take, rules, ◌+◌, ◌≤◌}
 use Rattle.dns_view.proofs.text.split_line.Goals as goal
 
--- the space is within the first 47 octets of words
+-- the space is within the first 47 octets of the words
 pub slice_bounds-result-end-in-Some : goal.slice_bounds-result-end-in-Some
 slice_bounds-result-end-in-Some c = omega (arith, c.in-Some.ensures.bound, ap length c.iter.ensures.rest, length-take 47 c.args.words.now, length-take c.in-Some.space c.args.words.now)
 
