@@ -1,4 +1,4 @@
--- Fields one behind the other, of which one isn't all there.
+-- Consecutive fields, of which one is incomplete.
 use Rattle.std.proofs.Common.{◌≡◌, ℕ, ◌+◌, ◌≤◌, List, [], ◌∷◌, ◌++◌, length, ◌∙◌, ap, subst, sym, refl, arith, append_assoc, append-nil, length-take}
 use Rattle.dns_rows.specs.Fields.{field_row, CutRows}
 use Rattle.dns_rows.specs.Walks.{at, octets, Adds, CutsFields, LacksField}
@@ -7,11 +7,11 @@ use Rattle.dns_rows.specs.declared.row.Field.{Field}
 use Rattle.dns_rows.specs.declared.row.Row.{Row}
 use Rattle.dns_rows.specs.declared.walk.Walk.{Walk}
 
--- a walk is at most behind what it sees
+-- the offset of a walk is at most the end of the octets that it sees
 pub walk_within : (w : Walk) → at w ≤ length (octets w)
 walk_within w = omega (arith, length-take w.parser.end w.parser.octets.now, w.parser.before_end, w.parser.within)
 
--- the first field isn't all there
+-- the first field is incomplete
 pub cut_here : (p n e : ℕ) (field : Field) (behind : List Row) (old new : Walk) (fault : Fault) → LacksField field (octets old) (at old + n) fault → new ≡ old → at old ≡ p → e ≡ p + n
     → CutsFields (field_row p e field ∷ behind) old new fault
 cut_here p n e field behind old new fault h same place end =
@@ -24,7 +24,7 @@ cut_here p n e field behind old new fault h same place end =
       cut = subst P (sym (ap (λ (w : Walk). at w) same ∙ place)) cut;
     }
 
--- one isn't that stands behind others
+-- a field after others is incomplete
 cut_rows_after : (b : List ℕ) (front behind rows : List Row) (place : ℕ) (fault : Fault) → CutRows b behind place fault rows → CutRows b (front ++ behind) place fault (front ++ rows)
 cut_rows_after b front behind rows place fault h = record {
   field = h.field;
@@ -45,7 +45,7 @@ cut_after front behind q old mid new fault h k =
       cut = subst (λ b. CutRows b (front ++ behind) (at new) fault (front ++ k.rows)) h.seen cut;
     }
 
--- others stand behind them
+-- fields after the incomplete one make no difference
 pub cut_before : (whole others : List Row) (old new : Walk) (fault : Fault) → CutsFields whole old new fault → CutsFields (whole ++ others) old new fault
 cut_before whole others old new fault h = record {
   rows = h.rows;

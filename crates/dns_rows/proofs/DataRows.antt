@@ -1,4 +1,4 @@
--- The rows of data.
+-- The rows of RDATA.
 use Rattle.dns_rows.specs.Data.OptionRows.{none as no_options_rows, option}
 use Rattle.std.proofs.Common.{refl, ◌≡◌, ℕ, ◌+◌, ◌<◌, ◌≤◌, List, [], ◌∷◌, ◌++◌, length, OnOk, Result, Ok, Err, ◌∙◌, ap, subst, sym, arith, append_assoc, append-nil, take, length-take, slice_get, Option, Some, None, inl, inr}
 use Rattle.std.proofs.lemmas.Bool.Decides.{nat_tests}
@@ -26,7 +26,7 @@ use Rattle.dns_rows.proofs.Names.{adds_row, adds_then}
 pub data_done : (old : Walk) → MarksData End None old old
 data_done old = record { rows = []; adds = sym (append-nil old.rows.items); shows = done }
 
--- octets that are a field, and what is behind them
+-- a field of n octets, and then the remaining fields
 pub octets_then : (n : ℕ) (field : Field) (shape : Shape) (stop : Option RowFault) (old mid new : Walk) → Adds (field_row (at old) (at old + n) field ∷ []) (at old + n) old mid
     → at old + n ≤ length (octets old) → MarksData shape stop mid new → MarksData (Octets n field shape) stop old new
 octets_then n field shape stop old mid new h within k =
@@ -38,7 +38,7 @@ octets_then n field shape stop old mid new h within k =
       shows = more_octets within behind;
     }
 
--- octets that aren't all there
+-- an incomplete field of n octets
 pub octets_short : (n : ℕ) (field : Field) (shape : Shape) (old new : Walk) (fault : RowFault) → LacksField field (octets old) (at old + n) fault → new ≡ old
     → MarksData (Octets n field shape) (Some fault) old new
 octets_short n field shape old new fault h same =
@@ -46,7 +46,7 @@ octets_short n field shape old new fault h same =
     let there = subst (λ new. MarksData (Octets n field shape) (Some (Short field)) old new) (sym same) here in
     subst (λ fault. MarksData (Octets n field shape) (Some fault) old new) (sym h.0) there
 
--- a name, and what is behind it
+-- a name, and then the remaining fields
 pub name_then : (of : NameOf) (shape : Shape) (stop : Option RowFault) (old mid new : Walk) → PassesName of old mid → MarksData shape stop mid new → MarksData (Named of shape) stop old new
 name_then of shape stop old mid new h k =
     let behind : ShowsData (octets old) shape stop (at mid) (at new) k.rows = subst (λ b. ShowsData b shape stop (at mid) (at new) k.rows) h.adds.seen k.shows in
@@ -60,11 +60,11 @@ name_then of shape stop old mid new h k =
 pub name_missing : (of : NameOf) (shape : Shape) (old new : Walk) (fault : RowFault) → MissesName of old new fault → MarksData (Named of shape) (Some fault) old new
 name_missing of shape old new fault h = record { rows = h.rows; adds = h.adds; shows = no_name h.lacks }
 
--- no octets that are left
+-- no octets remain
 pub rest_none : (old : Walk) → length (octets old) ≤ at old → MarksData Rest None old old
 rest_none old h = record { rows = []; adds = sym (append-nil old.rows.items); shows = nothing h }
 
--- the octets that are left
+-- the remaining octets are one field
 pub rest_rows : (n : ℕ) (old new : Walk) (r : Result Unit Stop) → 0 < n → at old + n ≡ length (octets old)
     → OnOk r (Adds (field_row (at old) (at old + n) DataField ∷ []) (at old + n) old new) → OnOk r (MarksData Rest None old new)
 rest_rows n old new (Ok v) some end h =
@@ -78,7 +78,7 @@ rest_rows n old new (Ok v) some end h =
     }
 rest_rows n old new (Err stop) some end h = tt
 
--- what a walk up to the end of data shows, seen from the record
+-- the rows of a walk up to the end of the RDATA are rows of the record
 pub within_rows : (rtype len : ℕ) (stop : Option RowFault) (old mid new : Walk) → octets mid ≡ take (at old + len) (octets old) → at mid ≡ at old → mid.rows.items ≡ old.rows.items
     → MarksData (shape_of rtype) stop mid new → MarksWithin rtype len stop old new
 within_rows rtype len stop old mid new seen place rows h =
@@ -89,13 +89,13 @@ within_rows rtype len stop old mid new seen place rows h =
       shows = subst (λ p. P (take (at old + len) (octets old)) p) place (subst (λ b. P b (at mid)) seen h.shows);
     }
 
--- a walk that sees so many octets more is at most behind them
+-- a walk that sees at most `len` octets more ends at most `len` octets further
 pub not_past : (old new : Walk) (len : ℕ) → octets new ≡ take (at old + len) (octets old) → at old + len ≤ length (octets old) → at new ≤ at old + len
 not_past old new len seen there =
     let same = ap length seen in
     omega (arith, same, length-take new.parser.end new.parser.octets.now, length-take (at old + len) (octets old), new.parser.before_end, new.parser.within)
 
--- character strings one behind the other
+-- consecutive character strings
 abbrev pub no_texts : (old : Walk) → PassesTexts old old
 no_texts old = record { rows = []; adds = record { rows = sym (append-nil old.rows.items); seen = refl; place = refl }; texts = no_text }
 
@@ -128,7 +128,7 @@ text_stops n old mid new fault h there long same =
     let there = subst (λ new. MarksData Texts (Some (Short Text)) old new) (sym same) here in
     subst (λ fault. MarksData Texts (Some fault) old new) (sym long.0) there
 
--- options one behind the other
+-- consecutive options
 pub no_options : (old : Walk) → PassesOptions old old
 no_options old = record { rows = []; adds = (no_texts old).adds; options = no_options_rows }
 
@@ -157,11 +157,11 @@ option_stops old mid new fault h some k =
       shows = no_option h.rows k.rows h.options there.0 there.1;
     }
 
--- data that has octets has a row
+-- option data that has octets has a row
 data_row : (code p q : ℕ) → p < q → option_data_rows code p q ≡ field_row p q (OptionData code) ∷ []
 data_row code p q some = grind (arith, nat_tests, common_steps)
 
--- the field of an option that isn't all there
+-- an option whose code, length or data is incomplete
 pub cut_code : (old new : Walk) (fault : RowFault) → LacksField OptionCode (octets old) (at old + 2) fault → new ≡ old → MissesOption old new fault
 cut_code old new fault h same =
     let p = at old in

@@ -1,4 +1,4 @@
--- Which fault a row tells.
+-- Which fault a row reports.
 use Rattle.std.proofs.Common.{◌≡◌, ℕ, zero, suc, ◌+◌, ◌-◌, ◌*◌, ◌/◌, ◌%◌, ◌<◌, ◌≤◌, List, [], ◌∷◌, length, slice_get, Option, Some, None, Ok, Err, inl, inr, refl, arith, ap, ◌∙◌}
 use Rattle.std.proofs.lemmas.Bool.Decides.{nat_tests}
 use Rattle.std.proofs.lemmas.Grind.{common_steps}
@@ -17,13 +17,13 @@ use Rattle.dns_rows.specs.declared.row.NameOf.{NameOf}
 use Rattle.dns_rows.specs.Rows.{target_in}
 use Rattle.dns_rows.specs.Walks.{IsLabelAt}
 
--- something begins where a name stands
+-- at a name, the head can only be malformed, never missing
 no_head : (b : List ℕ) (p : ℕ) (f : Fault) (name : Labels) → Stands b p name → head_at b p ≡ Err f → f ≡ Form
 no_head b p f name (Stands.root h) k = cc (h, k)
 no_head b p f name (Stands.label h w x z) k = cc (h, k)
 no_head b p f name (Stands.pointer h w x) k = cc (h, k)
 
--- a name that stands is at fault only for its size
+-- a name that can be read has a fault only for its size
 form_of_standing : (b : List ℕ) (p s : ℕ) (f : Fault) (name : Labels) → Stands b p name → Faulty b p s f → f ≡ Form
 form_of_standing b p s f name x (head k) = no_head b p f name x k
 form_of_standing b p s f name x (long k w) = refl
@@ -32,7 +32,7 @@ form_of_standing b p s f name x (ahead k w) = refl
 form_of_standing b p s f name x (label {n = n} k short fits w) = let l = at_label b x k in form_of_standing b (p + 1 + n) (s + n + 1) f l.others l.stand w
 form_of_standing b p s f name x (pointer {t = t} k back w) = form_of_standing b t s f name (at_pointer b x k).1 w
 
--- where no name can be read no root begins
+-- no root label is where a name can't be read
 pub no_root : (b : List ℕ) (p s : ℕ) (f : Fault) → Faulty b p s f → head_at b p ≡ Ok Root → ⊥
 no_root b p s f (head k) h = cc (h, k)
 no_root b p s f (long k w) h = cc (h, k)
@@ -41,7 +41,7 @@ no_root b p s f (ahead k w) h = cc (h, k)
 no_root b p s f (label k short fits w) h = cc (h, k)
 no_root b p s f (pointer k back w) h = cc (h, k)
 
--- the faults where nothing begins, and at a label that isn't short enough or isn't all there
+-- the faults where nothing begins, and at a label that is too long or incomplete
 fault_of_none : (b : List ℕ) (p s : ℕ) (f g : Fault) → head_at b p ≡ Err g → Faulty b p s f → f ≡ g
 fault_of_none b p s f g h (head k) = cc (h, k)
 fault_of_none b p s f g h (long k w) = cc (h, k)
@@ -80,7 +80,7 @@ pub none_head : (b : List ℕ) (p : ℕ) → slice_get b p ≡ None → head_at 
 unfolding head_at
 none_head b p h = ap (λ (x : Option ℕ). head_of x (slice_get b (p + 1))) h
 
--- behind the end no octet stands
+-- no octet is past the end
 pub past_head : (b : List ℕ) (p : ℕ) → length b ≤ p → head_at b p ≡ Err ShortInput
 past_head b p past = none_head b p (slice_get_past b p past)
 
@@ -109,7 +109,7 @@ pointer_there b p x y first second from to small =
     let low : y ≡ t % 256 = omega arith in
     pointer_begins b p t (omega arith) (first ∙ ap (λ n. Some n) high) (second ∙ ap (λ n. Some n) low)
 
--- labels that are too long, or that aren't all there
+-- labels that are too long, or that are incomplete
 pub stops_long : (b : List ℕ) (of : NameOf) (start p n : ℕ) → slice_get b p ≡ Some n → n < 64 → (head_at b p ≡ Ok Root → ⊥) → 254 ≤ (p - start) + n → StopsName b of start p faults.LongName
 stops_long b of start p zero there small unlike far = absurd (unlike (root_begins b p there))
 stops_long b of start p (suc n) there small unlike far = long_name (label_begins b p (suc n) (omega arith) (omega (arith, small)) there) (omega (arith, far))
@@ -125,7 +125,7 @@ stops_cut b of start p (suc n) there small unlike none near =
     let short : (p - start) + suc n + 1 ≤ max_size = omega (arith, near) in
     cut_label begins short (past_end (length b) (p + 1 + suc n) (λ fits. none (suc n) (record { begins = begins; short = short; fits = fits })))
 
--- a row's fault tells the fault that reading the name meets
+-- the fault that a row reports belongs to the fault that reading the name meets
 pub tells_name : (b : List ℕ) (of : NameOf) (start p : ℕ) (fault : RowFault) (f : Fault) → StopsName b of start p fault → Faulty b p (p - start) f → TellsFault fault f
 tells_name b of start p _ f (no_octet h) w = fault_of_none b p (p - start) f ShortInput (past_head b p h) w
 tells_name b of start p _ f (half_pointer k h) w = fault_of_none b p (p - start) f ShortInput h w

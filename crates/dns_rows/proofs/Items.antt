@@ -35,14 +35,14 @@ use Rattle.dns_rows.specs.declared.walk.Walk.{Walk}
 use Rattle.dns_rows.proofs.Cuts.{cut_after, cut_before, cut_here}
 use Rattle.dns_rows.proofs.Names.{adds_row, adds_then}
 
--- an item stops with a fault, whatever is read of it; so does a record
+-- an item, or a record, stops with this fault for some result of reading it
 abbrev pub AnyStops : List ℕ → Part → ℕ → ℕ → RowFault → List Row → Type 0
 AnyStops b part p place fault others = (x : Result (Entry part) Fault) × ItemStops b part x p place fault others
 
 abbrev pub AnyRecordStops : List ℕ → ℕ → ℕ → RowFault → List Row → Type 0
 AnyRecordStops b p place fault others = (x : Result RecordEntry Fault) × RecordStops b x p place fault others
 
--- a walk that stopped in an item
+-- the walk stopped in an item
 marks_stop : (part : Part) (number : ℕ) (others : List Row) (old new : Walk) (fault : RowFault) → new.rows.items ≡ old.rows.items ++ item_row part number (at old) ∷ others
     → AnyStops (octets old) part (at old) (at new) fault others → MarksStop part number old new fault
 marks_stop part number others old new fault adds s =
@@ -52,18 +52,18 @@ marks_stop part number others old new fault adds s =
 pub question_unnamed : (number : ℕ) (old new : Walk) (fault : RowFault) → MissesItemName names.Question (item_row Question number (at old)) old new fault → MarksStop Question number old new fault
 question_unnamed number old new fault h = marks_stop Question number h.rows old new fault h.adds (Err h.f, (name_fault h.lacks.faulty, name_lacks h.lacks))
 
--- the fields behind the name of an item aren't all there
+-- a field after the name of an item is incomplete
 behind_name : (of : NameOf) (behind : ℕ → List Row) (row : Row) (old mid new : Walk) (fault : RowFault) (h : PassesItemName of row old mid) (k : CutsFields (behind (at mid)) mid new fault)
     → LacksItem (octets old) of behind (at old) ShortInput (at new) fault (h.rows ++ k.rows)
 behind_name of behind row old mid new fault h k =
     fields_lack h.rows k.rows h.stands h.walked h.shows (subst (λ b. CutRows b (behind (at mid)) (at new) fault k.rows) h.adds.seen k.cut)
 
--- the rows of an item up to there
+-- the rows of an item up to the incomplete field
 rows_there : (of : NameOf) (row : Row) (behind : List Row) (old mid new : Walk) (fault : RowFault) (h : PassesItemName of row old mid) (k : CutsFields behind mid new fault)
     → new.rows.items ≡ old.rows.items ++ row ∷ (h.rows ++ k.rows)
 rows_there of row behind old mid new fault h k = k.adds ∙ ap (λ rows. rows ++ k.rows) h.adds.rows ∙ append_assoc old.rows.items (row ∷ h.rows) k.rows
 
--- a question whose type and class aren't all there
+-- a question whose type or class is incomplete
 pub question_short : (number : ℕ) (old mid new : Walk) (fault : RowFault) → PassesItemName names.Question (item_row Question number (at old)) old mid → CutsFields (question_rows (at mid)) mid new fault
     → length (octets mid) < at mid + 4 → MarksStop Question number old new fault
 question_short number old mid new fault h k short =
@@ -73,7 +73,7 @@ question_short number old mid new fault h k short =
     marks_stop Question number (h.rows ++ k.rows) old new fault (rows_there names.Question row (question_rows (at mid)) old mid new fault h k)
     (Err ShortInput, (short_fields h.stands h.walked short_there, lacks))
 
--- the class of a question isn't all there
+-- the class of a question is incomplete
 pub class_cut : (old mid new : Walk) (fault : RowFault) → Adds (field_row (at old) (at old + 2) fields.Type ∷ []) (at old + 2) old mid → LacksField fields.Class (octets mid) (at mid + 2) fault → new ≡ mid
     → CutsFields (question_rows (at old)) old new fault
 class_cut old mid new fault h k same =
@@ -82,7 +82,7 @@ class_cut old mid new fault h k same =
     cut_after (field_row r (r + 2) fields.Type ∷ []) (field_row (r + 2) (r + 4) fields.Class ∷ []) (r + 2) old mid new fault h
     (cut_here (r + 2) 2 (r + 4) fields.Class [] mid new fault k same h.place grown)
 
--- a question of a name, a type and a class
+-- a question with a name, a type and a class
 pub marks_question : (number : ℕ) (old a b new : Walk) → PassesItemName names.Question (item_row Question number (at old)) old a
     → Adds (field_row (at a) (at a + 2) fields.Type ∷ []) (at a + 2) a b → Adds (field_row (at b) (at b + 2) fields.Class ∷ []) (at b + 2) b new
     → at b + 2 ≤ length (octets b) → MarksItem Question number old new
@@ -111,7 +111,7 @@ marks_question number old a b new h k l within =
       shows = subst (λ q. ShowsQuestion (octets old) number x (at old) q whole) (sym all.place) shows;
     }
 
--- where a record can't be read, or its data can't
+-- a record that can't be read, or whose RDATA can't, is an item that stops
 record_stops : (b : List ℕ) (part : Part) (p place : ℕ) (fault : RowFault) (others : List Row) → IsTrue (holds_records part) → AnyRecordStops b p place fault others → AnyStops b part p place fault others
 record_stops b Question p place fault others h s = absurd (cc h)
 record_stops b Answer p place fault others h s = s
@@ -131,7 +131,7 @@ pub record_unnamed : (part : Part) (number : ℕ) (old new : Walk) (fault : RowF
 record_unnamed part number old new fault records h =
     marks_stop part number h.rows old new fault h.adds (record_stops (octets old) part (at old) (at new) fault h.rows records (Err h.f, (name_fault h.lacks.faulty, name_lacks h.lacks)))
 
--- a record whose numbers or data aren't all there
+-- a record whose numbers or RDATA are incomplete
 record_short : (part : Part) (number : ℕ) (old mid new : Walk) (fault : RowFault) → IsTrue (holds_records part) → PassesItemName names.Owner (item_row part number (at old)) old mid
     → CutsFields (record_rows (octets mid) (at mid)) mid new fault → LacksRecord (octets mid) (at mid) → MarksStop part number old new fault
 record_short part number old mid new fault records h k short =
@@ -151,7 +151,7 @@ numbers_short part number old mid new fault records h short k =
     let rdata = field_row (r + 10) (r + 10 + number_at w16 b (r + 8)) fields.Data ∷ [] in
     record_short part number old mid new fault records h (cut_before (number_rows (number_at w16 b r) r) rdata mid new fault k) (lacks_fields short.1.1)
 
--- where the numbers of a record aren't all there
+-- a number of a record is incomplete
 pub class_lacks : (rtype : ℕ) (old mid new : Walk) (fault : RowFault) → Adds (field_row (at old) (at old + 2) fields.Type ∷ []) (at old + 2) old mid → rtype ≡ number_at w16 (octets old) (at old)
     → CutsFields (class_rows rtype (at mid)) mid new fault → CutsFields (number_rows (number_at w16 (octets old) (at old)) (at old)) old new fault
 class_lacks rtype old mid new fault h read k =
@@ -176,7 +176,7 @@ len_lacks rtype old mid last new fault h read k l same =
     cut_after (field_row r (r + 2) fields.Type ∷ []) (rows ++ end) (r + 2) old mid new fault h
     (cut_after rows end (r + 2 + 6) mid last new fault class (cut_here (r + 8) 2 (r + 10) fields.DataLength [] last new fault l same there grown))
 
--- the rows of the numbers that an OPT record has in place of class and TTL, the last of which isn't all there
+-- a field that an OPT record has in place of CLASS and TTL is incomplete
 pub opt_cut_2 : (old a new : Walk) (fault : RowFault) → Adds (field_row (at old) (at old + 2) fields.PayloadSize ∷ []) (at old + 2) old a
     → LacksField fields.ExtendedRcode (octets a) (at a + 1) fault → new ≡ a → CutsFields (opt_rows (at old)) old new fault
 opt_cut_2 old a new fault h k same =
@@ -233,7 +233,7 @@ reads_record row rtype len old a b h k there =
     let end : at a + 10 + len ≡ at a + (10 + number_at w16 (octets old) (at a + 8)) = omega (arith, len_there) in
     record { skips = record { name_end = at a; walked = h.walked; end = end; within = there }; owner = h.stands; rtype = rtype_there; class = refl; ttl = refl; data_start = refl; data_end = refl }
 
--- the data of a record isn't all there
+-- the RDATA of a record is incomplete
 data_cut : (rtype len : ℕ) (a b new : Walk) → PassesNumbers rtype len a b → length (octets b) < at b + len → new ≡ b → CutsFields (record_rows (octets a) (at a)) a new (Short fields.Data)
 data_cut rtype len a b new k short same =
     let r = at a in
@@ -243,7 +243,7 @@ data_cut rtype len a b new k short same =
     let P : ℕ → ℕ → Type 0 = λ n m. CutsFields (number_rows n r ++ field_row (r + 10) (r + 10 + m) fields.Data ∷ []) a new (Short fields.Data) in
     subst (λ n. P n (number_at w16 (octets a) (r + 8))) k.rtype_there (subst (λ m. P rtype m) k.len_there whole)
 
--- a record whose data isn't all there, or can't be read
+-- a record whose RDATA is incomplete, or can't be read
 pub data_stops : (part : Part) (number rtype len : ℕ) (old a b new : Walk) (fault : RowFault) → IsTrue (holds_records part) → PassesItemName names.Owner (item_row part number (at old)) old a
     → PassesNumbers rtype len a b → StopsWithin rtype len b new fault → MarksStop part number old new fault
 data_stops part number rtype len old a b new _ records h k (missing short same) =
@@ -277,7 +277,7 @@ data_stops part number rtype len old a b new _ records h k (stopped stop there w
     } in
     marks_stop part number others old new (data_fault stop) adds (record_stops (octets old) part (at old) (at new) (data_fault stop) others records (Ok x, stops))
 
--- a record of an owner, its numbers and its data
+-- a record with an owner, its numbers and its RDATA
 pub marks_record : (part : Part) (number rtype len : ℕ) (old a b new : Walk) → IsTrue (holds_records part) → PassesItemName names.Owner (item_row part number (at old)) old a
     → PassesNumbers rtype len a b → MarksWithin rtype len None b new → octets new ≡ octets b → at new ≡ at b + len → at b + len ≤ length (octets b)
     → MarksItem part number old new
@@ -347,7 +347,7 @@ skips_item b Answer number p q x rows s = s.reads.skips
 skips_item b Authority number p q x rows s = s.reads.skips
 skips_item b Additional number p q x rows s = s.reads.skips
 
--- items one behind the other
+-- consecutive items
 pub first_none : (part : Part) (old : Walk) → MarksFirst part 0 old old
 first_none part old = record {
   rows = [];
@@ -402,14 +402,14 @@ stops_among part n count old mid new fault h fewer k =
       shows = subst (λ m. ReadingRows b part 1 (reading_from b part m (at old)) (Some fault) (at old) (at new) (h.rows ++ k.rows)) counted all;
     }
 
--- how many items of a part the counts say
+-- the count of items in a section
 abbrev pub count_in : Counts → Part → ℕ
 count_in all Question = all.qdcount
 count_in all Answer = all.ancount
 count_in all Authority = all.nscount
 count_in all Additional = all.arcount
 
--- a walk stands where a part starts, and these are the counts of the octets that it sees
+-- the walk is at the start of a section, and these are the counts of the octets that it sees
 pub record Ready (all : Counts) (part : Part) (walk : Walk) : Type 0 where
   pub starts : PartStarts (octets walk) part (at walk)
   pub counts : AreCountsOf (octets walk) all
@@ -420,7 +420,7 @@ counted_so b all Answer h = h.answers
 counted_so b all Authority h = h.authorities
 counted_so b all Additional h = h.additionals
 
--- all items of a part were skipped
+-- all items of a section can be skipped
 all_skipped : (all : Counts) (part : Part) (old mid : Walk) → Ready all part old → MarksFirst part (count_in all part) old mid → Passed (SkipsItem (octets old) part) (count_of (octets old) part) (at old) (at mid)
 all_skipped all part old mid h k =
     let more : count_in all part + 0 ≡ count_in all part = omega arith in
@@ -432,7 +432,7 @@ ready_there all part old mid seen counts starts = record {
   counts = subst (λ b. AreCountsOf b all) (sym seen) counts;
 }
 
--- the next part starts behind them
+-- the next section starts after them
 pub answers_ready : (all : Counts) (old mid : Walk) → Ready all Question old → MarksFirst Question all.qdcount old mid → Ready all Answer mid
 answers_ready all old mid h k =
     let b = octets old in
@@ -444,7 +444,7 @@ authorities_ready all old mid h k = ready_there all Authority old mid k.adds.see
 pub additionals_ready : (all : Counts) (old mid : Walk) → Ready all Authority old → MarksFirst Authority all.nscount old mid → Ready all Additional mid
 additionals_ready all old mid h k = ready_there all Additional old mid k.adds.seen h.counts (at old, h.starts, all_skipped all Authority old mid h k)
 
--- parts one behind the other
+-- consecutive sections
 pub no_parts : (old : Walk) → MarksParts [] None old old
 no_parts old = record { rows = []; adds = sym (append-nil old.rows.items); shows = no_more }
 
@@ -454,7 +454,7 @@ part_stops all part parts old new fault h k =
     let P : ℕ → Type 0 = λ n. ReadingRows b part 1 (reading_from b part n (at old)) (Some fault) (at old) (at new) k.rows in
     record { rows = k.rows; adds = k.adds; shows = fault_among h.starts (subst P (counted_so b all part h.counts) k.shows) }
 
--- the rows of all items of a part
+-- the rows of all items of a section
 whole_part : (b : List ℕ) (part : Part) (n count p q : ℕ) (rows : List Row) → AreFirstRows b part n p q rows → n ≡ count → ReadingRows b part 1 (reading_from b part count p) None p q rows
 whole_part b part n count p q rows h same =
     let nothing : ReadingRows b part (suc n) (reading_from b part 0 q) None q q [] = subst (λ xs. ReadingRows b part (suc n) xs None q q []) (sym (reads_none b part q)) none in
@@ -473,7 +473,7 @@ part_then all part parts stop old mid new h k l =
       shows = all_shown k.rows l.rows h.starts (whole_part b part (count_in all part) (count_of b part) (at old) (at mid) k.rows k.first (counted_so b all part h.counts)) behind;
     }
 
--- what a walk shows that began behind the header section of octets, with no rows
+-- what a walk shows that began after the header section, with no rows
 pub shows_octets : (b : List ℕ) (stop : Option RowFault) (old new : Walk) → MarksParts all_parts stop old new → octets old ≡ b → at old ≡ 12 → old.rows.items ≡ []
     → ShowsParts b all_parts stop 12 (at new) new.rows.items
 shows_octets b stop old new h seen place rows =

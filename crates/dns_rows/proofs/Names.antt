@@ -23,7 +23,7 @@ use Rattle.dns_rows.specs.declared.walk.Walk.{Walk}
 use Rattle.dns_name.specs.Parsers.{place, seen}
 use Rattle.dns_name.specs.declared.parser.Parser.{Parser}
 
--- rows that a walk adds, and then others
+-- rows that a walk adds, and then more rows
 pub adds_then : (x y : List Row) (m n : ℕ) (a b c : Walk) → Adds x m a b → Adds y n b c → Adds (x ++ y) n a c
 adds_then x y m n a b c h k = record {
   rows = k.rows ∙ ap (λ rows. rows ++ y) h.rows ∙ append_assoc a.rows.items x y;
@@ -36,7 +36,7 @@ label_long : (b : List ℕ) (p n : ℕ) → head_at b p ≡ Ok (Label n) → (0 
 unfolding head_at
 label_long b p n h = let l = label_of (slice_get b p) (slice_get b (p + 1)) n h in (l.1, l.2)
 
--- an octet that begins no label, or one that is too long, or that isn't all there
+-- no label is at an octet that begins none, or whose label is too long or incomplete
 pub no_label : (b : List ℕ) (p size m : ℕ) → slice_get b p ≡ Some m → ((m ≡ 0) ⊎ (63 < m)) ⊎ ((length b ≤ p + m) ⊎ (max_size ≤ size + m))
     → (n : ℕ) → IsLabelAt b p size n → ⊥
 no_label b p size m h wrong n label =
@@ -47,7 +47,7 @@ no_label b p size m h wrong n label =
       | inr w ↦ elim w [ inl e ↦ absurd (omega (arith, label.fits)) | inr e ↦ absurd (omega (arith, label.short)) ]
     ]
 
--- behind a label that begins at p
+-- the encoded length of a name, past the label at p
 label_behind : (b : List ℕ) (p s n q : ℕ) → head_at b p ≡ Ok (Label n) → WalkedBehind b p s q → WalkedBehind b (p + 1 + n) (s + n + 1) q
 label_behind b p s n q h (root_walked k) = cc
 label_behind b p s n q h (pointer_walked k) = cc
@@ -55,7 +55,7 @@ label_behind b p s n q h (label_walked {n = m} k short fits w) =
     let same : m ≡ n = cc in
     subst (λ n. WalkedBehind b (p + 1 + n) (s + n + 1) q) same w
 
--- the fault behind a label that begins at p
+-- the fault past the label at p
 fault_behind : (b : List ℕ) (p s n : ℕ) (f : Fault) → IsLabelAt b p s n → Faulty b p s f → Faulty b (p + 1 + n) (s + n + 1) f
 fault_behind b p s n f label (head_fault k) = cc (k, label.begins)
 fault_behind b p s n f label (long_fault {n = m} k long) = let same : m ≡ n = cc (k, label.begins) in absurd (omega (arith, same, long, label.short))
@@ -66,24 +66,24 @@ fault_behind b p s n f label (label_fault {n = m} k short fits w) =
     subst (λ n. Faulty b (p + 1 + n) (s + n + 1) f) same w
 fault_behind b p s n f label (pointer_fault k back w) = cc (k, label.begins)
 
--- one label more behind labels
+-- one label more after labels
 label_more : (b : List ℕ) (of : NameOf) {start p q n : ℕ} {rows : List Row} → LabelRows b of start p q rows → head_at b q ≡ Ok (Label n) → (q - start) + n + 1 ≤ max_size → q + 1 + n ≤ length b
     → LabelRows b of start p (q + 1 + n) (rows ++ field_row q (q + 1 + n) (fields.Label of) ∷ [])
 label_more b of no_labels h short fits = row_label h short fits no_labels
 label_more b of (row_label k w x l) h short fits = row_label k w x (label_more b of l h short fits)
 
--- labels, and what is behind them in a name
+-- labels, and then the remaining name
 labels_then : (b : List ℕ) (of : NameOf) {first start p q end : ℕ} {rows behind : List Row} → LabelRows b of first p q rows → NameRows b of start q end behind → NameRows b of start p end (rows ++ behind)
 labels_then b of no_labels r = r
 labels_then b of (row_label k w x l) r = label_rows k (labels_then b of l r)
 
--- where no label begins, the name ends
+-- the name ends where no label begins
 end_here : (b : List ℕ) (p s q : ℕ) → ((n : ℕ) → IsLabelAt b p s n → ⊥) → WalkedBehind b p s q → IsEnd b p q
 end_here b p s q none (root_walked k) = root_end k
 end_here b p s q none (pointer_walked k) = pointer_end k
 end_here b p s q none (label_walked {n = n} k short fits w) = absurd (none n (record { begins = k; short = short; fits = fits }))
 
--- a walk that passed no label yet
+-- a walk that went over no label yet
 pub none_passed : (of : NameOf) (old : Walk) → PassesLabels of 0 old old
 none_passed of old = record {
   rows = [];
@@ -94,7 +94,7 @@ none_passed of old = record {
   sizes = omega arith;
 }
 
--- a walk that passed labels passes one more
+-- a walk goes over one label more
 pub one_more_label : (of : NameOf) (size n : ℕ) (old mid new : Walk) → PassesLabels of size old mid → IsLabelAt (octets mid) (at mid) size n
     → Adds (field_row (at mid) (at mid + (n + 1)) (fields.Label of) ∷ []) (at mid + (n + 1)) mid new → PassesLabels of (size + (n + 1)) old new
 one_more_label of size n old mid new h label k =
@@ -125,7 +125,7 @@ one_more_label of size n old mid new h label k =
           subst (λ s. WalkedBehind b (at new) s q) grown (subst (λ p. WalkedBehind b p (size + n + 1) q) (sym to) there);
     }
 
--- a walk that passed labels passed them all where none begins
+-- a walk went over all labels of a name if none begins at its offset
 pub all_labels : (of : NameOf) (size : ℕ) (old new : Walk) → PassesLabels of size old new → ((n : ℕ) → IsLabelAt (octets new) (at new) size n → ⊥) → PassesAllLabels of old new
 all_labels of size old new h none =
     let none_there : (n : ℕ) → IsLabelAt (octets old) (at new) size n → ⊥ = subst (λ (b : List ℕ). (n : ℕ) → IsLabelAt b (at new) size n → ⊥) h.adds.seen none in
@@ -141,7 +141,7 @@ all_labels of size old new h none =
       none = subst (λ s. (n : ℕ) → IsLabelAt (octets old) (at new) s n → ⊥) same none_there;
     }
 
--- a name ends where a zero octet stands, and else with a pointer
+-- a name ends at p with a root label if the octet there is zero, else with a pointer
 pub root_row : (b : List ℕ) (of : NameOf) (start p q : ℕ) → slice_get b p ≡ Some 0 → IsEnd b p q → NameRows b of start p q (field_row p q (fields.Root of start) ∷ [])
 root_row b of start p q h (root_end k) = root_rows k
 root_row b of start p q h (pointer_end {t = t} k) = let r = root_begins b p h in absurd (cc (r, k))
@@ -150,7 +150,7 @@ pub pointer_row : (b : List ℕ) (of : NameOf) (start p q : ℕ) → (slice_get 
 pointer_row b of start p q h (root_end k) = absurd (h (root_there b p k))
 pointer_row b of start p q h (pointer_end k) = pointer_rows k
 
--- a row for the end of a name, or none for want of memory
+-- the row for the end of a name, or no row if the allocation fails
 pub end_passed : (of : NameOf) (start : ℕ) (row : Row) (old new : Walk) (behind : Parser) (r : Result Unit Stop) → seen behind ≡ octets old
     → OnOk r (new.rows.items ≡ old.rows.items ++ row ∷ []) → OnOk r (new.parser ≡ behind)
     → NameRows (octets old) of start (at old) (place behind) (row ∷ []) → OnOk r (PassesEnd of start (place behind) old new)
@@ -161,7 +161,7 @@ end_passed of start row old new behind (Ok v) e h k shows = record {
 }
 end_passed of start row old new behind (Err stop) e h k shows = tt
 
--- a row at the place that a walk has come to
+-- a row at the offset of a walk
 pub adds_row : (x : List Row) (old mid new : Walk) (p n e : ℕ) (field : Field) → Adds x p old mid
     → Adds (field_row (at mid) (at mid + n) field ∷ []) (at mid + n) mid new → e ≡ p + n → Adds (x ++ field_row p e field ∷ []) e old new
 adds_row x old mid new p n e field h k same =
@@ -176,7 +176,7 @@ some_same m n e = cc
 pub not_none : (n : ℕ) → let none : Option ℕ = None in none ≡ Some n → ⊥
 not_none n e = cc
 
--- a walk that stopped in the name at which an item begins
+-- the walk stopped in the name that an item begins with
 pub item_misses : (of : NameOf) (row : Row) (old mid new : Walk) (fault : RowFault) → mid.rows.items ≡ old.rows.items ++ row ∷ [] → mid.parser ≡ old.parser → MissesName of mid new fault
     → MissesItemName of row old new fault
 item_misses of row old mid new fault rows same h = record {

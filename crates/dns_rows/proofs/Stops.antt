@@ -1,4 +1,4 @@
--- What holds where a step of a walk stops.
+-- What holds if a step of a walk stops.
 use Rattle.std.specs.Prelude.{Result, Ok, Err}
 use Rattle.dns_rows.specs.Walks.{OnFaultOf}
 use Rattle.dns_rows.specs.declared.row.Fault.{Fault as RowFault}

@@ -1,4 +1,4 @@
--- Rows one behind the other.
+-- Consecutive rows.
 use Rattle.std.proofs.Common.{◌≡◌, ℕ, ◌≤◌, List, [], ◌∷◌, ◌++◌, length, Option, Some, None, ◌+◌, ◌∙◌, ap, subst, sym, refl, arith}
 use Rattle.std.specs.Prelude.{true, false, nat_lt, if◌then◌else◌}
 use Rattle.std.proofs.lemmas.Bool.Decides.{nat_tests}
@@ -12,12 +12,12 @@ use Rattle.dns_rows.specs.declared.row.Fault.{Fault}
 use Rattle.dns_rows.specs.declared.row.Kind.TheVariants.{Unread}
 use Rattle.dns_rows.specs.declared.row.Row.{Row}
 
--- rows up to the start of a row, and that row
+-- rows up to the start of a row, and then that row
 pub one_more : (rows : List Row) (row : Row) (start : ℕ) → Tiles rows start row.start → row.start ≤ row.end → Tiles (rows ++ row ∷ []) start row.end
 one_more [] row start h k = (sym h, subst (λ n. n ≤ row.end) (sym h) k, refl)
 one_more (first ∷ rows) row start h k = (h.0, h.1, one_more rows row first.end h.2 k)
 
--- rows of fields up to a place, and a field there
+-- rows of fields up to an offset, and then the row of a field there
 pub one_more_field : (rows : List Row) (from start end : ℕ) (field : Field) → AreFields rows from start → IsField (field_row start end field) → start ≤ end
     → AreFields (rows ++ field_row start end field ∷ []) from end
 one_more_field rows from start end field h k order = record {
@@ -28,7 +28,7 @@ one_more_field rows from start end field h k order = record {
 pub item_count-one_more : (rows : List Row) (start end : ℕ) (field : Field) → item_count (rows ++ field_row start end field ∷ []) ≡ item_count rows + items_at field
 item_count-one_more rows start end field = omega (arith, sum_by-append (λ (row : Row). items_of row.kind) rows (field_row start end field ∷ []))
 
--- the same of what a list of rows becomes
+-- the same for a list that becomes these rows
 pub marked_after : (rows later : List Row) (from start end : ℕ) (field : Field) → later ≡ rows ++ field_row start end field ∷ []
     → AreFields rows from start → IsField (field_row start end field) → start ≤ end → AreFields later from end
 marked_after rows later from start end field e h k order =
@@ -38,7 +38,7 @@ marked_after rows later from start end field e h k order =
 pub counted_after : (rows later : List Row) (start end : ℕ) (field : Field) → later ≡ rows ++ field_row start end field ∷ [] → item_count later ≡ item_count rows + items_at field
 counted_after rows later start end field e = ap (λ rows. item_count rows) e ∙ item_count-one_more rows start end field
 
--- rows up to a place, and rows from there on
+-- rows up to an offset, and then rows from there
 pub joined : (rows others : List Row) (start place end : ℕ) → Tiles rows start place → Tiles others place end → Tiles (rows ++ others) start end
 joined [] others start place end h k = subst (λ n. Tiles others n end) (sym h) k
 joined (first ∷ rows) others start place end h k = (h.0, h.1, joined rows others first.end place end h.2 k)
@@ -47,7 +47,7 @@ pub tiles_fault : (stop : Option Fault) (place : ℕ) → Tiles (fault_rows stop
 tiles_fault None place = refl
 tiles_fault (Some fault) place = (refl, omega arith, refl)
 
--- the octets that are left, where the rows before them don't go past the end
+-- the row of the remaining octets, if the rows before don't end past them
 pub tiles_unread : (place len : ℕ) → place ≤ len → Tiles (unread_rows place len) place len
 tiles_unread place len within =
     elim (nat_lt place len) as (λ b. nat_lt place len ≡ b → Tiles (if b then record { start = place; end = len; kind = Unread } ∷ [] else []) place len) [
@@ -55,7 +55,7 @@ tiles_unread place len within =
       | false ↦ λ e. let past : place ≡ len = grind (arith, nat_tests, e) in past
     ] refl
 
--- the rows of a header section, of fields behind it, of a fault and of what is left
+-- the rows of a header section, of the fields after it, of a fault and of the remaining octets
 pub tiles_message : (others : List Row) (stop : Option Fault) (place len : ℕ) → Tiles others 12 place → place ≤ len
     → Tiles ((header_rows ++ others) ++ (fault_rows stop place ++ unread_rows place len)) 0 len
 tiles_message others stop place len h within =
@@ -63,14 +63,14 @@ tiles_message others stop place len h within =
     let rest : Tiles (fault_rows stop place ++ unread_rows place len) place len = joined (fault_rows stop place) (unread_rows place len) place place len (tiles_fault stop place) (tiles_unread place len within) in
     joined (header_rows ++ others) (fault_rows stop place ++ unread_rows place len) 0 place len (joined header_rows others 0 12 place head h) rest
 
--- the rows that a message is shown by, of what they are put together from
+-- the rows of a message, from the lists that they are put together from
 pub made_of : (rows front header others : List Row) (stop : Option Fault) (at place len : ℕ) → rows ≡ front ++ (fault_rows stop at ++ unread_rows at len)
     → front ≡ header ++ others → header ≡ header_rows → at ≡ place → rows ≡ header_rows ++ others ++ (fault_rows stop place ++ unread_rows place len)
 made_of rows front header others stop at place len e f g h =
     e ∙ ap (λ front. front ++ (fault_rows stop at ++ unread_rows at len)) (f ∙ ap (λ header. header ++ others) g)
     ∙ ap (λ at. header_rows ++ others ++ (fault_rows stop at ++ unread_rows at len)) h
 
--- they cover its octets
+-- the rows of a message cover its octets
 pub tiles_shown : (b : List ℕ) (rows : List Row) → ShowsMessage b rows → Tiles rows 0 (length b)
 tiles_shown b rows s =
     let P : List Row → Type 0 = λ rows. Tiles rows 0 (length b) in
