@@ -106,7 +106,7 @@ module _ {Q R : Type 0} (question : Q → QuestionItem) (item : R → RecordItem
   after_all s (call ∷ calls) (reply ∷ replies) = after_all (after s call reply) calls replies
 
 module _ (room : Option ℕ) (grows : Bool) where
-  -- the reply to a push of which `Answers` says what its result is
+  -- the reply to a push whose result satisfies `Answers`
   abbrev pub IsReplyBy : (Result (Unit {0}) PushError → Type 0) → Reply → Type 0
   IsReplyBy Answers Done = Answers (Ok tt)
   IsReplyBy Answers (Refused error) = Answers (Err error)

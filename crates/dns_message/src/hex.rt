@@ -5,14 +5,14 @@ ghost use Rattle.dns_message.specs.Hex.{octet_of, octets_of, unspaced};
 
 use std::alloc::{AllocError, Global};
 
-/// The value of a hexadecimal digit, in either case.
+/// The value of a hexadecimal digit, in either case. Returns `None` for any other octet.
 fn value_of(digit: u8) -> Option<u8>
     ensures { SomeIff result (digit_value digit < 16) (digit_value digit) }
 {
     Some(char::from(digit).to_digit(16)? as u8)
 }
 
-/// The octet of two digits, the high one first.
+/// The octet of two digits, the high one first. Returns `None` if either isn't a digit.
 fn octet(high: u8, low: u8) -> Option<u8>
     ensures { result ≡ octet_of high low }
 {

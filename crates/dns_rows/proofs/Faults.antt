@@ -17,7 +17,7 @@ use Rattle.dns_rows.specs.declared.row.NameOf.{NameOf}
 use Rattle.dns_rows.specs.Rows.{target_in}
 use Rattle.dns_rows.specs.Walks.{IsLabelAt}
 
--- at a name, the head can only be malformed, never missing
+-- where a name can be read, a label, pointer or root begins
 no_head : (b : List ℕ) (p : ℕ) (f : Fault) (name : Labels) → Stands b p name → head_at b p ≡ Err f → f ≡ Form
 no_head b p f name (Stands.root h) k = cc (h, k)
 no_head b p f name (Stands.label h w x z) k = cc (h, k)
@@ -32,7 +32,7 @@ form_of_standing b p s f name x (ahead k w) = refl
 form_of_standing b p s f name x (label {n = n} k short fits w) = let l = at_label b x k in form_of_standing b (p + 1 + n) (s + n + 1) f l.others l.stand w
 form_of_standing b p s f name x (pointer {t = t} k back w) = form_of_standing b t s f name (at_pointer b x k).1 w
 
--- no root label is where a name can't be read
+-- no root label begins where a name can't be read
 pub no_root : (b : List ℕ) (p s : ℕ) (f : Fault) → Faulty b p s f → head_at b p ≡ Ok Root → ⊥
 no_root b p s f (head k) h = cc (h, k)
 no_root b p s f (long k w) h = cc (h, k)

@@ -89,7 +89,7 @@ pub data OptionRows (b : List ℕ) (p : ℕ) : ℕ → List Row → Type 0 where
   none : OptionRows b p p []
   option : {q r : ℕ} (rows others : List Row) → OptionRows b p q rows → ShowsOption b q r others → OptionRows b p r (rows ++ others)
 
--- The rows of RDATA from p to q. If a fault stops it, q is where the field that can't be read begins, or where the name can't be read. Else these are the rows of all fields.
+-- The rows of RDATA from p to q. If a fault stops it, q is where the field that can't be read begins, or where a name can't be read further. Else these are the rows of all fields.
 pub data ShowsData (b : List ℕ) : Shape → Option rows.Fault → ℕ → ℕ → List Row → Type 0 where
   done : {p : ℕ} → ShowsData b End None p p []
   octets : {n p q : ℕ} {field : Field} {shape : Shape} {stop : Option rows.Fault} {rows : List Row} → p + n ≤ length b → ShowsData b shape stop (p + n) q rows

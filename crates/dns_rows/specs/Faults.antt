@@ -12,7 +12,7 @@ use Rattle.dns_rows.specs.declared.row.Fault as rows
 use Rattle.dns_rows.specs.declared.row.Fault.TheVariants.{Short, Label, LongName, Pointer, Behind, LongPointer, Trailing}
 use Rattle.dns_rows.specs.declared.row.Field.TheVariants as fields
 
--- A name that begins at `start` can't be read from p, after its labels, and this is the fault that the row reports.
+-- A name that begins at `start` can be read up to p, label by label, but not further. This is the fault that a row reports there.
 pub data StopsName (b : List ℕ) (of : NameOf) (start p : ℕ) : rows.Fault → Type 0 where
   -- no octet is there
   none : length b ≤ p → StopsName b of start p (Short (fields.Label of))
@@ -41,7 +41,7 @@ TellsFault Behind f = ⊤
 TellsFault LongPointer f = f ≡ Form
 TellsFault Trailing f = ⊥
 
--- No name can be read at p. Its labels extend to `place` and have these rows, and `fault` is why it can't be read from there.
+-- No name can be read at p. Its labels extend to `place` and have these rows, and `fault` is why it can't be read further.
 pub record LacksName (b : List ℕ) (of : NameOf) (p : ℕ) (f : Fault) (place : ℕ) (fault : rows.Fault) (shown : List Row) : Type 0 where
   pub faulty : FaultAt b p f
   pub labels : LabelRows b of p p place shown

@@ -40,7 +40,7 @@ pub record AreFields (rows : List Row) (from to : ℕ) : Type 0 where
   pub tiles : Tiles rows from to
   pub fields : All IsField rows
 
--- Of consecutive fields, `rows` are the first ones. The next field begins at `place`, within the octets, but runs past their end, and the fault says which field it is.
+-- Of consecutive fields, `rows` are those before an incomplete one, which begins at `place` and runs past the end of the octets. The fault says which field it is.
 pub record CutRows (b : List ℕ) (whole : List Row) (place : ℕ) (fault : Fault) (rows : List Row) : Type 0 where
   pub field : Field
   pub end : ℕ

@@ -217,7 +217,7 @@ impl<'a> Walk<'a> {
         }
     }
 
-    /// Why a name that begins at `start` can't be read from here, after its labels.
+    /// Why a name that begins at `start` can't be read further than here, after its labels.
     fn name_fault(&self, name: NameOf, start: usize) -> Fault
         requires order { start ≤ at self.now }
         requires none { (n : ℕ)
