@@ -16,7 +16,7 @@ pub(crate) enum Fault {
     Usage,
     /// The script's line with this number, counted from 1, is malformed, or its call is misplaced.
     BadLine(usize),
-    /// The input isn't pairs of hexadecimal digits with ASCII white space between.
+    /// The input isn't hexadecimal digits, two for each octet, and ASCII white space.
     BadHex,
     /// The octets are fewer than the 12 of a header section.
     ShortMessage,

@@ -155,8 +155,8 @@ fn stay_in_questions<T: Composer, Q: ComposeQuestion, R: ComposeRecord>(
     }
 }
 
-/// Makes a call at a record section, other than a move, or the push of an OPT record at the
-/// additional section (see `stay_in_additional`).
+/// Makes a call at a record section, other than a move. `stay_in_additional` makes the push of an
+/// OPT record at the additional section.
 fn stay_in_records<T: Composer, S: RecordStage, Q: ComposeQuestion, R: ComposeRecord>(
     mut builder: Builder<T, S>,
     call: &Call<Q, R>,

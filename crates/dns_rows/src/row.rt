@@ -13,6 +13,7 @@ pub struct Row {
 pub enum Kind {
     /// All octets, if they are fewer than the 12 of a header section.
     ShortHeader,
+    /// A field that can be read.
     Field(Field),
     /// No octets: the field that begins here can't be read.
     Fault(Fault),
@@ -51,7 +52,9 @@ pub enum Part {
 /// Which name of an item this is (RFC 1035 sections 3.3 and 4.1).
 #[derive(Clone, Copy, Debug, PartialEq, Eq)]
 pub enum NameOf {
+    /// QNAME of a question.
     Question,
+    /// The owner of a record.
     Owner,
     /// The name server in NS RDATA.
     Server,
@@ -80,7 +83,9 @@ pub enum ZoneNumber {
 /// A field of a message, or a part of one.
 #[derive(Clone, Copy, Debug, PartialEq, Eq)]
 pub enum Field {
+    /// The ID of the header.
     Id,
+    /// The other 2 octets of the header: the flags, the opcode and the RCODE.
     Flags,
     /// The count of items in a section.
     Count(Part),
@@ -92,14 +97,19 @@ pub enum Field {
     Root(NameOf, usize),
     /// The compression pointer that ends a name, with the offset where the name begins.
     Pointer(NameOf, usize),
+    /// TYPE of a record, or QTYPE of a question.
     Type,
+    /// CLASS of a record, or QCLASS of a question.
     Class,
+    /// TTL of a record, in seconds.
     Ttl,
+    /// RDLENGTH of a record.
     DataLength,
     /// An IPv4 address, of 4 octets.
     Address,
     /// An IPv6 address, of 16 octets.
     LongAddress,
+    /// PREFERENCE in MX RDATA.
     Preference,
     /// A number in SOA RDATA.
     Zone(ZoneNumber),
@@ -107,10 +117,15 @@ pub enum Field {
     Text,
     /// RDATA of any other type.
     Data,
+    /// The UDP payload size in octets, which an OPT record has as its CLASS.
     PayloadSize,
+    /// The upper 8 bits of the extended RCODE in an OPT record.
     ExtendedRcode,
+    /// The EDNS version in an OPT record.
     Version,
+    /// DO and the 15 reserved bits of an OPT record.
     OptFlags,
+    /// The code of an option.
     OptionCode,
     /// The length of the option with this code.
     OptionLength(u16),

@@ -22,7 +22,7 @@ const HEADER_LEN: usize = 12;
 /// remaining octets.
 ///
 /// Octets that are fewer than a header section are one row. Octets after the last item are one row,
-/// too.
+/// too. Returns `AllocError` if an allocation fails.
 pub fn rows(alloc: Global, octets: &[u8]) -> Result<Vec<Row>, AllocError>
     ensures tiles { IfOk result (λ rows. Tiles rows.items 0 (length octets.now)) }
     ensures short { length octets.now < header_size

@@ -73,6 +73,8 @@ const TIP: &str =
 ";
 
 /// Prints rows of a message as one page of HTML, which needs no network and no script.
+///
+/// Returns an error if `writer` or an allocation fails.
 pub fn print_page<W: Write>(
     alloc: Global,
     writer: &mut W,

@@ -19,7 +19,8 @@ const COLUMNS: usize = 46;
 
 /// Prints rows of a message, each on one line or more: its offset, its octets and what they mean.
 ///
-/// The row where an item begins has one line, with its meaning alone.
+/// The row where an item begins has one line, with its meaning alone. Returns an error if `writer`
+/// or an allocation fails.
 pub fn print_text<W: Write>(
     alloc: Global,
     writer: &mut W,
