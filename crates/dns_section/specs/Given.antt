@@ -1,5 +1,6 @@
--- How a cursor over records skips those that a data type doesn't accept. RFC 1035 section 4.1.3.
--- `answers` maps items to what the data type yields for them: nothing for a record of a type that it doesn't accept.
+-- How an iterator over records with parsed RDATA moves its cursor. RFC 1035 section 4.1.3.
+--
+-- `answers` maps items to what the iterator yields for them: nothing for a record whose type the data type doesn't accept, or whose class isn't wanted.
 use Rattle.std.specs.Prelude.{◌≡◌, List, [], ◌∷◌, ◌++◌, Option, Some, None, Result}
 use Rattle.dns_name.specs.Names.{Fault}
 use Rattle.dns_octets.specs.declared.error.ParseError.{ParseError}
@@ -15,7 +16,7 @@ pub data Given : RecordSection → List (Result StandingRecord Fault) → Record
   more : {old mid new : RecordSection} {item : Result StandingRecord Fault} {items : List (Result StandingRecord Fault)} (answer : Result ParsedRecord ParseError)
       → GivesNext old (Some answer) mid → record_answer answer ≡ item → Given mid items new → Given old (item ∷ items) new
 
--- The cursor skips records of types that the data type doesn't accept, and yields `answer` for the next item.
+-- The cursor skips records for which nothing is yielded. For the next item, a record or a fault, `answer` is yielded.
 pub record PassesToAnswer (answers : List (Result StandingRecord Fault) → List (Result RecordItem Fault)) (old new : RecordSection) (answer : Result RecordItem Fault) : Type 0 where
   pub passed : List (Result StandingRecord Fault)
   pub last : Result StandingRecord Fault
@@ -23,7 +24,7 @@ pub record PassesToAnswer (answers : List (Result StandingRecord Fault) → List
   pub unanswered : answers passed ≡ []
   pub answered : answers (last ∷ []) ≡ answer ∷ []
 
--- The cursor skips all remaining records, none of which the data type accepts, and ends.
+-- The cursor skips all remaining records, as nothing is yielded for them, and ends.
 pub record PassesToEnd (answers : List (Result StandingRecord Fault) → List (Result RecordItem Fault)) (old new : RecordSection) : Type 0 where
   pub passed : List (Result StandingRecord Fault)
   pub before_end : RecordSection
@@ -31,12 +32,12 @@ pub record PassesToEnd (answers : List (Result StandingRecord Fault) → List (R
   pub ended : GivesNext before_end None new
   pub unanswered : answers passed ≡ []
 
--- The cursor skips records of types that the data type doesn't accept and yields the first that it accepts, or the error; or it skips all and ends.
+-- The cursor skips records for which nothing is yielded, up to the first item for which the iterator yields its result, or to the end.
 abbrev pub PassesTo : {A : Type 0} → (A → Result RecordItem Fault) → (List (Result StandingRecord Fault) → List (Result RecordItem Fault)) → RecordSection → RecordSection → Option A → Type 0
 PassesTo answer_of answers old new (Some answer) = PassesToAnswer answers old new (answer_of answer)
 PassesTo answer_of answers old new None = PassesToEnd answers old new
 
--- What was left is what was skipped, then the item yielded as `answer`, then what is left now.
+-- What was left is what was skipped, then the item for which `answer` is yielded, then what is left now.
 pub record YieldsAnswer (answers : List (Result StandingRecord Fault) → List (Result RecordItem Fault)) (before behind : List (Result StandingRecord Fault)) (answer : Result RecordItem Fault) : Type 0 where
   pub skipped : List (Result StandingRecord Fault)
   pub last : Result StandingRecord Fault
@@ -44,7 +45,7 @@ pub record YieldsAnswer (answers : List (Result StandingRecord Fault) → List (
   pub unanswered : answers skipped ≡ []
   pub answered : answers (last ∷ []) ≡ answer ∷ []
 
--- The first item that the data type accepts is yielded. If there is none, nothing is yielded and nothing is left.
+-- The iterator yields its result for the first item that it doesn't skip. If it skips all, it yields nothing and nothing is left.
 abbrev pub YieldsNext : {A : Type 0} → (A → Result RecordItem Fault) → (List (Result StandingRecord Fault) → List (Result RecordItem Fault)) → List (Result StandingRecord Fault) → List (Result StandingRecord Fault) → Option A → Type 0
 YieldsNext answer_of answers before behind (Some answer) = YieldsAnswer answers before behind (answer_of answer)
 YieldsNext answer_of answers before behind None = (answers before ≡ []) × (behind ≡ [])
