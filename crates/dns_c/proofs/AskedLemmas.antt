@@ -1,4 +1,4 @@
--- Each reason why a query isn't answered is told where it is the first that holds.
+-- The number that reports why a query isn't answered is that of the first reason that holds.
 use Rattle.std.proofs.Common.{◌≡◌, ◌∙◌, ℕ, ◌≤◌, ◌⊎◌, List, length, take, true, inl, inr, ap, sym, arith}
 use Rattle.dns_code.specs.Header.{fields_in}
 use Rattle.dns_code.specs.HeaderSection.{header_size}
@@ -9,7 +9,7 @@ use Rattle.dns_c.specs.Made.{Asks, AsksNothing, AsksOne, HoldsQuery}
 use Rattle.dns_c.specs.declared.code.Fault.TheVariants as faults
 
 module _ (b : List ℕ) where
-  -- there is one question
+  -- there is at most one such question
   same_asked : (x y : QuestionItem) → AsksOne b x → AsksOne b y → x ≡ y
   same_asked x y h k = ((question_or_fault b).one header_size h.behind k.behind x y h.reads k.reads).1
 

@@ -1,4 +1,4 @@
--- How the items that C hands in become entries, and entries are pushed.
+-- How the items that C passes become entries, and how entries are pushed.
 use Rattle.std.proofs.Common.{◌≡◌, ◌∙◌, ℕ, zero, suc, ◌+◌, ◌<◌, ◌≤◌, ◌⊎◌, List, [], ◌∷◌, ◌++◌, length, drop, get_or, length-append, append_assoc, append-nil, ap, sym, subst, refl, inl, inr, arith}
 use Rattle.std.proofs.Math.Seq.{drop-cons}
 use Rattle.std.proofs.lemmas.List.{drop_all}
@@ -26,7 +26,7 @@ use Rattle.dns_c.specs.Built.{NewEntry, Question, Record, Means, AllMean, IsQues
 use Rattle.dns_c.specs.declared.build.NewItem.{NewItem}
 use Rattle.dns_c.specs.declared.code.Fault.TheVariants.{BadSection, BadText, LongData, NoRoom, TooMany}
 
--- An item is one question, or one record.
+-- An item is at most one question, and at most one record.
 
 same_question : (item : NewItem) (x y : QuestionItem) → IsQuestionOf item x → IsQuestionOf item y → x ≡ y
 same_question item x y h k =
@@ -44,7 +44,7 @@ same_record item x y h k =
     let parts : x.parts ≡ y.parts = h.parts ∙ sym k.parts in
     λ i. record { owner = owner i; rtype = rtype i; class = class i; ttl = ttl i; parts = parts i }
 
--- the items that are left, at an index and at the end
+-- the remaining items, at an index and at the end
 pub next_item : (items : List NewItem) (i : ℕ) (d : NewItem) → i < length items → drop i items ≡ get_or items i d ∷ drop (i + 1) items
 next_item items i d within =
     let next : suc i ≡ i + 1 = omega arith in
@@ -53,7 +53,7 @@ next_item items i d within =
 pub no_items : (items : List NewItem) (i : ℕ) → length items ≤ i → drop i items ≡ []
 no_items items i past = drop_all i items past
 
--- All items are entries, or the first that is none is refused: so of those that are left, and so of all.
+-- Results for the remaining items hold for all items: that all are entries, or that the first bad one is refused.
 pub record Checking (items left : List NewItem) : Type 0 where
   pub mean : (ys : List NewEntry) → AllMean left ys → (xs : List NewEntry) × AllMean items xs
   pub refused : (n : ℕ) → FirstRefused left n → FirstRefused items n
@@ -76,7 +76,7 @@ check_refuses items left rest item n is refused h = h.refused n (subst (λ (xs :
 pub check_ends : (items left : List NewItem) → left ≡ [] → Checking items left → (xs : List NewEntry) × AllMean items xs
 check_ends items left is h = h.mean [] (subst (λ (xs : List NewItem). AllMean xs []) (sym is) tt)
 
--- the reasons of a refused push, one by one
+-- the reasons for which a push fails, one by one
 pub refused_answers : (room : Option ℕ) (grows : Bool) (limit n count : ℕ) (e : PushError) → (e ≡ pushing.ShortBuf → Passes room n) → (e ≡ pushing.OutOfMemory → IsTrue grows)
     → (e ≡ pushing.LimitExceeded → Fits room n × (limit < n)) → (e ≡ pushing.CountOverflow → Fits room n × (n ≤ limit) × (count ≡ most_entries)) → PushAnswers room grows limit n count (Err e)
 refused_answers room grows limit n count pushing.ShortBuf short memory over full = short refl
@@ -84,7 +84,7 @@ refused_answers room grows limit n count pushing.OutOfMemory short memory over f
 refused_answers room grows limit n count pushing.LimitExceeded short memory over full = over refl
 refused_answers room grows limit n count pushing.CountOverflow short memory over full = full refl
 
--- Questions are pushed. The first of those among entries stand, and of the items that are left these entries are left.
+-- An invariant of pushing questions: the first questions are pushed, and the rest are those of the remaining items.
 pub record Asking (rule : Rule) (left : List NewItem) (xs : List NewEntry) (s : State) (now : Built) : Type 0 where
   pub first : List QuestionItem
   pub rest : List NewEntry
@@ -120,7 +120,7 @@ module _ (rule : Rule) (rest : List NewItem) (item : NewItem) (xs : List NewEntr
   }
   asking_takes_by (Record which x ∷ es) first y new here is mean all stands = absurd (let some = mean.0.0 in omega arith)
 
-  -- a question is refused
+  -- pushing a question fails
   asking_refused_by : (room : Option ℕ) (grows : Bool) (es : List NewEntry) (first : List QuestionItem) (y : QuestionItem) (e : PushError) → item.section ≡ 0 → IsQuestionOf item y → AllMean (item ∷ rest) es
       → questions_among xs ≡ first ++ questions_among es → AnswersQuestion room grows rule y (with_questions first s) (Err e) → RefusesQuestion room grows rule (questions_among xs) s (number_of (push_fault e))
   asking_refused_by room grows [] first y e here is mean all refused = absurd mean
@@ -135,7 +135,7 @@ module _ (rule : Rule) (rest : List NewItem) (item : NewItem) (xs : List NewEntr
   }
   asking_refused_by room grows (Record which x ∷ es) first y e here is mean all refused = absurd (let some = mean.0.0 in omega arith)
 
-  -- its item spells a name
+  -- the text of its item spells a name
   asking_named_by : (es : List NewEntry) → AllMean (item ∷ rest) es → SpellsNoName item.name.now → ⊥
   asking_named_by [] mean none = mean
   asking_named_by (Question x ∷ es) mean none = none x.name mean.0.1.name
@@ -145,7 +145,7 @@ module _ (rule : Rule) (left rest : List NewItem) (item : NewItem) (is : left �
   here_means : AllMean (item ∷ rest) h.rest
   here_means = subst (λ (items : List NewItem). AllMean items h.rest) is h.mean
 
-  -- an item of another section is passed
+  -- an item of another section is skipped
   pub asking_passes : (item.section ≡ 0 → ⊥) → Asking rule rest xs s now
   asking_passes other = asking_passes_by rule rest item xs s now h.rest h.first other here_means h.all h.stands
 
@@ -157,7 +157,7 @@ module _ (rule : Rule) (left rest : List NewItem) (item : NewItem) (is : left �
   pub asking_named : SpellsNoName item.name.now → ⊥
   asking_named none = asking_named_by rule rest item xs s now h.rest here_means none
 
-  -- a push is refused
+  -- a push fails
   pub asking_refused : (room : Option ℕ) (grows : Bool) (y : QuestionItem) (e : PushError) → item.section ≡ 0 → IsQuestionOf item y → InEach InQuestion rule now (λ t. AnswersQuestion room grows rule y t (Err e))
       → RefusesQuestion room grows rule (questions_among xs) s (number_of (push_fault e))
   asking_refused room grows y e here is_question refused = asking_refused_by rule rest item xs s now room grows h.rest h.first y e here is_question here_means h.all (refused (with_questions h.first s) h.stands)
@@ -189,7 +189,7 @@ records_none InAnswer s = ap (λ (rs : List RecordItem). record s { answers = rs
 records_none InAuthority s = ap (λ (rs : List RecordItem). record s { authorities = rs }) (append-nil s.authorities)
 records_none InAdditional s = ap (λ (rs : List RecordItem). record s { additionals = rs }) (append-nil s.additionals)
 
--- the section of a number, and the depth of its stage
+-- the number of a section, and the depth of its stage
 depth_here : (n : ℕ) (which : Section) → 1 ≤ n → n ≤ 3 → section_at n ≡ which → n + 1 ≡ depth_of (stage_of which)
 depth_here zero which some most is = absurd (omega arith)
 depth_here (suc zero) which some most is = omega (arith, ap (λ (w : Section). depth_of (stage_of w)) is)
@@ -231,7 +231,7 @@ other_question Answer x es = refl
 other_question Authority x es = refl
 other_question Additional x es = refl
 
--- The first of the records among entries stand, and of the items that are left these entries are left.
+-- An invariant of pushing records: the first records of the section are pushed, and the rest are those of the remaining items.
 pub record Stating (rule : Rule) (stage : Stage) (which : Section) (left : List NewItem) (xs : List NewEntry) (s : State) (now : Built) : Type 0 where
   pub first : List RecordItem
   pub rest : List NewEntry
@@ -250,7 +250,7 @@ stating_begins rule stage which items left xs s now is mean stands = record {
 }
 
 module _ (rule : Rule) (stage : Stage) (which : Section) (rest : List NewItem) (item : NewItem) (xs : List NewEntry) (s : State) (now : Built) where
-  -- what is left is the same by other lists
+  -- the same with an equal list of remaining records
   alike : (us vs first : List RecordItem) → us ≡ vs → records_among which xs ≡ first ++ us → records_among which xs ≡ first ++ vs
   alike us vs first is all = all ∙ ap (λ (rs : List RecordItem). first ++ rs) is
 
@@ -263,7 +263,7 @@ module _ (rule : Rule) (stage : Stage) (which : Section) (rest : List NewItem) (
       let is_other : w ≡ which → ⊥ = λ is. other (depth_here item.section which mean.0.0 mean.0.1 (mean.0.2 ∙ is)) in
       record { first = first; rest = es; mean = mean.1; all = alike _ _ first (other_record which w x es is_other) all; stands = stands }
 
-  -- the record that an item is stands before the other records
+  -- the record that an item describes comes before the remaining records
   next_record : (w : Section) (x y : RecordItem) (es : List NewEntry) (first : List RecordItem) → item.section + 1 ≡ depth_of (stage_of which) → section_at item.section ≡ w → IsRecordOf item x → IsRecordOf item y
       → records_among which xs ≡ first ++ records_among which (Record w x ∷ es) → records_among which xs ≡ first ++ y ∷ records_among which es
   next_record w x y es first at own means is all =
@@ -282,7 +282,7 @@ module _ (rule : Rule) (stage : Stage) (which : Section) (rest : List NewItem) (
     stands = subst (λ (t : State). StandsFor stage rule t new) (record_more stage y first s) stands;
   }
 
-  -- a record is refused
+  -- pushing a record fails
   stating_refused_by : (room : Option ℕ) (grows : Bool) (es : List NewEntry) (first : List RecordItem) (y : RecordItem) (e : PushError) → item.section + 1 ≡ depth_of (stage_of which) → IsRecordOf item y
       → AllMean (item ∷ rest) es → records_among which xs ≡ first ++ records_among which es → AnswersRecordPush room grows rule stage y (with_records stage first s) (Err e)
       → RefusesRecord room grows rule stage (records_among which xs) s (number_of (push_fault e))
@@ -298,7 +298,7 @@ module _ (rule : Rule) (stage : Stage) (which : Section) (rest : List NewItem) (
     number = refl;
   }
 
-  -- its item is an entry that has a name, and short data if it is a record
+  -- its item is an entry: it has a valid name, and a record's RDATA isn't too long
   stating_named_by : (es : List NewEntry) (n : ℕ) → item.section + 1 ≡ depth_of (stage_of which) → AllMean (item ∷ rest) es → LacksFields item n → ⊥
   stating_named_by [] n at mean lacks = mean
   stating_named_by (Question x ∷ es) n at mean lacks = not_first item.section which mean.0.0 at
@@ -309,7 +309,7 @@ module _ (rule : Rule) (stage : Stage) (which : Section) (left rest : List NewIt
   these_mean : AllMean (item ∷ rest) h.rest
   these_mean = subst (λ (items : List NewItem). AllMean items h.rest) is h.mean
 
-  -- an item of another section is passed
+  -- an item of another section is skipped
   pub stating_passes : (item.section + 1 ≡ depth_of (stage_of which) → ⊥) → Stating rule stage which rest xs s now
   stating_passes other = stating_passes_by rule stage which rest item xs s now h.rest h.first other these_mean h.all h.stands
 
@@ -321,7 +321,7 @@ module _ (rule : Rule) (stage : Stage) (which : Section) (left rest : List NewIt
   pub stating_named : (n : ℕ) → item.section + 1 ≡ depth_of (stage_of which) → LacksFields item n → ⊥
   stating_named n at lacks = stating_named_by rule stage which rest item xs s now h.rest n at these_mean lacks
 
-  -- a push is refused
+  -- a push fails
   pub stating_refused : (room : Option ℕ) (grows : Bool) (y : RecordItem) (e : PushError) → item.section + 1 ≡ depth_of (stage_of which) → IsRecordOf item y
       → InEach stage rule now (λ t. AnswersRecordPush room grows rule stage y t (Err e)) → RefusesRecord room grows rule stage (records_among which xs) s (number_of (push_fault e))
   stating_refused room grows y e at is_record refused =
@@ -339,7 +339,7 @@ pub stating_ends : (rule : Rule) (stage : Stage) (which : Section) (left : List 
     → StandsFor stage rule (with_records stage (records_among which xs) s) now
 stating_ends rule stage which left xs s now is h = stating_ends_by rule stage which h.rest xs h.first s now (subst (λ (items : List NewItem). AllMean items h.rest) is h.mean) h.all h.stands
 
--- The first item that is no entry is told by one of three numbers.
+-- The first item that is no entry is reported by one of three numbers.
 
 module _ (n : ℕ) (section : n ≡ number_of BadSection → ⊥) (text : n ≡ number_of BadText → ⊥) (long : n ≡ number_of LongData → ⊥) where
   lacks_otherwise : (item : NewItem) → LacksFields item n → ⊥
@@ -356,9 +356,9 @@ module _ (n : ℕ) (section : n ≡ number_of BadSection → ⊥) (text : n ≡ 
   first_otherwise (item ∷ items) (inl h) = refused_otherwise item h
   first_otherwise (item ∷ items) (inr h) = first_otherwise items h.1
 
--- Want of room is no reason why nothing is made.
+-- A missing capacity is no reason for failure.
 
--- a target without a bound refuses for want of memory, or a full count
+-- a target without a bound fails only if it is out of memory or a count is full
 answers_otherwise : (grows : Bool) (limit n count : ℕ) (e : PushError) → number_of (push_fault e) ≡ number_of NoRoom → PushAnswers None grows limit n count (Err e) → ⊥
 answers_otherwise grows limit n count pushing.ShortBuf room refused = refused
 answers_otherwise grows limit n count pushing.OutOfMemory room refused = omega arith
@@ -381,7 +381,7 @@ pub unbuilt_otherwise : (grows : Bool) (rule : Rule) (header : Header) (items : 
 unbuilt_otherwise grows rule header items n room (inl h) = first_otherwise n (λ is. omega arith) (λ is. omega arith) (λ is. omega arith) items h
 unbuilt_otherwise grows rule header items n room (inr h) = made_otherwise grows rule header h.0 n room h.2
 
--- A full count is told only where a section has more entries than it can tell.
+-- A full count is reported only if a section has more entries than its count can hold.
 
 header_others : (e : AppendError) → number_of (append_fault e) ≡ number_of TooMany → ⊥
 header_others appending.ShortBuf many = omega arith
@@ -394,7 +394,7 @@ module _ (room : Option ℕ) (grows : Bool) (rule : Rule) where
   answers_full limit n count pushing.LimitExceeded many refused = absurd (omega arith)
   answers_full limit n count pushing.CountOverflow many refused = refused.2
 
-  -- behind a full list there is one more
+  -- after a full list there is one more
   more_than : {X : Type 0} (xs first others : List X) (next : X) → xs ≡ first ++ next ∷ others → length first ≡ most_entries → most_entries < length xs
   more_than xs first others next all full =
       let both = length-append first (next ∷ others) in
@@ -424,10 +424,10 @@ module _ (room : Option ℕ) (grows : Bool) (rule : Rule) where
   unbuilt_full header items n many (inl h) = absurd (first_otherwise n (λ is. omega arith) (λ is. omega arith) (λ is. omega arith) items h)
   unbuilt_full header items n many (inr h) = (h.0, h.1, made_full header h.0 n many h.2)
 
--- All items are entries, and what is written of them is refused.
+-- All items are entries, and writing them fails.
 
 module _ (room : Option ℕ) (grows : Bool) (rule : Rule) (header : Header) (items : List NewItem) (xs : List NewEntry) (mean : AllMean items xs) where
-  -- the header section
+  -- at the header section
   header_refused : {X : Type 0} (r : Result X AppendError) (e : AppendError) → r ≡ Err e → Answers room grows header_size r → Answers {X = Unit {0}} room grows header_size (Err e)
   header_refused {X} r appending.ShortBuf is answer = subst (λ (q : Result X AppendError). Answers room grows header_size q) is answer
   header_refused {X} r appending.OutOfMemory is answer = subst (λ (q : Result X AppendError). Answers room grows header_size q) is answer
@@ -435,17 +435,17 @@ module _ (room : Option ℕ) (grows : Bool) (rule : Rule) (header : Header) (ite
   pub unbuilt_header : {X : Type 0} (r : Result X AppendError) (e : AppendError) → r ≡ Err e → Answers room grows header_size r → IsUnbuilt room grows rule header items (number_of (append_fault e))
   unbuilt_header r e is answer = inr (xs, mean, inl (record { error = e; refused = header_refused r e is answer; number = refl }))
 
-  -- a question
+  -- at a question
   pub unbuilt_question : (own : Header) (n : ℕ) → own ≡ header → RefusesQuestion room grows rule (questions_among xs) (beginning_of InQuestion own xs) n → IsUnbuilt room grows rule header items n
   unbuilt_question own n is refuses = inr (xs, mean, inr (inl (subst (λ (h : Header). RefusesQuestion room grows rule (questions_among xs) (beginning_of InQuestion h xs) n) is refuses)))
 
-  -- a record
+  -- at a record
   pub unbuilt_record : (which : Section) (own : Header) (n : ℕ) → own ≡ header → RefusesRecord room grows rule (stage_of which) (records_among which xs) (beginning_of (stage_of which) own xs) n
       → IsUnbuilt room grows rule header items n
   unbuilt_record which own n is refuses =
       inr (xs, mean, inr (inr (which, subst (λ (h : Header). RefusesRecord room grows rule (stage_of which) (records_among which xs) (beginning_of (stage_of which) h xs) n) is refuses)))
 
--- a section's number and one are the depth of the stage at it
+-- the number of a section plus one is the depth of its stage
 pub at_depth : (stage : Stage) (which : Section) (depth m n : ℕ) → stage ≡ stage_of which → depth ≡ depth_of stage → m + 1 ≡ depth → m ≡ n → n + 1 ≡ depth_of (stage_of which)
 at_depth stage which depth m n at deep here same = ap (λ k. k + 1) (sym same) ∙ here ∙ deep ∙ ap depth_of at
 

@@ -1,4 +1,4 @@
--- The text of a record's data, by what a data type reads of it.
+-- The text of RDATA, by what a data type parses.
 use Rattle.std.proofs.Common.{◌≡◌, ◌∙◌, ℕ, ◌<◌, ◌≤◌, ◌^◌, List, [], ◌∷◌, ◌++◌, length, ap, sym, refl, arith, append-nil, append_assoc, codes, ◌==◌, true, false}
 use Rattle.std.proofs.lemmas.Bool.Decides.{nat_tests}
 use Rattle.std.proofs.lemmas.Nat.{from_be_bytes-to_be_bytes_4}
@@ -35,24 +35,24 @@ module _ (x : StandingRecord) (read : IsRead x) where
   pub there : x.entry.data_end ≤ length x.octets
   there = span.end
 
-  -- the parts of data that a type reads
+  -- the parts of RDATA that a data type parses
   pub given_parts : {D : Type 0} (rtype_of : D → ℕ) (parts_of : D → List Part) (r : Record ParsedName D) (taken : Option Layout)
       → GivesTaken rtype_of parts_of x.octets x.entry taken (Ok (Some r)) → Some (parts_of (data_of r)) ≡ option_and_then (data_parts x) taken
   given_parts rtype_of parts_of r None h = absurd h
   given_parts rtype_of parts_of r (Some layout) h = sym (ap result_ok (data_is_answered.only x layout (Ok (parts_of (data_of r))) (whole span h.1)))
 
-  -- there are none where it doesn't take the record's type
+  -- there are none if it doesn't accept the record's type
   pub none_taken : {D : Type 0} (rtype_of : D → ℕ) (parts_of : D → List Part) (taken : Option Layout) → GivesTaken rtype_of parts_of x.octets x.entry taken (Ok None) → None ≡ option_and_then (data_parts x) taken
   none_taken rtype_of parts_of None h = refl
   none_taken rtype_of parts_of (Some layout) h = absurd h
 
-  -- nor where the data has a fault
+  -- nor if the RDATA is malformed
   pub fault_taken : {D : Type 0} (rtype_of : D → ℕ) (parts_of : D → List Part) (e : ParseError) (taken : Option Layout) → GivesTaken rtype_of parts_of x.octets x.entry taken (Err e)
       → None ≡ option_and_then (data_parts x) taken
   fault_taken rtype_of parts_of e None h = absurd h
   fault_taken rtype_of parts_of e (Some layout) h = sym (ap result_ok (data_is_answered.only x layout (Err (fault_of e)) (fault span h)))
 
--- the numbers of the start of a zone have 32 bits
+-- the numbers of SOA have 32 bits
 pub record NumbersFit (zone : Soa ParsedName) : Type 0 where
   pub serial : serial_of zone < 2 ^ 32
   pub refresh : refresh_of zone < 2 ^ 32
@@ -60,7 +60,7 @@ pub record NumbersFit (zone : Soa ParsedName) : Type 0 where
   pub expire : expire_of zone < 2 ^ 32
   pub minimum : minimum_of zone < 2 ^ 32
 
--- so they are those of their octets
+-- so they equal the numbers in their octets
 pub zone_numbers : (zone : Soa ParsedName) → NumbersFit zone → zone_numbers_text (number_octets zone) ≡ numbers_text zone
 unfolding number_octets
 zone_numbers zone fit =
@@ -71,7 +71,7 @@ zone_numbers zone fit =
     let e = from_be_bytes-to_be_bytes_4 (minimum_of zone) fit.minimum in
     λ i. decimal (a i) ++ codes " " ++ decimal (b i) ++ codes " " ++ decimal (c i) ++ codes " " ++ decimal (d i) ++ codes " " ++ decimal (e i)
 
--- the text of a zone's start, as it is written
+-- the text of SOA data, as it is written
 pub zone_text : (mname rname : Labels) (zone : Soa ParsedName) → NumbersFit zone
     → absolute_name mname ++ codes " " ++ absolute_name rname ++ codes " " ++ decimal (serial_of zone) ++ codes " " ++ decimal (refresh_of zone) ++ codes " " ++ decimal (retry_of zone) ++ codes " " ++ decimal (expire_of zone) ++ codes " " ++ decimal (minimum_of zone)
     ≡ name_text mname ++ codes ". " ++ name_text rname ++ codes ". " ++ zone_numbers_text (number_octets zone)
@@ -81,7 +81,7 @@ zone_text mname rname zone fit =
     ≡ behind (numbers_text zone) = simp append_assoc in
     spaced ∙ ap behind (sym (zone_numbers zone fit))
 
--- the text of octets, as it is written
+-- the text of opaque octets, as it is written
 pub opaque_none : (octets : List ℕ) → octets ≡ [] → codes "\\# " ++ decimal (length octets) ≡ opaque_text octets
 opaque_none octets none = rw none (sym (append-nil (codes "\\# " ++ decimal 0)))
 

@@ -1,4 +1,4 @@
--- Messages of one name: how long they are, and that nothing stops them.
+-- Queries and responses: how long they are, and that building them never fails.
 use Rattle.std.proofs.Common.{◌≡◌, ◌∙◌, ℕ, ◌+◌, ◌<◌, ◌≤◌, Some, None, true, false, Bool, List, [], ◌∷◌, ◌++◌, length, length-append, ap, sym, subst, refl, arith}
 use Rattle.std.specs.Prelude.{Option, IsTrue}
 use Rattle.std.specs.FinMap.{get, len, get-empty, len-empty}
@@ -20,14 +20,14 @@ use Rattle.dns_build.specs.declared.push_error.PushError.TheVariants as pushing
 use Rattle.dns_build.proofs.theory.FoldReading.{folds_are_messages}
 use Rattle.dns_c.specs.Made.{asking, answering, address_record}
 
--- The octets of a builder's message.
+-- The octets of a finished builder are a message.
 
 pub is_message : (rule : Rule) (s : State) (octets : List ℕ) → IsState s → octets ≡ (fold rule s).octets → IsMessageOf rule s octets
 is_message rule s octets state folded = subst (IsMessageOf rule s) (sym folded) (folds_are_messages rule s state)
 
--- Nothing stops a message that has room.
+-- No push fails if the message fits.
 
--- an item is pushed where the message has at most 512 octets, no limit, and a count that isn't full
+-- an item is pushed if the message has at most 512 octets, no limit, and a count that isn't full
 pub never_refused : (e : PushError) (n limit count : ℕ) → n ≤ 512 → limit ≡ no_limit → count < most_entries → (e ≡ pushing.ShortBuf → Passes (Some 512) n)
     → (e ≡ pushing.OutOfMemory → IsTrue false) → (e ≡ pushing.LimitExceeded → Fits (Some 512) n × (limit < n)) → (e ≡ pushing.CountOverflow → Fits (Some 512) n × (n ≤ limit) × (count ≡ most_entries)) → ⊥
 never_refused pushing.ShortBuf n limit count small none few short memory over full = let h : 512 < n = short refl in omega arith
@@ -47,23 +47,23 @@ asked_short rule header x four is =
     let name = name_short rule x.name nothing (length (header_octets header) + 8) is in
     simp length-append (omega (arith, name, four))
 
--- a first label is written out, and the name is remembered
+-- if its first label isn't in the table, the name is written uncompressed and enters the table
 first_spelled : (label : List ℕ) (rest : Labels) (p : ℕ) (after : List ℕ × List (Labels × ℕ)) (o : Option Spot) (k : Bool) → o ≡ None → k ≡ true
     → spell_label o k label rest p after ≡ (framed label ++ after.0, (label ∷ rest, p) ∷ after.1)
 first_spelled label rest p after o k none kept = λ i. spell_label (none i) (kept i) label rest p after
 
--- a name that is known is a pointer
+-- a name in the table takes 2 octets at most
 known_short : (label : List ℕ) (rest : Labels) (p : ℕ) (after : List ℕ × List (Labels × ℕ)) (o : Option Spot) (k : Bool) (x : Spot) → o ≡ Some x
     → length (spell_label o k label rest p after).0 ≤ 2
 known_short label rest p after o k x known =
     let two : length (spell_label o k label rest p after).0 ≡ 2 = λ i. length (spell_label (known i) k label rest p after).0 in omega arith
 
--- what is remembered of a name that was written out
+-- the table entry of a name that was written uncompressed
 listed_first : (name : Labels) (p end : ℕ) (ss rest : List (Labels × ℕ)) → ss ≡ (name, p) ∷ rest → get (remember nothing ss end) name ≡ Some (record { place = p; end = end })
 listed_first name p end ss rest is =
     ap (λ (xs : List (Labels × ℕ)). get (remember nothing xs end) name) is ∙ get-insert_same (remember nothing rest end) name (record { place = p; end = end })
 
--- behind the first name of a message it is a pointer, and the root is one octet
+-- the first name of a message takes 2 octets at most when it is written again
 again_at : (name : Labels) (v : ℕ) → length (put_name Static name (put_name Static name nothing 12).memory v).octets ≤ 2
 unfolding put_name
 again_at [] v = omega arith
@@ -81,7 +81,7 @@ again_at (label ∷ rest) v =
 again_short : (name : Labels) (w v : ℕ) → w ≡ 12 → length (put_name Static name (put_name Static name nothing w).memory v).octets ≤ 2
 again_short name w v first = subst (λ k. length (put_name Static name (put_name Static name nothing k).memory v).octets ≤ 2) (sym first) (again_at name v)
 
--- with a question and an address
+-- a message with a question and an A record
 pub answered_short : (header : Header) (x : QuestionItem) (ttl : ℕ) (address : List ℕ) → length (header_octets header) ≡ 4 → length address ≡ 4 → IsName x.name
     → length (fold Static (answering header x (address_record x ttl address))).octets ≤ 512
 unfolding fold put_question put_record put_parts
@@ -91,7 +91,7 @@ answered_short header x ttl address four quad is =
     let again = again_short x.name w (w + (length (put_name Static x.name nothing w).octets + 4)) (omega (arith, four)) in
     simp length-append (omega (arith, name, again, four, quad))
 
--- a record of an address, field by field
+-- an A record, field by field
 pub address_item : (x : QuestionItem) (item : RecordItem) (ttl : ℕ) (octets address : List ℕ) → item.owner ≡ x.name → item.rtype ≡ 1 → item.class ≡ x.class → item.ttl ≡ ttl
     → item.parts ≡ Octets octets ∷ [] → octets ≡ address → item ≡ address_record x ttl address
 address_item x item ttl octets address owner rtype class same_ttl parts is =

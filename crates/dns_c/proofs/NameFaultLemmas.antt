@@ -1,4 +1,4 @@
--- How a walk over a name that isn't formed as it has to be goes on.
+-- How walking a malformed name goes on.
 use Rattle.std.proofs.Common.{◌≡◌, ◌∙◌, ℕ, ◌+◌, ◌-◌, ◌*◌, ◌<◌, ◌≤◌, ◌⊎◌, inl, inr, List, length, get_or, ap, sym, refl, subst, arith}
 use Rattle.std.proofs.Math.Nat.{mul-le-mul_left}
 use Rattle.std.proofs.lemmas.Bool.Decides.{nat_tests}
@@ -18,7 +18,7 @@ use Rattle.dns_c.specs.NameFaults.Misformed.{bits, long, ahead, label, pointer}
 use Rattle.dns_c.specs.declared.code.Fault.{Fault}
 use Rattle.dns_c.specs.declared.code.Fault.TheVariants as faults
 
--- What begins at a place, by its octets.
+-- What is encoded at an offset, by its octets.
 
 head_of_bits : (x : ℕ) (second : Option ℕ) → 64 ≤ x → x < 192 → head_of (Some x) second ≡ Err Form
 head_of_bits x second low high = grind (arith, nat_tests, common_steps)
@@ -46,7 +46,7 @@ module _ (b : List ℕ) (p : ℕ) where
   unfolding head_at
   past_begins none = ap (λ (o : Option ℕ). head_of o (slice_get b (p + 1))) none
 
-  -- What a fault of the form is, by what begins at the place.
+  -- How the name is malformed, by what is encoded at the offset.
 
   module _ (s : ℕ) where
     root_faultless : (f : FaultThere) → head_at b p ≡ Ok Root → Faulty b p s f → ⊥
@@ -85,7 +85,7 @@ module _ (b : List ℕ) (p : ℕ) where
         let same : u ≡ t = cc in
         subst (λ (g : FaultThere). Faulty b t s g) form (subst (λ (k : ℕ). Faulty b k s f) same rest)
 
-    -- How each place of a walk goes on.
+    -- How each step of a walk goes on.
 
     pub none_there : (fault : Fault) → length b ≤ p → Faulty b p s Form → Misformed b p s fault
     none_there fault past h = absurd (short_other Form (past_begins (slice_get_past b p past)) refl h)
@@ -139,7 +139,7 @@ module _ (b : List ℕ) (p : ℕ) where
             form = λ fault h. pointer pointed back h;
           }
 
--- what is left of a walk falls: sizes rise to the greatest, and places fall as long as the size stays
+-- the measure of a walk decreases: the size grows to its maximum, and the offset decreases while the size stays
 pub walk_falls : (end p s q t : ℕ) → q ≤ end → t ≤ max_size → (s < t) ⊎ ((t ≡ s) × (q < p)) → (255 - t) * (end + 1) + q < (255 - s) * (end + 1) + p
 walk_falls end p s q t within short (inl more) =
     let steps : (end + 1) * (255 - t + 1) ≤ (end + 1) * (255 - s) = mul-le-mul_left (end + 1) (omega arith) in
@@ -147,9 +147,9 @@ walk_falls end p s q t within short (inl more) =
 walk_falls end p s q t within short (inr (same, back)) =
     let kept : (255 - t) * (end + 1) ≡ (255 - s) * (end + 1) = ap (λ (k : ℕ). (255 - k) * (end + 1)) same in omega arith
 
--- Which number tells it.
+-- Which number reports it.
 
--- a fault of the form has a number of its own
+-- each way of being malformed has a number from 3 to 5
 misformed_number : {b : List ℕ} {p s : ℕ} {f : Fault} → Misformed b p s f → (3 ≤ number_of f) × (number_of f ≤ 5)
 misformed_number (bits h) = (omega arith, omega arith)
 misformed_number (long h past) = (omega arith, omega arith)
@@ -163,7 +163,7 @@ tells_short b p = record { kind = refl; form = λ is. absurd (cc) }
 pub tells_form : (b : List ℕ) (p : ℕ) (fault : Fault) → Misformed b p 0 fault → TellsAt b p Form (number_of fault)
 tells_form b p fault h = record { kind = misformed_number h; form = λ is. (fault, h, refl) }
 
--- what begins with a name has a fault of the form only where the name has
+-- what begins with a name is malformed only if the name is
 pub form_in_name : (b : List ℕ) (Lacks : ℕ → Type 0) (p : ℕ) (f : FaultThere) → FieldsFaultAt b Lacks p f → f ≡ Form → FaultAt b p Form
 form_in_name b Lacks p f (in_name h) is = subst (FaultAt b p) is h
 form_in_name b Lacks p f (behind_name stands walked lacks) is = absurd (cc)

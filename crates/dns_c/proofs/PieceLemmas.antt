@@ -1,4 +1,4 @@
--- Texts that a buffer holds, and the text of a name label by label.
+-- Text that a buffer holds, and the text of a name label by label.
 use Rattle.std.proofs.Common.{◌≡◌, ◌∙◌, ℕ, ◌+◌, ◌<◌, ◌≤◌, List, [], ◌∷◌, ◌++◌, length, take, get_or, flat_map, Some, None, ap, sym, subst, refl, arith, append_assoc, append-nil, length-append, ◌⊎◌, inl, inr, true, false}
 use Rattle.std.specs.Prelude.{Option, All}
 use Rattle.std.specs.Char.{is_ascii_graphic}
@@ -9,26 +9,26 @@ use Rattle.dns_name.specs.Names.{Labels, IsLabel, with_root}
 use Rattle.dns_name.specs.NameTexts.{dot, decimal_text, octet_text, label_text}
 use Rattle.dns_c.specs.Texts.{Holds, absolute_name}
 
--- a text is held behind which nothing is
+-- a buffer that holds a text holds an equal text
 pub holds_as : (out text same : List ℕ) (end : Option ℕ) → text ≡ same → Holds out text end → Holds out same end
 holds_as out text same end is h = subst (λ (t : List ℕ). Holds out t end) is h
 
--- nothing fits behind a text that has no room
+-- nothing fits after a text that doesn't fit
 pub no_room : (old new text more : List ℕ) → length new ≡ length old → Holds old text None → Holds new (text ++ more) None
 no_room old new text more same h = let both = length-append text more in omega arith
 
--- more is too long
+-- what is appended is too long
 pub too_long : (old text more : List ℕ) (start : ℕ) → length old < start + length more → Holds old text (Some start) → Holds old (text ++ more) None
 too_long old text more start past h =
     let both = length-append text more in
     let size : length text ≡ start = ap length (sym h.1) ∙ length-take-le start old h.0 in
     omega arith
 
--- more is written behind it
+-- what is appended is written after the text
 pub written : (old new text more : List ℕ) (start behind : ℕ) → behind ≤ length new → take behind new ≡ take start old ++ more → Holds old text (Some start) → Holds new (text ++ more) (Some behind)
 written old new text more start behind within is h = (within, is ∙ ap (λ (t : List ℕ). t ++ more) h.1)
 
--- the text of a name label by label, with a dot behind each; the root label is passed over
+-- the text of a name label by label, with a dot after each; the root label is skipped
 abbrev pub dotted : Labels → List ℕ
 dotted [] = []
 dotted ([] ∷ name) = dotted name
@@ -50,7 +50,7 @@ pub one_dotted : (text label : List ℕ) (behind : Labels) (whole : List ℕ) �
 one_dotted text [] behind whole some e = absurd (some refl)
 one_dotted text (o ∷ label) behind whole some e = simp append_assoc (simp append_assoc at e)
 
--- the root label is passed over
+-- the root label is skipped
 pub root_passed : (text label : List ℕ) (behind : Labels) (whole : List ℕ) → label ≡ [] → text ++ dotted (label ∷ behind) ≡ whole → text ++ dotted behind ≡ whole
 root_passed text [] behind whole none e = e
 root_passed text (o ∷ label) behind whole none e = absurd (cc)

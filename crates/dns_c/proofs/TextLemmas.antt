@@ -1,4 +1,4 @@
--- Texts of names: what spells a name is ASCII, and is one name's.
+-- Names in presentation format: the text is ASCII, and spells one name.
 use Rattle.std.proofs.Common.{◌≡◌, ℕ, zero, suc, ◌<◌, List, [], ◌∷◌, sym, subst, inl, inr, arith}
 use Rattle.std.specs.Prelude.{IsTrue, Result, Err}
 use Rattle.std.specs.Str.{IsAscii, IsUtf8}
@@ -57,7 +57,7 @@ spelled_utf8 text name (inr x) = IsUtf8-from_ascii text (low_ascii text (low_lab
 pub no_utf8 : (text : List ℕ) → (IsUtf8 text → ⊥) → SpellsNoName text
 no_utf8 text not name spells = not (spelled_utf8 text name spells)
 
--- nor does what can't be read as one
+-- nor does what can't be parsed as one
 pub unread : {X : Type 0} {holder : Ghosts X} (text : List ℕ) (result : Result (Name X holder) FromStrError) (e : FromStrError) → result ≡ Err e → ReadsName ⊥ text result → SpellsNoName text
 unread text result (Presentation f) is reads name spells = text_name_or_fault_not_both text name f spells (subst (ReadsName ⊥ text) is reads)
 unread text result ShortBuf is reads name spells = subst (ReadsName ⊥ text) is reads

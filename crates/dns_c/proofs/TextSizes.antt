@@ -9,7 +9,7 @@ use Rattle.dns_name.specs.NameTexts.{octet_text, label_text, name_text}
 octet_short : (o : ℕ) → length (octet_text o) ≤ 4
 octet_short o = grind (arith, nat_tests)
 
--- four octets for each of a label
+-- at most four octets for each octet of a label
 label_short : (label : List ℕ) → length (label_text label) ≤ 4 * length label
 label_short [] = omega arith
 label_short (o ∷ label) =
@@ -18,7 +18,7 @@ label_short (o ∷ label) =
     let both = length-append (octet_text o) (label_text label) in
     omega arith
 
--- by the octets that its labels take, and how many they are
+-- a bound by the size of the name and its number of labels
 sized : (label : List ℕ) (name : Labels) → length (name_text (label ∷ name)) + 3 * length (label ∷ name) + 1 ≤ 4 * name_size (label ∷ name)
 sized label [] = let one = label_short label in omega arith
 sized label (next ∷ name) =
@@ -27,7 +27,7 @@ sized label (next ∷ name) =
     let both = length-append (label_text label) (46 ∷ name_text (next ∷ name)) in
     omega arith
 
--- by how many labels there are
+-- a bound by the number of labels
 counted : (label : List ℕ) (name : Labels) → All IsLabel (label ∷ name) → length (name_text (label ∷ name)) ≤ 253 * length (label ∷ name)
 counted label [] are = let one = label_short label in let short = (All-head IsLabel label [] are).short in omega arith
 counted label (next ∷ name) are =
@@ -37,7 +37,7 @@ counted label (next ∷ name) are =
     let both = length-append (label_text label) (46 ∷ name_text (next ∷ name)) in
     omega arith
 
--- no name's text has more than 1,003 octets
+-- the text of a name has at most 1,003 octets
 pub name_text_short : (name : Labels) → IsName name → length (name_text name) ≤ 1003
 name_text_short [] is = omega arith
 name_text_short (label ∷ name) is =

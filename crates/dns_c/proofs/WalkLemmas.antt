@@ -1,4 +1,4 @@
--- What is left of a walk, step by step.
+-- What is still to come in an iteration, step by step.
 use Rattle.std.proofs.Common.{◌≡◌, ◌∙◌, ℕ, zero, suc, ◌+◌, ◌<◌, ◌≤◌, ◌⊎◌, inl, inr, List, [], ◌∷◌, length, map, ap, sym, refl, subst, arith}
 use Rattle.std.proofs.lemmas.Option.{slice_get_past}
 use Rattle.std.specs.Prelude.{Option, Some, None, Result, Ok, Err, slice_get, IfOk, IfErr}
@@ -38,7 +38,7 @@ use Rattle.dns_c.specs.declared.walk.Header.{Header}
 use Rattle.dns_c.specs.declared.walk.Item.{Item}
 use Rattle.dns_c.specs.Walk.{Entry, Asked, Stated, Given, walk_of, asked_then, stated_then, behind_section, records_left, questions_end, section_at, count_at, left_at}
 
--- The place behind questions.
+-- The offset after questions.
 
 module _ {Passes : ℕ → ℕ → Type 0} {Stops : ℕ → Fault → Type 0} (h : EndsOrFaults Passes Stops) where
   found_end : (p q : ℕ) (s : ((q : ℕ) × Passes p q) ⊎ ((f : Fault) × Stops p f)) → Passes p q → found s ≡ Some q
@@ -63,7 +63,7 @@ module _ (b : List ℕ) where
   end_by n p q skips (inl r) = end_passed (suc n) p r.0 (more skips r.1) ∙ sym (end_passed n q r.0 r.1)
   end_by n p q skips (inr f) = end_stopped (suc n) p f.0 (behind skips f.1) ∙ sym (end_stopped n q f.0 f.1)
 
-  -- behind a question there is one less to pass
+  -- after a question there is one less to skip
   end_behind : (n p q : ℕ) → SkipsQuestion b p q → questions_end b (suc n) p ≡ questions_end b n q
   end_behind n p q skips = end_by n p q skips ((questions_pass_or_stop b n).some q)
 
@@ -92,7 +92,7 @@ module _ (b : List ℕ) where
 
   -- Records.
 
-  -- what is left, by what is read of a section
+  -- what is still to come, by what is read of a section
   abbrev by_reading : Section → ℕ → List (Result RecordEntry Fault) → List Given
   by_reading which p xs = let ys = map (in_octets b) xs in stated_then which ys (behind_section which b (records_end p ys))
 
@@ -131,7 +131,7 @@ module _ (b : List ℕ) where
   unfolding left_at
   nothing_left p = none_then Additional p
 
--- as a cursor moves on to the next section
+-- how a cursor moves on to the next section
 pub moved_on : (b : List ℕ) (s n m p : ℕ) → n ≡ 0 → s < 3 → m ≡ count_at b (s + 1) → left_at b (s + 1) m p ≡ left_at b s n p
 moved_on b s n m p empty less counted =
     let next : s + 1 ≡ suc s = omega arith in
@@ -167,7 +167,7 @@ entry_of_record b cursor (Ok found) s at below h =
 entry_of_record b cursor (Err e) s at below h =
     λ n more. ap (λ t. left_at b t cursor.left cursor.place) at ∙ ap (λ k. left_at b (suc s) k cursor.place) more ∙ record_fault b s n cursor.place (fault_of e) h
 
--- An entry's data lies within the octets.
+-- An entry's RDATA lies within the message.
 
 told_within : (b : List ℕ) (item : Item) (x : Entry) → Tells b item x → item.«data» + item.data_len ≤ length b
 told_within b item (Asked x) h = let none_there = h.data_len in let within = h.within in omega arith
@@ -177,7 +177,7 @@ pub answered_within : (b : List ℕ) (cursor : Cursor) (r : Result (Item × ℕ)
 answered_within b cursor (Ok found) h = told_within b found.0 h.0 h.1
 answered_within b cursor (Err e) h = tt
 
--- It begins at the cursor, and is of the cursor's section.
+-- An entry begins at the cursor, and belongs to the cursor's section.
 
 pub placed_question : (b : List ℕ) (cursor : Cursor) (r : Result (Item × ℕ) ParseError) → cursor.section ≡ 0 → AnswersQuestion b cursor.place r
     → IfOk r (λ found. Spans found.0 cursor.place found.1) → IfOk r (λ found. Spans found.0 cursor.place found.1 × (found.0.section ≡ cursor.section))
@@ -189,7 +189,7 @@ pub placed_record : (b : List ℕ) (cursor : Cursor) (r : Result (Item × ℕ) P
 placed_record b cursor (Ok found) h spans = (spans, h.3)
 placed_record b cursor (Err e) h spans = tt
 
--- A fault of its form is one of the name with which it begins.
+-- If an entry is malformed (`Form`), its name is.
 
 pub question_form : (b : List ℕ) (p : ℕ) (r : Result (Item × ℕ) ParseError) → AnswersQuestion b p r → IfErr r (λ e. fault_of e ≡ Form → FaultAt b p Form)
 question_form b p (Ok found) h = tt
@@ -215,7 +215,7 @@ at_the_fault b m old new f same left other fault =
     let one = positive new.left other in
     sym kept ∙ fault one.0 one.1
 
--- Past the octets nothing stands.
+-- Past the end, every read is `ShortInput`.
 
 past_head : (b : List ℕ) (p : ℕ) → length b < p → head_at b p ≡ Err ShortInput
 unfolding head_at
@@ -229,7 +229,7 @@ past_end b p e past short =
 
 -- The beginning.
 
--- all records of a reading without a fault are passed
+-- all records of a reading without an error are skipped
 passed_all : (b : List ℕ) {n p : ℕ} {xs : List (Result RecordEntry Fault)} → Reading (ReadsRecord b) (RecordFaultAt b) n p xs → HasNoFault (map (in_octets b) xs)
     → Passed (SkipsRecord b) n p (records_end p (map (in_octets b) xs))
 passed_all b no_entry h = none
@@ -237,7 +237,7 @@ passed_all b (entry {n = n} {q = q} {xs = xs} reads rest) h =
     more reads.skips (subst (λ e. Passed (SkipsRecord b) n q (records_end e (map (in_octets b) xs))) (sym reads.data_end) (passed_all b rest h.1))
 passed_all b (stop {f = f} fault) h = let refused = h.0 in absurd (cc)
 
--- so the next section starts where the last of them ends
+-- so the next section begins where the last of them ends
 next_start : (which next : Section) (b : List ℕ) (p : ℕ) → section_behind which ≡ Some next → StartsAt which b p
     → let xs = records_in b (record_count which b) p in HasNoFault xs → StartsAt next b (records_end p xs)
 unfolding records_in
@@ -245,14 +245,14 @@ next_start which next b p follows_it start faultless =
     let n = record_count which b in
     starts_behind which next b p (records_end p (records_in b n p)) follows_it start (passed_all b ((records_from_are_read b).reading n p) faultless)
 
--- what follows a reading counts only where that has no fault
+-- what follows a reading matters only if it has no error
 ends_alike : (which : Section) (xs : List (Result StandingRecord Fault)) (us vs : List Given) → (HasNoFault xs → us ≡ vs) → stated_then which xs us ≡ stated_then which xs vs
 ends_alike which [] us vs same = same tt
 ends_alike which (Ok x ∷ xs) us vs same = ap (λ (ys : List Given). Ok (Stated which x.entry) ∷ ys) (ends_alike which xs us vs (λ h. same (refl, h)))
 ends_alike which (Err f ∷ xs) us vs same = refl
 
 module _ (b : List ℕ) where
-  -- what the sections give by their readings
+  -- what the sections yield, by their readings
   abbrev additionals_of : List Given
   additionals_of = stated_then Additional (records_of Additional b) []
 
@@ -282,7 +282,7 @@ module _ (b : List ℕ) where
       (λ faultless. from_authorities (records_end p xs) (next_start Answer Authority b p refl start faultless))
       ∙ ap (λ ys. stated_then Answer ys authorities_of) (reading_at Answer p start)
 
-  -- where the answer section has no start, no section has one
+  -- if the answer section has no start, no section has one
   none_behind : (f : Fault) → AnswersFault b f → answers_of ≡ []
   none_behind f fault =
       ap (λ xs. stated_then Answer xs authorities_of) (no_reading Answer b (no_answers b f fault))
@@ -293,7 +293,7 @@ module _ (b : List ℕ) where
   by_start (inl start) = ap (follows b) (end_passed b (question_count b) header_size start.0 start.1) ∙ from_answers start.0 start.1
   by_start (inr fault) = ap (follows b) (end_stopped b (question_count b) header_size fault.0 fault.1) ∙ sym (none_behind fault.0 fault.1)
 
-  -- a cursor before the first question has the whole walk left
+  -- before the first question, a cursor has all entries still to come
   pub begun : left_at b 0 (question_count b) header_size ≡ walk_of b
   unfolding left_at
   begun = ap (asked_then (questions_of b)) (by_start ((questions_pass_or_stop b (question_count b)).some header_size))

@@ -1,4 +1,4 @@
--- What `dns_build` makes of the items that C hands in, and why it makes nothing. RFC 1035 section 4.1.
+-- What `dns_build` writes for the items that C passes, and why it fails. RFC 1035 section 4.1.
 use Rattle.std.specs.Prelude.{◌≡◌, ◌<◌, ◌≤◌, ◌⊎◌, ◌++◌, ℕ, Bool, List, [], ◌∷◌, length, Option, Some, None, Result, Err}
 use Rattle.std.specs.Int.{to_be_bytes, w16}
 use Rattle.std.specs.List.{filter_map}
@@ -25,20 +25,20 @@ use Rattle.dns_c.specs.Walk.{section_at}
 use Rattle.dns_c.specs.declared.code.Fault.TheVariants as faults
 use Rattle.dns_c.specs.declared.build.NewItem.{NewItem}
 
--- What C hands in.
+-- What C passes.
 
--- an entry to be written: a question, or a record of a section
+-- an entry to write: a question, or a record of a section
 pub data NewEntry : Type 0 where
   Question : QuestionItem → NewEntry
   Record : Section → RecordItem → NewEntry
 
--- an item as a question: the name that the text spells, type and class; TTL and data play no part
+-- an item as a question: the name that the text spells, its type and its class; TTL and RDATA are ignored
 pub record IsQuestionOf (item : NewItem) (x : QuestionItem) : Type 0 where
   pub name : SpellsName item.name.now x.name
   pub rtype : x.rtype ≡ item.rtype
   pub class : x.class ≡ item.class
 
--- an item as a record: also the TTL, and the octets of the data as they are
+-- an item as a record: also its TTL, and its RDATA as given
 pub record IsRecordOf (item : NewItem) (x : RecordItem) : Type 0 where
   pub owner : SpellsName item.name.now x.owner
   pub rtype : x.rtype ≡ item.rtype
@@ -47,21 +47,21 @@ pub record IsRecordOf (item : NewItem) (x : RecordItem) : Type 0 where
   pub parts : x.parts ≡ Octets item.rdata.now ∷ []
   pub short : length item.rdata.now ≤ 65535
 
--- an item is this entry: section 0 is that of the questions, and 1 to 3 are those of records
+-- an item is this entry: section 0 is the question section, 1 to 3 are those of records
 abbrev pub Means : NewItem → NewEntry → Type 0
 Means item (Question x) = (item.section ≡ 0) × IsQuestionOf item x
 Means item (Record which x) = (1 ≤ item.section) × (item.section ≤ 3) × (section_at item.section ≡ which) × IsRecordOf item x
 
--- so of each item, in their order
+-- each item is the entry at its index
 abbrev pub AllMean : List NewItem → List NewEntry → Type 0
 AllMean [] [] = Unit {0}
 AllMean [] (x ∷ xs) = ⊥
 AllMean (item ∷ items) [] = ⊥
 AllMean (item ∷ items) (x ∷ xs) = Means item x × AllMean items xs
 
--- What is made of it.
+-- What is written.
 
--- an entry as a question, if it is one, or as a record of this section
+-- an entry as a question, if it is one; as a record of this section, if it is one
 abbrev pub as_question : NewEntry → Option QuestionItem
 as_question (Question x) = Some x
 as_question (Record which x) = None
@@ -72,18 +72,18 @@ as_record Authority (Record Authority x) = Some x
 as_record Additional (Record Additional x) = Some x
 as_record which _ = None
 
--- the questions among entries, and the records of a section, in their order
+-- the questions among entries, and the records of a section, in order
 abbrev pub questions_among : List NewEntry → List QuestionItem
 questions_among xs = filter_map as_question xs
 
 abbrev pub records_among : Section → List NewEntry → List RecordItem
 records_among which xs = filter_map (as_record which) xs
 
--- the header of an ID, and of flags that are its third and fourth octet
+-- the header with this ID, whose third and fourth octets are `flags`
 abbrev pub header_of : ℕ → ℕ → Header
 header_of id flags = record { octets = to_be_bytes w16 id ++ to_be_bytes w16 flags }
 
--- a header, and entries in their sections, in their order
+-- the state of a builder with this header and these entries, each in its section, in order
 abbrev pub holding : Header → List NewEntry → State
 holding header xs = record fresh {
   stage = InAdditional;
@@ -94,49 +94,49 @@ holding header xs = record fresh {
   additionals = records_among Additional xs;
 }
 
--- the octets of a message with this header and with the entries that the items are, names written by a rule
+-- the octets of a message with this header and the entries that the items are, its names written by `rule`
 pub record IsBuilt (rule : Rule) (id flags : ℕ) (items : List NewItem) (octets : List ℕ) : Type 0 where
   pub entries : List NewEntry
   pub mean : AllMean items entries
   pub message : IsMessageOf rule (holding (header_of id flags) entries) octets
 
--- Why nothing is made.
+-- Why nothing is written.
 
--- an item has no name, or too much data
+-- an item has no valid name, or too much RDATA
 abbrev pub LacksFields : NewItem → ℕ → Type 0
 LacksFields item n =
     (SpellsNoName item.name.now × (n ≡ number_of faults.BadText))
     ⊎ (((name : Labels) × SpellsName item.name.now name) × (65535 < length item.rdata.now) × (n ≡ number_of faults.LongData))
 
--- An item is no entry: its section is none, its text spells no name, or it is a record of too much data; the first of these. The number tells which.
+-- An item is no entry, and the number says why: the first of a bad section, a text that spells no name, and too much RDATA of a record.
 abbrev pub IsRefused : NewItem → ℕ → Type 0
 IsRefused item n =
     ((3 < item.section) × (n ≡ number_of faults.BadSection))
     ⊎ ((item.section ≡ 0) × SpellsNoName item.name.now × (n ≡ number_of faults.BadText))
     ⊎ ((1 ≤ item.section) × (item.section ≤ 3) × LacksFields item n)
 
--- the first item that is no entry is refused by this number
+-- the first item that is no entry is refused with this number
 abbrev pub FirstRefused : List NewItem → ℕ → Type 0
 FirstRefused [] n = ⊥
 FirstRefused (item ∷ items) n = IsRefused item n ⊎ (((x : NewEntry) × Means item x) × FirstRefused items n)
 
--- the state in which a stage begins: the header, and the entries of the sections before it
+-- the state at which a stage begins: the header, and the entries of the sections before it
 abbrev pub beginning_of : Stage → Header → List NewEntry → State
 beginning_of stage header xs = rewound stage (move_to stage (holding header xs))
 
--- what a push of a record onto a state answers
+-- what pushing a record onto a state returns
 abbrev pub AnswersRecordPush : Option ℕ → Bool → Rule → Stage → RecordItem → State → Result (Unit {0}) PushError → Type 0
 AnswersRecordPush room grows rule stage x s = PushAnswers room grows s.limit (size_after rule (with_record stage x) s) (length (records_at stage s))
 
--- Why a target refuses what is written, and the number that tells it. Room, growth and rule are the target's.
+-- Why a target refuses what is written, and the number that reports it. `room`, `grows` and `rule` are the target's capacity, whether it allocates, and how it writes names.
 module _ (room : Option ℕ) (grows : Bool) (rule : Rule) where
-  -- the octets of the header section are refused. RFC 1035 section 4.1.1
+  -- the target refuses the header section. RFC 1035 section 4.1.1
   pub record RefusesHeader (n : ℕ) : Type 0 where
     pub error : AppendError
     pub refused : Answers {X = Unit {0}} room grows header_size (Err error)
     pub number : n ≡ number_of (append_fault error)
 
-  -- of these questions the first stand in a state, and the push of the next one is refused. RFC 1035 section 4.1.2
+  -- the first of these questions are pushed onto a state, and pushing the next one fails. RFC 1035 section 4.1.2
   pub record RefusesQuestion (xs : List QuestionItem) (s : State) (n : ℕ) : Type 0 where
     pub first : List QuestionItem
     pub next : QuestionItem
@@ -146,7 +146,7 @@ module _ (room : Option ℕ) (grows : Bool) (rule : Rule) where
     pub refused : AnswersQuestion room grows rule next (with_questions first s) (Err error)
     pub number : n ≡ number_of (push_fault error)
 
-  -- so of the records of a stage. RFC 1035 section 4.1.3
+  -- the first of these records of a stage are pushed onto a state, and pushing the next one fails. RFC 1035 section 4.1.3
   pub record RefusesRecord (stage : Stage) (xs : List RecordItem) (s : State) (n : ℕ) : Type 0 where
     pub first : List RecordItem
     pub next : RecordItem
@@ -156,17 +156,17 @@ module _ (room : Option ℕ) (grows : Bool) (rule : Rule) where
     pub refused : AnswersRecordPush room grows rule stage next (with_records stage first s) (Err error)
     pub number : n ≡ number_of (push_fault error)
 
-  -- an entry is refused, behind a header and the entries before it. RFC 1035 section 4.1
+  -- pushing an entry fails, after the header and the entries before it. RFC 1035 section 4.1
   abbrev pub RefusesEntry : Header → List NewEntry → ℕ → Type 0
   RefusesEntry header xs n =
       RefusesQuestion (questions_among xs) (beginning_of InQuestion header xs) n
       ⊎ ((which : Section) × RefusesRecord (stage_of which) (records_among which xs) (beginning_of (stage_of which) header xs) n)
 
-  -- No message is made of items: one of them is no entry; or all are, and the target refuses the header section or an entry.
+  -- No message is built from the items: one of them is no entry; or all are, and the target refuses the header section or an entry.
   abbrev pub IsUnbuilt : Header → List NewItem → ℕ → Type 0
   IsUnbuilt header items n = FirstRefused items n ⊎ ((xs : List NewEntry) × AllMean items xs × (RefusesHeader n ⊎ RefusesEntry header xs n))
 
--- all items are entries, and a section has more of them than its count can tell. RFC 1035 section 4.1.1
+-- all items are entries, and a section has more of them than its 16-bit count can hold. RFC 1035 section 4.1.1
 abbrev pub HasTooMany : List NewItem → Type 0
 HasTooMany items =
     (xs : List NewEntry) × AllMean items xs × ((most_entries < length (questions_among xs)) ⊎ ((which : Section) × (most_entries < length (records_among which xs))))

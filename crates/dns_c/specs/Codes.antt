@@ -1,4 +1,4 @@
--- The numbers by which C sees what is wrong, as dns.h has them.
+-- The numbers by which C sees errors, as in dns.h.
 use Rattle.std.specs.Prelude.{◌≡◌, ℕ, ◌≤◌, Bool, true, false, Result, Ok, Err}
 use Rattle.dns_octets.specs.declared.error.AppendError.{AppendError}
 use Rattle.dns_octets.specs.declared.error.AppendError.TheVariants as appending
@@ -28,23 +28,23 @@ number_of faults.OtherOpcode = 15
 number_of faults.OtherClass = 16
 number_of faults.OtherType = 17
 
--- 0 where something is given, 1 at the end, else the number of the fault
+-- the status of a call: 0 if there is an item, 1 at the end, otherwise the number of the fault
 abbrev pub code_of : Result Bool Fault → ℕ
 code_of (Ok true) = 0
 code_of (Ok false) = 1
 code_of (Err fault) = number_of fault
 
--- a number that tells the fault of octets: 2 that one isn't there, 3 to 5 that they aren't as they have to be
+-- the number reports this fault of octets: 2 that an octet is missing, 3 to 5 that a name is malformed
 abbrev pub TellsFault : FaultThere → ℕ → Type 0
 TellsFault ShortInput n = n ≡ 2
 TellsFault Form n = (3 ≤ n) × (n ≤ 5)
 
--- the fault that a target's refusal is
+-- the fault that reports an append error
 abbrev pub append_fault : AppendError → Fault
 append_fault appending.ShortBuf = faults.NoRoom
 append_fault appending.OutOfMemory = faults.NoMemory
 
--- the fault that a refused push is; no builder has a limit but the greatest number of 64 bits, for which there is no memory
+-- the fault that reports a push error; builders keep the default limit of 2^64 - 1 octets, so exceeding it means out of memory
 abbrev pub push_fault : PushError → Fault
 push_fault pushing.ShortBuf = faults.NoRoom
 push_fault pushing.OutOfMemory = faults.NoMemory

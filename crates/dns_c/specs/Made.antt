@@ -1,4 +1,4 @@
--- Messages of one name that are handed out, and why there is none. RFC 1035 section 4.1.
+-- Queries and responses that are returned to C, and why there is none. RFC 1035 section 4.1.
 use Rattle.std.specs.Prelude.{◌≡◌, ◌≢◌, ◌<◌, ◌≤◌, ◌⊎◌, ℕ, Bool, false, true, List, [], ◌∷◌, length, take, replicate}
 use Rattle.dns_name.specs.Names.{Fault, FaultAt, Labels}
 use Rattle.dns_name.specs.NameTexts.{SpellsName}
@@ -21,27 +21,27 @@ use Rattle.dns_c.specs.declared.code.Fault.TheVariants as faults
 abbrev pub SpellsNoName : List ℕ → Type 0
 SpellsNoName text = (name : Labels) → SpellsName text name → ⊥
 
--- no name can be read at a place, and the number tells why
+-- no name can be read at offset p, and the number says why
 abbrev pub LacksName : List ℕ → ℕ → ℕ → Type 0
 LacksName b p n = (f : Fault) × FaultAt b p f × TellsAt b p f n
 
--- octets that are more than so many, of which this holds
+-- some octets with this property are more than `room`
 abbrev pub IsLonger : (List ℕ → Type 0) → ℕ → Type 0
 IsLonger P room = (octets : List ℕ) × P octets × (room < length octets)
 
--- a header and one question
+-- the state with a header and one question
 abbrev pub asking : Header → QuestionItem → State
 asking header x = record fresh { stage = InQuestion; header = header; questions = x ∷ [] }
 
--- with one record in the answer section
+-- the state with one record in the answer section too
 abbrev pub answering : Header → QuestionItem → RecordItem → State
 answering header x answer = record (asking header x) { stage = InAnswer; answers = answer ∷ [] }
 
--- the address of what is asked for: a record of type A, of the same name and class. RFC 1035 section 3.4.1
+-- the A record that answers a question, with its name and class. RFC 1035 section 3.4.1
 abbrev pub address_record : QuestionItem → ℕ → List ℕ → RecordItem
 address_record x ttl address = record { owner = x.name; rtype = 1; class = x.class; ttl = ttl; parts = Octets address ∷ [] }
 
--- The octets of a query: those of a message with this ID and RD and no other bit set, and the question of a name that the text spells.
+-- The octets of a query: a header with this ID and RD and no other bit set, and one question for the name that the text spells.
 pub record IsQuery (id : ℕ) (rd : Bool) (text : List ℕ) (qtype qclass : ℕ) (octets : List ℕ) : Type 0 where
   pub header : Header
   pub name : Labels
@@ -49,7 +49,7 @@ pub record IsQuery (id : ℕ) (rd : Bool) (text : List ℕ) (qtype qclass : ℕ)
   pub spelled : SpellsName text name
   pub message : IsMessageOf Plain (asking header (record { name = name; rtype = qtype; class = qclass })) octets
 
--- the octets have a header section, which is that of a query: QR isn't set. RFC 1035 section 4.1.1
+-- the octets have a header section, and it is a query's: QR isn't set. RFC 1035 section 4.1.1
 pub record HoldsQuery (b : List ℕ) : Type 0 where
   pub long : header_size ≤ length b
   pub query : (fields_in (take 4 b)).qr ≡ false
@@ -59,20 +59,20 @@ pub record HoldsStandardQuery (b : List ℕ) : Type 0 where
   pub query : HoldsQuery b
   pub opcode : (fields_in (take 4 b)).opcode ≡ 0
 
--- with one question, and it can be read
+-- a standard query with exactly one question, which can be read
 pub record AsksOne (b : List ℕ) (x : QuestionItem) : Type 0 where
   pub standard : HoldsStandardQuery b
   pub one : question_count b ≡ 1
   pub behind : ℕ
   pub reads : ReadsQuestion b header_size behind x
 
--- it asks for addresses of the class IN: for type A, or for all types. RFC 1035 sections 3.2.2 to 3.2.4
+-- the question asks for IPv4 addresses: class IN, and type A or ANY. RFC 1035 sections 3.2.2 to 3.2.4
 pub record Asks (b : List ℕ) (x : QuestionItem) : Type 0 where
   pub question : AsksOne b x
   pub class : x.class ≡ 1
   pub rtype : (x.rtype ≡ 1) ⊎ (x.rtype ≡ 255)
 
--- They don't: they are fewer than a header section's, or a response, or another opcode's; or there isn't one question, or it can't be read, or is of another class or type. The first of these is told.
+-- The octets are no such query, and the number says why. It is the first of: shorter than a header section, a response, another opcode, not one question, a malformed question, another class, another type.
 abbrev pub AsksNothing : List ℕ → ℕ → Type 0
 AsksNothing b n =
     ((length b < header_size) × (n ≡ number_of faults.ShortInput))
@@ -83,7 +83,7 @@ AsksNothing b n =
     ⊎ (((x : QuestionItem) × AsksOne b x × (x.class ≢ 1)) × (n ≡ number_of faults.OtherClass))
     ⊎ (((x : QuestionItem) × AsksOne b x × (x.class ≡ 1) × (x.rtype ≢ 1) × (x.rtype ≢ 255)) × (n ≡ number_of faults.OtherType))
 
--- The octets of the response to a query: its ID, opcode, RD and CD, QR and AA, and no other bit; its question; and the address. RFC 1035 section 4.1.1.
+-- The octets of the response to a query: its ID, opcode, RD and CD, QR, AA as given, and no other bit; its question; and the A record. RFC 1035 section 4.1.1.
 pub record IsResponse (query : List ℕ) (aa : Bool) (ttl : ℕ) (address octets : List ℕ) : Type 0 where
   pub header : Header
   pub asked : QuestionItem

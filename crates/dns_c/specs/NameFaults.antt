@@ -1,6 +1,6 @@
--- Which fault of its form a name has where it stands. RFC 1035 sections 2.3.4 and 4.1.4.
+-- How a name is malformed. RFC 1035 sections 2.3.4 and 4.1.4.
 --
--- `b` are the octets that are seen.
+-- `b` are the octets that the parser sees.
 use Rattle.std.specs.Prelude.{◌≡◌, ◌⊎◌, ℕ, ◌+◌, ◌<◌, ◌≤◌, List, length, Ok, Err}
 use Rattle.dns_name.specs.Names.{Fault as FaultThere, Faulty, head_at, max_size}
 use Rattle.dns_name.specs.Names.Fault.{Form}
@@ -9,26 +9,26 @@ use Rattle.dns_c.specs.Codes.{TellsFault, number_of}
 use Rattle.dns_c.specs.declared.code.Fault.{Fault}
 use Rattle.dns_c.specs.declared.code.Fault.TheVariants as faults
 
--- Faults are met from the left. At p, behind labels of the size s, a name isn't formed as it has to be, for this reason.
+-- The name at p, whose labels so far take s octets, is malformed for this reason. The leftmost reason counts.
 pub data Misformed (b : List ℕ) : ℕ → ℕ → Fault → Type 0 where
-  -- the high bits of an octet that begins a label are 01 or 10
+  -- the high bits of a length octet are 01 or 10
   bits : {p s : ℕ} → head_at b p ≡ Err Form → Misformed b p s faults.BadLabel
-  -- a label with which the name is too long
+  -- with this label, the name is too long
   long : {p n s : ℕ} → head_at b p ≡ Ok (Label n) → max_size < s + n + 1 → Misformed b p s faults.LongName
-  -- a pointer that doesn't lead back
+  -- a pointer that doesn't lead to a smaller offset
   ahead : {p t s : ℕ} → head_at b p ≡ Ok (Pointer t) → p ≤ t → Misformed b p s faults.BadPointer
-  -- so behind a label
+  -- the name is malformed after a label
   label : {p n s : ℕ} {f : Fault} → head_at b p ≡ Ok (Label n) → s + n + 1 ≤ max_size → p + 1 + n ≤ length b
       → Misformed b (p + 1 + n) (s + n + 1) f → Misformed b p s f
-  -- or where a pointer leads
+  -- the name is malformed where a pointer leads
   pointer : {p t s : ℕ} {f : Fault} → head_at b p ≡ Ok (Pointer t) → t < p → Misformed b t s f → Misformed b p s f
 
--- The number tells the fault of what begins with a name at a place: 2 that an octet isn't there; 3, 4 or 5 which fault of its form the name has.
+-- The number reports this fault of what begins with a name at p: 2 if an octet is missing; 3, 4 or 5 if the name is malformed, by how it is.
 pub record TellsAt (b : List ℕ) (p : ℕ) (f : FaultThere) (n : ℕ) : Type 0 where
   pub kind : TellsFault f n
   pub form : f ≡ Form → (fault : Fault) × Misformed b p 0 fault × (n ≡ number_of fault)
 
--- A label or a pointer at p, behind labels of the size s, leads on to q, behind labels of the size t: back, or behind more labels. A fault of the form there is that of p.
+-- The label or pointer at p, after labels of s octets, leads to q, after labels of t octets: to a smaller offset, or after more labels. If the name is malformed from q on, it is so from p on.
 pub record LeadsOn (b : List ℕ) (p s q t : ℕ) : Type 0 where
   pub within : q ≤ length b
   pub short : t ≤ max_size

@@ -1,4 +1,4 @@
--- What a call of `dns_next` gives, and where that leaves the cursor. RFC 1035 section 4.1.
+-- What a call of `dns_next` returns, and where it leaves the cursor. RFC 1035 section 4.1.
 --
 -- `b` are the octets of the message.
 use Rattle.std.specs.Prelude.{◌≡◌, ℕ, suc, ◌+◌, ◌≤◌, List, [], ◌∷◌, length, take, Bool, true, false, Result, Ok, Err}
@@ -18,17 +18,17 @@ use Rattle.dns_c.specs.declared.walk.Cursor.{Cursor}
 use Rattle.dns_c.specs.declared.walk.Header.{Header}
 use Rattle.dns_c.specs.declared.walk.Item.{Item}
 
--- what is left of the walk from a cursor on
+-- the entries still to come at a cursor
 abbrev pub left_from : List ℕ → Cursor → List Given
 left_from b cursor = left_at b cursor.section cursor.left cursor.place
 
--- a cursor over a message, which nothing is wrong with
+-- a cursor over a message that has reported no error
 pub record IsOpen (b : List ℕ) (cursor : Cursor) : Type 0 where
   pub long : header_size ≤ length b
   pub section : cursor.section ≤ 3
   pub status : cursor.status ≡ 0
 
--- the header and the counts that C is given
+-- the header and the counts that C gets
 pub record IsHeader (b : List ℕ) (header : Header) : Type 0 where
   pub id : header.id ≡ (fields_in (take 4 b)).id
   pub flags : header.flags ≡ number_in (take 4 b) 2
@@ -36,7 +36,7 @@ pub record IsHeader (b : List ℕ) (header : Header) : Type 0 where
   pub opcode : header.opcode ≡ (fields_in (take 4 b)).opcode
   pub rcode : header.rcode ≡ (fields_in (take 4 b)).rcode
 
--- what a call of `dns_open` gives: the header, and a cursor before the first question, that has the whole walk left
+-- what `dns_open` returns: the header, and a cursor before the first question, with all entries still to come
 pub record Opens (b : List ℕ) (header : Header) (cursor : Cursor) : Type 0 where
   pub fields : IsHeader b header
   pub is_open : IsOpen b cursor
@@ -45,7 +45,7 @@ pub record Opens (b : List ℕ) (header : Header) (cursor : Cursor) : Type 0 whe
   pub left : cursor.left ≡ question_count b
   pub walk : left_from b cursor ≡ walk_of b
 
--- the item that C is given is this question
+-- the item that C gets describes this question
 pub record TellsQuestion (b : List ℕ) (item : Item) (x : QuestionItem) : Type 0 where
   pub section : item.section ≡ 0
   pub name : Stands b item.place x.name
@@ -55,7 +55,7 @@ pub record TellsQuestion (b : List ℕ) (item : Item) (x : QuestionItem) : Type 
   pub data_len : item.data_len ≡ 0
   pub within : item.«data» ≤ length b
 
--- the item is this record
+-- the item describes this record
 pub record TellsRecord (b : List ℕ) (item : Item) (x : RecordEntry) : Type 0 where
   pub name : Stands b item.place x.owner
   pub rtype : item.rtype ≡ x.rtype
@@ -65,39 +65,39 @@ pub record TellsRecord (b : List ℕ) (item : Item) (x : RecordEntry) : Type 0 w
   pub data_end : item.«data» + item.data_len ≡ x.data_end
   pub within : item.«data» + item.data_len ≤ length b
 
--- the item is this entry; the section of a record is a number from 1 to 3
+-- the item describes this entry; the section of a record is a number from 1 to 3
 abbrev pub Tells : List ℕ → Item → Entry → Type 0
 Tells b item (Asked x) = TellsQuestion b item x
 Tells b item (Stated which x) = TellsRecord b item x × (1 ≤ item.section) × (item.section ≤ 3) × (section_at item.section ≡ which)
 
--- an item begins at the first place, and its data ends at the second; that of a question is empty, and stands behind its class
+-- an item begins at p, and its RDATA ends at q; a question has none, and ends at q
 pub record Spans (item : Item) (p q : ℕ) : Type 0 where
   pub start : item.place ≡ p
   pub end : item.«data» + item.data_len ≡ q
 
--- What reading at a cursor answers, where one more entry is to come: the first that is left and the place behind it, or the fault that is left.
+-- What reading at a cursor returns if one more entry is to come: that entry and the offset after it, or the error that is to come.
 abbrev pub AnswersEntry : List ℕ → Cursor → Result (Item × ℕ) ParseError → Type 0
 AnswersEntry b cursor (Ok found) =
     (x : Entry) × Tells b found.0 x × ((n : ℕ) → cursor.left ≡ suc n → left_from b cursor ≡ Ok x ∷ left_at b cursor.section n found.1)
 AnswersEntry b cursor (Err e) = (n : ℕ) → cursor.left ≡ suc n → left_from b cursor ≡ Err (fault_of e) ∷ []
 
--- what reading a question at a place answers: it, and the place behind it, or the fault there
+-- what reading a question at p returns: the question and the offset after it, or the error there
 abbrev pub AnswersQuestion : List ℕ → ℕ → Result (Item × ℕ) ParseError → Type 0
 AnswersQuestion b p (Ok found) = (x : QuestionItem) × ReadsQuestion b p found.1 x × TellsQuestion b found.0 x
 AnswersQuestion b p (Err e) = QuestionFaultAt b p (fault_of e)
 
--- so of a record, of the section of a number
+-- what reading a record at p returns, for the section of a number
 abbrev pub AnswersRecord : List ℕ → ℕ → ℕ → Result (Item × ℕ) ParseError → Type 0
 AnswersRecord b section p (Ok found) = (x : RecordEntry) × ReadsRecord b p found.1 x × TellsRecord b found.0 x × (found.0.section ≡ section)
 AnswersRecord b section p (Err e) = RecordFaultAt b p (fault_of e)
 
--- An entry is given: the first that is left, and then the others are. Nothing is given where nothing is left. Or the fault that is left is answered, and the cursor keeps its number.
+-- The next entry is returned, and those after it remain. Or nothing is left, and nothing is returned. Or the error that is left is returned, and the cursor keeps its number.
 abbrev pub Steps : List ℕ → Cursor → Cursor → Item → Result Bool FaultGiven → Type 0
 Steps b old new item (Ok true) = (x : Entry) × (left_from b old ≡ Ok x ∷ left_from b new) × Tells b item x × IsOpen b new
 Steps b old new item (Ok false) = (left_from b old ≡ []) × (left_from b new ≡ []) × IsOpen b new
 Steps b old new item (Err fault) =
     (f : Fault) × (left_from b old ≡ Err f ∷ []) × TellsAt b old.place f (number_of fault) × (new.status ≡ number_of fault)
 
--- so by the number that C is answered
+-- what C gets from a call of `dns_next`, as a number
 abbrev pub GivesNext : List ℕ → Cursor → Cursor → Item → ℕ → Type 0
 GivesNext b old new item code = (answer : Result Bool FaultGiven) × (code ≡ code_of answer) × Steps b old new item answer

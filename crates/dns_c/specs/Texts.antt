@@ -1,4 +1,4 @@
--- Texts in a caller's buffer, and the text of a record's data. RFC 1035 section 5.1, RFC 3597 section 5.
+-- Text in a caller's buffer, and the text of RDATA. RFC 1035 section 5.1, RFC 3597 section 5.
 use Rattle.std.specs.Prelude.{◌≡◌, ℕ, ◌<◌, ◌≤◌, List, [], ◌∷◌, ◌++◌, drop, length, take, Option, Some, None}
 use Rattle.std.specs.List.{flat_map}
 use Rattle.dns_name.specs.Names.{Fault, Labels}
@@ -10,7 +10,7 @@ use Rattle.dns_item.specs.RecordReading.{up_to_data_end}
 use Rattle.dns_show.specs.Show.{shown_data, typed_parts}
 use Rattle.dns_c.specs.NameFaults.{TellsAt}
 
--- a buffer holds a text from its beginning up to this end; there is no end where the buffer is too short for the text
+-- the buffer holds a text from its beginning up to this end; the end is None if the buffer is too short for the text
 abbrev pub Holds : List ℕ → List ℕ → Option ℕ → Type 0
 Holds out text (Some end) = (end ≤ length out) × (take end out ≡ text)
 Holds out text None = length out < length text
@@ -19,22 +19,22 @@ Holds out text None = length out < length text
 abbrev pub absolute_name : Labels → List ℕ
 absolute_name name = name_text name ++ dot ∷ []
 
--- octets in hexadecimal digits, two for each
+-- octets in hexadecimal, two digits each
 abbrev pub hex_octets : List ℕ → List ℕ
 hex_octets octets = flat_map hex_octet octets
 
--- a record can be read at a place, and this is what is read of it
+-- the record x can be read at p
 abbrev pub RecordAt : List ℕ → ℕ → RecordEntry → Type 0
 RecordAt b p x = (q : ℕ) × ReadsRecord b p q x
 
--- no record can be read there, and the number tells why
+-- no record can be read at p, and the number says why
 abbrev pub NoRecordAt : List ℕ → ℕ → ℕ → Type 0
 NoRecordAt b p n = (f : Fault) × RecordFaultAt b p f × TellsAt b p f n
 
--- the octets of a record's data
+-- the octets of a record's RDATA
 abbrev pub data_octets : List ℕ → RecordEntry → List ℕ
 data_octets b x = drop x.data_start (up_to_data_end b x)
 
--- the text of a record's data, as `dnsmsg show` prints it: by its fields where its type has them and the data is of it, else as octets
+-- the text of RDATA, as `dnsmsg show` prints it: by its fields if it is well-formed data of a type with known fields, otherwise as octets
 abbrev pub data_text : List ℕ → RecordEntry → List ℕ
 data_text b x = let r : StandingRecord = record { octets = b; entry = x } in shown_data r (typed_parts r)

@@ -1,4 +1,4 @@
--- What a walk over a message gives: the entries of its four sections in order, up to the first fault. RFC 1035 section 4.1.
+-- What iterating over a message yields: the entries of its four sections in order, up to the first error. RFC 1035 section 4.1.
 --
 -- `b` are the octets of the message.
 use Rattle.std.specs.Prelude.{ℕ, zero, suc, List, [], ◌∷◌, Option, Result, Ok, Err}
@@ -22,65 +22,65 @@ pub data Entry : Type 0 where
   Asked : QuestionItem → Entry
   Stated : Section → RecordEntry → Entry
 
--- what is given: an entry, or a fault
+-- what an iteration yields: an entry, or an error
 abbrev pub Given : Type 0
 Given = Result Entry Fault
 
--- the questions of a reading, and behind them what follows; a fault ends all
+-- the questions of a reading, followed by `behind`; an error ends the list
 abbrev pub asked_then : List (Result QuestionItem Fault) → List Given → List Given
 asked_then [] behind = behind
 asked_then (Ok x ∷ xs) behind = Ok (Asked x) ∷ asked_then xs behind
 asked_then (Err f ∷ xs) behind = Err f ∷ []
 
--- so of the records of a section
+-- the records of a section, followed by `behind`; an error ends the list
 abbrev pub stated_then : Section → List (Result StandingRecord Fault) → List Given → List Given
 stated_then which [] behind = behind
 stated_then which (Ok x ∷ xs) behind = Ok (Stated which x.entry) ∷ stated_then which xs behind
 stated_then which (Err f ∷ xs) behind = Err f ∷ []
 
--- what a walk over a message gives: the readings of its four sections in order; the first fault ends it
+-- what iterating over a message yields: its four sections in order; the first error ends it
 abbrev pub walk_of : List ℕ → List Given
 walk_of b =
     asked_then (questions_of b)
     (stated_then Answer (records_of Answer b) (stated_then Authority (records_of Authority b) (stated_then Additional (records_of Additional b) [])))
 
--- What is left of a walk, by the section, how many of its entries are to come, and the place.
+-- What is still to come, by the section, the entries left in it, and the offset.
 
--- at most so many records of a section from a place on, and behind them what follows where the last of them ends
+-- at most n records of a section from offset p on, followed by what `behind` yields where the last of them ends
 abbrev pub records_then : Section → List ℕ → ℕ → (ℕ → List Given) → ℕ → List Given
 records_then which b n behind p = let xs = records_in b n p in stated_then which xs (behind (records_end p xs))
 
--- what the sections behind one give, where the next of them starts at a place
+-- what the sections after a section yield, if the next one begins at an offset
 abbrev pub behind_section : Section → List ℕ → ℕ → List Given
 behind_section Answer b = records_then Authority b (authority_count b) (records_then Additional b (additional_count b) (λ _. []))
 behind_section Authority b = records_then Additional b (additional_count b) (λ _. [])
 behind_section Additional b = λ _. []
 
--- at most so many records of a section from a place on, and the sections behind it
+-- at most n records of a section from p on, and the sections after it
 abbrev pub records_left : Section → List ℕ → ℕ → ℕ → List Given
 records_left which b n = records_then which b n (behind_section which b)
 
--- the place behind so many questions, if they can be passed
+-- the offset after n questions, if they can be skipped
 unfoldable pub questions_end : List ℕ → ℕ → ℕ → Option ℕ
 questions_end b n p = found ((questions_pass_or_stop b n).some p)
 
--- at most so many questions from a place on, and the sections of records
+-- at most n questions from p on, and the sections of records
 abbrev pub questions_left : List ℕ → ℕ → ℕ → List Given
 questions_left b n p = asked_then (questions_from b n p) (option_map_or (records_left Answer b (answer_count b)) (questions_end b n p) [])
 
--- the section of records of a number, 1 to 3
+-- the section of records with this number, 1 to 3
 abbrev pub section_at : ℕ → Section
 section_at zero = Answer
 section_at (suc zero) = Answer
 section_at (suc (suc zero)) = Authority
 section_at (suc (suc (suc n))) = Additional
 
--- the count of the section of a number, 0 for the questions
+-- the count of the section with this number; 0 is the question section
 abbrev pub count_at : List ℕ → ℕ → ℕ
 count_at b zero = question_count b
 count_at b (suc n) = record_count (section_at (suc n)) b
 
--- what is left, by the number of the section
+-- what is still to come, by the number of the section
 unfoldable pub left_at : List ℕ → ℕ → ℕ → ℕ → List Given
 left_at b zero n p = questions_left b n p
 left_at b (suc s) n p = records_left (section_at (suc s)) b n p

@@ -1,4 +1,4 @@
-//! The message of items that a caller hands in.
+//! Builds a message from the items that a caller passes.
 ghost use Rattle.std.specs.Prelude.{◌≡◌, ◌∷◌, List, [], None, true, IfOk, IfErr, OnOk};
 ghost use Rattle.dns_name.specs.NameReading.{name_labels};
 ghost use Rattle.dns_wire.specs.Parts.{Octets};
@@ -20,35 +20,35 @@ use dns_target::TreeCompressor;
 use dns_wire::Composer;
 use std::alloc::Global;
 
-/// The section of the questions.
+/// The number of the question section.
 const QUESTION: u8 = 0;
 
-/// The last section.
+/// The number of the additional section, the last one.
 const ADDITIONAL: u8 = 3;
 
-/// A question or a record to be written.
+/// A question or a record to write.
 #[repr(C)]
 #[derive(Clone, Copy)]
 pub struct NewItem<'a> {
-    /// A text that spells the name.
+    /// The name in presentation format.
     pub name: &'a [u8],
-    /// The octets of the data, without pointers.
+    /// The RDATA, with any names in it uncompressed.
     pub rdata: &'a [u8],
     pub ttl: u32,
     pub rtype: u16,
     pub class: u16,
-    /// 0 for questions, then 1 to 3.
+    /// 0 is the question section; 1, 2 and 3 are answer, authority and additional.
     pub section: u8,
 }
 
-/// What a message is built on, which takes memory.
+/// The target that a message is built on. It allocates.
 type Target = TreeCompressor<Vec<u8>>;
 
 type NewQuestion = (Text, Rtype, Class);
 
 type NewRecord<'a> = (Text, Class, Ttl, UnknownRecordData<&'a [u8]>);
 
-/// An item as a question.
+/// Converts an item to a question.
 fn question_of(item: &NewItem<'_>) -> Result<NewQuestion, Fault>
     ensures question { IfOk result (λ made. IsQuestionOf item.now (record {
       name = name_labels made.0;
@@ -66,7 +66,7 @@ fn question_of(item: &NewItem<'_>) -> Result<NewQuestion, Fault>
     ))
 }
 
-/// An item as a record.
+/// Converts an item to a record.
 fn record_of<'a>(item: &NewItem<'a>) -> Result<NewRecord<'a>, Fault>
     ensures made { IfOk result (λ made. IsRecordOf item.now (record {
       owner = name_labels made.0;
@@ -89,7 +89,7 @@ fn record_of<'a>(item: &NewItem<'a>) -> Result<NewRecord<'a>, Fault>
     }
 }
 
-/// An item is an entry, or it is refused.
+/// Checks that an item is a question or a record that can be written.
 fn check(item: &NewItem<'_>) -> Result<(), Fault>
     ensures means { OnOk result ((x : NewEntry) × Means item.now x) }
     ensures refused { IfErr result (λ fault. IsRefused item.now (number_of fault)) }
@@ -105,7 +105,7 @@ fn check(item: &NewItem<'_>) -> Result<(), Fault>
     Ok(())
 }
 
-/// All items are entries, or the first that is none is refused.
+/// Checks all items. Returns the error of the first bad one.
 fn check_all(items: &[NewItem<'_>]) -> Result<(), Fault>
     ensures mean { OnOk result ((xs : List NewEntry) × AllMean items.now xs) }
     ensures refused { IfErr result (λ fault. FirstRefused items.now (number_of fault)) }
@@ -116,7 +116,7 @@ fn check_all(items: &[NewItem<'_>]) -> Result<(), Fault>
     Ok(())
 }
 
-/// Pushes the questions among items, up to the first that is refused.
+/// Pushes the questions among `items`, in order. Stops at the first that is refused.
 fn push_questions<T: Composer>(
     builder: &mut QuestionBuilder<T>,
     items: &[NewItem<'_>],
@@ -136,7 +136,8 @@ fn push_questions<T: Composer>(
     Ok(())
 }
 
-/// Pushes the records among items that are of the stage's section, up to the first that is refused.
+/// Pushes the records among `items` that belong to the section of stage `S`, in order. Stops at the
+/// first that is refused.
 fn push_records<T: Composer, S: RecordStage>(
     builder: &mut Builder<T, S>,
     items: &[NewItem<'_>],
@@ -156,7 +157,7 @@ fn push_records<T: Composer, S: RecordStage>(
     Ok(())
 }
 
-/// The header of an ID, and of flags that are its third and fourth octet.
+/// The header with this ID, whose third and fourth octets are `flags`.
 fn header_of(id: u16, flags: u16) -> Header
     ensures { result ≡ header_of id flags }
 {
@@ -165,7 +166,7 @@ fn header_of(id: u16, flags: u16) -> Header
     Header::for_message_slice(&[a, b, c, d])
 }
 
-/// The message of a header and items, each in its section, in their order, over a target, which is emptied.
+/// Writes the header and the items, each in its section, in order. Empties `target` first.
 fn build_over<T: Composer>(
     target: T,
     id: u16,
@@ -191,7 +192,7 @@ fn build_over<T: Composer>(
     Ok(additionals.finish())
 }
 
-/// As `build_over`, with names compressed. It takes memory.
+/// Like `build_over`, with compressed names. Allocates.
 pub(crate) fn build(
     alloc: Global,
     id: u16,

@@ -1,4 +1,4 @@
-//! The text of a record's data.
+//! The text of a record's RDATA.
 ghost use Rattle.std.specs.Prelude.{◌≡◌, ◌≢◌, ◌++◌, ℕ, List, decimal, option_map, Err, IfOk, IfErr};
 ghost use Rattle.std.specs.Option.{option_and_then};
 ghost use Rattle.dns_name.specs.Names.{fault_of};
@@ -20,7 +20,7 @@ use dns_data::{A, Cname, Ns, ParseRecordData, Soa};
 use dns_item::ParsedRecord;
 use dns_wire::{ParseError, ParsedName};
 
-/// The record at a place, and the octets of its data.
+/// Parses the record at offset `place`. Also returns its RDATA.
 fn record_at(octets: &[u8], place: usize) -> Result<(ParsedRecord<'_>, &[u8]), ParseError>
     ensures octets { IfOk result (λ found. octets_of found.0 ≡ octets.now) }
     ensures found { IfOk result (λ found. RecordAt octets.now place (parsed_entry found.0)) }
@@ -35,7 +35,8 @@ fn record_at(octets: &[u8], place: usize) -> Result<(ParsedRecord<'_>, &[u8]), P
     Ok((found, &octets[start..end]))
 }
 
-/// The data of a record by a data type, where it is of that type and can be read.
+/// Parses the RDATA as `D`. Returns `None` if the record has another type or the RDATA is
+/// malformed.
 fn data_as<'a, D: ParseRecordData<'a> + Drop>(found: &ParsedRecord<'a>) -> Option<D>
     requires { IsRead (standing_record found.now) }
     ensures { option_map D.parts result ≡ option_and_then (data_parts (standing_record found.now))
@@ -48,7 +49,7 @@ fn data_as<'a, D: ParseRecordData<'a> + Drop>(found: &ParsedRecord<'a>) -> Optio
     }
 }
 
-/// Writes an address: four decimal numbers with dots.
+/// Writes an IPv4 address in dotted decimal.
 fn put_address(data: &A, out: &mut [u8]) -> End
     ensures { Holds out.new (address_octets_text (address_of «data».now)) result }
 {
@@ -59,7 +60,7 @@ fn put_address(data: &A, out: &mut [u8]) -> End
     put_behind(b".", u64::from(d), out, end)
 }
 
-/// Writes the start of a zone: two names and five numbers, with one space between two.
+/// Writes the RDATA of SOA: two names and five numbers, separated by single spaces.
 fn put_zone(data: &Soa<ParsedName<'_>>, out: &mut [u8]) -> End
     ensures { Holds out.new (parts_text (soa_parts labels «data».now)) result }
 {
@@ -73,7 +74,8 @@ fn put_zone(data: &Soa<ParsedName<'_>>, out: &mut [u8]) -> End
     put_behind(b" ", u64::from(data.minimum()), out, end)
 }
 
-/// Writes data as octets: how many they are, and their digits if there are any.
+/// Writes RDATA in the form of RFC 3597 section 5: `\#`, the length, and the octets in hexadecimal
+/// if there are any.
 fn put_opaque(octets: &[u8], out: &mut [u8]) -> End
     ensures { Holds out.new (opaque_text octets.now) result }
 {
@@ -86,7 +88,8 @@ fn put_opaque(octets: &[u8], out: &mut [u8]) -> End
     put_hex(octets, out, end)
 }
 
-/// Writes the data of a record that was read, by its fields where its type has them and the data is of it.
+/// Writes RDATA by its fields if it is well-formed A, NS, CNAME or SOA data, otherwise as opaque
+/// octets.
 fn put_data(found: &ParsedRecord<'_>, opaque: &[u8], out: &mut [u8]) -> End
     requires read { IsRead (standing_record found.now) }
     requires opaque { opaque.now ≡ data_octets (octets_of found.now) (parsed_entry found.now) }
@@ -107,7 +110,7 @@ fn put_data(found: &ParsedRecord<'_>, opaque: &[u8], out: &mut [u8]) -> End
     put_opaque(opaque, out)
 }
 
-/// Writes the data of a record. A question has none.
+/// Writes the RDATA of a record. A question has none.
 pub(crate) fn data(octets: &[u8], item: &Item, out: &mut [u8]) -> Result<End, Fault>
     ensures question { item.now.section ≡ 0 → result ≡ Err Fault.BadSection }
     ensures text { IfOk result (λ end. (x : RecordEntry) × RecordAt octets.now item.now.place x

@@ -1,7 +1,7 @@
-//! Calls by which C programs read and write DNS messages. `dns.h` has their prototypes.
+//! C functions that read and write DNS messages. `dns.h` has their prototypes.
 //!
-//! Nothing is kept between two calls: the caller holds the message, the cursor and each buffer. Each call is total; what
-//! is wrong is answered as a number. Only `dns_build` takes memory.
+//! Nothing is kept between two calls: the caller owns the message, the cursor and each buffer. Each
+//! function returns for all arguments, and reports errors as numbers. Only `dns_build` allocates.
 #![tactic(auto)]
 
 mod build;
@@ -35,7 +35,7 @@ use code::Fault;
 use std::alloc::Global;
 use walk::{Cursor, Header, Item};
 
-/// Reads the header, and puts the cursor before the first question.
+/// Reads the header, and sets the cursor before the first question.
 #[unsafe(no_mangle)]
 pub extern "C" fn dns_open(message: &[u8], header: &mut Header, cursor: &mut Cursor) -> u8
     ensures opens { header_size ≤ length message.now → (result ≡ 0)
@@ -46,7 +46,8 @@ pub extern "C" fn dns_open(message: &[u8], header: &mut Header, cursor: &mut Cur
     walk::open(message, header, cursor)
 }
 
-/// The next question or record: 0 with an item, 1 behind the last, else what is wrong, and then the same again.
+/// Reads the next question or record. Returns 0 with an item, 1 past the last one, otherwise the
+/// number of the error; later calls return the same error again.
 #[unsafe(no_mangle)]
 pub extern "C" fn dns_next(message: &[u8], cursor: &mut Cursor, item: &mut Item) -> u8
     ensures gives { IsOpen message.now cursor.old
@@ -69,7 +70,7 @@ pub extern "C" fn dns_next(message: &[u8], cursor: &mut Cursor, item: &mut Item)
     code::of(walk::next(message, cursor, item))
 }
 
-/// Writes the name at a place as text with a dot behind each label, and a zero octet.
+/// Writes the name at offset `place` as text, with a dot after each label, and a zero octet.
 #[unsafe(no_mangle)]
 pub extern "C" fn dns_name_text(message: &[u8], place: usize, out: &mut [u8], len: &mut usize) -> u8
     ensures length { length out.new ≡ length out.old }
@@ -89,7 +90,7 @@ pub extern "C" fn dns_name_text(message: &[u8], place: usize, out: &mut [u8], le
     }
 }
 
-/// Writes the name at a place as octets without pointers: at most 255.
+/// Writes the name at offset `place` uncompressed: at most 255 octets.
 #[unsafe(no_mangle)]
 pub extern "C" fn dns_name_octets(
     message: &[u8],
@@ -113,7 +114,8 @@ pub extern "C" fn dns_name_octets(
     }
 }
 
-/// Writes the data of a record as text, and a zero octet: that of A, NS, CNAME and SOA in their own form, else opaque.
+/// Writes the RDATA of a record as text, and a zero octet: A, NS, CNAME and SOA by their fields,
+/// all else in the form of RFC 3597 section 5.
 #[unsafe(no_mangle)]
 pub extern "C" fn dns_data_text(message: &[u8], item: &Item, out: &mut [u8], len: &mut usize) -> u8
     ensures length { length out.new ≡ length out.old }
@@ -135,7 +137,7 @@ pub extern "C" fn dns_data_text(message: &[u8], item: &Item, out: &mut [u8], len
     }
 }
 
-/// Writes the name of a record type, and a zero octet.
+/// Writes the mnemonic of a record type, or `TYPE` and its number, and a zero octet.
 #[unsafe(no_mangle)]
 pub extern "C" fn dns_type_text(rtype: u16, out: &mut [u8], len: &mut usize) -> u8
     ensures length { length out.new ≡ length out.old }
@@ -149,7 +151,7 @@ pub extern "C" fn dns_type_text(rtype: u16, out: &mut [u8], len: &mut usize) -> 
     text::finish(end, out, len)
 }
 
-/// Writes the name of a class, and a zero octet.
+/// Writes the mnemonic of a class, or `CLASS` and its number, and a zero octet.
 #[unsafe(no_mangle)]
 pub extern "C" fn dns_class_text(class: u16, out: &mut [u8], len: &mut usize) -> u8
     ensures length { length out.new ≡ length out.old }
@@ -163,7 +165,7 @@ pub extern "C" fn dns_class_text(class: u16, out: &mut [u8], len: &mut usize) ->
     text::finish(end, out, len)
 }
 
-/// Writes a query for the name that a text spells.
+/// Writes a query with one question for `name`.
 #[unsafe(no_mangle)]
 pub extern "C" fn dns_query(
     id: u16,
@@ -191,7 +193,7 @@ pub extern "C" fn dns_query(
     }
 }
 
-/// Writes the response to a query for addresses: its header, its question, and one address.
+/// Writes the response to a query for IPv4 addresses: the header, the question and one A record.
 #[unsafe(no_mangle)]
 pub extern "C" fn dns_respond_a(
     query: &[u8],
@@ -226,7 +228,8 @@ pub extern "C" fn dns_respond_a(
     }
 }
 
-/// Writes the message of a header and items, each in its section, with names compressed. It takes memory.
+/// Writes a message with the header and the items, each in its section, with compressed names.
+/// Allocates.
 #[unsafe(no_mangle)]
 pub extern "C" fn dns_build(
     alloc: Global,

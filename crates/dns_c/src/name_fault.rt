@@ -1,4 +1,4 @@
-//! Which fault of its form a name has: `dns_name` tells only that it has one.
+//! Finds out how a name is malformed; `dns_name` reports only that it is.
 ghost use Rattle.std.specs.Prelude.{◌≡◌, ◌<◌, ◌≤◌, length, slice_index, IfOk, IfErr};
 ghost use Rattle.dns_name.specs.Names.{FaultAt, Faulty, fault_of};
 ghost use Rattle.dns_name.specs.Names.Fault.{Form};
@@ -8,10 +8,10 @@ ghost use Rattle.dns_c.specs.NameFaults.{LeadsOn, Misformed, TellsAt};
 use crate::code::Fault;
 use dns_wire::ParseError;
 
-/// The most octets that the labels of a name take: 255 less the root's zero octet.
+/// The maximum octets of a name's labels: 255 without the zero octet of the root.
 const MAX_SIZE: usize = 254;
 
-/// Where a label leads, behind labels of the size.
+/// The offset and size after the label at `pos`, for a name whose labels so far take `size` octets.
 fn behind_label(octets: &[u8], pos: usize, size: usize, len: u8) -> Result<(usize, usize), Fault>
     requires within { pos < length octets.now }
     requires at { len ≡ slice_index octets.now pos }
@@ -32,7 +32,8 @@ fn behind_label(octets: &[u8], pos: usize, size: usize, len: u8) -> Result<(usiz
     Ok((pos + taken, size + taken))
 }
 
-/// Where a pointer leads, behind labels of the size.
+/// The offset and size after the pointer at `pos`, for a name whose labels so far take `size`
+/// octets.
 fn behind_pointer(
     octets: &[u8],
     pos: usize,
@@ -57,7 +58,8 @@ fn behind_pointer(
     Ok((target, size))
 }
 
-/// Where the label or the pointer at a place leads, behind labels of the size, or the fault of its form.
+/// The offset and size after the label or pointer at `pos`, for a name whose labels so far take
+/// `size` octets, or how it is malformed.
 fn lead(octets: &[u8], pos: usize, size: usize) -> Result<(usize, usize), Fault>
     requires { size ≤ MAX_SIZE }
     ensures on { IfOk result (λ next. LeadsOn octets.now pos size next.0 next.1) }
@@ -80,7 +82,7 @@ fn lead(octets: &[u8], pos: usize, size: usize) -> Result<(usize, usize), Fault>
     behind_pointer(octets, pos, size, first)
 }
 
-/// The fault of its form that the name at a place has, if it has one.
+/// How the name at offset `place` is malformed, if it is.
 fn form_fault(octets: &[u8], place: usize) -> Fault
     ensures { FaultAt octets.now place Form → Misformed octets.now place 0 result }
 {
@@ -97,7 +99,8 @@ fn form_fault(octets: &[u8], place: usize) -> Fault
     }
 }
 
-/// Why what begins with a name at a place can't be read: an octet isn't there, or the name isn't formed as it has to be.
+/// Converts the error of parsing what begins with a name at offset `place`: an octet is missing, or
+/// the name is malformed.
 pub(crate) fn fault_at(octets: &[u8], place: usize, error: ParseError) -> Fault
     ensures { (fault_of error ≡ Form → FaultAt octets.now place Form)
         → TellsAt octets.now place (fault_of error) (number_of result) }

@@ -1,6 +1,6 @@
-//! Texts written into a caller's buffer, piece by piece from its beginning on.
+//! Writes text to the caller's buffer, one part after the other.
 //!
-//! What `Display` writes can't serve: its contract doesn't tell whether an error is the buffer's.
+//! `Display` can't be used: its contract doesn't say whether an error comes from the buffer.
 ghost use Rattle.std.specs.Prelude.{◌≡◌, ◌<◌, false, ◌++◌, ◌∷◌, ℕ, List, [], decimal};
 ghost use Rattle.std.specs.Fmt.{digit_glyph};
 ghost use Rattle.dns_name.specs.NameTexts.{octet_text, label_text};
@@ -10,13 +10,13 @@ ghost use Rattle.dns_c.specs.Texts.{Holds, absolute_name, hex_octets};
 use dns_name::ParsedName;
 use itoa::Buffer;
 
-/// Where the text in a buffer ends; `None` where the buffer is too short for it.
+/// Where the text in a buffer ends; `None` if the buffer is too short for it.
 pub(crate) type End = Option<usize>;
 
-/// The end of a text without octets.
+/// The end of the empty text.
 pub(crate) const START: End = Some(0);
 
-/// Writes octets behind a text.
+/// Appends octets to the text in `out`.
 pub(crate) fn put(octets: &[u8], out: &mut [u8], end: End) -> End
     ensures { (text : List ℕ) → Holds out.old text end
         → Holds out.new (text ++ octets.now) result }
@@ -32,7 +32,7 @@ pub(crate) fn put(octets: &[u8], out: &mut [u8], end: End) -> End
     Some(behind)
 }
 
-/// Writes a number in decimal digits.
+/// Appends a number in decimal.
 pub(crate) fn put_number(number: u64, out: &mut [u8], end: End) -> End
     ensures { (text : List ℕ) → Holds out.old text end
         → Holds out.new (text ++ decimal number) result }
@@ -41,7 +41,7 @@ pub(crate) fn put_number(number: u64, out: &mut [u8], end: End) -> End
     put(buffer.format(number).as_bytes(), out, end)
 }
 
-/// Writes a separator and a number in decimal digits.
+/// Appends a separator and a number in decimal.
 pub(crate) fn put_behind(separator: &[u8], number: u64, out: &mut [u8], end: End) -> End
     ensures { (text : List ℕ) → Holds out.old text end
         → Holds out.new (text ++ separator.now ++ decimal number) result }
@@ -50,7 +50,7 @@ pub(crate) fn put_behind(separator: &[u8], number: u64, out: &mut [u8], end: End
     put_number(number, out, end)
 }
 
-/// Writes one octet of a label.
+/// Appends one octet of a label in presentation format.
 fn put_octet(octet: u8, out: &mut [u8], end: End) -> End
     ensures { (text : List ℕ) → Holds out.old text end
         → Holds out.new (text ++ octet_text octet) result }
@@ -66,7 +66,7 @@ fn put_octet(octet: u8, out: &mut [u8], end: End) -> End
     put(&[b'\\', hundreds, tens, b'0' + octet % 10], out, end)
 }
 
-/// Writes a label.
+/// Appends a label in presentation format.
 fn put_label(label: &[u8], out: &mut [u8], end: End) -> End
     ensures { (text : List ℕ) → Holds out.old text end
         → Holds out.new (text ++ label_text label.now) result }
@@ -78,7 +78,7 @@ fn put_label(label: &[u8], out: &mut [u8], end: End) -> End
     end
 }
 
-/// Writes a name with a dot behind each label; that of the root is a dot.
+/// Appends a name with a dot after each label. The root is a single dot.
 pub(crate) fn put_name(name: &ParsedName<'_>, out: &mut [u8], end: End) -> End
     ensures { (text : List ℕ) → Holds out.old text end
         → Holds out.new (text ++ absolute_name (labels name.now)) result }
@@ -96,7 +96,7 @@ pub(crate) fn put_name(name: &ParsedName<'_>, out: &mut [u8], end: End) -> End
     end
 }
 
-/// The hexadecimal digit of a number below 16, of lower case.
+/// The lower-case hexadecimal digit of a number below 16.
 fn hex_digit(number: u8) -> u8
     requires { number < 16 }
     ensures { result ≡ digit_glyph false number }
@@ -108,7 +108,7 @@ fn hex_digit(number: u8) -> u8
     }
 }
 
-/// Writes octets in hexadecimal digits, two for each.
+/// Appends octets in hexadecimal, two digits each.
 pub(crate) fn put_hex(octets: &[u8], out: &mut [u8], end: End) -> End
     ensures { (text : List ℕ) → Holds out.old text end
         → Holds out.new (text ++ hex_octets octets.now) result }

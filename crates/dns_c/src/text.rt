@@ -1,4 +1,4 @@
-//! Texts that are handed out.
+//! Text that is returned to the caller.
 ghost use Rattle.std.specs.Prelude.{◌≡◌, ◌≢◌, ◌<◌, ◌+◌, ◌++◌, ◌∷◌, ℕ, List, [], length, get_or, take, IfOk, IfErr};
 ghost use Rattle.dns_name.specs.Names.{Labels, Stands};
 ghost use Rattle.dns_c.specs.Codes.{number_of};
@@ -10,7 +10,7 @@ use crate::code::Fault;
 use crate::pieces::{End, START, put_name};
 use crate::walk::name_at;
 
-/// Writes the name at a place, with a dot behind each label.
+/// Writes the name at offset `place`, with a dot after each label.
 pub(crate) fn name(octets: &[u8], place: usize, out: &mut [u8]) -> Result<End, Fault>
     ensures text { IfOk result (λ end. (name : Labels) × Stands octets.now place name
         × Holds out.new (absolute_name name) end) }
@@ -20,7 +20,7 @@ pub(crate) fn name(octets: &[u8], place: usize, out: &mut [u8]) -> Result<End, F
     Ok(put_name(&name, out, START))
 }
 
-/// Ends a text with a zero octet, tells its length, and gives the number of the answer.
+/// Terminates a text with a zero octet, sets `len` to its length, and returns the status.
 pub(crate) fn finish(end: End, out: &mut [u8], len: &mut usize) -> u8
     ensures length { length out.new ≡ length out.old }
     ensures ended { result ≡ 0 → (len.new < length out.new) × (get_or out.new len.new 1 ≡ 0) }

@@ -1,4 +1,4 @@
-//! A walk over a message whose place the caller holds.
+//! Iterates over a message with a cursor that the caller owns.
 ghost use Rattle.std.specs.Prelude.{◌≡◌, ◌≢◌, ◌+◌, ◌<◌, ◌≤◌, length, true, Ok, Err, IfOk, IfErr};
 ghost use Rattle.dns_name.specs.Names.{FaultAt, Stands, fault_of};
 ghost use Rattle.dns_name.specs.Names.Fault.{Form};
@@ -21,30 +21,30 @@ use dns_item::{Question, RecordHeader};
 use dns_read::Message;
 use dns_wire::{ParseError, ParsedName, Parser};
 
-/// A header with its counts.
+/// A header and its counts.
 #[repr(C)]
 #[derive(Clone, Copy)]
 pub struct Header {
     pub id: u16,
-    /// The third and fourth octet.
+    /// The third and fourth octets of the header, big-endian.
     pub flags: u16,
-    /// Of questions, answers, authorities and additional records.
+    /// QDCOUNT, ANCOUNT, NSCOUNT and ARCOUNT.
     pub counts: [u16; 4],
     pub opcode: u8,
     pub rcode: u8,
 }
 
-/// A place in a message, which the caller holds.
+/// A position in a message, which the caller owns.
 #[repr(C)]
 #[derive(Clone, Copy)]
 pub struct Cursor {
-    /// Behind what was given.
+    /// The offset at which the next item begins.
     pub place: usize,
-    /// How many are left in the section.
+    /// How many items of the section are still to come.
     pub left: u16,
-    /// 0 for questions, then 1 to 3.
+    /// 0 is the question section; 1, 2 and 3 are answer, authority and additional.
     pub section: u8,
-    /// 0, or what was wrong.
+    /// 0, or the number of the error that ended the iteration.
     pub status: u8,
 }
 
@@ -52,15 +52,15 @@ pub struct Cursor {
 #[repr(C)]
 #[derive(Clone, Copy)]
 pub struct Item {
-    /// Where it begins, which is where its name does.
+    /// The offset at which it begins, which is that of its name.
     pub place: usize,
-    /// Where its data begins.
+    /// The offset of its RDATA.
     pub data: usize,
     pub ttl: u32,
     pub rtype: u16,
     pub class: u16,
     pub data_len: u16,
-    /// 0 for questions, then 1 to 3.
+    /// 0 is the question section; 1, 2 and 3 are answer, authority and additional.
     pub section: u8,
 }
 
@@ -98,7 +98,7 @@ fn header_of(message: &Message<&[u8]>) -> Header
     }
 }
 
-/// Reads the header, and puts the cursor before the first question.
+/// Reads the header, and sets the cursor before the first question.
 pub(crate) fn open(octets: &[u8], header: &mut Header, cursor: &mut Cursor) -> u8
     ensures opens { header_size ≤ length octets.now → (result ≡ 0)
         × Opens octets.now header.new cursor.new }
@@ -125,7 +125,7 @@ pub(crate) fn open(octets: &[u8], header: &mut Header, cursor: &mut Cursor) -> u
     0
 }
 
-/// Moves the cursor past sections of which nothing is left.
+/// Advances the cursor past sections that have no items left.
 fn settle(message: &Message<&[u8]>, cursor: &mut Cursor)
     requires { cursor.old.section ≤ 3 }
     ensures same { left_from (message_octets message.now) cursor.new
@@ -141,7 +141,7 @@ fn settle(message: &Message<&[u8]>, cursor: &mut Cursor)
     }
 }
 
-/// A parser at a place of the octets. Past their end there is nothing to read.
+/// A parser at offset `place`, or `ShortInput` if `place` is past the end.
 #[tactic(auto, using(crate::proofs::WalkLemmas::past_end))]
 pub(crate) fn parser_at(octets: &[u8], place: usize) -> Result<Parser<'_>, ParseError>
     ensures ok { IfOk result (λ parser. (seen parser ≡ octets.now)
@@ -155,7 +155,7 @@ pub(crate) fn parser_at(octets: &[u8], place: usize) -> Result<Parser<'_>, Parse
     Ok(parser)
 }
 
-/// The question at a place, and the place behind it.
+/// Reads the question at offset `place`. Also returns the offset after it.
 fn read_question(octets: &[u8], place: usize) -> Result<(Item, usize), ParseError>
     ensures answers { AnswersQuestion octets.now place result }
     ensures spans { IfOk result (λ found. Spans found.0 place found.1) }
@@ -174,7 +174,7 @@ fn read_question(octets: &[u8], place: usize) -> Result<(Item, usize), ParseErro
     Ok((item, parser.pos()))
 }
 
-/// The record at a place, which is of this section, and the place behind it.
+/// Reads the record of `section` at offset `place`. Also returns the offset after it.
 fn read_record(octets: &[u8], section: u8, place: usize) -> Result<(Item, usize), ParseError>
     ensures answers { AnswersRecord octets.now section place result }
     ensures spans { IfOk result (λ found. Spans found.0 place found.1) }
@@ -193,7 +193,7 @@ fn read_record(octets: &[u8], section: u8, place: usize) -> Result<(Item, usize)
     Ok((item, parser.pos()))
 }
 
-/// The entry at the cursor, and the place behind it.
+/// Reads the entry at the cursor. Also returns the offset after it.
 fn read(octets: &[u8], cursor: &Cursor) -> Result<(Item, usize), ParseError>
     requires { cursor.now.section ≤ 3 }
     ensures entry { AnswersEntry octets.now cursor.now result }
@@ -210,7 +210,7 @@ fn read(octets: &[u8], cursor: &Cursor) -> Result<(Item, usize), ParseError>
     }
 }
 
-/// The next item, if there is one.
+/// Reads the next item. Returns `Ok(false)` if there is none.
 pub(crate) fn next(octets: &[u8], cursor: &mut Cursor, item: &mut Item) -> Result<bool, Fault>
     ensures steps { IsOpen octets.now cursor.old
         → Steps octets.now cursor.old cursor.new item.new result }
@@ -248,7 +248,7 @@ pub(crate) fn next(octets: &[u8], cursor: &mut Cursor, item: &mut Item) -> Resul
     }
 }
 
-/// The name at a place, or the error of reading it.
+/// Parses the name at offset `place`.
 fn parse_name(octets: &[u8], place: usize) -> Result<ParsedName<'_>, ParseError>
     ensures name { IfOk result (λ name. Stands octets.now place (labels name)) }
     ensures none { IfErr result (λ error. FaultAt octets.now place (fault_of error)) }
@@ -257,7 +257,7 @@ fn parse_name(octets: &[u8], place: usize) -> Result<ParsedName<'_>, ParseError>
     ParsedName::parse(&mut parser)
 }
 
-/// The name at a place.
+/// The name at offset `place`.
 pub(crate) fn name_at(octets: &[u8], place: usize) -> Result<ParsedName<'_>, Fault>
     ensures name { IfOk result (λ name. Stands octets.now place (labels name)) }
     ensures none { IfErr result (λ fault. LacksName octets.now place (number_of fault)) }

@@ -1,4 +1,4 @@
-//! The texts of record types and classes.
+//! The text of record types and classes.
 ghost use Rattle.std.specs.Prelude.{◌≡◌, ◌++◌, ℕ, List, [], ◌∷◌, decimal, option_map, unwrap_or};
 ghost use Rattle.dns_number.specs.Classes.{class_text};
 ghost use Rattle.dns_number.specs.Mnemonics.{mnemonic, type_mnemonics, class_mnemonics};
@@ -45,7 +45,7 @@ fn class_word(class: Class) -> Option<&'static str>
     }
 }
 
-/// Writes a mnemonic, or a word and a number where there is none.
+/// Writes the mnemonic `word`, or `other` followed by the number if there is none.
 fn put_word(word: Option<&str>, other: &[u8], number: u16, out: &mut [u8]) -> End
     ensures { Holds out.new (unwrap_or (option_map (λ word. word.now) word.entry)
         (other.now ++ decimal number)) result }
@@ -59,14 +59,14 @@ fn put_word(word: Option<&str>, other: &[u8], number: u16, out: &mut [u8]) -> En
     }
 }
 
-/// Writes the name of a record type.
+/// Writes a record type.
 pub(crate) fn rtype(number: u16, out: &mut [u8]) -> End
     ensures { Holds out.new (type_text number) result }
 {
     put_word(type_word(Rtype::from_int(number)), b"TYPE", number, out)
 }
 
-/// Writes the name of a class.
+/// Writes a class.
 pub(crate) fn class(number: u16, out: &mut [u8]) -> End
     ensures { Holds out.new (class_text number) result }
 {
