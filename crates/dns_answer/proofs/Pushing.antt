@@ -1,4 +1,4 @@
--- How the records that a question asks for are pushed one by one.
+-- How the records that match a question are pushed one by one.
 use Rattle.std.proofs.Common.{◌≡◌, ◌∙◌, ℕ, ◌+◌, ◌<◌, ◌≤◌, Bool, true, false, cond, List, [], ◌∷◌, ◌++◌, length, length-append, take, drop, get_or, append_assoc, ap, sym, subst, arith, None}
 use Rattle.std.proofs.lemmas.Bool.{le-leb, lt-leb}
 use Rattle.std.proofs.Math.Seq.{take-length}
@@ -17,13 +17,13 @@ use Rattle.dns_answer.specs.Answering.{is_asked, asked_records, with_answers, si
 use Rattle.dns_answer.specs.Pushing.{MoreAnswers, PushesEach, AddsAll}
 use Rattle.dns_answer.proofs.Sizes.{longer_answers, items_within}
 
--- no more answers
+-- no further answers
 none_more : (s : State) (b : Built) → StandsFor InAnswer Plain s b → MoreAnswers s b []
 none_more s b h =
     let e : s ≡ with_answers [] s = λ i. record s { answers = sym (append-nil s.answers) i } in
     record { stands = subst (λ (t : State). StandsFor InAnswer Plain t b) e h; within = λ l. subst (λ (t : State). size t ≤ s.limit) e l }
 
--- what a push of an answer has to have, and why it may be refused
+-- when pushing an answer succeeds, and the reasons for which it fails
 abbrev HasRoom : RecordItem → State → Type 0
 HasRoom x t = let n = size_after Plain (with_record InAnswer x) t in Fits None n × (n ≤ t.limit) × (length t.answers < most_entries)
 
@@ -33,7 +33,7 @@ PassesLimit x t = let n = size_after Plain (with_record InAnswer x) t in Fits No
 abbrev PassesCount : RecordItem → State → Type 0
 PassesCount x t = let n = size_after Plain (with_record InAnswer x) t in Fits None n × (n ≤ t.limit) × (length t.answers ≡ most_entries)
 
--- one more answer behind others
+-- one further answer after others
 one_more : (s : State) (xs : List RecordItem) (x : RecordItem) (mid new : Built) → MoreAnswers s mid xs
     → MovesState InAnswer InAnswer Plain (with_record InAnswer x) mid new → InEach InAnswer Plain mid (HasRoom x) → MoreAnswers s new (xs ++ x ∷ [])
 one_more s xs x mid new h moves room =
@@ -43,12 +43,12 @@ one_more s xs x mid new h moves room =
       within = λ l. subst (λ (t : State). size t ≤ s.limit) e (room (with_answers xs s) h.stands).1;
     }
 
--- of more answers, the first are no longer than all
+-- with the first of further answers, a message is no longer than with all
 some_within : (s : State) (b : Built) → StandsFor InAnswer Plain s b → (xs ys : List RecordItem) → size (with_answers xs s) ≤ size (with_answers (xs ++ ys) s)
 some_within s b h xs ys =
     subst (λ (t : State). size (with_answers xs t) ≤ size (with_answers (xs ++ ys) t)) (sym h.last) (longer_answers s xs ys h.state.header)
 
--- one that would pass the limit makes all longer than that
+-- if one answer exceeds the limit, all of them do
 limit_passed : (s : State) (xs : List RecordItem) (x : RecordItem) (ys : List RecordItem) (b mid : Built) → StandsFor InAnswer Plain s b → MoreAnswers s mid xs
     → InEach InAnswer Plain mid (PassesLimit x) → s.limit < size (with_answers ((xs ++ x ∷ []) ++ ys) s)
 limit_passed s xs x ys b mid h more passes =
@@ -57,7 +57,7 @@ limit_passed s xs x ys b mid h more passes =
     let m = some_within s b h (xs ++ x ∷ []) ys in
     omega (arith, l, m)
 
--- one that can't be counted makes the limit above that count
+-- if an answer can't be counted, the limit exceeds the greatest count
 count_passed : (s : State) (xs : List RecordItem) (x : RecordItem) (mid : Built) → MoreAnswers s mid xs → InEach InAnswer Plain mid (PassesCount x) → most_entries < s.limit
 count_passed s xs x mid more passes =
     let t = with_answers xs s in
@@ -67,11 +67,11 @@ count_passed s xs x mid more passes =
     omega (arith, p, k, n)
 
 module _ {R : Type 0} (item : R → RecordItem) (asked : QuestionItem) (table : List R) where
-  -- those of the first records of the table
+  -- the matches among the first records of the table
   abbrev pub first : ℕ → List RecordItem
   first i = asked_records asked (map item (take i table))
 
-  -- one record of the table more
+  -- one further record of the table
   next : (i : ℕ) (x : R) (d : R) → i < length table → x ≡ get_or table i d → first (i + 1) ≡ first i ++ cond (is_asked asked (item x)) (item x ∷ []) []
   next i x d l is =
       ap (λ (ys : List R). asked_records asked (map item ys)) (take_more table i d l)
@@ -85,7 +85,7 @@ module _ {R : Type 0} (item : R → RecordItem) (asked : QuestionItem) (table : 
   next_passed : (i : ℕ) (x : R) (d : R) → i < length table → x ≡ get_or table i d → is_asked asked (item x) ≡ false → first (i + 1) ≡ first i
   next_passed i x d l is other = next i x d l is ∙ ap (λ (b : Bool). first i ++ cond b (item x ∷ []) []) other ∙ append-nil (first i)
 
-  -- those of the first, and behind them those of the others
+  -- the matches among the first records, followed by those among the remaining ones, are all matches
   first_then : (i : ℕ) → first i ++ asked_records asked (map item (drop i table)) ≡ asked_records asked (map item table)
   first_then i =
       sym (filter-append (is_asked asked) (map item (take i table)) (map item (drop i table)))
@@ -96,19 +96,19 @@ module _ {R : Type 0} (item : R → RecordItem) (asked : QuestionItem) (table : 
   pub pushes_none : (s : State) (b : Built) → StandsFor InAnswer Plain s b → MoreAnswers s b (first 0)
   pushes_none s b h = none_more s b h
 
-  -- a record that is asked for is pushed
+  -- a record that matches is pushed
   pub pushes_next : (i : ℕ) (x d : R) → i < length table → x ≡ get_or table i d → is_asked asked (item x) ≡ true → (old mid new : Built)
       → MovesState InAnswer InAnswer Plain (with_record InAnswer (item x)) mid new → InEach InAnswer Plain mid (HasRoom (item x))
       → InEach InAnswer Plain old (λ s. MoreAnswers s mid (first i)) → InEach InAnswer Plain old (λ s. MoreAnswers s new (first (i + 1)))
   pushes_next i x d l is asks old mid new moves room so_far s h =
       subst (MoreAnswers s new) (sym (next_taken i x d l is asks)) (one_more s (first i) (item x) mid new (so_far s h) moves room)
 
-  -- one that isn't is passed
+  -- a record that doesn't match is skipped
   pub passes_next : (i : ℕ) (x d : R) → i < length table → x ≡ get_or table i d → is_asked asked (item x) ≡ false → (old mid : Built)
       → InEach InAnswer Plain old (λ s. MoreAnswers s mid (first i)) → InEach InAnswer Plain old (λ s. MoreAnswers s mid (first (i + 1)))
   passes_next i x d l is other old mid so_far s h = subst (MoreAnswers s mid) (sym (next_passed i x d l is other)) (so_far s h)
 
-  -- where one is refused, all are, or those before it have been pushed
+  -- if a push fails, the reason is one for all matches, or the matches before it have been pushed
   pub refused_next : (i : ℕ) (x d : R) → i < length table → x ≡ get_or table i d → is_asked asked (item x) ≡ true → (old mid : Built)
       → InEach InAnswer Plain old (λ s. MoreAnswers s mid (first i)) → (result : Result (Unit {0}) PushError)
       → (result ≡ Err ShortBuf → InEach InAnswer Plain mid (λ t. Passes None (size_after Plain (with_record InAnswer (item x)) t)))
@@ -127,20 +127,20 @@ module _ {R : Type 0} (item : R → RecordItem) (asked : QuestionItem) (table : 
         subst (λ (ys : List RecordItem). s.limit < size (with_answers ys s)) all (limit_passed s (first i) (item x) others old mid h (so_far s h) (limit was)),
       )
 
-  -- at last all are
+  -- at the end all matches are pushed
   pub pushes_all : (s : State) (b : Built) → MoreAnswers s b (first (length table)) → MoreAnswers s b (asked_records asked (map item table))
   pushes_all s b more = subst (λ (ys : List R). MoreAnswers s b (asked_records asked (map item ys))) (take-length table) more
 
--- a choice by a test that is known
+-- the choice of `all_or_none`, by a test whose outcome is known
 chosen : (xs : List RecordItem) (s : State) (b : Bool) → nat_le (size (with_answers xs s)) s.limit ≡ b → all_or_none xs s ≡ cond b (with_answers xs s) (tc_rewound InAnswer s)
 chosen xs s b is = ap (λ (t : Bool). cond t (with_answers xs s) (tc_rewound InAnswer s)) is
 
--- all that were found are added
+-- all matches are added
 pub all_added : (xs : List RecordItem) (s : State) (new : Built) → MoreAnswers s new xs → AddsAll xs s (Ok new)
 all_added xs s new more l =
     subst (λ (t : State). StandsFor InAnswer Plain t new) (sym (chosen xs s true (le-leb (size (with_answers xs s)) s.limit (more.within l)))) more.stands
 
--- none are, and TC is set
+-- no match is added, and TC is set
 pub none_added : (xs : List RecordItem) (s : State) (mid new : Built) → PushesEach xs s (Err LimitExceeded) mid
     → MovesState InAnswer InAnswer Plain (tc_rewound InAnswer) mid new → AddsAll xs s (Ok new)
 none_added xs s mid new p moves l =

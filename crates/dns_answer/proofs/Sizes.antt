@@ -9,27 +9,27 @@ use Rattle.dns_item.specs.Items.{RecordItem, put_record}
 use Rattle.dns_build.specs.State.{InAnswer, InQuestion, State, Every, all_of, pieces_of, head_of, fold, tc_rewound, with_tc, move_to, up_to}
 use Rattle.dns_answer.specs.Answering.{size, with_answers}
 
--- more pieces are no shorter
+-- further pieces don't shorten the octets
 longer : (ps qs : List Piece) (m : Memory) (w : ℕ) → length (all_of ps m w).octets ≤ length (all_of (ps ++ qs) m w).octets
 longer [] qs m w = omega arith
 longer (p ∷ ps) qs m w =
     let rest = longer ps qs (p m w).memory (w + length (p m w).octets) in
     simp length-append (omega (arith, rest))
 
--- a header and the counts
+-- the header and the counts take 12 octets
 head_size : (s : State) → length (header_octets s.header) ≡ 4 → length (head_of s).octets ≡ 12
 head_size s four = length-append _ _ ∙ ap (λ n. n + 8) four
 
--- how many octets these pieces have behind a header section
+-- the size of a message with these pieces after the header section
 abbrev behind : List Piece → ℕ
 behind ps = 12 + length (all_of ps nothing 12).octets
 
--- the header section, and the pieces behind it
+-- the size of a message is that of the header section and of the pieces after it
 pub sized : (s : State) → length (header_octets s.header) ≡ 4 → size s ≡ 12 + length (all_of (pieces_of Plain s) nothing 12).octets
 unfolding fold
 sized s four = length-append _ _ ∙ (λ i. head_size s four i + length (all_of (pieces_of Plain s) nothing (head_size s four i)).octets)
 
--- a message whose answers are rewound, with TC, is no longer
+-- emptying the answer section and setting TC doesn't lengthen a message
 pub cut_within : (s : State) → length (header_octets s.header) ≡ 4 → length (header_octets (with_tc s.header)) ≡ 4 → size (tc_rewound InAnswer s) ≤ size s
 cut_within s four tc =
     let asked = map (put_question Plain) s.questions in
@@ -38,12 +38,12 @@ cut_within s four tc =
     let b : size (tc_rewound InAnswer s) ≡ behind asked = sized (tc_rewound InAnswer s) tc ∙ ap behind (append-nil asked) in
     omega (arith, a, b, l)
 
--- a move to the answers takes no octet, where there are none behind the questions
+-- moving to the answer section writes no octets if nothing follows the questions
 pub size_moved : (s : State) (xs : List QuestionItem) → size (move_to InAnswer (record (up_to InQuestion s) { questions = xs })) ≡ size (record (up_to InQuestion s) { questions = xs })
 unfolding fold
 size_moved s xs = refl
 
--- more questions are no shorter
+-- further questions don't shorten the message
 pub longer_questions : (s : State) (xs ys : List QuestionItem) → length (header_octets s.header) ≡ 4 → size (record (up_to InQuestion s) { questions = xs }) ≤ size (record (up_to InQuestion s) { questions = xs ++ ys })
 longer_questions s xs ys four =
     let put = put_question Plain in
@@ -53,7 +53,7 @@ longer_questions s xs ys four =
     sized (record (up_to InQuestion s) { questions = xs ++ ys }) four ∙ ap behind (append-nil (map put (xs ++ ys)) ∙ map-append put xs ys) in
     omega (arith, a, b, l)
 
--- more answers are no shorter
+-- further answers don't shorten the message
 pub longer_answers : (s : State) (xs ys : List RecordItem) → length (header_octets s.header) ≡ 4 → size (with_answers xs (up_to InAnswer s)) ≤ size (with_answers (xs ++ ys) (up_to InAnswer s))
 longer_answers s xs ys four =
     let put = put_record Plain in
@@ -70,7 +70,7 @@ longer_answers s xs ys four =
     ∙ ap behind (sym (append_assoc asked (map put (s.answers ++ xs)) (map put ys))) in
     omega (arith, a, b, l)
 
--- whatever is remembered and wherever it is put, a piece has an octet
+-- a piece has at least one octet, for any compression table and at any offset
 abbrev HasOctets : Piece → Type 0
 HasOctets p = (m : Memory) (w : ℕ) → 1 ≤ length (p m w).octets
 
@@ -94,7 +94,7 @@ every_both : (ps qs : List Piece) → Every HasOctets ps → Every HasOctets qs 
 every_both [] qs all others = others
 every_both (p ∷ ps) qs all others = (all.0, every_both ps qs all.1 others)
 
--- so there are as many octets as pieces
+-- so there are at least as many octets as pieces
 pieces_within : (ps : List Piece) (m : Memory) (w : ℕ) → Every HasOctets ps → length ps ≤ length (all_of ps m w).octets
 pieces_within [] m w all = omega arith
 pieces_within (p ∷ ps) m w all =
@@ -102,7 +102,7 @@ pieces_within (p ∷ ps) m w all =
     let rest = pieces_within ps (p m w).memory (w + length (p m w).octets) all.1 in
     simp length-append (omega (arith, first, rest))
 
--- there are no more questions and answers than octets behind the header section
+-- questions and answers together are at most as many as the octets after the header section
 pub items_within : (s : State) → length (header_octets s.header) ≡ 4 → 12 + (length s.questions + length s.answers) ≤ size s
 items_within s four =
     let questions = map (put_question Plain) s.questions in

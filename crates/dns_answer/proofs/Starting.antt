@@ -29,29 +29,29 @@ use Rattle.dns_answer.specs.Answering.{HasNoAnswer, IsMessage, answer_to, asked_
 use Rattle.dns_answer.specs.Pushing.{AddsAll, RefusesMore}
 use Rattle.dns_answer.proofs.Sizes.{sized, size_moved, cut_within, longer_questions, items_within}
 
--- a fresh builder's state, limited to what the client of a query takes
+-- the state of a new builder, limited to what the client of a query accepts
 abbrev pub client : List ℕ → State
 client b = with_limit (payload_size b) fresh
 
--- a size that is said is large enough for a header section
+-- the accepted size is at least that of a header section
 size_large : (o : Option OptItem) → 12 ≤ size_said o
 size_large None = omega arith
 size_large (Some opt) = grind arith
 
--- the first state of a reply has a header section alone
+-- the first state of a reply is within the limit: it is a header section
 starts_within : (rcode : ℕ) (b : List ℕ) → size (answering rcode b (client b)) ≤ payload_size b
 starts_within rcode b =
     let e = sized (answering rcode b (client b)) refl in
     let l = size_large (opt_of b) in
     omega (arith, e, l)
 
--- of two states the first is within a limit if a test says so, and the second is
+-- the state chosen by the test `fits` is within a limit
 either_within : (all none : State) (limit : ℕ) → size none ≤ limit → (fits : Bool) → nat_le (size all) limit ≡ fits → size (cond fits all none) ≤ limit
 either_within all none limit l true is = leb-true (size all) limit is
 either_within all none limit l false is = l
 
 module _ (b : List ℕ) where
-  -- an answer that asks all questions of the query is within the limit
+  -- a reply with all questions of the query is within the limit
   pub started_within : AreAccepted None true Plain (answering 0 b (client b)) (readable_questions b) → size (asked_again b) ≤ payload_size b
   started_within accepted =
       let l = accepted_within None true Plain (answering 0 b (client b)) (readable_questions b) accepted (starts_within 0 b) in
@@ -62,7 +62,7 @@ module _ (b : List ℕ) where
   abbrev asking : List QuestionItem → State
   asking xs = with_questions xs (answering 0 b (client b))
 
-  -- why one of its questions is refused is why there is no answer
+  -- the reason for which a question is refused is the reason for which there is no answer
   pub not_started : (e : PushError) → payload_size b ≤ 65535 → GivesAnswer None true Plain (answering 0 b (client b)) (readable_questions b) (Err e) → HasNoAnswer b (Refused e)
   not_started OutOfMemory small gives = tt
   not_started ShortBuf small gives = gives.1.refused
@@ -82,7 +82,7 @@ module _ (b : List ℕ) where
       let q = p.refused in
       omega (arith, k, n, q)
 
-  -- nor has one whose records are refused
+  -- nor is there an answer if a record is refused for another reason than the limit
   pub no_records : (e : PushError) → payload_size b ≤ 65535 → RefusesMore (asked_again b) e → HasNoAnswer b (Refused e)
   no_records OutOfMemory small h = tt
   no_records ShortBuf small h = h
@@ -96,16 +96,16 @@ module _ (b : List ℕ) where
       either_within all (tc_rewound InAnswer (asked_again b)) (payload_size b) (let m = cut_within (asked_again b) refl refl in omega (arith, l, m))
       (nat_le (size all) (payload_size b)) refl
 
-  -- so is an error
+  -- so is a FORMERR reply
   pub error_within : size (format_error b) ≤ payload_size b
   error_within = let e = sized (format_error b) refl in let l = size_large (opt_of b) in omega (arith, e, l)
 
-  -- an answer that was started and has what was found is the answer
+  -- a started reply to which the matches are added is the answer
   pub answered : (table : List RecordItem) (asked : QuestionItem) (mid new : Built) → GivesAnswer None true Plain (answering 0 b (client b)) (readable_questions b) (Ok mid)
       → InEach InAnswer Plain mid (λ s. AddsAll (asked_records asked table) s (Ok new)) → StandsFor InAnswer Plain (answer_to b table asked) new
   answered table asked mid new gives adds = adds (asked_again b) gives.1 (started_within gives.0)
 
-  -- where the first question can't be read, none can
+  -- if the first question can't be read, no question can
   readable : (xs : List (Result QuestionItem Fault)) → ((f : Fault) (ys : List (Result QuestionItem Fault)) → xs ≡ Err f ∷ ys → ys ≡ []) → first_value xs ≡ None → filter_map result_ok xs ≡ []
   readable [] ends first = refl
   readable (Ok x ∷ xs) ends first = absurd (cc)
@@ -117,7 +117,7 @@ module _ (b : List ℕ) where
       let end = readings_of_questions_end b in
       readable (questions_from b (question_count b) header_size) (λ f ys e. end.last (question_count b) header_size _ [] ys f reading e) first
 
-  -- then an error that was started has no question
+  -- so a FORMERR reply has no question
   pub error_started : (new : Built) → asked_first b ≡ None → IsEither None true Plain (answering 1 b (client b)) (readable_questions b) new → StandsFor InAnswer Plain (format_error b) new
   error_started new first gives = by (subst (λ xs. IsEither None true Plain (answering 1 b (client b)) xs new) (none_readable first) gives)
     where
@@ -129,13 +129,13 @@ module _ (b : List ℕ) where
       by (inl p) = p.1
       by (inr p) = absurd (none_refused p.1 p.2.next p.2.others p.2.all)
 
--- what was started for a message is started for the query that it was made of
+-- what is started for the message is started for the octets of the query
 pub for_query : (rcode : ℕ) (b m : List ℕ) (limit : ℕ) (Gives : State → List QuestionItem → Type 0) → m ≡ b → limit ≡ payload_size m
     → Gives (answering rcode m (with_limit limit fresh)) (readable_questions m) → Gives (answering rcode b (client b)) (readable_questions b)
 for_query rcode b m limit Gives is taken gives =
     subst (λ (x : List ℕ). Gives (answering rcode x (client x)) (readable_questions x)) is (subst (λ n. Gives (answering rcode m (with_limit n fresh)) (readable_questions m)) taken gives)
 
--- what a builder stands for is the message of its octets
+-- the octets of a builder are the message of its state
 pub message_of : (s : State) (new : Built) (octets : List ℕ) → StandsFor InAnswer Plain s new → octets ≡ new.written.octets → InEach InAnswer Plain new (λ t. ReadsBack t octets) → IsMessage s octets
 message_of s new octets stands is reads = record { octets = is ∙ ap (λ (w : Written). w.octets) stands.written; reads_back = reads s stands }
 
@@ -143,11 +143,11 @@ message_of s new octets stands is reads = record { octets = is ∙ ap (λ (w : W
 pub message_within : (s : State) (octets : List ℕ) (limit : ℕ) → IsMessage s octets → size s ≤ limit → length octets ≤ limit
 message_within s octets limit is l = subst (λ (o : List ℕ). length o ≤ limit) (sym is.octets) l
 
--- a value, or else another
+-- a value, or another one if there is none
 abbrev or_else : QuestionItem → Option QuestionItem → QuestionItem
 or_else x None = x
 or_else x (Some y) = y
 
--- what stands in the same `Some` is the same
+-- `Some` is injective
 pub some_same : (x y : QuestionItem) → Some x ≡ Some y → x ≡ y
 some_same x y e = ap (or_else x) e

@@ -1,4 +1,4 @@
--- How the records that a question asks for are pushed. RFC 1035 section 4.1.
+-- How the records that match a question are pushed. RFC 1035 section 4.1.
 use Rattle.std.specs.Prelude.{◌≤◌, ◌<◌, List, Result, Ok, Err}
 use Rattle.dns_wire.specs.Pieces.{Plain}
 use Rattle.dns_item.specs.Items.{RecordItem}
@@ -8,19 +8,19 @@ use Rattle.dns_build.specs.declared.push_error.PushError.{PushError}
 use Rattle.dns_build.specs.declared.push_error.PushError.TheVariants.{CountOverflow, LimitExceeded, ShortBuf, OutOfMemory}
 use Rattle.dns_answer.specs.Answering.{all_or_none, size, with_answers}
 
--- a builder of answers with more answers, within the limit if it was
+-- a builder with these records appended to the answers of a state, and within the limit if the state is
 pub record MoreAnswers (s : State) (new : Built) (xs : List RecordItem) : Type 0 where
   pub stands : StandsFor InAnswer Plain (with_answers xs s) new
   pub within : size s ≤ s.limit → size (with_answers xs s) ≤ s.limit
 
--- Why none of some records more is pushed: there is no memory, or the limit is above the most records that can be counted.
+-- Why pushing further records fails: an allocation failed, or the limit exceeds 65,535 octets, so that a count can be full.
 abbrev pub RefusesMore : State → PushError → Type 0
 RefusesMore s OutOfMemory = Unit {0}
 RefusesMore s CountOverflow = most_entries < s.limit
 RefusesMore s LimitExceeded = ⊥
 RefusesMore s ShortBuf = ⊥
 
--- All of these records are pushed; or, where all would pass the limit, some; or they are refused.
+-- All of these records are pushed; or some of them are, and all would exceed the limit; or a push fails for another reason.
 abbrev pub PushesEach : List RecordItem → State → Result (Unit {0}) PushError → Built → Type 0
 PushesEach xs s (Ok _) new = MoreAnswers s new xs
 PushesEach xs s (Err LimitExceeded) new = (some : List RecordItem) × MoreAnswers s new some × (s.limit < size (with_answers xs s))
@@ -28,7 +28,7 @@ PushesEach xs s (Err OutOfMemory) new = RefusesMore s OutOfMemory
 PushesEach xs s (Err ShortBuf) new = RefusesMore s ShortBuf
 PushesEach xs s (Err CountOverflow) new = RefusesMore s CountOverflow
 
--- a builder within its limit becomes one with all of these records, or with none and TC; or they are refused
+-- a builder within its limit gets all of these records, or none and TC; or a push fails
 abbrev pub AddsAll : List RecordItem → State → Result Built PushError → Type 0
 AddsAll xs s (Ok new) = size s ≤ s.limit → StandsFor InAnswer Plain (all_or_none xs s) new
 AddsAll xs s (Err e) = RefusesMore s e

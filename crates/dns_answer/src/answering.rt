@@ -1,4 +1,5 @@
-//! Answers to queries from a table of records, cut to what the client takes (RFC 1035 section 4.1, RFC 6891 section 6.2).
+//! Answers queries from a table of records. An answer is no longer than the client accepts (RFC
+//! 1035 section 4.1, RFC 6891 section 6.2).
 ghost use Rattle.std.specs.Prelude.{◌≡◌, ◌≤◌, ◌<◌, IfOk, IfErr, Some, None, Err, length, map, max};
 ghost use Rattle.dns_wire.specs.Pieces.{Plain};
 ghost use Rattle.dns_code.specs.HeaderSection.{header_size};
@@ -24,9 +25,9 @@ use std::alloc::Global;
 /// Why there is no answer.
 #[derive(Clone, Copy, Debug)]
 pub enum NoAnswer {
-    /// The query has fewer than twelve octets, so there is no ID to answer to.
+    /// The query has fewer than 12 octets, so it has no ID to answer to.
     ShortQuery,
-    /// The questions don't fit what the client takes, or memory is refused.
+    /// The questions alone exceed what the client accepts, or an allocation failed.
     Refused(PushError),
 }
 
@@ -41,8 +42,9 @@ impl From<PushError> for NoAnswer {
     }
 }
 
-/// The answer to a query: the records of the table that its first question asks for; if they don't fit what the client
-/// takes, none of them, and TC. A query whose first question can't be read is answered by FORMERR.
+/// Returns the answer to a query: the records of `table` that match its first question. If they
+/// don't fit what the client accepts, the answer has none of them, and TC is set. If the first
+/// question can't be read, the answer has the rcode FORMERR.
 pub fn answer<N: ToName, D: ComposeRecordData>(
     alloc: Global,
     query: &[u8],
@@ -71,7 +73,7 @@ pub fn answer<N: ToName, D: ComposeRecordData>(
     Ok(answered.into_message().into_octets())
 }
 
-/// A builder of a message of at most so many octets.
+/// A builder for a message of at most `limit` octets.
 fn limited(alloc: Global, limit: usize) -> Result<MessageBuilder<Vec<u8>>, PushError>
     ensures stands { IfOk result (StandsFor InBuilder Plain (with_limit limit fresh)) }
     ensures memory { IfErr result (λ error. error ≡ PushError.OutOfMemory) }
@@ -81,7 +83,7 @@ fn limited(alloc: Global, limit: usize) -> Result<MessageBuilder<Vec<u8>>, PushE
     Ok(builder)
 }
 
-/// How many octets the client takes.
+/// The number of octets that the client accepts.
 fn limit_of(query: &Message<&[u8]>) -> usize
     ensures value { result ≡ payload_size (message_octets query.now) }
     ensures within { result ≤ 65535 }
@@ -92,7 +94,8 @@ fn limit_of(query: &Message<&[u8]>) -> usize
     }
 }
 
-/// The builder with the records that the question asks for; where they pass the limit, without any, and with TC.
+/// Pushes the records that match `question`. If they exceed the limit, pushes none of them and sets
+/// TC.
 fn with_found<N: ToName, D: ComposeRecordData>(
     builder: AnswerBuilder<Vec<u8>>,
     question: &Question<ParsedName<'_>>,
@@ -110,7 +113,7 @@ fn with_found<N: ToName, D: ComposeRecordData>(
     }
 }
 
-/// Pushes the records that the question asks for, up to the first that is refused.
+/// Pushes the records that match `question`, up to the first that is refused.
 fn push_found<N: ToName, D: ComposeRecordData>(
     builder: &mut AnswerBuilder<Vec<u8>>,
     question: &Question<ParsedName<'_>>,
@@ -128,7 +131,7 @@ fn push_found<N: ToName, D: ComposeRecordData>(
     Ok(())
 }
 
-/// Whether the record is one that the question asks for.
+/// Whether the record matches the question.
 fn is_asked<N: ToName, D: ComposeRecordData>(
     question: &Question<ParsedName<'_>>,
     found: &Record<N, D>,

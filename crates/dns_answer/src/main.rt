@@ -2,8 +2,9 @@
 //!
 //!     dns_answer < DIGITS
 //!
-//! Standard input has the octets of the query in hexadecimal digits, and the octets of the answer are printed so. What is
-//! answered, and that it is never longer than the client takes, is proved of `answering::answer`.
+//! It reads the query from standard input as hexadecimal digits, and prints the answer in the same
+//! form. The contract of `answering::answer` says what the answer is, and that it is never longer
+//! than the client accepts.
 #![tactic(auto)]
 
 mod answering;

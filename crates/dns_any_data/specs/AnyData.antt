@@ -1,4 +1,4 @@
--- The fields of data of any type.
+-- The fields of RDATA of any type.
 use Rattle.std.proofs.Common.{lit<, subst, sym}
 use Rattle.std.proofs.lemmas.Bool.{le-leb}
 use Rattle.std.specs.Prelude.{◌≡◌, ◌<◌, ◌≤◌, ℕ, List, [], ◌∷◌, length, refl}
@@ -15,7 +15,7 @@ use Rattle.dns_any_data.specs.declared.any_data.Names.TheVariants as names
 abbrev pub rtype_of : AnyData → ℕ
 rtype_of d = d.rtype
 
--- names, before or behind octets
+-- the parts of names and octets: octets and one name, or two names and octets
 abbrev pub parts_with : Names → List ℕ → List Part
 parts_with names.None octets = Octets octets ∷ []
 parts_with (names.One name) octets = Octets octets ∷ CompressibleName (labels name) ∷ []
@@ -25,7 +25,7 @@ parts_with (names.Two first second) octets = CompressibleName (labels first) ∷
 abbrev pub parts_of : AnyData → List Part
 parts_of d = parts_with d.names d.octets.now
 
--- parts that are so many names, and octets that are as many as stand beside them, are laid out so
+-- n names, with as many octets as the type has beside them, are laid out so
 laid_out_so : (n k : ℕ) (few : Names) (octets : List ℕ) → n ≡ count_of few → (0 < count_of few → length octets ≡ k) → length octets ≤ 65535
     → IsLaidOut (layout_of n k) (parts_with few octets)
 laid_out_so n k names.None octets counted beside short =

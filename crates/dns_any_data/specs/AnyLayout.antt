@@ -1,4 +1,4 @@
--- Where the data of a record has names that may be compressed: RFC 1035 section 3.3. Who writes compresses those of no other type: RFC 3597 section 4.
+-- Which names in RDATA may be compressed: RFC 1035 section 3.3. Names in RDATA of other types are never compressed: RFC 3597 section 4.
 use Rattle.std.specs.Prelude.{ℕ, zero, suc, ◌==◌, ◌||◌, if◌then◌else◌}
 use Rattle.dns_data.specs.Layout.{Layout}
 use Rattle.dns_data.specs.Layout.Layout.{DomainName, End, Fixed}
@@ -6,18 +6,18 @@ use Rattle.dns_data.specs.UnknownData.{opaque_layout}
 use Rattle.dns_any_data.specs.declared.any_data.Names.{Names}
 use Rattle.dns_any_data.specs.declared.any_data.Names.TheVariants as names
 
--- how many: one in NS, MD, MF, CNAME, MB, MG, MR, PTR and MX, two in SOA and MINFO
+-- the number of such names: one in NS, MD, MF, CNAME, MB, MG, MR, PTR and MX, two in SOA and MINFO
 abbrev pub names_in : ℕ → ℕ
 names_in rtype =
     if (rtype == 6) || (rtype == 14) then 2
     else if (rtype == 2) || (rtype == 3) || (rtype == 4) || (rtype == 5) || (rtype == 7) || (rtype == 8) || (rtype == 9) || (rtype == 12) || (rtype == 15) then 1
     else 0
 
--- how many octets stand beside them: the preference of MX before its name, and the numbers of SOA behind its names
+-- the number of octets beside them: the preference of MX before its name, and the numbers of SOA after its names
 abbrev pub octets_in : ℕ → ℕ
 octets_in rtype = if rtype == 6 then 20 else if rtype == 15 then 2 else 0
 
--- so many octets before one name, or behind two; or all octets, without a name
+-- octets before one name, or after two; all octets if there is no name
 abbrev pub layout_of : ℕ → ℕ → Layout
 layout_of zero octets = opaque_layout
 layout_of (suc zero) octets = Fixed octets (DomainName End)

@@ -1,4 +1,4 @@
-//! Record data whose names may be compressed, beside other octets (RFC 1035 section 3.3).
+//! RDATA that may have compressed names beside other octets (RFC 1035 section 3.3).
 ghost use Rattle.std.specs.Prelude.{◌≡◌, ◌<◌, ◌≤◌, ◌∷◌, [], length};
 ghost use Rattle.dns_name.specs.Names.{IsName};
 ghost use Rattle.dns_name.specs.ParsedName.{labels};
@@ -16,18 +16,18 @@ use dns_message::name::{ParsedName, ToName, ToNameExt};
 use dns_message::target::Composer;
 use dns_message::wire::{AppendError, ParseError, Parser};
 
-/// The names in some data.
+/// The names in RDATA that may be compressed.
 #[derive(Clone, Copy, Debug)]
 pub enum Names<'a> {
-    /// None that may be compressed.
+    /// No name.
     None,
-    /// One, behind the octets.
+    /// One name, after the octets.
     One(ParsedName<'a>),
-    /// Two, before the octets.
+    /// Two names, before the octets.
     Two(ParsedName<'a>, ParsedName<'a>),
 }
 
-/// The data of a record of any type: the names in it that may be compressed, and its other octets.
+/// The RDATA of a record of any type: the names in it that may be compressed, and its other octets.
 #[derive(Clone, Copy, Debug)]
 pub struct AnyData<'a> {
     rtype: u16,
@@ -38,8 +38,8 @@ pub struct AnyData<'a> {
     ghost short: { length octets.now ≤ 65535 },
 }
 
-/// How many names that may be compressed are in the data of a record type: one in NS, MD, MF, CNAME, MB, MG, MR, PTR and MX,
-/// two in SOA and MINFO (RFC 1035 section 3.3).
+/// The number of names in the RDATA of a type that may be compressed: one in NS, MD, MF, CNAME, MB,
+/// MG, MR, PTR and MX, two in SOA and MINFO (RFC 1035 section 3.3).
 fn names_in(rtype: Rtype) -> usize
     ensures { result ≡ names_in rtype }
 {
@@ -50,7 +50,8 @@ fn names_in(rtype: Rtype) -> usize
     }
 }
 
-/// How many octets such data has beside its names: the numbers of SOA behind them, and the preference of MX before it.
+/// The number of octets beside these names: the numbers of SOA after them, and the preference of MX
+/// before its name.
 fn octets_in(rtype: Rtype) -> usize
     ensures { result ≡ octets_in rtype }
 {
@@ -104,7 +105,7 @@ impl ComposeRecordData for AnyData<'_> {
     }
 }
 
-/// Appends octets, and a name behind them.
+/// Appends octets, followed by a name.
 fn append_name<T: Composer>(
     octets: &[u8],
     name: &ParsedName<'_>,
@@ -120,7 +121,7 @@ fn append_name<T: Composer>(
     target.append_compressed_name(name)
 }
 
-/// Appends two names, and octets behind them.
+/// Appends two names, followed by octets.
 fn append_names<T: Composer>(
     first: &ParsedName<'_>,
     second: &ParsedName<'_>,
@@ -140,7 +141,7 @@ fn append_names<T: Composer>(
     target.append_slice(octets)
 }
 
-/// Appends octets, and a name in canonical form behind them.
+/// Appends octets, followed by a name in canonical form.
 fn append_canonical_name<T: Composer>(
     octets: &[u8],
     name: &ParsedName<'_>,
@@ -155,7 +156,7 @@ fn append_canonical_name<T: Composer>(
     name.compose_canonical(target)
 }
 
-/// Appends two names in canonical form, and octets behind them.
+/// Appends two names in canonical form, followed by octets.
 fn append_canonical_names<T: Composer>(
     first: &ParsedName<'_>,
     second: &ParsedName<'_>,
@@ -192,7 +193,7 @@ impl<'a> ParseAnyRecordData<'a> for AnyData<'a> {
 impl<'a> AnyData<'a> {
     ghost use Rattle.dns_any_data.specs.AnyData.{rtype_of, parts_of};
 
-    /// Reads data without names that may be compressed, up to the parser's end.
+    /// Reads RDATA without names that may be compressed, up to the end of the parser.
     fn parse_opaque(rtype: Rtype, parser: &mut Parser<'a>) -> Result<Self, ParseError>
         requires { names_in rtype ≡ 0 }
         ensures { ParsesLaidOut rtype_of parts_of opaque_layout rtype parser.old parser.new
@@ -210,7 +211,7 @@ impl<'a> AnyData<'a> {
         })
     }
 
-    /// Reads a name behind octets.
+    /// Reads octets followed by a name.
     fn parse_name(rtype: Rtype, parser: &mut Parser<'a>) -> Result<Self, ParseError>
         requires { names_in rtype ≡ 1 }
         ensures { ParsesLaidOut rtype_of parts_of (Fixed (octets_in rtype) (DomainName End)) rtype
@@ -228,7 +229,7 @@ impl<'a> AnyData<'a> {
         })
     }
 
-    /// Reads two names before octets.
+    /// Reads two names followed by octets.
     fn parse_names(rtype: Rtype, parser: &mut Parser<'a>) -> Result<Self, ParseError>
         requires { names_in rtype ≡ 2 }
         ensures { ParsesLaidOut rtype_of parts_of

@@ -1,9 +1,9 @@
-//! Names written by the four compressors, whole messages written by the builder, and a walk over a
-//! message, for C code that times them. Each export but the walk writes the same message so many
-//! times, and hands the last one out.
+//! Exports for C code that measures times: names written by the four compressors, whole messages
+//! written by the builder, and a message that is read whole. Each export but `dns_bench_walk`
+//! writes the same message `rounds` times.
 //!
-//! The last message goes to the beginning of `out`, and its length is answered: 0 where no name
-//! stands, memory is wanting, or `out` is too short.
+//! The last message is copied to the beginning of `out`, and its length is returned. The length is
+//! 0 if a name is malformed, an allocation fails, or `out` is too short.
 #![tactic(auto)]
 
 mod messages;
@@ -22,10 +22,10 @@ use std::convert::AsSlice;
 /// What an export writes.
 #[repr(C)]
 pub struct Work<'a> {
-    /// The names of a message, which stand one behind the other.
+    /// The names of a message, consecutive and in wire format.
     pub names: &'a [u8],
 
-    /// How many messages are written.
+    /// How many times the message is written.
     pub rounds: usize,
 }
 
@@ -104,7 +104,7 @@ pub extern "C" fn dns_bench_index(alloc: Global, work: &Work<'_>, out: &mut [u8]
     write_reused(alloc, target, work, out)
 }
 
-/// Writes each message with a new static compressor over a new target.
+/// Writes each message with a new static compressor over a new `Vec`.
 #[unsafe(no_mangle)]
 pub extern "C" fn dns_bench_fresh_static(alloc: Global, work: &Work<'_>, out: &mut [u8]) -> usize
     ensures { HandsOut out.old out.new result }
@@ -113,7 +113,7 @@ pub extern "C" fn dns_bench_fresh_static(alloc: Global, work: &Work<'_>, out: &m
     write_fresh(alloc, new_target, work, out)
 }
 
-/// Writes each message with a new tree compressor over a new target.
+/// Writes each message with a new tree compressor over a new `Vec`.
 #[unsafe(no_mangle)]
 pub extern "C" fn dns_bench_fresh_tree(alloc: Global, work: &Work<'_>, out: &mut [u8]) -> usize
     ensures { HandsOut out.old out.new result }
@@ -122,7 +122,7 @@ pub extern "C" fn dns_bench_fresh_tree(alloc: Global, work: &Work<'_>, out: &mut
     write_fresh(alloc, new_target, work, out)
 }
 
-/// Writes each message with a new hash compressor over a new target.
+/// Writes each message with a new hash compressor over a new `Vec`.
 #[unsafe(no_mangle)]
 pub extern "C" fn dns_bench_fresh_hash(alloc: Global, work: &Work<'_>, out: &mut [u8]) -> usize
     ensures { HandsOut out.old out.new result }
@@ -131,7 +131,7 @@ pub extern "C" fn dns_bench_fresh_hash(alloc: Global, work: &Work<'_>, out: &mut
     write_fresh(alloc, new_target, work, out)
 }
 
-/// Writes each message with a new index compressor over a new target.
+/// Writes each message with a new index compressor over a new `Vec`.
 #[unsafe(no_mangle)]
 pub extern "C" fn dns_bench_fresh_index(alloc: Global, work: &Work<'_>, out: &mut [u8]) -> usize
     ensures { HandsOut out.old out.new result }
@@ -140,7 +140,7 @@ pub extern "C" fn dns_bench_fresh_index(alloc: Global, work: &Work<'_>, out: &mu
     write_fresh(alloc, new_target, work, out)
 }
 
-/// The sum of all that is read of a message, and all bits set where something can't be read.
+/// The sum of all fields of a message, or `u64::MAX` if the message can't be read.
 #[unsafe(no_mangle)]
 pub extern "C" fn dns_bench_walk(octets: &[u8]) -> u64 {
     match walk::walk(octets) {
@@ -149,13 +149,14 @@ pub extern "C" fn dns_bench_walk(octets: &[u8]) -> u64 {
     }
 }
 
-/// Writes a response with the target of a number: the first name is asked for, and has an address.
+/// Writes a response with the target of this number. The first name is that of the question and of
+/// one A record.
 ///
-/// Targets 0 to 4 are octets, then static, tree, hash and index compressors over octets, emptied
-/// before each message; 5 to 9 are the same, new for each message. 10 and 11 are a static and an
-/// index compressor, emptied before each message, of which each builder has a reference. 12 and 13
-/// are lent too, but new for each message: static compressors over an array of 512 octets, and over
-/// octets.
+/// Targets 0 to 4 are a `Vec`, and static, tree, hash and index compressors over a `Vec`, emptied
+/// before each message; 5 to 9 are the same, new for each message. Targets 10 and 11 are a static
+/// and an index compressor, emptied before each message, which each builder borrows. Targets 12 and
+/// 13 are borrowed too, but new for each message: static compressors over an array of 512 octets
+/// and over a `Vec`.
 #[unsafe(no_mangle)]
 pub extern "C" fn dns_bench_response(
     alloc: Global,
@@ -168,8 +169,8 @@ pub extern "C" fn dns_bench_response(
     write_with(alloc, Kind::Response, target, work, out)
 }
 
-/// Writes a message of many answers, with a target as that of a response: the first name is asked
-/// for, and each name behind it has an address.
+/// Writes a message of many answers, with a target as in `dns_bench_response`. The first name is
+/// that of the question, and each name after it has an A record.
 #[unsafe(no_mangle)]
 pub extern "C" fn dns_bench_zone(
     alloc: Global,

@@ -1,4 +1,4 @@
-//! Whole messages by the builder, one after another: a response, and the answers of a zone transfer.
+//! Writes whole messages with the builder: a response, and the answers of a zone transfer.
 ghost use Rattle.dns_bench.specs.Message.{HandsOut};
 
 use crate::Work;
@@ -12,17 +12,17 @@ use dns_target::{HashCompressor, IndexCompressor, StaticCompressor, TreeCompress
 use dns_wire::{Composer, Name};
 use std::alloc::Global;
 
-/// Which message is written of the names.
+/// Which message is written from the names.
 #[derive(Clone, Copy)]
 pub(crate) enum Kind {
-    /// The first name is asked for, and has one address.
+    /// A question for the first name, and one address of it.
     Response,
 
-    /// The first name is asked for, and each name behind it has an address.
+    /// A question for the first name, and an address of each name after it.
     Zone,
 }
 
-/// The names that stand one behind the other, all without pointers.
+/// Parses consecutive names that have no pointers.
 fn flat_names(alloc: Global, octets: &[u8]) -> Option<Vec<Name<&[u8]>>> {
     let parsed = read_names(alloc, octets)?;
     let mut names = Vec::with_capacity(alloc, parsed.len()).ok()?;
@@ -103,7 +103,7 @@ fn write_kept<T: Composer>(
     hand_out(target.as_slice(), out)
 }
 
-/// The same, but the target stays where it is, and each builder is lent it.
+/// Like `write_kept`, but each builder borrows the target.
 fn write_lent<T: Composer>(
     alloc: Global,
     kind: Kind,
@@ -148,7 +148,7 @@ fn write_fresh<T: Composer, F: Fn() -> T>(
     len
 }
 
-/// The same, but each builder is lent its target.
+/// Like `write_fresh`, but each builder borrows its target.
 fn write_fresh_lent<T: Composer, F: Fn() -> T>(
     alloc: Global,
     kind: Kind,
@@ -173,7 +173,7 @@ fn write_fresh_lent<T: Composer, F: Fn() -> T>(
     len
 }
 
-/// Writes the messages with the target of a number: one of the five that are kept, or another way.
+/// Writes the messages with the target of this number.
 pub(crate) fn write_with(
     alloc: Global,
     kind: Kind,
@@ -197,8 +197,9 @@ pub(crate) fn write_with(
     }
 }
 
-/// Writes each message with a new target, the same five in the same order; and behind them with a static and an index
-/// compressor that are lent, and with new static ones over an array and over a vector, which are lent.
+/// Writes the messages with a target of number 5 or above: the five targets in the same order, new
+/// for each message; a static and an index compressor that are borrowed; new static compressors
+/// over an array and over a `Vec` that are borrowed.
 fn write_otherwise(alloc: Global, kind: Kind, target: u32, work: &Work<'_>, out: &mut [u8]) -> usize
     ensures { HandsOut out.old out.new result }
 {

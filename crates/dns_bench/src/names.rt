@@ -1,4 +1,4 @@
-//! Names that stand one behind the other in octets, and how they are written as one message.
+//! Reads consecutive names, and writes them as one message.
 ghost use Rattle.std.specs.Prelude.{◌≡◌, ◌<◌, take, fold, OnOk};
 ghost use Rattle.dns_wire.specs.Targets.{cut_to};
 ghost use Rattle.dns_bench.specs.Message.{HandsOut, with_name};
@@ -6,8 +6,7 @@ ghost use Rattle.dns_bench.specs.Message.{HandsOut, with_name};
 use dns_wire::{AppendError, Composer, ParsedName, Parser};
 use std::alloc::Global;
 
-/// The names that stand one behind the other. There is no answer where none stands, or memory is
-/// wanting.
+/// Parses consecutive names. Returns `None` if one is malformed or an allocation fails.
 pub(crate) fn read_names(alloc: Global, octets: &[u8]) -> Option<Vec<ParsedName<'_>>> {
     let mut parser = Parser::new(octets);
     let mut names = Vec::new(alloc);
@@ -39,7 +38,7 @@ pub(crate) fn write_names<T: Composer>(
     Ok(())
 }
 
-/// Writes the names as one message, in place of what the target holds.
+/// Writes the names as one message, in place of the target's content.
 pub(crate) fn write_message<T: Composer>(
     target: &mut T,
     names: &[ParsedName<'_>],
@@ -52,7 +51,7 @@ pub(crate) fn write_message<T: Composer>(
     write_names(target, names)
 }
 
-/// Copies a message to the beginning of `out`, and gives its length: 0 where it doesn't fit.
+/// Copies a message to the beginning of `out`. Returns its length, or 0 if it doesn't fit.
 pub(crate) fn hand_out(message: &[u8], out: &mut [u8]) -> usize
     ensures handed_out { HandsOut out.old out.new result }
     ensures message { 0 < result → take result out.new ≡ message.now }

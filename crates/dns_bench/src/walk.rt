@@ -1,11 +1,11 @@
-//! A walk over all of a message, by its cursors: each field, the labels of each name, and the data of each record.
+//! Reads all of a message: each field, the labels of each name, and the RDATA of each record.
 use dns_code::Rtype;
 use dns_data::{A, Cname, Ns};
 use dns_item::{ParsedRecord, Question};
 use dns_read::{Message, RecordSection};
 use dns_wire::ParsedName;
 
-/// The labels but the root, and the octets that the name takes without pointers.
+/// The number of labels without the root, plus the octets of the uncompressed name.
 fn name_sum(name: &ParsedName<'_>) -> u64 {
     let labels = name.label_count() as u64;
     (name.compose_len() as u64)
@@ -19,7 +19,7 @@ fn question_sum(question: &Question<ParsedName<'_>>) -> u64 {
         .wrapping_add(u64::from(question.qclass().to_int()))
 }
 
-/// What the data adds. There is no answer where it can't be read.
+/// What RDATA adds to the sum. `None` if it is malformed.
 fn data_sum(record: &ParsedRecord<'_>) -> Option<u64> {
     match record.rtype() {
         Rtype::A => {
@@ -54,7 +54,7 @@ fn section_sum(section: &mut RecordSection<'_>) -> Option<u64> {
     Some(sum)
 }
 
-/// The header and the counts.
+/// The sum of the header fields and the counts.
 fn header_sum(message: &Message<&[u8]>) -> u64 {
     let header = message.header();
     let octets = header.as_slice();
@@ -67,7 +67,7 @@ fn header_sum(message: &Message<&[u8]>) -> u64 {
         .wrapping_add(u64::from(counts.arcount()))
 }
 
-/// The sum of all that is read. There is no answer where something can't be read.
+/// The sum of all fields of a message. `None` if something can't be read.
 pub(crate) fn walk(octets: &[u8]) -> Option<u64> {
     let message = Message::from_slice(octets).ok()?;
     let mut sum = header_sum(&message);

@@ -15,7 +15,7 @@ use Rattle.dns_section.proofs.theory.StartLemmas.{start_or_fault}
 use Rattle.dns_read.specs.Searches.{answers_query, questions_of}
 
 module _ (b : List ℕ) where
-  -- questions that are the same as others can all be passed
+  -- if questions equal those of another message, all of them can be skipped
   passed : {n p : ℕ} {xs : List (Result QuestionItem Fault)} → Reading (ReadsQuestion b) (QuestionFaultAt b) n p xs
       → (ys : List (Result QuestionItem Fault)) → same_readings xs ys ≡ true → (q : ℕ) × Passed (SkipsQuestion b) n p q
   passed (none {p = p}) ys same = (p, all)
@@ -26,7 +26,7 @@ module _ (b : List ℕ) where
   passed (stop h) [] same = absurd (cc)
   passed (stop h) (y ∷ ys) same = absurd (cc)
 
-  -- so the section behind them has a start, and no fault
+  -- so the section after them has a start, and no fault
   pub no_fault : (query : List ℕ) → answers_query b query ≡ true → (f : Fault) → AnswersFault b f → ⊥
   no_fault query answers f fault =
       let same : same_readings (questions_of b) (questions_of query) ≡ true = second_so _ _ answers in

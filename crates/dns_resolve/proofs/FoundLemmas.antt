@@ -12,13 +12,13 @@ use Rattle.dns_resolve.specs.Resolving.{Finds, Gives, IsAccepted, IsReason, Stop
 use Rattle.dns_resolve.specs.declared.resolving.NoAddresses.{NoAddresses}
 use Rattle.dns_resolve.specs.declared.resolving.NoAddresses.TheVariants.{OtherMessage, Failed, Truncated, OtherType, NoName, Unreadable, OutOfMemory}
 
--- a message without a question that can be read has no canonical name
+-- a message without a readable question has no canonical name
 pub no_name : (b : List ℕ) → asked_first b ≡ None → CanonicalName b None
 unfolding nth_name
 no_name b none = no_question (ap (option_map (λ (q : QuestionItem). q.name)) none)
 
 module _ (query b : List ℕ) (accepted : IsAccepted query b) (reading : List (Result RecordItem Fault)) (is : reading ≡ address_records b) where
-  -- an accepted message gives what is found of its canonical name
+  -- an accepted message gives the addresses that are found for its canonical name
   pub gives : (asked : QuestionItem) (name : Labels) (class : ℕ) → asked_first b ≡ Some asked → asked.rtype ≡ 1 → first_fault (alias_records b) ≡ None
       → CanonicalName b (Some name) → class ≡ asked.class → (found : List A) → Finds name class reading found → Gives query b found
   gives asked name class asks for_addresses aliases canonical same found finds = record {
@@ -32,7 +32,7 @@ module _ (query b : List ℕ) (accepted : IsAccepted query b) (reading : List (R
     finds = subst (λ n. Finds name n (address_records b) found) same (subst (λ r. Finds name class r found) is finds);
   }
 
-  -- where none are found, that is the reason
+  -- if none are found, that is the reason
   pub stops : (reason : NoAddresses) → StopsAt reading reason → IsReason query b reason
   stops OtherMessage h = absurd h
   stops (Failed rcode) h = absurd h

@@ -1,4 +1,4 @@
--- How many octets a query has, and that it is never refused.
+-- How many octets a query has, and that building one never fails.
 use Rattle.std.proofs.Common.{◌≡◌, ◌≤◌, length, length-append, arith, refl}
 use Rattle.std.specs.Prelude.{Result, Ok, Err, IsOk}
 use Rattle.dns_name.specs.Names.{IsName}
@@ -12,7 +12,7 @@ use Rattle.dns_build.specs.declared.push_error.PushError.{PushError}
 use Rattle.dns_build.specs.declared.push_error.PushError.TheVariants as errors
 use Rattle.dns_resolve.specs.Resolving.{asking}
 
--- twelve octets, those of a name, and four
+-- the header section, the name and four octets
 pub query_size : (header : Header) (asked : QuestionItem) → length (header_octets header) ≡ 4 → IsName asked.name → length (fold Plain (asking header asked)).octets ≤ 271
 unfolding fold put_question put_name
 query_size header asked four is =
@@ -20,7 +20,7 @@ query_size header asked four is =
     let few = is.short in
     simp length-append (omega (arith, four, name, few))
 
--- a push that is refused for no reason is accepted
+-- a push that fails for none of the reasons succeeds
 pub accepted : (r : Result (Unit {0}) PushError) → (r ≡ Err errors.ShortBuf → ⊥) → (r ≡ Err errors.OutOfMemory → ⊥) → (r ≡ Err errors.LimitExceeded → ⊥) → (r ≡ Err errors.CountOverflow → ⊥) → IsOk r
 accepted (Ok _) short memory limit count = refl
 accepted (Err errors.ShortBuf) short memory limit count = absurd (short refl)

@@ -29,7 +29,7 @@ use Rattle.dns_resolve.specs.declared.resolving.NoAddresses.TheVariants.{OtherMe
 
 -- Queries: RFC 1035 section 4.1.1.
 
--- the header of a query: an ID, RD, and nothing else
+-- the header of a query: an ID, RD, and no other bit
 abbrev pub query_fields : ℕ → HeaderFields
 query_fields id = record {
   id = id;
@@ -45,7 +45,7 @@ query_fields id = record {
   rcode = 0;
 }
 
--- a header, one question, and no record
+-- the state with a header, one question, and no record
 abbrev pub asking : Header → QuestionItem → State
 asking header asked = record {
   stage = InQuestion;
@@ -57,7 +57,7 @@ asking header asked = record {
   additionals = [];
 }
 
--- the octets are a query that asks this and has nothing else, and are read back as it
+-- the octets are the query with this ID and question and nothing else, and read back as that
 pub record IsQuery (id : ℕ) (asked : QuestionItem) (b : List ℕ) : Type 0 where
   pub header : Header
   pub fields : fields header ≡ query_fields id
@@ -66,7 +66,7 @@ pub record IsQuery (id : ℕ) (asked : QuestionItem) (b : List ℕ) : Type 0 whe
 
 -- Addresses.
 
--- the data of an address record: RFC 1035 section 3.4.1
+-- the RDATA of an A record: RFC 1035 section 3.4.1
 abbrev pub a_layout : ℕ → Option Layout
 a_layout = only 1 (Fixed 4 End)
 
@@ -79,16 +79,16 @@ first_fault [] = None
 first_fault (Ok x ∷ xs) = first_fault xs
 first_fault (Err f ∷ xs) = Some f
 
--- a record of this owner, up to ASCII case, in this class
+-- whether a record has this owner, ignoring ASCII case, and this class
 abbrev pub is_owned : Labels → ℕ → RecordItem → Bool
 is_owned name class x = names_equal x.owner name && (x.class == class)
 
--- The addresses of a name in a class, of a reading of address records without a fault: the data of those that the name owns, in order.
+-- The addresses of a name in a class, in a reading of A records without a fault: the RDATA of those that the name owns, in order.
 pub record Finds (name : Labels) (class : ℕ) (reading : List (Result RecordItem Fault)) (found : List A) : Type 0 where
   pub readable : first_fault reading ≡ None
   pub addresses : map a_parts found ≡ map (λ x. x.parts) (filter (is_owned name class) (filter_map result_ok reading))
 
--- Why none are found: the first fault of a record or its data, or for want of memory.
+-- Why none are found: the first fault of a record or its RDATA, or a failed allocation.
 abbrev pub StopsAt : List (Result RecordItem Fault) → NoAddresses → Type 0
 StopsAt reading (Unreadable e) = first_fault reading ≡ Some (fault_of e)
 StopsAt reading OutOfMemory = Unit {0}
@@ -98,21 +98,21 @@ StopsAt reading Truncated = ⊥
 StopsAt reading OtherType = ⊥
 StopsAt reading NoName = ⊥
 
--- the address records of a message's answer section
+-- the A records of a message's answer section
 abbrev pub address_records : List ℕ → List (Result RecordItem Fault)
 address_records b = limited a_layout (records_of Answer b)
 
--- the aliases of a message's answer section
+-- the CNAME records of a message's answer section
 abbrev pub alias_records : List ℕ → List (Result RecordItem Fault)
 alias_records b = limited cname_layout (records_of Answer b)
 
--- A message answers a query, whole, and its rcode is NOERROR, which is 0, also with the higher bits of an OPT record: RFC 6891 section 6.1.3.
+-- A message is a response to a query, it isn't truncated, and its rcode is NOERROR, which is 0, including the higher bits of an OPT record: RFC 6891 section 6.1.3.
 pub record IsAccepted (query b : List ℕ) : Type 0 where
   pub answers : answers_query b query ≡ true
   pub no_error : opt_rcode_of b ≡ 0
   pub whole : (fields_in (take 4 b)).tc ≡ false
 
--- These are the addresses that an accepted message gives to a query for type A, which is 1: those of the canonical name of what is asked for, in the class that is asked for. All aliases can be read.
+-- These are the addresses that an accepted message gives to a query for type A, which is 1: those of the canonical name of its first question, in the class of that question. All CNAME records of the answer section can be read.
 pub record Gives (query b : List ℕ) (found : List A) : Type 0 where
   pub accepted : IsAccepted query b
   pub asked : QuestionItem
@@ -123,7 +123,7 @@ pub record Gives (query b : List ℕ) (found : List A) : Type 0 where
   pub canonical : CanonicalName b (Some name)
   pub finds : Finds name asked.class (address_records b) found
 
--- the first fault of the aliases of a message's answer section, or of its address records
+-- the first fault of the CNAME records of a message's answer section, or of its A records
 abbrev pub IsFault : List ℕ → Fault → Type 0
 IsFault b f = (first_fault (alias_records b) ≡ Some f) ⊎ (first_fault (address_records b) ≡ Some f)
 
@@ -133,7 +133,7 @@ pub record AsksForOther (b : List ℕ) : Type 0 where
   pub asks : asked_first b ≡ Some asked
   pub other : asked.rtype ≢ 1
 
--- Why a message gives none.
+-- Why a message gives no addresses.
 abbrev pub IsReason : List ℕ → List ℕ → NoAddresses → Type 0
 IsReason query b OtherMessage = answers_query b query ≡ false
 IsReason query b (Failed rcode) = (answers_query b query ≡ true) × (opt_rcode_of b ≡ rcode) × (rcode ≢ 0)

@@ -1,12 +1,14 @@
-//! The program `dns_resolve` is the core of a stub resolver (RFC 1034 section 5.3.1), without the network:
+//! The program `dns_resolve` is the core of a stub resolver (RFC 1034 section 5.3.1), without the
+//! network:
 //!
 //!     dns_resolve < NAME
 //!     dns_resolve < QUERY-AND-ANSWER
 //!
-//! From one line with a name it prints the query for the addresses of that name, in hexadecimal digits. From two lines, the
-//! query and what was received, both in hexadecimal digits, it prints the addresses that are given, one a line. Where there
-//! are none, it ends with status 1, and standard error says why. That a query is one in at most 512 octets, and which
-//! addresses are given, is proved of `resolving::query` and `resolving::addresses`.
+//! For one line with a name, it prints the query for the IPv4 addresses of that name in hexadecimal
+//! digits. For two lines, a query and a received message in hexadecimal digits, it prints the
+//! addresses, one a line. If there are none, it exits with status 1 and a reason on standard error.
+//! The contract of `resolving::query` says that a query has at most 512 octets, and that of
+//! `resolving::addresses` which addresses are found.
 #![tactic(auto)]
 
 mod resolving;
@@ -18,7 +20,8 @@ use dns_message::message::Message;
 use dns_message::name::Name;
 use std::io;
 
-/// The ID of the query that is printed. One that is sent takes an ID that nobody can guess (RFC 5452 section 9.2).
+/// The ID of the query. A program that sends queries has to use unpredictable IDs (RFC 5452 section
+/// 9.2).
 const ID: u16 = 0x1234;
 
 fn main(rt: HostRuntime) -> Result<()> {
@@ -34,7 +37,7 @@ fn main(rt: HostRuntime) -> Result<()> {
     Ok(())
 }
 
-/// Prints the query for the addresses of a name.
+/// Prints the query for the IPv4 addresses of a name.
 fn print_query(rt: &(impl Print + AllocGlobal), name: &str) -> Result<()> {
     let name = Name::vec_from_str(rt.alloc(), name)?;
     let digits = hex::encode(rt.alloc(), query(ID, &name, Rtype::A).as_slice())?;

@@ -1,4 +1,5 @@
-//! Queries for addresses, and the addresses in what is received (RFC 1034 sections 3.6.2 and 5.3.1).
+//! Queries for addresses, and the addresses in received messages (RFC 1034 sections 3.6.2 and
+//! 5.3.1).
 ghost use Rattle.std.specs.Prelude.{◌≡◌, ◌≤◌, IfOk, IfErr, MatchResult, None, Some, length};
 ghost use Rattle.dns_name.specs.Names.{fault_of};
 ghost use Rattle.dns_name.specs.ParsedName.{labels};
@@ -22,25 +23,26 @@ use thiserror::Error;
 /// Why a message gives no addresses.
 #[derive(Clone, Copy, Debug, Error)]
 pub enum NoAddresses {
-    /// It is no answer to the query.
+    /// It is no response to the query.
     #[error("no answer to the query")]
     OtherMessage,
-    /// The server says that it failed, and how.
+    /// Its rcode isn't NOERROR.
     #[error("the server failed")]
     Failed(OptRcode),
-    /// The message was cut short. The query is to be sent again over a stream (RFC 7766 section 5).
+    /// TC is set. The query has to be sent again over TCP (RFC 7766 section 5).
     #[error("cut short")]
     Truncated,
     /// The first question is for another record type than A.
     #[error("no query for addresses")]
     OtherType,
-    /// Nothing is asked for, or twenty aliases follow one another.
+    /// There is no readable question, or a chain of aliases has twenty or more.
     #[error("no canonical name")]
     NoName,
-    /// A record of its answer section can't be read, or the data of an alias or an address.
+    /// A record of the answer section can't be read, or the RDATA of a CNAME or A record is
+    /// malformed.
     #[error("unreadable: {0}")]
     Unreadable(ParseError),
-    /// Memory is refused.
+    /// An allocation failed.
     #[error("out of memory")]
     OutOfMemory,
 }
@@ -56,8 +58,8 @@ impl From<ParseError> for NoAddresses {
     }
 }
 
-/// The query with an ID for the records of a name and a type in class IN. It asks a server to follow aliases itself. 512
-/// octets are enough for every one (RFC 1035 section 4.2.1).
+/// Returns the query for the records of a name and a type in class IN. RD is set, so that the
+/// server follows aliases itself. Every query fits in 512 octets (RFC 1035 section 4.2.1).
 pub fn query<N: ToName>(id: u16, name: &N, rtype: Rtype) -> Message<ArrayVec<u8, 512>>
     ensures asks { IsQuery id (record { name = N.name name.now; rtype = rtype; class = 1 })
         (message_octets result) }
@@ -73,12 +75,13 @@ pub fn query<N: ToName>(id: u16, name: &N, rtype: Rtype) -> Message<ArrayVec<u8,
     questions.into_message()
 }
 
-/// The addresses that a message gives to a query for type A: those of the name that the first question's name is an alias
-/// of, or its own, in that question's class, in the order of the answer section.
+/// Returns the addresses that a response to a query for type A gives: those of the canonical name
+/// of the first question, in its class, in the order of the answer section. The canonical name is
+/// the name at the end of the chain of aliases, or the question's own name if it is no alias.
 ///
-/// A message that is no whole answer with the rcode NOERROR gives none. The higher bits of the rcode are those of the OPT
-/// record, if one can be read. Nor does a message give any whose answer section has a record that can't be read, or the data
-/// of an alias or of an address that can't be, whosever it is.
+/// The response has to be complete and have the rcode NOERROR. The higher bits of the rcode come
+/// from the OPT record, if one can be read. Each record of the answer section has to be readable,
+/// and so does the RDATA of each CNAME and A record, whoever owns it.
 pub fn addresses<Asked: Octets, Received: Octets>(
     alloc: Global,
     query: &Message<Asked>,
@@ -113,7 +116,7 @@ pub fn addresses<Asked: Octets, Received: Octets>(
     found_addresses(alloc, answers, &name, question.qclass())
 }
 
-/// Reads the aliases among these records.
+/// Checks the RDATA of all CNAME records.
 fn check_aliases(answers: RecordSection<'_>) -> Result<(), ParseError>
     ensures { let reading = limited cname_layout (records_left answers.entry) in
         MatchResult result (λ _. first_fault reading ≡ None)
@@ -125,7 +128,7 @@ fn check_aliases(answers: RecordSection<'_>) -> Result<(), ParseError>
     Ok(())
 }
 
-/// The addresses of a name in a class among these records.
+/// The addresses of a name in a class, among the A records.
 fn found_addresses(
     alloc: Global,
     answers: RecordSection<'_>,

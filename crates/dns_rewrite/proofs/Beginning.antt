@@ -8,7 +8,7 @@ use Rattle.dns_build.specs.Standing.{Built, MovesState, StandsFor, fresh}
 use Rattle.dns_build.specs.State.{InAnswer, with_header, with_questions}
 use Rattle.dns_rewrite.specs.Rewriting.{begun}
 
--- an answer that takes the header of the message
+-- an answer with the header of the message
 pub begins : (rule : Rule) (b : List ℕ) (mid new : Built) (header : Header) → IsAnswer rule (with_questions (readable_questions b) (answering 0 b fresh)) mid
     → header_octets header ≡ take 4 b → MovesState InAnswer InAnswer rule (with_header header) mid new → StandsFor InAnswer rule (begun b) new
 begins rule b mid new header stands same moves =

@@ -14,7 +14,7 @@ use Rattle.dns_section.specs.declared.section.Section.TheVariants.{Answer, Autho
 use Rattle.dns_any_data.specs.AnyLayout.{any_layout}
 use Rattle.dns_rewrite.specs.Rewriting.{first_fault, HasFault, MessageReads, SectionReads, records_at}
 
--- the first fault of the records that are left, with their data
+-- the first fault of the remaining records, with their RDATA
 abbrev pub fault_left : RecordSection → Option Fault
 fault_left cursor = first_fault (limited (every any_layout) (records_left cursor))
 
@@ -30,7 +30,7 @@ module _ (b : List ℕ) (which : Section) (cursor : RecordSection) (begins : Beg
   pub whole_section : fault_left cursor ≡ None → SectionReads b which
   whole_section whole = record { start = position cursor; starts = begins.start; records = first_of_section ∙ whole }
 
--- what checking the last section answers, where all before it can be read
+-- what checking the last section returns, if all sections before it can be read
 pub checked : (b : List ℕ) (questions : QuestionSection) (answers authorities additionals : RecordSection) (result : Result (Unit {0}) ParseError)
     → BeginsQuestions b questions → BeginsSection Answer b answers → BeginsSection Authority b authorities → BeginsSection Additional b additionals
     → first_fault (questions_left questions) ≡ None → fault_left answers ≡ None → fault_left authorities ≡ None

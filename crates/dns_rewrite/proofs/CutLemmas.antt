@@ -1,4 +1,4 @@
--- A record that is cut, by what reading its data answers.
+-- A record with its TTL capped, by what reading its RDATA returns.
 use Rattle.std.proofs.Common.{◌≡◌, ◌∙◌, ap, sym, refl, ℕ, ◌≤◌, List, inl, inr, length, arith, Bool, true, false}
 use Rattle.std.proofs.lemmas.Bool.Decides.{leb_tells}
 use Rattle.std.specs.Prelude.{◌==◌, if◌then◌else◌, min, not, Some, None, Result, Ok, Err}
@@ -19,7 +19,7 @@ use Rattle.dns_item.specs.TypedRecords.{laid_out, typed_answer, with_parts}
 use Rattle.dns_item.specs.declared.record.Record.{Record}
 use Rattle.dns_rewrite.specs.Rewriting.{cut_answer, with_ttl_cut}
 
--- what reading the data of a record answers is what its layout answers, also where the data isn't there
+-- reading the RDATA of a record returns what its layout says, also if the RDATA is incomplete
 pub laid_out-read : {D : Type 0} (rtype_of : D → ℕ) (parts_of : D → List Part) (x : StandingRecord) (layout : Layout) (r : Result (Record ParsedName D) ParseError) → x.entry.data_start ≤ x.entry.data_end
     → AnswersLaidOut rtype_of parts_of x.octets x.entry layout r → typed_answer rtype_of parts_of r ≡ laid_out x layout
 laid_out-read rtype_of parts_of x layout r start h =
@@ -39,7 +39,7 @@ cached true item other = absurd (cc)
 cached false item other = refl
 
 module _ {D : Type 0} (rtype_of : D → ℕ) (parts_of : D → List Part) (most : ℕ) where
-  -- a record that isn't OPT is kept, with its TTL cut
+  -- a record that isn't OPT is written, with its TTL capped
   pub record_cut : (x : RecordEntry) (d : Result (List Part) Fault) (r after : Record ParsedName D) (ttl : ℕ) → typed_answer rtype_of parts_of (Ok r) ≡ with_parts x d → (x.rtype == 41) ≡ false
       → HasFields after (owner_of r) (class_of r) ttl (data_of r) → ttl ≡ min (ttl_of r) most → Some (record_item labels rtype_of parts_of after) ≡ cut_answer most (with_parts x d)
   record_cut x (Ok parts) r after ttl read other has is =
@@ -55,6 +55,6 @@ module _ {D : Type 0} (rtype_of : D → ℕ) (parts_of : D → List Part) (most 
       ap (λ (item : RecordItem). Some item) (cut ∙ ap (with_ttl_cut most) same) ∙ cached (x.rtype == 41) (with_ttl_cut most (item_of x parts)) other
   record_cut x (Err f) r after ttl read other has is = absurd (cc)
 
-  -- one whose data can't be read isn't
+  -- one whose RDATA can't be read isn't
   pub fault_dropped : (e : ParseError) (answer : Result RecordItem Fault) → typed_answer rtype_of parts_of (Err e) ≡ answer → None ≡ cut_answer most answer
   fault_dropped e answer read = ap (cut_answer most) read

@@ -1,4 +1,4 @@
--- What is kept of the records of a section.
+-- What is written for the records of a section.
 use Rattle.std.proofs.Common.{◌≡◌, ◌∙◌, ap, refl, ℕ, Bool, true, false, List, [], ◌∷◌, map}
 use Rattle.std.specs.List.{cons_option, filter_map}
 use Rattle.std.specs.Prelude.{cond, if◌then◌else◌, filter, Option, Some, None, option_map, Result, Ok, Err}
@@ -17,11 +17,11 @@ use Rattle.dns_build.specs.KeptRecords.Keeps.{none, dropped, kept}
 use Rattle.dns_any_data.specs.AnyLayout.{any_layout}
 use Rattle.dns_rewrite.specs.Rewriting.{CutsSection, cut_answer, is_cached, values, with_ttl_cut}
 
--- a record where it stands, as it is kept
+-- what is written for a record in its message
 abbrev pub cut_standing : ℕ → StandingRecord → Option RecordItem
 cut_standing most x = cut_answer most (laid_out x (any_layout x.entry.rtype))
 
--- so of an item of a reading
+-- what is written for an item of a reading
 abbrev cut_item : ℕ → Result StandingRecord Fault → Option RecordItem
 cut_item most (Ok x) = cut_standing most x
 cut_item most (Err f) = None
@@ -36,7 +36,7 @@ one_more : (most : ℕ) (r : Result RecordItem Fault) (rest : List (Result Recor
 one_more most (Ok x) rest = chosen most (is_cached x) x (filter is_cached (values rest))
 one_more most (Err f) rest = refl
 
--- what is kept of a reading, by the records with their data
+-- what is written for a reading, by its records with their RDATA
 kept_of : (most : ℕ) (xs : List (Result StandingRecord Fault)) → filter_map (cut_item most) xs ≡ map (with_ttl_cut most) (filter is_cached (values (limited (every any_layout) xs)))
 kept_of most [] = refl
 kept_of most (Ok x ∷ xs) =
@@ -45,7 +45,7 @@ kept_of most (Err f ∷ xs) = kept_of most xs
 
 module _ {F R : Type 0} (call : F → ParsedRecord → Option R → F → Type 0) (item : R → RecordItem) (most : ℕ) (Holds : F → Type 0)
     (cuts : (f : F) (shown : ParsedRecord) (answer : Option R) (g : F) → Holds f → call f shown answer g → (option_map item answer ≡ cut_standing most (standing_record shown)) × Holds g) where
-  -- each record is kept as it is cut
+  -- each record is written as `cut_standing` says
   keeps_cut : {xs : List (Result StandingRecord Fault)} {f g : F} {items : List RecordItem} → Keeps call item xs f items g → Holds f → (items ≡ filter_map (cut_item most) xs) × Holds g
   keeps_cut none h = (refl, h)
   keeps_cut (dropped {xs = xs} shown called rest) h =

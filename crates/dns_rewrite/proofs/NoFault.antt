@@ -1,4 +1,4 @@
--- A message that can be read is copied without a fault.
+-- A message that can be read is copied without an error.
 use Rattle.std.proofs.Common.{◌≡◌, ℕ, Bool, List, [], ◌∷◌, subst}
 use Rattle.std.specs.Prelude.{Option, None, Result, Ok, Err}
 use Rattle.dns_octets.specs.declared.error.ParseError.{ParseError}
@@ -24,7 +24,7 @@ use Rattle.dns_build.specs.declared.copy_records_error.CopyRecordsError.TheVaria
 use Rattle.dns_any_data.specs.AnyLayout.{any_layout}
 use Rattle.dns_rewrite.specs.Rewriting.{MessageReads, SectionReads, first_fault, records_at}
 
--- a section starts at one place, or has a fault before it
+-- a section begins at one offset at most
 one_start : (section : Section) (b : List ℕ) (p q : ℕ) → StartsAt section b p → StartsAt section b q → p ≡ q
 one_start Answer b p q x y = (start_or_fault.answers b).one p q x y
 one_start Authority b p q x y = (start_or_fault.authorities b).one p q x y
@@ -35,12 +35,12 @@ no_start_fault Answer b p f x y = (start_or_fault.answers b).not_both p f x y
 no_start_fault Authority b p f x y = (start_or_fault.authorities b).not_both p f x y
 no_start_fault Additional b p f x y = (start_or_fault.additionals b).not_both p f x y
 
--- a reading without a fault has none behind its first item
+-- a reading without a fault has none after its first item
 behind_first : (r : Result RecordItem Fault) (rest : List (Result RecordItem Fault)) → first_fault (r ∷ rest) ≡ None → first_fault rest ≡ None
 behind_first (Ok x) rest whole = whole
 behind_first (Err f) rest whole = absurd (cc)
 
--- each section of a message that can be read
+-- each section of a readable message can be read
 pub section_reads : (b : List ℕ) → MessageReads b → (section : Section) → SectionReads b section
 section_reads b reads Answer = reads.answers
 section_reads b reads Authority = reads.authorities

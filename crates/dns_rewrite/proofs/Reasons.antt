@@ -1,4 +1,4 @@
--- Why a message has no copy with its TTLs cut.
+-- Why a message isn't copied.
 use Rattle.std.proofs.Common.{◌≡◌, ◌≤◌, ℕ, Bool, List, [], length, refl, arith, None}
 use Rattle.std.specs.List.{filter_map}
 use Rattle.std.specs.Result.{result_ok}
@@ -36,7 +36,7 @@ use Rattle.dns_rewrite.proofs.NoFault.{no_fault, section_reads}
 use Rattle.dns_rewrite.proofs.Refusing.{AreFew, IsOpen, asking_refused, copying_refused}
 use Rattle.dns_rewrite.proofs.Sizes.{IsNamed, IsShort}
 
--- data of any type is short
+-- a bound for the RDATA of any type
 name_octets : (name : ParsedName) → parts_size (parts_with (names.One name) []) ≤ 255
 name_octets name = let a = length-uncompressed (labels name) in let b = (standing_name name.name_at.0.1).short in omega (arith, a, b)
 
@@ -45,12 +45,12 @@ parts_short names.None octets short = omega (arith, short)
 parts_short (names.One name) octets short = let a = name_octets name in omega (arith, short, a)
 parts_short (names.Two first second) octets short = let a = name_octets first in let b = name_octets second in omega (arith, short, a, b)
 
--- so is a record with it
+-- and for a record with it
 short_record : (r : Record ParsedName AnyData) → IsShort (record_item labels rtype_of parts_of r)
 short_record r = record { owner = standing_name r.owner.name_at.0.1; parts = parts_short r.data.names r.data.octets.now r.data.short }
 
 module _ (b : List ℕ) where
-  -- questions that can be read have names, and are no more than are asked for
+  -- readable questions have valid names, and are at most as many as the count says
   readable_named : {n p : ℕ} {xs : List (Result QuestionItem Fault)} → Reading (ReadsQuestion b) (QuestionFaultAt b) n p xs → Every IsNamed (filter_map result_ok xs)
   readable_named none = tt
   readable_named (entry reads rest) = (standing_name reads.name, readable_named rest)
@@ -61,7 +61,7 @@ module _ (b : List ℕ) where
   readable_few (entry reads rest) = let l = readable_few rest in omega (arith, l)
   readable_few (stop faulty) = omega arith
 
-  -- an answer isn't started for want of memory alone
+  -- starting an answer fails only if an allocation failed
   pub not_begun : (grows : Bool) (e : PushError) → question_count b ≤ most_entries
       → GivesAnswer None grows Static (answering 0 b fresh) (readable_questions b) (Err e) → e ≡ OutOfMemory
   not_begun grows e few gives =
@@ -78,7 +78,7 @@ module _ (b : List ℕ) where
       } in
       asking_refused grows s (readable_questions b) gives.0 e s_is_open (readable_named reading) (omega (arith, few, l)) gives.1
 
-  -- a message with the questions of another is open
+  -- a builder with the questions of a message is open
   begun_open : (new : Built) → question_count b ≤ most_entries → StandsFor InAnswer Static (begun b) new → IsOpen (begun b)
   begun_open new few stands =
       let reading = (questions_from_are_read b).reading (question_count b) header_size in
@@ -92,7 +92,7 @@ module _ (b : List ℕ) where
         additionals = omega arith;
       }
 
-  -- why a copy of a message that can be read is refused
+  -- why copying a readable message fails
   pub reason : (grows : Bool) {F : Type 0} (call : F → ParsedRecord → Option (Record ParsedName AnyData) → F → Type 0) (f : F) (new : Built) (e : CopyRecordsError)
       → question_count b ≤ most_entries → AreFew b → StandsFor InAnswer Static (begun b) new
       → CopiesMessage call (record_item labels rtype_of parts_of) None grows Static b f (begun b) (Err e) → MessageReads b → IsReason b e

@@ -1,4 +1,4 @@
--- Why a push is refused, where there is no limit and no bound of room: for want of memory alone.
+-- Why a push fails if there is no limit and no bound on the capacity: only because an allocation failed.
 use Rattle.std.proofs.Common.{◌≡◌, ◌∙◌, ℕ, ◌+◌, ◌<◌, ◌≤◌, Bool, List, [], ◌∷◌, ◌++◌, length, length-append, ap, sym, refl, subst, arith, None}
 use Rattle.std.proofs.lemmas.List.{length-map}
 use Rattle.std.specs.Prelude.{option_map, Option, Some, Result, Ok, Err}
@@ -28,7 +28,7 @@ use Rattle.dns_build.specs.declared.push_error.PushError.TheVariants.{CountOverf
 use Rattle.dns_build.proofs.theory.Folds.{every_append}
 use Rattle.dns_rewrite.proofs.Sizes.{HasShortItems, IsNamed, IsShort, items_of, short_message}
 
--- a state without a limit, with short items that can be counted
+-- a state without a limit, with short items, each section within the greatest count
 pub record IsOpen (s : State) : Type 0 where
   pub limit : s.limit ≡ no_limit
   pub short : HasShortItems s
@@ -37,12 +37,12 @@ pub record IsOpen (s : State) : Type 0 where
   pub authorities : length s.authorities ≤ most_entries
   pub additionals : length s.additionals ≤ most_entries
 
--- what holds of each of two lists together holds of each of either
+-- what holds of all elements of two lists together holds of those of each
 every_parts : {X : Type 0} (P : X → Type 0) (xs ys : List X) → Every P (xs ++ ys) → Every P xs × Every P ys
 every_parts P [] ys all = (tt, all)
 every_parts P (x ∷ xs) ys all = let rest = every_parts P xs ys all.1 in ((all.0, rest.0), rest.1)
 
--- with a short record more it still has short items
+-- with a further short record, a state still has short items
 more_short : (stage : Stage) (s : State) (x : RecordItem) → HasShortItems s → IsShort x → HasShortItems (with_record stage x s)
 more_short InBuilder s x is one = is
 more_short InQuestion s x is one = is
@@ -50,7 +50,7 @@ more_short InAnswer s x is one = record { header = is.header; questions = is.que
 more_short InAuthority s x is one = record { header = is.header; questions = is.questions; answers = is.answers; authorities = every_append IsShort s.authorities (x ∷ []) is.authorities (one, tt); additionals = is.additionals }
 more_short InAdditional s x is one = record { header = is.header; questions = is.questions; answers = is.answers; authorities = is.authorities; additionals = every_append IsShort s.additionals (x ∷ []) is.additionals (one, tt) }
 
--- and one item more
+-- and it has one item more
 more_items : (stage : Stage) (s : State) (x : RecordItem) → items_of (with_record stage x s) ≤ items_of s + 1
 more_items InBuilder s x = omega arith
 more_items InQuestion s x = omega arith
@@ -70,7 +70,7 @@ within_limit stage s x is one =
     let l = is.limit in
     omega (arith, a, b, c, d, e, f, l)
 
--- it is open again, where the record could be counted
+-- it is open again if the record can be counted
 more_open : (stage : Stage) (s : State) (x : RecordItem) → IsOpen s → IsShort x → length (records_at stage s) < most_entries → IsOpen (with_record stage x s)
 more_open InBuilder s x is one few = is
 more_open InQuestion s x is one few = is
@@ -84,7 +84,7 @@ more_open InAdditional s x is one few =
     let n = length-append s.additionals (x ∷ []) in
     record { limit = is.limit; short = more_short InAdditional s x is.short one; questions = is.questions; answers = is.answers; authorities = is.authorities; additionals = omega (arith, n, few) }
 
--- a move to the next section keeps that
+-- moving to the next section keeps a state open
 moved_open : (section : Section) (s : State) → IsOpen s → IsOpen (move_to (stage_of section) s)
 moved_open Answer s is = record {
   limit = is.limit;
@@ -111,7 +111,7 @@ moved_open Additional s is = record {
   additionals = is.additionals;
 }
 
--- with named questions more
+-- further questions with valid names
 asked_short : (s : State) (xs : List QuestionItem) → HasShortItems s → Every IsNamed xs → HasShortItems (with_questions xs s)
 asked_short s xs is all = record { header = is.header; questions = every_append IsNamed s.questions xs is.questions all; answers = is.answers; authorities = is.authorities; additionals = is.additionals }
 
@@ -131,13 +131,13 @@ asked_open s xs is all few =
     let n = length-append s.questions xs in
     record { limit = is.limit; short = asked_short s xs is.short all; questions = omega (arith, n, few); answers = is.answers; authorities = is.authorities; additionals = is.additionals }
 
--- A state at a stage, without records of the sections behind, onto which so many records more can be pushed and counted.
+-- An open state at a stage, without records of later sections, onto which `left` more records can be pushed and counted.
 pub record CanTake (stage : Stage) (left : ℕ) (s : State) : Type 0 where
   pub is_open : IsOpen s
   pub last : s ≡ up_to stage s
   pub counted : length (records_at stage s) + left ≤ most_entries
 
--- a record more in a stage's own list leaves those behind it empty
+-- pushing a record onto a stage's own list leaves the later lists empty
 last_more : (stage : Stage) (s : State) (x : RecordItem) → s ≡ up_to stage s → with_record stage x s ≡ up_to stage (with_record stage x s)
 last_more InBuilder s x e = e
 last_more InQuestion s x e = e
@@ -145,7 +145,7 @@ last_more InAnswer s x e = ap (with_record InAnswer x) e
 last_more InAuthority s x e = ap (with_record InAuthority x) e
 last_more InAdditional s x e = refl
 
--- and is one more there
+-- and adds one record there
 one_more : (stage : Stage) (s : State) (x : RecordItem) → length (records_at stage (with_record stage x s)) ≤ length (records_at stage s) + 1
 one_more InBuilder s x = omega arith
 one_more InQuestion s x = omega arith
@@ -153,11 +153,11 @@ one_more InAnswer s x = let n = length-append s.answers (x ∷ []) in omega (ari
 one_more InAuthority s x = let n = length-append s.authorities (x ∷ []) in omega (arith, n)
 one_more InAdditional s x = let n = length-append s.additionals (x ∷ []) in omega (arith, n)
 
--- fewer can be taken too
+-- fewer records can be pushed too
 fewer : (stage : Stage) {m n : ℕ} {s : State} → n ≤ m → CanTake stage m s → CanTake stage n s
 fewer stage less can = record { is_open = can.is_open; last = can.last; counted = let l = can.counted in omega (arith, less, l) }
 
--- a reading has no more records than are asked for
+-- a reading has at most as many records as the count says
 in_reading : (b : List ℕ) (n p : ℕ) → length (records_in b n p) ≤ n
 unfolding records_in
 in_reading b n p =
@@ -165,7 +165,7 @@ in_reading b n p =
     let l = (readings_of_records_end b).short n p (records_from b n p) ((records_from_are_read b).reading n p) in
     omega (arith, e, l)
 
--- each section can take as many as can be counted, where nothing was pushed into it
+-- a section takes as many records as can be counted if nothing was pushed into it
 takes_answers : (s : State) → IsOpen s → s.answers ≡ [] → CanTake InAnswer most_entries (move_to InAnswer s)
 takes_answers s is none =
     let e = ap (λ (xs : List RecordItem). length xs) none in
@@ -195,7 +195,7 @@ module _ (grows : Bool) where
   question_refused s x left LimitExceeded is one few p = let l = asked_within s x is one in let q = p.1 in absurd (omega (arith, l, q))
   question_refused s x left CountOverflow is one few p = let q = p.2 in absurd (omega (arith, few, q))
 
-  -- so where one is refused behind others
+  -- pushing one of several questions fails only because an allocation failed
   pub asking_refused : (s : State) (xs first : List QuestionItem) (e : PushError) → IsOpen s → Every IsNamed xs → length s.questions + length xs ≤ most_entries
       → RefusesBehind None grows Static s xs first e → e ≡ OutOfMemory
   asking_refused s xs first e is all few p =
@@ -205,7 +205,7 @@ module _ (grows : Bool) where
       let n = length-append s.questions first in
       question_refused (with_questions first s) p.next (length p.others) e (asked_open s first is named.0 (omega (arith, few, l, m))) named.1.0 (omega (arith, few, l, m, n)) p.refused
 
-  -- a push of a short record is refused for want of memory alone
+  -- pushing a short record fails only because an allocation failed
   push_refused : (stage : Stage) (s : State) (x : RecordItem) (left : ℕ) (e : PushError) → CanTake stage (left + 1) s → IsShort x
       → PushAnswers None grows s.limit (size_after Static (with_record stage x) s) (length (records_at stage s)) (Err e) → e ≡ OutOfMemory
   push_refused stage s x left OutOfMemory can one p = refl
@@ -214,13 +214,13 @@ module _ (grows : Bool) where
   push_refused stage s x left CountOverflow can one p = let l = can.counted in let q = p.2 in absurd (omega (arith, l, q))
 
   module _ {R : Type 0} (item : R → RecordItem) (short : (r : R) → IsShort (item r)) where
-    -- so is one of what was kept of a record
+    -- so does pushing what is kept of a record
     kept_refused : (stage : Stage) (s t : State) (kept : Option R) (left : ℕ) (e : PushError) → CanTake stage (left + 1) s
         → PushesKept None grows Static stage (option_map item kept) s (Err e) t → e ≡ OutOfMemory
     kept_refused stage s t None left e can p = let k : Err e ≡ Ok tt = p.0 in absurd (cc)
     kept_refused stage s t (Some r) left e can p = push_refused stage s (item r) left e can (short r) p.0
 
-    -- where it is pushed, one record fewer can be
+    -- after it is pushed, one record fewer can be pushed
     kept_pushed : (stage : Stage) (s t : State) (kept : Option R) (left : ℕ) → CanTake stage (left + 1) s
         → PushesKept None grows Static stage (option_map item kept) s (Ok tt) t → CanTake stage left t
     kept_pushed stage s t None left can p =

@@ -1,4 +1,4 @@
--- How many octets the messages of states have at most.
+-- Bounds for the octets of the messages of states.
 use Rattle.std.proofs.Common.{◌≡◌, ◌∙◌, ℕ, ◌+◌, ◌*◌, ◌≤◌, List, [], ◌∷◌, ◌++◌, length, length-append, ap, arith}
 use Rattle.std.proofs.lemmas.List.{length-map}
 use Rattle.std.specs.Prelude.{map}
@@ -12,7 +12,7 @@ use Rattle.dns_question.specs.Questions.{QuestionItem, put_question, question_fi
 use Rattle.dns_item.specs.Items.{RecordItem, put_record, record_fields}
 use Rattle.dns_build.specs.State.{State, Every, all_of, fold, head_of, pieces_of}
 
--- whatever is remembered and wherever it is put, a piece has at most so many octets
+-- a piece has at most n octets, for any compression table and at any offset
 abbrev pub AtMost : ℕ → Piece → Type 0
 AtMost n p = (m : Memory) (w : ℕ) → length (p m w).octets ≤ n
 
@@ -38,11 +38,11 @@ name_most name is m w =
     let c = is.short in
     omega (arith, a, b, c)
 
--- more octets than a question has, or a record
+-- a bound for the octets of a question or a record
 abbrev pub most_octets : ℕ
 most_octets = 131072
 
--- a question about a name
+-- a question with a valid name
 abbrev pub IsNamed : QuestionItem → Type 0
 IsNamed x = IsName x.name
 
@@ -52,7 +52,7 @@ question_most x is m w =
     let a = both_most (put_name Static x.name) (put_octets (question_fields x)) 255 4 (name_most x.name is) (octets_most (question_fields x)) m w in
     omega (arith, a)
 
--- a record with so few octets of data
+-- a record whose parts have at most 66,045 octets
 pub record IsShort (x : RecordItem) : Type 0 where
   pub owner : IsName x.owner
   pub parts : parts_size x.parts ≤ 66045
@@ -68,7 +68,7 @@ record_most x is m w =
     let b = is.parts in
     omega (arith, a, b)
 
--- pieces that have at most so many octets each
+-- pieces of at most `most_octets` octets each
 abbrev Few : List Piece → Type 0
 Few = Every (AtMost most_octets)
 
@@ -93,7 +93,7 @@ few_octets (p ∷ ps) m w all =
 abbrev pub items_of : State → ℕ
 items_of s = length s.questions + (length s.answers + (length s.authorities + length s.additionals))
 
--- the items of a state, each of which has at most so many octets, behind a header
+-- a state with a header of four octets whose items each have at most `most_octets` octets
 pub record HasShortItems (s : State) : Type 0 where
   pub header : length (header_octets s.header) ≡ 4
   pub questions : Every IsNamed s.questions
@@ -101,7 +101,7 @@ pub record HasShortItems (s : State) : Type 0 where
   pub authorities : Every IsShort s.authorities
   pub additionals : Every IsShort s.additionals
 
--- a header and the counts
+-- the header and the counts take 12 octets
 head_size : (s : State) → length (header_octets s.header) ≡ 4 → length (head_of s).octets ≡ 12
 head_size s four = length-append _ _ ∙ ap (λ n. n + 8) four
 

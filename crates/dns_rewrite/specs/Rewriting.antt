@@ -1,4 +1,4 @@
--- A message with its TTLs cut. RFC 1035 sections 3.2.1 and 4.1, RFC 6891 section 6.1.1.
+-- A message with its TTLs capped. RFC 1035 sections 3.2.1 and 4.1, RFC 6891 section 6.1.1.
 use Rattle.std.specs.Prelude.{◌≡◌, ◌==◌, if◌then◌else◌, Bool, not, min, ℕ, List, [], ◌∷◌, map, filter, take, Option, Some, None, Result, Ok, Err}
 use Rattle.std.specs.List.{filter_map}
 use Rattle.std.specs.Result.{result_ok}
@@ -31,11 +31,11 @@ first_fault (Err f ∷ xs) = Some f
 abbrev pub values : {X : Type 0} → List (Result X Fault) → List X
 values = filter_map result_ok
 
--- the records of a section that starts at a place, with their data
+-- the records of a section that begins at an offset, with their RDATA
 abbrev pub records_at : Section → List ℕ → ℕ → List (Result RecordItem Fault)
 records_at section b start = limited (every any_layout) (records_in b (record_count section b) start)
 
--- A message can be read: its questions, and each section's records with their data.
+-- A message can be read: its questions, and each section's records with their RDATA.
 pub record SectionReads (b : List ℕ) (section : Section) : Type 0 where
   pub start : ℕ
   pub starts : StartsAt section b start
@@ -47,27 +47,27 @@ pub record MessageReads (b : List ℕ) : Type 0 where
   pub authorities : SectionReads b Authority
   pub additionals : SectionReads b Additional
 
--- A fault for which it can't be read: the first among the questions, that for which a section has no start, or the first of a section's records and their data.
+-- A fault for which a message can't be read: the first among the questions, that for which a section has no start, or the first of a section's records and their RDATA.
 pub data HasFault (b : List ℕ) (f : Fault) : Type 0 where
   in_questions : first_fault (questions_of b) ≡ Some f → HasFault b f
   before : (section : Section) → StartFault section b f → HasFault b f
   in_records : (section : Section) (start : ℕ) → StartsAt section b start → first_fault (records_at section b start) ≡ Some f → HasFault b f
 
--- OPT is of one message alone, and its TTL is none: RFC 6891 sections 6.1.1 and 6.1.3
+-- whether a record may be cached: OPT may not, and its TTL isn't one: RFC 6891 sections 6.1.1 and 6.1.3
 abbrev pub is_cached : RecordItem → Bool
 is_cached x = not (x.rtype == 41)
 
--- with a TTL of at most so many seconds
+-- a record with a TTL of at most `most` seconds
 abbrev pub with_ttl_cut : ℕ → RecordItem → RecordItem
 with_ttl_cut most x = record x { ttl = min x.ttl most }
 
--- of the records of a section all but OPT, in order, each with its TTL cut
+-- the records of a section without OPT, in order, each with its TTL capped
 pub record CutsSection (most : ℕ) (b : List ℕ) (section : Section) (items : List RecordItem) : Type 0 where
   pub start : ℕ
   pub starts : StartsAt section b start
   pub cut : items ≡ map (with_ttl_cut most) (filter is_cached (values (records_at section b start)))
 
--- The octets are a message with the header, the questions, and in each section the records of a message that can be read, but for OPT, with TTLs of at most so many seconds.
+-- The octets are a message with the header and questions of a readable message, and in each section its records without OPT, with TTLs of at most `most` seconds.
 pub record IsCut (most : ℕ) (b new : List ℕ) : Type 0 where
   pub readable : MessageReads b
   pub state : State
@@ -79,17 +79,17 @@ pub record IsCut (most : ℕ) (b new : List ℕ) : Type 0 where
   pub authorities : CutsSection most b Authority state.authorities
   pub additionals : CutsSection most b Additional state.additionals
 
--- why there is none: a fault; or the message can be read, and memory is refused
+-- why there is no new message: a fault; or the message can be read, and an allocation failed
 abbrev pub IsReason : List ℕ → CopyRecordsError → Type 0
 IsReason b (Parse e) = HasFault b (fault_of e)
 IsReason b (Push e) = MessageReads b × (e ≡ OutOfMemory)
 
--- a record with its data, as it is kept; a fault isn't
+-- a record with its RDATA, as it is written; none for a fault
 abbrev pub cut_answer : ℕ → Result RecordItem Fault → Option RecordItem
 cut_answer most (Ok x) = if is_cached x then Some (with_ttl_cut most x) else None
 cut_answer most (Err f) = None
 
--- a message with the header of another and its questions before the first that can't be read
+-- the state with the header of a message and its questions before the first that can't be read
 abbrev pub begun : List ℕ → State
 begun b = record {
   stage = InAnswer;

@@ -1,11 +1,12 @@
-//! The program `dns_rewrite` writes a message again as a cache keeps it: each TTL is at most so many seconds, and OPT records
-//! are left out, since they are of one message alone (RFC 6891 section 6.1.1).
+//! The program `dns_rewrite` writes a message again as a cache may keep it: it caps each TTL, and
+//! leaves out OPT records, which must not be cached (RFC 6891 section 6.1.1).
 //!
 //!     dns_rewrite < SECONDS-AND-DIGITS
 //!
-//! Standard input has two lines, the most seconds and the octets of the message in hexadecimal digits. The octets of the new
-//! message are printed so, or why there is none. That it reads back as the old one but for that is proved of
-//! `rewriting::with_ttls_cut`.
+//! Standard input has two lines: the maximum TTL in seconds, and the octets of the message in
+//! hexadecimal digits. The program prints the octets of the new message in the same form, or why
+//! there is none. The contract of `rewriting::with_ttls_cut` says that the new message reads back
+//! as the old one except for that.
 #![tactic(auto)]
 
 mod rewriting;

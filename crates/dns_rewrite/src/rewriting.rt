@@ -1,4 +1,5 @@
-//! A message written again with its TTLs cut, as a cache does that keeps no record for longer (RFC 1035 section 3.2.1).
+//! Writes a message again with its TTLs capped, for a cache that keeps no record for longer (RFC
+//! 1035 section 3.2.1).
 ghost use Rattle.std.specs.Prelude.{◌≡◌, ◌≤◌, IfErr, IfOk, MatchResult, None, Some, option_map};
 ghost use Rattle.dns_name.specs.Names.{fault_of};
 ghost use Rattle.dns_name.specs.ParsedName.{labels};
@@ -30,13 +31,14 @@ use dns_message::target::StaticCompressor;
 use dns_message::wire::{Octets, ParseError};
 use std::alloc::Global;
 
-/// What a message is written to.
+/// The target that a message is written to.
 type Target = StaticCompressor<Vec<u8>>;
 
-/// The message with the TTL of each record cut to at most `most`, and without its OPT records.
+/// Returns the message with the TTL of each record capped at `most`, and without its OPT records.
 ///
-/// A message that can't be read to its last record, with the data of its records, is answered by a fault in it, which may
-/// be any one. Octets behind the last record are no fault, and are left out.
+/// Returns an error if a question or a record of the message can't be read, or the RDATA of a
+/// record is malformed; if there are several such errors, it may be any of them. Octets after the
+/// last record are no error, and are left out.
 pub fn with_ttls_cut<Octs: Octets>(
     alloc: Global,
     message: &Message<Octs>,
@@ -53,7 +55,7 @@ pub fn with_ttls_cut<Octs: Octets>(
     Ok(copied.into_message())
 }
 
-/// No section of a message has more entries than a count can tell.
+/// Shows that no section of a message has more than 65,535 entries.
 fn counts_fit<Octs: Octets>(message: &Message<Octs>)
     ensures questions { question_count (message_octets message.now) ≤ most_entries }
     ensures answers { answer_count (message_octets message.now) ≤ most_entries }
@@ -67,7 +69,7 @@ fn counts_fit<Octs: Octets>(message: &Message<Octs>)
     let _additionals = counts.arcount();
 }
 
-/// Reads the questions of a message, and its records with their data.
+/// Checks that all questions of a message and all its records can be read, with their RDATA.
 fn check<Octs: Octets>(message: &Message<Octs>) -> Result<(), ParseError>
     ensures { MatchResult result (λ _. MessageReads (message_octets message.now))
         (λ e. HasFault (message_octets message.now) (fault_of e)) }
@@ -79,7 +81,7 @@ fn check<Octs: Octets>(message: &Message<Octs>) -> Result<(), ParseError>
     check_records(additionals)
 }
 
-/// Reads questions.
+/// Checks that all questions can be read.
 fn check_questions(questions: QuestionSection<'_>) -> Result<(), ParseError>
     ensures { MatchResult result
         (λ _. first_fault (questions_left questions.entry) ≡ None)
@@ -91,7 +93,7 @@ fn check_questions(questions: QuestionSection<'_>) -> Result<(), ParseError>
     Ok(())
 }
 
-/// Reads records with their data.
+/// Checks that all records can be read, with their RDATA.
 fn check_records(records: RecordSection<'_>) -> Result<(), ParseError>
     ensures { let reading = limited (every any_layout) (records_left records.entry) in
         MatchResult result (λ _. first_fault reading ≡ None)
@@ -103,7 +105,7 @@ fn check_records(records: RecordSection<'_>) -> Result<(), ParseError>
     Ok(())
 }
 
-/// A builder with the header of a message and those of its questions that can be read.
+/// A builder with the header of a message and its questions before the first that can't be read.
 fn begun<Octs: Octets>(
     alloc: Global,
     message: &Message<Octs>,
@@ -119,7 +121,7 @@ fn begun<Octs: Octets>(
     Ok(builder)
 }
 
-/// The record with its TTL cut; none for an OPT record, or for one whose data can't be read.
+/// The record with its TTL capped. `None` for an OPT record, or if the RDATA is malformed.
 fn cut<'a>(shown: ParsedRecord<'a>, most: Ttl) -> Option<Record<ParsedName<'a>, AnyData<'a>>>
     ensures { let x = standing_record shown.entry in
         option_map (record_item labels rtype_of parts_of) result

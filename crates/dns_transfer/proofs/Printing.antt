@@ -1,4 +1,4 @@
--- What is printed of items, one behind the other.
+-- What is printed for consecutive items.
 use Rattle.std.proofs.Common.{◌≡◌, ◌∙◌, ℕ, ◌+◌, ◌<◌, inl, inr, Bool, true, false, Option, Some, None, Result, Ok, Err, OnOk, List, [], ◌∷◌, ◌++◌, map, take, length, get_or, ap, refl, sym, subst, append-nil, codes, arith}
 use Rattle.std.specs.Io.KnownBytes.{Appends}
 use Rattle.std.specs.List.{concat, list_all, AllZip}
@@ -51,28 +51,28 @@ more_printed xs i m a b c within at p h =
     subst (λ (ys : List Taken). Prints (IsItemsText ys) a c) (sym all)
     (p.0 ++ h.0, (lines ++ h.0 ∷ [], zip_more front lines (record_answer m) h.0 p.1.1 h.1, joined), appends_both a b c p.0 h.0 p.2 h.2)
 
--- items are whole where all of them are records
+-- items are whole if all of them are records
 pub whole_items : (xs : List Item) → is_whole (map record_answer xs) ≡ list_all is_ok xs
 whole_items [] = refl
 whole_items (Ok x ∷ xs) = whole_items xs
 whole_items (Err e ∷ xs) = refl
 
--- no last line is printed where nothing is left over
+-- no last line is printed if nothing is left over
 pub nothing_left : (items : List Taken) (rest : List ℕ) (a : Option (List ℕ)) → length rest ≡ 0 → Appends a a (ending items rest)
 nothing_left items [] a e = appends_none a
 nothing_left items (octet ∷ rest) a e = absurd (omega arith)
 
 module _ (items : List Item) where
-  -- what the last line is, where something is
+  -- what the last line is if something is left over
   last_line : (octet : ℕ) (rest : List ℕ) (whole : Bool) → list_all is_ok items ≡ whole → ending (map record_answer items) (octet ∷ rest) ≡ (if whole then codes "unreadable message\n" else [])
   last_line octet rest whole e = ap (λ (b : Bool). if b then codes "unreadable message\n" else []) (whole_items items ∙ e)
 
-  -- nor where an item can't be read
+  -- nor if an item can't be read
   pub fault_told : (rest : List ℕ) (a : Option (List ℕ)) → list_all is_ok items ≡ false → Appends a a (ending (map record_answer items) rest)
   fault_told [] a e = appends_none a
   fault_told (octet ∷ rest) a e = subst (λ (l : List ℕ). Appends a a l) (sym (last_line octet rest false e)) (appends_none a)
 
-  -- else it is printed
+  -- otherwise it is printed
   pub ending_printed : {X E : Type 0} (r : Result X E) (rest : List ℕ) (a b : Option (List ℕ)) → (length rest ≡ 0 → ⊥) → list_all is_ok items ≡ true → OnOk r (Appends a b (codes "unreadable message\n"))
       → OnOk r (Appends a b (ending (map record_answer items) rest))
   ending_printed r [] a b some e h = absurd (some refl)
@@ -100,7 +100,7 @@ transfer_printed (Ok x) stream {messages = messages} {rest = rest} {items = item
     )
 transfer_printed (Err e) stream a b c are given transferred first p second h = h
 
--- where it is Ok, a text is printed that has a form
+-- if the result is Ok, a text of this form is printed
 pub on_printed : {X E : Type 0} (r : Result X E) (a b : Option (List ℕ)) (IsText : List ℕ → Type 0) (text : List ℕ) → IsText text → OnOk r (Appends a b text) → OnOk r (Prints IsText a b)
 on_printed (Ok x) a b IsText text is h = (text, is, h)
 on_printed (Err e) a b IsText text is h = h
@@ -116,7 +116,7 @@ module _ {D : Type 0} (rtype_of : D → ℕ) (parts_of : D → List Part) (x : S
   taken_line r None h value = absurd h
   taken_line r (Some layout) h value = same_line r (parts_of (data_of r)) h.0 value
 
-  -- that of a record with data of a type
+  -- the line of a record whose RDATA is of one type
   pub typed_line : (r : Record ParsedName D) (taken : Option Layout) → AnswersTaken rtype_of parts_of x.octets x.entry taken (Ok (Some r)) → (value : List ℕ)
       → IsItemText (Ok x) (record_fields_text (name_text (labels (owner_of r))) (ttl_of r) (class_of r) (rtype_of (data_of r)) value ++ codes "\n")
   typed_line r taken answers value =
@@ -125,7 +125,7 @@ module _ {D : Type 0} (rtype_of : D → ℕ) (parts_of : D → List Part) (x : S
         | inr there ↦ inl (taken_line r taken (answers.gives there) value)
       ]
 
-  -- that of a record with data of any type
+  -- the line of a record whose RDATA is of any type
   pub any_line : (r : Record ParsedName D) (layout : Layout) → AnswersLaidOut rtype_of parts_of x.octets x.entry layout (Ok r) → (value : List ℕ)
       → IsItemText (Ok x) (record_fields_text (name_text (labels (owner_of r))) (ttl_of r) (class_of r) (rtype_of (data_of r)) value ++ codes "\n")
   any_line r layout answers value =
@@ -134,6 +134,6 @@ module _ {D : Type 0} (rtype_of : D → ℕ) (parts_of : D → List Part) (x : S
         | inr there ↦ let given = answers.gives there in inl (same_line r (parts_of (data_of r)) given.0 value)
       ]
 
-  -- data that can't be read
+  -- RDATA that can't be read
   pub no_octets : (e : ParseError) → AnswersLaidOut rtype_of parts_of x.octets x.entry opaque_layout (Err e) → HasNoOctets x
   no_octets e answers = λ there. (fault_of e, answers.gives there)

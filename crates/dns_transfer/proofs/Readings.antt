@@ -30,7 +30,7 @@ module _ (b : List ℕ) where
   unfolding records_in
   records_end n p = reading_ends ((records_from_are_read b).reading n p)
 
-  -- what was taken of a cursor at the start of the answer section are the answers
+  -- what is taken of a cursor at the start of the answer section are the answers
   pub takes_section : (old new : List Taken) (whole : Bool) (cursor : RecordSection) → BeginsSection Answer b cursor → Takes (records_left cursor) old new whole → TakesAnswers b old new whole
   takes_section old new whole cursor begins takes =
       let p = position cursor in
@@ -38,15 +38,15 @@ module _ (b : List ℕ) where
       let t : Takes (records_in b n p) old new whole = subst (λ (xs : List Taken). Takes xs old new whole) begins.fresh.records takes in
       (records_in b n p, section p begins.start, t.0 ∙ ap (λ (xs : List Taken). old ++ xs) (records_end n p), t.1)
 
-  -- the error for which there is no section is all
+  -- if the section has no start, the error for that is the only item
   pub takes_fault : (old new : List (Result ParsedRecord ParseError)) (e : ParseError) → AnswersFault b (fault_of e) → new ≡ old ++ Err e ∷ []
       → TakesAnswers b (map record_answer old) (map record_answer new) false
   takes_fault old new e faulty is =
       (Err (fault_of e) ∷ [], no_section (fault_of e) faulty, ap (map record_answer) is ∙ map-append record_answer old (Err e ∷ []), refl)
 
--- Of messages whose answers are taken one after another, those of one more are.
+-- From the answers of the first messages to those of one more.
 module _ {M : Type 0} (octets_of : M → List ℕ) (messages : List M) where
-  -- whatever the messages from one on give, behind this it is what all give
+  -- this list, followed by what the messages from index i on give, is what all messages give
   abbrev pub IsFront : ℕ → List Taken → Type 0
   IsFront i front = (ys : List Taken) → AreTransferred (map octets_of (drop i messages)) ys → AreTransferred (map octets_of messages) (front ++ ys)
 
@@ -54,20 +54,20 @@ module _ {M : Type 0} (octets_of : M → List ℕ) (messages : List M) where
     split : map octets_of (drop i messages) ≡ octets_of m ∷ map octets_of (drop (i + 1) messages)
     split = at_drop_more (map octets_of) messages i m within ∙ ap (λ (x : M). octets_of x ∷ map octets_of (drop (i + 1) messages)) (sym at)
 
-    -- where they have no fault, the others are left
+    -- without a fault, the remaining messages follow
     pub goes_on : TakesAnswers (octets_of m) old new true → IsFront (i + 1) new
     goes_on takes ys others =
         let here = message (octets_of m) _ takes.0 ys takes.1 (sym takes.3) others in
         let all = front (takes.0 ++ ys) (subst (λ (bs : List (List ℕ)). AreTransferred bs (takes.0 ++ ys)) (sym split) here) in
         subst (AreTransferred (map octets_of messages)) (sym (append_assoc old takes.0 ys) ∙ ap (λ (xs : List Taken). xs ++ ys) (sym takes.2)) all
 
-    -- where they have one, nothing is
+    -- with a fault, nothing follows
     pub ends : TakesAnswers (octets_of m) old new false → AreTransferred (map octets_of messages) new
     ends takes =
         let here = fault (octets_of m) (map octets_of (drop (i + 1) messages)) takes.0 takes.1 (sym takes.3) in
         subst (AreTransferred (map octets_of messages)) (sym takes.2) (front takes.0 (subst (λ (bs : List (List ℕ)). AreTransferred bs takes.0) (sym split) here))
 
-  -- at last none is left
+  -- at the end no message remains
   pub all_taken : (i : ℕ) → length messages ≤ i → (items : List Taken) → IsFront i items → AreTransferred (map octets_of messages) items
   all_taken i end items front =
       let none : AreTransferred (map octets_of (drop i messages)) [] =

@@ -14,7 +14,7 @@ one_answers b (section p x) (no_section f y) = absurd ((start_or_fault.answers b
 one_answers b (no_section f x) (section p y) = absurd ((start_or_fault.answers b).not_both p f y x)
 one_answers b (no_section f x) (no_section g y) = ap (λ (h : Fault). let taken : Taken = Err h in taken ∷ []) ((start_or_fault.answers b).one_fault f g x y)
 
--- what is given, by the messages
+-- what messages give, by the first of them
 abbrev Parts : List (List ℕ) → List Taken → Type 0
 Parts [] zs = zs ≡ []
 Parts (b ∷ bs) zs =

@@ -1,8 +1,10 @@
-//! The program `dns_transfer` prints the records of a zone transfer (RFC 5936), one a line: the messages that a server
-//! sends over a stream stand on standard input, each behind its length in two octets (RFC 1035 section 4.2.2).
+//! The program `dns_transfer` prints the records of a zone transfer (RFC 5936), one a line. It
+//! reads from standard input the messages that a server sends over TCP, each after its length in
+//! two octets (RFC 1035 section 4.2.2).
 //!
-//! It promises that each record of the answer sections is printed once, in order, up to the first that can't be read, and
-//! that a transfer that ends early is told (`print::print_transfer`).
+//! The contract of `print::print_transfer` says that each record of the answer sections is printed
+//! once, in order, up to the first that can't be read, and that a transfer that ends early is
+//! reported.
 #![tactic(auto)]
 
 mod print;

@@ -1,4 +1,4 @@
-//! The records of a transfer printed, one a line, and why it ends early.
+//! Prints the records of a transfer, one a line, and why it ends early.
 ghost use Rattle.std.specs.Prelude.{◌≡◌, map, is_ok, Ok, OnOk};
 ghost use Rattle.std.specs.Io.KnownBytes.{Appends};
 ghost use Rattle.std.specs.List.{list_all};
@@ -14,7 +14,7 @@ use std::alloc::Global;
 use std::io;
 use std::io::Write;
 
-/// Prints the records that the messages of a stream transfer, and why they end early if they do.
+/// Prints the records of the messages in a stream, and why they end early if they do.
 pub(crate) fn print_transfer<W: Write>(
     alloc: Global,
     stream: &[u8],
@@ -40,7 +40,7 @@ fn print_items<W: Write>(writer: &mut W, items: &[Item<'_>]) -> io::Result<()>
     Ok(())
 }
 
-/// Prints the line of a record, or of the first that can't be read.
+/// Prints the line of a record, or that it can't be read.
 fn print_item<W: Write>(writer: &mut W, item: &Item<'_>) -> io::Result<()>
     ensures { OnOk result (Prints (IsItemText (record_answer item.now))
         (W.contents writer.old) (W.contents writer.new)) }
@@ -51,7 +51,8 @@ fn print_item<W: Write>(writer: &mut W, item: &Item<'_>) -> io::Result<()>
     }
 }
 
-/// Prints a record, with its data by its fields if it has data of one of these types that can be read, else as octets.
+/// Prints a record. Its RDATA is printed by its fields if it is well-formed data of one of these
+/// types, otherwise as opaque octets.
 fn print_record<W: Write>(writer: &mut W, record: &ParsedRecord<'_>) -> io::Result<()>
     ensures { OnOk result (Prints (IsItemText (Ok (standing_record «record».now)))
         (W.contents writer.old) (W.contents writer.new)) }
@@ -71,7 +72,7 @@ fn print_record<W: Write>(writer: &mut W, record: &ParsedRecord<'_>) -> io::Resu
     }
 }
 
-/// Prints that octets are left over, where all records could be read.
+/// Prints that octets are left over, if all records could be read.
 fn print_ending<W: Write>(writer: &mut W, items: &[Item<'_>], rest: &[u8]) -> io::Result<()>
     ensures { OnOk result (Appends (W.contents writer.old) (W.contents writer.new)
         (ending (map record_answer items.now) rest.now)) }

@@ -13,7 +13,8 @@ use std::alloc::{AllocError, Global};
 /// A record, or the error of the first that can't be read.
 pub(crate) type Item<'a> = Result<ParsedRecord<'a>, ParseError>;
 
-/// The messages that a stream begins with, up to the first frame that is none, and the octets from there on.
+/// Splits a stream into messages, up to the first length that isn't followed by a message. Also
+/// returns the octets from there on.
 pub(crate) fn messages<'a>(
     alloc: Global,
     stream: &'a [u8],
@@ -30,7 +31,7 @@ pub(crate) fn messages<'a>(
     Ok((messages, rest))
 }
 
-/// The message that a stream begins with, and the octets behind it.
+/// The message at the start of a stream, and the octets after it.
 fn first_message<'a>(stream: &'a [u8]) -> Option<(Message<&'a [u8]>, &'a [u8])>
     ensures { MatchOption result (BeginsWithNone stream.now)
         (λ found. BeginsWith stream.now (message_octets found.0) found.1.now) }
@@ -41,7 +42,8 @@ fn first_message<'a>(stream: &'a [u8]) -> Option<(Message<&'a [u8]>, &'a [u8])>
     Some((Message::from_slice(octets).ok()?, behind))
 }
 
-/// The records of the answer sections of messages, in order, up to the error of the first that can't be read.
+/// Returns the records of the answer sections of messages, in order, up to the error of the first
+/// that can't be read.
 pub(crate) fn items<'a>(
     alloc: Global,
     messages: &'a [Message<&'a [u8]>],
@@ -49,7 +51,7 @@ pub(crate) fn items<'a>(
     ensures given { IfOk result (λ items. AreTransferred (map message_octets messages.now)
         (map record_answer items.items)) }
 
-    // There is no other such list.
+    // There is only one such list.
     ensures one { IfOk result (λ items. (xs : List Taken)
         → AreTransferred (map message_octets messages.now) xs
         → xs ≡ map record_answer items.items) }
@@ -63,7 +65,7 @@ pub(crate) fn items<'a>(
     Ok(items)
 }
 
-/// Appends the records of a message's answer section, and tells whether all could be read.
+/// Appends the records of a message's answer section. Returns whether all could be read.
 fn take_answers<'a>(
     message: &'a Message<&'a [u8]>,
     items: &mut Vec<Item<'a>>,
@@ -80,7 +82,7 @@ fn take_answers<'a>(
     }
 }
 
-/// Appends the records of a section, and tells whether all could be read.
+/// Appends the records of a section. Returns whether all could be read.
 fn take_records<'a>(
     records: RecordSection<'a>,
     items: &mut Vec<Item<'a>>,
