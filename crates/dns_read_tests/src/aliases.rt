@@ -1,11 +1,12 @@
-//! Canonical names: what the first question's name is an alias of.
+//! Canonical names: the name that the first question's name is an alias of.
 use crate::messages::{is_name, message_of};
 use arrayvec::ArrayVec;
 use std::process::Abort;
 use std::test::Fail;
 
-/// A question for example.com. and these answers: bar is an alias of baz, example.com. of foo, foo of bar, baz of foo, and baz
-/// has an address. ANCOUNT is set by each row, so that a row has the first of these answers.
+/// A question for example.com. and these answers: bar is an alias of baz, example.com. of foo, foo
+/// of bar, baz of foo, and baz has an address. Each row sets ANCOUNT, so that it has the first of
+/// these answers.
 const ALIASES: &[u8; 113] =
     b"\x00\x00\x80\x00\x00\x01\x00\x05\x00\x00\x00\x00\x07example\x03com\x00\x00\x01\x00\x01\x03bar\xC0\x0C\x00\x05\x00\x01\x00\x00\x00\x00\x00\x06\x03baz\xC0\x0C\xC0\x0C\x00\x05\x00\x01\x00\x00\x00\x00\x00\x06\x03foo\xC0\x0C\xC0\x3F\x00\x05\x00\x01\x00\x00\x00\x00\x00\x02\xC0\x1D\xC0\x2D\x00\x05\x00\x01\x00\x00\x00\x00\x00\x02\xC0\x3F\xC0\x2D\x00\x01\x00\x01\x00\x00\x00\x00\x00\x04\x7F\x00\x00\x01";
 
@@ -17,11 +18,11 @@ const CANONICAL_NAMES: &[(u8, Option<&[u8]>)] = &[
     (5, None),
 ];
 
-/// A question for a., which is an alias of b. in the class CH.
+/// A question for a., which is an alias of b. in class CH.
 const IN_CLASS_CH: &[u8] =
     b"\x00\x00\x80\x00\x00\x01\x00\x01\x00\x00\x00\x00\x01a\x00\x00\x01\x00\x01\x01a\x00\x00\x05\x00\x03\x00\x00\x00\x00\x00\x03\x01b\x00";
 
-/// A message has this canonical name.
+/// Fails unless the message has this canonical name.
 fn assert_canonical(rt: &impl Abort, row: &str, octets: &[u8], expected: Option<&[u8]>) {
     let message = message_of(rt, octets);
     let is_canonical = match (message.canonical_name(), expected) {

@@ -1,4 +1,4 @@
-//! Records of a section, read with their data.
+//! Records of a section, read with their RDATA.
 use crate::messages::message_of;
 use crate::records::{answers_of, next_start};
 use dns_data::{A, Cname, UnknownRecordData};
@@ -7,27 +7,30 @@ use dns_wire::{FormError, ParseError, ParsedName};
 use std::process::Abort;
 use std::test::Fail;
 
-/// What is answered where octets are left over behind the value of data.
+/// The error if octets are left over after the value of RDATA.
 const LEFT_OVER: ParseError = ParseError::Form(FormError::TRAILING_DATA);
 
 const BAD_POINTER: ParseError = ParseError::Form(FormError::BAD_POINTER);
 
-/// Addresses that an iterator gives, or why one can't be read.
+/// Addresses that an iterator yields, or why one can't be read.
 type Addresses = &'static [Result<[u8; 4], ParseError>];
 
 const FIRST: [u8; 4] = [192, 0, 2, 1];
 
 const SECOND: [u8; 4] = [192, 0, 2, 2];
 
-/// RD; the question example.com. A, its answers 192.0.2.1 and 192.0.2.2, its name server, and 192.0.2.1 again.
+/// RD; the question example.com. A, its answers 192.0.2.1 and 192.0.2.2, its name server, and
+/// 192.0.2.1 again.
 const ALL_SECTIONS: &[u8] =
     b"\x00\x00\x01\x00\x00\x01\x00\x02\x00\x01\x00\x01\x07example\x03com\x00\x00\x01\x00\x01\xC0\x0C\x00\x01\x00\x01\x00\x01\x51\x80\x00\x04\xC0\x00\x02\x01\xC0\x0C\x00\x01\x00\x01\x00\x01\x51\x80\x00\x04\xC0\x00\x02\x02\xC0\x0C\x00\x02\x00\x01\x00\x00\x00\x00\x00\x02\xC0\x0C\xC0\x0C\x00\x01\x00\x01\x00\x01\x51\x80\x00\x04\xC0\x00\x02\x01";
 
-/// Three answers of the root, from 12, 24 and 39 on: a CNAME of the root, the address 192.0.2.1, and the CNAME again.
+/// Three answers of the root, at offsets 12, 24 and 39: a CNAME of the root, the address 192.0.2.1,
+/// and the CNAME again.
 const ADDRESS_BETWEEN: &[u8] =
     b"\x00\x00\x00\x00\x00\x00\x00\x03\x00\x00\x00\x00\x00\x00\x05\x00\x01\x00\x00\x00\x00\x00\x01\x00\x00\x00\x01\x00\x01\x00\x00\x00\x00\x00\x04\xC0\x00\x02\x01\x00\x00\x05\x00\x01\x00\x00\x00\x00\x00\x01\x00";
 
-/// Messages; the addresses in their answers, those of the class IN, and the place that the iterators end at.
+/// Messages; the addresses in their answers, those in class IN, and the offset that the iterators
+/// end at.
 const ROWS: &[(&str, &[u8], Addresses, Addresses, usize)] = &[
     (
         "A record with octets left over",
@@ -66,7 +69,7 @@ const ROWS: &[(&str, &[u8], Addresses, Addresses, usize)] = &[
     ),
 ];
 
-/// What is given next of an iterator over addresses.
+/// The next item of an iterator over addresses.
 fn next_address(addresses: &mut RecordIter<'_, A>) -> Option<Result<[u8; 4], ParseError>> {
     match addresses.next()? {
         Ok(record) => Some(Ok(record.data().octets())),
@@ -74,7 +77,8 @@ fn next_address(addresses: &mut RecordIter<'_, A>) -> Option<Result<[u8; 4], Par
     }
 }
 
-/// An iterator gives these addresses and then nothing, and the cursor that it gives back is at this place.
+/// Fails unless an iterator yields these addresses and then nothing, and its cursor is at offset
+/// `end`.
 fn assert_addresses(
     rt: &impl Abort,
     row: &str,
@@ -101,12 +105,12 @@ fn reads_addresses(rt: HostRuntime) {
     }
 }
 
-/// Data of one octet, in which a name begins that has two.
+/// RDATA of one octet, with the first octet of a pointer.
 const NAME_PAST_THE_END: &[u8; 25] =
     b"\x00\x00\x00\x00\x00\x00\x00\x01\x00\x00\x00\x00\x00\x00\x05\x00\x01\x00\x00\x00\x00\x00\x01\xC0\x0C";
 
-/// Whether the first record can be read, and an iterator over aliases gives one `ShortInput`, and then nothing. Its clone then
-/// stands where the next section starts.
+/// Whether the first record can be read, and an iterator over aliases yields one `ShortInput`, and
+/// then nothing. Its clone is then where the next section begins.
 fn is_short(mut records: RecordSection<'_>) -> bool {
     let mut aliases = records.limit_to::<Cname<ParsedName<'_>>>();
     let is_short = matches!(records.next(), Some(Ok(_)))
@@ -121,7 +125,7 @@ fn is_short(mut records: RecordSection<'_>) -> bool {
 /// The opaque records of a section.
 type Opaque<'a> = AnyRecordIter<'a, UnknownRecordData<&'a [u8]>>;
 
-/// Whether this data is given next.
+/// Whether the next record has this RDATA.
 fn gives(records: &mut Opaque<'_>, data: &[u8]) -> bool {
     match records.next() {
         Some(Ok(record)) => *record.data().data() == data,
@@ -129,8 +133,8 @@ fn gives(records: &mut Opaque<'_>, data: &[u8]) -> bool {
     }
 }
 
-/// Whether an iterator gives the data of the three answers, and then nothing. Its clone then stands where the next section
-/// starts.
+/// Whether an iterator yields the RDATA of the three answers, and then nothing. Its clone is then
+/// where the next section begins.
 fn gives_three(mut records: Opaque<'_>) -> bool {
     let is_given = gives(&mut records, b"\x00")
         && gives(&mut records, &FIRST)
@@ -157,7 +161,7 @@ fn reads_data_of_a_type_and_of_any_type(rt: HostRuntime) {
 const TWO_CLASSES: &[u8; 57] =
     b"\x00\x00\x00\x00\x00\x00\x00\x03\x00\x00\x00\x00\x00\x00\x01\x00\x01\x00\x00\x00\x00\x00\x04\xC0\x00\x02\x01\x00\x00\x01\x00\x03\x00\x00\x00\x00\x00\x04\xC0\x00\x02\x02\x00\x00\x01\x00\x01\x00\x00\x00\x00\x00\x04\xC0\x00\x02\x01";
 
-/// Behind the first address, an iterator and its clone each give these addresses.
+/// Fails unless, after the first address, an iterator and its clone each yield these addresses.
 fn assert_cloned(
     rt: &impl Abort,
     row: &str,
@@ -171,7 +175,7 @@ fn assert_cloned(
     Ok(())
 }
 
-/// Whether an iterator gives the data of the last two addresses, and then nothing.
+/// Whether an iterator yields the RDATA of the last two addresses, and then nothing.
 fn gives_two(mut records: Opaque<'_>) -> bool {
     gives(&mut records, &SECOND) && gives(&mut records, &FIRST) && records.next().is_none()
 }

@@ -1,4 +1,5 @@
-//! Tests of messages that are read: sections, cursors, iterators and searches, with answers from outside.
+//! Tests of reading messages: sections, cursors, iterators and searches. The expected values come
+//! from outside this library.
 //!
 //! Nothing is exported.
 #![tactic(auto)]

@@ -1,4 +1,4 @@
-//! Messages over octets: their header, their holders, and where their sections start.
+//! Messages: their header, the types that hold their octets, and where their sections begin.
 use arrayvec::ArrayVec;
 use dns_code::Header;
 use dns_read::{Message, ShortMessage};
@@ -8,11 +8,11 @@ use std::convert::AsSlice;
 use std::process::Abort;
 use std::test::Fail;
 
-/// A message of a question and an answer, both for example.com.
+/// A message with a question and an answer, both for example.com.
 pub(crate) const POSITIVE_RESPONSE: &[u8; 45] =
     b"\x00\x00\x81\xA0\x00\x01\x00\x01\x00\x00\x00\x00\x07example\x03com\x00\x00\x01\x00\x01\xC0\x0C\x00\x01\x00\x01\x00\x00\x0E\x10\x00\x04\xCB\x00\x71\x01";
 
-/// A message over octets, of which there are twelve or more.
+/// The message in at least 12 octets.
 pub(crate) fn message_of<'a>(rt: &impl Abort, octets: &'a [u8]) -> Message<&'a [u8]> {
     match Message::from_octets(octets) {
         Ok(message) => message,
@@ -20,7 +20,7 @@ pub(crate) fn message_of<'a>(rt: &impl Abort, octets: &'a [u8]) -> Message<&'a [
     }
 }
 
-/// Whether a name has these octets, in full.
+/// Whether a name has these uncompressed octets.
 pub(crate) fn is_name(name: &ParsedName<'_>, octets: &[u8]) -> bool {
     match Name::from_octets(octets) {
         Ok(expected) => name.octets_eq(&expected),
@@ -28,7 +28,7 @@ pub(crate) fn is_name(name: &ParsedName<'_>, octets: &[u8]) -> bool {
     }
 }
 
-/// Octets are these.
+/// Fails unless the octets are these.
 fn assert_octets(rt: &impl Abort, octets: &[u8], expected: &[u8], row: &str) {
     assert!(rt; octets == expected, "{row}");
 }
@@ -69,8 +69,8 @@ fn takes_another_header(rt: HostRuntime) -> Result<(), Fail> {
     Ok(())
 }
 
-/// Where the question, answer, authority and additional sections of a message start, and the zone, prerequisite and update
-/// sections.
+/// Where the question, answer, authority and additional sections of a message begin, and the zone,
+/// prerequisite and update sections.
 fn starts_of(message: &Message<&[u8]>) -> Result<[usize; 7], ParseError> {
     let (questions, answers, authorities, additionals) = message.sections()?;
     Ok([
@@ -104,7 +104,7 @@ fn has_a_header_and_sections(rt: HostRuntime) {
     assert!(rt; starts_of(&message) == Ok([12, 29, 45, 45, 12, 29, 45]));
 }
 
-/// A message converted into another holder has the same octets.
+/// Fails unless the message is converted into one with the same octets.
 fn assert_converted<T: OctetsFrom<S> + AsSlice<u8> + Drop, S>(
     rt: &impl Abort,
     alloc: Global,
@@ -131,7 +131,7 @@ fn changes_holders(rt: HostRuntime) {
     assert!(rt; refused == Some(AppendError::ShortBuf));
 }
 
-/// A message and its clone have the octets of `POSITIVE_RESPONSE`.
+/// Fails unless a message and its clone have the octets of `POSITIVE_RESPONSE`.
 fn assert_cloned(rt: &impl Abort, message: &Message<Vec<u8>>) -> Result<(), Fail> {
     let clone = message.clone()?;
     assert_octets(rt, clone.as_slice(), POSITIVE_RESPONSE, "clone");

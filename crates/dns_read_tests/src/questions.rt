@@ -1,4 +1,4 @@
-//! Questions of messages, and where the answers behind them start.
+//! Questions of messages, and where the answers after them begin.
 use crate::messages::{POSITIVE_RESPONSE, is_name, message_of};
 use dns_code::{Class, Rtype};
 use dns_read::{Message, QuestionSection, RecordSection};
@@ -15,7 +15,7 @@ const LONG_NAME: ParseError = ParseError::Form(FormError::LONG_NAME);
 
 const SHORT: ParseError = ParseError::ShortInput;
 
-/// Messages whose first question can't be read, why, and where their answers start.
+/// Messages whose first question can't be read, why, and where their answers begin.
 const FAULTY: &[(&str, &[u8], ParseError, Result<usize, ParseError>)] = &[
     (
         "Compression loop",
@@ -55,7 +55,7 @@ const FAULTY: &[(&str, &[u8], ParseError, Result<usize, ParseError>)] = &[
     ),
 ];
 
-/// Where a section starts.
+/// Where a section begins.
 pub(crate) fn start_of(
     section: Result<RecordSection<'_>, ParseError>,
 ) -> Result<usize, ParseError> {
@@ -65,7 +65,7 @@ pub(crate) fn start_of(
     }
 }
 
-/// The error that a cursor gives before it gives nothing more.
+/// The error that a cursor yields before it ends.
 fn sole_fault(mut questions: QuestionSection<'_>) -> Option<ParseError> {
     let fault = questions.next()?.err();
     if questions.next().is_some() || questions.next().is_some() {
@@ -74,7 +74,8 @@ fn sole_fault(mut questions: QuestionSection<'_>) -> Option<ParseError> {
     fault
 }
 
-/// A message without records has this fault in its first question, and its answers start here.
+/// Fails unless a message without records has this error in its first question, and its answers
+/// begin at `start`.
 fn assert_faulty(
     rt: &impl Abort,
     row: &str,
@@ -116,7 +117,8 @@ fn ends_at_the_first_fault(rt: HostRuntime) {
     }
 }
 
-/// Whether a message has one question, for this name, its type A, in the class IN, and its answers start here behind it.
+/// Whether a message has one question, for this name, type A and class IN, and its answers begin at
+/// `end`, after it.
 pub(crate) fn has_sole(message: &Message<&[u8]>, name: &[u8], end: usize) -> bool {
     let mut questions = message.question();
     let Some(Ok(question)) = questions.next() else {
@@ -135,7 +137,8 @@ pub(crate) fn has_sole(message: &Message<&[u8]>, name: &[u8], end: usize) -> boo
 const POINTER_INTO_THE_HEADER: &[u8] =
     b"\x00\x00\x00\x00\x00\x01\x00\x00\x00\x00\x00\x00\xC0\x04\x00\x01\x00\x01";
 
-/// A message with one question for the addresses of a name with labels of 63, 63, 63 and `last` octets.
+/// A message with one question for the addresses of a name with labels of 63, 63, 63 and `last`
+/// octets.
 fn long_question(last: u8) -> [u8; 272] {
     let mut octets = [0; 272];
     octets[5] = 1;
@@ -171,6 +174,6 @@ fn goes_over_questions(rt: HostRuntime) {
             readable = readable.wrapping_add(1);
         }
     }
-    // it is a copy that goes on
+    // The loop advances a copy.
     assert!(rt; readable == 2 && questions.pos() == 12);
 }

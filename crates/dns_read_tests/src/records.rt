@@ -1,4 +1,4 @@
-//! Sections of records: what their cursors and the iterator over all of them give.
+//! Sections of records: what their cursors and the iterator over all of them yield.
 use crate::messages::{POSITIVE_RESPONSE, is_name, message_of};
 use crate::questions::{EXAMPLE, has_sole, start_of};
 use dns_data::{A, Cname, UnknownRecordData};
@@ -12,7 +12,7 @@ const BAD_POINTER: ParseError = ParseError::Form(FormError::BAD_POINTER);
 
 const SHORT: ParseError = ParseError::ShortInput;
 
-/// Messages whose only answer can't be read, why, and where their authority section starts.
+/// Messages whose only answer can't be read, why, and where their authority section begins.
 const FAULTY: &[(&str, &[u8], ParseError, Result<usize, ParseError>)] = &[
     (
         "Unreadable answer is passed over",
@@ -34,11 +34,11 @@ const FAULTY: &[(&str, &[u8], ParseError, Result<usize, ParseError>)] = &[
     ),
 ];
 
-/// An additional section with one record whose owner is a pointer to its own place.
+/// An additional section with one record whose owner is a pointer to its own offset.
 const UNREADABLE_ADDITIONAL: &[u8; 24] =
     b"\x00\x00\x00\x00\x00\x00\x00\x00\x00\x00\x00\x01\xC0\x0C\x00\x01\x00\x01\x00\x00\x00\x00\x00\x00";
 
-/// The answer section of a message, whose questions can be skipped.
+/// The answer section of a message whose questions can be skipped.
 pub(crate) fn answers_of<'a>(rt: &impl Abort, message: &'a Message<&[u8]>) -> RecordSection<'a> {
     match message.answer() {
         Ok(answers) => answers,
@@ -46,7 +46,7 @@ pub(crate) fn answers_of<'a>(rt: &impl Abort, message: &'a Message<&[u8]>) -> Re
     }
 }
 
-/// Where the section that a cursor moves on to starts.
+/// Where the section that follows a cursor's begins.
 pub(crate) fn next_start(
     section: Result<Option<RecordSection<'_>>, ParseError>,
 ) -> Result<Option<usize>, ParseError> {
@@ -57,7 +57,7 @@ pub(crate) fn next_start(
     }
 }
 
-/// The error that a cursor gives before it gives nothing more, and where it then moves on to.
+/// The error that a cursor yields before it ends, and where its next section begins then.
 fn sole_fault(
     mut records: RecordSection<'_>,
 ) -> Option<(ParseError, Result<Option<usize>, ParseError>)> {
@@ -68,10 +68,10 @@ fn sole_fault(
     Some((fault, next_start(records.next_section())))
 }
 
-/// The section and the TTL in seconds of a record, or a fault.
+/// The section of a record and its TTL in seconds, or an error.
 type Given = Option<Result<(Section, u32), ParseError>>;
 
-/// What an iterator gives three times.
+/// The next three items of an iterator.
 fn given(mut items: MessageIter<'_>) -> [Given; 3] {
     [
         next_given(&mut items),
@@ -87,7 +87,7 @@ fn next_given(items: &mut MessageIter<'_>) -> Given {
     }
 }
 
-/// Whether a message has answers from this place on, of which the first has this fault.
+/// Whether the answers of a message begin at `start`, and the first one has this error.
 fn is_faulty(
     message: &Message<&[u8]>,
     start: usize,
@@ -133,7 +133,7 @@ fn ends_at_an_additional_record_that_cant_be_read(rt: HostRuntime) -> Result<(),
     Ok(())
 }
 
-/// Whether a record is example.com. 3600 IN A 203.0.113.1, and no alias.
+/// Whether a record is example.com. 3600 IN A 203.0.113.1, and no CNAME.
 fn is_address(record: &ParsedRecord<'_>) -> Result<bool, ParseError> {
     let fields = (
         record.rtype().to_int(),
@@ -165,11 +165,12 @@ fn reads_an_answer(rt: HostRuntime) -> Result<(), Fail> {
     Ok(())
 }
 
-/// An answer foo.example.com. CNAME baz.example.com., and an authority bar.example.com. NS baz.example.com.
+/// An answer foo.example.com. CNAME baz.example.com., and an authority record bar.example.com. NS
+/// baz.example.com.
 const TWO_SECTIONS: &[u8; 100] =
     b"\x00\x00\x00\x00\x00\x00\x00\x01\x00\x01\x00\x00\x03foo\x07example\x03com\x00\x00\x05\x00\x01\x00\x01\x4F\xF0\x00\x11\x03baz\x07example\x03com\x00\x03bar\x07example\x03com\x00\x00\x02\x00\x01\x00\x01\x4F\xF0\x00\x11\x03baz\x07example\x03com\x00";
 
-/// Whether the first record of a message is an alias of this name for 86,000 seconds.
+/// Whether the first record of a message is a CNAME of this name with a TTL of 86,000 seconds.
 fn is_alias_of(message: &Message<&[u8]>, target: &[u8]) -> bool {
     let Some(Ok((record, _))) = message.iter().next() else {
         return false;

@@ -1,4 +1,4 @@
-//! What is looked for in messages: their questions, their OPT record, and records of a type.
+//! Searches in messages: for their questions, their OPT record, and records of a type.
 use crate::messages::{is_name, message_of};
 use dns_data::{A, Ns};
 use dns_read::Message;
@@ -6,7 +6,7 @@ use dns_wire::{FormError, ParseError, ParsedName};
 use std::process::Abort;
 use std::test::Fail;
 
-/// Messages, and the type that their sole question asks for.
+/// Messages, and the type of their sole question.
 const SOLE: &[(&str, &[u8], Result<u16, ParseError>)] = &[
     (
         "Sole question, none",
@@ -25,7 +25,7 @@ const SOLE: &[(&str, &[u8], Result<u16, ParseError>)] = &[
     ),
 ];
 
-/// The type that the sole question of a message asks for.
+/// The type of a message's sole question.
 fn sole_type(message: &Message<&[u8]>) -> Result<u16, ParseError> {
     match message.sole_question() {
         Ok(question) => Ok(question.qtype().to_int()),
@@ -40,7 +40,7 @@ fn has_a_sole_question(rt: HostRuntime) {
     }
 }
 
-/// Questions for AXFR of a. in the class CH, and for NS of the root.
+/// Questions for AXFR of a. in class CH, and for NS of the root.
 const TRANSFER: &[u8] =
     b"\x00\x00\x00\x00\x00\x02\x00\x00\x00\x00\x00\x00\x01a\x00\x00\xFC\x00\x03\x00\x00\x02\x00\x01";
 
@@ -50,7 +50,7 @@ fn has_a_first_question(rt: HostRuntime) {
     assert!(rt; asks_for_transfer(&message) && message.is_xfr());
 }
 
-/// Whether the first question of a message is for AXFR of a. in the class CH.
+/// Whether the first question of a message is for AXFR of a. in class CH.
 fn asks_for_transfer(message: &Message<&[u8]>) -> bool {
     let (Some(question), Some(qtype)) = (message.first_question(), message.qtype()) else {
         return false;
@@ -66,10 +66,11 @@ const QUERY: &[u8] = b"\x00\x07\x00\x00\x00\x01\x00\x00\x00\x00\x00\x00\x01a\x00
 const RESPONSE: &[u8] =
     b"\x00\x07\x80\x00\x00\x01\x00\x00\x00\x00\x00\x00\x01A\x00\x00\x01\x00\x01";
 
-/// A response whose question points to its own place.
+/// A response whose question is a pointer to its own offset.
 const BROKEN: &[u8] = b"\x00\x07\x80\x00\x00\x01\x00\x00\x00\x00\x00\x00\xC0\x0C\x00\x01\x00\x01";
 
-/// Two messages, whether the first is an answer to the second, and whether their questions are the same.
+/// Two messages, whether the first is an answer to the second, and whether their questions are the
+/// same.
 const PAIRS: &[(&str, &[u8], &[u8], bool, bool)] = &[
     ("An answer", RESPONSE, QUERY, true, true),
     ("A query is no answer", QUERY, QUERY, false, true),
@@ -96,7 +97,7 @@ fn knows_an_answer(rt: HostRuntime) {
     }
 }
 
-/// Messages, and the UDP payload size and the rcode that their OPT record tells.
+/// Messages, and the UDP payload size and the rcode of their OPT record.
 const OPTS: &[(&str, &[u8], Option<u16>, u16)] = &[
     (
         "OPT found",
@@ -130,7 +131,7 @@ fn has_an_opt_record(rt: HostRuntime) {
     }
 }
 
-/// An answer whose owner points to its own place.
+/// An answer whose owner is a pointer to its own offset.
 const FAULTY_ANSWER: &[u8] =
     b"\x00\x00\x00\x00\x00\x00\x00\x01\x00\x00\x00\x00\xC0\x0C\x00\x01\x00\x01\x00\x00\x00\x00\x00\x00";
 
@@ -138,7 +139,8 @@ const FAULTY_ANSWER: &[u8] =
 const ANSWER: &[u8; 27] =
     b"\x00\x00\x00\x00\x00\x00\x00\x01\x00\x00\x00\x00\x00\x00\x01\x00\x01\x00\x00\x00\x00\x00\x04\x01\x02\x03\x04";
 
-/// ARCOUNT 2; a record whose owner points to its own place, and the address 1.2.3.4 of the root.
+/// ARCOUNT 2; a record whose owner is a pointer to its own offset, and the address 1.2.3.4 of the
+/// root.
 const LAST_ADDITIONAL: [u8; 39] =
     *b"\x00\x00\x00\x00\x00\x00\x00\x00\x00\x00\x00\x02\xC0\x0C\x00\x01\x00\x01\x00\x00\x00\x00\x00\x00\x00\x00\x01\x00\x01\x00\x00\x00\x00\x00\x04\x01\x02\x03\x04";
 
@@ -150,7 +152,7 @@ fn a_faulty_answer_counts(rt: HostRuntime) {
     assert!(rt; message.contains_answer::<A>() && !message.contains_answer::<Ns<ParsedName<'_>>>());
 }
 
-/// The last additional record's address.
+/// The address in the last additional record.
 fn last_address(octets: &[u8]) -> Option<[u8; 4]> {
     let message = Message::from_slice(octets).ok()?;
     let record = message.get_last_additional::<A>()?;

@@ -19,7 +19,7 @@ fn compare_sections(first: Section, second: Section) -> Option<Ordering>
     first.partial_cmp(&second)
 }
 
-/// Whether a section stands before another one.
+/// Whether a section precedes another one.
 fn stands_before(first: Section, second: Section) -> bool
     ensures { IsTrue result ↔ (sections_before first < sections_before second) }
 {

@@ -1,4 +1,4 @@
--- Appends behind a place are undone by a cut there.
+-- Cutting at a length undoes the appends after it.
 use Rattle.std.proofs.Common.{◌≡◌, ℕ, ◌≤◌, Bool, Option, Result, Ok, Err, [], length, length-append, append-nil, ap, sym, ◌∙◌, refl, subst, arith}
 use Rattle.dns_wire.specs.Pieces.{Piece, IsGrowing, put_octets}
 use Rattle.dns_wire.specs.Targets.{Written, IsTarget, Appends, cut_to}
@@ -6,16 +6,16 @@ use Rattle.dns_octets.specs.declared.error.AppendError.{AppendError}
 use Rattle.dns_wire.proofs.theory.PieceLaws.{cut_to-lay, cut_undoes, same_written}
 use Rattle.dns_wire.proofs.theory.PutNames.{put_octets_grows}
 
--- a cut at its length leaves a target as it is
+-- cutting a target at its own length leaves it as it is
 pub whole : (t : Written) → IsTarget t → cut_to (length t.octets) t ≡ t
 whole t is = ap (cut_to (length t.octets)) (sym (same_written _ _ (append-nil t.octets) refl)) ∙ cut_undoes (put_octets []) t (put_octets_grows []) is
 
--- a target goes on from what it was in its first octets
+-- a target begins with the octets of an earlier one, and a cut gives that back
 pub record GoesOn (len : ℕ) (t u : Written) : Type 0 where
   pub long : len ≤ length u.octets
   pub cut : cut_to len u ≡ t
 
--- an append, whatever its answer, goes on
+-- this holds after an append, whether or not it succeeds
 pub goes_on : (len : ℕ) (t u v : Written) (room : Option ℕ) (grows : Bool) (piece : Piece) (r : Result (Unit {0}) AppendError)
     → IsGrowing piece → GoesOn len t u → Appends room grows piece u v r → GoesOn len t v
 goes_on len t u v room grows piece (Ok x) growing on appends =

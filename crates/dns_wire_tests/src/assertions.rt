@@ -1,4 +1,4 @@
-//! Assertions that many tests make, and the octets and names that they make them of.
+//! Assertions, octets and names that many tests use.
 ghost use Rattle.std.specs.Prelude.{◌≡◌};
 
 use dns_wire::{Name, ParsedName, Parser};
@@ -6,7 +6,7 @@ use std::alloc::Global;
 use std::fmt::{Debug, Display};
 use std::process::Abort;
 
-/// Fails unless the value is the expected one.
+/// Fails unless the value equals the expected one.
 pub(crate) fn assert_same<T: PartialEq + Debug + Drop>(
     rt: &impl Abort,
     what: &str,
@@ -16,36 +16,36 @@ pub(crate) fn assert_same<T: PartialEq + Debug + Drop>(
     assert_eq!(rt; value, expected, "{what}");
 }
 
-/// Fails unless the octets are the expected ones.
+/// Fails unless the octets equal the expected ones.
 pub(crate) fn assert_octets(rt: &impl Abort, what: &str, octets: &[u8], expected: &[u8]) {
     assert_same(rt, what, octets, expected);
 }
 
-/// Fails unless the value is printed so.
+/// Fails unless the value is printed as `text`.
 pub(crate) fn assert_prints<T: Display>(rt: &impl Abort, alloc: Global, value: &T, text: &str) {
     let printed = value.to_string(alloc).expect(rt, text);
     assert_same(rt, "printed", printed.as_str(), text);
 }
 
-/// The name that the octets spell without pointers.
+/// The uncompressed name in these octets.
 pub(crate) fn name_of<'a>(rt: &impl Abort, octets: &'a [u8]) -> Name<&'a [u8]> {
     Name::from_octets(octets).expect(rt, "a name")
 }
 
-/// The name at a place of a message.
+/// The name at offset `place` of a message.
 pub(crate) fn name_at<'a>(rt: &impl Abort, message: &'a [u8], place: usize) -> ParsedName<'a> {
     let mut parser = parser_at(rt, message, place);
     ParsedName::parse(&mut parser).expect(rt, "a name in a message")
 }
 
-/// A parser at a place of a message.
+/// A parser at offset `place` of a message.
 pub(crate) fn parser_at<'a>(rt: &impl Abort, message: &'a [u8], place: usize) -> Parser<'a> {
     let mut parser = Parser::new(message);
     parser.seek(place).expect(rt, "a place in a message");
     parser
 }
 
-/// The octets in memory.
+/// The octets in a `Vec`.
 pub(crate) fn in_memory(rt: &impl Abort, alloc: Global, octets: &[u8]) -> Vec<u8>
     ensures { result.items ≡ octets.now }
 {

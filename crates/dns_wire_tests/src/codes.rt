@@ -1,8 +1,8 @@
-//! Record types, classes and codes, as numbers and as texts.
+//! Record types, classes and codes, as numbers and as text.
 use crate::assertions::{assert_prints, assert_same};
 use dns_code::{Class, Opcode, OptRcode, OptionCode, Rcode, Rtype, class, rtype};
 
-/// Texts, each with the numbers of the record type and of the class that it spells.
+/// Texts, each with the number of the record type and that of the class that it spells.
 const TEXTS: &[(&str, Option<u16>, Option<u16>)] = &[
     ("aAaA", Some(28), None),
     ("A", Some(1), None),

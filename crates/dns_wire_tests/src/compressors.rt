@@ -1,4 +1,4 @@
-//! Compressors: the example of RFC 1035 section 4.1.4, what a cut forgets, and what a refused name leaves.
+//! Compressors: the example of RFC 1035 section 4.1.4, cuts, and names that are refused.
 ghost use Rattle.std.specs.Prelude.{◌≡◌};
 ghost use Rattle.dns_wire.specs.Pieces.{Plain};
 
@@ -30,8 +30,8 @@ const ISI_ARPA: &[u8] = b"\x03ISI\x04ARPA\x00";
 
 const ARPA: &[u8] = b"\x04ARPA\x00";
 
-/// Steps on an empty target, with the length of its content then; and steps that a clone takes then, which the rules of the
-/// compressors answer in their own ways.
+/// Steps on an empty target, and the length of its content after them. Then steps on a clone, which
+/// the rules of the compressors take in different ways.
 pub(crate) struct Row {
     pub(crate) name: &'static str,
     pub(crate) steps: &'static [Step],
@@ -44,7 +44,7 @@ pub(crate) struct Row {
     pub(crate) by_hash: &'static [Step],
 }
 
-/// All compressors write the same.
+/// A row without steps on a clone, for all compressors.
 pub(crate) const ALIKE: Row = Row {
     name: "",
     steps: &[],
@@ -54,16 +54,16 @@ pub(crate) const ALIKE: Row = Row {
     by_hash: &[],
 };
 
-/// The name a. again, and octets behind it.
+/// The name a. once more, and octets after it.
 const A_AGAIN: &[Step] = &[
     Step::Name(A, Ok(b"\xc0\x0c")),
     Step::Octets(b"\x00\x01\x00\x01", Ok(b"\x00\x01\x00\x01")),
 ];
 
-/// Rows over an empty vector.
+/// Rows over an empty `Vec`.
 const ROWS: &[Row] = &[
-    // the names of the RFC's example where they stand there; then a cut within the first of them, which is written out again,
-    // and other letters with it
+    // The names of the RFC's example at their offsets. Then a cut within the first of them, which
+    // is written in full again, and once more with letters of the other case.
     Row {
         name: "the example of RFC 1035",
         steps: &[
@@ -166,7 +166,7 @@ const ROWS: &[Row] = &[
         len: 16_401,
         ..ALIKE
     },
-    // the second label stands past the bound
+    // The second label is past the bound.
     Row {
         name: "Second label past the bound",
         steps: &[Step::Fill(16_383), Step::Name(A_B, Ok(A_B))],
@@ -193,8 +193,8 @@ const ROWS: &[Row] = &[
     },
 ];
 
-/// Rows over an array vector of 11 octets. A name is refused for which they have no room behind another one, and a shorter
-/// one is taken.
+/// Rows over an `ArrayVec` of 11 octets. A name that exceeds the remaining capacity is refused, and
+/// then a shorter one is accepted.
 const SHORT_ROWS: &[Row] = &[Row {
     name: "room for 11 octets",
     steps: &[
@@ -206,7 +206,8 @@ const SHORT_ROWS: &[Row] = &[Row {
     ..ALIKE
 }];
 
-/// Takes the steps of a row on the target, and then the others on a clone of it. The target stays as it was.
+/// Takes the steps of a row on the target, and then other steps on a clone of it. The target
+/// doesn't change then.
 fn assert_clone_row<T: CloneTarget + FreezeBuilder>(
     rt: &impl Abort,
     row: &Row,
@@ -254,7 +255,7 @@ fn each_writes_these_rows(rt: HostRuntime) {
     assert_rows(&rt, rt.alloc(), &ArrayVec::<u8, 11>::new(), SHORT_ROWS);
 }
 
-/// Where every growth of the target is refused.
+/// Each growth of the target is refused.
 #[test]
 fn want_of_memory_is_told(rt: HostRuntime) {
     let row = "no memory";
@@ -268,7 +269,7 @@ fn octets_of<T: AsSlice<u8>>(target: &T) -> &[u8] {
     target.as_slice()
 }
 
-/// No octets may be written over anywhere, inside a remembered name too.
+/// Overwriting no octets is allowed everywhere, also inside a name in the compression table.
 fn write_nothing<T: Composer>(target: &mut T) {
     if !target.as_slice().is_empty() {
         target.write_at(1, b"");

@@ -68,8 +68,7 @@ fn replaces_the_parts_of_a_section(rt: HostRuntime) {
     assert_same(&rt, "replaced parts", section, HeaderSection::new());
 }
 
-/// Fails unless these are the identifier, the opcode, the response code and the flags of the header, and its reserved bit is
-/// clear.
+/// Fails unless the header has this ID, opcode, rcode and these flags, and its Z bit is clear.
 fn assert_header(rt: &impl Abort, header: Header, id: u16, codes: (Opcode, Rcode), flags: Flags) {
     let row = "each field";
     assert_same(rt, row, (header.id(), header.z()), (id, false));
@@ -95,7 +94,7 @@ fn keeps_each_field_apart(rt: HostRuntime) {
     assert_octets(&rt, "each field", header.as_slice(), b"\x12\x34\xA0\x05");
 }
 
-/// Sets or clears each flag, and the reserved bit.
+/// Sets or clears each flag, and the Z bit.
 fn set_all(header: &mut Header, set: bool) {
     header.set_qr(set);
     header.set_aa(set);
@@ -107,7 +106,7 @@ fn set_all(header: &mut Header, set: bool) {
     header.set_cd(set);
 }
 
-/// Each flag, and the reserved bit.
+/// Each flag, and the Z bit.
 fn all_of(header: Header) -> [bool; 8] {
     [
         header.qr(),
@@ -132,7 +131,7 @@ fn sets_each_flag(rt: HostRuntime) {
     assert_same(&rt, "none set", all_of(header), [false; 8]);
 }
 
-/// A header with each flag, and the reserved bit, set.
+/// A header with each flag and the Z bit set.
 fn with_all_flags() -> Header {
     Header::for_message_slice(b"\x00\x00\x87\xF0\x00\x00\x00\x00\x00\x00\x00\x00")
 }
@@ -271,7 +270,7 @@ fn sets_counts_by_two_names(rt: HostRuntime) {
     assert_octets(&rt, "no counts", update.as_slice(), &[0; 8]);
 }
 
-/// Raises each count, and says which of them were refused.
+/// Increments each count, and returns which increments failed.
 fn raise(counts: &mut HeaderCounts) -> [bool; 4] {
     [
         counts.inc_qdcount().is_err(),
@@ -281,7 +280,7 @@ fn raise(counts: &mut HeaderCounts) -> [bool; 4] {
     ]
 }
 
-/// Counts down, which asks for a count above 0.
+/// Decrements each count that exceeds 0.
 fn lower(counts: &mut HeaderCounts) {
     if counts.qdcount() > 0 {
         counts.dec_qdcount();
@@ -310,7 +309,8 @@ fn counts_up_and_down(rt: HostRuntime) {
     assert_octets(&rt, "counts go down", counts.as_slice(), lowered);
 }
 
-/// Messages in which one count is 65,534 and the others are 65,535, each with the counts that are refused to go up.
+/// Messages in which one count is 65,534 and the others are 65,535, each with which increments
+/// fail.
 const NEARLY_FULL: &[(&str, &[u8; 12], [bool; 4])] = &[
     (
         "Counts go up: QDCOUNT",

@@ -1,4 +1,4 @@
-//! What was appended and cut away again leaves a target as if it had never been there.
+//! What was appended and then cut away leaves no trace in a target.
 ghost use Rattle.std.specs.Prelude.{◌≡◌};
 
 use crate::assertions::name_of;
@@ -8,7 +8,8 @@ use arrayvec::ArrayVec;
 use dns_wire::{Composer, ToName};
 use std::process::Abort;
 
-/// Appends names and octets behind each, whatever the answers, and cuts the content back to what it was.
+/// Appends names and octets after each, whether or not the appends succeed. Then cuts the content
+/// back to its former length.
 fn append_and_cut<T: Composer, N: ToName>(target: &mut T, names: &[N], octets: &[u8])
     ensures { T.written target.new ≡ T.written target.old }
 {
@@ -20,7 +21,7 @@ fn append_and_cut<T: Composer, N: ToName>(target: &mut T, names: &[N], octets: &
     target.truncate(len);
 }
 
-/// Takes such a history, of two names that end alike and octets that are a pointer's.
+/// Does so with two names that share a suffix, and with the octets of a pointer.
 pub(crate) fn take_history<T: Composer>(rt: &impl Abort, target: &mut T) {
     let names = [
         name_of(rt, b"\x01a\x02bc\x02de\x00"),
@@ -29,7 +30,7 @@ pub(crate) fn take_history<T: Composer>(rt: &impl Abort, target: &mut T) {
     append_and_cut(target, &names, b"\xC0\x00");
 }
 
-/// A name is written in the same octets before and behind such a history.
+/// A name is written in the same octets before and after that.
 const HISTORY: &[Row] = &[Row {
     name: "a history cut away",
     steps: &[

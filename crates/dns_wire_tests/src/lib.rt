@@ -1,5 +1,6 @@
-//! Tests of the layers below messages: octets, names, codes, headers and TTLs as they are read and printed, and targets to
-//! which names and octets are appended and from which they are cut away. The answers are from outside.
+//! Tests of the layers below messages: octets, names, codes, headers and TTLs as they are read and
+//! printed, and targets to which names and octets are appended and from which they are cut away.
+//! The expected values come from outside this library.
 //!
 //! Nothing is exported.
 #![tactic(auto)]

@@ -1,4 +1,4 @@
-//! Names read from texts, and printed.
+//! Names in presentation format, read and printed.
 use crate::assertions::{assert_prints, assert_same, name_at};
 use arrayvec::ArrayVec;
 use dns_wire::name::{FromStrError, PresentationError};
@@ -7,7 +7,7 @@ use std::alloc::Global;
 use std::fmt::Display;
 use std::process::Abort;
 
-/// A text, and the octets of the name that it spells with how that is printed, or the fault.
+/// A text, and the octets of its name with how that is printed, or the error.
 struct Case {
     row: &'static str,
     text: &'static str,
@@ -15,7 +15,7 @@ struct Case {
     printed: &'static str,
 }
 
-/// Texts, each with the octets of the name that it spells and how that is printed, or with the fault.
+/// Texts, each with the octets of its name and how that is printed, or with the error.
 const CASES: &[Case] = &[
     Case {
         row: "Name text escapes: a dot and a number",
@@ -109,7 +109,7 @@ const CASES: &[Case] = &[
     },
 ];
 
-/// Fails unless what was read from the text of the case is its name, which is then printed, or its fault.
+/// Fails unless the text of the case was read as its name, which is then printed, or as its error.
 fn assert_read<T: ToName + Display + Drop>(
     rt: &impl Abort,
     alloc: Global,

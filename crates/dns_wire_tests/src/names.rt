@@ -1,4 +1,5 @@
-//! Names in octets: parsed, skipped, gone over from both ends, and held in octets of their own.
+//! Names in wire format: parsed, skipped, iterated over from both ends, and stored in octets of
+//! their own.
 use crate::assertions::{assert_same, name_at, name_of, parser_at};
 use dns_wire::{
     Composer, FormError, Label, LabelIter, Name, ParseError, ParsedName, Parser, ToName, ToNameExt,
@@ -13,18 +14,19 @@ const LONG_NAME: ParseError = ParseError::Form(FormError::LONG_NAME);
 
 const SHORT: ParseError = ParseError::ShortInput;
 
-/// A message of a question and an answer, both for example.com.
+/// A message with a question and an answer, both for example.com.
 const POSITIVE_RESPONSE: &[u8] =
     b"\x00\x00\x81\xA0\x00\x01\x00\x01\x00\x00\x00\x00\x07example\x03com\x00\x00\x01\x00\x01\xC0\x0C\x00\x01\x00\x01\x00\x00\x0E\x10\x00\x04\xCB\x00\x71\x01";
 
-/// A place in a message, and what parsing and skipping a name there answer. A parsed name ends where the skipped one does.
+/// An offset in a message, and what parsing and skipping a name there return. A name that parses
+/// ends where it is skipped to.
 struct Case {
     row: &'static str,
     message: &'static [u8],
     place: usize,
-    /// The octets of the name without pointers.
+    /// The octets of the uncompressed name.
     parsed: Result<&'static [u8], ParseError>,
-    /// The place behind the name.
+    /// The offset after the name.
     skipped: Result<usize, ParseError>,
 }
 
@@ -64,7 +66,7 @@ const CASES: &[Case] = &[
         parsed: Err(BAD_POINTER),
         skipped: Ok(14),
     },
-    // octet 4 of the header is zero
+    // Octet 4 of the header is zero.
     Case {
         row: "Pointer into the header",
         message: b"\x00\x00\x00\x00\x00\x01\x00\x00\x00\x00\x00\x00\xC0\x04\x00\x01\x00\x01",
@@ -109,7 +111,8 @@ const CASES: &[Case] = &[
     },
 ];
 
-/// Parses a name, of these octets without pointers, and finds the parser at this place behind it.
+/// Parses a name, which has these octets uncompressed, and checks that the parser is at offset
+/// `place` then.
 fn assert_parsed(
     rt: &impl Abort,
     row: &str,
@@ -131,7 +134,7 @@ fn assert_parsed(
     assert_same(rt, row, parser.pos(), place);
 }
 
-/// Skips a name, and finds the parser at this place behind it.
+/// Skips a name, and checks that the parser is at offset `place` then.
 fn assert_skipped(
     rt: &impl Abort,
     row: &str,
@@ -160,7 +163,8 @@ fn parses_and_skips(rt: HostRuntime) {
     }
 }
 
-/// Fails unless parsing and skipping a name answer this fault, and the parser stays at this place.
+/// Fails unless parsing and skipping a name return this error, and the parser stays at offset
+/// `place`.
 fn assert_refused(
     rt: &impl Abort,
     row: &str,
@@ -172,7 +176,7 @@ fn assert_refused(
     assert_skipped(rt, row, parser, Some(fault), place);
 }
 
-/// A CNAME record whose data of one octet, at 23, is the first of a pointer.
+/// A CNAME record whose RDATA is one octet, at offset 23: the first octet of a pointer.
 const HALF_A_POINTER: &[u8; 25] =
     b"\x00\x00\x00\x00\x00\x00\x00\x01\x00\x00\x00\x00\x00\x00\x05\x00\x01\x00\x00\x00\x00\x00\x01\xC0\x0C";
 
@@ -184,7 +188,7 @@ fn sees_no_further_than_the_data(rt: HostRuntime) {
     assert_refused(&rt, row, &mut inner, SHORT, 23);
 }
 
-/// A name of labels of 63, 63, 63 and 61 octets.
+/// A name with labels of 63, 63, 63 and 61 octets.
 fn longest_name() -> [u8; 255] {
     let mut octets = [b'a'; 255];
     octets[0] = 63;
@@ -195,7 +199,7 @@ fn longest_name() -> [u8; 255] {
     octets
 }
 
-/// The same with a last label of 62 octets.
+/// A name with labels of 63, 63, 63 and 62 octets.
 fn longer_name() -> [u8; 256] {
     let mut octets = [b'a'; 256];
     octets[0] = 63;
@@ -215,14 +219,14 @@ fn has_at_most_255_octets(rt: HostRuntime) {
     let longer = longer_name();
     let refused = Name::from_octets(longer.as_slice()).err();
     assert_same(&rt, row, refused, Some(LONG_NAME));
-    // the size is tested before the octets are asked for
+    // The size is checked before the octets are read.
     for len in [256, 200] {
         let mut parser = Parser::new(&longer[..len]);
         assert_refused(&rt, row, &mut parser, LONG_NAME, 0);
     }
 }
 
-/// Fails unless there is a label, of these octets.
+/// Fails unless there is a label with these octets.
 fn assert_label(rt: &impl Abort, label: Option<Label<'_>>, octets: &[u8]) {
     let label = label.expect(rt, "a label");
     assert_same(rt, "a label", label.as_slice(), octets);
@@ -235,7 +239,7 @@ fn assert_no_label(rt: &impl Abort, labels: &mut LabelIter<'_>) {
     assert_same(rt, "no label", ends, [true; 2]);
 }
 
-/// com., example.com. at 5, and at 15 a.example.com., behind two pointers.
+/// com., example.com. at offset 5, and a.example.com., through two pointers, at offset 15.
 const EXAMPLE: &[u8] = b"\x03com\x00\x07example\xC0\x00\x01a\xC0\x05";
 
 const LABELS: &[&[u8]] = &[b"a", b"example", b"com", b""];
@@ -262,7 +266,7 @@ fn goes_over_labels_from_both_ends(rt: HostRuntime) {
     assert_no_label(&rt, &mut labels);
 }
 
-/// Octets, each with the fault for which they are no name without pointers.
+/// Octets, each with the error for which they are no uncompressed name.
 const WHOLE: &[(&[u8], Option<ParseError>)] = &[
     (b"\x00", None),
     (b"\x02Ab\x00", None),
@@ -288,7 +292,7 @@ fn takes_whole_octets_alone(rt: HostRuntime) {
     assert_same(&rt, "the root", root.as_slice(), b"\x00".as_slice());
 }
 
-/// The value stands for Ab., and lends its octets without pointers where it has them so.
+/// Fails unless the value represents Ab. and lends `lent` as its uncompressed octets.
 fn assert_is_ab<N: ToName>(rt: &impl Abort, name: &N, lent: Option<&[u8]>) {
     let parsed = name.as_parsed();
     assert_label(rt, parsed.iter_labels().next(), b"Ab");
@@ -308,7 +312,7 @@ fn stands_for_a_name(rt: HostRuntime) {
     assert_is_ab(&rt, &Alias { target: name }, ab);
 }
 
-/// What stands for a name and is none of the library's: it holds one.
+/// A type of the test's own that represents a name: it wraps one.
 #[derive(Drop)]
 struct Alias<N> {
     target: N,

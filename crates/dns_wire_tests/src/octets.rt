@@ -1,4 +1,4 @@
-//! Holders of octets, and conversions that keep what they hold.
+//! Types that hold octets, and conversions between them.
 ghost use Rattle.std.specs.Prelude.{◌≤◌, length, IsOk};
 
 use crate::assertions::{assert_same, in_memory, name_at, name_of};
@@ -11,10 +11,10 @@ use dns_wire::{
 use std::alloc::{AllocError, Global};
 use std::process::Abort;
 
-/// `example.com` without pointers.
+/// `example.com`, uncompressed.
 const PLAIN: [u8; 13] = *b"\x07example\x03com\x00";
 
-/// `com`, and `example.com` at 5, its second label behind a pointer.
+/// `com`, and `example.com` at offset 5, with a pointer after its first label.
 const POINTED: &[u8] = b"\x03com\x00\x07example\xC0\x00";
 
 fn assert_abc<T: Octets>(rt: &impl Abort, holder: &T) {
@@ -51,7 +51,7 @@ fn writes_over_octets(rt: HostRuntime) {
     assert_written(&rt, &mut array);
 }
 
-/// Whether the source is converted into a holder of `abc`.
+/// Whether the source is converted into a value that holds `abc`.
 fn gives_abc<T: OctetsFrom<S> + Octets, S>(alloc: Global, source: S) -> Result<bool, AppendError> {
     Ok(T::try_octets_from(alloc, source)?.octets() == b"abc".as_slice())
 }
@@ -78,17 +78,17 @@ fn converts_octets(rt: HostRuntime) {
 
 const ROW: &str = "Name conversions and clones";
 
-/// The name in octets that it holds.
+/// The name in an `ArrayVec`.
 fn held_name(rt: &impl Abort) -> Name<ArrayVec<u8, 13>> {
     Name::from_octets(ArrayVec::from(PLAIN)).expect(rt, "a name")
 }
 
-/// The name in memory.
+/// The name in a `Vec`.
 fn name_in_memory(rt: &impl Abort, alloc: Global) -> Name<Vec<u8>> {
     Name::from_octets(in_memory(rt, alloc, &PLAIN)).expect(rt, "a name")
 }
 
-/// Whether the source is converted into a name of the same octets.
+/// Whether the source is converted into a name with the same octets.
 fn gives_name<T: OctetsFrom<S> + ToName + Drop, S>(
     alloc: Global,
     source: S,
@@ -145,14 +145,14 @@ fn copy_of<T: Copy>(value: &T) -> T {
     *value
 }
 
-/// A clone of a question for a borrowed name: there always is one.
+/// Cloning a question with a borrowed name never fails.
 fn clone_of<'a>(question: &Question<Name<&'a [u8]>>) -> Result<Question<Name<&'a [u8]>>, AllocError>
     ensures { IsOk result }
 {
     question.clone()
 }
 
-/// A clone of a name in an array vector: there always is one.
+/// Cloning a name in an `ArrayVec` never fails.
 fn held_clone_of(name: &Name<ArrayVec<u8, 13>>) -> Result<Name<ArrayVec<u8, 13>>, AllocError>
     ensures { IsOk result }
 {

@@ -15,7 +15,7 @@ fn compare<T: Ord>(value: &T, other: &T) -> Ordering {
     value.cmp(other)
 }
 
-/// The names of RFC 4034 section 6.1 in canonical order, one behind the other.
+/// The names of RFC 4034 section 6.1, consecutive and in canonical order.
 const CANONICAL_ORDER: &[u8] =
     b"\x07example\x00\x01a\x07example\x00\x08yljkjljk\x01a\x07example\x00\x01Z\x01a\x07example\x00\x04zABC\x01a\x07EXAMPLE\x00\x01z\x07example\x00\x01\x01\x01z\x07example\x00\x01*\x01z\x07example\x00\x01\xC8\x01z\x07example\x00";
 
@@ -45,12 +45,12 @@ fn orders_names_from_the_root(rt: HostRuntime) {
 /// www.dE., a pointer to it, WwW.De. and x.de.
 const NAMES: &[u8] = b"\x03www\x02dE\x00\xC0\x00\x03WwW\x02De\x00\x01x\x02de\x00";
 
-/// Places of names, each with whether it is equal to www.dE. octet for octet and up to letter case, and how that one stands to
-/// it: by labels from the root, and by octets.
+/// Offsets of names, each with whether the name equals www.dE. octet for octet and ignoring ASCII
+/// case, and with how www.dE. compares to it: by labels from the root, and by octets.
 const COMPARED: &[(usize, bool, bool, Ordering, Ordering)] = &[
     (8, true, true, Ordering::Equal, Ordering::Equal),
     (10, false, true, Ordering::Equal, Ordering::Equal),
-    // www before x by its letters, after it by the length of the first label
+    // www precedes x by its letters, and follows it by the length of the first label.
     (18, false, false, Ordering::Less, Ordering::Greater),
 ];
 
@@ -77,7 +77,7 @@ fn ignores_letter_case_but_for_octets_eq(rt: HostRuntime) {
     }
 }
 
-/// The name that an array of octets spells, which it holds.
+/// The name in an array of octets.
 fn held_name(rt: &impl Abort, octets: [u8; 3]) -> Name<[u8; 3]> {
     Name::from_octets(octets).expect(rt, "a name")
 }
@@ -96,7 +96,7 @@ fn compares_across_holders(rt: HostRuntime) {
     assert_same(&rt, "order", orders, expected);
 }
 
-/// The first label of the name that the octets are.
+/// The first label of the name in these octets.
 fn first_label<'a>(rt: &impl Abort, octets: &'a [u8]) -> Label<'a> {
     let mut labels = name_at(rt, octets, 0).iter_labels();
     labels.next().expect(rt, "a label")
@@ -106,7 +106,7 @@ fn first_label<'a>(rt: &impl Abort, octets: &'a [u8]) -> Label<'a> {
 fn compares_labels_lowercased(rt: HostRuntime) {
     let label = first_label(&rt, b"\x02aB\x00");
     let same = first_label(&rt, b"\x02Ab\x00");
-    // the bracket stands between the upper and the lower case
+    // In ASCII, the bracket is between the upper-case and the lower-case letters.
     let bracket = first_label(&rt, b"\x02a[\x00");
     let equal = [label == same, hash_of(&label) == hash_of(&same)];
     assert_same(&rt, "equality", equal, [true; 2]);

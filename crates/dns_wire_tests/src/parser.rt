@@ -1,4 +1,4 @@
-//! The parser: places, numbers, and inner parsers with an end of their own.
+//! The parser: offsets, numbers, and inner parsers with their own end.
 use crate::assertions::{assert_same, parser_at};
 use dns_wire::{ParseError, Parser};
 

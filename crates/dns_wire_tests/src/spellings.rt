@@ -1,7 +1,8 @@
-//! The compressors beside every spelling of small lists of names (RFC 1035 section 4.1.4).
+//! The compressors beside every possible compression of small lists of names (RFC 1035 section
+//! 4.1.4).
 //!
-//! A spelling is one free choice for each name, with no place and no memory: all its labels, or some first ones of them,
-//! perhaps none, and a pointer in place of the rest, which is a suffix of an earlier name.
+//! A compression is one free choice for each name: all its labels, or its first k >= 0 labels and a
+//! pointer to a suffix of an earlier name.
 use crate::assertions::assert_same;
 use crate::steps::append_name;
 use dns_target::{HashCompressor, IndexCompressor, StaticCompressor, TreeCompressor};
@@ -22,7 +23,7 @@ const A_B: &[u8] = b"\x01a\x01b\x00";
 
 const B_B: &[u8] = b"\x01b\x01b\x00";
 
-/// The names of at most two labels a, b and A. A letter in two cases is two labels.
+/// All names with at most two of the labels a, b and A. The letters a and A are two labels.
 const NAMES: &[&[u8]] = &[
     ROOT,
     A,
@@ -39,14 +40,14 @@ const NAMES: &[&[u8]] = &[
     b"\x01A\x01A\x00",
 ];
 
-/// How many octets a label of one octet has, with its length octet.
+/// The octets of a label of one octet, with its length octet.
 const LABEL_LEN: usize = 2;
 
-/// How many octets a pointer has.
+/// The octets of a pointer.
 const POINTER_LEN: usize = 2;
 
-/// How many octets a name has by each choice for it behind earlier names, all of labels of one octet: a cut before each label
-/// whose rest ends an earlier name, and no cut.
+/// The octets of a name by each choice for it after earlier names: a pointer in place of each
+/// suffix that ends an earlier name, and no pointer. All labels have one octet.
 fn choice_lens(alloc: Global, earlier: &[&[u8]], name: &[u8]) -> Result<Vec<usize>, AllocError> {
     let mut lens = Vec::new(alloc);
     for count in 0..name.len() / LABEL_LEN {
@@ -59,7 +60,7 @@ fn choice_lens(alloc: Global, earlier: &[&[u8]], name: &[u8]) -> Result<Vec<usiz
     Ok(lens)
 }
 
-/// Each of the lengths with each of those of the choices behind it.
+/// The sum of each length and each choice.
 fn longer_lens(alloc: Global, lens: &[usize], choices: &[usize]) -> Result<Vec<usize>, AllocError> {
     let mut longer = Vec::new(alloc);
     for len in lens {
@@ -70,7 +71,7 @@ fn longer_lens(alloc: Global, lens: &[usize], choices: &[usize]) -> Result<Vec<u
     Ok(longer)
 }
 
-/// How many octets each spelling of a list of names has: a choice for each of them.
+/// The octets of each compression of a list of names: one choice for each name.
 fn spelling_lens(alloc: Global, names: &[&[u8]]) -> Result<Vec<usize>, AllocError> {
     let mut lens = vec![in alloc; 0]?;
     for count in 0..names.len() {
@@ -80,7 +81,7 @@ fn spelling_lens(alloc: Global, names: &[&[u8]]) -> Result<Vec<usize>, AllocErro
     Ok(lens)
 }
 
-/// Fails unless the names have so many octets, one after another on an empty target.
+/// Fails unless the names take `len` octets on an empty target.
 fn assert_written<T: Composer>(
     rt: &impl Abort,
     mut target: T,
@@ -95,7 +96,8 @@ fn assert_written<T: Composer>(
     assert_same(rt, "the shortest spelling", written, (names, len));
 }
 
-/// Each compressor writes the names in as many octets as their shortest spelling has. It gives the number of the spellings.
+/// Checks that each compressor writes the names in as many octets as their shortest compression
+/// has. Returns the number of compressions.
 fn assert_shortest(rt: &impl Abort, alloc: Global, names: &[&[u8]]) -> Result<usize, AllocError> {
     let lens = spelling_lens(alloc, names)?;
     let least = lens.iter().min().copied();
@@ -121,7 +123,8 @@ fn assert_shortest(rt: &impl Abort, alloc: Global, names: &[&[u8]]) -> Result<us
     Ok(lens.len())
 }
 
-/// The same of each list of these names and one more, and the number of their spellings.
+/// Checks the same for each list of these names and one more. Returns the number of their
+/// compressions.
 fn assert_longer(rt: &impl Abort, alloc: Global, names: &[&[u8]]) -> Result<usize, AllocError> {
     let mut count: usize = 0;
     for &name in NAMES {
@@ -132,12 +135,14 @@ fn assert_longer(rt: &impl Abort, alloc: Global, names: &[&[u8]]) -> Result<usiz
     Ok(count)
 }
 
-/// How many spellings the lists of no name, of one, of two and of three have, counted by hand.
+/// The number of compressions that all lists of no name, of one, of two and of three names have,
+/// counted by hand.
 ///
-/// A list of no name or of one has one spelling. Each of the 169 lists of two has one; those 48 whose names end with the same
-/// label have one more, and those 9 with the same two labels twice yet another. Behind two names, the 13 third names have 13
-/// choices in all, 4 more for each label that ends one of the two, and 1 more for each name of two labels among them. Such a
-/// sum, times the spellings of the two, adds up to 4519 over all pairs of first names.
+/// A list of no name or one has one. Each of the 169 lists of two names has one; the 48 lists whose
+/// names end with the same label have one more, and the 9 lists with the same two labels twice have
+/// yet another. After two names, the 13 possible third names have 13 choices in all, 4 more for
+/// each label that ends one of the two, and 1 more for each name of two labels among them. Such a
+/// sum, times the number for the two names, adds up to 4519 over all pairs of first names.
 const SPELLINGS: [usize; 4] = [1, 13, 226, 4519];
 
 #[test]
@@ -157,7 +162,7 @@ fn none_is_shorter_than_what_is_written(rt: HostRuntime) -> Result<(), Fail> {
     Ok(())
 }
 
-/// Lists of names, each with how many octets its spellings have.
+/// Lists of names, each with the octets of its compressions.
 const BY_HAND: &[(&[&[u8]], &[usize])] = &[
     (&[], &[0]),
     (&[ROOT, ROOT], &[2]),

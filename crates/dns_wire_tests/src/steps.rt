@@ -1,32 +1,32 @@
-//! Steps on a target, each with the octets that it is to write.
+//! Steps on a target, each with the octets that it has to write.
 use crate::assertions::{assert_same, name_of};
 use crate::history::take_history;
 use dns_wire::{AppendError, Composer, ToNameExt};
 use std::process::Abort;
 
-/// The octets that an append writes, or the error with which it writes none.
+/// The octets that an append writes, or its error.
 type Written = Result<&'static [u8], AppendError>;
 
 /// A step on a target.
 #[derive(Clone, Copy)]
 pub(crate) enum Step {
-    /// Octets are appended.
+    /// Appends octets.
     Octets(&'static [u8], Written),
-    /// A name is appended, here without pointers.
+    /// Appends a name, which is given uncompressed.
     Name(&'static [u8], Written),
-    /// The canonical form of a name is appended.
+    /// Appends the canonical form of a name.
     Canonical(&'static [u8], Written),
-    /// Zero octets are appended until the content has so many.
+    /// Appends zero octets up to this length of the content.
     Fill(usize),
-    /// The names a. to y. are appended, each without pointers and with four octets behind it.
+    /// Appends the names a. to y., which aren't compressed, and four octets after each.
     Letters,
-    /// The content is cut.
+    /// Cuts the content to this length.
     Cut(usize),
-    /// Names and octets are appended, whatever the answers, and cut away again.
+    /// Appends names and octets, and cuts them away again.
     History,
 }
 
-/// Appends a name, and gives the answer.
+/// Appends a name.
 pub(crate) fn append_name<T: Composer>(
     rt: &impl Abort,
     target: &mut T,
@@ -35,7 +35,7 @@ pub(crate) fn append_name<T: Composer>(
     target.append_compressed_name(&name_of(rt, name))
 }
 
-/// Appends zero octets until the content has so many.
+/// Appends zero octets until the content has `len` octets.
 fn fill<T: Composer>(rt: &impl Abort, row: &str, target: &mut T, len: usize) {
     for _ in target.as_slice().len()..len {
         assert_same(rt, row, target.append_slice(&[0]), Ok(()));
@@ -46,7 +46,7 @@ fn fill<T: Composer>(rt: &impl Abort, row: &str, target: &mut T, len: usize) {
 const LETTERS: &[u8] =
     b"\x01a\x00\x01b\x00\x01c\x00\x01d\x00\x01e\x00\x01f\x00\x01g\x00\x01h\x00\x01i\x00\x01j\x00\x01k\x00\x01l\x00\x01m\x00\x01n\x00\x01o\x00\x01p\x00\x01q\x00\x01r\x00\x01s\x00\x01t\x00\x01u\x00\x01v\x00\x01w\x00\x01x\x00\x01y\x00";
 
-/// Appends the names, each of which is written without pointers, with four octets behind each.
+/// Appends the names, none of which is compressed, and four octets after each.
 fn append_letters<T: Composer>(rt: &impl Abort, row: &str, target: &mut T) {
     for name in LETTERS.chunks(3) {
         let len = target.as_slice().len();
@@ -56,7 +56,8 @@ fn append_letters<T: Composer>(rt: &impl Abort, row: &str, target: &mut T) {
     }
 }
 
-/// An append gave this answer, and wrote these octets behind the first `len`, or none with an error.
+/// Checks the result of an append, and the octets that it wrote after the first `len`: none if it
+/// failed.
 fn assert_written<T: Composer>(
     rt: &impl Abort,
     row: &str,

@@ -1,4 +1,4 @@
-//! Messages behind their length, as they go over a stream.
+//! Messages after their length, as on a TCP stream.
 ghost use Rattle.std.specs.Prelude.{◌≡◌, []};
 
 use crate::assertions::{assert_octets, assert_same};
@@ -12,7 +12,7 @@ use std::process::Abort;
 
 const SHORT: AppendError = AppendError::ShortBuf;
 
-/// The message of a target, alone and behind its length.
+/// Checks the message of a target, alone and after its length.
 fn assert_message<T: Composer>(
     rt: &impl Abort,
     target: &StreamTarget<T>,
@@ -26,7 +26,7 @@ fn assert_message<T: Composer>(
     assert_octets(rt, row, target.as_target().as_slice(), stream);
 }
 
-/// A target over an array vector.
+/// A stream target over an `ArrayVec`.
 fn fixed<const N: usize>(
     rt: &impl Abort,
     target: ArrayVec<u8, N>,
@@ -34,7 +34,7 @@ fn fixed<const N: usize>(
     StreamTarget::new(target).expect(rt, "room for the length")
 }
 
-/// A target over a vector.
+/// A stream target over a `Vec`.
 fn growing(rt: &impl Abort, alloc: Global) -> StreamTarget<Vec<u8>>
     ensures { result ≡ [] }
 {
@@ -85,10 +85,10 @@ fn writes_over_its_message(rt: HostRuntime) {
     assert_same(&rt, row, AsSlice::as_slice(&clone), b"ad".as_slice());
 }
 
-/// One octet more has room, and no other behind it.
+/// One further octet fits, and none after it.
 const ONE_MORE: &[Step] = &[Step::Octets(b"b", Ok(b"b")), Step::Octets(b"c", Err(SHORT))];
 
-/// A clone of a target of fixed size knows its length, and goes on alone.
+/// A clone of a target of fixed capacity has its own length, and its own content from there on.
 #[test]
 fn clones_a_target_of_fixed_size(rt: HostRuntime) {
     let row = "a clone of fixed size";
@@ -100,7 +100,7 @@ fn clones_a_target_of_fixed_size(rt: HostRuntime) {
     assert_message(&rt, &target, b"a", b"\x00\x01a");
 }
 
-/// All octets but one that a message may have, and two that pass them.
+/// All but one of the octets that a message may have, and two that exceed them.
 const NEARLY_FULL: &[Step] = &[Step::Fill(65_534), Step::Octets(b"ab", Err(SHORT))];
 
 #[test]

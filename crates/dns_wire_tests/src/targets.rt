@@ -1,4 +1,4 @@
-//! Targets: octets and names appended, cut and written over, and what a refused append leaves.
+//! Targets: octets and names that are appended, cut and overwritten, and appends that fail.
 ghost use Rattle.std.specs.Prelude.{◌≤◌, length};
 ghost use Rattle.dns_wire.specs.Pieces.{IsClear};
 
@@ -12,7 +12,8 @@ const AB: &[u8] = b"\x02Ab\x00";
 
 const SHORT: AppendError = AppendError::ShortBuf;
 
-/// Octets, a name and a canonical name appended to an empty target, and cuts back to three octets.
+/// Appends octets, a name and a canonical name to an empty target, and cuts it back to three
+/// octets.
 const WRITES: &[Step] = &[
     Step::Octets(b"\x00\x01", Ok(b"\x00\x01")),
     Step::Name(AB, Ok(AB)),
@@ -58,7 +59,7 @@ fn writes_over_octets(rt: HostRuntime) {
     assert_written_over(&rt, &mut ArrayVec::<u8, 4>::from(*b"abcd"));
 }
 
-/// Appends to an array vector of five octets.
+/// Appends to an `ArrayVec` of five octets.
 const ROOM: &[Step] = &[
     Step::Octets(b"\x00\x01", Ok(b"\x00\x01")),
     Step::Name(AB, Err(SHORT)),
@@ -71,7 +72,7 @@ const ROOM: &[Step] = &[
     Step::Name(AB, Ok(AB)),
 ];
 
-/// Appends for which there is no memory.
+/// Appends that fail with `OutOfMemory`.
 pub(crate) const WANT: &[Step] = &[
     Step::Name(AB, Err(AppendError::OutOfMemory)),
     Step::Name(AB, Err(AppendError::OutOfMemory)),
@@ -85,7 +86,7 @@ fn refuses_what_passes_the_room_or_the_memory(rt: HostRuntime) {
     assert_row(&rt, "no memory", Refusing, WANT);
 }
 
-/// A target whose every growth is refused.
+/// A target that refuses each growth.
 #[derive(Drop)]
 pub(crate) struct Refusing;
 

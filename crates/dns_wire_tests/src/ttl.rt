@@ -1,4 +1,4 @@
-//! TTLs: arithmetic, other units, and reading them.
+//! TTLs: arithmetic, other units, and reading.
 use crate::assertions::assert_same;
 use dns_item::Ttl;
 use dns_wire::{ParseError, Parser};
