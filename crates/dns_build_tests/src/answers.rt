@@ -1,4 +1,5 @@
-//! Answers that are started from a message: the header, the questions that can be read, and a refused one.
+//! Answers that are started from a message: the header, the questions that can be read, and a
+//! question that is refused.
 use crate::rows::{assert_holds, assert_octets};
 use arrayvec::ArrayVec;
 use dns_build::{AnswerBuilder, MessageBuilder, PushError};
@@ -7,11 +8,12 @@ use dns_read::Message;
 use dns_wire::Composer;
 use std::process::Abort;
 
-/// ID 0x1234, RD, a question for the A records of example.com., and one whose name is a pointer to itself.
+/// ID 0x1234, RD, a question for the A records of example.com., and one whose name is a pointer to
+/// itself.
 static UNREADABLE: [u8; 35] =
     *b"\x12\x34\x01\x00\x00\x02\x00\x00\x00\x00\x00\x00\x07example\x03com\x00\x00\x01\x00\x01\xC0\x1D\x00\x01\x00\x01";
 
-/// As `UNREADABLE`, but the second question is for the A records of example.net.
+/// Like `UNREADABLE`, but the second question is for the A records of example.net.
 static READABLE: [u8; 46] =
     *b"\x12\x34\x01\x00\x00\x02\x00\x00\x00\x00\x00\x00\x07example\x03com\x00\x00\x01\x00\x01\x07example\x03net\x00\x00\x01\x00\x01";
 
@@ -19,11 +21,11 @@ static READABLE: [u8; 46] =
 static REFUSED: [u8; 29] =
     *b"\x12\x34\x81\x05\x00\x01\x00\x00\x00\x00\x00\x00\x07example\x03com\x00\x00\x01\x00\x01";
 
-/// As `REFUSED`, with the rcode SERVFAIL.
+/// Like `REFUSED`, with the rcode SERVFAIL.
 static SERVFAIL: [u8; 29] =
     *b"\x12\x34\x81\x02\x00\x01\x00\x00\x00\x00\x00\x00\x07example\x03com\x00\x00\x01\x00\x01";
 
-/// The octets of a builder are those that are expected.
+/// Fails unless the builder has the expected octets.
 fn assert_builder<T: Composer>(
     rt: &impl Abort,
     row: &str,
@@ -41,7 +43,7 @@ fn over<T: Composer>(rt: &impl Abort, target: T) -> MessageBuilder<T> {
 
 const READ: &str = "Start an answer";
 
-/// The readable questions are answered by `start_answer`, and by `start_error`.
+/// Checks that `start_answer` and `start_error` push the readable questions.
 fn assert_answers<T: Composer>(rt: &impl Abort, first: T, second: T) {
     let message = Message::from_slice(&UNREADABLE).expect(rt, READ);
     let given = over(rt, first).start_answer(&message, Rcode::REFUSED);
@@ -50,7 +52,7 @@ fn assert_answers<T: Composer>(rt: &impl Abort, first: T, second: T) {
     assert_builder(rt, READ, Some(given), &REFUSED);
 }
 
-/// The readable questions are answered by `try_start_answer`.
+/// Checks that `try_start_answer` pushes the readable questions.
 fn assert_tries<T: Composer>(rt: &impl Abort, target: T) {
     let message = Message::from_slice(&UNREADABLE).expect(rt, READ);
     let given = over(rt, target).try_start_answer(&message, Rcode::REFUSED);
@@ -66,7 +68,8 @@ fn answers_the_readable_questions(rt: HostRuntime) {
 
 const NO_ROOM: &str = "Start an answer without room";
 
-/// One question of `READABLE` has room, but not two.
+/// Checks `try_start_answer` and `start_answer` on targets that have the capacity for one question
+/// of `READABLE`, but not for two.
 fn assert_refuses<T: Composer>(rt: &impl Abort, first: T, second: T) {
     let message = Message::from_slice(&READABLE).expect(rt, NO_ROOM);
     let given = over(rt, first).try_start_answer(&message, Rcode::NOERROR);
@@ -79,7 +82,7 @@ fn assert_refuses<T: Composer>(rt: &impl Abort, first: T, second: T) {
     );
 }
 
-/// As `assert_refuses`, by `start_error`.
+/// Checks `start_error` on such a target.
 fn assert_tells<T: Composer>(rt: &impl Abort, target: T) {
     let message = Message::from_slice(&READABLE).expect(rt, NO_ROOM);
     let given = over(rt, target).start_error(&message, Rcode::NOERROR);

@@ -1,4 +1,4 @@
-//! Builders over plain targets: limits and counts, moves, conversions and clones.
+//! Builders over targets that don't compress: limits and counts, moves, conversions and clones.
 use crate::rows::Answer::{CountOverflow, Done, LimitExceeded, ShortBuf};
 use crate::rows::{
     Ask, Call, EMPTY, LETTER_A, ROOT, Row, assert_holds, assert_octets, name, push_question, run,
@@ -17,7 +17,7 @@ use std::alloc::Global;
 use std::convert::AsSlice;
 use std::process::Abort;
 
-/// A section has no record.
+/// Fails unless the section has no record.
 fn assert_no_record(rt: &impl Abort, section: Result<RecordSection<'_>, ParseError>) {
     let mut records = section.expect(rt, "Empty message");
     assert_holds(rt, "Empty message", records.next().is_none());
@@ -34,10 +34,11 @@ fn builds_an_empty_message(rt: HostRuntime) {
     assert_no_record(&rt, message.additional());
 }
 
-/// A question for the root is pushed.
+/// Pushes a question for the root.
 const PUSH: Ask = Ask::Question(ROOT);
 
-/// Limits, which are inclusive, and the most questions of a section, whose count is tested behind the limit.
+/// Limits, which are inclusive, and the most questions of a section. The limit is checked before
+/// the count.
 static QUESTIONS: [Row; 3] = [
     Row {
         name: "Limit is inclusive",
@@ -87,7 +88,7 @@ fn refuses_questions(rt: HostRuntime) {
     }
 }
 
-/// A limit below the content, and a full target of 100 octets.
+/// A limit below the length of the content, and a full target of 100 octets.
 static ANSWERS: Row = Row {
     name: "Limit below the content",
     answers: &[
@@ -107,8 +108,8 @@ fn refuses_answers(rt: HostRuntime) {
     run(&rt, rt.alloc(), ArrayVec::<u8, 100>::new(), &ANSWERS);
 }
 
-/// Opaque data of 16 octets, the most that is appended together with the fields, and of one more. They fill the
-/// target.
+/// Opaque data of 16 octets, the most that is appended together with the fields, and of 17. They
+/// fill the target.
 static DATA: Row = Row {
     name: "Opaque data of 16 and of 17 octets",
     answers: &[
@@ -144,7 +145,7 @@ fn push_address<B: RecordSectionBuilder<Vec<u8>>>(rt: &impl Abort, builder: &mut
     pushed.expect(rt, "memory");
 }
 
-/// A builder of `ANSWERED`, without a limit.
+/// A builder for `ANSWERED`, without a limit.
 fn answered(rt: &impl Abort, alloc: Global) -> AnswerBuilder<Vec<u8>> {
     let builder = MessageBuilder::new_vec(alloc).expect(rt, "memory");
     let mut builder = builder.answer();
@@ -203,7 +204,7 @@ fn keeps_answers_or_takes_them_out(rt: HostRuntime) {
     assert_octets(&rt, "tc_rewind_into", cut.as_slice(), header);
 }
 
-/// The builder through the sections and back by conversions.
+/// Converts the builder through the sections and back.
 fn converted(builder: AnswerBuilder<Vec<u8>>) -> AnswerBuilder<Vec<u8>> {
     let builder = AdditionalBuilder::from(AuthorityBuilder::from(builder));
     let builder = AnswerBuilder::from(AuthorityBuilder::from(builder));
@@ -225,11 +226,11 @@ fn converts_between_sections(rt: HostRuntime) {
 static FIRST: [u8; 19] =
     *b"\x00\x00\x00\x00\x00\x01\x00\x00\x00\x00\x00\x00\x01a\x00\x00\x01\x00\x01";
 
-/// As `FIRST`, with the same question again.
+/// Like `FIRST`, with the same question again.
 static TWICE: [u8; 26] =
     *b"\x00\x00\x00\x00\x00\x02\x00\x00\x00\x00\x00\x00\x01a\x00\x00\x01\x00\x01\x01a\x00\x00\x01\x00\x01";
 
-/// As `TWICE`, with a pointer.
+/// Like `TWICE`, with a pointer.
 static COMPRESSED: [u8; 25] =
     *b"\x00\x00\x00\x00\x00\x02\x00\x00\x00\x00\x00\x00\x01a\x00\x00\x01\x00\x01\xC0\x0C\x00\x01\x00\x01";
 
@@ -238,7 +239,7 @@ fn push_first<T: Composer>(rt: &impl Abort, builder: &mut QuestionBuilder<T>) {
     push_question(builder, name(rt, LETTER_A), Rtype::A).expect(rt, "Clones");
 }
 
-/// The builder, whose clone has these octets and the limit of 500.
+/// Checks that a clone of the builder has these octets and the limit of 500. Returns the builder.
 fn cloned<T: CloneTarget, S: BuilderStage>(
     rt: &impl Abort,
     builder: Builder<T, S>,
@@ -250,7 +251,7 @@ fn cloned<T: CloneTarget, S: BuilderStage>(
     builder
 }
 
-/// A builder of questions with a limit of 500 is cloned, and moves on; so at each section, and at the start again.
+/// Clones a builder with a limit of 500 at each section, and at the start again.
 fn assert_each_stage<T: CloneTarget>(rt: &impl Abort, builder: QuestionBuilder<T>) {
     let builder = cloned(rt, builder, &FIRST).answer();
     let builder = cloned(rt, builder, &FIRST).authority();
@@ -259,7 +260,8 @@ fn assert_each_stage<T: CloneTarget>(rt: &impl Abort, builder: QuestionBuilder<T
     cloned(rt, builder, &[0; 12]);
 }
 
-/// A builder with the question a. A is cloned, and the same question is pushed onto the clone, which then has these octets.
+/// Clones a builder with the question a. A, and pushes the same question onto the clone, which has
+/// these octets then.
 fn assert_clones<T: CloneTarget>(rt: &impl Abort, target: T, octets: &[u8]) {
     let mut builder = MessageBuilder::from_target(target)
         .expect(rt, "room")

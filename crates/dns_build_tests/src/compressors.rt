@@ -1,4 +1,5 @@
-//! Rows over compressors: which name becomes a pointer, what a rewind or a refused push forgets, and how room runs out.
+//! Rows over compressors: which name becomes a pointer, what a rewind or a refused push removes
+//! from the compression table, and capacities that are exceeded.
 use crate::rows::Answer::{Done, ShortBuf};
 use crate::rows::{
     ADDRESS, Ask, Call, EMPTY, EXAMPLE_COM, LETTER_A, ROOT, Row, assert_holds, assert_octets,
@@ -24,7 +25,7 @@ enum Target {
 
 const ANY: &[Target] = &[Target::Static, Target::Tree, Target::Hash, Target::Index];
 
-/// The compressors that remember each suffix by its own place.
+/// The compressors whose table has an entry for each suffix below the bound.
 const BY_SUFFIX: &[Target] = &[Target::Static, Target::Tree, Target::Index];
 
 /// Makes the calls of a row on an empty target.
@@ -48,7 +49,7 @@ fn run_rows(rt: &impl Abort, alloc: Global, rows: &[(&[Target], Row)]) {
     }
 }
 
-/// A message of a question and an answer, both for example.com.
+/// A message with a question and an answer, both for example.com.
 const POSITIVE_RESPONSE: Row = Row {
     name: "Positive response",
     questions: &[
@@ -60,7 +61,7 @@ const POSITIVE_RESPONSE: Row = Row {
     ..EMPTY
 };
 
-/// That a name doesn't exist, with the start of the zone above it.
+/// The response that a name doesn't exist, with the SOA record of the zone above it.
 const NEGATIVE_RESPONSE: Row = Row {
     name: "Negative response",
     questions: &[
@@ -79,7 +80,7 @@ fn compresses_responses(rt: HostRuntime) {
     run_rows(&rt, rt.alloc(), &RESPONSES);
 }
 
-/// Makes the calls of "Positive response" twice on a target that is kept.
+/// Makes the calls of "Positive response" twice on one target.
 fn assert_kept<T: Composer>(rt: &impl Abort, alloc: Global, mut target: T) {
     for _ in 0..2 {
         run(rt, alloc, &mut target, &ROOM_FOR_ALL);
@@ -98,7 +99,7 @@ fn writes_twice_to_a_target_that_is_kept(rt: HostRuntime) {
     assert_kept(&rt, rt.alloc(), target);
 }
 
-/// A suffix is known only in its own letter case, and a name in data is compressed too.
+/// A suffix is found only in its own letter case, and a name in RDATA is compressed too.
 static NAMES: [(&[Target], Row); 3] = [
     (
         ANY,
@@ -159,7 +160,7 @@ const C: &[u8] = b"\x01c\x00";
 
 const Y: &[u8] = b"\x01y\x00";
 
-/// Suffixes of suffixes, and the 25th suffix, which a static compressor doesn't hold.
+/// Suffixes of suffixes, and the 25th suffix, which a static compressor has no entry for.
 static SUFFIXES: [(&[Target], Row); 4] = [
     (
         ANY,
@@ -222,7 +223,7 @@ fn compresses_suffixes(rt: HostRuntime) {
     run_rows(&rt, rt.alloc(), &SUFFIXES);
 }
 
-/// A suffix that begins at the bound of 16,384 octets or behind it isn't remembered.
+/// A suffix at offset 16,384 or above isn't entered in the table.
 static AT_THE_BOUND: [(&[Target], Row); 3] = [
     (
         ANY,
@@ -275,7 +276,8 @@ fn remembers_places_below_the_bound(rt: HostRuntime) {
     run_rows(&rt, rt.alloc(), &AT_THE_BOUND);
 }
 
-/// Names across the bound: one pushed twice, and one with a known suffix behind labels past the bound.
+/// Names across the bound: one that is pushed twice, and one with a suffix of the table after
+/// labels past the bound.
 static ACROSS_THE_BOUND: [(&[Target], Row); 4] = [
     (
         BY_SUFFIX,
@@ -343,7 +345,7 @@ fn writes_names_across_the_bound(rt: HostRuntime) {
 
 const WWW: &[u8] = b"\x03www\x07example\x03com\x00";
 
-/// Names that a rewind takes out, across the bound too.
+/// Names that a rewind removes, also across the bound.
 static FORGOTTEN: [(&[Target], Row); 2] = [
     (
         ANY,
@@ -412,7 +414,7 @@ fn forgets_a_refused_record(rt: HostRuntime) {
     );
 }
 
-/// The pushes of "Positive response", where the question has no room.
+/// The pushes of "Positive response" if the question doesn't fit.
 static NO_QUESTION: Row = Row {
     name: "No room for the question",
     questions: &[(Ask::Question(EXAMPLE_COM), ShortBuf, 12, b"")],
@@ -421,7 +423,7 @@ static NO_QUESTION: Row = Row {
     ..EMPTY
 };
 
-/// The pushes of "Positive response", where the answer has no room.
+/// The pushes of "Positive response" if the answer doesn't fit.
 static NO_ANSWER: Row = Row {
     name: "No room for the answer",
     questions: &[(Ask::Question(EXAMPLE_COM), Done, 29, b"")],
@@ -430,7 +432,7 @@ static NO_ANSWER: Row = Row {
     ..EMPTY
 };
 
-/// The pushes of "Positive response", where all have room.
+/// The pushes of "Positive response" if all fit.
 static ROOM_FOR_ALL: Row = Row {
     name: "Room for all",
     ..POSITIVE_RESPONSE
@@ -451,7 +453,7 @@ fn refuses_what_has_no_room(rt: HostRuntime) {
     run(&rt, alloc, over_array::<45>(), &ROOM_FOR_ALL);
 }
 
-/// A target has no room for the header.
+/// Fails unless the header exceeds the capacity of the target.
 fn assert_no_header<T: Composer>(rt: &impl Abort, row: &str, target: T) {
     let refused = MessageBuilder::from_target(target).err();
     assert_holds(rt, row, refused == Some(AppendError::ShortBuf));
@@ -465,7 +467,7 @@ fn has_no_room_for_the_header(rt: HostRuntime) {
     assert_no_header(&rt, "No room for prefix or header", target);
 }
 
-/// An empty message over a target is twelve zero octets.
+/// Fails unless an empty message over the target is twelve zero octets.
 fn assert_frozen_empty<T: FreezeBuilder>(rt: &impl Abort, target: T) {
     let message = MessageBuilder::from_target(target)
         .expect(rt, "room")
@@ -486,7 +488,8 @@ fn compressors_give_their_message(rt: HostRuntime) {
     assert_frozen_empty(&rt, HashCompressor::new(alloc, Vec::new(alloc)));
 }
 
-/// Pushes the questions for h0.example.com. to h1999.example.com., and gives the octets of the message.
+/// Pushes the questions for h0.example.com. to h1999.example.com. Returns the octets of the
+/// message.
 fn push_two_thousand<T: Composer>(
     rt: &impl Abort,
     alloc: Global,
@@ -500,7 +503,7 @@ fn push_two_thousand<T: Composer>(
     Vec::from_slice(alloc, builder.as_slice()).expect(rt, "memory")
 }
 
-/// The questions are pushed, taken out and pushed again.
+/// Pushes these questions, rewinds, and pushes them again.
 fn assert_pushed_again<T: Composer>(rt: &impl Abort, alloc: Global, target: T) {
     let builder = MessageBuilder::from_target(target).expect(rt, "memory");
     let mut builder = builder.question();

@@ -28,17 +28,17 @@ type CnameRecord<'a> = Record<ParsedName<'a>, Cname<ParsedName<'a>>>;
 
 type AnyRecord<'a> = Record<ParsedName<'a>, UnknownRecordData<&'a [u8]>>;
 
-/// The record with its data, where that is a name of the type CNAME.
+/// The record with its RDATA, if it is a CNAME record.
 fn keep_cname(shown: ParsedRecord<'_>) -> Option<CnameRecord<'_>> {
     shown.into_record().ok().flatten()
 }
 
-/// The record with its data, of any type.
+/// The record with its RDATA, whatever its type.
 fn keep_any(shown: ParsedRecord<'_>) -> Option<AnyRecord<'_>> {
     shown.into_any_record().ok()
 }
 
-/// What is copied into a message over an empty target has these octets.
+/// Fails unless the copy has these octets.
 fn assert_copied<T: Composer>(
     rt: &impl Abort,
     row: &str,
@@ -49,13 +49,13 @@ fn assert_copied<T: Composer>(
     assert_octets(rt, row, copied.as_slice(), expected);
 }
 
-/// A builder at the answers of an empty message.
+/// A builder at the answer section of an empty message.
 fn answers<T: Composer>(rt: &impl Abort, target: T) -> AnswerBuilder<T> {
     let builder = MessageBuilder::from_target(target).expect(rt, "memory");
     builder.answer()
 }
 
-/// The records of a message are copied: those that are a CNAME, and all.
+/// Copies the records of a message: the CNAME records, and all.
 fn assert_copies<T: Composer>(rt: &impl Abort, first: T, second: T) {
     let source = Message::from_slice(&SOURCE).expect(rt, "a message");
     let copied = copy_records(&source, answers(rt, first), keep_cname);
@@ -70,7 +70,7 @@ fn copies_the_records_of_a_message(rt: HostRuntime) {
     assert_copies(&rt, Vec::new(alloc), Vec::new(alloc));
 }
 
-/// An address is pushed in place of each record of a message.
+/// Pushes an address in place of each record of a message.
 fn assert_addresses<T: Composer>(rt: &impl Abort, target: T) {
     let source = Message::from_slice(&SOURCE).expect(rt, "a message");
     let copied = source.copy_records(answers(rt, target), |_shown| {
@@ -84,7 +84,7 @@ fn copies_other_records_in_place_of_those_read(rt: HostRuntime) {
     assert_addresses(&rt, Vec::new(rt.alloc()));
 }
 
-/// An error prints as this text.
+/// Fails unless the error is printed as this text.
 fn assert_text(rt: &impl Abort, alloc: Global, error: CopyRecordsError, text: &str) {
     let shown = format!(in alloc; "{error}").expect(rt, "memory");
     assert_holds(rt, text, shown.as_str() == text);

@@ -1,4 +1,5 @@
-//! Tests of messages that are built: items pushed, refused and taken out again, over each target, with answers from outside.
+//! Tests of building messages: items pushed, refused and removed again, over each target. The
+//! expected values come from outside this library.
 //!
 //! Nothing is exported.
 #![tactic(auto)]

@@ -9,13 +9,14 @@ use dns_wire::{AppendError, Composer, Name};
 use std::alloc::Global;
 use std::process::Abort;
 
-/// A builder of the additional section, which is empty as those before it.
+/// A builder at the additional section of an empty message.
 fn additional<T: Composer>(rt: &impl Abort, target: T) -> AdditionalBuilder<T> {
     let builder = MessageBuilder::from_target(target).expect(rt, "room for the header");
     builder.additional()
 }
 
-/// The record that a closure gathers is pushed. The message then has these octets behind its first ones.
+/// Pushes the record that a closure gathers. From offset `first` on, the message has these octets
+/// then.
 fn assert_pushed<T: Composer, F: FnOnce(&mut OptBuilder) -> Result<(), AppendError>>(
     rt: &impl Abort,
     alloc: Global,
@@ -33,7 +34,8 @@ fn assert_pushed<T: Composer, F: FnOnce(&mut OptBuilder) -> Result<(), AppendErr
     assert_octets(rt, row, octets, expected);
 }
 
-/// The record that a closure gathers is refused for want of room, and the message stays empty.
+/// Checks that the record that a closure gathers is refused with `ShortBuf`, and that the message
+/// stays empty.
 fn assert_refused<T: Composer, F: FnOnce(&mut OptBuilder) -> Result<(), AppendError>>(
     rt: &impl Abort,
     alloc: Global,
@@ -102,7 +104,8 @@ fn answers_what_the_closure_answers(rt: HostRuntime) {
     assert_refused(&rt, alloc, "Closure that errs", Vec::new(alloc), gather);
 }
 
-/// Options of 65,535 octets, and one more, whose refusal is dropped.
+/// Adds an option, with which there are 65,535 octets of options, and ignores that one more is
+/// refused.
 fn fill(opt: &mut OptBuilder, octets: &[u8]) -> Result<(), AppendError> {
     opt.push_raw_option(OptionCode::from_int(65_001), octets)?;
     match opt.push_raw_option(OptionCode::from_int(65_001), b"") {
@@ -111,12 +114,12 @@ fn fill(opt: &mut OptBuilder, octets: &[u8]) -> Result<(), AppendError> {
     }
 }
 
-/// The most octets that data has without its option's code and length.
+/// The most octets that an option can have after its code and length.
 fn most_octets(rt: &impl Abort, alloc: Global) -> Vec<u8> {
     vec![in alloc; 0; 65_531].expect(rt, "memory")
 }
 
-/// A message of so many octets has an OPT record with one option.
+/// Fails unless the message has `len` octets and an OPT record with one option.
 fn assert_one_option<T: Composer>(rt: &impl Abort, builder: &AdditionalBuilder<T>, len: usize) {
     assert_holds(rt, "Most options", builder.as_slice().len() == len);
     let message = builder.as_message();
@@ -147,7 +150,7 @@ fn refuses_the_most_options_in_a_stream(rt: HostRuntime) {
     assert_octets(&rt, row, target.as_stream_slice(), empty);
 }
 
-/// An OPT record for payloads of 512 octets, with DO, one bit of Z and one option.
+/// An OPT record with a UDP payload size of 512 octets, DO, one bit of Z and one option.
 fn opt_record(rt: &impl Abort) -> OptRecord<&'static [u8]> {
     let data = Opt::from_octets(b"\x00\x03\x00\x01a".as_slice()).expect(rt, "options");
     let ttl = Ttl::from_secs(0x8001);
@@ -179,7 +182,8 @@ fn takes_the_fields_of_a_record(rt: HostRuntime) {
     );
 }
 
-/// The options of NSID, of the algorithms 8 and 13, EXPIRE and a timeout of 30 seconds.
+/// The options NSID, DAU with the algorithms 8 and 13, EXPIRE and a keepalive timeout of 30
+/// seconds.
 static KNOWN: [u8; 20] =
     *b"\x00\x03\x00\x00\x00\x05\x00\x02\x08\x0d\x00\x09\x00\x00\x00\x0b\x00\x02\x01\x2c";
 

@@ -1,4 +1,5 @@
-//! Rows: calls on a builder as data, each with its answer and with what it appends. They are made over any target.
+//! Rows: calls on a builder as data, each with its result and with what it appends. They work over
+//! any target.
 use dns_build::{Builder, MessageBuilder, PushError, QuestionBuilder, RecordStage};
 use dns_code::{Header, Rtype};
 use dns_data::{A, Ns, Soa, UnknownRecordData};
@@ -12,10 +13,10 @@ pub(crate) const LETTER_A: &[u8] = b"\x01a\x00";
 
 pub(crate) const ROOT: &[u8] = b"\x00";
 
-/// The address of a record, where a row gives none.
+/// The address of a record if a row gives none.
 pub(crate) const ADDRESS: [u8; 4] = [203, 0, 113, 1];
 
-/// What a call answers. A call that can't be refused is done.
+/// The result of a call: `Done`, or the error.
 pub(crate) enum Answer {
     Done,
     ShortBuf,
@@ -23,48 +24,48 @@ pub(crate) enum Answer {
     CountOverflow,
 }
 
-/// What a push gives.
+/// The result of a push.
 pub(crate) type Pushed = Result<(), PushError>;
 
 /// A call at the question section, or several of one kind.
 pub(crate) enum Ask {
-    /// A question for the addresses of a name is pushed.
+    /// Pushes a question for the A records of a name.
     Question(&'static [u8]),
-    /// A question for the servers of a name is pushed.
+    /// Pushes a question for the NS records of a name.
     Servers(&'static [u8]),
-    /// Questions for the addresses of a. to x. are pushed.
+    /// Pushes questions for the A records of a. to x.
     Letters,
-    /// So many questions for the addresses of the root are pushed.
+    /// Pushes this number of questions for the A records of the root.
     Roots(u16),
-    /// The questions are taken out.
+    /// Removes the questions.
     Rewind,
-    /// The limit is set.
+    /// Sets the limit.
     Limit(usize),
-    /// The header is set.
+    /// Sets the header.
     Header([u8; 4]),
 }
 
 /// A call at a section of records.
 pub(crate) enum Call {
-    /// The address of a name is pushed, for an hour.
+    /// Pushes an address of a name with a TTL of an hour.
     Address(&'static [u8], [u8; 4]),
-    /// The address 192.0.2.N of a name is pushed, for a day.
+    /// Pushes the address 192.0.2.N of a name with a TTL of a day.
     Day(&'static [u8], u8),
-    /// The server of a name is pushed, for so many seconds.
+    /// Pushes an NS record of a name with a TTL in seconds.
     Server(&'static [u8], u32, &'static [u8]),
-    /// The start of the root zone is pushed.
+    /// Pushes the SOA record of the root zone.
     Start,
-    /// A record of a name with so many octets of opaque data is pushed.
+    /// Pushes a record of a name with this number of octets of opaque data.
     Opaque(&'static [u8], usize),
-    /// The records of the section are taken out.
+    /// Removes the records of the section.
     Rewind,
-    /// The limit is set.
+    /// Sets the limit.
     Limit(usize),
-    /// The limit is taken away.
+    /// Removes the limit.
     NoLimit,
 }
 
-/// A call, its answer, the length of the message behind it, and octets with which begins what it appends.
+/// A call, its result, the length of the message after it, and the first octets that it appends.
 pub(crate) type Step<C> = (C, Answer, usize, &'static [u8]);
 
 /// The calls at each section.
@@ -76,7 +77,7 @@ pub(crate) struct Row {
     pub(crate) answers: &'static [Step<Call>],
     pub(crate) authorities: &'static [Step<Call>],
     pub(crate) additionals: &'static [Step<Call>],
-    /// Octets with which the message begins behind the calls: at least its header with the counts.
+    /// The first octets of the message after the calls: at least its header and counts.
     pub(crate) start: &'static [u8],
 }
 
@@ -90,22 +91,22 @@ pub(crate) const EMPTY: Row = Row {
     start: &[0; 12],
 };
 
-/// The octets of a row are those that are expected.
+/// Fails unless the octets are the expected ones.
 pub(crate) fn assert_octets(rt: &impl Abort, row: &str, octets: &[u8], expected: &[u8]) {
     assert_eq!(rt; octets, expected, "{row}");
 }
 
-/// What a row asks for holds.
+/// Fails unless the condition of a row holds.
 pub(crate) fn assert_holds(rt: &impl Abort, row: &str, holds: bool) {
     assert!(rt; holds, "{row}");
 }
 
-/// The name of octets that are one.
+/// The name in octets that are one.
 pub(crate) fn name<'a>(rt: &impl Abort, octets: &'a [u8]) -> Name<&'a [u8]> {
     Name::from_octets(octets).expect(rt, "a name")
 }
 
-/// Whether a push gave this answer.
+/// Whether a push had this result.
 fn gave(pushed: Pushed, answer: &Answer) -> bool {
     match answer {
         Answer::Done => pushed.is_ok(),
@@ -132,7 +133,7 @@ fn push_letters<T: Composer>(rt: &impl Abort, builder: &mut QuestionBuilder<T>) 
     Ok(())
 }
 
-/// Pushes so many questions for the root.
+/// Pushes `count` questions for the root.
 fn push_roots<T: Composer>(
     rt: &impl Abort,
     builder: &mut QuestionBuilder<T>,
@@ -158,7 +159,7 @@ fn ask_one<T: Composer>(rt: &impl Abort, builder: &mut QuestionBuilder<T>, call:
     Ok(())
 }
 
-/// Pushes the start of the root zone.
+/// Pushes the SOA record of the root zone.
 fn push_start<T: Composer, S: RecordStage>(rt: &impl Abort, builder: &mut Builder<T, S>) -> Pushed {
     let mname = name(rt, b"\x01a\x0Croot-servers\x03net\x00");
     let rname = name(rt, b"\x05nstld\x0Cverisign-grs\x03com\x00");
@@ -166,7 +167,7 @@ fn push_start<T: Composer, S: RecordStage>(rt: &impl Abort, builder: &mut Builde
     builder.push((Name::root_slice(), 86_390, soa))
 }
 
-/// Pushes a record of so many octets of opaque data.
+/// Pushes a record with `count` octets of opaque data.
 fn push_opaque<T: Composer, S: RecordStage>(
     rt: &impl Abort,
     alloc: Global,
@@ -179,7 +180,7 @@ fn push_opaque<T: Composer, S: RecordStage>(
     builder.push((name(rt, owner), 3600, data))
 }
 
-/// Pushes an address for so many seconds.
+/// Pushes an address with a TTL in seconds.
 fn push_address<T: Composer, S: RecordStage>(
     rt: &impl Abort,
     builder: &mut Builder<T, S>,
@@ -216,7 +217,7 @@ fn make_one<T: Composer, S: RecordStage>(
     Ok(())
 }
 
-/// A call of a row gave this answer on a message of `old` octets, which has these octets behind it.
+/// Checks a call of a row on a message of `old` octets: its result, and the octets after it.
 fn assert_step<C>(
     rt: &impl Abort,
     row: &str,
@@ -259,7 +260,7 @@ fn make_all<T: Composer, S: RecordStage>(
     }
 }
 
-/// Makes the calls of a row on a builder without items, and gives the target back.
+/// Makes the calls of a row on a builder without items. Returns the target.
 pub(crate) fn run_on<T: Composer>(
     rt: &impl Abort,
     alloc: Global,

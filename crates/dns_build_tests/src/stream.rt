@@ -1,4 +1,4 @@
-//! Messages that are built behind their length, as they go over a stream.
+//! Messages that are built after their length, as on a TCP stream.
 use crate::rows::Answer::{Done, ShortBuf};
 use crate::rows::{
     Ask, Call, EMPTY, EXAMPLE_COM, ROOT, Row, assert_holds, assert_octets, name, run_on,
@@ -14,13 +14,13 @@ use dns_wire::{Composer, ParsedName, ToName, ToNameExt};
 use std::alloc::Global;
 use std::process::Abort;
 
-/// A message begins behind this length.
+/// Fails unless this length precedes the message.
 fn assert_prefix<T: Composer>(rt: &impl Abort, row: &str, target: &StreamTarget<T>, prefix: &[u8]) {
     let length = target.as_stream_slice().get(..2).unwrap_or(b"");
     assert_octets(rt, row, length, prefix);
 }
 
-/// Makes the calls of a row, whose message is then behind this length.
+/// Makes the calls of a row. Fails unless this length precedes the message then.
 fn run_behind<T: Composer>(
     rt: &impl Abort,
     alloc: Global,
@@ -32,7 +32,7 @@ fn run_behind<T: Composer>(
     assert_prefix(rt, row.name, &target, prefix);
 }
 
-/// Two questions for the root, of which one has room.
+/// Two questions for the root, of which one fits.
 static FULL_ARRAY: Row = Row {
     name: "Full stream target of fixed size",
     questions: &[
@@ -50,7 +50,7 @@ fn fills_an_array(rt: HostRuntime) {
     run_behind(&rt, rt.alloc(), builder, &FULL_ARRAY, b"\x00\x11");
 }
 
-/// A record that makes the message longer than 65,535 octets.
+/// A record with which the message would have more than 65,535 octets.
 static TOO_LONG: Row = Row {
     name: "Full stream message, refused",
     answers: &[(Call::Opaque(ROOT, 65_513), ShortBuf, 12, b"")],
@@ -58,7 +58,7 @@ static TOO_LONG: Row = Row {
     ..EMPTY
 };
 
-/// As `TOO_LONG`, then a record that makes it as long.
+/// Like `TOO_LONG`, followed by a record with which the message has 65,535 octets.
 static FULL: Row = Row {
     name: "Full stream message",
     answers: &[
@@ -81,11 +81,12 @@ fn fills_a_message(rt: HostRuntime) {
     }
 }
 
-/// A message of example.com with a record in each section, over a static compressor over a stream.
+/// A message about example.com. with a record in each section, over a static compressor over a
+/// stream target.
 static MESSAGE: [u8; 91] =
     *b"\x00\x00\x01\x00\x00\x01\x00\x02\x00\x01\x00\x01\x07example\x03com\x00\x00\x01\x00\x01\xC0\x0C\x00\x01\x00\x01\x00\x01\x51\x80\x00\x04\xC0\x00\x02\x01\xC0\x0C\x00\x01\x00\x01\x00\x01\x51\x80\x00\x04\xC0\x00\x02\x02\xC0\x0C\x00\x02\x00\x01\x00\x00\x00\x00\x00\x02\xC0\x0C\xC0\x0C\x00\x01\x00\x01\x00\x01\x51\x80\x00\x04\xC0\x00\x02\x01";
 
-/// The calls that give `MESSAGE`.
+/// The calls that build `MESSAGE`.
 static CALLS: Row = Row {
     name: "Static compressor over a stream",
     questions: &[
@@ -106,7 +107,7 @@ static CALLS: Row = Row {
     start: b"\x00\x00\x01\x00\x00\x01\x00\x02\x00\x01\x00\x01",
 };
 
-/// The message and its length are those of the row.
+/// Fails unless the message and its length are those of the row.
 fn assert_message<T: Composer>(rt: &impl Abort, target: &StreamTarget<T>) {
     assert_octets(rt, CALLS.name, target.as_dgram_slice(), &MESSAGE);
     assert_prefix(rt, CALLS.name, target, b"\x00\x5B");
@@ -147,20 +148,20 @@ fn refuses_a_pointer(rt: HostRuntime) {
     assert_prefix(&rt, BETWEEN.name, target.as_target(), b"\x00\x1D");
 }
 
-/// The name is example.com., and the class IN.
+/// Fails unless the name is example.com. and the class IN.
 fn assert_example_com<N: ToName>(rt: &impl Abort, found: &N, class: Class) {
     let is_it = found.octets_eq(&name(rt, EXAMPLE_COM)) && class == Class::IN;
     assert_holds(rt, CALLS.name, is_it);
 }
 
-/// A record is an address of example.com, which may be kept for a day.
+/// Fails unless the record is an address of example.com. with a TTL of a day.
 fn assert_address(rt: &impl Abort, record: &Record<ParsedName<'_>, A>, address: [u8; 4]) {
     assert_example_com(rt, record.owner(), record.class());
     let is_it = record.ttl().as_secs() == 86_400 && record.data().octets() == address;
     assert_holds(rt, CALLS.name, is_it);
 }
 
-/// The records are these addresses of example.com.
+/// Fails unless the records are these addresses of example.com.
 fn assert_addresses(rt: &impl Abort, mut records: RecordIter<'_, A>, addresses: &[[u8; 4]]) {
     for address in addresses {
         let record = records
@@ -185,13 +186,13 @@ fn reads_the_addresses_back(rt: HostRuntime) {
     assert_addresses(&rt, records, &addresses[..1]);
 }
 
-/// The question is that for the addresses of example.com.
+/// Fails unless the question is for the A records of example.com.
 fn assert_question(rt: &impl Abort, question: &Question<ParsedName<'_>>) {
     assert_example_com(rt, question.qname(), question.qclass());
     assert_holds(rt, CALLS.name, question.qtype() == Rtype::A);
 }
 
-/// A record is the server of example.com, which may not be kept.
+/// Fails unless the record is the NS record of example.com. with TTL 0.
 fn assert_server(rt: &impl Abort, record: &Record<ParsedName<'_>, Ns<ParsedName<'_>>>) {
     assert_example_com(rt, record.owner(), record.class());
     assert_example_com(rt, record.data().nsdname(), record.class());

@@ -5,7 +5,7 @@ use Rattle.dns_name.specs.Names.{Labels, uncompressed}
 use Rattle.dns_wire.specs.Parts.{Part}
 use Rattle.dns_wire.specs.Parts.Part.{Octets}
 
--- the order, the preference, the flags, the services, the expression and the replacement
+-- the order, the preference, the flags, the services, the regular expression and the replacement
 abbrev pub naptr_parts : ℕ → ℕ → List ℕ → List ℕ → List ℕ → Part → List Part
 naptr_parts order preference flags services regexp replacement =
     Octets (to_be_bytes w16 order) ∷ Octets (to_be_bytes w16 preference) ∷ Octets flags ∷ Octets services ∷ Octets regexp ∷ replacement ∷ []

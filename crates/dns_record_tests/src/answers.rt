@@ -1,4 +1,4 @@
-//! Messages of one answer, whose data is of a type that is none of the library's.
+//! Messages with one answer, whose RDATA is of a type of the test's own.
 use crate::asserts::assert_octets;
 use dns_message::builder::MessageBuilder;
 use dns_message::data::ParseRecordData;
@@ -9,7 +9,7 @@ use std::alloc::Global;
 use std::process::Abort;
 use std::test::Fail;
 
-/// The message of this answer has these octets, over a compressor.
+/// Fails unless the message with this answer has these octets, over a compressor.
 pub(crate) fn assert_answer<R: ComposeRecord + Drop>(
     rt: &impl Abort,
     alloc: Global,
@@ -23,7 +23,7 @@ pub(crate) fn assert_answer<R: ComposeRecord + Drop>(
     Ok(())
 }
 
-/// The message of these octets.
+/// The message with these octets.
 pub(crate) fn message(rt: &impl Abort, octets: &'static [u8]) -> Message<&'static [u8]> {
     let Ok(message) = Message::from_slice(octets) else {
         panic!(rt; "no message");
@@ -31,12 +31,12 @@ pub(crate) fn message(rt: &impl Abort, octets: &'static [u8]) -> Message<&'stati
     message
 }
 
-/// The first answer, where it can be read.
+/// The first answer, if it can be read.
 fn first_answer<'a>(message: &'a Message<&'a [u8]>) -> Option<ParsedRecord<'a>> {
     message.answer().ok()?.next()?.ok()
 }
 
-/// The data of the first answer.
+/// The RDATA of the first answer.
 pub(crate) fn first_data<'a, D: ParseRecordData<'a> + Drop>(
     rt: &impl Abort,
     message: &'a Message<&'a [u8]>,

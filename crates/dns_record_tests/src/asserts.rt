@@ -1,4 +1,4 @@
-//! Values that many tests need, and comparisons that many tests make.
+//! Values and comparisons that many tests use.
 use arrayvec::ArrayVec;
 use dns_code::Rtype;
 use dns_data::{ComposeRecordData, Opt, UnknownRecordData};
@@ -10,10 +10,10 @@ use std::fmt::Display;
 use std::hash::{DefaultHasher, Hash, Hasher};
 use std::process::Abort;
 
-/// A name over octets of the source.
+/// A name over static octets.
 pub(crate) type SliceName = Name<&'static [u8]>;
 
-/// The name of these octets.
+/// The name in these octets.
 pub(crate) fn name(rt: &impl Abort, octets: &'static [u8]) -> SliceName {
     let Ok(name) = Name::from_octets(octets) else {
         panic!(rt; "no name");
@@ -33,7 +33,7 @@ pub(crate) fn opaque(
     data
 }
 
-/// The data of an OPT record with these options.
+/// The RDATA of an OPT record with these options.
 pub(crate) fn options(rt: &impl Abort, octets: &'static [u8]) -> Opt<&'static [u8]> {
     let Ok(options) = Opt::from_octets(octets) else {
         panic!(rt; "no options");
@@ -41,22 +41,22 @@ pub(crate) fn options(rt: &impl Abort, octets: &'static [u8]) -> Opt<&'static [u
     options
 }
 
-/// This holds.
+/// Fails unless the condition holds.
 pub(crate) fn assert_holds(rt: &impl Abort, what: &str, holds: bool) {
     assert!(rt; holds, "{what}");
 }
 
-/// These octets are as expected.
+/// Fails unless the octets are the expected ones.
 pub(crate) fn assert_octets(rt: &impl Abort, what: &str, octets: &[u8], expected: &[u8]) {
     assert_eq!(rt; octets, expected, "{what}");
 }
 
-/// These numbers are as expected.
+/// Fails unless the numbers are the expected ones.
 pub(crate) fn assert_numbers(rt: &impl Abort, what: &str, numbers: &[u32], expected: &[u32]) {
     assert_eq!(rt; numbers, expected, "{what}");
 }
 
-/// The question has these octets.
+/// Fails unless the question has these octets.
 pub(crate) fn assert_question<Q: ComposeQuestion>(
     rt: &impl Abort,
     what: &str,
@@ -68,7 +68,7 @@ pub(crate) fn assert_question<Q: ComposeQuestion>(
     assert_octets(rt, what, target.as_slice(), expected);
 }
 
-/// The record has these octets.
+/// Fails unless the record has these octets.
 pub(crate) fn assert_record<R: ComposeRecord>(
     rt: &impl Abort,
     what: &str,
@@ -80,7 +80,7 @@ pub(crate) fn assert_record<R: ComposeRecord>(
     assert_octets(rt, what, target.as_slice(), expected);
 }
 
-/// The data has these octets.
+/// Fails unless the RDATA has these octets.
 pub(crate) fn assert_data<D: ComposeRecordData>(
     rt: &impl Abort,
     what: &str,
@@ -92,7 +92,7 @@ pub(crate) fn assert_data<D: ComposeRecordData>(
     assert_octets(rt, what, target.as_slice(), expected);
 }
 
-/// The value is printed so.
+/// Fails unless the value is printed as `text`.
 pub(crate) fn assert_printed<T: Display>(rt: &impl Abort, alloc: Global, value: &T, text: &str) {
     let Ok(printed) = value.to_string(alloc) else {
         panic!(rt; "{text}");
@@ -106,13 +106,13 @@ fn hash_of<T: Hash>(value: &T) -> u64 {
     state.finish()
 }
 
-/// The two values are equal, of equal order and of equal hash.
+/// Fails unless the two values are equal, compare as equal, and have the same hash.
 pub(crate) fn assert_same<T: Ord + Hash>(rt: &impl Abort, what: &str, first: &T, second: &T) {
     let is_same = first == second && first.cmp(second) == Ordering::Equal;
     assert!(rt; is_same && hash_of(first) == hash_of(second), "{what}");
 }
 
-/// The first value stands before the second, and differs from it.
+/// Fails unless the first value precedes the second, and differs from it.
 pub(crate) fn assert_less<T: Ord>(rt: &impl Abort, what: &str, first: &T, second: &T) {
     let is_less = first.cmp(second) == Ordering::Less;
     assert!(rt; is_less && first < second && first != second, "{what}");

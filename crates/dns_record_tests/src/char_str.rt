@@ -1,14 +1,14 @@
-//! Character strings, for data types that are none of the library's (RFC 1035 section 3.3).
+//! Character strings, for data types of the test's own (RFC 1035 section 3.3).
 ghost use Rattle.std.specs.Prelude.{◌≡◌, ◌+◌, ◌≤◌, length};
 ghost use Rattle.dns_data.specs.Layout.{string_size};
 
 use dns_message::wire::{ParseError, Parser};
 use std::process::Abort;
 
-/// A character string as it stands in a message: a length octet and so many octets (RFC 1035 section 3.3).
+/// A character string in wire format: a length octet and that many octets (RFC 1035 section 3.3).
 #[derive(Clone, Copy)]
 pub struct CharStr<'a> {
-    /// The length octet and the octets behind it.
+    /// The length octet and the octets after it.
     pub octets: &'a [u8],
     ghost is_string: { length octets.now ≡ string_size octets.now 0 },
     ghost short: { length octets.now ≤ 256 },
@@ -18,7 +18,8 @@ impl<'a> CharStr<'a> {
     ghost use Rattle.std.specs.Prelude.{◌↔◌, slice_range, IfSome, IsSome};
     ghost use Rattle.dns_name.specs.Parsers.{seen, place, Takes};
 
-    /// The character string of these octets, of which the first has to say how many others there are.
+    /// The character string in these octets. `None` unless the first octet is the number of the
+    /// others.
     pub fn from_octets(octets: &'a [u8]) -> Option<Self>
         ensures accepts { IsSome result ↔ (length octets.now ≡ string_size octets.now 0) }
         ensures octets { IfSome result (λ string. string.octets.now ≡ octets.now) }
@@ -32,7 +33,7 @@ impl<'a> CharStr<'a> {
         Some(CharStr { octets })
     }
 
-    /// The length octet and the octets behind it.
+    /// The length octet and the octets after it.
     pub fn as_slice(&self) -> &'a [u8]
         ensures octets { result.now ≡ self.now.octets.now }
         ensures short { length result.now ≤ 256 }
@@ -40,7 +41,7 @@ impl<'a> CharStr<'a> {
         self.octets
     }
 
-    /// Reads a character string and passes it.
+    /// Reads a character string and advances past it.
     pub fn parse(parser: &mut Parser<'a>) -> Result<Self, ParseError>
         ensures { let n = string_size (seen parser.old) (place parser.old) in
             Takes parser.old parser.new n result (λ string. string.octets.now
@@ -53,7 +54,7 @@ impl<'a> CharStr<'a> {
     }
 }
 
-/// The character string of these octets.
+/// The character string in these octets.
 pub(crate) fn string(rt: &impl Abort, octets: &'static [u8]) -> CharStr<'static> {
     let Some(string) = CharStr::from_octets(octets) else {
         panic!(rt; "no string");

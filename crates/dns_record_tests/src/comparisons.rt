@@ -1,4 +1,4 @@
-//! Records compared, and in canonical form.
+//! Comparisons of records, and their canonical form.
 use crate::asserts::{SliceName, assert_holds, assert_octets, assert_same, name};
 use arrayvec::ArrayVec;
 use dns_code::{Class, Rtype};
@@ -55,8 +55,8 @@ fn composes_a_canonical_record(rt: HostRuntime) -> Result<(), Fail> {
     Ok(())
 }
 
-/// Composes a header as it is and in canonical form, and behind them data in canonical form, data behind their length, and the
-/// former behind their length.
+/// Composes a header as it is and in canonical form, RDATA in canonical form, RDATA with its length
+/// before it, and the former RDATA in canonical form with its length before it.
 fn compose_parts(name: SliceName, target: &mut ArrayVec<u8, 64>) -> Result<(), AppendError> {
     let header = RecordHeader::new(name, Rtype::TXT, Class::CH, Ttl::MINUTE, 7);
     header.compose(target)?;

@@ -1,4 +1,4 @@
-//! Questions, records and their data, converted between holders, read out of a message, and cloned.
+//! Questions, records and RDATA: converted to other octets, read from a message, and cloned.
 use crate::asserts::{
     SliceName, assert_data, assert_holds, assert_numbers, assert_octets, assert_question,
     assert_record, name, opaque, options,
@@ -16,10 +16,10 @@ const EXAMPLE_COM: &[u8; 13] = b"\x07example\x03com\x00";
 
 type VecName = Name<Vec<u8>>;
 
-/// A name that has room for 12 octets, one less than example.com. takes.
+/// A name with a capacity of 12 octets, one less than example.com. has.
 type ShortName = Name<ArrayVec<u8, 12>>;
 
-/// The value in another holder.
+/// The value, converted to another type of octets.
 fn converted<T: OctetsFrom<S>, S>(rt: &impl Abort, alloc: Global, source: S) -> T {
     let Ok(value) = T::try_octets_from(alloc, source) else {
         panic!(rt; "not converted");
@@ -27,7 +27,7 @@ fn converted<T: OctetsFrom<S>, S>(rt: &impl Abort, alloc: Global, source: S) -> 
     value
 }
 
-/// The value without what it borrows from a message.
+/// The value, without what it borrows from a message.
 fn flattened<T, S: FlattenInto<T>>(rt: &impl Abort, alloc: Global, source: S) -> T {
     let Ok(value) = source.try_flatten_into(alloc) else {
         panic!(rt; "not flattened");
@@ -35,7 +35,7 @@ fn flattened<T, S: FlattenInto<T>>(rt: &impl Abort, alloc: Global, source: S) ->
     value
 }
 
-/// The record of example.com. NS example.com.
+/// The record example.com. NS example.com.
 fn server(rt: &impl Abort) -> Record<SliceName, Ns<SliceName>> {
     let name = name(rt, EXAMPLE_COM);
     Record::new(name, Class::CH, Ttl::MINUTE, Ns::new(name))
@@ -103,7 +103,7 @@ fn converts_data_of_octets(rt: HostRuntime) {
 /// The names example.com. and ns.example.com.
 const NAMES: &[u8; 18] = b"\x07example\x03com\x00\x02ns\xC0\x00";
 
-/// The name that stands next.
+/// The next name.
 fn next_name(rt: &impl Abort, parser: &mut Parser<'static>) -> ParsedName<'static> {
     let Ok(name) = ParsedName::parse(parser) else {
         panic!(rt; "no name");
@@ -142,7 +142,7 @@ fn flattens_a_zone(rt: HostRuntime) {
     );
 }
 
-/// A clone of the value is equal to it.
+/// Fails unless a clone of the value is equal to it.
 fn assert_cloned<T: Clone + PartialEq + Drop>(rt: &impl Abort, what: &str, value: T) {
     let Ok(clone) = value.clone() else {
         panic!(rt; "{what}");
@@ -150,7 +150,7 @@ fn assert_cloned<T: Clone + PartialEq + Drop>(rt: &impl Abort, what: &str, value
     assert!(rt; clone == value, "{what}");
 }
 
-/// A clone of the name has the same octets.
+/// Fails unless a clone of the name has the same octets.
 fn assert_name_cloned(rt: &impl Abort, what: &str, name: &VecName) {
     let Ok(clone) = name.clone() else {
         panic!(rt; "{what}");
@@ -158,7 +158,8 @@ fn assert_name_cloned(rt: &impl Abort, what: &str, name: &VecName) {
     assert_octets(rt, what, clone.as_slice(), EXAMPLE_COM);
 }
 
-/// A clone of the record of example.com. 3600 IN A 1.2.3.4 is equal to it, and has its octets.
+/// Fails unless a clone of the record example.com. 3600 IN A 1.2.3.4 is equal to it, and has its
+/// octets.
 fn assert_record_cloned(rt: &impl Abort, what: &str, record: &Record<VecName, A>) {
     let Ok(clone) = record.clone() else {
         panic!(rt; "{what}");
@@ -206,12 +207,12 @@ fn clones_items(rt: HostRuntime) {
     assert_record_cloned(&rt, what, &record);
 }
 
-/// Three records at the places 0, 15 and 30: the second has its owner in another case, and the pointer in the data of the third
-/// leads to another place where the same name stands.
+/// Three records at offsets 0, 15 and 30. The owner of the second has other letter case. The
+/// pointer in the RDATA of the third leads to another offset at which the same name is encoded.
 const POINTING: &[u8; 45] =
     b"\x01a\x00\x00\x02\x00\x01\x00\x00\x0E\x10\x00\x02\xC0\x00\x01A\x00\x00\x02\x00\x01\x00\x00\x0E\x10\x00\x02\xC0\x00\x01a\x00\x00\x02\x00\x01\x00\x00\x0E\x10\x00\x02\xC0\x0F";
 
-/// The record that stands next.
+/// The next record.
 fn next_record(rt: &impl Abort, parser: &mut Parser<'static>) -> ParsedRecord<'static> {
     let Ok(record) = ParsedRecord::parse(parser) else {
         panic!(rt; "no record");

@@ -1,4 +1,4 @@
-//! Data of records: which it takes, how it is refused, and how records are printed.
+//! RDATA: what data types accept, what they refuse, and how records are printed.
 use crate::asserts::{assert_holds, assert_printed, name, opaque};
 use dns_code::{Class, Rtype};
 use dns_data::{A, Cname, LongRecordData, Ns, ParseRecordData, Soa, UnknownRecordData};
@@ -8,7 +8,7 @@ use dns_opt::LongOptData;
 use dns_wire::{Name, ParseError, ParsedName, Parser, ShortBuf};
 use std::process::Abort;
 
-/// Whether the data is taken as that of this type.
+/// Whether the type `D` accepts the RDATA of this record type.
 fn takes<'a, D: ParseRecordData<'a> + Drop>(
     rtype: Rtype,
     octets: &'a [u8],

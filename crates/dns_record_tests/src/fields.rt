@@ -1,4 +1,4 @@
-//! Data of which all fields are octets.
+//! RDATA of which all fields are octets.
 ghost use Rattle.std.specs.Prelude.{◌∷◌, map};
 ghost use Rattle.dns_wire.specs.Parts.{Octets, put_parts};
 ghost use Rattle.dns_wire.specs.Targets.{Composes};
@@ -7,7 +7,7 @@ use dns_message::data::laws::parts_compose;
 use dns_message::target::Composer;
 use dns_message::wire::AppendError;
 
-/// Appends fields one behind the other.
+/// Appends fields in order.
 pub fn compose_fields<T: Composer>(
     first: &[u8],
     behind: &[&[u8]],

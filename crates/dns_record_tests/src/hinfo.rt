@@ -1,4 +1,4 @@
-//! Hosts' hardware and system: a data type that is none of the library's, proved against its contracts alone.
+//! HINFO: a data type of the test's own, proved against the contracts alone.
 ghost use Rattle.std.proofs.Common.{rules};
 ghost use Rattle.std.specs.Prelude.{[], ◌∷◌};
 ghost use Rattle.dns_wire.specs.Parts.{Octets};
@@ -12,7 +12,7 @@ use dns_message::data::{ComposeRecordData, ParseRecordData, RecordData};
 use dns_message::target::Composer;
 use dns_message::wire::{AppendError, ParseError, Parser};
 
-/// The kind of a host's hardware, and of its operating system (RFC 1035 section 3.3.2).
+/// The CPU type and the operating system of a host (RFC 1035 section 3.3.2).
 #[derive(Clone, Copy)]
 pub struct Hinfo<'a> {
     cpu: CharStr<'a>,
@@ -65,7 +65,7 @@ mod tests {
     use dns_message::record::{Record, Ttl};
     use std::test::Fail;
 
-    /// An answer with the host of host.example., a DEC-2060 with TOPS20.
+    /// An answer with the HINFO record of host.example., a DEC-2060 with TOPS20.
     const MESSAGE: &[u8; 52] =
         b"\x00\x00\x00\x00\x00\x00\x00\x01\x00\x00\x00\x00\x04host\x07example\x00\x00\x0D\x00\x01\x00\x00\x0E\x10\x00\x10\x08DEC-2060\x06TOPS20";
 

@@ -1,4 +1,4 @@
-//! Records and their headers: read over, taken apart and made anew.
+//! Records and their headers: read, taken apart, and made anew.
 use crate::asserts::{assert_holds, assert_numbers, assert_octets, assert_record, name};
 use dns_code::{Class, Rtype};
 use dns_data::{A, UnknownRecordData};
@@ -7,10 +7,10 @@ use dns_wire::{Name, ParseError, ParsedName, Parser, ToName, ToNameExt};
 use std::process::Abort;
 use std::test::Fail;
 
-/// a. 3600 IN A 203.0.113.1 with its data from 13 to 17.
+/// a. 3600 IN A 203.0.113.1, with its RDATA at offsets 13 to 16.
 const ADDRESS: &[u8; 17] = b"\x01a\x00\x00\x01\x00\x01\x00\x00\x0E\x10\x00\x04\xCB\x00\x71\x01";
 
-/// The header is that of the address.
+/// Fails unless the header is that of `ADDRESS`.
 fn assert_header(
     rt: &impl Abort,
     what: &str,
@@ -51,7 +51,7 @@ fn reads_headers(rt: HostRuntime) {
     );
 }
 
-/// The address behind a header.
+/// The address after a header.
 fn address_in(parser: &mut Parser<'_>) -> Result<Option<[u8; 4]>, ParseError> {
     let header = RecordHeader::parse(parser)?;
     let record = header.parse_into_record::<A>(parser)?;
@@ -102,7 +102,7 @@ fn takes_items_apart(rt: HostRuntime) -> Result<(), Fail> {
     Ok(())
 }
 
-/// Tuples of these fields, and records made of some, have the octets of records.
+/// Fails unless tuples of these fields have the octets of records.
 fn assert_tuples<N: ToName + Copy>(rt: &impl Abort, owner: N, data: A) {
     assert_record(rt, "TTL", &(owner, Ttl::HOUR, data), ADDRESS);
     assert_record(rt, "seconds", &(owner, 3600, data), ADDRESS);
@@ -120,7 +120,7 @@ fn assert_tuples<N: ToName + Copy>(rt: &impl Abort, owner: N, data: A) {
     );
 }
 
-/// Records that are made of tuples have these fields.
+/// Fails unless records that are made of tuples have these fields.
 fn assert_records<N: ToName + Copy>(rt: &impl Abort, owner: N, data: A) {
     assert_record(
         rt,

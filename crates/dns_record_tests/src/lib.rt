@@ -1,5 +1,5 @@
-//! Tests of items and OPT records: questions, record data, data types that are none of the library's, OPT records and what is
-//! gathered for one, with answers from outside.
+//! Tests of items and OPT records: questions, record data, data types of the tests' own, OPT
+//! records and what is gathered for one. The expected values come from outside this library.
 //!
 //! Nothing is exported.
 #![tactic(auto)]

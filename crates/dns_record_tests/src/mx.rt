@@ -1,4 +1,4 @@
-//! Mail exchangers: a data type that is none of the library's, proved against its contracts alone.
+//! MX: a data type of the test's own, proved against the contracts alone.
 ghost use Rattle.std.proofs.Common.{rules};
 ghost use Rattle.std.specs.Prelude.{◌≡◌, [], ◌∷◌, length};
 ghost use Rattle.std.specs.Int.{to_be_bytes, w16};
@@ -17,7 +17,8 @@ use dns_message::target::Composer;
 use dns_message::wire::{AppendError, ParseError, Parser};
 use std::test::Fail;
 
-/// A mail exchanger and its preference, of which the lowest is tried first (RFC 1035 section 3.3.9).
+/// A mail exchanger and its preference, of which lower values are tried first (RFC 1035 section
+/// 3.3.9).
 #[derive(Clone, Copy, Drop)]
 struct Mx<N> {
     preference: u16,
@@ -49,7 +50,7 @@ impl<N: ToName> ComposeRecordData for Mx<N> {
     }
 }
 
-/// The number of two octets, the higher first.
+/// The big-endian number in two octets.
 fn number_of(octets: &[u8]) -> u16
     requires { length octets.now ≡ 2 }
     ensures { to_be_bytes w16 result ≡ octets.now }
@@ -78,7 +79,7 @@ impl<'a> ParseRecordData<'a> for Mx<ParsedName<'a>> {
     ghost laid_out = { Prim.search rules };
 }
 
-/// An answer with the mail exchanger of mail.example., which is itself.
+/// An answer with the MX record of mail.example., whose exchange is the same name.
 const MESSAGE: &[u8; 40] =
     b"\x00\x00\x00\x00\x00\x00\x00\x01\x00\x00\x00\x00\x04mail\x07example\x00\x00\x0F\x00\x01\x00\x00\x0E\x10\x00\x04\x00\x0A\xC0\x0C";
 

@@ -1,4 +1,4 @@
-//! Naming authority pointers: a data type that is none of the library's, proved against its contracts alone.
+//! NAPTR: a data type of the test's own, proved against the contracts alone.
 ghost use Rattle.std.proofs.Common.{rules};
 ghost use Rattle.std.specs.Prelude.{◌≡◌, [], ◌∷◌, length};
 ghost use Rattle.std.specs.Int.{to_be_bytes, w16};
@@ -20,8 +20,9 @@ use dns_message::wire::{AppendError, Octets, ParseError, Parser};
 
 /// A naming authority pointer (RFC 3403 section 4.1).
 ///
-/// Its replacement is never compressed where it is composed, and may be where it is read. So what is composed is over a name
-/// of its own octets, which are a part like others, and what is read is over a parsed name.
+/// The replacement is never compressed when it is written, but may be when it is read. So a value
+/// to write holds an uncompressed name, whose octets are a part like others, and a value that was
+/// read holds a parsed name.
 #[derive(Drop)]
 pub struct Naptr<'a, N> {
     order: u16,
@@ -60,7 +61,7 @@ impl<Octs: Octets> ComposeRecordData for Naptr<'_, Name<Octs>> {
         )
     }
 
-    /// The replacement keeps its letter case, since octets are the same in canonical form.
+    /// The canonical form of octets is the octets, so the replacement keeps its letter case.
     fn compose_canonical_rdata<T: Composer>(&self, target: &mut T) -> Result<(), AppendError> {
         self.compose_rdata(target)
     }
@@ -77,7 +78,7 @@ impl<'a> RecordData for Naptr<'a, ParsedName<'a>> {
     }
 }
 
-/// The number of two octets, the higher first.
+/// The big-endian number in two octets.
 fn number_of(octets: &[u8]) -> u16
     requires { length octets.now ≡ 2 }
     ensures { to_be_bytes w16 result ≡ octets.now }
@@ -126,7 +127,7 @@ mod tests {
     use std::process::Abort;
     use std::test::Fail;
 
-    /// An answer with the pointer for example., without compression.
+    /// An answer with the NAPTR record of example., uncompressed.
     const MESSAGE: &[u8; 67] =
         b"\x00\x00\x00\x00\x00\x00\x00\x01\x00\x00\x00\x00\x07example\x00\x00\x23\x00\x01\x00\x00\x0E\x10\x00\x24\x00\x64\x00\x32\x01s\x0Dz3950+N2L+N2C\x00\x05z3950\x07example\x00";
 
@@ -134,7 +135,7 @@ mod tests {
     const COMPRESSED: &[u8; 60] =
         b"\x00\x00\x00\x00\x00\x00\x00\x01\x00\x00\x00\x00\x07example\x00\x00\x23\x00\x01\x00\x00\x0E\x10\x00\x1D\x00\x64\x00\x32\x01s\x0Dz3950+N2L+N2C\x00\x05z3950\xC0\x0C";
 
-    /// The pointer has these fields.
+    /// Fails unless the NAPTR data has these fields.
     fn assert_pointer(rt: &impl Abort, naptr: &Naptr<'_, ParsedName<'_>>) {
         let numbers = [u32::from(naptr.order), u32::from(naptr.preference)];
         assert_numbers(rt, "numbers", &numbers, &[100, 50]);

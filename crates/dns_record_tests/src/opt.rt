@@ -1,4 +1,4 @@
-//! OPT records: the values that they have, and what is gathered for one.
+//! OPT records: their values, and what is gathered for one.
 mod builder;
 mod data;
 mod header;

@@ -1,4 +1,5 @@
-//! Questions, records, their headers and their data in two orders: that of values, and that of canonical forms.
+//! Questions, records, their headers and their RDATA in two orders: that of values, and that of
+//! canonical forms.
 use crate::asserts::{SliceName, assert_less, assert_same, name, opaque, options};
 use dns_code::{Class, Rtype};
 use dns_data::{A, Cname, Ns, Soa, UnknownRecordData};
@@ -9,7 +10,7 @@ use std::process::Abort;
 
 type Opaque = UnknownRecordData<&'static [u8]>;
 
-/// The first value stands before the second in canonical order, in which each is equal to itself.
+/// Fails unless the first value precedes the second in canonical order, and each equals itself.
 fn assert_canonical_order<T: CanonicalOrd>(rt: &impl Abort, what: &str, first: &T, second: &T) {
     let orders = [
         first.canonical_cmp(second),
@@ -61,12 +62,12 @@ fn orders_headers(rt: HostRuntime) {
 fn orders_data_by_its_canonical_octets(rt: HostRuntime) {
     let low = A::from_octets(9, 255, 255, 255);
     assert_canonical_order(&rt, "addresses", &low, &A::from_octets(10, 0, 0, 0));
-    // a name of one label is shorter, and its length octet decides
+    // The name with the shorter first label comes first, since its length octet is smaller.
     let short = name(&rt, b"\x01Z\x00");
     let long = name(&rt, b"\x02aa\x00");
     assert_canonical_order(&rt, "servers", &Ns::new(short), &Ns::new(long));
     assert_canonical_order(&rt, "aliases", &Cname::new(short), &Cname::new(long));
-    // the first name decides first, and the serial behind the names
+    // The first name decides first, and after the names the serial.
     let first = Soa::new(short, long, 9, 1, 1, 1, 1);
     assert_canonical_order(&rt, "zones", &first, &Soa::new(long, short, 1, 1, 1, 1, 1));
     assert_canonical_order(

@@ -1,4 +1,4 @@
-//! Questions: read from texts and from octets, printed, and composed.
+//! Questions: read from text and from octets, printed, and composed.
 use crate::asserts::{assert_holds, assert_printed, assert_question};
 use arrayvec::ArrayVec;
 use dns_code::{Class, Rtype};
@@ -20,7 +20,7 @@ const SPELLINGS: &[&str] = &[
     "example.com. a class1",
 ];
 
-/// Texts, what is wrong with each, and how that is printed. Those of "Question texts" are among them.
+/// Texts, the error of each, and how that is printed. Those of "Question texts" are among them.
 const FAULTY: &[(&str, PresentationErrorEnum, &str)] = &[
     ("", PresentationErrorEnum::MissingQname, "missing qname"),
     (
@@ -88,7 +88,7 @@ fn question_of(rt: &impl Abort, text: &str) -> Question<Name<ArrayVec<u8, 255>>>
     question
 }
 
-/// The text is refused, for this fault.
+/// Fails unless the text is refused with this error.
 fn assert_faulty(
     rt: &impl Abort,
     alloc: Global,
@@ -115,7 +115,7 @@ fn tells_what_is_wrong(rt: HostRuntime) {
     }
 }
 
-/// Both readings of the text are the question example.com. A IN.
+/// Fails unless both ways to read the text give the question example.com. A IN.
 fn assert_spelled(rt: &impl Abort, alloc: Global, text: &str) {
     assert_question(rt, text, &question_of(rt, text), EXAMPLE);
     let Ok(question) = Question::vec_from_str(alloc, text) else {
@@ -170,7 +170,7 @@ fn prints(rt: HostRuntime) {
     assert_printed(&rt, rt.alloc(), &question, ".\tTYPE65280\tCLASS254");
 }
 
-/// Tuples of the root, and questions made of some, have the octets of questions.
+/// Fails unless tuples of the root, and questions made of tuples, have the octets of questions.
 fn assert_tuples<N: ToName + Copy>(rt: &impl Abort, root: N) {
     let triple = (root, Rtype::NS, Class::CH);
     assert_question(rt, "triple", &triple, b"\x00\x00\x02\x00\x03");

@@ -1,4 +1,4 @@
-//! The data of OPT records, and lists of options (RFC 6891 section 6.1.2).
+//! The RDATA of OPT records, and lists of options (RFC 6891 section 6.1.2).
 use crate::asserts::{assert_holds, assert_octets};
 use dns_code::{OptionCode, Rtype};
 use dns_data::{Opt, ParseRecordData};
@@ -7,14 +7,14 @@ use dns_wire::{ParseError, Parser};
 use std::process::Abort;
 use std::test::Fail;
 
-/// NSID, the algorithms 8 and 13 of DAU, EXPIRE, and a keepalive of 30 seconds.
+/// NSID, DAU with the algorithms 8 and 13, EXPIRE, and a keepalive timeout of 30 seconds.
 const OPTIONS: [u8; 20] =
     *b"\x00\x03\x00\x00\x00\x05\x00\x02\x08\x0D\x00\x09\x00\x00\x00\x0B\x00\x02\x01\x2C";
 
 /// The codes of these options, and their octets.
 const EXPECTED: &[(u16, &[u8])] = &[(3, b""), (5, b"\x08\x0D"), (9, b""), (11, b"\x01\x2C")];
 
-/// The iterator gives these options, and then none.
+/// Fails unless the iterator yields these options, and then none.
 fn assert_options(rt: &impl Abort, mut options: OptionIter<'_>) {
     for &(code, expected) in EXPECTED {
         let Some((option_code, octets)) = options.next() else {
@@ -47,7 +47,7 @@ fn gives_each_option(rt: HostRuntime) {
 #[test]
 fn refuses_a_torn_option_and_another_type(rt: HostRuntime) {
     for len in 0..21 {
-        // at every other length, a code, a length or octets are torn
+        // At every other length, an option is incomplete.
         let whole = [0, 4, 10, 14, 20].contains(&len);
         assert!(rt; are_options(&OPTIONS[..len]) == whole, "at {len}");
     }

@@ -23,7 +23,7 @@ pub(crate) fn badmode(rt: &impl Abort) -> OptRcode {
 
 #[test]
 fn changes_one_field_each(rt: HostRuntime) {
-    // All bits of Z are set, and stay.
+    // All bits of Z are set, and stay set.
     let mut header = OptHeader::from_fields(Class::from_int(512), 0x7FFF);
     header.set_udp_payload_size(1232);
     header.set_rcode(badmode(&rt));

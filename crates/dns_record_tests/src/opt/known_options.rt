@@ -1,4 +1,4 @@
-//! The options that the RFCs give, as they are added.
+//! The options that RFCs define, as they are added.
 use crate::asserts::{assert_octets, name};
 use dns_code::Header;
 use dns_opt::SubnetAddr;
@@ -7,7 +7,7 @@ use dns_wire::AppendError;
 use std::process::Abort;
 use std::test::Fail;
 
-/// Eight octets of a client's cookie.
+/// A client cookie of eight octets.
 const CLIENT: [u8; 8] = [1, 2, 3, 4, 5, 6, 7, 8];
 
 fn builder(rt: &HostRuntime) -> OptBuilder {
@@ -30,7 +30,8 @@ fn adds_one_behind_the_other(rt: HostRuntime) -> Result<(), Fail> {
     Ok(())
 }
 
-/// Lengths of a source and a scope with an address, and the option: those of "Client subnets", and one of 16 octets.
+/// Source and scope prefix lengths with an address, and the option: those of "Client subnets", and
+/// one of 16 octets.
 const SUBNETS: &[(u8, u8, SubnetAddr, &[u8])] = &[
     (
         20,
@@ -116,7 +117,7 @@ fn draws_names_and_texts(rt: HostRuntime) -> Result<(), Fail> {
 #[test]
 fn pads_with_zeros_or_given_octets(rt: HostRuntime) -> Result<(), Fail> {
     let mut opt = builder(&rt);
-    // what is refused adds nothing
+    // A refused option adds nothing.
     let refused = opt.padding(65_532);
     assert!(rt; refused == Err(AppendError::ShortBuf), "Paddings");
     opt.padding(3)?;

@@ -8,7 +8,7 @@ use Rattle.dns_record_tests.proofs.fields.+compose_fields.Goals as goal
 abbrev fields : List (Bor (List ℕ)) → List Part
 fields xs = map (λ field. Octets field.now) xs
 
--- the first field, and those behind it
+-- the first field, and those after it
 fields-cons : (xs : List (Bor (List ℕ))) (d : Bor (List ℕ)) → 1 ≤ length xs → Octets (get_or xs 0 d).now ∷ fields (take (length xs - 1) (drop 1 xs)) ≡ fields xs
 fields-cons [] d l = absurd (omega arith)
 fields-cons (x ∷ xs) d l = ap (λ ys. Octets x.now ∷ fields ys) (take_all (length (x ∷ xs) - 1) xs (omega arith))
