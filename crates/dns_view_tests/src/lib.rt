@@ -1,5 +1,5 @@
-//! Tests of what the programs `dnsmsg` and `dnsview` print: worked examples, messages that are made by hand, and messages
-//! that name servers sent.
+//! Tests of what the programs `dnsmsg` and `dnsview` print: worked examples, messages that are made
+//! by hand, and messages that name servers sent.
 //!
 //! Nothing is exported.
 #![tactic(auto)]

@@ -40,7 +40,8 @@ fn assert_run(
     Ok(())
 }
 
-/// Each capture stands behind `> `: a line that says what it is, one of the octets in digits, and the lines that are printed.
+/// Checks captures. Each one comes after `> `: a line that says what it is, a line with the octets
+/// in hexadecimal, and the lines that are printed.
 fn assert_captures(rt: &impl Abort, alloc: Global, captures: &str) -> Result<(), Fail> {
     for capture in captures.split("> ").skip(1) {
         assert_capture(rt, alloc, capture)?;
@@ -55,7 +56,7 @@ fn assert_capture(rt: &impl Abort, alloc: Global, capture: &str) -> Result<(), F
     assert_opt(rt, alloc, row, digits, text)
 }
 
-/// `Message::opt` gives the record that is printed, where one is.
+/// Checks that `Message::opt` returns the OPT record that is printed, or `None` if there is none.
 fn assert_opt(
     rt: &impl Abort,
     alloc: Global,
@@ -70,7 +71,7 @@ fn assert_opt(
     Ok(())
 }
 
-/// The line of the OPT record that `Message::opt` gives, and no text where it gives none.
+/// The line of the OPT record that `Message::opt` returns; empty if it returns none.
 fn opt_line(alloc: Global, message: &Message<Vec<u8>>) -> Result<String, Fail> {
     let Some(opt) = message.opt() else {
         return Ok(String::new(alloc));

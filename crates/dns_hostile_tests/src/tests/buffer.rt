@@ -1,10 +1,11 @@
 //! Octets that are put together.
 use std::fmt;
 
-/// How many octets a buffer has room for: more than a name can have, and more than the messages here have.
+/// The capacity of a buffer in octets: more than a name can have, and more than the messages here
+/// have.
 pub(crate) const ROOM: usize = 320;
 
-/// Octets that were put one behind another. What there is no room for is left out.
+/// A list of octets. Octets past the capacity are dropped.
 #[derive(Clone, Copy, PartialEq, Eq)]
 pub(crate) struct Buffer {
     octets: [u8; ROOM],
@@ -25,7 +26,7 @@ impl Buffer {
         Buffer::new().with(octets)
     }
 
-    /// The octets with these behind them.
+    /// Appends octets.
     pub(crate) fn with(mut self, octets: &[u8]) -> Self {
         for octet in octets {
             if self.len < ROOM {

@@ -1,4 +1,4 @@
-//! The data of records that is read from a place of octets, beside plain data.
+//! RDATA that is read at an offset, beside plain RDATA.
 use crate::tests::buffer::Buffer;
 use crate::tests::given::{Given, Opaque, assert_read, assert_same, expanded, fault_of};
 use crate::tests::plain::{Entry, Fault, Standing, entry_at};
@@ -9,7 +9,7 @@ use dns_item::{ParsedRecord, Record, RecordHeader};
 use dns_wire::{ParseError, ParsedName, Parser};
 use std::process::Abort;
 
-/// The data that is read, its names without pointers. The type has to be the one that was asked for.
+/// The RDATA that is read, its names uncompressed. Its type has to be the one that was asked for.
 fn data_of<D: ComposeRecordData + Drop>(
     data: Result<Option<D>, ParseError>,
 ) -> Result<Buffer, Fault> {
@@ -20,7 +20,8 @@ fn data_of<D: ComposeRecordData + Drop>(
     }
 }
 
-/// What a data type reads from this place, and what it answers to the record that stands there, by each call that reads it.
+/// Checks what a data type reads at this offset, and what it returns for the record that is encoded
+/// there, by each call that reads it.
 fn assert_typed<'a, D: ParseRecordData<'a> + ComposeRecordData + Drop>(
     rt: &impl Abort,
     octets: &'a [u8],
@@ -56,7 +57,7 @@ fn assert_typed<'a, D: ParseRecordData<'a> + ComposeRecordData + Drop>(
     }
 }
 
-/// The record that stands at this place with its data as octets.
+/// Checks the record that is encoded at this offset, with opaque RDATA.
 fn assert_opaque<'a>(rt: &impl Abort, parser: Parser<'a>, standing: Standing<Entry>) {
     let expected = match standing {
         Ok((entry, _)) => Ok(entry),
@@ -76,7 +77,7 @@ fn assert_opaque<'a>(rt: &impl Abort, parser: Parser<'a>, standing: Standing<Ent
     }
 }
 
-/// How many octets the options take that an OPT record of these octets gives.
+/// The number of octets that the options in an OPT record with these octets take.
 fn len_of_options(octets: &[u8]) -> Option<usize> {
     let opt = Opt::from_octets(octets).ok()?;
     let mut len = 0_usize;
@@ -86,7 +87,7 @@ fn len_of_options(octets: &[u8]) -> Option<usize> {
     Some(len)
 }
 
-/// The data of all types that is read from this place.
+/// Checks the RDATA of all types that is read at this offset.
 pub(crate) fn assert_data(rt: &impl Abort, octets: &[u8], parser: Parser<'_>) {
     let standing = entry_at(octets, 1, parser.pos());
     assert_typed::<A>(rt, octets, parser, Rtype::A, standing);

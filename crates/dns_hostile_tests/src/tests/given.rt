@@ -1,4 +1,4 @@
-//! What the library gives, as plain values, which the plain reader gives too.
+//! Converts what the library returns to plain values, which the plain reader returns too.
 use crate::tests::buffer::{Buffer, ROOM};
 use crate::tests::plain::{Entry, Fault, Header, Standing};
 use arrayvec::ArrayVec;
@@ -10,10 +10,10 @@ use dns_wire::{Name, ParseError, ParsedName, ToName};
 use std::fmt::Debug;
 use std::process::Abort;
 
-/// Data that is kept as octets.
+/// RDATA as opaque octets.
 pub(crate) type Opaque<'a> = UnknownRecordData<&'a [u8]>;
 
-/// What the library gives, and a plain value says.
+/// What the library returns, which has a plain value.
 pub(crate) trait Given {
     type Plain: Copy + Debug + PartialEq;
 
@@ -102,7 +102,7 @@ impl Given for RecordHeader<ParsedName<'_>> {
     }
 }
 
-/// The data, its names without pointers. No data of a message here is too long for a buffer.
+/// The RDATA, its names uncompressed. No RDATA of a message here is too long for a buffer.
 pub(crate) fn expanded<D: ComposeRecordData>(data: &D) -> Buffer {
     let mut octets: ArrayVec<u8, ROOM> = ArrayVec::new();
     match data.compose_rdata(&mut octets) {
@@ -161,7 +161,7 @@ impl Given for HeaderSection {
     }
 }
 
-/// A cursor is its place.
+/// A cursor is its offset.
 impl Given for RecordSection<'_> {
     type Plain = usize;
 
@@ -170,7 +170,7 @@ impl Given for RecordSection<'_> {
     }
 }
 
-/// A record of a message has the number of its section before it.
+/// A record of a message comes with the number of its section.
 impl Given for (ParsedRecord<'_>, Section) {
     type Plain = (u8, Entry);
 
@@ -184,7 +184,7 @@ impl Given for (ParsedRecord<'_>, Section) {
     }
 }
 
-/// What was found is the expected value.
+/// Fails unless the value equals the expected one.
 pub(crate) fn assert_same<T: Copy + Debug + PartialEq>(
     rt: &impl Abort,
     what: &str,
@@ -194,8 +194,8 @@ pub(crate) fn assert_same<T: Copy + Debug + PartialEq>(
     assert_eq!(rt; found, expected, "{what}");
 }
 
-/// What was read from a place stands there, and the parser, which is here, stands behind it; or there is the fault, and the
-/// parser stayed.
+/// Fails unless the expected value was read, and the parser is after it now; or the expected error
+/// was returned, and the parser didn't move.
 pub(crate) fn assert_read<T: Copy + Debug + PartialEq>(
     rt: &impl Abort,
     what: &str,

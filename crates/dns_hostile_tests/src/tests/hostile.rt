@@ -1,4 +1,4 @@
-//! All that is read, passed, searched and copied over hostile octets.
+//! All that is read, skipped, searched and copied over untrusted input.
 use crate::tests::given::assert_same;
 use crate::tests::octets::{
     BOUNDS, NAME_IN_DATA, OPT, POSITIVE_RESPONSE, REPLACEMENTS, long_question, random_message,
@@ -20,7 +20,7 @@ use std::test::Fail;
 /// The hexadecimal digits.
 const DIGITS: &[u8; 16] = b"0123456789abcdef";
 
-/// The octets in hexadecimal digits.
+/// The octets in hexadecimal.
 fn digits_of(octets: &[u8]) -> ArrayVec<u8, 1024> {
     let mut digits = ArrayVec::new();
     for octet in octets {
@@ -30,7 +30,7 @@ fn digits_of(octets: &[u8]) -> ArrayVec<u8, 1024> {
     digits
 }
 
-/// `dnsmsg show` prints so many lines.
+/// Fails unless `dnsmsg show` prints the expected number of lines.
 fn assert_shows(rt: &impl Abort, alloc: Global, octets: &[u8]) -> Result<(), Fail> {
     let words = [String::from_str(alloc, "show")?];
     let digits = digits_of(octets);
@@ -46,7 +46,7 @@ fn assert_shows(rt: &impl Abort, alloc: Global, octets: &[u8]) -> Result<(), Fai
     Ok(())
 }
 
-/// Each answer of the library is that of the plain reader.
+/// Fails unless each result of the library is that of the plain reader.
 fn assert_all(rt: &impl Abort, alloc: Global, octets: &[u8]) -> Result<(), Fail> {
     let message = Message::from_octets(octets)?;
     assert_questions(rt, &message);
@@ -60,7 +60,7 @@ fn assert_all(rt: &impl Abort, alloc: Global, octets: &[u8]) -> Result<(), Fail>
     assert_shows(rt, alloc, octets)
 }
 
-/// Each octet is replaced in turn.
+/// Replaces each octet in turn.
 fn assert_replaced<const N: usize>(
     rt: &impl Abort,
     alloc: Global,
@@ -86,7 +86,7 @@ fn reads_a_name_in_data_with_replaced_octets(rt: HostRuntime) -> Result<(), Fail
     assert_replaced(&rt, rt.alloc(), *NAME_IN_DATA)
 }
 
-/// Cuts behind each octet. Without a header section there is no message.
+/// Cuts the message after each octet. Without a header section there is no message.
 #[test]
 fn reads_messages_that_are_cut(rt: HostRuntime) -> Result<(), Fail> {
     for n in 0..=45 {

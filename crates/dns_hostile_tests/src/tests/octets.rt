@@ -1,56 +1,57 @@
-//! Octets to be read: messages with replaced octets, messages that are cut, and octets drawn at random.
+//! Octets to be read: messages with replaced octets, messages that are cut, and random octets.
 use crate::tests::buffer::Buffer;
 
 /// A message whose additional section has an OPT record with one option.
 pub(crate) const OPT: &[u8; 34] =
     b"\x00\x00\x00\x00\x00\x00\x00\x00\x00\x00\x00\x01\x00\x00\x29\x10\x00\x00\x00\x00\x00\x00\x0B\x00\x03\x00\x07example";
 
-/// A message of a question for example.com. and an NS record whose data is a name that ends in a pointer.
+/// A message with a question for example.com. and an NS record whose RDATA is a name that ends with
+/// a pointer.
 pub(crate) const NAME_IN_DATA: &[u8; 46] =
     b"\x00\x00\x00\x00\x00\x01\x00\x01\x00\x00\x00\x00\x07example\x03com\x00\x00\x02\x00\x01\xC0\x0C\x00\x02\x00\x01\x00\x00\x00\x3C\x00\x05\x02ns\xC0\x0C";
 
-/// A message of a question and an answer, both for example.com.
+/// A message with a question and an answer, both for example.com.
 pub(crate) const POSITIVE_RESPONSE: &[u8; 45] =
     b"\x00\x00\x81\xA0\x00\x01\x00\x01\x00\x00\x00\x00\x07example\x03com\x00\x00\x01\x00\x01\xC0\x0C\x00\x01\x00\x01\x00\x00\x0E\x10\x00\x04\xCB\x00\x71\x01";
 
-/// What octets are replaced by.
+/// The octets that replace others.
 pub(crate) const REPLACEMENTS: [u8; 6] = [0x00, 0x3F, 0x40, 0x80, 0xC0, 0xFF];
 
-/// Messages of one to three entries, most of which can't be read, or stand at a bound.
+/// Messages with one to three entries, most of which can't be read or are at a bound.
 pub(crate) const BOUNDS: [&[u8]; 17] = [
-    // a question and its answer
+    // A question and its answer.
     POSITIVE_RESPONSE,
     NAME_IN_DATA,
-    // a label behind which a pointer leads back to it
+    // A label, followed by a pointer to it.
     b"\x00\x00\x00\x00\x00\x01\x00\x00\x00\x00\x00\x00\x01\x61\xC0\x0C\x00\x01\x00\x01",
-    // a pointer to its own place
+    // A pointer to its own offset.
     b"\x00\x00\x00\x00\x00\x01\x00\x00\x00\x00\x00\x00\xC0\x0C\x00\x01\x00\x01",
-    // a pointer into the header section
+    // A pointer into the header section.
     b"\x00\x00\x00\x00\x00\x01\x00\x00\x00\x00\x00\x00\xC0\x04\x00\x01\x00\x01",
-    // reserved label types
+    // Reserved label types.
     b"\x00\x00\x00\x00\x00\x01\x00\x00\x00\x00\x00\x00\x40\x00\x00\x01\x00\x01",
     b"\x00\x00\x00\x00\x00\x01\x00\x00\x00\x00\x00\x00\x80\x00\x00\x01\x00\x01",
-    // counts without entries
+    // Counts without entries.
     b"\x00\x00\x00\x00\xFF\xFF\x00\x00\x00\x00\x00\x00",
     b"\x00\x00\x00\x00\x00\x00\x00\x00\x00\x01\x00\x01",
-    // data cut off
+    // RDATA that is cut off.
     b"\x00\x00\x00\x00\x00\x00\x00\x01\x00\x00\x00\x00\x00\x00\x01\x00\x01\x00\x00\x00\x00\x00\x05\x01\x02\x03\x04",
-    // a name past the end of its data
+    // A name that runs past the end of its RDATA.
     b"\x00\x00\x00\x00\x00\x00\x00\x01\x00\x00\x00\x00\x00\x00\x05\x00\x01\x00\x00\x00\x00\x00\x01\xC0\x0C",
-    // octets left over in data of the class CH
+    // Octets left over in RDATA of class CH.
     b"\x00\x00\x00\x00\x00\x00\x00\x01\x00\x00\x00\x00\x00\x00\x01\x00\x03\x00\x00\x00\x00\x00\x05\x01\x02\x03\x04\x05",
-    // an owner that can't be read, before a record that can be
+    // An owner that can't be read, before a record that can be.
     b"\x00\x00\x00\x00\x00\x00\x00\x00\x00\x00\x00\x02\xC0\x0C\x00\x01\x00\x01\x00\x00\x00\x00\x00\x00\x00\x00\x01\x00\x01\x00\x00\x00\x00\x00\x04\x01\x02\x03\x04",
-    // aliases from a. to b. and from B. to c., of the classes CH and IN
+    // Aliases from a. to b. and from B. to c., of classes CH and IN.
     b"\x00\x00\x00\x00\x00\x01\x00\x02\x00\x00\x00\x00\x01a\x00\x00\x01\x00\x01\x01a\x00\x00\x05\x00\x03\x00\x00\x00\x00\x00\x03\x01b\x00\x01B\x00\x00\x05\x00\x01\x00\x00\x00\x00\x00\x03\x01c\x00",
-    // the start of a zone whose second name points to its first, and the same with an octet left over
+    // SOA data whose second name is a pointer to its first, and the same with an octet left over.
     b"\x00\x00\x00\x00\x00\x00\x00\x00\x00\x01\x00\x00\x00\x00\x06\x00\x01\x00\x00\x00\x00\x00\x1B\x01a\x00\x01b\xC0\x17\x00\x00\x00\x01\x00\x00\x00\x02\x00\x00\x00\x03\x00\x00\x00\x04\x00\x00\x00\x05",
     b"\x00\x00\x00\x00\x00\x00\x00\x00\x00\x01\x00\x00\x00\x00\x06\x00\x01\x00\x00\x00\x00\x00\x1C\x01a\x00\x01b\xC0\x17\x00\x00\x00\x01\x00\x00\x00\x02\x00\x00\x00\x03\x00\x00\x00\x04\x00\x00\x00\x05\x00",
-    // an OPT record whose option is cut off
+    // An OPT record whose option is cut off.
     b"\x00\x00\x00\x00\x00\x00\x00\x00\x00\x00\x00\x01\x00\x00\x29\x10\x00\x01\x00\x00\x00\x00\x00\x01\x00",
 ];
 
-/// A message with one question whose name has labels of 63, 63, 63 and `last` octets.
+/// A message with one question, whose name has labels of 63, 63, 63 and `last` octets.
 pub(crate) fn long_question(last: u8) -> [u8; 272] {
     let mut octets = [0; 272];
     octets[5] = 1;
@@ -61,14 +62,14 @@ pub(crate) fn long_question(last: u8) -> [u8; 272] {
     octets
 }
 
-/// The state behind this one of a generator of random numbers (xorshift).
+/// The next state of a generator of random numbers (xorshift).
 fn next_state(state: u64) -> u64 {
     let state = state ^ state << 13;
     let state = state ^ state >> 7;
     state ^ state << 17
 }
 
-/// Names that stand or don't, as the place has it.
+/// Names, some of which are well-formed only at some offsets.
 const NAMES: [&[u8]; 8] = [
     b"\x00",
     b"\xC0\x0C",
@@ -92,7 +93,7 @@ const FIELDS: [&[u8]; 8] = [
     b"\x00\x10\x00\x01\xFF\xFF\xFF\xFF",
 ];
 
-/// Data behind its length.
+/// RDATA after its length.
 const DATA: [&[u8]; 8] = [
     b"\x00\x00",
     b"\x00\x04\x01\x02\x03\x04",
@@ -112,7 +113,7 @@ fn piece(pieces: [&'static [u8]; 8], number: u64) -> &'static [u8] {
 /// An odd number whose multiples differ in their higher bits too.
 const SPREAD: u64 = 0x9E37_79B9_7F4A_7C15;
 
-/// A message of up to one question and six records, whose pieces are drawn at random.
+/// A message with up to one question and six records, whose pieces are chosen at random.
 pub(crate) fn random_message(seed: u64) -> Buffer {
     let mut state = next_state(seed.wrapping_mul(SPREAD));
     let [flags, questions, answers, others, ..] = state.to_be_bytes();

@@ -1,5 +1,5 @@
-//! A plain reader of names and entries, as RFC 1035 section 4.1 says it. It is recursive, and shares no code with the
-//! library.
+//! A plain reader of names and entries, as in RFC 1035 section 4.1. It is recursive, and shares no
+//! code with the library.
 ghost use Rattle.std.specs.Prelude.{◌≤◌};
 
 use crate::tests::buffer::Buffer;
@@ -9,15 +9,15 @@ use crate::tests::buffer::Buffer;
 pub(crate) enum Fault {
     /// An octet is missing.
     Short,
-    /// An octet that is there isn't as it has to be.
+    /// An octet is malformed.
     Form,
 }
 
-/// What stands at a place and the place behind it, or why it can't be read.
+/// What is encoded at an offset and the offset after it, or why it can't be read.
 pub(crate) type Standing<T> = Result<(T, usize), Fault>;
 
-/// Adds the labels of the name at this place, each behind its length, to the labels before it, which have this size
-/// (RFC 1035 section 4.1.4).
+/// Appends the labels of the name at this offset, each after its length, to the labels before it,
+/// which take `size` octets (RFC 1035 section 4.1.4).
 fn add_labels(octets: &[u8], place: usize, size: usize, labels: Buffer) -> Result<Buffer, Fault>
     requires { size ≤ 254 }
 {
@@ -49,7 +49,7 @@ fn add_labels(octets: &[u8], place: usize, size: usize, labels: Buffer) -> Resul
     }
 }
 
-/// Where the pointer at this place leads.
+/// The offset that the pointer at this offset leads to.
 fn pointer_target(octets: &[u8], place: usize) -> Result<usize, Fault> {
     match octets.get(place..) {
         Some([high, low, ..]) => Ok(usize::from(u16::from_be_bytes([high & 0x3f, *low]))),
@@ -57,7 +57,8 @@ fn pointer_target(octets: &[u8], place: usize) -> Result<usize, Fault> {
     }
 }
 
-/// The place behind the octets that a name takes, before which labels of this size stand. No pointer is followed.
+/// The offset after the name at this offset, for a name whose labels so far take `size` octets.
+/// Pointers are not followed.
 fn end_of_labels(octets: &[u8], place: usize, size: usize) -> Result<usize, Fault>
     requires { size ≤ 254 }
 {
@@ -86,18 +87,19 @@ fn end_of_labels(octets: &[u8], place: usize, size: usize) -> Result<usize, Faul
     }
 }
 
-/// The place behind the name at this place, which need not stand.
+/// The offset after the name at this offset, which may be malformed where its pointer leads.
 pub(crate) fn name_end(octets: &[u8], place: usize) -> Result<usize, Fault> {
     end_of_labels(octets, place, 0)
 }
 
-/// The name that stands at this place without pointers, or its leftmost fault.
+/// The uncompressed name that is encoded at this offset, or its leftmost error.
 pub(crate) fn name_at(octets: &[u8], place: usize) -> Standing<Buffer> {
     let name = add_labels(octets, place, 0, Buffer::new())?;
     Ok((name, name_end(octets, place)?))
 }
 
-/// The octets are all of one name without pointers (RFC 1035 section 3.1), before which labels of this size stand.
+/// Checks that all the octets are one uncompressed name whose labels so far take `size` octets (RFC
+/// 1035 section 3.1).
 pub(crate) fn check_name(octets: &[u8], size: usize) -> Result<(), Fault>
     requires { size ≤ 254 }
 {
@@ -118,10 +120,10 @@ pub(crate) fn check_name(octets: &[u8], size: usize) -> Result<(), Fault>
     }
 }
 
-/// A question or a record. A question has no TTL and no data.
+/// A question or a record. A question has no TTL and no RDATA.
 #[derive(Clone, Copy, Debug, PartialEq, Eq)]
 pub(crate) struct Entry {
-    /// The name without pointers.
+    /// The uncompressed name.
     pub(crate) name: Buffer,
     pub(crate) rtype: u16,
     pub(crate) class: u16,
@@ -129,7 +131,7 @@ pub(crate) struct Entry {
     pub(crate) data: Buffer,
 }
 
-/// The question of a name behind which the octets go on at this place (RFC 1035 section 4.1.2).
+/// The question with this name, whose type begins at this offset (RFC 1035 section 4.1.2).
 fn question_of(name: Buffer, octets: &[u8], place: usize) -> Option<(Entry, usize)> {
     let [type_high, type_low, class_high, class_low, ..] = octets.get(place..)? else {
         return None;
@@ -144,10 +146,10 @@ fn question_of(name: Buffer, octets: &[u8], place: usize) -> Option<(Entry, usiz
     Some((question, place + 4))
 }
 
-/// The header of a record: all of it but its data, and how many octets that has (RFC 1035 section 4.1.3).
+/// The header of a record: all but the RDATA, and its length in octets (RFC 1035 section 4.1.3).
 pub(crate) type Header = (Entry, u16);
 
-/// The header of an owner behind which the octets go on at this place. Its data need not be there.
+/// The record header with this owner, whose type begins at this offset. The RDATA may be missing.
 fn header_of(owner: Buffer, octets: &[u8], place: usize) -> Option<(Header, usize)> {
     let (question, place) = question_of(owner, octets, place)?;
     let [first, second, third, fourth, high, low, ..] = octets.get(place..)? else {
@@ -158,7 +160,7 @@ fn header_of(owner: Buffer, octets: &[u8], place: usize) -> Option<(Header, usiz
     Some(((Entry { ttl, ..question }, rdlen), place + 6))
 }
 
-/// The record of an owner behind which the octets go on at this place.
+/// The record with this owner, whose type begins at this offset.
 fn record_of(owner: Buffer, octets: &[u8], place: usize) -> Option<(Entry, usize)> {
     let ((header, rdlen), place) = header_of(owner, octets, place)?;
     let len = usize::from(rdlen);
@@ -166,7 +168,7 @@ fn record_of(owner: Buffer, octets: &[u8], place: usize) -> Option<(Entry, usize
     Some((Entry { data, ..header }, place + len))
 }
 
-/// The entry of a section: a question in the section 0, a record in the sections 1 to 3.
+/// The entry of a section: a question in section 0, a record in sections 1 to 3.
 fn entry_of(
     name: Buffer,
     octets: &[u8],
@@ -180,25 +182,26 @@ fn entry_of(
     .ok_or(Fault::Short)
 }
 
-/// The place behind the entry of a section at this place, whose name need not stand.
+/// The offset after the entry of a section at this offset. Its name may be malformed where its
+/// pointer leads.
 pub(crate) fn skip_entry(octets: &[u8], section: u8, place: usize) -> Result<usize, Fault> {
     let behind = name_end(octets, place)?;
     Ok(entry_of(Buffer::new(), octets, section, behind)?.1)
 }
 
-/// The entry of a section at this place.
+/// The entry of a section at this offset.
 pub(crate) fn entry_at(octets: &[u8], section: u8, place: usize) -> Standing<Entry> {
     let (name, behind) = name_at(octets, place)?;
     entry_of(name, octets, section, behind)
 }
 
-/// The record header at this place.
+/// The record header at this offset.
 pub(crate) fn header_at(octets: &[u8], place: usize) -> Standing<Header> {
     let (owner, behind) = name_at(octets, place)?;
     header_of(owner, octets, behind).ok_or(Fault::Short)
 }
 
-/// How many entries a section has by the header section.
+/// The number of entries of a section by the header section.
 pub(crate) fn count(octets: &[u8], section: u8) -> u16 {
     match octets.chunks_exact(2).nth(usize::from(section) + 2) {
         Some([high, low]) => u16::from_be_bytes([*high, *low]),
@@ -206,7 +209,7 @@ pub(crate) fn count(octets: &[u8], section: u8) -> u16 {
     }
 }
 
-/// Where a section starts: behind the header section, or behind all entries of the section before.
+/// Where a section begins: after the header section, or after all entries of the section before.
 pub(crate) fn start(octets: &[u8], section: u8) -> Result<usize, Fault> {
     if section == 0 {
         return Ok(12);
@@ -218,12 +221,12 @@ pub(crate) fn start(octets: &[u8], section: u8) -> Result<usize, Fault> {
     Ok(place)
 }
 
-/// Reads the entries of a section one after another, up to the first that can't be read.
+/// Reads the entries of a section in order, up to the first that can't be read.
 #[derive(Clone, Copy)]
 pub(crate) struct Reading<'a> {
     octets: &'a [u8],
     pub(crate) section: u8,
-    /// Behind the entries that were read.
+    /// The offset after the entries that were read.
     pub(crate) place: usize,
     left: u16,
     /// Why no more entries can be read.
@@ -231,7 +234,7 @@ pub(crate) struct Reading<'a> {
 }
 
 impl<'a> Reading<'a> {
-    /// The reading of a section that starts at this place.
+    /// The reading of a section that begins at this offset.
     pub(crate) fn at(octets: &'a [u8], section: u8, place: usize) -> Self {
         Reading {
             octets,
@@ -242,12 +245,12 @@ impl<'a> Reading<'a> {
         }
     }
 
-    /// The reading of a section, or the fault of the entry for which it has no start.
+    /// The reading of a section, or the error of the entry for which it has no start.
     pub(crate) fn of(octets: &'a [u8], section: u8) -> Result<Self, Fault> {
         Ok(Reading::at(octets, section, start(octets, section)?))
     }
 
-    /// The next entry, or the fault of the first that can't be read, behind which there are no more.
+    /// The next entry, or the error of the first that can't be read, after which there are no more.
     pub(crate) fn next(&mut self) -> Option<Result<Entry, Fault>> {
         self.left = self.left.checked_sub(1)?;
         match entry_at(self.octets, self.section, self.place) {
@@ -263,8 +266,8 @@ impl<'a> Reading<'a> {
         }
     }
 
-    /// Where the section behind this one starts, or the fault in its stead: the one that was met, else that of the entry for
-    /// which the section has no start.
+    /// Where the next section begins, or why it doesn't: the error that was met, or else that of
+    /// the entry for which the section has no start.
     pub(crate) fn start_behind(&self) -> Result<usize, Fault> {
         match self.fault {
             Some(fault) => Err(fault),

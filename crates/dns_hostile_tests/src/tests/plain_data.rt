@@ -1,10 +1,11 @@
-//! Plain data of records, as RFC 1035 sections 3.3 and 3.4 and RFC 6891 section 6.1.2 lay it out.
+//! Plain RDATA, as in RFC 1035 sections 3.3 and 3.4 and RFC 6891 section 6.1.2.
 use crate::tests::buffer::Buffer;
 use crate::tests::plain::{
     Entry, Fault, Header, Standing, check_name, entry_at, header_at, name_at,
 };
 
-/// The octets are a list of options, each of them a code, a length and so many octets (RFC 6891 section 6.1.2).
+/// Whether the octets are a list of options, each with a code, a length and that many octets (RFC
+/// 6891 section 6.1.2).
 pub(crate) fn has_options(octets: &[u8]) -> bool {
     let [_, _, high, low, rest @ ..] = octets else {
         return octets.is_empty();
@@ -15,7 +16,7 @@ pub(crate) fn has_options(octets: &[u8]) -> bool {
     }
 }
 
-/// So many octets from this place on.
+/// `len` octets from this offset on.
 pub(crate) fn octets_at(octets: &[u8], place: usize, len: usize) -> Standing<Buffer> {
     match octets.get(place..).and_then(|behind| behind.get(..len)) {
         Some(octets) => Ok((Buffer::of(octets), place.saturating_add(len))),
@@ -23,7 +24,7 @@ pub(crate) fn octets_at(octets: &[u8], place: usize, len: usize) -> Standing<Buf
     }
 }
 
-/// The names of the start of a zone, and its five numbers.
+/// The names of SOA, and its five numbers.
 fn soa_at(seen: &[u8], place: usize) -> Standing<Buffer> {
     let (mname, place) = name_at(seen, place)?;
     let (rname, place) = name_at(seen, place)?;
@@ -32,7 +33,7 @@ fn soa_at(seen: &[u8], place: usize) -> Standing<Buffer> {
     Ok((names.with(numbers.as_slice()), end))
 }
 
-/// All octets from this place on, which have to be options.
+/// All octets from this offset on, which have to be options.
 fn options_at(seen: &[u8], place: usize) -> Standing<Buffer> {
     match seen.get(place..) {
         Some(options) if has_options(options) => Ok((Buffer::of(options), seen.len())),
@@ -40,8 +41,8 @@ fn options_at(seen: &[u8], place: usize) -> Standing<Buffer> {
     }
 }
 
-/// The data of this record type that stands from this place on, its names without pointers, or its leftmost fault. The types
-/// are A, NS, CNAME, SOA and OPT.
+/// The RDATA of this record type from this offset on, its names uncompressed, or its leftmost
+/// error. The types are A, NS, CNAME, SOA and OPT.
 pub(crate) fn data_at(seen: &[u8], place: usize, rtype: u16) -> Standing<Buffer> {
     match rtype {
         1 => octets_at(seen, place, 4),
@@ -51,8 +52,8 @@ pub(crate) fn data_at(seen: &[u8], place: usize, rtype: u16) -> Standing<Buffer>
     }
 }
 
-/// The record that stands in the octets with its data, whose names have no pointers, or nothing, where it has another type. The
-/// data has to be all of it, and names in it end before it does.
+/// The record with its RDATA, whose names are uncompressed, or `None` if it has another type. The
+/// value has to take all of the RDATA, and its names end within it.
 pub(crate) fn typed_of(
     octets: &[u8],
     record: Standing<Entry>,
@@ -72,14 +73,15 @@ pub(crate) fn typed_of(
     }
 }
 
-/// The record header at this place, whose data has to be there, and the place behind the data.
+/// The record header at this offset, whose RDATA has to be complete, and the offset after the
+/// RDATA.
 pub(crate) fn header_passed(octets: &[u8], place: usize) -> Standing<Header> {
     let (header, _) = header_at(octets, place)?;
     let (_, end) = entry_at(octets, 1, place)?;
     Ok((header, end))
 }
 
-/// The name of all of these octets: its labels, and the octets themselves.
+/// The name that all of these octets are: its labels, and the octets themselves.
 pub(crate) fn whole_name(octets: &[u8]) -> Result<[Buffer; 2], Fault> {
     check_name(octets, 0)?;
     Ok([Buffer::of(octets); 2])

@@ -3,12 +3,12 @@ use crate::tests::buffer::Buffer;
 use crate::tests::plain::{Entry, Fault, Reading, count, start};
 use crate::tests::plain_data::{has_options, typed_of};
 
-/// The first question, where it can be read.
+/// The first question, if it can be read.
 pub(crate) fn first_question(octets: &[u8]) -> Option<Entry> {
     Reading::of(octets, 0).ok()?.next()?.ok()
 }
 
-/// The question that a message is about, where it has one.
+/// The question of a message that has exactly one.
 pub(crate) fn sole_question(octets: &[u8]) -> Result<Entry, Fault> {
     match Reading::of(octets, 0)?.next() {
         Some(question) if count(octets, 0) == 1 => question,
@@ -16,7 +16,7 @@ pub(crate) fn sole_question(octets: &[u8]) -> Result<Entry, Fault> {
     }
 }
 
-/// The first OPT record of the additional section, unless a fault is met before or in it.
+/// The first OPT record of the additional section, unless there is an error before or in it.
 pub(crate) fn opt(octets: &[u8]) -> Option<Entry> {
     let mut reading = Reading::of(octets, 3).ok()?;
     for _ in 0..u16::MAX {
@@ -28,8 +28,8 @@ pub(crate) fn opt(octets: &[u8]) -> Option<Entry> {
     None
 }
 
-/// The next record of this type in a reading with its data, or the next fault, also that of the data. Where only the class IN
-/// counts, records of another class are passed.
+/// The next record of this type in a reading with its RDATA, or the next error, which may be that
+/// of the RDATA. With `in_only`, skips records of other classes than IN.
 pub(crate) fn next_typed(
     octets: &[u8],
     reading: &mut Reading<'_>,
@@ -46,7 +46,7 @@ pub(crate) fn next_typed(
     None
 }
 
-/// The name of the first alias of a name in the answer section.
+/// The target of the first alias of a name in the answer section.
 fn next_name(octets: &[u8], name: &Buffer) -> Option<Buffer> {
     let mut reading = Reading::of(octets, 1).ok()?;
     for _ in 0..u16::MAX {
@@ -73,7 +73,7 @@ pub(crate) fn canonical_name(octets: &[u8]) -> Option<Buffer> {
     None
 }
 
-/// The answer section has a record of this type, or a fault.
+/// Whether the answer section has a record of this type, or an error.
 pub(crate) fn contains_answer(octets: &[u8], rtype: u16) -> bool {
     let Ok(mut reading) = Reading::of(octets, 1) else {
         return false;
@@ -88,7 +88,7 @@ pub(crate) fn contains_answer(octets: &[u8], rtype: u16) -> bool {
     false
 }
 
-/// The last additional record with its data, where all of them can be read and it has this type.
+/// The last additional record with its RDATA, if all of them can be read and it has this type.
 pub(crate) fn last_additional(octets: &[u8], rtype: u16) -> Option<Entry> {
     let mut reading = Reading::of(octets, 3).ok()?;
     let mut last = Err(Fault::Short);
@@ -101,7 +101,8 @@ pub(crate) fn last_additional(octets: &[u8], rtype: u16) -> Option<Entry> {
     typed_of(octets, last, rtype).ok()?
 }
 
-/// How many entries of a section can be read, and the fault behind them or at the start of the section.
+/// The number of readable entries of a section, and the error after them or at the start of the
+/// section.
 pub(crate) fn readable(octets: &[u8], section: u8) -> (usize, Option<Fault>) {
     let mut reading = match Reading::of(octets, section) {
         Ok(reading) => reading,
@@ -118,7 +119,8 @@ pub(crate) fn readable(octets: &[u8], section: u8) -> (usize, Option<Fault>) {
     (entries, None)
 }
 
-/// How many records of the three sections are before the first fault, also that of a section without a start, and that fault.
+/// The number of records of the three sections before the first error, and that error. It may be
+/// that of a section without a start.
 pub(crate) fn readable_records(octets: &[u8]) -> (usize, Option<Fault>) {
     let mut records = 0_usize;
     for section in 1..=3 {
@@ -131,8 +133,8 @@ pub(crate) fn readable_records(octets: &[u8]) -> (usize, Option<Fault>) {
     (records, None)
 }
 
-/// How many lines are printed of a message: two, one for each entry, one for each fault, and one for the first section without
-/// a start.
+/// The number of lines that are printed for a message: two, one for each entry, one for each error,
+/// and one for the first section without a start.
 pub(crate) fn line_count(octets: &[u8]) -> usize {
     let mut lines = 2_usize;
     for section in 0..=3 {
@@ -148,7 +150,7 @@ pub(crate) fn line_count(octets: &[u8]) -> usize {
     lines
 }
 
-/// Both are the same question, where the letter case of names plays no part.
+/// Whether the questions are the same, ignoring the ASCII case of names.
 fn is_same_question(question: Entry, other: Entry) -> bool {
     question
         .name
@@ -158,7 +160,7 @@ fn is_same_question(question: Entry, other: Entry) -> bool {
         && question.class == other.class
 }
 
-/// The questions of two messages can all be read, and are the same in order.
+/// Whether the questions of two messages can all be read, and are the same in order.
 fn same_questions(octets: &[u8], others: &[u8]) -> bool {
     let (Ok(mut reading), Ok(mut other)) = (Reading::of(octets, 0), Reading::of(others, 0)) else {
         return false;
@@ -177,7 +179,8 @@ fn same_questions(octets: &[u8], others: &[u8]) -> bool {
     false
 }
 
-/// A message is the answer to a query: QR is set, and the IDs, the numbers of questions and the questions are the same.
+/// Whether a message is a response to a query: QR is set, and the IDs, the numbers of questions and
+/// the questions are the same.
 pub(crate) fn is_answer(octets: &[u8], query: &[u8]) -> bool {
     octets.get(2).is_some_and(|flags| *flags & 0x80 != 0)
         && octets.get(..2) == query.get(..2)

@@ -1,4 +1,4 @@
-//! The searches in messages, and the copies of them, beside plain searches.
+//! Searches in messages, and copies of messages, beside plain searches.
 use crate::tests::buffer::Buffer;
 use crate::tests::given::{Given, Opaque, assert_same, fault_of};
 use crate::tests::octets::BOUNDS;
@@ -14,7 +14,7 @@ use std::alloc::Global;
 use std::process::Abort;
 use std::test::Fail;
 
-/// The searches for questions and names.
+/// Checks the searches for questions and names.
 pub(crate) fn assert_question_searches(rt: &impl Abort, message: &Message<&[u8]>) {
     let octets = message.as_slice();
     let first = first_question(octets);
@@ -45,14 +45,14 @@ fn opt_of(message: &Message<&[u8]>) -> Option<(u16, u32, Buffer)> {
     ))
 }
 
-/// The rcode, of which the OPT record has the higher eight bits.
+/// The rcode, whose higher eight bits are in the OPT record.
 fn rcode_of(octets: &[u8], opt: Option<Entry>) -> u16 {
     let low = u16::from(octets.get(3).copied().unwrap_or(0) & 0x0F);
     let high = opt.map_or(0, |opt| (opt.ttl >> 24) as u16);
     high << 4 | low
 }
 
-/// The searches for records.
+/// Checks the searches for records.
 pub(crate) fn assert_record_searches(rt: &impl Abort, message: &Message<&[u8]>) {
     let octets = message.as_slice();
     let has_address = contains_answer(octets, 1);
@@ -71,7 +71,7 @@ pub(crate) fn assert_record_searches(rt: &impl Abort, message: &Message<&[u8]>) 
     assert_same(rt, "rcode", rcode, rcode_of(octets, opt));
 }
 
-/// Whether the message is the answer to another, and the other to the first.
+/// Checks whether each message is a response to the other.
 fn assert_answer(rt: &impl Abort, message: &Message<&[u8]>, octets: &[u8]) {
     let Ok(other) = Message::from_octets(octets) else {
         panic!(rt; "no message");
@@ -82,7 +82,7 @@ fn assert_answer(rt: &impl Abort, message: &Message<&[u8]>, octets: &[u8]) {
     assert_same(rt, "answer", found, expected);
 }
 
-/// Whether the message is the answer to itself, and to others.
+/// Checks whether the message is a response to itself, and to others.
 pub(crate) fn assert_told_apart(rt: &impl Abort, message: &Message<&[u8]>) {
     assert_answer(rt, message, message.as_slice());
     for octets in BOUNDS {
@@ -90,7 +90,7 @@ pub(crate) fn assert_told_apart(rt: &impl Abort, message: &Message<&[u8]>) {
     }
 }
 
-/// The records of a section were copied into the same section, in order.
+/// Checks that the records of a section were copied into the same section, in order.
 fn assert_copied(rt: &impl Abort, source: &[u8], copied: &[u8], section: u8) {
     let (Ok(mut records), Ok(mut copies)) = (
         Reading::of(source, section),
@@ -107,7 +107,8 @@ fn assert_copied(rt: &impl Abort, source: &[u8], copied: &[u8], section: u8) {
     }
 }
 
-/// All records are copied, or the first fault is answered, before which the closure was given each record.
+/// Checks that all records are copied, or that the first error is returned, before which the
+/// closure got each record.
 pub(crate) fn assert_copies(
     rt: &impl Abort,
     alloc: Global,

@@ -1,4 +1,4 @@
-//! The cursors and iterators over sections, beside plain readings.
+//! Cursors and iterators over sections, beside plain readings.
 use crate::tests::given::{Given, Opaque, assert_same, fault_of};
 use crate::tests::plain::{Entry, Fault, Reading, start};
 use crate::tests::plain_searches::next_typed;
@@ -7,7 +7,8 @@ use dns_read::{Message, MessageIter, RecordIter, RecordSection};
 use dns_wire::ParseError;
 use std::process::Abort;
 
-/// The questions, and before and behind each of them the places of the cursor and of the answer section.
+/// Checks the questions, and before and after each of them the offsets of the cursor and of the
+/// answer section.
 pub(crate) fn assert_questions(rt: &impl Abort, message: &Message<&[u8]>) {
     let mut reading = Reading::at(message.as_slice(), 0, 12);
     let mut questions = message.question();
@@ -23,7 +24,7 @@ pub(crate) fn assert_questions(rt: &impl Abort, message: &Message<&[u8]>) {
     }
 }
 
-/// Where the next section starts behind a reading. There is none behind the last.
+/// Where the section after a reading begins. There is none after the last section.
 fn next_start(reading: &Reading<'_>) -> Result<Option<usize>, Fault> {
     match reading.section {
         3 => Ok(None),
@@ -31,7 +32,8 @@ fn next_start(reading: &Reading<'_>) -> Result<Option<usize>, Fault> {
     }
 }
 
-/// A cursor stands behind a reading, and it and each iterator over it move on to the next section.
+/// Checks the offset of a cursor after a reading, and that the cursor and each iterator over it
+/// advance to the next section.
 fn assert_cursor(rt: &impl Abort, records: RecordSection<'_>, reading: &Reading<'_>) {
     assert_same(rt, "place of a record", records.pos(), reading.place);
     let all = records.into_records::<Opaque<'_>>();
@@ -44,7 +46,8 @@ fn assert_cursor(rt: &impl Abort, records: RecordSection<'_>, reading: &Reading<
     assert_same(rt, "next section", starts, [next_start(reading); 4]);
 }
 
-/// A cursor over records, and an iterator over them with their data, give what a reading has.
+/// Checks that a cursor over records, and an iterator over them with their RDATA, yield what a
+/// reading has.
 fn assert_records(rt: &impl Abort, mut records: RecordSection<'_>, mut reading: Reading<'_>) {
     let mut all = records.into_records::<Opaque<'_>>();
     for _ in 0..=u16::MAX {
@@ -59,7 +62,7 @@ fn assert_records(rt: &impl Abort, mut records: RecordSection<'_>, mut reading: 
     assert_same(rt, "end of the records", all.unwrap().pos(), reading.place);
 }
 
-/// An iterator over addresses gives those of a reading.
+/// Checks that an iterator over addresses yields those of a reading.
 fn assert_addresses(
     rt: &impl Abort,
     octets: &[u8],
@@ -76,7 +79,7 @@ fn assert_addresses(
     }
 }
 
-/// The records of a section, or why it has no start.
+/// Checks the records of a section, or why it has no start.
 fn assert_section(
     rt: &impl Abort,
     octets: &[u8],
@@ -98,7 +101,7 @@ fn starts(octets: &[u8]) -> Result<[usize; 4], Fault> {
     Ok([12, start(octets, 1)?, start(octets, 2)?, start(octets, 3)?])
 }
 
-/// The three sections of records, and the starts of all sections.
+/// Checks the three sections of records, and the starts of all sections.
 pub(crate) fn assert_sections(rt: &impl Abort, message: &Message<&[u8]>) {
     let octets = message.as_slice();
     assert_section(rt, octets, 1, message.answer());
@@ -116,7 +119,7 @@ pub(crate) fn assert_sections(rt: &impl Abort, message: &Message<&[u8]>) {
     assert_same(rt, "sections", found, starts(octets));
 }
 
-/// The iterator gives the entry, or the fault, of this section next.
+/// Checks that the next item of the iterator is this entry, or error, of this section.
 fn assert_item(
     rt: &impl Abort,
     items: &mut MessageIter<'_>,
@@ -130,8 +133,8 @@ fn assert_item(
     assert_same(rt, "item", items.next().plain(), Some(expected));
 }
 
-/// The iterator gives the records of a section, and a fault once more where a section stands behind it. Answers whether the
-/// section had no fault.
+/// Checks that the iterator yields the records of a section, and an error once more unless the
+/// section is the last. Returns whether the section had no error.
 fn assert_items(rt: &impl Abort, items: &mut MessageIter<'_>, mut reading: Reading<'_>) -> bool {
     for _ in 0..=u16::MAX {
         let Some(entry) = reading.next() else {
@@ -148,7 +151,7 @@ fn assert_items(rt: &impl Abort, items: &mut MessageIter<'_>, mut reading: Readi
     true
 }
 
-/// All records of a message.
+/// Checks all records of a message.
 pub(crate) fn assert_iter(rt: &impl Abort, message: &Message<&[u8]>) {
     let mut items = message.iter();
     for section in 1..=3 {

@@ -1,4 +1,4 @@
-//! What is read and passed from each place of octets, beside what stands there.
+//! What is read and skipped at each offset, beside what is encoded there.
 use crate::tests::data::assert_data;
 use crate::tests::given::{Given, assert_read, assert_same, fault_of};
 use crate::tests::plain::{Fault, entry_at, header_at, name_at, name_end, skip_entry};
@@ -8,7 +8,7 @@ use dns_item::{ParsedRecord, Question, RecordHeader, Ttl};
 use dns_wire::{Name, ParseError, ParsedName, Parser};
 use std::process::Abort;
 
-/// The name, the question and the record that are read from this place.
+/// Checks the name, the question and the record that are read at this offset.
 fn assert_entries(rt: &impl Abort, octets: &[u8], parser: Parser<'_>) {
     let place = parser.pos();
     let mut behind = parser;
@@ -25,7 +25,7 @@ fn assert_entries(rt: &impl Abort, octets: &[u8], parser: Parser<'_>) {
     assert_read(rt, "record", place, (record, behind.pos()), expected);
 }
 
-/// The record header that is read from this place, whether its data is passed or not.
+/// Checks the record header that is read at this offset, whether or not the RDATA is skipped.
 fn assert_headers(rt: &impl Abort, octets: &[u8], parser: Parser<'_>) {
     let place = parser.pos();
     let expected = header_at(octets, place);
@@ -41,7 +41,7 @@ fn assert_headers(rt: &impl Abort, octets: &[u8], parser: Parser<'_>) {
     assert_read(rt, "header", place, (header, behind.pos()), expected);
 }
 
-/// The TTL, the header section and the name of all octets from this place on.
+/// Checks the TTL and the header section at this offset, and the name of all octets from it on.
 fn assert_fixed(rt: &impl Abort, octets: &[u8], parser: Parser<'_>) {
     let place = parser.pos();
     let mut behind = parser;
@@ -63,7 +63,7 @@ fn assert_fixed(rt: &impl Abort, octets: &[u8], parser: Parser<'_>) {
     assert_same(rt, "whole name", name, whole_name(rest));
 }
 
-/// Where the parser is after it passed something.
+/// The offset of the parser after it skipped something.
 fn passed(answer: Result<(), ParseError>, parser: Parser<'_>) -> Result<usize, Fault> {
     match answer {
         Ok(()) => Ok(parser.pos()),
@@ -71,7 +71,7 @@ fn passed(answer: Result<(), ParseError>, parser: Parser<'_>) -> Result<usize, F
     }
 }
 
-/// What is passed from this place.
+/// Checks what is skipped at this offset.
 fn assert_skips(rt: &impl Abort, octets: &[u8], parser: Parser<'_>) {
     let place = parser.pos();
     let mut behind = parser;
@@ -96,7 +96,7 @@ fn assert_skips(rt: &impl Abort, octets: &[u8], parser: Parser<'_>) {
     );
 }
 
-/// Reads and passes from each place up to the end.
+/// Reads and skips at each offset up to the end.
 pub(crate) fn assert_walks(rt: &impl Abort, octets: &[u8]) {
     for place in 0..=octets.len() {
         let mut parser = Parser::new(octets);

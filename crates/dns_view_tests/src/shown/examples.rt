@@ -26,7 +26,7 @@ question error
 answer missing
 ",
     ),
-    // The question's name is a pointer to itself: it can't be read, and it can be passed.
+    // The question's name is a pointer to itself: it can't be read, but it can be skipped.
     (
         "what stands behind an error",
         SHOW,
@@ -52,7 +52,7 @@ counts 0 1 0 0
 answer . 0 IN A \\# 5 0102030405
 ",
     ),
-    // Data is typed in any class, and opaque where its name can't be read.
+    // RDATA is typed in any class, and opaque if its name can't be read.
     (
         "data by its type",
         SHOW,

@@ -1,11 +1,11 @@
-//! A caller of the library behind `dnsview`.
+//! A caller of the library that `dnsview` calls.
 ghost use Rattle.std.specs.Prelude.{◌<◌, IfOk, IsTrue, length};
 
 use dns_view::rows;
 use std::alloc::{AllocError, Global};
 use std::test::Fail;
 
-/// Whether a message is told by one row. So it is where it lacks the twelve octets of a header section.
+/// Whether one row shows the whole message. It does if the message has fewer than 12 octets.
 fn is_one_row(alloc: Global, octets: &[u8]) -> Result<bool, AllocError>
     ensures { length octets.now < 12 → IfOk result (λ one. IsTrue one) }
 {

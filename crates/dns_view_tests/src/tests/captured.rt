@@ -1,4 +1,5 @@
-//! A message that BIND sent: named 9.18, over the loopback, in answer to a question for MX with NSID.
+//! A message that BIND sent: named 9.18, over the loopback, in answer to a question for MX with
+//! NSID.
 use crate::tests::printed::{Message, assert_messages};
 use std::test::Fail;
 

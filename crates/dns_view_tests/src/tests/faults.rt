@@ -1,4 +1,4 @@
-//! Faults, each at the octet where it stands, and one row for what is behind.
+//! Faults, each at its octet, and one row for all octets after it.
 use crate::tests::printed::{HEADER_LINES, Labels, Message, assert_messages, printed, questions};
 use std::alloc::Global;
 use std::process::Abort;
@@ -82,7 +82,7 @@ const LABEL_THAT_IS_CUT: Message<'_> = (
 "#,
 );
 
-/// The header counts two questions, and one is there.
+/// The header counts two questions, and there is one.
 const MISSING_QUESTION: Message<'_> = (
     "missing question",
     &[
@@ -98,7 +98,7 @@ question 2
 "#,
 );
 
-/// The TTL of four octets has three.
+/// The TTL has three octets instead of four.
 const SHORT_RECORD: Message<'_> = (
     "short record",
     &[
@@ -114,7 +114,7 @@ const SHORT_RECORD: Message<'_> = (
 "#,
 );
 
-/// The data has four octets by its length, and one is there.
+/// RDLENGTH is four, and there is one octet.
 const MISSING_DATA: Message<'_> = (
     "missing data",
     &[
@@ -132,7 +132,7 @@ const MISSING_DATA: Message<'_> = (
 "#,
 );
 
-/// An address in three octets; what is behind the record isn't read.
+/// An address in three octets. What follows the record isn't read.
 const DATA_THAT_IS_TOO_SHORT: Message<'_> = (
     "data that is too short",
     &[
@@ -170,7 +170,7 @@ const OCTETS_BEHIND_THE_VALUE: Message<'_> = (
 "#,
 );
 
-/// The name of CNAME has a label that ends behind the data.
+/// The name of CNAME has a label that ends past the RDATA.
 const NAME_THAT_LEAVES_ITS_DATA: Message<'_> = (
     "name that leaves its data",
     &[
@@ -189,7 +189,7 @@ const NAME_THAT_LEAVES_ITS_DATA: Message<'_> = (
 "#,
 );
 
-/// The option has four octets by its length, and two are there.
+/// The option length is four, and there are two octets.
 const OPTION_THAT_IS_CUT: Message<'_> = (
     "option that is cut",
     &[
@@ -212,7 +212,7 @@ const OPTION_THAT_IS_CUT: Message<'_> = (
 "#,
 );
 
-/// No fault: two octets are behind the last item.
+/// No fault: two octets follow the last item.
 const OCTETS_BEHIND_THE_ITEMS_UNREAD: Message<'_> = (
     "octets behind the items unread",
     &[
@@ -222,7 +222,7 @@ const OCTETS_BEHIND_THE_ITEMS_UNREAD: Message<'_> = (
 "#,
 );
 
-/// Each behind the lines of the header.
+/// These texts come after the lines of the header.
 const FAULTS: &[Message<'_>] = &[
     POINTER_TO_ITSELF,
     POINTER_BEHIND_LABELS,
@@ -239,11 +239,12 @@ const FAULTS: &[Message<'_>] = &[
     OCTETS_BEHIND_THE_ITEMS_UNREAD,
 ];
 
-/// The count of questions, then for each name the lengths of its labels and the octets behind these, and the last lines.
+/// The count of questions, then for each name the lengths of its labels and the octets after them,
+/// and the last lines.
 type Long<'a> = (u8, &'a [Labels<'a>], &'a str);
 
-/// Names of more than 255 octets (RFC 1035 section 2.3.4): with the fifth label one has 256, and with the name of 67 octets
-/// where its pointer leads one has 259.
+/// Names of more than 255 octets (RFC 1035 section 2.3.4). The first has 256 octets with its fifth
+/// label. The second has 259 with the name of 67 octets that its pointer leads to.
 const LONG_NAMES: &[Long<'_>] = &[
     (
         1,

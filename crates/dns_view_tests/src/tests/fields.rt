@@ -1,4 +1,4 @@
-//! Header bits, types, classes, TTLs and data.
+//! Header bits, types, classes, TTLs and RDATA.
 use crate::tests::printed::{HEADER_LINES, Message, assert_messages, printed};
 use std::alloc::Global;
 use std::process::Abort;
@@ -48,10 +48,11 @@ question 1
 /// With all lines.
 const HEADERS: &[Message<'_>] = &[HEADER_BIT, A_QUERY];
 
-/// The third and fourth octet of a header, and words that are printed for them, on one line each.
+/// The third and fourth octets of a header, and words that are printed for them, each on one line.
 type Bits<'a> = (u8, u8, &'a [&'a str]);
 
-/// NOTIFY (RFC 1996), UPDATE (RFC 2136 section 2.2); rcodes of RFC 1035 section 4.1.1 and RFC 2136 section 2.2.
+/// NOTIFY (RFC 1996), UPDATE (RFC 2136 section 2.2); rcodes of RFC 1035 section 4.1.1 and RFC 2136
+/// section 2.2.
 const CODES: &[Bits<'_>] = &[
     (0x20, 0x00, &["opcode NOTIFY, rcode NOERROR"]),
     (0x28, 0x02, &["opcode OPCODE5 (update), rcode", "SERVFAIL"]),
@@ -71,7 +72,7 @@ fn assert_codes(rt: &impl Abort, alloc: Global) -> Result<(), Fail> {
     Ok(())
 }
 
-/// A type and a class without a mnemonic are told by their numbers (RFC 3597 section 5).
+/// A type and a class without a mnemonic are shown by their numbers (RFC 3597 section 5).
 const TYPES_AND_CLASSES: Message<'_> = (
     "types and classes",
     &[
@@ -93,7 +94,8 @@ question 3
 "#,
 );
 
-/// A (RFC 1035 section 3.4.1), AAAA (RFC 3596 section 2.2), and a type with no layout here (RFC 3597 section 3).
+/// A (RFC 1035 section 3.4.1), AAAA (RFC 3596 section 2.2), and a type that has no layout here (RFC
+/// 3597 section 3).
 const ADDRESSES_AND_OTHER_DATA: Message<'_> = (
     "addresses and other data",
     &[
@@ -173,7 +175,7 @@ authority 3
 "#,
 );
 
-/// Each behind the lines of the header.
+/// These texts come after the lines of the header.
 const FIELDS: &[Message<'_>] = &[
     TYPES_AND_CLASSES,
     ADDRESSES_AND_OTHER_DATA,

@@ -39,7 +39,7 @@ question 4
 "#,
 );
 
-/// A pointer to a pointer, and one to the root label of another name.
+/// A label followed by a pointer, and a pointer to that pointer.
 const POINTER_TO_A_POINTER: Message<'_> = (
     "pointer to a pointer",
     &[
@@ -80,7 +80,7 @@ const ODD_OCTETS_OF_LABELS: Message<'_> = (
 "#,
 );
 
-/// Each behind the lines of the header.
+/// These texts come after the lines of the header.
 const NAMES: &[Message<'_>] = &[POINTERS_LEAD, POINTER_TO_A_POINTER, ODD_OCTETS_OF_LABELS];
 
 #[test]
@@ -89,12 +89,14 @@ fn tells_names(rt: HostRuntime) -> Result<(), Fail> {
     assert_longest(&rt, rt.alloc())
 }
 
-/// A name of 255 octets, the most that there may be (RFC 1035 section 2.3.4): no line has more than 80 columns.
+/// Checks a name of 255 octets, the maximum (RFC 1035 section 2.3.4): no line has more than 80
+/// columns.
 fn assert_longest(rt: &impl Abort, alloc: Global) -> Result<(), Fail> {
     let octets = questions(alloc, 1, &[(&[63, 63, 63, 61], &[0, 0, 1, 0, 1])])?;
     let printed = printed(alloc, &octets)?;
     assert_narrow(rt, "the longest name", &printed);
-    // Each label is on nine lines or eight, the root label on seven: the words, and 255 octets at 46 a line.
+    // Each label takes eight lines, with eight octets a line. The root label takes seven: one for
+    // the words, and six for the text of the name.
     assert_eq!(rt; printed.lines().count(), 6 + 1 + 4 * 8 + 7 + 2);
     assert!(rt; !printed.contains("FAULT"));
     Ok(())

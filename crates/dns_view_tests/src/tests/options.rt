@@ -2,7 +2,8 @@
 use crate::tests::printed::{HEADER_LINES, Message, assert_messages};
 use std::test::Fail;
 
-/// Extended rcode, version, DO and no options (RFC 6891 section 6.1.3, RFC 3225). With the rcode of the header, 0, the rcode is 16.
+/// Extended rcode, version, DO and no options (RFC 6891 section 6.1.3, RFC 3225). With the rcode 0
+/// in the header, the extended rcode is 16.
 const FIELDS_OF_OPT: Message<'_> = (
     "fields of OPT",
     &[
@@ -21,7 +22,8 @@ const FIELDS_OF_OPT: Message<'_> = (
 "#,
 );
 
-/// NSID (RFC 5001), DAU, DHU and N3U (RFC 6975), EXPIRE (RFC 7314), TCP keepalive (RFC 7828), padding (RFC 7830).
+/// NSID (RFC 5001), DAU, DHU and N3U (RFC 6975), EXPIRE (RFC 7314), TCP keepalive (RFC 7828),
+/// padding (RFC 7830).
 const OPTIONS: Message<'_> = (
     "options",
     &[
@@ -130,7 +132,7 @@ const NAMES_TAGS_AND_ERRORS: Message<'_> = (
 "#,
 );
 
-/// A code that no option has here, options that carry nothing, and data that isn't what its option says.
+/// An unknown option code, options without data, and data that doesn't fit its option.
 const OTHER_OPTIONS_BY_THEIR_NUMBERS: Message<'_> = (
     "other options by their numbers",
     &[
@@ -169,7 +171,7 @@ const OTHER_OPTIONS_BY_THEIR_NUMBERS: Message<'_> = (
 "#,
 );
 
-/// Each behind the lines of the header.
+/// These texts come after the lines of the header.
 const MESSAGES: &[Message<'_>] = &[
     FIELDS_OF_OPT,
     OPTIONS,

@@ -1,10 +1,11 @@
-//! The page of HTML.
+//! The HTML page.
 use crate::tests::printed::page;
 use std::alloc::{AllocError, Global};
 use std::process::Abort;
 use std::test::Fail;
 
-/// A question for `a<b>&.c`, and answers that point to it: one in its owner, one in its owner and in its data.
+/// A question for `a<b>&.c`, an answer that points to it from its owner and its RDATA, an answer
+/// whose owner points to that RDATA, and one octet after the items.
 const MESSAGE: [u8; 58] = [
     0x00, 0x01, 0x84, 0x00, 0x00, 0x01, 0x00, 0x02, 0x00, 0x00, 0x00, 0x00, //
     0x05, b'a', b'<', b'b', b'>', b'&', 0x01, b'c', 0x00, 0x00, 0x01, 0x00, 0x01, //
@@ -14,9 +15,9 @@ const MESSAGE: [u8; 58] = [
     0xc0, 0x00, 0x02, 0x01, 0xff,
 ];
 
-/// Texts, and how often each stands in the page.
+/// Texts, and how often the page has each.
 const COUNTS: &[(&str, usize)] = &[
-    // It asks for no other file, and has no script.
+    // The page loads no other file, and has no script.
     ("http", 0),
     ("<script", 0),
     ("src=", 0),
@@ -45,12 +46,12 @@ fn shows_a_message(rt: HostRuntime) -> Result<(), Fail> {
     Ok(())
 }
 
-/// A text stands in the page so often.
+/// Fails unless the page has the text this number of times.
 fn assert_count(rt: &impl Abort, page: &str, text: &str, count: usize) {
     assert!(rt; page.split(text).skip(1).count() == count, "{text}");
 }
 
-/// Each octet has its digits at its place in a grid of sixteen columns.
+/// Fails unless each octet has its digits at its offset, in a grid of sixteen columns.
 fn assert_cells(rt: &impl Abort, alloc: Global, page: &str) -> Result<(), Fail> {
     for (place, octet) in MESSAGE.iter().enumerate() {
         assert_count(rt, page, &cell(alloc, place, *octet)?, 1);

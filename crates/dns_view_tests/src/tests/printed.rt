@@ -1,17 +1,18 @@
-//! What is printed of the rows of a message.
+//! What is printed for the rows of a message.
 use crate::runs::assert_text;
 use dns_view::{print_page, print_text, rows};
 use std::alloc::Global;
 use std::process::Abort;
 use std::test::Fail;
 
-/// What a message shows, its octets, and a text that is printed of it.
+/// What a message shows, its octets, and the text that is printed for it.
 pub(crate) type Message<'a> = (&'a str, &'a [u8], &'a str);
 
-/// The lines that `print_text` prints before those of the items, where each field of the header has one line.
+/// The number of lines that `print_text` prints before those of the items if each field of the
+/// header has one line.
 pub(crate) const HEADER_LINES: usize = 6;
 
-/// What is printed of a message as a text.
+/// What is printed for a message as text.
 pub(crate) fn printed(alloc: Global, octets: &[u8]) -> Result<String, Fail> {
     let rows = rows(alloc, octets)?;
     let mut output = Vec::new(alloc);
@@ -19,7 +20,7 @@ pub(crate) fn printed(alloc: Global, octets: &[u8]) -> Result<String, Fail> {
     Ok(String::from_utf8(output)?)
 }
 
-/// What is printed of a message as a page.
+/// What is printed for a message as a page.
 pub(crate) fn page(alloc: Global, octets: &[u8]) -> Result<String, Fail> {
     let rows = rows(alloc, octets)?;
     let mut output = Vec::new(alloc);
@@ -27,10 +28,10 @@ pub(crate) fn page(alloc: Global, octets: &[u8]) -> Result<String, Fail> {
     Ok(String::from_utf8(output)?)
 }
 
-/// The lengths of labels, and the octets behind them.
+/// The lengths of labels, and the octets after them.
 pub(crate) type Labels<'a> = (&'a [u8], &'a [u8]);
 
-/// A message of so many questions, whose names are labels of `x`.
+/// A message with a count of questions, whose names are labels of `x`.
 pub(crate) fn questions(alloc: Global, count: u8, names: &[Labels<'_>]) -> Result<Vec<u8>, Fail> {
     let mut octets = Vec::from_slice(alloc, &[0, 0, 0, 0, 0, count, 0, 0, 0, 0, 0, 0])?;
     for (lens, behind) in names {
@@ -50,7 +51,8 @@ fn push_labels(octets: &mut Vec<u8>, lens: &[u8]) -> Result<(), Fail> {
     Ok(())
 }
 
-/// The text of each message is printed behind so many lines, and no line has more than 80 columns.
+/// Checks that the text of each message is printed after a number of lines, and that no line has
+/// more than 80 columns.
 pub(crate) fn assert_messages(
     rt: &impl Abort,
     alloc: Global,
@@ -65,7 +67,7 @@ pub(crate) fn assert_messages(
     Ok(())
 }
 
-/// A text without so many lines at its start.
+/// The text without its first lines.
 fn text_behind(text: &str, lines: usize) -> &str {
     text.splitn(lines.saturating_add(1), '\n')
         .nth(lines)

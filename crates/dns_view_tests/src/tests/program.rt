@@ -5,7 +5,7 @@ use std::alloc::Global;
 use std::process::Abort;
 use std::test::Fail;
 
-/// What the program prints for words and an input, and its status.
+/// Runs the program with arguments and an input. Returns its exit status and what it prints.
 fn run(alloc: Global, words: &[&str], input: &[u8]) -> Result<(u8, String), Fail> {
     let mut output = Vec::new(alloc);
     let status = tool(alloc, &words_of(alloc, words)?, input, &mut output);
@@ -19,7 +19,7 @@ fn answers_its_input(rt: HostRuntime) -> Result<(), Fail> {
     assert_page(&rt, rt.alloc())
 }
 
-/// A question for the root in octets, and in digits with all that is white space between.
+/// A question for the root in octets, and in digits with every kind of white space between them.
 const QUESTION: [&[u8]; 4] = [
     &[0, 1, 0, 0, 0, 1, 0, 0, 0, 0, 0, 0, 0, 0, 0xff, 0, 1],
     b"0001000000010000000000000000FF0001",
@@ -27,11 +27,11 @@ const QUESTION: [&[u8]; 4] = [
     b" 00 01\t0000\r\n0001 0000 0000 0000\x0c00 00fF 000 1",
 ];
 
-/// The rows of the question behind its name.
+/// The rows of the question after its name.
 const END: &str =
     "    13  00 ff                    type ANY\n    15  00 01                    class IN\n";
 
-/// Octets and digits give one text.
+/// Checks that octets and digits give the same text.
 fn assert_same_text(rt: &impl Abort, alloc: Global) -> Result<(), Fail> {
     let (_, first) = run(alloc, &[], QUESTION[0])?;
     assert!(rt; first.ends_with(END));

@@ -1,4 +1,4 @@
--- A label adds as much to the size as to the place, and a pointer makes the place less.
+-- A label adds as much to the size as to the offset, and a pointer decreases the offset.
 use Rattle.std.proofs.Common.{◌+◌, ◌-◌, ◌*◌}
 use Rattle.dns_hostile_tests.proofs.tests.plain.+add_labels.Given as goal
 

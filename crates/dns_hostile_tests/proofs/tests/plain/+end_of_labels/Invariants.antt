@@ -1,4 +1,4 @@
--- Each label makes the size greater.
+-- Each label increases the size.
 use Rattle.std.proofs.Common.{◌-◌}
 use Rattle.dns_hostile_tests.proofs.tests.plain.+end_of_labels.Given as goal
 

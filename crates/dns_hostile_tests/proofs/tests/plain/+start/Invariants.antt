@@ -1,4 +1,4 @@
--- The section before a section starts earlier.
+-- The section before has a smaller number.
 use Rattle.dns_hostile_tests.proofs.tests.plain.+start.Given as goal
 
 abbrev pub decreases-start : goal.decreases-start

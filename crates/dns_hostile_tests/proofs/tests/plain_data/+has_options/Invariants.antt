@@ -1,4 +1,4 @@
--- The options behind the first are fewer octets.
+-- The options after the first have fewer octets.
 use Rattle.std.proofs.Common.{length}
 use Rattle.dns_hostile_tests.proofs.tests.plain_data.+has_options.Given as goal
 
