@@ -1,4 +1,4 @@
--- What is read by data types of records that were pushed.
+-- What data types read of records that were pushed.
 use Rattle.std.proofs.Common.{◌≡◌, ◌∙◌, ap, sym, refl, subst, ℕ, List, [], ◌∷◌, length}
 use Rattle.std.proofs.lemmas.List.{append-nil}
 use Rattle.std.proofs.lemmas.List.Elements.{All-nil, All-cons}
@@ -36,30 +36,30 @@ use Rattle.dns_build.specs.declared.push_error.PushError.{PushError}
 use Rattle.dns_build.specs.TypedReading.{AllStandAs, IsLaidOutBy, PushedRecordsStand, StandsAs, taken, TypedRecordsReadBack}
 use Rattle.dns_tests.specs.Typed.{HasOneAnswer, WasPushedFirst, server_record, address_record}
 
--- answers that start somewhere are opened
+-- an answer section that has a start can be opened
 pub opened : (law : StartOrFault) (b : List ℕ) (p : ℕ) (r : Result RecordSection ParseError) → AnswersStart b p → IfErr r (λ e. AnswersFault b (fault_of e)) → IsOk r
 opened law b p (Ok cursor) start fault = refl
 opened law b p (Err e) start fault = absurd ((law.answers b).not_both p (fault_of e) start fault)
 
--- what a cursor at the start of the answers has left
+-- the remaining records of a cursor at the start of the answers
 pub all_left : (found : StartsAreFound) (b : List ℕ) (cursor : RecordSection) → BeginsSection Answer b cursor → records_left cursor ≡ records_of Answer b
 all_left found b cursor begins =
     let start = (found Answer b (position cursor)).1 begins.start in
     begins.fresh.records ∙ sym (ap (λ (o : Option ℕ). option_map_or (records_in b (answer_count b)) o []) start)
 
--- where a data type answers to one record alone
+-- if a data type accepts one record only, it is the only one that remains
 pub one_left : (found : StartsAreFound) (b : List ℕ) (layouts : ℕ → Option Layout) (x : RecordItem) (cursor : RecordSection) → BeginsSection Answer b cursor → HasOneAnswer layouts b x
     → limited layouts (records_left cursor) ≡ Ok x ∷ []
 one_left found b layouts x cursor begins one = ap (limited layouts) (all_left found b cursor begins) ∙ one.only
 
--- where records are left that stand as they were pushed, the first of them is what is given
+-- if the remaining records are as they were pushed, the next call yields the first of them
 pub first_stands : (b : List ℕ) (x : RecordItem) (xs : List RecordItem) (old new : RecordSection) (result : Option (Result ParsedRecord ParseError))
     → YieldsFirstBy record_answer records_left old result new → AllStandAs b (x ∷ xs) (records_left old) → IsSomeAnd result (λ answer. IsOkAnd answer (λ r. StandsAs b x (standing_record r)))
 first_stands b x xs old new None steps all = subst (AllStandAs b (x ∷ xs)) steps.0 all
 first_stands b x xs old new (Some (Ok r)) steps all = (subst (AllStandAs b (x ∷ xs)) steps all).0
 first_stands b x xs old new (Some (Err e)) steps all = (subst (AllStandAs b (x ∷ xs)) steps all).0
 
--- a record that was pushed first is the first that a cursor at the start of the answers gives
+-- a record that was pushed first is the first that a cursor at the start of the answers yields
 pub pushed_first : (stand : PushedRecordsStand) (found : StartsAreFound) (layouts : ℕ → Option Layout) (b : List ℕ) (x : RecordItem) (old new : RecordSection)
     (result : Option (Result ParsedRecord ParseError)) → WasPushedFirst layouts b x → BeginsSection Answer b old → YieldsFirstBy record_answer records_left old result new
     → IsSomeAnd result (λ answer. IsOkAnd answer (λ r. StandsAs b x (standing_record r)))
@@ -67,7 +67,7 @@ pushed_first stand found layouts b x old new result was begins steps =
     let all = subst (λ (xs : List RecordItem). AllStandAs b xs (records_of Answer b)) was.first (stand was.s b was.reads_back Answer) in
     first_stands b x was.behind old new result steps (subst (AllStandAs b (x ∷ was.behind)) (sym (all_left found b old begins)) all)
 
--- what was pushed to no answers and rewound leaves nothing
+-- pushing onto empty answers and rewinding leaves nothing
 pub in_vain : (law : RewindsLeaveNothing) (rule : Rule) (x : RecordItem) (old full new : Built) (result : Result (Unit {0}) PushError) → OnErr result (full ≡ old)
     → OnOk result (MovesState InAnswer InAnswer rule (with_record InAnswer x) old full) → MovesState InAnswer InAnswer rule (rewound InAnswer) full new
     → (s : State) → StandsFor InAnswer rule s old → s.answers ≡ [] → new ≡ old
@@ -83,7 +83,7 @@ in_vain law rule x old full new result refused accepted rewinds s stands none = 
         law.records InAnswer rule s [] old full new emptied (subst (λ (q : State × Built). StandsFor InAnswer rule q.0 q.1) (λ i. (same i, sym refused i)) stands) rewinds
 
 module _ {D : Type 0} (rtype_of : D → ℕ) (parts_of : D → List Part) where
-  -- where one record is left, it is what is given
+  -- if one record remains, the next call yields it
   pub one_given : (left : RecordIter D → List (Result RecordItem Fault)) (old new : RecordIter D) (x : RecordItem) (result : Option (Result (Record ParsedName D) ParseError))
       → YieldsFirstBy (typed_answer rtype_of parts_of) left old result new → left old ≡ Ok x ∷ []
       → IsSomeAnd result (λ answer. IsOkAnd answer (λ r. record_item labels rtype_of parts_of r ≡ x))
@@ -102,7 +102,7 @@ pub ok_given : {A E : Type 0} (r : Result A E) (P : A → Type 0) → IsOkAnd r 
 ok_given (Ok a) P h = refl
 ok_given (Err e) P h = absurd h
 
--- the name that is the first part of data, and the octets that are
+-- the first part of RDATA, if it is a name; the first part, if it is octets
 abbrev pub name_first : List Part → Labels
 name_first [] = []
 name_first (Octets octets ∷ parts) = []
@@ -113,7 +113,7 @@ octets_first [] = []
 octets_first (Octets octets ∷ parts) = octets
 octets_first (CompressibleName name ∷ parts) = []
 
--- a name server and an address that were pushed as the only answers
+-- an NS record and an address that were pushed as the only answers
 module _ (law : TypedRecordsReadBack) (b : List ℕ) (zone : Labels) (class ttl : ℕ) (server owner : Labels) (class2 ttl2 : ℕ) (octets : List ℕ) (four : length octets ≡ 4) where
   abbrev pub state : State
   state = with_record InAnswer (address_record owner class2 ttl2 octets) (with_record InAnswer (server_record zone class ttl server) (move_to InAnswer fresh))

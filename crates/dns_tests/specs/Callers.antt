@@ -1,4 +1,4 @@
--- What the proved callers say.
+-- What the contracts of the proved callers cite.
 use Rattle.std.specs.Prelude.{◌≡◌, ◌≤◌, ◌+◌, ◌*◌, ℕ, List, length, map, Option, Some, None, Result, Ok, Err}
 use Rattle.std.specs.List.{filter_map}
 use Rattle.dns_octets.specs.declared.error.AppendError.{AppendError}
@@ -23,13 +23,13 @@ use Rattle.dns_build.specs.Standing.{fresh}
 use Rattle.dns_build.specs.MessageOf.{ReadsBack, PointsToLabels, IsShortestOf}
 use Rattle.dns_build.specs.State.{State}
 
--- The octets read back as a state's header and items. Each pointer of a name leads to an earlier label, and in at most 16,384 octets no spelling of the items is shorter.
+-- The octets read back as a state's header and items. Each pointer of a name leads to an earlier label, and in at most 16,384 octets no compression of the names is shorter.
 pub record IsShortMessage (s : State) (b : List ℕ) : Type 0 where
   pub reads_back : ReadsBack s b
   pub pointers : PointsToLabels s b
   pub shortest : length b ≤ 16384 → IsShortestOf s b
 
--- a record that can be read as such data stands first in the answer section, and this is it
+-- the first record of the answer section can be read with RDATA of this type, and this is it
 pub record StandsFirst {D : Type 0} (rtype_of : D → ℕ) (parts_of : D → List Part) (layout : ℕ → Option Layout) (b : List ℕ) (r : Record ParsedName D) : Type 0 where
   pub start : ℕ
   pub starts : AnswersStart b start
@@ -38,22 +38,22 @@ pub record StandsFirst {D : Type 0} (rtype_of : D → ℕ) (parts_of : D → Lis
   pub reads : ReadsRecord b start end entry
   pub gives : GivesTaken rtype_of parts_of b entry (layout entry.rtype) (Ok (Some r))
 
--- the parts of the data of an item, where that can be read
+-- the parts of an item's RDATA, if it can be read
 abbrev pub parts_of_item : Result RecordItem Fault → Option (List Part)
 parts_of_item (Ok item) = Some item.parts
 parts_of_item (Err f) = None
 
--- the data among items that can be read
+-- the RDATA of the items that can be read
 abbrev pub data_among : List (Result RecordItem Fault) → List (List Part)
 data_among = filter_map parts_of_item
 
--- these are, in order, the data of the answers that a data type takes and that can be read
+-- these are, in order, the RDATA of the answers that a data type accepts and that can be read
 pub record AreAnswers {D : Type 0} (parts_of : D → List Part) (layout : ℕ → Option Layout) (b : List ℕ) (found : List D) : Type 0 where
   pub start : ℕ
   pub starts : AnswersStart b start
   pub read : map parts_of found ≡ data_among (limited layout (records_in b (answer_count b) start))
 
--- the section of the record that an item is
+-- the section of an item, if it is a record
 abbrev pub section_of_item : Item → Option Section
 section_of_item (Ok x) = Some x.1
 section_of_item (Err f) = None
@@ -62,7 +62,7 @@ section_of_item (Err f) = None
 abbrev pub sections_among : List Item → List Section
 sections_among = filter_map section_of_item
 
--- A message says of its OPT record what a closure gathered for it on a fresh OPT builder, beside the header of a fresh message.
+-- The OPT record of a message has what a closure gathers on a new OPT builder, beside the header of a new message.
 pub record SaysWhatIsGathered (call : OptBuilder → Result (Unit {0}) AppendError → OptBuilder → Type 0) (b : List ℕ) : Type 0 where
   pub g : Gathered
   pub gathers : Gathers call fresh.header (Ok tt) g

@@ -1,4 +1,4 @@
--- What the proved callers that read by data types say.
+-- What the contracts of the proved callers that read by data types cite.
 use Rattle.std.specs.Prelude.{◌≡◌, ℕ, List, [], ◌∷◌, Option, Ok}
 use Rattle.dns_name.specs.Names.{Labels}
 use Rattle.dns_wire.specs.Parts.{Octets, CompressibleName}
@@ -12,21 +12,21 @@ use Rattle.dns_build.specs.MessageOf.{ReadsBack}
 use Rattle.dns_build.specs.State.{State}
 use Rattle.dns_build.specs.TypedReading.{IsTakenBy}
 
--- the answers start somewhere, and reading them with a data type gives this record and nothing else, without a fault
+-- the answer section has a start, and reading it with a data type yields this record and nothing else, without a fault
 pub record HasOneAnswer (layouts : ℕ → Option Layout) (b : List ℕ) (x : RecordItem) : Type 0 where
   pub start : ℕ
   pub starts : AnswersStart b start
   pub only : limited layouts (records_of Answer b) ≡ Ok x ∷ []
 
--- a record that says the name server of its owner
+-- an NS record
 abbrev pub server_record : Labels → ℕ → ℕ → Labels → RecordItem
 server_record owner class ttl server = record { owner = owner; rtype = 2; class = class; ttl = ttl; parts = CompressibleName server ∷ [] }
 
--- a record that says the address of its owner
+-- an A record
 abbrev pub address_record : Labels → ℕ → ℕ → List ℕ → RecordItem
 address_record owner class ttl octets = record { owner = owner; rtype = 1; class = class; ttl = ttl; parts = Octets octets ∷ [] }
 
--- the octets read back as a state whose first answer is this record, of which the data type takes the type, and lays out the parts so
+-- the octets read back as a state whose first answer is this record, whose type the data type accepts, and whose parts are laid out by it
 pub record WasPushedFirst (layouts : ℕ → Option Layout) (b : List ℕ) (x : RecordItem) : Type 0 where
   pub s : State
   pub reads_back : ReadsBack s b

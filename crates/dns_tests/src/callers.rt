@@ -1,4 +1,4 @@
-//! Proved callers: examples of the pages that say how the crates are called.
+//! Proved callers: the examples of the pages that say how the crates are called.
 ghost use Rattle.std.specs.Prelude.{◌≡◌, ◌≤◌, ◌↔◌, List, length, map, max, min, true, IfOk, IfSome, IsSome, IsTrue};
 ghost use Rattle.std.specs.Fn.{FnOnceReturnsAtMut};
 ghost use Rattle.dns_code.specs.Header.{fields};
@@ -30,7 +30,7 @@ use dns_message::wire::{AppendError, Octets};
 use std::alloc::{AllocError, Global};
 use std::test::Fail;
 
-/// The header of a reply to a query: its ID and its RD, and QR.
+/// The header of a reply to a query: its ID and RD, and QR.
 fn reply_header(query: Header) -> Header
     ensures id { (fields result).id ≡ (fields query).id }
     ensures rd { (fields result).rd ≡ (fields query).rd }
@@ -52,7 +52,7 @@ fn replies_with_the_id(rt: HostRuntime) {
     assert!(rt; reply.id() == 0x1234 && reply.rd() && reply.qr());
 }
 
-/// Octets as the data of a record, if a record can have so many.
+/// Octets as opaque record data, if RDATA can have that many.
 fn opaque(rtype: Rtype, octets: &[u8]) -> Option<UnknownRecordData<&[u8]>>
     ensures { IsSome result ↔ (length octets.now ≤ 65535) }
 {
@@ -66,7 +66,7 @@ fn takes_opaque_data(rt: HostRuntime) -> Result<(), Fail> {
     Ok(())
 }
 
-/// For how many seconds a record is kept: a week at most, but never less than the least.
+/// How long a record is cached: at most a week, but never less than `least`.
 fn kept_for(ttl: Ttl, least: Ttl) -> Ttl
     ensures { result ≡ max least (min ttl cap_seconds) }
 {
@@ -99,7 +99,7 @@ fn finds_the_answers(rt: HostRuntime) -> Result<(), Fail> {
     Ok(())
 }
 
-/// The record that stands first in the answer section, if it can be read with such data.
+/// The first record of the answer section, if it can be read and its RDATA is of type `D`.
 fn first_answer<'a, Octs: Octets, D: ParseRecordData<'a> + Drop>(
     message: &'a Message<Octs>,
 ) -> Option<Record<ParsedName<'a>, D>>
@@ -123,7 +123,7 @@ fn reads_the_first_answer(rt: HostRuntime) -> Result<(), Fail> {
     Ok(())
 }
 
-/// The data of the records that can be read, in order.
+/// The RDATA of the records that can be read, in order.
 fn data_of<'a, D: ParseRecordData<'a> + Drop>(
     alloc: Global,
     records: RecordIter<'a, D>,
@@ -140,7 +140,7 @@ fn data_of<'a, D: ParseRecordData<'a> + Drop>(
     Ok(found)
 }
 
-/// The data of the answers that a data type takes, as far as it can be read.
+/// The RDATA of the answers whose type `D` accepts, if it can be read.
 fn data_of_answers<'a, Octs: Octets, D: ParseRecordData<'a> + Drop>(
     alloc: Global,
     message: &'a Message<Octs>,
@@ -165,7 +165,7 @@ fn collects_the_addresses(rt: HostRuntime) -> Result<(), Fail> {
     Ok(())
 }
 
-/// The sections of the records that can be read in a row, in order.
+/// The sections of the consecutive readable records, in order.
 fn sections_of<Octs: Octets>(
     alloc: Global,
     message: &Message<Octs>,
@@ -182,7 +182,7 @@ fn sections_of<Octs: Octets>(
     Ok(found)
 }
 
-/// Whether the answers have an address, or something that can't be read.
+/// Whether the answer section has an address, or something that can't be read.
 fn has_address<Octs: Octets>(message: &Message<Octs>) -> bool
     ensures { IsTrue result ↔ HasAnswer (only 1 (Fixed 4 End)) (message_octets message.now) }
 {
@@ -200,7 +200,7 @@ fn knows_the_sections(rt: HostRuntime) -> Result<(), Fail> {
     Ok(())
 }
 
-/// Makes the calls on a fresh builder over a hash compressor, and gives the stage behind them.
+/// Makes the calls on a new builder over a hash compressor. Returns the stage after them.
 fn compressed<Q: ComposeQuestion, R: ComposeRecord>(
     alloc: Global,
     calls: &[Call<Q, R>],
@@ -232,7 +232,7 @@ fn spells_a_name_once(rt: HostRuntime) -> Result<(), Fail> {
     Ok(())
 }
 
-/// The message of one OPT record, which a closure gathers.
+/// The message with one OPT record, which a closure gathers.
 fn opt_message<F: FnOnce(&mut OptBuilder) -> Result<(), AppendError>>(
     alloc: Global,
     gather: F,

@@ -1,12 +1,12 @@
-//! Failing input and output: input that comes in parts or fails, and output that fails. The program `dnsmsg` then ends with
-//! status 3, and says so where it can.
+//! Input that comes in parts or fails, and output that fails. The program `dnsmsg` then exits with
+//! status 3, and prints that it failed if it can.
 use crate::runs::{prints, run};
 use std::alloc::Global;
 use std::io;
 use std::io::{ErrorKind, Read, Write};
 use std::test::Fail;
 
-/// Words behind the program's name, standard input, what is printed, and the status.
+/// The arguments after the program's name, standard input, what is printed, and the exit status.
 #[derive(Clone, Copy)]
 struct Run {
     words: &'static str,
@@ -43,7 +43,7 @@ const USAGE: Run = Run {
     status: 2,
 };
 
-/// Gives octets, one at each read, and then ends or fails.
+/// Returns octets, one at each read, and then ends or fails.
 #[derive(Drop)]
 struct Cut<'a> {
     octets: &'a [u8],
@@ -60,7 +60,8 @@ impl Read for Cut<'_> {
     }
 }
 
-/// Takes octets, one at each write, but for the writes and flushes with these numbers from 0, which fail.
+/// Accepts octets, one at each write, except that the writes and flushes with these numbers,
+/// counted from 0, fail.
 #[derive(Drop)]
 struct Gap {
     taken: Vec<u8>,
@@ -93,7 +94,7 @@ impl Write for Gap {
     }
 }
 
-/// The input is read octet by octet, and reading may fail behind each.
+/// The input is read octet by octet. Reading may fail after each of them.
 #[test]
 fn fails_where_input_is_cut(rt: HostRuntime) -> Result<(), Fail> {
     for row in [BUILD, SHOW] {
@@ -112,7 +113,8 @@ fn fails_where_input_is_cut(rt: HostRuntime) -> Result<(), Fail> {
     Ok(())
 }
 
-/// Whether what is printed before the steps that fail is taken, and this behind it, with this status.
+/// Whether the writer gets what is printed before the steps that fail, followed by `behind`, and
+/// the exit status is this one.
 fn is_cut(
     alloc: Global,
     row: Run,
@@ -132,8 +134,8 @@ fn is_cut(
     Ok(writer.taken.strip_suffix(behind) == Some(before) && ended == status)
 }
 
-/// One step fails, the write of an octet or the flush behind all, and then all from it on: `failed` is printed where it can
-/// be.
+/// One step fails, the write of an octet or the last flush; and then all steps from it on. The
+/// program prints `failed` if it can.
 #[test]
 fn fails_where_output_is_not_written(rt: HostRuntime) -> Result<(), Fail> {
     for row in [BUILD, BAD_LINE, SHOW, USAGE] {

@@ -1,9 +1,10 @@
-//! Scripts whose first record has long opaque data, so that the names behind it stand where a row wants them.
+//! Scripts whose first record has long opaque data, so that the names after it are at the offsets
+//! that a row needs.
 use crate::runs::prints;
 use std::alloc::Global;
 use std::test::Fail;
 
-/// A script for a target, and what is printed: both have so many octets `ab` between two texts.
+/// A script for a target, and what is printed: both have `count` octets `ab` between two texts.
 struct Filled {
     row: &'static str,
     words: &'static str,
@@ -12,16 +13,18 @@ struct Filled {
     printed: (&'static str, &'static str),
 }
 
-/// Two records behind the first, with the same owner of two labels.
+/// Two records after the first, with the same owner of two labels.
 const TWICE: &str = "\npush aa.b. 0 IN TXT \\# 0\npush aa.b. 0 IN TXT \\# 0\n";
 
-/// What a header section, a record of the root with `count` octets and the two records are, octet by octet:
+/// What a header section, a record of the root with `count` octets and the two records are, octet
+/// by octet:
 ///
-/// - The header section has 12 octets, and the first record 1 + 10 + `count`. So the second owner begins at 23 + `count`, and
-///   its label `b` three octets behind that.
-/// - A pointer to a place is 0xC000 and the place (RFC 1035 section 4.1.4).
-/// - The tree remembers each suffix that begins below 16,384. The hash map remembers none of a name's suffixes where one begins
-///   at 16,384 or further on (crates/dns_target/CALLING.md).
+/// - The header section has 12 octets, and the first record 1 + 10 + `count`. So the second owner
+///   begins at offset 23 + `count`, and its label `b` three octets later.
+/// - A pointer to an offset is 0xC000 plus the offset (RFC 1035 section 4.1.4).
+/// - The table of the tree compressor takes each suffix that begins below offset 16,384. That of
+///   the hash compressor takes none of a name's suffixes if one of them begins at 16,384 or above
+///   (crates/dns_target/CALLING.md).
 const FILLED: &[Filled] = &[
     Filled {
         row: "Opaque data of 300 octets",
@@ -33,7 +36,8 @@ const FILLED: &[Filled] = &[
             "02\n",
         ),
     },
-    // 16,357 octets are 0x3FE5. The owner begins at 16,380, which is 0x3FFC, and its last label at 16,383.
+    // 16,357 octets are 0x3FE5. The owner begins at offset 16,380, which is 0x3FFC, and its last
+    // label at 16,383.
     Filled {
         row: "The last label below 16,384, by a tree",
         words: "build tree",
@@ -54,7 +58,8 @@ const FILLED: &[Filled] = &[
             "02616101620000100001000000000000fffc00100001000000000000\n",
         ),
     },
-    // 16,358 octets are 0x3FE6. The owner begins at 16,381, which is 0x3FFD, and its last label at 16,384.
+    // 16,358 octets are 0x3FE6. The owner begins at offset 16,381, which is 0x3FFD, and its last
+    // label at 16,384.
     Filled {
         row: "The last label at 16,384, by a tree",
         words: "build tree",
@@ -77,7 +82,7 @@ const FILLED: &[Filled] = &[
     },
 ];
 
-/// A text, so many octets `ab` in digits, and another text.
+/// A text, `count` octets `ab` in hexadecimal, and another text.
 fn text_of(alloc: Global, texts: (&str, &str), count: usize) -> Result<String, Fail> {
     let mut text = String::from_str(alloc, texts.0)?;
     for _ in 0..count {

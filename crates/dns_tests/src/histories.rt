@@ -1,5 +1,5 @@
-//! Histories: ten lists of calls, from each stage and over each target, that end with the same items standing. The octets are
-//! the same.
+//! Histories: ten lists of calls, from each stage and over each target, after which the builder has
+//! the same items. The octets are the same.
 ghost use Rattle.std.specs.Prelude.{◌≡◌};
 ghost use Rattle.dns_wire.specs.Pieces.Rule.{Plain};
 
@@ -23,40 +23,42 @@ type Owner = Name<ArrayVec<u8, 22>>;
 
 type ServerCall = Call<(Owner, Rtype), (Owner, u32, Ns<Owner>)>;
 
-/// The items with each name in full: a question and a record in each section, and an OPT record with rcode 19.
+/// The items with each name uncompressed: a question, a record in each section, and an OPT record
+/// with rcode 19.
 const PLAIN: &[u8; 174] =
     b"\x00\x00\x00\x03\x00\x01\x00\x01\x00\x01\x00\x02\x07example\x03com\x00\x00\x02\x00\x01\x07example\x03com\x00\x00\x02\x00\x01\x00\x00\x00\x3C\x00\x10\x02ns\x07example\x03com\x00\x03www\x07example\x03com\x00\x00\x02\x00\x01\x00\x00\x00\x3C\x00\x14\x02ns\x03www\x07example\x03com\x00\x02ns\x07example\x03com\x00\x00\x02\x00\x01\x00\x00\x00\x3C\x00\x16\x01a\x02ns\x03www\x07example\x03com\x00\x00\x00\x29\x04\xD0\x01\x00\x80\x00\x00\x00";
 
-/// The same items: where a suffix of a name stands before it, the longest is a pointer.
+/// The same items with compressed names: the longest suffix that is encoded earlier is a pointer.
 const COMPRESSED: &[u8; 94] =
     b"\x00\x00\x00\x03\x00\x01\x00\x01\x00\x01\x00\x02\x07example\x03com\x00\x00\x02\x00\x01\xC0\x0C\x00\x02\x00\x01\x00\x00\x00\x3C\x00\x05\x02ns\xC0\x0C\x03www\xC0\x0C\x00\x02\x00\x01\x00\x00\x00\x3C\x00\x05\x02ns\xC0\x2E\xC0\x29\x00\x02\x00\x01\x00\x00\x00\x3C\x00\x04\x01a\xC0\x3E\x00\x00\x29\x04\xD0\x01\x00\x80\x00\x00\x00";
 
 /// A letter for each call, and one for each reply.
 type History = (&'static str, &'static str);
 
-/// The calls, and behind them the replies: done, misplaced, or refused by the limit.
+/// The calls, followed by the replies: done, misplaced, or refused by the limit.
 ///
-/// `b q a n d` move to a stage, and `Q A N D` push the item of that section that stands in the end, `O` the OPT record;
-/// `u v w x y z` push others. `r` rewinds, `t` with TC; `H` changes the header, and `h` changes it back; `1 2 3` set a limit,
-/// below the message behind the next push, and `c` takes it away.
+/// `b q a n d` move to a stage. `Q A N D` push the item of that section that the message has at the
+/// end, and `O` pushes the OPT record; `u v w x y z` push other items. `r` rewinds, `t` rewinds
+/// with TC. `H` changes the header, and `h` changes it back. `1 2 3` set a limit that the next push
+/// exceeds, and `c` clears it.
 const HISTORIES: [History; 9] = [
-    // in order
+    // In order.
     ("bqQaAnNdDO", "dddddddddd"),
-    // other items rewound, in each section
+    // Other items that are rewound, in each section.
     ("qvwrQaAnNdDO", "dddddddddddd"),
     ("bqQaxNrAnNdDO", "ddddddddddddd"),
     ("qrQaAnythNdDO", "ddddddddddddd"),
     ("bqQaAnNdOurDrDO", "ddddddddddddddd"),
-    // moved back, and sections passed over and taken up again
+    // Moves back, and sections that are skipped and visited again later.
     ("bqQaAnNdDanNdDO", "ddddddddddddddd"),
     ("bdDqQnNaAdnNdDO", "ddddddddddddddd"),
-    // each push refused first
+    // Each push is refused first.
     ("b1qQcQa2AcAnNd3OcDO", "dddlddddlddddddlddd"),
-    // calls that their stages lack
+    // Calls that their stages lack.
     ("bQArHqAtQaQOAnNdhDO", "dmmmddmmddmmddddddd"),
 ];
 
-/// A record too many for a target that is full then.
+/// One record too many for a target that is full then.
 const OVERFULL: &str = "bqQaAnNdDOArDO";
 
 /// Other items in the sections up to each stage.
@@ -86,12 +88,12 @@ fn name(octets: &[u8]) -> Result<Owner, Fail> {
     Ok(Name::from_octets(ArrayVec::try_from(octets)?)?)
 }
 
-/// A question for a name server of a name.
+/// A question for the NS records of a name.
 fn question(qname: &[u8]) -> Result<ServerCall, Fail> {
     Ok(Call::PushQuestion((name(qname)?, Rtype::NS)))
 }
 
-/// A name server of an owner.
+/// An NS record.
 fn server(owner: &[u8], nsdname: &[u8]) -> Result<ServerCall, Fail> {
     Ok(Call::PushRecord((name(owner)?, 60, Ns::new(name(nsdname)?))))
 }
@@ -114,7 +116,7 @@ fn response() -> Header {
     header
 }
 
-/// The push that a letter stands for.
+/// The push that a letter means.
 fn push_of(letter: u8) -> Result<ServerCall, Fail> {
     match letter {
         b'Q' => question(EXAMPLE),
@@ -131,7 +133,7 @@ fn push_of(letter: u8) -> Result<ServerCall, Fail> {
     }
 }
 
-/// The call that a letter stands for.
+/// The call that a letter means.
 fn call_of(alloc: Global, letter: u8) -> Result<ServerCall, Fail> {
     Ok(match letter {
         b'b' => Call::ToBuilder,
@@ -160,7 +162,7 @@ fn calls_of(alloc: Global, letters: &str) -> Result<Vec<ServerCall>, Fail> {
     Ok(calls)
 }
 
-/// The first letter of what is replied: done, misplaced, or the cause of a refusal.
+/// The first letter of the reply: done, misplaced, or the reason for a refusal.
 fn letter_of(reply: Reply) -> u8 {
     match reply {
         Reply::Done => b'd',
@@ -185,7 +187,7 @@ fn are_told(replies: &[Reply], letters: &str) -> bool {
     true
 }
 
-/// The stage behind the calls, if the replies have their letters.
+/// The stage after the calls, if the replies have these letters.
 fn after<T: Composer>(
     alloc: Global,
     stage: Stage<T>,
@@ -199,7 +201,8 @@ fn after<T: Composer>(
     }
 }
 
-/// Whether a history ends with the octets over an empty target, from the stage that others lead to.
+/// Whether a history over an empty target ends with the octets, from the stage that `others` leads
+/// to.
 fn ends<T: Composer>(
     alloc: Global,
     target: T,
@@ -213,7 +216,7 @@ fn ends<T: Composer>(
     Ok(stage.as_slice() == octets)
 }
 
-/// A history ends with the octets over an empty target, from each stage.
+/// Fails unless a history over an empty target ends with the octets, from each stage.
 fn assert_history<T: CloneTarget>(
     rt: &impl Abort,
     alloc: Global,
@@ -233,7 +236,8 @@ fn assert_history<T: CloneTarget>(
     Ok(())
 }
 
-/// The ten histories end with the octets over an empty target, which may be full then.
+/// Fails unless the ten histories over an empty target end with the octets. The target may be full
+/// then.
 fn assert_ends<T: CloneTarget>(
     rt: &impl Abort,
     alloc: Global,
@@ -252,7 +256,7 @@ fn assert_ends<T: CloneTarget>(
     assert_history(rt, alloc, &target, (OVERFULL, letters), octets)
 }
 
-/// The ten histories end alike over each compressor over a target.
+/// Fails unless the ten histories end with the same octets over each compressor over a target.
 fn assert_compressed<T: CloneTarget>(
     rt: &impl Abort,
     alloc: Global,
@@ -271,7 +275,8 @@ fn assert_compressed<T: CloneTarget>(
     assert_ends(rt, alloc, index, COMPRESSED, is_full)
 }
 
-/// The ten histories end alike over targets that don't compress, the arrays with room for the message and no more.
+/// The ten histories end with the same octets over targets that don't compress. The arrays have the
+/// capacity for the message and no more.
 #[test]
 fn over_targets_that_compress_nothing(rt: HostRuntime) -> Result<(), Fail> {
     let alloc = rt.alloc();
@@ -283,7 +288,7 @@ fn over_targets_that_compress_nothing(rt: HostRuntime) -> Result<(), Fail> {
     assert_ends(&rt, alloc, stream, PLAIN, true)
 }
 
-/// Over vectors, streams, and arrays that have room for the message and no more.
+/// Over a `Vec`, a stream target, and an array that has the capacity for the message and no more.
 #[test]
 fn over_compressors(rt: HostRuntime) -> Result<(), Fail> {
     let alloc = rt.alloc();

@@ -1,5 +1,6 @@
-//! Tests over `dns_message` alone: the examples of the pages, the program `dnsmsg` with answers from outside, lists of calls
-//! that end alike, and calls that take memory.
+//! Tests over `dns_message` alone: the examples of the pages, the program `dnsmsg` with expected
+//! values from outside this library, lists of calls that end with the same octets, and calls that
+//! allocate.
 //!
 //! Nothing is exported.
 #![tactic(auto)]

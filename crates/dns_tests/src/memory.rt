@@ -1,8 +1,8 @@
-//! Calls that take memory: their answers where there is enough, and what stands behind one that was refused.
+//! Calls that allocate: their results if allocations succeed, and the state after one failed.
 //!
-//! Each test of `rows` passes with ample memory, and with any one of its allocations refused: a call that answers
-//! `OutOfMemory` has changed nothing, and the same call made again gives the octets. `campaigns/refused-growths` refuses each
-//! in turn.
+//! Each test of `rows` passes if all allocations succeed, and if any one of them fails: a call that
+//! returns `OutOfMemory` has changed nothing, and the same call made again writes the octets.
+//! `campaigns/refused-growths` lets each allocation fail in turn.
 
 mod again;
 mod ample;

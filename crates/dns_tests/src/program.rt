@@ -1,10 +1,11 @@
-//! The program `dnsmsg`: what it prints, and its status.
+//! The program `dnsmsg`: what it prints, and its exit status.
 use crate::runs::{prints, run};
 use std::alloc::Global;
 use std::str;
 use std::test::Fail;
 
-/// A row's name, the words behind the program's name, standard input, what is printed, and the status.
+/// A row's name, the arguments after the program's name, standard input, what is printed, and the
+/// exit status.
 type Row = (&'static str, &'static str, &'static [u8], &'static str, u8);
 
 const ROWS: &[Row] = &[
@@ -50,7 +51,8 @@ const ROWS: &[Row] = &[
         "ok 12\nok 12\nok 12\nok 12\n1234a4030000000000000000\n",
         0,
     ),
-    // the opcode is four bits from 0x0800 on, and the rcode the lowest four (RFC 1035 section 4.1.1)
+    // The opcode is the four bits of 0x7800, and the rcode the lowest four (RFC 1035 section
+    // 4.1.1).
     (
         "The greatest header fields",
         "build plain",
@@ -128,7 +130,7 @@ const ROWS: &[Row] = &[
         "000000000000000000000000\n",
         0,
     ),
-    // the lengths of the replies leave out the length that a stream has before the message
+    // The lengths in the replies don't include the length that precedes the message on a stream.
     (
         "Root question on a stream",
         "build stream",
@@ -150,7 +152,7 @@ const ROWS: &[Row] = &[
         "ok 12\nok 12\nrefused limit 12\nok 12\nok 17\nok 17\n0000000000010000000000000000010001\n",
         0,
     ),
-    // 4,294,967,312 is 2^32 + 16, and a question of the root has 5 octets
+    // 4,294,967,312 is 2^32 + 16, and a question for the root has 5 octets.
     (
         "Limits that need more than 32 bits",
         "build plain",
@@ -215,7 +217,8 @@ const ROWS: &[Row] = &[
         "ok 12\nok 45\n0000000000000001000000000000060001000000000016000000000001000000020000000300000004ffffffff\n",
         0,
     ),
-    // the data: MNAME, RNAME, and 0x01020304, 0x05060708, 0x80000000, 0xFFFFFFFF and 0x12345678 (RFC 1035 section 3.3.13)
+    // The RDATA: MNAME, RNAME, and 0x01020304, 0x05060708, 0x80000000, 0xFFFFFFFF and 0x12345678
+    // (RFC 1035 section 3.3.13).
     (
         "Data SOA: two names and five numbers that differ",
         "build plain",
@@ -301,7 +304,7 @@ const ROWS: &[Row] = &[
         ROOT_QUESTION,
         0,
     ),
-    // a carriage return is a character of its line, and white space of a question
+    // A carriage return is a character of its line, and white space within a question.
     (
         "A carriage return",
         "build plain",
@@ -350,7 +353,7 @@ fn prints_rows(rt: HostRuntime) -> Result<(), Fail> {
     Ok(())
 }
 
-/// Lines before, what is printed in the end, and lines that are bad behind those.
+/// The lines before, what is printed at the end, and bad lines that follow the former.
 const BAD_LINES: &[(&str, &str, &[&[u8]])] = &[
     (
         "",
@@ -440,7 +443,7 @@ const BAD_LINES: &[(&str, &str, &[&[u8]])] = &[
     ),
 ];
 
-/// Whether a line is bad behind others: this is printed in the end.
+/// Whether a line is bad after other lines: this is printed at the end.
 fn is_bad(alloc: Global, before: &str, line: &[u8], printed: &str) -> Result<bool, Fail> {
     let mut script = Vec::from_slice(alloc, before.as_bytes())?;
     script.extend_from_slice(line)?;
@@ -466,14 +469,15 @@ fn refuses_bad_lines(rt: HostRuntime) -> Result<(), Fail> {
     Ok(())
 }
 
-/// A script for an array, which fills it, or whose options are too long together or alone, and a line that is printed.
+/// A script that fills an array, or whose options are too long together or alone, and a line that
+/// is printed.
 struct Long {
     row: &'static str,
     start: &'static str,
     repeated: &'static str,
     count: usize,
     end: &'static str,
-    /// The line's place from 0.
+    /// The index of the line, counted from 0.
     place: usize,
     line: &'static str,
     status: u8,
@@ -561,7 +565,7 @@ fn script_of(alloc: Global, long: &Long) -> Result<String, Fail> {
     Ok(script)
 }
 
-/// Whether a line is printed at its place, with its status.
+/// Whether the line is printed at its index, with this exit status.
 fn is_printed(alloc: Global, long: &Long) -> Result<bool, Fail> {
     let script = script_of(alloc, long)?;
     let mut output = Vec::new(alloc);

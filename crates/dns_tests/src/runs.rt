@@ -4,7 +4,7 @@ use std::alloc::Global;
 use std::io::{Read, Write};
 use std::test::Fail;
 
-/// Runs the program for words, with spaces between, and gives its status.
+/// Runs the program with arguments that are separated by spaces. Returns its exit status.
 pub(crate) fn run<R: Read + Drop, W: Write + Drop>(
     alloc: Global,
     words: &str,
@@ -18,7 +18,7 @@ pub(crate) fn run<R: Read + Drop, W: Write + Drop>(
     Ok(tool(alloc, &strings, reader, writer))
 }
 
-/// Whether the program prints this, with this status.
+/// Whether the program prints this, with this exit status.
 pub(crate) fn prints<R: Read + Drop>(
     alloc: Global,
     words: &str,

@@ -12,7 +12,7 @@ use dns_message::wire::Parser;
 use std::alloc::Global;
 use std::test::Fail;
 
-/// Whether the name that stands at the start of the octets is this one, up to ASCII case.
+/// Whether the name at the start of the octets equals this one, ignoring ASCII case.
 fn begins_with<N: ToName>(octets: &[u8], name: &N) -> bool
     ensures { (found : Labels) → Stands octets.now 0 found → IsTrue result
         ↔ (lowered found ≡ lowered (N.name name.now)) }
@@ -31,7 +31,7 @@ fn finds_a_name(rt: HostRuntime) -> Result<(), Fail> {
     Ok(())
 }
 
-/// The message that asks for the IPv4 address of a name.
+/// The message that asks for the IPv4 addresses of a name.
 fn address_query<N: ToName + Drop>(alloc: Global, name: N) -> Result<Message<Vec<u8>>, PushError>
     ensures { IfOk result (λ message. HasQuestions (message_octets message)
         (record { name = N.name name; rtype = 1; class = 1 } ∷ [])) }

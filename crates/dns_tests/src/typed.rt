@@ -27,7 +27,7 @@ use dns_message::wire::{FlattenInto, Octets};
 use std::alloc::Global;
 use std::test::Fail;
 
-/// The one answer that a data type takes.
+/// The only answer whose type `D` accepts.
 fn one_answer<'a, Octs: Octets, D: ParseRecordData<'a> + Drop>(
     message: &'a Message<Octs>,
 ) -> Record<ParsedName<'a>, D>
@@ -42,7 +42,7 @@ fn one_answer<'a, Octs: Octets, D: ParseRecordData<'a> + Drop>(
     records.next().unwrap().unwrap()
 }
 
-/// The first answer, where a record that the data type takes was pushed first.
+/// The first answer, if it was pushed first and its type is one that `D` accepts.
 fn first_pushed<'a, Octs: Octets, D: ParseRecordData<'a> + Drop>(
     message: &'a Message<Octs>,
 ) -> Record<ParsedName<'a>, D>
@@ -59,7 +59,7 @@ fn first_pushed<'a, Octs: Octets, D: ParseRecordData<'a> + Drop>(
     first.to_record().unwrap().unwrap()
 }
 
-/// Pushes a record to a builder, and then takes all answers out.
+/// Pushes a record, and then removes all answers.
 fn push_in_vain<T: Composer, R: ComposeRecord + Drop>(
     builder: &mut AnswerBuilder<T>,
     pushed: R,
@@ -73,7 +73,8 @@ fn push_in_vain<T: Composer, R: ComposeRecord + Drop>(
     result
 }
 
-/// Pushes a name server of a zone and the server's address, over a compressor, and reads both back by their types.
+/// Pushes the NS record of a zone and the address of the server, over a compressor, and reads both
+/// back by their types.
 fn told(
     alloc: Global,
     zone: Name<Vec<u8>>,

@@ -1,4 +1,4 @@
-//! Pushes that are made again where memory was refused.
+//! Pushes that are made again if an allocation failed.
 use crate::memory::written::assert_octets;
 use arrayvec::ArrayVec;
 use dns_message::builder::{Builder, BuilderStage, PushError, QuestionBuilder, RecordStage};
@@ -11,14 +11,15 @@ use std::test::Fail;
 /// An array that no message of a test fills.
 pub(crate) type Array = ArrayVec<u8, 128>;
 
-/// What a builder shows: its limit, and its octets, in which the header and the counts stand first.
+/// The visible state of a builder: its limit, and its octets, which begin with the header and the
+/// counts.
 #[derive(Drop)]
 pub(crate) struct Standing {
     limit: Option<usize>,
     octets: Array,
 }
 
-/// What the builder shows now.
+/// The visible state of the builder now.
 pub(crate) fn standing_of<T: Composer, S: BuilderStage>(
     builder: &Builder<T, S>,
 ) -> Result<Standing, Fail> {
@@ -28,7 +29,7 @@ pub(crate) fn standing_of<T: Composer, S: BuilderStage>(
     })
 }
 
-/// The builder shows what it showed before a call that was refused.
+/// Fails unless the builder is in the state from before a call that failed.
 pub(crate) fn assert_unchanged<R: Abort, T: Composer, S: BuilderStage>(
     rt: &R,
     builder: &Builder<T, S>,
@@ -38,7 +39,7 @@ pub(crate) fn assert_unchanged<R: Abort, T: Composer, S: BuilderStage>(
     assert_octets(rt, builder.as_slice(), &before.octets, "refused call");
 }
 
-/// Whether a push was refused for memory, which is printed. It errs where the push was refused for another cause.
+/// Whether a push failed with `OutOfMemory`, which is printed. Any other failure is an error.
 pub(crate) fn is_refused<R: Print>(
     rt: &R,
     answer: Result<(), PushError>,
@@ -56,7 +57,7 @@ pub(crate) fn is_refused<R: Print>(
     }
 }
 
-/// Pushes a question, a second time where the first is refused for memory.
+/// Pushes a question, and does so again if an allocation failed.
 pub(crate) fn push_question<R: Abort + Print, T: Composer, Q: ComposeQuestion>(
     rt: &R,
     builder: &mut QuestionBuilder<T>,
@@ -70,7 +71,7 @@ pub(crate) fn push_question<R: Abort + Print, T: Composer, Q: ComposeQuestion>(
     Ok(())
 }
 
-/// Pushes a record, a second time where the first is refused for memory.
+/// Pushes a record, and does so again if an allocation failed.
 pub(crate) fn push_record<R: Abort + Print, T: Composer, S: RecordStage, D: ComposeRecord>(
     rt: &R,
     builder: &mut Builder<T, S>,

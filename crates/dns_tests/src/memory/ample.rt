@@ -1,4 +1,4 @@
-//! Ample memory: calls that take memory, each with enough of it.
+//! Calls that allocate, each with enough memory.
 use crate::memory::written::assert_octets;
 use dns_message::code::{Class, Rtype};
 use dns_message::data::{
@@ -21,16 +21,16 @@ const QUESTION: &[u8; 17] = b"\x07Example\x03com\x00\x00\x05\x00\x01";
 
 const NAME: &[u8] = b"\x07Example\x03com\x00";
 
-/// The name as data, behind its length.
+/// The name as RDATA, after its length.
 const ALIAS: &[u8] = b"\x00\x0D\x07Example\x03com\x00";
 
 /// An option without data.
 const OPTION: &[u8; 4] = b"\x00\x03\x00\x00";
 
-/// The option as data, behind its length.
+/// The option as RDATA, after its length.
 const OPT: &[u8] = b"\x00\x04\x00\x03\x00\x00";
 
-/// Data is composed as these octets, behind its length.
+/// Fails unless RDATA is composed as these octets, after its length.
 fn assert_data<D: ComposeRecordData>(
     rt: &impl Abort,
     alloc: Global,
@@ -44,7 +44,7 @@ fn assert_data<D: ComposeRecordData>(
     Ok(())
 }
 
-/// A source is converted to data of these octets.
+/// Fails unless the source is converted to RDATA with these octets.
 fn assert_converts<D: OctetsFrom<S> + ComposeRecordData + Drop, S>(
     rt: &impl Abort,
     alloc: Global,
@@ -56,7 +56,7 @@ fn assert_converts<D: OctetsFrom<S> + ComposeRecordData + Drop, S>(
     assert_data(rt, alloc, &data, expected, what)
 }
 
-/// A source is flattened into data of these octets.
+/// Fails unless the source is flattened into RDATA with these octets.
 fn assert_flattens<D: ComposeRecordData + Drop, S: FlattenInto<D>>(
     rt: &impl Abort,
     alloc: Global,
@@ -115,7 +115,7 @@ fn composes_items(rt: HostRuntime) -> Result<(), Fail> {
     Ok(())
 }
 
-/// The canonical form of data has these octets.
+/// Fails unless the canonical form of RDATA has these octets.
 fn assert_canonical<D: ComposeRecordData>(
     rt: &impl Abort,
     alloc: Global,

@@ -1,4 +1,4 @@
-//! Lists of calls, made again where memory was refused.
+//! Lists of calls that are made again if an allocation failed.
 use crate::memory::again::Array;
 use crate::memory::fresh::{Fresh, started};
 use crate::memory::messages::{EXAMPLE_COM, NS_EXAMPLE_COM, response_header};
@@ -15,11 +15,12 @@ use std::alloc::Global;
 use std::process::Abort;
 use std::test::Fail;
 
-/// A call with a question for example.com., or with a record of such data, whose owner has so many octets.
+/// A call with a question for example.com., or with a record whose RDATA is `D` and whose owner has
+/// `N` octets.
 type CallWith<D, const N: usize> = Call<(Name<[u8; 13]>, Rtype), (Name<[u8; N]>, u32, D)>;
 
-/// How many calls of a list were done: all, or all but one that was refused for memory, or none, where the room for the
-/// replies was refused.
+/// The number of calls that were done: all; all but one, for which an allocation failed; or none,
+/// if the replies couldn't be allocated.
 fn count_done<R: Abort + Print>(rt: &R, replies: &[Reply], count: usize) -> Result<usize, Fail> {
     let mut done = 0_usize;
     for reply in replies {
@@ -37,7 +38,8 @@ fn count_done<R: Abort + Print>(rt: &R, replies: &[Reply], count: usize) -> Resu
     Ok(done)
 }
 
-/// Makes calls, and says how many were done. They are given up exactly where there is no reply.
+/// Makes calls. Returns the stage and how many were done. The run fails exactly if there is no
+/// reply.
 fn made<R: Abort + Print, T: Composer, Q: ComposeQuestion, D: ComposeRecord>(
     rt: &R,
     alloc: Global,
@@ -51,7 +53,8 @@ fn made<R: Abort + Print, T: Composer, Q: ComposeQuestion, D: ComposeRecord>(
     Ok((stage, count_done(rt, &replies, calls.len())?))
 }
 
-/// Makes calls, a second time where memory was refused. The stage stood as it stood where none was done.
+/// Makes calls, and does so again if an allocation failed. If none was done, the stage is unchanged
+/// before that.
 fn make<R: Abort + Print, T: Composer, Q: ComposeQuestion, D: ComposeRecord>(
     rt: &R,
     alloc: Global,
@@ -71,7 +74,7 @@ fn make<R: Abort + Print, T: Composer, Q: ComposeQuestion, D: ComposeRecord>(
     Ok(stage)
 }
 
-/// Makes the calls one by one: behind each the message has so many octets.
+/// Makes the calls one by one. The message has these lengths after them.
 fn make_each<R: Abort + Print, T: Composer, Q: ComposeQuestion, D: ComposeRecord>(
     rt: &R,
     alloc: Global,
@@ -86,7 +89,7 @@ fn make_each<R: Abort + Print, T: Composer, Q: ComposeQuestion, D: ComposeRecord
     Ok(stage)
 }
 
-/// The calls that make a positive response, on any stage.
+/// The calls that build a positive response, from any stage.
 fn positive_calls() -> Result<[CallWith<A, 13>; 6], Fail> {
     let name = Name::from_octets(*EXAMPLE_COM)?;
     Ok([
@@ -99,7 +102,7 @@ fn positive_calls() -> Result<[CallWith<A, 13>; 6], Fail> {
     ])
 }
 
-/// A question, and an answer of one address.
+/// Adds a question, and an answer with one address.
 fn add_address<R: Abort + Print, T: Composer>(
     rt: &R,
     alloc: Global,
@@ -111,7 +114,7 @@ fn add_address<R: Abort + Print, T: Composer>(
     make_each(rt, alloc, stage, &calls[2..], lengths)
 }
 
-/// A name server of the root, taken out again.
+/// Adds an NS record of the root, and removes it again.
 fn add_server<R: Abort + Print, T: Composer>(
     rt: &R,
     alloc: Global,
@@ -128,7 +131,7 @@ fn add_server<R: Abort + Print, T: Composer>(
     make_each(rt, alloc, stage, &calls, lengths)
 }
 
-/// A record of no octets, and all taken out again.
+/// Adds a record without RDATA, and removes everything again.
 fn add_text<R: Abort + Print, T: Composer>(
     rt: &R,
     alloc: Global,
@@ -145,7 +148,7 @@ fn add_text<R: Abort + Print, T: Composer>(
     make_each(rt, alloc, stage, &calls, lengths)
 }
 
-/// Positive response, by one list of calls.
+/// Checks a positive response that is built by one list of calls.
 pub(crate) fn assert_list<R: Abort + Print, T: Fresh>(
     rt: &R,
     alloc: Global,
@@ -157,7 +160,8 @@ pub(crate) fn assert_list<R: Abort + Print, T: Fresh>(
     Ok(())
 }
 
-/// All moves: the message has these lengths behind the calls, and in the end the bit TC alone.
+/// Checks all moves: the message has these lengths after the calls, and at the end only the bit TC
+/// is set.
 pub(crate) fn assert_moves<R: Abort + Print, T: Fresh>(
     rt: &R,
     alloc: Global,

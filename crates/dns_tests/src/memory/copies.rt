@@ -1,4 +1,4 @@
-//! Records copied, into another builder where the first is refused for memory.
+//! Records that are copied, into another builder if an allocation failed.
 use crate::memory::fresh::{Fresh, started};
 use crate::memory::written::assert_octets;
 use dns_message::builder::{AdditionalBuilder, CopyRecordsError, PushError, copy_records};
@@ -17,12 +17,12 @@ pub(crate) const SOURCE: &[u8; 100] =
 
 type AnyRecord<'a> = Record<ParsedName<'a>, UnknownRecordData<&'a [u8]>>;
 
-/// The record with its data, of any type.
+/// The record with its RDATA, whatever its type.
 fn keep_any(shown: ParsedRecord<'_>) -> Option<AnyRecord<'_>> {
     shown.into_any_record().ok()
 }
 
-/// The records of a message copied into an empty one.
+/// Copies the records of a message into an empty one.
 fn copy<R: Print, T: Fresh>(
     rt: &R,
     alloc: Global,
@@ -31,7 +31,7 @@ fn copy<R: Print, T: Fresh>(
     Ok(copy_records(source, started(rt, alloc)?.answer(), keep_any))
 }
 
-/// The copy of all records of `SOURCE` has these octets.
+/// Fails unless the copy of all records of `SOURCE` has these octets.
 pub(crate) fn assert_copies<R: Abort + Print, T: Fresh>(
     rt: &R,
     alloc: Global,

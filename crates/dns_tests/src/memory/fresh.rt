@@ -1,4 +1,4 @@
-//! The targets that take memory, each made anew.
+//! New targets of each type that allocates.
 use dns_message::builder::MessageBuilder;
 use dns_message::target::{
     Composer, HashCompressor, IndexCompressor, StaticCompressor, StreamTarget, TreeCompressor,
@@ -7,13 +7,14 @@ use dns_message::wire::AppendError;
 use std::alloc::Global;
 use std::test::Fail;
 
-/// A target that can be made anew.
+/// A target that can be created anew.
 pub(crate) trait Fresh: Composer {
     /// An empty target.
     fn fresh(alloc: Global) -> Result<Self, AppendError>;
 }
 
-/// A vector with room for one octet, which has to grow for more: without room it would pass a first refusal over.
+/// A `Vec` with a capacity of one octet, which has to grow for more. Without a capacity, it would
+/// retry after the first failed allocation.
 fn octets(alloc: Global) -> Result<Vec<u8>, AppendError> {
     Ok(Vec::with_capacity(alloc, 1)?)
 }
@@ -64,7 +65,7 @@ fn start<T: Fresh>(alloc: Global) -> Result<MessageBuilder<T>, AppendError> {
     MessageBuilder::from_target(T::fresh(alloc)?)
 }
 
-/// A builder of an empty message, from a second call where the first is refused for memory.
+/// A builder for an empty message. It is created again if an allocation failed.
 pub(crate) fn started<R: Print, T: Fresh>(
     rt: &R,
     alloc: Global,

@@ -1,4 +1,4 @@
-//! A positive response, a negative one, and a name in data.
+//! A positive response, a negative one, and a name in RDATA.
 use crate::memory::again::{push_question, push_record};
 use crate::memory::fresh::{Fresh, started};
 use crate::memory::written::assert_octets;
@@ -17,7 +17,7 @@ pub(crate) const EXAMPLE_COM: &[u8; 13] = b"\x07example\x03com\x00";
 
 pub(crate) const NS_EXAMPLE_COM: &[u8; 16] = b"\x02ns\x07example\x03com\x00";
 
-/// Rcode 3, and SOA of a.root-servers.net. behind a question for example. NS.
+/// Rcode 3, a question for example. NS, and an SOA record with a.root-servers.net.
 const NEGATIVE_RESPONSE: &[u8] =
     b"\x00\x00\x81\x83\x00\x01\x00\x00\x00\x01\x00\x00\x07example\x00\x00\x02\x00\x01\x00\x00\x06\x00\x01\x00\x01\x51\x76\x00\x40\x01a\x0Croot-servers\x03net\x00\x05nstld\x0Cverisign-grs\x03com\x00\x78\x68\x00\x25\x00\x00\x07\x08\x00\x00\x03\x84\x00\x09\x3A\x80\x00\x01\x51\x80";
 
@@ -34,7 +34,7 @@ pub(crate) fn response_header(rcode: Rcode, is_authentic: bool) -> Header {
     header
 }
 
-/// A builder of answers behind a question, with a header.
+/// A builder at the answer section, with a header and a question.
 fn asked<R: Abort + Print, T: Fresh>(
     rt: &R,
     alloc: Global,
@@ -48,7 +48,7 @@ fn asked<R: Abort + Print, T: Fresh>(
     Ok(builder.answer())
 }
 
-/// The message with a record behind it has these octets.
+/// Fails unless the message with this further record has these octets.
 fn assert_record<R: Abort + Print, T: Composer, S: RecordStage, D: ComposeRecord>(
     rt: &R,
     mut builder: Builder<T, S>,
@@ -61,7 +61,7 @@ fn assert_record<R: Abort + Print, T: Composer, S: RecordStage, D: ComposeRecord
     Ok(())
 }
 
-/// An address of example.com. behind a question for it.
+/// Checks a response with a question for example.com. and an address of it.
 pub(crate) fn assert_positive<R: Abort + Print, T: Fresh>(
     rt: &R,
     alloc: Global,
@@ -74,14 +74,14 @@ pub(crate) fn assert_positive<R: Abort + Print, T: Fresh>(
     assert_record(rt, builder, &record, expected, "Positive response")
 }
 
-/// The data of the authority record of `NEGATIVE_RESPONSE`.
+/// The RDATA of the authority record of `NEGATIVE_RESPONSE`.
 fn soa() -> Result<Soa<Name<&'static [u8]>>, Fail> {
     let mname = Name::from_octets(b"\x01a\x0Croot-servers\x03net\x00".as_slice())?;
     let rname = Name::from_octets(b"\x05nstld\x0Cverisign-grs\x03com\x00".as_slice())?;
     Ok(Soa::new(mname, rname, 2_020_081_701, 1800, 900, 604_800, 86_400))
 }
 
-/// The message is `NEGATIVE_RESPONSE`, whose names share nothing.
+/// Fails unless the message is `NEGATIVE_RESPONSE`, whose names share no suffix.
 pub(crate) fn assert_negative<R: Abort + Print, T: Fresh>(
     rt: &R,
     alloc: Global,
@@ -98,7 +98,7 @@ pub(crate) fn assert_negative<R: Abort + Print, T: Fresh>(
     )
 }
 
-/// A name server of example.com. below it.
+/// Checks a response with an NS record of example.com. whose server is below example.com.
 pub(crate) fn assert_name_in_data<R: Abort + Print, T: Fresh>(
     rt: &R,
     alloc: Global,

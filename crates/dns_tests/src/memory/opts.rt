@@ -1,4 +1,4 @@
-//! OPT records whose closure pushes an option, and whose closure errs.
+//! OPT records whose closure pushes an option, or returns an error.
 use crate::memory::again::{assert_unchanged, is_refused, standing_of};
 use crate::memory::fresh::{Fresh, started};
 use crate::memory::written::assert_octets;
@@ -24,7 +24,7 @@ fn push_option<T: Composer>(
     })
 }
 
-/// OPT with one option: the message is `ONE_OPTION`.
+/// Fails unless the message with this option is `ONE_OPTION`.
 pub(crate) fn assert_option<R: Abort + Print, T: Fresh>(rt: &R, alloc: Global) -> Result<(), Fail> {
     let mut builder: AdditionalBuilder<T> = started(rt, alloc)?.additional();
     let before = standing_of(&builder)?;
@@ -36,7 +36,7 @@ pub(crate) fn assert_option<R: Abort + Print, T: Fresh>(rt: &R, alloc: Global) -
     Ok(())
 }
 
-/// Closure that errs: nothing changes, and its answer is given.
+/// Checks that nothing changes if the closure returns an error, and that this error is returned.
 pub(crate) fn assert_error<R: Abort + Print, T: Fresh>(rt: &R, alloc: Global) -> Result<(), Fail> {
     let mut builder: AdditionalBuilder<T> = started(rt, alloc)?.additional();
     let before = standing_of(&builder)?;

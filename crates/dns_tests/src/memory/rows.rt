@@ -1,4 +1,4 @@
-//! Each growth refused in turn: each message over each target that takes memory.
+//! Each allocation fails in turn: each message over each target that allocates.
 use crate::memory::calls::{assert_list, assert_moves};
 use crate::memory::copies::assert_copies;
 use crate::memory::fresh::Fresh;
@@ -12,7 +12,8 @@ use std::alloc::Global;
 use std::process::Abort;
 use std::test::Fail;
 
-/// All messages that are pushed, copied, and made by lists of calls, their names written so.
+/// Checks all messages that are pushed, copied, and built by lists of calls, with their names
+/// written this way.
 fn assert_messages<R: Abort + Print, T: Fresh>(
     rt: &R,
     alloc: Global,
@@ -64,7 +65,7 @@ fn over_an_index_compressor(rt: HostRuntime) -> Result<(), Fail> {
     assert_messages::<HostRuntime, IndexCompressor<Vec<u8>>>(&rt, rt.alloc(), COMPRESSED)
 }
 
-/// The first octets of a vector without room.
+/// The first octets of a `Vec` without a capacity.
 #[test]
 fn takes_what_it_needs_where_more_is_refused(rt: HostRuntime) -> Result<(), Fail> {
     let mut target = Vec::new(rt.alloc());

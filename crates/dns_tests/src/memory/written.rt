@@ -1,8 +1,9 @@
-//! The octets of messages that have a name more than once, with each name in full and with pointers.
+//! The octets of messages that have a name more than once, with each name uncompressed and with
+//! pointers.
 use crate::memory::copies::SOURCE;
 use std::process::Abort;
 
-/// These octets are written.
+/// Fails unless these octets are written.
 pub(crate) fn assert_octets(rt: &impl Abort, octets: &[u8], expected: &[u8], what: &str) {
     assert_eq!(rt; octets, expected, "{what}");
 }
@@ -16,7 +17,7 @@ pub(crate) struct Written {
     pub(crate) copied: &'static [u8],
 }
 
-/// Each name in full.
+/// Each name is uncompressed.
 pub(crate) const PLAIN: Written = Written {
     positive: b"\x00\x00\x81\xA0\x00\x01\x00\x01\x00\x00\x00\x00\x07example\x03com\x00\x00\x01\x00\x01\x07example\x03com\x00\x00\x01\x00\x01\x00\x00\x0E\x10\x00\x04\xCB\x00\x71\x01",
     name_in_data: b"\x00\x00\x00\x00\x00\x01\x00\x01\x00\x00\x00\x00\x07example\x03com\x00\x00\x02\x00\x01\x07example\x03com\x00\x00\x02\x00\x01\x00\x00\x00\x3C\x00\x10\x02ns\x07example\x03com\x00",
@@ -24,7 +25,7 @@ pub(crate) const PLAIN: Written = Written {
     copied: SOURCE,
 };
 
-/// A suffix that stands before is a pointer.
+/// A suffix that is encoded earlier is a pointer.
 pub(crate) const COMPRESSED: Written = Written {
     positive: b"\x00\x00\x81\xA0\x00\x01\x00\x01\x00\x00\x00\x00\x07example\x03com\x00\x00\x01\x00\x01\xC0\x0C\x00\x01\x00\x01\x00\x00\x0E\x10\x00\x04\xCB\x00\x71\x01",
     name_in_data: b"\x00\x00\x00\x00\x00\x01\x00\x01\x00\x00\x00\x00\x07example\x03com\x00\x00\x02\x00\x01\xC0\x0C\x00\x02\x00\x01\x00\x00\x00\x3C\x00\x05\x02ns\xC0\x0C",

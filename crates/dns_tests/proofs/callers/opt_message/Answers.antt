@@ -9,12 +9,12 @@ use Rattle.dns_build.specs.Standing.{Built, fresh, size_after}
 use Rattle.dns_build.specs.State.{State, InAdditional, move_to, with_record}
 use Rattle.dns_tests.proofs.callers.opt_message.Goals as goal
 
--- what is accepted was gathered without an error
+-- an accepted record was gathered without an error
 without_error : (room : Option ℕ) (grows : Bool) (limit n count : ℕ) (a : Result (Unit {0}) AppendError) (v : Unit {0}) → OptAnswers room grows limit n count a (Ok v) → a ≡ Ok tt
 without_error room grows limit n count (Ok u) v h = refl
 without_error room grows limit n count (Err e) v h = absurd (cc)
 
--- so of a record that is pushed
+-- and so was a record that is pushed
 was_done : (room : Option ℕ) (grows : Bool) (rule : Rule) (call : OptBuilder → Result (Unit {0}) AppendError → OptBuilder → Type 0) (s : State) (new : Built) (v : Unit {0})
     (p : PushesOpt room grows rule call s new (Ok v)) → p.answer ≡ Ok tt
 was_done room grows rule call s new v p = without_error room grows s.limit (size_after rule (with_record InAdditional (opt_record p.g)) s) (length s.additionals) p.answer v p.answers
