@@ -1,4 +1,4 @@
-// Each call of dns.h once, from C++: a query, a response to it, the same response by one call, and a walk over it.
+// Each call of dns.h once, from C++: a query, a response to it, the same response by dns_build, and its items.
 #include "dns.h"
 
 #undef NDEBUG

@@ -1,14 +1,14 @@
 #!/usr/bin/env bash
 # Compares crates/dns_c/dns.h with the crate: each call and each struct by its C types and the names of its parameters and
-# fields, the numbers of what is wrong, and, where the crate is built and there is `nm`, the calls of the archive by name.
-# It prints what differs, and fails then. It needs no C compiler.
+# fields, the numbers of the errors, and, if the crate is built and `nm` is installed, the names of the calls in the archive.
+# Prints the differences, and fails if there are any. Needs no C compiler.
 set -eu
 here=$(cd "$(dirname "$0")" && pwd)
 crate=$here/../../crates/dns_c
 folder=$(mktemp -d)
 trap 'rm -rf "$folder"' EXIT
 
-# parameters and fields of Rust as C declares them; a slice is a pointer and a length
+# converts parameters and fields of Rust to declarations in C; a slice becomes a pointer and a length
 rust_as_c() {
   sed -E "s/\balloc: Global,//; s/'a //g
     s/([a-z_]+): &\[u8\]/const uint8_t *\1, size_t \1_len/g; s/([a-z_]+): &mut \[u8\]/uint8_t *\1, size_t \1_len/g
@@ -20,7 +20,7 @@ rust_as_c() {
     s/\b[rq]type\b/type/g; s/\bq?class\b/class_/g; s/\brdata/data/g"
 }
 
-# one space between words, none at the ends; texts are octets
+# one space between words, none at the ends; char becomes uint8_t
 plain() {
   sed -E 's/\bchar\b/uint8_t/g; s/\s+/ /g; s/,? ?\)/)/; s/\( /(/; s/^ //; s/,? ?$//'
 }
@@ -30,7 +30,7 @@ tr '\n' ' ' <"$crate/src/lib.rt" | grep -oE 'extern "C" fn [a-z_]+\([^)]*\) -> u
 tr '\n' ' ' <"$crate/dns.h" | grep -oE 'uint8_t dns_[a-z_]+\([^)]*\)' | plain | sort >"$folder/prototypes"
 diff "$folder/exports" "$folder/prototypes"
 
-# the fields of a struct, of Rust and of C
+# the fields of a struct, in Rust and in C
 rust_fields() {
   sed -n "/^pub struct $2\b/,/^}/p" "$crate/src/$1" | grep -oE 'pub [a-z_]+: .*,' | sed 's/^pub //; s/,$//' | rust_as_c |
     sed 's/, /\n/' | plain
@@ -49,7 +49,7 @@ compare_struct walk.rt Cursor dns_cursor
 compare_struct walk.rt Item dns_item
 compare_struct build.rt NewItem dns_new_item
 
-# the numbers of number_of and code_of, and those of the first enum
+# the numbers in number_of and code_of, and those in the first enum
 {
   echo 'DNS_OK 0'
   echo 'DNS_END 1'

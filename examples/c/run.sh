@@ -1,8 +1,8 @@
 #!/usr/bin/env bash
-# Builds crates/dns_c, which proves it (library), compares dns.h with its exports (header.sh), and compiles
-# and runs the examples in C, C++ and Rust: those in C and C++ by gcc and by clang, each where it is there, with the
-# address and undefined behaviour sanitizers where the compiler has them. Debian has them as gcc, g++ and clang.
-# It prints 'test c::NAME ... ok' or 'test c::NAME ... FAILED' for each of these, and fails where one did.
+# Proves and builds crates/dns_c (library), compares dns.h with its exports (header.sh), and compiles and runs the examples
+# in C, C++ and Rust. Those in C and C++ are compiled by gcc and by clang, as far as these are installed, with the address and
+# undefined behaviour sanitizers if the compiler has them. The packages of Debian are gcc, g++ and clang.
+# Prints 'test c::NAME ... ok' or 'test c::NAME ... FAILED' for each step, and fails if one does.
 set -u
 here=$(cd "$(dirname "$0")" && pwd)
 crate=$here/../../crates/dns_c
@@ -11,7 +11,7 @@ build=$(mktemp -d)
 trap 'rm -rf "$build"' EXIT
 failed=0
 
-# Runs a command, and tells what came of it; what it says is shown where it failed.
+# Runs a command, and prints whether it succeeded, and its output if it did not.
 outcome() {
   local name=$1
   shift
@@ -56,7 +56,7 @@ additional . 0 CLASS1232 OPT \# 0
 
 EXPECTED
 
-# The messages that the examples make, in hexadecimal digits.
+# The messages that the examples write, in hexadecimal.
 messages() {
   "$build/ask" && "$build/build"
 }

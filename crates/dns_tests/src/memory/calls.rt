@@ -53,8 +53,8 @@ fn made<R: Abort + Print, T: Composer, Q: ComposeQuestion, D: ComposeRecord>(
     Ok((stage, count_done(rt, &replies, calls.len())?))
 }
 
-/// Makes calls, and does so again if an allocation failed. If none was done, the stage is unchanged
-/// before that.
+/// Makes calls, and does so again if an allocation failed. If none was done, the stage has to be
+/// unchanged.
 fn make<R: Abort + Print, T: Composer, Q: ComposeQuestion, D: ComposeRecord>(
     rt: &R,
     alloc: Global,
