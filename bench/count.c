@@ -1,5 +1,6 @@
-/* Counts the calls of the C library's allocator, and the octets of heap that are held: linked in
- * front of it, for glibc. A block holds what can be put into it, which may be more than was asked for.
+/* Counts the calls of the C library's allocator, and the octets of heap memory in use. It is linked in
+ * front of the allocator, for glibc. A block counts with its usable size, which may exceed the
+ * requested size.
  */
 
 #include <errno.h>
@@ -7,10 +8,10 @@
 #include <stddef.h>
 #include <stdint.h>
 
-/* The calls that were counted, and how many calls to come are left out. */
+/* The number of calls that were counted, and the number of next calls not to count. */
 uint64_t allocations, left_out;
 
-/* The octets held now, held before the first counted call, and held at most since then. */
+/* The octets in use now, those in use before the first counted call, and the maximum since then. */
 static int64_t held, held_before, most_held;
 
 void *__libc_malloc(size_t size);
@@ -25,7 +26,7 @@ void start_counting(void)
     held_before = most_held = held;
 }
 
-/* The most octets that counted calls held at once, beyond those held before them. */
+/* The maximum of the octets in use since the first counted call, beyond those in use before it. */
 uint64_t most_octets(void)
 {
     return (uint64_t)(most_held - held_before);
@@ -36,7 +37,7 @@ static int64_t octets_of(void *block)
     return (int64_t)malloc_usable_size(block);
 }
 
-/* Counts a call that gave a block in place of so many octets. */
+/* Counts a call that returned a block in place of `before` octets. */
 static void *counted(void *block, int64_t before)
 {
     int64_t more = octets_of(block) - before;

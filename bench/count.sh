@@ -1,10 +1,10 @@
 #!/usr/bin/env bash
-# Counts, by valgrind, the instructions that each row of the bench takes for a message: with the same compiler, C library and
-# valgrind they are the same each time, whatever else the machine does. It builds crates/dns_bench as run.sh does.
+# Counts with valgrind the instructions that each row of the bench takes for a message. With the same compiler, C library and
+# valgrind, the counts are the same each time, whatever else the machine does. Builds crates/dns_bench as run.sh does.
 #
 #     bench/count.sh              prints them
 #     bench/count.sh --write      writes them to bench/instructions
-#     bench/count.sh --check      compares them with bench/instructions, and fails where a row takes over 2 % more
+#     bench/count.sh --check      compares them with bench/instructions, and fails if a row takes over 2 % more
 set -euo pipefail
 here=$(cd "$(dirname "$0")" && pwd)
 crate=$here/../crates/dns_bench
@@ -39,7 +39,8 @@ instructions() {
   echo "$counted"
 }
 
-# Prints a row: the instructions for more messages less those for fewer, so that the start is left out. N is replaced by how many.
+# Prints a row: the difference of the instructions for more and for fewer messages, which excludes the start. N in the arguments
+# is replaced by the number of messages.
 row() {
   local program=$1 way=$2 work=$3 few=$4 more=$5 less all
   shift 5
@@ -102,7 +103,7 @@ index, fresh:w4:64:128
 ROWS
 }
 
-# Compares what was counted with what is kept: the same rows, of which none takes over 2 % more.
+# Compares the counts with bench/instructions. The rows have to be the same, and none may take over 2 % more.
 check() {
   awk -F '  +' '
     { row = $1 ", " $2 ", " $3; number = $4 + 0 }

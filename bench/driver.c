@@ -3,8 +3,8 @@
  *   names                    prints a row for each compressor and workload
  *   names ROW WORKLOAD N     writes N messages of one row, for an instruction counter
  *
- * Built with COUNT_ALLOCATIONS defined, and with count.c, the rows have
- * allocations in place of times.
+ * If it is built with COUNT_ALLOCATIONS defined, and with count.c, the rows
+ * have allocations instead of times.
  */
 
 #include <inttypes.h>
@@ -14,8 +14,8 @@
 #include <string.h>
 #include <time.h>
 
-/* The names of a message, which stand one behind the other, and how many such
- * messages are written. */
+/* The names of a message, consecutive and in wire format, and how often the
+ * message is written. */
 struct work {
     const uint8_t *names;
     size_t names_len;
@@ -23,7 +23,7 @@ struct work {
 };
 
 /* Writes the names as one message, `rounds` times. Copies the last message to
- * `out`, and answers its length, or 0 where it failed. */
+ * `out`, and returns its length, or 0 on failure. */
 typedef size_t compressor(const struct work *work, uint8_t *out, size_t out_len);
 
 compressor dns_bench_static, dns_bench_tree, dns_bench_hash, dns_bench_index;
@@ -57,8 +57,8 @@ struct workload {
     const char *name;
     uint8_t octets[MOST];
     size_t len;
-    /* The length of the message where all names are compressed, and where the
-     * static compressor's places are full. */
+    /* The length of the message if all names are compressed, and if the table
+     * of the static compressor fills up. */
     size_t compressed, compressed_static;
     size_t rounds;
 };
@@ -72,8 +72,8 @@ static void fail(const char *row, const char *workload, const char *what)
     exit(1);
 }
 
-/* Appends a name, given as its labels joined by dots, and gives the octets
- * that it took. */
+/* Appends a name, given as its labels joined by dots. Returns the octets that
+ * it takes. */
 static size_t add_name(struct workload *work, const char *text)
 {
     size_t before = work->len;
@@ -89,8 +89,8 @@ static size_t add_name(struct workload *work, const char *text)
 }
 
 /* The question's name and 500 owners under it. Each owner takes its first
- * label and a pointer. The static compressor has no place left for the owners
- * behind the first ones, and still knows their parent. */
+ * label and a pointer. The table of the static compressor is full after the
+ * first owners, and it writes the others uncompressed. */
 static void fill_zone(struct workload *work)
 {
     static const char parent[] = "sub.example.com";
@@ -135,7 +135,7 @@ static double allocations_of(const struct row *row, const struct workload *work,
     return (double)(allocations - before);
 }
 
-/* The calls for one more message, once those before it have warmed up. */
+/* The allocator calls for one message after a warm-up. */
 static void report(const struct row *row, const struct workload *work)
 {
     double few = allocations_of(row, work, 8), more = allocations_of(row, work, 72);
@@ -144,7 +144,7 @@ static void report(const struct row *row, const struct workload *work)
 
 #else
 
-/* The processor's time in nanoseconds, so that other work on the machine counts less. */
+/* The processor time in nanoseconds, which other work on the machine affects less. */
 static double now(void)
 {
     struct timespec t;

@@ -1,8 +1,8 @@
 #!/usr/bin/env python3
-"""Prints the messages of the bench, one a line: its workload, the sum of its walk (peer.h), its octets.
+"""Prints the messages of the bench, one a line: its workload, its sum (peer.h), its octets.
 
-The sum is `-` where the message has to be refused, or `?` where libraries may differ. What is printed is
-always the same.
+The sum is `-` if the message has to be refused, or `?` if libraries may differ. The output is always the
+same.
 """
 
 import struct
@@ -20,7 +20,7 @@ def name_sum(text):
 
 
 class Message:
-    """Octets, their sum, and a compressor that knows every suffix."""
+    """Octets, their sum, and a compression table of all suffixes within pointer range."""
 
     def __init__(self, ident, flags, counts):
         self.octets = bytearray(struct.pack(">6H", ident, flags, *counts))
@@ -89,7 +89,7 @@ def larger():
 
 
 def zone(count):
-    """So many records, each of another owner."""
+    """A message with `count` records, each with its own owner."""
     msg = Message(0x1234, 0x8400, (1, count, 0, 0))
     msg.question("sub.example.com", 252)
     for i in range(count):
@@ -98,7 +98,7 @@ def zone(count):
 
 
 def addresses(count):
-    """So many records of one owner."""
+    """A message with `count` records of one owner."""
     msg = Message(0xADD, 0x8180, (1, count, 0, 0))
     msg.question("example.com", 1)
     for i in range(count):
@@ -107,11 +107,11 @@ def addresses(count):
 
 
 def chain(broken, count=32, tops=1):
-    """Owners of 127 labels, each but the last two behind a pointer.
+    """Owners of 127 labels. Each label but the last two is followed by a pointer.
 
-    126 pointers a name, which most libraries take. The chain
-    stands in the data of a record of a type that nobody knows.
-    With two tops every other owner begins at the second label.
+    An owner has 126 pointers, which most libraries accept. The chain
+    of labels is in the RDATA of a record of an unknown type.
+    With two tops, every other owner begins at the second label.
     """
     msg = Message(0xBAD, 0x8180, (1, 1 + count, 0, 1 if broken else 0))
     msg.question("example.com", 1)
@@ -135,7 +135,7 @@ def chain(broken, count=32, tops=1):
 
 
 def garbage(count):
-    """Random octets behind a header of small counts."""
+    """Random octets after a header with small counts."""
     seed = 20261122
 
     def octet():
@@ -147,7 +147,7 @@ def garbage(count):
         head = struct.pack(">6H", i, 0x8180, 1, i % 4, 0, 0)
         tail = bytes(octet() for _ in range(60 + octet()))
         if i % 4:
-            # Three of four start as messages do, with i % 4 records.
+            # Three of four have a well-formed question and up to three well-formed records before the random octets.
             head += name("example.com") + struct.pack(">HH", 1, 1)
             for _ in range(1 + octet() % 3):
                 data = bytes(octet() for _ in range(octet() % 64))

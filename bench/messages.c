@@ -1,11 +1,12 @@
-/* Times a library on the messages of inputs.py, by the calls of peer.h: README.md says what is done.
+/* Times a library on the messages of inputs.py, with the calls of peer.h. README.md says what is
+ * measured.
  *
  *   messages PEER INPUTS WORKLOAD..          prints a row for each of the workloads and ways of building
  *   messages PEER INPUTS -n N WORKLOAD WAY   does one of them N times, for an instruction counter
  *
- * A line of INPUTS is a workload, its sum (`-` where the message has to be refused, `?` where it may
- * be), and its octets in hexadecimal. Built with COUNT_ALLOCATIONS defined, and with count.c, the rows
- * have allocations and octets of memory in place of times.
+ * A line of INPUTS has a workload, its sum (`-` if the message has to be refused, `?` if it may be),
+ * and its octets in hexadecimal. If it is built with COUNT_ALLOCATIONS defined, and with count.c, the
+ * rows have allocations and octets of memory instead of times.
  */
 
 #include "peer.h"
@@ -25,7 +26,7 @@ void start_counting(void);
 uint64_t most_octets(void);
 #endif
 
-/* BATCH is that of ours.c: times are of a multiple of it. */
+/* BATCH is that of ours.c. Multiples of it are timed. */
 enum { RUNS = 15, MOST = 128, ROOM = 65535, BATCH = 64, DIGITS = 1 << 19, OWNERS = 500 };
 
 struct input {
@@ -37,7 +38,7 @@ struct input {
 
 enum kind { WALK, RESPONSE, ZONE };
 
-/* Some inputs to walk over, or one message that is written. */
+/* Inputs to read, or one message to write. */
 struct task {
     enum kind kind;
     const struct input *first;
@@ -56,7 +57,7 @@ static void fail(const char *what)
     exit(1);
 }
 
-/* The number of a digit that inputs.py prints. */
+/* The value of a hexadecimal digit of inputs.py. */
 static int digit(char c)
 {
     return c <= '9' ? c - '0' : c - 'a' + 10;
@@ -81,7 +82,7 @@ static void load(const char *path)
     fclose(file);
 }
 
-/* w3 is the response, w4 the zone, and z with a number a zone of so many owners. */
+/* w3 is the response, w4 the zone, and z with a number a zone with that number of owners. */
 static enum kind kind_of(const char *workload)
 {
     if (!strcmp(workload, "w3"))
@@ -112,7 +113,7 @@ static int64_t write_message(const struct task *task)
     return peer_zone(task->variant, task->owners, out, sizeof out);
 }
 
-/* Does the task so many times. */
+/* Does the task `times` times. */
 static void run(const struct task *task, uint64_t times)
 {
     for (uint64_t n = 0; n < times; n++)
@@ -130,7 +131,7 @@ static void print_row(const char *peer, const char *way, const struct task *task
 
 #ifdef COUNT_ALLOCATIONS
 
-/* The calls for one more message, once those before it have warmed up, and the memory it takes. */
+/* The allocator calls for one message after a warm-up, and the memory that it takes. */
 static void report(const char *peer, const char *way, const struct task *task)
 {
     run(task, BATCH);
@@ -144,7 +145,7 @@ static void report(const char *peer, const char *way, const struct task *task)
 
 #else
 
-/* What differs from what was asked for in a message that was written, or nothing. */
+/* How a written message differs from the expected one. Empty if it doesn't. */
 static const char *difference_written(const struct task *task)
 {
     static char text[32];
@@ -156,7 +157,7 @@ static const char *difference_written(const struct task *task)
     return (size_t)len == asked->len ? "" : text;
 }
 
-/* What differs in walks: their sum, or whether messages are refused. */
+/* How reading differs from what is expected: in its sum, or in which messages are accepted. */
 static const char *difference_walked(const struct task *task)
 {
     static char text[32];
@@ -172,7 +173,7 @@ static const char *difference_walked(const struct task *task)
     return peer_walk(asked->octets, asked->len) == strtoll(asked->sum, NULL, 10) ? "" : "FAILED";
 }
 
-/* The processor's time in nanoseconds, so that other work on the machine counts less. */
+/* The processor time in nanoseconds, which other work on the machine affects less. */
 static double now(void)
 {
     struct timespec t;
@@ -186,7 +187,7 @@ static int by_value(const void *left, const void *right)
     return (a > b) - (a < b);
 }
 
-/* As many times as take some 30 ms. */
+/* How many times the task has to be done to take some 30 ms. */
 static uint64_t times_for(const struct task *task)
 {
     for (uint64_t times = BATCH;; times *= 2) {
@@ -221,7 +222,7 @@ static const char *way_of(int32_t variant)
     return variant ? NULL : "build";
 }
 
-/* The row of a walk, or those of all ways to write a message: some have no room for it. */
+/* Prints the row of reading, or those of all ways of building whose capacity the message doesn't exceed. */
 static void report_all(const char *peer, const char *workload)
 {
     struct task task = task_of(workload, 0);
@@ -235,7 +236,7 @@ static void report_all(const char *peer, const char *workload)
     fflush(stdout);
 }
 
-/* The number of a way of building; that of a walk is 0. */
+/* The number of a way of building. That of reading is 0. */
 static int32_t variant_of(const char *way)
 {
     int32_t variant = 0;

@@ -1,9 +1,8 @@
-/* This library as a peer: the calls of peer.h by the exports of crates/dns_bench.
+/* This library as a peer: the calls of peer.h, made with the exports of crates/dns_bench.
  *
- * An export keeps nothing for the next call, so it reads the names and makes its target for a batch
- * of messages: of so many calls for one message the first writes them all, the others answer its
- * length, and the mean is the time of one message. The driver's numbers of calls are multiples of
- * a batch.
+ * An export keeps nothing between two calls. So it parses the names and creates its target once for
+ * a batch of messages: of BATCH calls for one message, the first writes all messages, and the others
+ * return the length. The mean is the time of one message. The driver makes multiples of BATCH calls.
  */
 
 #include "peer.h"
@@ -24,7 +23,7 @@ writer dns_bench_response, dns_bench_zone;
 
 enum { BATCH = 64, VARIANTS = 14, OWNERS = 500 };
 
-/* The message that is written, how often it was asked for, and its length. */
+/* The message that is written, how often it was requested, and its length. */
 struct written {
     int32_t variant, owners;
     size_t calls, len;
@@ -33,7 +32,7 @@ struct written {
 static const uint8_t apex[] = "\7example\3com";
 static const uint8_t parent[] = "\3sub\7example\3com";
 
-/* The parent, and the owners under it; and the octets of the names up to each owner. */
+/* The parent and the owners under it, and the length of the names up to each owner. */
 static uint8_t names[1 << 14];
 static size_t names_len[OWNERS + 1];
 
@@ -70,7 +69,7 @@ int64_t peer_walk(const uint8_t *message, size_t len)
 
 extern uint64_t left_out;
 
-/* Leaves out of what is counted the calls by which the next batch reads its names. */
+/* Excludes from the count the allocator calls with which the next batch parses its names. */
 static void leave_out_names(writer *write, struct work work, int32_t variant, uint8_t *out,
                             size_t room)
 {

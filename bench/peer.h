@@ -1,14 +1,15 @@
-/* What the bench asks of a library: three calls of C, each made by one thread, one after the other.
+/* What the bench needs of a library: three C calls, made one after the other by one thread.
  *
- * A C file or a static archive with these is a peer: README.md says how it is put beside this library.
+ * A C file or a static archive with these calls is a peer. README.md says how to measure it beside this
+ * library.
  *
- * The sum of a walk, all numbers taken as they are:
+ * peer_walk returns the sum of these numbers:
  *   ID, flags (octets 2 and 3) and the four counts;
- *   for each question the labels and the octets of its name, its type and its class;
- *   for each record the labels and the octets of its owner, its type, class and TTL, and its data.
- * Labels are those without the root, octets those of the name without pointers. Data is, for A, the
- * address as a number of 32 bits; for NS and CNAME the labels and the octets of their name; for
- * other types the number of octets.
+ *   for each question the labels and octets of its name, its type and its class;
+ *   for each record the labels and octets of its owner, its type, class and TTL, and its data.
+ * Labels is the number of labels without the root, and octets the length of the uncompressed name. Data
+ * is the address as a 32-bit number for A, the labels and octets of the name for NS and CNAME, and
+ * RDLENGTH for other types.
  */
 
 #ifndef PEER_H
@@ -17,21 +18,21 @@
 #include <stddef.h>
 #include <stdint.h>
 
-/* Walks over a message, and answers the sum, or a negative number where it is refused. */
+/* Reads a message. Returns the sum, or a negative number if the message is refused. */
 int64_t peer_walk(const uint8_t *message, size_t len);
 
-/* Writes the response w3, or the zone w4 with so many owners of its 500, anew, and answers its
- * length, or a negative number. Names and data may be made beforehand. `variant` is one of the ways
- * of building (compressors, say): there are as many as peer_variant names, or one where that is left
- * out. */
+/* Write the response w3, or the zone w4 with the first `owners` of its 500 owners, from scratch. Return
+ * the length, or a negative number on failure. Names and data may be prepared beforehand. `variant` is
+ * the number of a way of building, such as a compressor. peer_variant names all of them; if it is left
+ * out, there is one. */
 int64_t peer_response(int32_t variant, uint8_t *out, size_t room);
 int64_t peer_zone(int32_t variant, int32_t owners, uint8_t *out, size_t room);
 
-/* The name of a way of building, and null behind the last. May be left out. */
+/* The name of a way of building, or null after the last one. Optional. */
 const char *peer_variant(int32_t variant);
 
-/* The octets of memory that the last message used, and that are kept for the next one: a pool, or a
- * buffer. May be left out. */
+/* The octets of memory that the last message used and that are kept for the next one, such as a pool or
+ * a buffer. Optional. */
 size_t peer_kept(void);
 
 #endif

@@ -1,8 +1,8 @@
 #!/usr/bin/env bash
-# Builds crates/dns_bench over what `./test` has left proved, and prints times and allocations: of whole messages that
-# are walked over and built, of names that are written by the four compressors, and of a walk over two messages.
-# Whole messages are timed by four programs, whose code lies 16 octets apart (shift.c): the least is the one to go by.
-# ROUNDS is how often, once where it isn't set. Instructions are counted by count.sh.
+# Builds crates/dns_bench over what `./test` has left proved. Prints times and allocations of reading and building whole
+# messages, of writing names with the four compressors, and of reading two messages. Whole messages are timed by four
+# programs, whose code is shifted by 16 octets each (shift.c); the least time is the one that counts.
+# ROUNDS is the number of rounds, 1 by default. count.sh counts instructions.
 set -eu
 here=$(cd "$(dirname "$0")" && pwd)
 crate=$here/../crates/dns_bench

@@ -1,5 +1,5 @@
-/* Octets before the library's code, so that it lies SHIFT octets further: on some processors a loop takes up
- * to a third more time where its jumps cross 32 octets or end at them, and where they lie is chance.
+/* SHIFT octets before the library's code, which shift its addresses. On some processors, a loop takes up to a
+ * third more time if its jumps cross a boundary of 32 octets or end at one, and that is a matter of chance.
  */
 
 #define TEXT(number) #number

@@ -1,7 +1,7 @@
-/* Times the walk of crates/dns_bench over two messages. README.md says what is read.
+/* Times dns_bench_walk of crates/dns_bench on two messages. README.md says what is read.
  *
  *   walk              prints a row for each message
- *   walk MESSAGE N    walks over one message N times, for an instruction counter
+ *   walk MESSAGE N    reads one message N times, for an instruction counter
  */
 
 #include <inttypes.h>
@@ -11,14 +11,14 @@
 #include <string.h>
 #include <time.h>
 
-/* The sum of all that is read of a message, and UINT64_MAX where it is refused. */
+/* The sum of all fields of a message, or UINT64_MAX if it can't be read. */
 uint64_t dns_bench_walk(const uint8_t *octets, size_t octets_len);
 
 enum { RUNS = 15, MESSAGES = 2, MOST = 1 << 10 };
 
 struct message {
     const char *name;
-    /* What the walk answers. */
+    /* The expected sum. */
     uint64_t sum;
     size_t rounds;
     const char *digits;
@@ -45,7 +45,7 @@ static const struct message messages[MESSAGES] = {
 
 static uint8_t octets[MOST];
 
-/* Writes the octets of a message, and answers how many they are. */
+/* Writes the octets of a message, and returns their count. */
 static size_t fill(const struct message *message)
 {
     size_t len = strlen(message->digits) / 2;
@@ -64,7 +64,7 @@ static void walk(const struct message *message, size_t rounds)
         }
 }
 
-/* The processor's time in nanoseconds, so that other work on the machine counts less. */
+/* The processor time in nanoseconds, which other work on the machine affects less. */
 static double now(void)
 {
     struct timespec t;

@@ -1,4 +1,4 @@
-/* Refuses the call of malloc or realloc whose number is in REFUSE, and says so: preloaded, for glibc. */
+/* Lets the call of malloc or realloc fail whose number is in REFUSE, and reports it. Preloaded, for glibc. */
 
 #include <stddef.h>
 #include <stdlib.h>

@@ -1,8 +1,7 @@
-/* libknot as a peer: by its packets where PACKET is 1, and where it is 0 by its calls for names,
- * numbers and records.
+/* libknot as a peer: with its packets if PACKET is 1, and with its calls for names, numbers and
+ * records if it is 0.
  *
- * A packet takes its memory from a pool that only counts up, in place of the pools of libknot's own
- * server.
+ * A packet allocates from a pool that only counts up, instead of the pools of libknot's own server.
  */
 
 #include "../peer.h"
@@ -40,7 +39,7 @@ size_t peer_kept(void)
     return pool_used;
 }
 
-/* The numbers of the header. */
+/* The sum of the numbers of the header. */
 static int64_t header_sum(const uint8_t *message)
 {
     int64_t sum = 0;
@@ -49,7 +48,7 @@ static int64_t header_sum(const uint8_t *message)
     return sum;
 }
 
-/* A message, the place of what is read next, and the sum of what was read. */
+/* A message, the offset of what is read next, and the sum of what was read. */
 struct reader {
     const uint8_t *message;
     size_t len, place;
@@ -178,14 +177,14 @@ int64_t peer_walk(const uint8_t *message, size_t len)
     return PACKET ? walk_packet(message, len) : walk(message, len);
 }
 
-/* What a message is made of: the numbers of its header, its question, and its answers. */
+/* The content of a message: the numbers of its header, its question and its answers. */
 struct content {
     uint16_t id;
     uint8_t flags1, flags2;
     knot_dname_t *asked;
     uint16_t type, count;
     const knot_rrset_t *answers;
-    /* Where an owner stands already, if that is known. */
+    /* libknot's hint for where owners are encoded already, if that is known. */
     uint16_t hint;
 };
 
@@ -238,7 +237,7 @@ static void write_header(uint8_t *out, const struct content *content)
     knot_wire_set_flags2(out, content->flags2);
 }
 
-/* The octets of the header and the question, or 0. */
+/* Writes the question. Returns the length of the header and the question, or 0 on failure. */
 static size_t write_question(uint8_t *out, size_t room, const struct content *content)
 {
     uint8_t *name = out + KNOT_WIRE_HEADER_SIZE;
@@ -274,7 +273,7 @@ static int64_t write_content(const struct content *content, uint8_t *out, size_t
     return (int64_t)len;
 }
 
-/* A packet that writes to `out`. */
+/* Writes the message with a packet over `out`. */
 static int64_t write_packet(const struct content *content, uint8_t *out, size_t room)
 {
     pool_used = 0;

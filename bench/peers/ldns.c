@@ -1,7 +1,7 @@
-/* ldns as a peer: by its packets where PACKET is 1, and where it is 0 by its calls for records, which
- * only read.
+/* ldns as a peer: with its packets if PACKET is 1, and with its calls for records, which only read, if
+ * it is 0.
  *
- * Packets are written to one buffer, and copied.
+ * Packets are written to one buffer, and copied from there.
  */
 
 #include "../peer.h"
@@ -13,7 +13,7 @@
 
 enum { OWNERS = 500, TTL = 3600 };
 
-/* What packets are written to, and its octets where the last message was written. */
+/* The buffer that packets are written to, and its capacity if the last message was written. */
 static ldns_buffer *buffer;
 static size_t buffer_used;
 
@@ -46,7 +46,7 @@ static int64_t data_sum(const ldns_rr *record)
     }
 }
 
-/* The sum of a question or of a record, which are of one type. */
+/* The sum of a question or of a record, which have one type in ldns. */
 static int64_t item_sum(const ldns_rr *item, bool is_question)
 {
     int64_t sum = name_sum(ldns_rr_owner(item)) + ldns_rr_get_type(item) + ldns_rr_get_class(item);
