@@ -9,7 +9,7 @@ use Rattle.dns_item.specs.Items.{RecordItem, put_record}
 use Rattle.dns_build.specs.State.{InAnswer, InQuestion, State, Every, all_of, pieces_of, head_of, fold, tc_rewound, with_tc, move_to, up_to}
 use Rattle.dns_answer.specs.Answering.{size, with_answers}
 
--- further pieces don't shorten the octets
+-- further encodings don't shorten the octets
 longer : (ps qs : List Piece) (m : Memory) (w : ℕ) → length (all_of ps m w).octets ≤ length (all_of (ps ++ qs) m w).octets
 longer [] qs m w = omega arith
 longer (p ∷ ps) qs m w =
@@ -20,11 +20,11 @@ longer (p ∷ ps) qs m w =
 head_size : (s : State) → length (header_octets s.header) ≡ 4 → length (head_of s).octets ≡ 12
 head_size s four = length-append _ _ ∙ ap (λ n. n + 8) four
 
--- the size of a message with these pieces after the header section
+-- the size of a message with these encodings after the header section
 abbrev behind : List Piece → ℕ
 behind ps = 12 + length (all_of ps nothing 12).octets
 
--- the size of a message is that of the header section and of the pieces after it
+-- the size of a message is that of the header section and of the encodings after it
 pub sized : (s : State) → length (header_octets s.header) ≡ 4 → size s ≡ 12 + length (all_of (pieces_of Plain s) nothing 12).octets
 unfolding fold
 sized s four = length-append _ _ ∙ (λ i. head_size s four i + length (all_of (pieces_of Plain s) nothing (head_size s four i)).octets)
@@ -70,7 +70,7 @@ longer_answers s xs ys four =
     ∙ ap behind (sym (append_assoc asked (map put (s.answers ++ xs)) (map put ys))) in
     omega (arith, a, b, l)
 
--- a piece has at least one octet, for any compression table and at any offset
+-- an encoding has at least one octet, for any compression table and at any offset
 abbrev HasOctets : Piece → Type 0
 HasOctets p = (m : Memory) (w : ℕ) → 1 ≤ length (p m w).octets
 
@@ -94,7 +94,7 @@ every_both : (ps qs : List Piece) → Every HasOctets ps → Every HasOctets qs 
 every_both [] qs all others = others
 every_both (p ∷ ps) qs all others = (all.0, every_both ps qs all.1 others)
 
--- so there are at least as many octets as pieces
+-- so there are at least as many octets as encodings
 pieces_within : (ps : List Piece) (m : Memory) (w : ℕ) → Every HasOctets ps → length ps ≤ length (all_of ps m w).octets
 pieces_within [] m w all = omega arith
 pieces_within (p ∷ ps) m w all =

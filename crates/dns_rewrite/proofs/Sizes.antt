@@ -12,7 +12,7 @@ use Rattle.dns_question.specs.Questions.{QuestionItem, put_question, question_fi
 use Rattle.dns_item.specs.Items.{RecordItem, put_record, record_fields}
 use Rattle.dns_build.specs.State.{State, Every, all_of, fold, head_of, pieces_of}
 
--- a piece has at most n octets, for any compression table and at any offset
+-- an encoding has at most n octets, for any compression table and at any offset
 abbrev pub AtMost : ℕ → Piece → Type 0
 AtMost n p = (m : Memory) (w : ℕ) → length (p m w).octets ≤ n
 
@@ -68,7 +68,7 @@ record_most x is m w =
     let b = is.parts in
     omega (arith, a, b)
 
--- pieces of at most `most_octets` octets each
+-- encodings of at most `most_octets` octets each
 abbrev Few : List Piece → Type 0
 Few = Every (AtMost most_octets)
 

@@ -309,7 +309,7 @@ fn counts_up_and_down(rt: HostRuntime) {
     assert_octets(&rt, "counts go down", counts.as_slice(), lowered);
 }
 
-/// Messages in which one count is 65,534 and the others are 65,535, each with which increments
+/// Messages in which one count is 65,534 and the others are 65,535, each with the increments that
 /// fail.
 const NEARLY_FULL: &[(&str, &[u8; 12], [bool; 4])] = &[
     (
