@@ -52,7 +52,7 @@ const HISTORIES: [History; 9] = [
     // Moves back, and sections that are skipped and visited again later.
     ("bqQaAnNdDanNdDO", "ddddddddddddddd"),
     ("bdDqQnNaAdnNdDO", "ddddddddddddddd"),
-    // Each push is refused first.
+    // The pushes of Q, A and O are refused first.
     ("b1qQcQa2AcAnNd3OcDO", "dddlddddlddddddlddd"),
     // Calls that their stages lack.
     ("bQArHqAtQaQOAnNdhDO", "dmmmddmmddmmddddddd"),
