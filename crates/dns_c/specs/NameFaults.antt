@@ -28,7 +28,7 @@ pub record TellsAt (b : List ℕ) (p : ℕ) (f : FaultThere) (n : ℕ) : Type 0 
   pub kind : TellsFault f n
   pub form : f ≡ Form → (fault : Fault) × Misformed b p 0 fault × (n ≡ number_of fault)
 
--- The label or pointer at p, after labels of s octets, leads to q, after labels of t octets: to a smaller offset, or after more labels. If the name is malformed from q on, it is so from p on.
+-- The label or pointer at p, after labels of s octets, leads to q, after labels of t octets: to a smaller offset, or after more labels. If the name is malformed from p on, it is so from q on, and for the same reason.
 pub record LeadsOn (b : List ℕ) (p s q t : ℕ) : Type 0 where
   pub within : q ≤ length b
   pub short : t ≤ max_size
