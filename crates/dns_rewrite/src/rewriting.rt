@@ -1,5 +1,5 @@
-//! Writes a message again with its TTLs capped, for a cache that keeps no record for longer (RFC
-//! 1035 section 3.2.1).
+//! Writes a message again with its TTLs capped, for a cache that keeps no record for longer
+//! (RFC 1035 section 3.2.1).
 ghost use Rattle.std.specs.Prelude.{◌≡◌, ◌≤◌, IfErr, IfOk, MatchResult, None, Some, option_map};
 ghost use Rattle.dns_name.specs.Names.{fault_of};
 ghost use Rattle.dns_name.specs.ParsedName.{labels};

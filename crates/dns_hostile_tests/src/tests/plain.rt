@@ -98,8 +98,8 @@ pub(crate) fn name_at(octets: &[u8], place: usize) -> Standing<Buffer> {
     Ok((name, name_end(octets, place)?))
 }
 
-/// Checks that all the octets are one uncompressed name whose labels so far take `size` octets (RFC
-/// 1035 section 3.1).
+/// Checks that all the octets are one uncompressed name whose labels so far take `size` octets
+/// (RFC 1035 section 3.1).
 pub(crate) fn check_name(octets: &[u8], size: usize) -> Result<(), Fault>
     requires { size ≤ 254 }
 {

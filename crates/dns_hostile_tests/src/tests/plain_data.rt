@@ -4,8 +4,8 @@ use crate::tests::plain::{
     Entry, Fault, Header, Standing, check_name, entry_at, header_at, name_at,
 };
 
-/// Whether the octets are a list of options, each with a code, a length and that many octets (RFC
-/// 6891 section 6.1.2).
+/// Whether the octets are a list of options, each with a code, a length and that many octets
+/// (RFC 6891 section 6.1.2).
 pub(crate) fn has_options(octets: &[u8]) -> bool {
     let [_, _, high, low, rest @ ..] = octets else {
         return octets.is_empty();

@@ -94,8 +94,8 @@ question 3
 "#,
 );
 
-/// A (RFC 1035 section 3.4.1), AAAA (RFC 3596 section 2.2), and a type that has no layout here (RFC
-/// 3597 section 3).
+/// A (RFC 1035 section 3.4.1), AAAA (RFC 3596 section 2.2), and a type that has no layout here
+/// (RFC 3597 section 3).
 const ADDRESSES_AND_OTHER_DATA: Message<'_> = (
     "addresses and other data",
     &[
