@@ -37,8 +37,9 @@ type Target = StaticCompressor<Vec<u8>>;
 /// Returns the message with the TTL of each record capped at `most`, and without its OPT records.
 ///
 /// Returns `Parse` if a question or a record of the message can't be read, or if the RDATA of a
-/// record is malformed. If there are several such errors, it may be any of them. Returns `Push` with
-/// `OutOfMemory` if an allocation fails. Octets after the last record are no error, and are left out.
+/// record is malformed. If there are several such errors, it may be any of them. Returns `Push`
+/// with `OutOfMemory` if an allocation fails. Octets after the last record are no error, and are
+/// left out.
 pub fn with_ttls_cut<Octs: Octets>(
     alloc: Global,
     message: &Message<Octs>,
