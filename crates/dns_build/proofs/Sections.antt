@@ -27,8 +27,8 @@ number (Records Authority) = 2
 number (Records Additional) = 3
 
 -- the offset of its count in a message
-abbrev pub place_of : Kind → ℕ
-place_of k = 4 + 2 * number k
+abbrev pub count_offset_of : Kind → ℕ
+count_offset_of k = 4 + 2 * number k
 
 -- the stage at it
 abbrev pub at : Kind → Stage
@@ -104,8 +104,8 @@ splits_more (Records Authority) rule s x = fold-message rule _
 splits_more (Records Additional) rule s x = fold-message rule _
 
 module _ (k : Kind) (rule : Rule) (s : State) (four : length (header_octets s.header) ≡ 4) (last : s ≡ up_to (at k) s) where
-  place : 4 + 2 * length (before k rule s) ≡ place_of k
-  place = let is = splits k rule s in ap (λ n. 4 + 2 * n) is.number
+  offset : 4 + 2 * length (before k rule s) ≡ count_offset_of k
+  offset = let is = splits k rule s in ap (λ n. 4 + 2 * n) is.number
 
   whole : fold rule s ≡ message (header_octets s.header) (sections k rule s (map (put k rule) (items k s)))
   whole = let is = splits k rule s in ap (fold rule) last ∙ is.whole
@@ -116,11 +116,11 @@ module _ (k : Kind) (rule : Rule) (s : State) (four : length (header_octets s.he
       ∙ ap (λ ps. message (header_octets s.header) (sections k rule s ps)) (map-append (put k rule) (items k s) (x ∷ []))
 
   -- the section's count is the number of its items
-  pub fold-count : length (items k s) < 65536 → count_at (place_of k) (fold rule s) ≡ length (items k s)
+  pub fold-count : length (items k s) < 65536 → count_at (count_offset_of k) (fold rule s) ≡ length (items k s)
   fold-count few =
       let is = splits k rule s in
       let size = length-map (items k s) (put k rule) in
-      (λ i. count_at (sym place i) (whole i))
+      (λ i. count_at (sym offset i) (whole i))
       ∙ count-message (header_octets s.header) four (before k rule s) (empty k) is.all is.last (map (put k rule) (items k s)) is.grow (omega arith) ∙ size
 
   -- the length of an encoding with one more item, even one that can't be counted
@@ -132,18 +132,18 @@ module _ (k : Kind) (rule : Rule) (s : State) (four : length (header_octets s.he
       ∙ ap (λ (w : Written). length w.octets) (sym (more x))
 
   -- the encoding of a state with one more item
-  pub fold-more : (x : Item k) → length (items k s) < 65535 → counted (place_of k) (lay (put k rule x) (fold rule s)) ≡ fold rule (with_item k x s)
+  pub fold-more : (x : Item k) → length (items k s) < 65535 → counted (count_offset_of k) (lay (put k rule x) (fold rule s)) ≡ fold rule (with_item k x s)
   fold-more x few =
       let is = splits k rule s in
       let size = length-map (items k s) (put k rule) in
-      (λ i. counted (sym place i) (lay (put k rule x) (whole i)))
+      (λ i. counted (sym offset i) (lay (put k rule x) (whole i)))
       ∙ message-more (header_octets s.header) four (before k rule s) (empty k) is.all is.last (map (put k rule) (items k s)) is.grow (put k rule x) (omega arith)
       ∙ sym (more x)
 
   -- the encoding of a state without the section's items
-  pub fold-less : emptied_from (length (fold rule (up_to (prior k) s)).octets) (place_of k) (fold rule s) ≡ fold rule (up_to (prior k) s)
+  pub fold-less : emptied_from (length (fold rule (up_to (prior k) s)).octets) (count_offset_of k) (fold rule s) ≡ fold rule (up_to (prior k) s)
   fold-less =
       let is = splits k rule s in
-      (λ i. emptied_from (length (is.less i).octets) (sym place i) (whole i))
+      (λ i. emptied_from (length (is.less i).octets) (sym offset i) (whole i))
       ∙ message-less (header_octets s.header) four (before k rule s) (empty k) is.all is.last (map (put k rule) (items k s)) is.grow is.front (every_map IsGrowing (put k rule) (items_grow k rule) (items k s))
       ∙ sym is.less

@@ -272,7 +272,7 @@ static AT_THE_BOUND: [(&[Target], Row); 3] = [
 ];
 
 #[test]
-fn remembers_places_below_the_bound(rt: HostRuntime) {
+fn enters_offsets_below_the_bound(rt: HostRuntime) {
     run_rows(&rt, rt.alloc(), &AT_THE_BOUND);
 }
 

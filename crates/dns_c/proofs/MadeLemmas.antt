@@ -59,9 +59,9 @@ known_short label rest p after o k x known =
     let two : length (spell_label o k label rest p after).0 ≡ 2 = λ i. length (spell_label (known i) k label rest p after).0 in omega arith
 
 -- the table entry of a name that was written uncompressed
-listed_first : (name : Labels) (p end : ℕ) (ss rest : List (Labels × ℕ)) → ss ≡ (name, p) ∷ rest → get (remember nothing ss end) name ≡ Some (record { place = p; end = end })
+listed_first : (name : Labels) (p end : ℕ) (ss rest : List (Labels × ℕ)) → ss ≡ (name, p) ∷ rest → get (remember nothing ss end) name ≡ Some (record { offset = p; end = end })
 listed_first name p end ss rest is =
-    ap (λ (xs : List (Labels × ℕ)). get (remember nothing xs end) name) is ∙ get-insert_same (remember nothing rest end) name (record { place = p; end = end })
+    ap (λ (xs : List (Labels × ℕ)). get (remember nothing xs end) name) is ∙ get-insert_same (remember nothing rest end) name (record { offset = p; end = end })
 
 -- the first name of a message takes 2 octets at most when it is written again
 again_at : (name : Labels) (v : ℕ) → length (put_name Static name (put_name Static name nothing 12).memory v).octets ≤ 2
@@ -76,7 +76,7 @@ again_at (label ∷ rest) v =
     let end = 12 + length spelled.0 in
     let memory = remember nothing spelled.1 end in
     known_short label rest v (spell Static memory (v + 1 + length label) (len memory + 1) rest) (get memory (label ∷ rest)) (is_kept Static v (len memory))
-    (record { place = 12; end = end }) (listed_first (label ∷ rest) 12 end spelled.1 after.1 (ap (λ (s : List ℕ × List (Labels × ℕ)). s.1) first))
+    (record { offset = 12; end = end }) (listed_first (label ∷ rest) 12 end spelled.1 after.1 (ap (λ (s : List ℕ × List (Labels × ℕ)). s.1) first))
 
 again_short : (name : Labels) (w v : ℕ) → w ≡ 12 → length (put_name Static name (put_name Static name nothing w).memory v).octets ≤ 2
 again_short name w v first = subst (λ k. length (put_name Static name (put_name Static name nothing k).memory v).octets ≤ 2) (sym first) (again_at name v)

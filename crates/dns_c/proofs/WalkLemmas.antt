@@ -179,15 +179,15 @@ answered_within b cursor (Err e) h = tt
 
 -- An entry begins at the cursor, and belongs to the cursor's section.
 
-pub placed_question : (b : List ℕ) (cursor : Cursor) (r : Result (Item × ℕ) ParseError) → cursor.section ≡ 0 → AnswersQuestion b cursor.place r
+pub question_at_offset : (b : List ℕ) (cursor : Cursor) (r : Result (Item × ℕ) ParseError) → cursor.section ≡ 0 → AnswersQuestion b cursor.place r
     → IfOk r (λ found. Spans found.0 cursor.place found.1) → IfOk r (λ found. Spans found.0 cursor.place found.1 × (found.0.section ≡ cursor.section))
-placed_question b cursor (Ok found) first h spans = (spans, h.2.section ∙ sym first)
-placed_question b cursor (Err e) first h spans = tt
+question_at_offset b cursor (Ok found) first h spans = (spans, h.2.section ∙ sym first)
+question_at_offset b cursor (Err e) first h spans = tt
 
-pub placed_record : (b : List ℕ) (cursor : Cursor) (r : Result (Item × ℕ) ParseError) → AnswersRecord b cursor.section cursor.place r
+pub record_at_offset : (b : List ℕ) (cursor : Cursor) (r : Result (Item × ℕ) ParseError) → AnswersRecord b cursor.section cursor.place r
     → IfOk r (λ found. Spans found.0 cursor.place found.1) → IfOk r (λ found. Spans found.0 cursor.place found.1 × (found.0.section ≡ cursor.section))
-placed_record b cursor (Ok found) h spans = (spans, h.3)
-placed_record b cursor (Err e) h spans = tt
+record_at_offset b cursor (Ok found) h spans = (spans, h.3)
+record_at_offset b cursor (Err e) h spans = tt
 
 -- If an entry is malformed (`Form`), its name is.
 

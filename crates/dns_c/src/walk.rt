@@ -145,7 +145,7 @@ fn settle(message: &Message<&[u8]>, cursor: &mut Cursor)
 #[tactic(auto, using(crate::proofs::WalkLemmas::past_end))]
 pub(crate) fn parser_at(octets: &[u8], place: usize) -> Result<Parser<'_>, ParseError>
     ensures ok { IfOk result (λ parser. (seen parser ≡ octets.now)
-        × (Parsers.place parser ≡ place)) }
+        × (Parsers.offset parser ≡ place)) }
     ensures err { IfErr result (λ error. QuestionFaultAt octets.now place (fault_of error)
         × RecordFaultAt octets.now place (fault_of error)
         × FaultAt octets.now place (fault_of error)) }

@@ -2,20 +2,20 @@
 ghost use Rattle.std.specs.Prelude.{◌≡◌, ◌<◌, ◌%◌};
 ghost use Rattle.dns_code.specs.Bits.{bit, bits, ChangesBit};
 
-pub(crate) fn is_bit_set(octet: u8, place: u32) -> bool
-    requires { place < 8 }
-    ensures { result ≡ bit octet place }
+pub(crate) fn is_bit_set(octet: u8, offset: u32) -> bool
+    requires { offset < 8 }
+    ensures { result ≡ bit octet offset }
 {
-    octet >> place & 1 == 1
+    octet >> offset & 1 == 1
 }
 
-pub(crate) fn with_bit(octet: u8, place: u32, set: bool) -> u8
-    requires { place < 8 }
-    ensures { ChangesBit octet result place set }
+pub(crate) fn with_bit(octet: u8, offset: u32, set: bool) -> u8
+    requires { offset < 8 }
+    ensures { ChangesBit octet result offset set }
 {
     if set {
-        octet | 1 << place
+        octet | 1 << offset
     } else {
-        octet & !(1 << place)
+        octet & !(1 << offset)
     }
 }

@@ -240,38 +240,38 @@ impl HeaderCounts {
         self.set_arcount(count);
     }
 
-    /// The big-endian number in the two octets at `place`.
-    fn number_at(self, place: usize) -> u16
-        requires { place < 7 }
-        ensures { result ≡ number_in (counts_octets self) place }
+    /// The big-endian number in the two octets at `offset`.
+    fn number_at(self, offset: usize) -> u16
+        requires { offset < 7 }
+        ensures { result ≡ number_in (counts_octets self) offset }
     {
-        u16::from_be_bytes([self.octets[place], self.octets[place + 1]])
+        u16::from_be_bytes([self.octets[offset], self.octets[offset + 1]])
     }
 
-    /// Writes a big-endian number over the two octets at `place`.
-    fn set_number_at(&mut self, place: usize, number: u16)
-        requires { place < 7 }
-        ensures { ChangesNumber (counts_octets self.old) (counts_octets self.new) place number }
+    /// Writes a big-endian number over the two octets at `offset`.
+    fn set_number_at(&mut self, offset: usize, number: u16)
+        requires { offset < 7 }
+        ensures { ChangesNumber (counts_octets self.old) (counts_octets self.new) offset number }
     {
         let [high, low] = number.to_be_bytes();
-        self.octets[place] = high;
-        self.octets[place + 1] = low;
+        self.octets[offset] = high;
+        self.octets[offset + 1] = low;
     }
 
-    /// Increments the number in the two octets at `place`.
-    fn raise_number_at(&mut self, place: usize) -> Result<(), CountOverflow>
-        requires { place < 7 }
+    /// Increments the number in the two octets at `offset`.
+    fn raise_number_at(&mut self, offset: usize) -> Result<(), CountOverflow>
+        requires { offset < 7 }
         ensures ok { OnOk result (
-            ChangesNumber (counts_octets self.old) (counts_octets self.new) place
-            (number_in (counts_octets self.old) place + 1)) }
-        ensures full { IsErr result ↔ (number_in (counts_octets self.old) place ≡ u16.MAX) }
+            ChangesNumber (counts_octets self.old) (counts_octets self.new) offset
+            (number_in (counts_octets self.old) offset + 1)) }
+        ensures full { IsErr result ↔ (number_in (counts_octets self.old) offset ≡ u16.MAX) }
         ensures err { OnErr result (self.new ≡ self.old) }
     {
         let raised = self
-            .number_at(place)
+            .number_at(offset)
             .checked_add(1)
             .ok_or(CountOverflow::new())?;
-        self.set_number_at(place, raised);
+        self.set_number_at(offset, raised);
         Ok(())
     }
 }

@@ -22,7 +22,7 @@ impl Default for HeaderSection {
 }
 
 impl HeaderSection {
-    ghost use Rattle.dns_name.specs.Parsers.{seen, place, Takes};
+    ghost use Rattle.dns_name.specs.Parsers.{seen, offset, Takes};
     ghost use Rattle.dns_wire.specs.Pieces.{put_octets};
     ghost use Rattle.dns_wire.specs.Targets.{Appends};
     ghost use Rattle.dns_code.specs.Header.{header_octets};
@@ -51,7 +51,7 @@ impl HeaderSection {
     pub fn parse(parser: &mut Parser<'_>) -> Result<Self, ParseError>
         ensures { Takes parser.old parser.new header_size result (λ section.
             section_octets section
-            ≡ slice_range (seen parser.old) (place parser.old) (place parser.old + header_size)) }
+            ≡ slice_range (seen parser.old) (offset parser.old) (offset parser.old + header_size)) }
     {
         let octets = parser.peek(12)?;
         parser.advance(12)?;

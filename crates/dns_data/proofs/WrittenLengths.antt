@@ -12,12 +12,12 @@ abbrev blank : List ℕ
 blank = 0 ∷ 0 ∷ []
 
 one_clear : (before after : Option Spot) (w v : ℕ) → IsOldOrWithin before after (w + 2) v → ((x : Spot) → before ≡ Some x → x.end ≤ w)
-    → (y : Spot) → after ≡ Some y → (y.end ≤ w) ⊎ (w + 2 ≤ y.place)
+    → (y : Spot) → after ≡ Some y → (y.end ≤ w) ⊎ (w + 2 ≤ y.offset)
 one_clear before after w v (inl same) h y e = inl (h y (sym same ∙ e))
 one_clear before after w v (inr new) h y e =
     let both : Some new.1.0 ≡ Some y = sym new.1.1 ∙ e in
     let is : new.1.0 ≡ y = cc in
-    inr (subst (λ (z : Spot). w + 2 ≤ z.place) is new.1.2)
+    inr (subst (λ (z : Spot). w + 2 ≤ z.offset) is new.1.2)
 
 -- no suffix in the table has one of the two octets
 pub clear_length : (a : Piece) (t v u : Written) → IsGrowing a → IsTarget t → v ≡ lay (put_octets blank) t → u ≡ lay a v → IsClear u.memory (length t.octets) 2

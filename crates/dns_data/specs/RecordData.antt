@@ -1,7 +1,7 @@
 -- What reading and writing RDATA returns. RFC 1035 sections 3.3 and 4.1.3; the canonical form: RFC 4034 section 6.2.
 use Rattle.std.specs.Prelude.{◌≡◌, ℕ, ◌≤◌, ◌==◌, if◌then◌else◌, List, map, Option, None, Some, Result, Ok, Err}
 use Rattle.dns_name.specs.Names.{fault_of, lowered, uncompressed}
-use Rattle.dns_name.specs.Parsers.{seen, place, MovesTo}
+use Rattle.dns_name.specs.Parsers.{seen, offset, MovesTo}
 use Rattle.dns_wire.specs.Parts.{Part, AreParts, parts_size}
 use Rattle.dns_wire.specs.Parts.Part.{Octets, CompressibleName}
 use Rattle.dns_octets.specs.declared.error.ParseError.{ParseError}
@@ -30,8 +30,8 @@ module _ {D : Type 0} (rtype_of : D → ℕ) (parts_of : D → List Part) where
   -- What reading RDATA of a layout returns: the value whose parts are at the parser's offset, with the parser moved past them; or the first fault there, and the parser doesn't move.
   abbrev pub ParsesLaidOut : Layout → ℕ → Parser → Parser → Result D ParseError → Type 0
   ParsesLaidOut layout rtype old new (Ok value) =
-      (rtype_of value ≡ rtype) × DataStands (seen old) layout (place old) (place new) (parts_of value) × MovesTo old new (place new)
-  ParsesLaidOut layout rtype old new (Err e) = DataFaultAt (seen old) layout (place old) (fault_of e) × (new ≡ old)
+      (rtype_of value ≡ rtype) × DataStands (seen old) layout (offset old) (offset new) (parts_of value) × MovesTo old new (offset new)
+  ParsesLaidOut layout rtype old new (Err e) = DataFaultAt (seen old) layout (offset old) (fault_of e) × (new ≡ old)
 
   -- As `ParsesLaidOut`, for a type that may have no layout: then it returns `None`, and the parser doesn't move.
   abbrev pub ParsesTaken : Option Layout → ℕ → Parser → Parser → Result (Option D) ParseError → Type 0

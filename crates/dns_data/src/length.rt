@@ -21,10 +21,10 @@ pub fn compose_len_rdata<D: ComposeRecordData, T: Composer>(
         (T.written target.old) (T.written target.new) result }
     ensures is_data { OnOk result (IsData (D.parts «data».now)) }
 {
-    let place = target.as_slice().len();
+    let offset = target.as_slice().len();
     target.append_slice(&[0, 0])?;
     data.compose_rdata(target)?;
-    write_length(target, place);
+    write_length(target, offset);
     Ok(())
 }
 
@@ -38,24 +38,24 @@ pub fn compose_canonical_len_rdata<D: ComposeRecordData, T: Composer>(
         (put_parts T.rule (canonical (D.parts «data».now)))) (T.written target.old)
         (T.written target.new) result }
 {
-    let place = target.as_slice().len();
+    let offset = target.as_slice().len();
     target.append_slice(&[0, 0])?;
     data.compose_canonical_rdata(target)?;
-    write_length(target, place);
+    write_length(target, offset);
     Ok(())
 }
 
-/// Writes the number of octets after the two at offset `place` into these two.
+/// Writes the number of octets after the two at offset `offset` into these two.
 ///
 /// RDATA has at most 65,535 octets, so the other octets of `len` are zero.
-fn write_length<T: Composer>(target: &mut T, place: usize)
-    requires within { place + 2 ≤ length (T.written target.old).octets }
-    requires clear { IsClear (T.written target.old).memory place 2 }
-    ensures { T.written target.new ≡ overwrite place
-        (to_be_bytes w16 (length (T.written target.old).octets - (place + 2)))
+fn write_length<T: Composer>(target: &mut T, offset: usize)
+    requires within { offset + 2 ≤ length (T.written target.old).octets }
+    requires clear { IsClear (T.written target.old).memory offset 2 }
+    ensures { T.written target.new ≡ overwrite offset
+        (to_be_bytes w16 (length (T.written target.old).octets - (offset + 2)))
         (T.written target.old) }
 {
-    let len = target.as_slice().len() - (place + 2);
+    let len = target.as_slice().len() - (offset + 2);
     let [.., high, low] = len.to_be_bytes();
-    target.write_at(place, &[high, low]);
+    target.write_at(offset, &[high, low]);
 }

@@ -1,14 +1,14 @@
 //! Reading octets of RDATA.
 ghost use Rattle.std.specs.Prelude.{◌≡◌, ◌+◌, slice_range};
-ghost use Rattle.dns_name.specs.Parsers.{seen, place, Takes};
+ghost use Rattle.dns_name.specs.Parsers.{seen, offset, Takes};
 
 use dns_wire::{ParseError, Parser};
 
 /// Reads the next `n` octets and advances past them. Returns `ShortInput` if fewer remain.
 pub(crate) fn take_octets<'a>(parser: &mut Parser<'a>, n: usize) -> Result<&'a [u8], ParseError>
     ensures { Takes parser.old parser.new n result
-        (λ octets. octets.now ≡ slice_range (seen parser.old) (place parser.old)
-        (place parser.old + n)) }
+        (λ octets. octets.now ≡ slice_range (seen parser.old) (offset parser.old)
+        (offset parser.old + n)) }
 {
     let octets = parser.peek(n)?;
     parser.advance(n)?;

@@ -160,16 +160,16 @@ impl<N> Soa<N> {
     }
 }
 
-/// The big-endian number in the four octets at `place`.
-fn number_at(octets: &[u8], place: usize) -> u32
-    requires { place + 4 ≤ length octets.now }
-    ensures { to_be_bytes w32 result ≡ slice_range octets.now place (place + 4) }
+/// The big-endian number in the four octets at `offset`.
+fn number_at(octets: &[u8], offset: usize) -> u32
+    requires { offset + 4 ≤ length octets.now }
+    ensures { to_be_bytes w32 result ≡ slice_range octets.now offset (offset + 4) }
 {
     u32::from_be_bytes([
-        octets[place],
-        octets[place + 1],
-        octets[place + 2],
-        octets[place + 3],
+        octets[offset],
+        octets[offset + 1],
+        octets[offset + 2],
+        octets[offset + 3],
     ])
 }
 

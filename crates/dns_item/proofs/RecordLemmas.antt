@@ -5,7 +5,7 @@ use Rattle.dns_octets.specs.declared.error.ParseError.{ParseError}
 use Rattle.dns_octets.specs.declared.error.ParseError.TheVariants.{ShortInput}
 use Rattle.dns_name.specs.Names.{Fault, fault_of, Labels, Stands}
 use Rattle.dns_name.specs.ParsedName.{MovesBehindName}
-use Rattle.dns_name.specs.Parsers.{seen, place, MovesTo, number_at}
+use Rattle.dns_name.specs.Parsers.{seen, offset, MovesTo, number_at}
 use Rattle.dns_name.specs.declared.parsed_name.ParsedName.{ParsedName}
 use Rattle.dns_name.specs.declared.parser.Parser.{Parser}
 use Rattle.dns_question.specs.BehindNames.FieldsFaultAt.{name, short as short_fields}
@@ -19,11 +19,11 @@ use Rattle.dns_item.proofs.theory.EntryLemmas.{record_or_fault}
 -- What parsing a record header returns, and when a header and its RDATA are a record.
 
 -- too few octets follow a parsed owner
-pub short : (old mid : Parser) (owner : Labels) (e : ParseError) → Stands (seen old) (place old) owner → MovesBehindName old mid → length (seen mid) < place mid + 10 → e ≡ ShortInput
-    → HeaderFaultAt (seen old) (place old) (fault_of e)
+pub short : (old mid : Parser) (owner : Labels) (e : ParseError) → Stands (seen old) (offset old) owner → MovesBehindName old mid → length (seen mid) < offset mid + 10 → e ≡ ShortInput
+    → HeaderFaultAt (seen old) (offset old) (fault_of e)
 short old mid owner e stands moves l is =
     let n : length (seen mid) ≡ length (seen old) = ap length moves.1.seen in
-    subst (λ e. HeaderFaultAt (seen old) (place old) (fault_of e)) (sym is) (short_fields stands moves.0 (omega arith))
+    subst (λ e. HeaderFaultAt (seen old) (offset old) (fault_of e)) (sym is) (short_fields stands moves.0 (omega arith))
 
 -- if no header can be read, no record can
 pub without_header : (b : List ℕ) (p : ℕ) (f : Fault) → HeaderFaultAt b p f → RecordFaultAt b p f
@@ -32,14 +32,14 @@ without_header b p f (short_fields s w l) = short_fields s w (fields l)
 
 -- a header and the RDATA after it, which is skipped, are a record
 pub with_data : (old mid new : Parser) (header : RecordHeader ParsedName) (n : ℕ) → ParsesHeader old mid (Ok header) → n ≡ rdlen_of header
-    → place mid + n ≤ length (seen mid) → MovesTo mid new (place mid + n) → ReadsRecord (seen old) (place old) (place new) (record_at header (place mid)) × MovesTo old new (place new)
+    → offset mid + n ≤ length (seen mid) → MovesTo mid new (offset mid + n) → ReadsRecord (seen old) (offset old) (offset new) (record_at header (offset mid)) × MovesTo old new (offset new)
 with_data old mid new header n parses is long to =
     let reads = parses.0 in
     let there : seen mid ≡ seen old = parses.1.seen in
     let m : length (seen mid) ≡ length (seen old) = ap length there in
     let a = reads.end in
     let d = reads.rdlen in
-    let end = to.place in (
+    let end = to.offset in (
       record {
         skips = record { name_end = reads.name_end; walked = reads.walked; end = omega arith; within = omega arith };
         owner = reads.owner;
@@ -49,38 +49,38 @@ with_data old mid new header n parses is long to =
         data_start = reads.end;
         data_end = omega arith;
       },
-      record { input = to.input ∙ parses.1.input; seen = to.seen ∙ there; place = refl },
+      record { input = to.input ∙ parses.1.input; seen = to.seen ∙ there; offset = refl },
     )
 
 -- the RDATA after a header isn't all there
 pub without_data : (old mid : Parser) (header : RecordHeader ParsedName) (n : ℕ) (e : ParseError) → ParsesHeader old mid (Ok header) → n ≡ rdlen_of header
-    → length (seen mid) < place mid + n → e ≡ ShortInput → RecordFaultAt (seen old) (place old) (fault_of e)
+    → length (seen mid) < offset mid + n → e ≡ ShortInput → RecordFaultAt (seen old) (offset old) (fault_of e)
 without_data old mid header n e parses is l short_input =
     let reads = parses.0 in
     let m : length (seen mid) ≡ length (seen old) = ap length parses.1.seen in
     let end = reads.end in
     let within = reads.within in
     let d = reads.rdlen in
-    subst (λ e. RecordFaultAt (seen old) (place old) (fault_of e)) (sym short_input) (short_fields reads.owner reads.walked (rdata (omega arith) (omega arith)))
+    subst (λ e. RecordFaultAt (seen old) (offset old) (fault_of e)) (sym short_input) (short_fields reads.owner reads.walked (rdata (omega arith) (omega arith)))
 
 -- some of the ten octets after a skipped owner aren't there
-pub without_fields : (old mid : Parser) (n : ℕ) (e : ParseError) → MovesBehindName old mid → n < place mid + 10 → n ≡ length (seen mid) → e ≡ ShortInput
-    → RecordSkipFaultAt (seen old) (place old) (fault_of e)
+pub without_fields : (old mid : Parser) (n : ℕ) (e : ParseError) → MovesBehindName old mid → n < offset mid + 10 → n ≡ length (seen mid) → e ≡ ShortInput
+    → RecordSkipFaultAt (seen old) (offset old) (fault_of e)
 without_fields old mid n e moves l long is =
     let k : length (seen mid) ≡ length (seen old) = ap length moves.1.seen in
-    subst (λ e. RecordSkipFaultAt (seen old) (place old) (fault_of e)) (sym is) (unended_record moves.0 (fields (omega arith)))
+    subst (λ e. RecordSkipFaultAt (seen old) (offset old) (fault_of e)) (sym is) (unended_record moves.0 (fields (omega arith)))
 
 -- the ten octets are there, but not all of the RDATA
-pub lacks_data : (old mid behind last : Parser) (n : ℕ) (e : ParseError) → MovesBehindName old mid → MovesTo mid behind (place mid + 8) → MovesTo behind last (place behind + 2)
-    → place behind + 2 ≤ length (seen behind) → n ≡ number_at w16 (seen behind) (place behind) → length (seen last) < place last + n → e ≡ ShortInput → RecordSkipFaultAt (seen old) (place old) (fault_of e)
+pub lacks_data : (old mid behind last : Parser) (n : ℕ) (e : ParseError) → MovesBehindName old mid → MovesTo mid behind (offset mid + 8) → MovesTo behind last (offset behind + 2)
+    → offset behind + 2 ≤ length (seen behind) → n ≡ number_at w16 (seen behind) (offset behind) → length (seen last) < offset last + n → e ≡ ShortInput → RecordSkipFaultAt (seen old) (offset old) (fault_of e)
 lacks_data old mid behind last n e moves first second long is l short_input =
     let there : seen behind ≡ seen old = first.seen ∙ moves.1.seen in
     let k : length (seen behind) ≡ length (seen old) = ap length there in
     let m : length (seen last) ≡ length (seen behind) = ap length second.seen in
-    let p = first.place in
-    let q = second.place in
-    let number : n ≡ number_at w16 (seen old) (place mid + 8) = is ∙ ap (λ (b : List ℕ). number_at w16 b (place behind)) there ∙ ap (number_at w16 (seen old)) p in
-    subst (λ e. RecordSkipFaultAt (seen old) (place old) (fault_of e)) (sym short_input) (unended_record moves.0 (rdata (omega arith) (omega arith)))
+    let p = first.offset in
+    let q = second.offset in
+    let number : n ≡ number_at w16 (seen old) (offset mid + 8) = is ∙ ap (λ (b : List ℕ). number_at w16 b (offset behind)) there ∙ ap (number_at w16 (seen old)) p in
+    subst (λ e. RecordSkipFaultAt (seen old) (offset old) (fault_of e)) (sym short_input) (unended_record moves.0 (rdata (omega arith) (omega arith)))
 
 -- what holds of a parsed record and its octets holds of each record that can be read there
 pub of_read : (P : List ℕ → RecordEntry → Type 0) (b seen_then : List ℕ) (p end q : ℕ) (then x : RecordEntry)
@@ -90,5 +90,5 @@ of_read P b seen_then p end q then x h is k holds =
 
 -- a parser past the record that was read is past each record that can be read there
 pub behind_read : (old new : Parser) (q : ℕ) (then x : RecordEntry)
-    → ReadsRecord (seen old) (place old) (place new) then → MovesTo old new (place new) → ReadsRecord (seen old) (place old) q x → MovesTo old new q
-behind_read old new q then x h moves k = subst (MovesTo old new) ((record_or_fault (seen old)).one (place old) (place new) q then x h k).0 moves
+    → ReadsRecord (seen old) (offset old) (offset new) then → MovesTo old new (offset new) → ReadsRecord (seen old) (offset old) q x → MovesTo old new q
+behind_read old new q then x h moves k = subst (MovesTo old new) ((record_or_fault (seen old)).one (offset old) (offset new) q then x h k).0 moves

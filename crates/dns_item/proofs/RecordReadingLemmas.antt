@@ -3,7 +3,7 @@ use Rattle.std.proofs.Common.{◌≡◌, ◌∙◌, ap, sym, subst, refl, ℕ, �
 use Rattle.std.specs.Prelude.{Option, None, Some, Result, Ok, Err, IsOkAnd, IsSomeAnd}
 use Rattle.dns_name.specs.Names.{Fault, fault_of}
 use Rattle.dns_name.specs.Names.Fault.{Form}
-use Rattle.dns_name.specs.Parsers.{seen, place}
+use Rattle.dns_name.specs.Parsers.{seen, offset}
 use Rattle.dns_wire.specs.Parts.{Part, PartsStand}
 use Rattle.dns_octets.specs.declared.error.ParseError.{ParseError}
 use Rattle.dns_name.specs.declared.parsed_name.ParsedName.{ParsedName}
@@ -21,27 +21,27 @@ use Rattle.dns_item.specs.RecordReading.WholeDataFaultAt.{first, left_over}
 module _ {D : Type 0} (rtype_of : D → ℕ) (parts_of : D → List Part) (rtype : ℕ) (old new : Parser) where
   -- a fault in the RDATA is a fault of the whole
   pub whole_fault : (layout : Layout) (e : ParseError) → ParsesLaidOut rtype_of parts_of layout rtype old new (Err e)
-      → IsWhole rtype_of parts_of (seen old) (place old) rtype layout (Err e)
+      → IsWhole rtype_of parts_of (seen old) (offset old) rtype layout (Err e)
   whole_fault layout e h = first h.0
 
   -- octets that are left over are a fault of the whole
   pub whole_left_over : (layout : Layout) (value : D) → ParsesLaidOut rtype_of parts_of layout rtype old new (Ok value)
-      → place new < length (seen new) → WholeDataFaultAt (seen old) layout (place old) Form
+      → offset new < length (seen new) → WholeDataFaultAt (seen old) layout (offset old) Form
   whole_left_over layout value h l =
-      let short : place new < length (seen old) = subst (λ (b : List ℕ). place new < length b) h.2.seen l in
-      left_over (place new) (parts_of value) h.1 short
+      let short : offset new < length (seen old) = subst (λ (b : List ℕ). offset new < length b) h.2.seen l in
+      left_over (offset new) (parts_of value) h.1 short
 
   -- as `whole_fault`, for a type that may have no layout
   pub whole_fault_taken : (o : Option Layout) (e : ParseError) → ParsesTaken rtype_of parts_of o rtype old new (Err e)
-      → IsWholeTaken rtype_of parts_of (seen old) (place old) rtype o (Err e)
+      → IsWholeTaken rtype_of parts_of (seen old) (offset old) rtype o (Err e)
   whole_fault_taken None e h = h
   whole_fault_taken (Some layout) e h = whole_fault layout e h
 
   pub whole_left_over_taken : (o : Option Layout) (value : D) (e : ParseError) → ParsesTaken rtype_of parts_of o rtype old new (Ok (Some value))
-      → place new < length (seen new) → fault_of e ≡ Form → IsWholeTaken rtype_of parts_of (seen old) (place old) rtype o (Err e)
+      → offset new < length (seen new) → fault_of e ≡ Form → IsWholeTaken rtype_of parts_of (seen old) (offset old) rtype o (Err e)
   whole_left_over_taken None value e h l f = h
   whole_left_over_taken (Some layout) value e h l f =
-      subst (WholeDataFaultAt (seen old) layout (place old)) (sym f) (whole_left_over layout value h l)
+      subst (WholeDataFaultAt (seen old) layout (offset old)) (sym f) (whole_left_over layout value h l)
 
 module _ {D : Type 0} (rtype_of : D → ℕ) (parts_of : D → List Part) (b : List ℕ) (x : RecordEntry) (start : x.data_start ≤ x.data_end) where
   -- RDATA that is all there is within the octets

@@ -5,7 +5,7 @@ use Rattle.std.specs.Option.{option_eq}
 use Rattle.std.specs.Ordering.{on, eq_of_both}
 use Rattle.dns_name.specs.NameOrders.{names_equal}
 use Rattle.dns_name.specs.ParsedName.{labels}
-use Rattle.dns_name.specs.Parsers.{place}
+use Rattle.dns_name.specs.Parsers.{offset}
 use Rattle.dns_name.specs.declared.parsed_name.ParsedName.{ParsedName}
 use Rattle.dns_item.specs.RecordHeader.{owner_of, rtype_of, class_of, ttl_of, rdlen_of}
 use Rattle.dns_item.specs.ParsedRecord.{header_of, data_parser, octets_of}
@@ -24,7 +24,7 @@ octets_from b p n = if nat_le (p + n) (length b) then Some (slice_range b p (p +
 
 -- the octets of a record's RDATA, or `None` if they aren't all there
 abbrev pub raw_data : ParsedRecord → Option (List ℕ)
-raw_data r = octets_from (octets_of r) (place (data_parser r)) (rdlen_of (header_of r))
+raw_data r = octets_from (octets_of r) (offset (data_parser r)) (rdlen_of (header_of r))
 
 -- RDATA is the same octet for octet, or missing in both
 abbrev pub same_raw_data : Option (List ℕ) → Option (List ℕ) → Bool

@@ -3,7 +3,7 @@ use Rattle.std.specs.Prelude.{◌≡◌, ℕ, ◌+◌, List, ◌++◌, Result, O
 use Rattle.std.specs.Int.{to_be_bytes, w16, w32}
 use Rattle.dns_name.specs.Names.{fault_of, Labels}
 use Rattle.dns_name.specs.ParsedName.{labels}
-use Rattle.dns_name.specs.Parsers.{seen, place, number_at, MovesTo}
+use Rattle.dns_name.specs.Parsers.{seen, offset, number_at, MovesTo}
 use Rattle.dns_wire.specs.Pieces.{Rule, Piece, put_octets, both, put_name}
 use Rattle.dns_octets.specs.declared.error.ParseError.{ParseError}
 use Rattle.dns_name.specs.declared.parsed_name.ParsedName.{ParsedName}
@@ -58,18 +58,18 @@ record_at header start =
 
 -- What parsing returns: the header at the parser's offset, with the parser moved past it; or the fault there, and the parser doesn't move.
 abbrev pub ParsesHeader : Parser → Parser → Result (RecordHeader ParsedName) ParseError → Type 0
-ParsesHeader old new (Ok header) = ReadsHeader (seen old) (place old) (place new) (parsed_header header) × MovesTo old new (place new)
-ParsesHeader old new (Err e) = HeaderFaultAt (seen old) (place old) (fault_of e) × (new ≡ old)
+ParsesHeader old new (Ok header) = ReadsHeader (seen old) (offset old) (offset new) (parsed_header header) × MovesTo old new (offset new)
+ParsesHeader old new (Err e) = HeaderFaultAt (seen old) (offset old) (fault_of e) × (new ≡ old)
 
 -- As `ParsesHeader`, with the parser after the header returned beside it.
 abbrev pub ReadsAhead : Parser → Result (RecordHeader ParsedName × Parser) ParseError → Type 0
 ReadsAhead parser (Ok (header, behind)) = ParsesHeader parser behind (Ok header)
-ReadsAhead parser (Err e) = HeaderFaultAt (seen parser) (place parser) (fault_of e)
+ReadsAhead parser (Err e) = HeaderFaultAt (seen parser) (offset parser) (fault_of e)
 
 -- As `ParsesHeader`, for a call that skips the RDATA too: the header is that of a record that can be read, and the parser moves past the record.
 abbrev pub ParsesAndSkips : Parser → Parser → Result (RecordHeader ParsedName) ParseError → Type 0
-ParsesAndSkips old new (Ok header) = ((start : ℕ) × ReadsRecord (seen old) (place old) (place new) (record_at header start)) × MovesTo old new (place new)
-ParsesAndSkips old new (Err e) = RecordFaultAt (seen old) (place old) (fault_of e) × (new ≡ old)
+ParsesAndSkips old new (Ok header) = ((start : ℕ) × ReadsRecord (seen old) (offset old) (offset new) (record_at header start)) × MovesTo old new (offset new)
+ParsesAndSkips old new (Err e) = RecordFaultAt (seen old) (offset old) (fault_of e) × (new ≡ old)
 
 -- the numbers at offset p, which is the end of an owner: type, class, TTL and RDLENGTH
 pub record AreFieldsAt (b : List ℕ) (p type_field class_field ttl_field length_field : ℕ) : Type 0 where

@@ -1,7 +1,7 @@
 //! Record headers (RFC 1035 section 4.1.3).
 ghost use Rattle.std.specs.Prelude.{◌≡◌};
 ghost use Rattle.dns_name.specs.NearNames.{IsNear};
-ghost use Rattle.dns_name.specs.Parsers.{seen, place, Takes};
+ghost use Rattle.dns_name.specs.Parsers.{seen, offset, Takes};
 ghost use Rattle.dns_wire.specs.Targets.{Composes};
 ghost use Rattle.dns_item.specs.Record.{HasFields};
 ghost use Rattle.dns_item.specs.RecordHeader.{owner_of, rtype_of, class_of, ttl_of, rdlen_of, AreFieldsAt, header_fields, header_item, put_header, ParsesHeader, ReadsAhead, ParsesAndSkips};
@@ -170,7 +170,7 @@ impl<'a> RecordHeader<ParsedName<'a>> {
 /// Reads the ten octets after an owner.
 fn read_fields(parser: &mut Parser<'_>) -> Result<(Rtype, Class, Ttl, u16), ParseError>
     ensures { Takes parser.old parser.new 10 result
-        (λ fields. AreFieldsAt (seen parser.old) (place parser.old) fields.0 fields.1 fields.2
+        (λ fields. AreFieldsAt (seen parser.old) (offset parser.old) fields.0 fields.1 fields.2
         fields.3) }
 {
     let octets = parser.peek(10)?;

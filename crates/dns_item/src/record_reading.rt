@@ -1,7 +1,7 @@
 //! Reading records with their RDATA (RFC 1035 section 4.1.3).
 ghost use Rattle.std.specs.Prelude.{◌≡◌, ℕ, IsErrAnd};
 ghost use Rattle.dns_name.specs.Names.{Fault, fault_of};
-ghost use Rattle.dns_name.specs.Parsers.{seen, place, MovesTo};
+ghost use Rattle.dns_name.specs.Parsers.{seen, offset, MovesTo};
 ghost use Rattle.dns_item.specs.Items.{ReadsRecord, RecordEntry, RecordFaultAt};
 ghost use Rattle.dns_item.specs.ParsedRecord.{octets_of, parsed_entry};
 ghost use Rattle.dns_item.specs.RecordHeader.{rtype_of, record_at};
@@ -19,7 +19,7 @@ fn read_data<'a, D: ParseRecordData<'a> + Drop>(
     rtype: Rtype,
     parser: &mut Parser<'a>,
 ) -> Result<Option<D>, ParseError>
-    ensures { IsWholeTaken D.rtype_of D.parts (seen parser.old) (place parser.old) rtype
+    ensures { IsWholeTaken D.rtype_of D.parts (seen parser.old) (offset parser.old) rtype
         (D.layout rtype) result }
 {
     let Some(data) = D::parse_rdata(rtype, parser)? else {
@@ -36,7 +36,7 @@ fn read_any_data<'a, D: ParseAnyRecordData<'a> + Drop>(
     rtype: Rtype,
     parser: &mut Parser<'a>,
 ) -> Result<D, ParseError>
-    ensures { IsWhole D.rtype_of D.parts (seen parser.old) (place parser.old) rtype
+    ensures { IsWhole D.rtype_of D.parts (seen parser.old) (offset parser.old) rtype
         (D.any_layout rtype) result }
 {
     let data = D::parse_any_rdata(rtype, parser)?;
@@ -58,9 +58,9 @@ impl<'a> RecordHeader<ParsedName<'a>> {
         parser: &mut Parser<'a>,
     ) -> Result<Option<Record<ParsedName<'a>, D>>, ParseError>
         ensures answers { AnswersTaken D.rtype_of D.parts (seen parser.old)
-            (record_at self.entry (place parser.old)) (D.layout (rtype_of self.entry)) result }
+            (record_at self.entry (offset parser.old)) (D.layout (rtype_of self.entry)) result }
         ensures moves { MovesBehindData parser.old parser.new
-            (record_at self.entry (place parser.old)) }
+            (record_at self.entry (offset parser.old)) }
     {
         let mut ahead = parser.parse_parser(usize::from(self.rdlen()))?;
         match read_data(self.rtype(), &mut ahead) {
@@ -76,9 +76,9 @@ impl<'a> RecordHeader<ParsedName<'a>> {
         parser: &mut Parser<'a>,
     ) -> Result<Record<ParsedName<'a>, D>, ParseError>
         ensures answers { AnswersLaidOut D.rtype_of D.parts (seen parser.old)
-            (record_at self.entry (place parser.old)) (D.any_layout (rtype_of self.entry)) result }
+            (record_at self.entry (offset parser.old)) (D.any_layout (rtype_of self.entry)) result }
         ensures moves { MovesBehindData parser.old parser.new
-            (record_at self.entry (place parser.old)) }
+            (record_at self.entry (offset parser.old)) }
     {
         let mut ahead = parser.parse_parser(usize::from(self.rdlen()))?;
         match read_any_data(self.rtype(), &mut ahead) {
@@ -160,16 +160,16 @@ impl<'a, D: ParseRecordData<'a> + Drop> Record<ParsedName<'a>, D> {
     /// even if the RDATA is malformed.
     pub fn parse(parser: &mut Parser<'a>) -> Result<Option<Self>, ParseError>
         ensures gives { (q : ℕ) (x : RecordEntry)
-            → ReadsRecord (seen parser.old) (place parser.old) q x
+            → ReadsRecord (seen parser.old) (offset parser.old) q x
             → AnswersTaken D.rtype_of D.parts (seen parser.old) x (D.layout x.rtype) result
             × MovesTo parser.old parser.new q }
         ensures back { (q : ℕ) (x : RecordEntry)
-            → ReadsRecord (seen parser.old) (place parser.old) q x
+            → ReadsRecord (seen parser.old) (offset parser.old) q x
             → GivesBackTaken D.rtype_of D.parts (seen parser.old) x (D.layout x.rtype) result }
         ensures value { (q : ℕ) (x : RecordEntry)
-            → ReadsRecord (seen parser.old) (place parser.old) q x
+            → ReadsRecord (seen parser.old) (offset parser.old) q x
             → GivesValueBackTaken D.rtype_of D.parts (seen parser.old) x result }
-        ensures fault { (f : Fault) → RecordFaultAt (seen parser.old) (place parser.old) f
+        ensures fault { (f : Fault) → RecordFaultAt (seen parser.old) (offset parser.old) f
             → IsErrAnd result (λ e. fault_of e ≡ f) × (parser.new ≡ parser.old) }
     {
         ParsedRecord::parse(parser)?.into_record()

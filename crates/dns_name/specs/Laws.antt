@@ -4,7 +4,7 @@ use Rattle.std.specs.Cmp.{IsTotalOrder}
 use Rattle.std.specs.declared.cmp.Ordering.TheVariants.{Equal}
 use Rattle.dns_name.specs.Names.{Fault, fault_of, Labels, IsName, lowered, Stands, FaultAt, Walked, SkipFaultAt}
 use Rattle.dns_name.specs.NameOrders.{name_order, composed_order, name_hash_input}
-use Rattle.dns_name.specs.Parsers.{place}
+use Rattle.dns_name.specs.Parsers.{offset}
 use Rattle.dns_name.specs.ParsedName.{ParsesName, SkipsName}
 use Rattle.dns_octets.specs.declared.error.ParseError.{ParseError}
 use Rattle.dns_name.specs.declared.parser.Parser.{Parser}
@@ -53,7 +53,7 @@ SkipFaultsAreFaults = (b : List ℕ) (p : ℕ) (f : Fault) → SkipFaultAt b p f
 -- If parsing yields a name, skipping ends at the same offset.
 abbrev pub SkippingEndsAlike : Type 0
 SkippingEndsAlike = (old parsed skipped : Parser) (name : ParsedName) (r : Result Unit ParseError)
-    → ParsesName old parsed (Ok name) → SkipsName old skipped r → IsOk r × (place skipped ≡ place parsed)
+    → ParsesName old parsed (Ok name) → SkipsName old skipped r → IsOk r × (offset skipped ≡ offset parsed)
 
 -- If skipping fails, parsing fails with the same fault.
 abbrev pub SkippingFailsAlike : Type 0

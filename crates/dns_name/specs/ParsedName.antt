@@ -2,7 +2,7 @@
 use Rattle.std.specs.Prelude.{◌≡◌, ℕ, List, ◌++◌, drop, Result, Ok, Err, IsOkAnd, [], ◌∷◌, take}
 use Rattle.dns_octets.specs.declared.error.ParseError.{ParseError}
 use Rattle.dns_name.specs.Names.{fault_of, Labels, uncompressed, Stands, FaultAt, Walked, SkipFaultAt, with_root}
-use Rattle.dns_name.specs.Parsers.{seen, place, MovesTo}
+use Rattle.dns_name.specs.Parsers.{seen, offset, MovesTo}
 use Rattle.dns_name.specs.declared.parser.Parser.{Parser}
 use Rattle.dns_name.specs.declared.parsed_name.ParsedName.{ParsedName}
 use Rattle.dns_name.specs.declared.label.Label.{Label}
@@ -18,17 +18,17 @@ IsFlat name = (behind : List ℕ) × (drop name.pos name.octets.now ≡ uncompre
 
 -- The parser moved past the encoding of the name at its old offset, and sees the same octets.
 abbrev pub MovesBehindName : Parser → Parser → Type 0
-MovesBehindName old new = Walked (seen old) (place old) (place new) × MovesTo old new (place new)
+MovesBehindName old new = Walked (seen old) (offset old) (offset new) × MovesTo old new (offset new)
 
 -- The result is the name encoded at the parser's offset, and the parser moved past its encoding; or it is the fault there, and the parser is unchanged.
 abbrev pub ParsesName : Parser → Parser → Result ParsedName ParseError → Type 0
-ParsesName old new (Ok name) = Stands (seen old) (place old) (labels name) × MovesBehindName old new
-ParsesName old new (Err e) = FaultAt (seen old) (place old) (fault_of e) × (new ≡ old)
+ParsesName old new (Ok name) = Stands (seen old) (offset old) (labels name) × MovesBehindName old new
+ParsesName old new (Err e) = FaultAt (seen old) (offset old) (fault_of e) × (new ≡ old)
 
 -- The parser moved past the encoding of a name; or the result is the fault of skipping, and the parser is unchanged.
 abbrev pub SkipsName : Parser → Parser → Result Unit ParseError → Type 0
 SkipsName old new (Ok _) = MovesBehindName old new
-SkipsName old new (Err e) = SkipFaultAt (seen old) (place old) (fault_of e) × (new ≡ old)
+SkipsName old new (Err e) = SkipFaultAt (seen old) (offset old) (fault_of e) × (new ≡ old)
 
 -- If a name is encoded at offset p, the result is that name.
 abbrev pub ReadsStanding : List ℕ → ℕ → Result ParsedName ParseError → Type 0

@@ -14,24 +14,24 @@ abbrev pub seen : Parser → List ℕ
 seen p = take p.end p.octets.now
 
 -- The offset of a parser.
-abbrev pub place : Parser → ℕ
-place p = p.pos
+abbrev pub offset : Parser → ℕ
+offset p = p.pos
 
 -- The parser moved to an offset, and sees the same octets.
 pub record MovesTo (old new : Parser) (to : ℕ) : Type 0 where
   pub input : input new ≡ input old
   pub seen : seen new ≡ seen old
-  pub place : place new ≡ to
+  pub offset : offset new ≡ to
 
 -- If n octets are left, the result is a value with P, and the parser moved past them. Else it is `ShortInput`, and the parser is unchanged.
 abbrev pub Takes : {T : Type 0} → Parser → Parser → ℕ → Result T ParseError → (T → Type 0) → Type 0
-Takes old new n (Ok value) P = (place old + n ≤ length (seen old)) × MovesTo old new (place old + n) × P value
-Takes old new n (Err e) P = (length (seen old) < place old + n) × (e ≡ ShortInput) × (new ≡ old)
+Takes old new n (Ok value) P = (offset old + n ≤ length (seen old)) × MovesTo old new (offset old + n) × P value
+Takes old new n (Err e) P = (length (seen old) < offset old + n) × (e ≡ ShortInput) × (new ≡ old)
 
 -- The same for a call that doesn't move the parser.
 abbrev pub Peeks : {T : Type 0} → Parser → ℕ → Result T ParseError → (T → Type 0) → Type 0
-Peeks p n (Ok value) P = (place p + n ≤ length (seen p)) × P value
-Peeks p n (Err e) P = (length (seen p) < place p + n) × (e ≡ ShortInput)
+Peeks p n (Ok value) P = (offset p + n ≤ length (seen p)) × P value
+Peeks p n (Err e) P = (length (seen p) < offset p + n) × (e ≡ ShortInput)
 
 -- The big-endian number of width w at offset p. RFC 1035 section 2.3.2.
 abbrev pub number_at : Width → List ℕ → ℕ → ℕ

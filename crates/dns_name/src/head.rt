@@ -31,67 +31,67 @@ impl Head {
     ghost use Rattle.dns_name.specs.Names.{head_at, Reads, BeginsOrFails};
     ghost use Rattle.dns_name.specs.NearNames.{IsInReach, PassesLabelsOrFails};
 
-    /// Returns what begins at offset `place`.
+    /// Returns what begins at offset `offset`.
     #[tactic(auto, unfolding(crate::specs::Names::head_at))]
-    pub(crate) fn at(octets: &[u8], place: usize) -> Result<Head, ParseError>
-        ensures head { Reads result (head_at octets.now place) }
-        ensures within { OnOk result (place < length octets.now) }
+    pub(crate) fn at(octets: &[u8], offset: usize) -> Result<Head, ParseError>
+        ensures head { Reads result (head_at octets.now offset) }
+        ensures within { OnOk result (offset < length octets.now) }
         ensures in_reach { IfOk result (λ head. IsInReach head) }
     {
-        let first = *octets.get(place).ok_or(ParseError::ShortInput)?;
+        let first = *octets.get(offset).ok_or(ParseError::ShortInput)?;
         match first {
             0 => Ok(Head::Root),
             1..64 => Ok(Head::Label(first)),
             64..192 => Err(ParseError::Form(FormError::BAD_LABEL)),
             192.. => {
-                let second = *octets.get(place + 1).ok_or(ParseError::ShortInput)?;
+                let second = *octets.get(offset + 1).ok_or(ParseError::ShortInput)?;
                 Ok(Head::Pointer(u16::from(first - 192) * 256 + u16::from(second)))
             }
         }
     }
 
-    /// Returns the octet at offset `place`, where a root label, a label or a pointer is known to
+    /// Returns the octet at offset `offset`, where a root label, a label or a pointer is known to
     /// begin. It is the length of a label, and 0 for the root label.
     #[inline(always)]
     #[tactic(auto, unfolding(crate::specs::Names::head_at))]
-    pub(crate) fn first(octets: &[u8], place: usize) -> u8
-        requires { IsOk (head_at octets.now place) }
-        ensures value { result ≡ get_or octets.now place 0 }
-        ensures within { place < length octets.now }
-        ensures root { result ≡ 0 → head_at octets.now place ≡ Ok Head.Root }
+    pub(crate) fn first(octets: &[u8], offset: usize) -> u8
+        requires { IsOk (head_at octets.now offset) }
+        ensures value { result ≡ get_or octets.now offset 0 }
+        ensures within { offset < length octets.now }
+        ensures root { result ≡ 0 → head_at octets.now offset ≡ Ok Head.Root }
         ensures label { 0 < result → result < 192
-            → head_at octets.now place ≡ Ok (Head.Label result) }
+            → head_at octets.now offset ≡ Ok (Head.Label result) }
     {
-        octets[place]
+        octets[offset]
     }
 
-    /// Returns the offset that the pointer at offset `place` leads to. A pointer is known to be
+    /// Returns the offset that the pointer at offset `offset` leads to. A pointer is known to be
     /// there.
     #[inline(always)]
     #[tactic(auto, unfolding(crate::specs::Names::head_at))]
-    pub(crate) fn target(octets: &[u8], place: usize) -> usize
-        requires known { IsOk (head_at octets.now place) }
-        requires pointer { 192 ≤ get_or octets.now place 0 }
-        ensures { head_at octets.now place ≡ Ok (Head.Pointer result) }
+    pub(crate) fn target(octets: &[u8], offset: usize) -> usize
+        requires known { IsOk (head_at octets.now offset) }
+        requires pointer { 192 ≤ get_or octets.now offset 0 }
+        ensures { head_at octets.now offset ≡ Ok (Head.Pointer result) }
     {
-        usize::from(octets[place] - 192) * 256 + usize::from(octets[place + 1])
+        usize::from(octets[offset] - 192) * 256 + usize::from(octets[offset + 1])
     }
 
-    /// Returns what begins at offset `place` in a name, after labels of `size` octets.
+    /// Returns what begins at offset `offset` in a name, after labels of `size` octets.
     ///
     /// Errors: those of `at`; `Form` if a label would make the name too long; `ShortInput` if a
     /// label runs past the end.
-    pub(crate) fn behind(octets: &[u8], place: usize, size: usize) -> Result<Head, ParseError>
+    pub(crate) fn behind(octets: &[u8], offset: usize, size: usize) -> Result<Head, ParseError>
         requires { size ≤ MAX_SIZE }
-        ensures { BeginsOrFails octets.now place size result }
+        ensures { BeginsOrFails octets.now offset size result }
     {
-        let head = Head::at(octets, place)?;
+        let head = Head::at(octets, offset)?;
         if let Head::Label(len) = head {
             let taken = usize::from(len) + 1;
             if size + taken > MAX_SIZE {
                 return Err(ParseError::Form(FormError::LONG_NAME));
             }
-            if taken > octets.len() - place {
+            if taken > octets.len() - offset {
                 return Err(ParseError::ShortInput);
             }
         }

@@ -3,7 +3,7 @@ ghost use Rattle.std.specs.Prelude.{ℕ, List};
 ghost use Rattle.dns_name.specs.Names.{Stands};
 ghost use Rattle.dns_name.specs.NearNames.{IsNear};
 ghost use Rattle.dns_name.specs.ParsedName.{labels, ParsesName, ReadsStanding};
-ghost use Rattle.dns_name.specs.Parsers.{seen, place};
+ghost use Rattle.dns_name.specs.Parsers.{seen, offset};
 
 use crate::near_name::NearName;
 use crate::parsed_name::ParsedName;
@@ -22,7 +22,7 @@ pub fn parse_near<'a>(
 ) -> Result<ParsedName<'a>, ParseError>
     requires near { IsNear (seen parser.old) near.old }
     ensures reads { ParsesName parser.old parser.new result }
-    ensures name { ReadsStanding (seen parser.old) (place parser.old) result }
+    ensures name { ReadsStanding (seen parser.old) (offset parser.old) result }
     ensures near { IsNear (seen parser.old) near.new }
 {
     let octets = &parser.octets[..parser.end];

@@ -33,7 +33,7 @@ pub(crate) struct NameExtent {
 
 impl<'a> ParsedName<'a> {
     ghost use Rattle.dns_name.specs.Names.{Labels, uncompressed, with_root, Stands};
-    ghost use Rattle.dns_name.specs.Parsers.{seen, place};
+    ghost use Rattle.dns_name.specs.Parsers.{seen, offset};
     ghost use Rattle.dns_name.specs.NearNames.{IsNear, ArrivesOrFails, MeasuresOrFails};
     ghost use Rattle.dns_name.specs.ParsedName.{labels, ParsesName, SkipsName, ReadsStanding, IsFlat, labels_left};
     ghost use Rattle.dns_name.specs.Uncompressed.{WholeName};
@@ -48,7 +48,7 @@ impl<'a> ParsedName<'a> {
     #[inline(always)]
     pub fn parse(parser: &mut Parser<'a>) -> Result<ParsedName<'a>, ParseError>
         ensures reads { ParsesName parser.old parser.new result }
-        ensures name { ReadsStanding (seen parser.old) (place parser.old) result }
+        ensures name { ReadsStanding (seen parser.old) (offset parser.old) result }
     {
         parse_near(parser, &mut NearName::new())
     }

@@ -17,13 +17,13 @@ pub struct Parser<'a> {
 }
 
 impl<'a> Parser<'a> {
-    ghost use Rattle.dns_name.specs.Parsers.{input, seen, place, number_at, MovesTo, Takes, Peeks};
+    ghost use Rattle.dns_name.specs.Parsers.{input, seen, offset, number_at, MovesTo, Takes, Peeks};
 
     /// Creates a parser at offset 0 that ends at the end of `octets`.
     pub fn new(octets: &'a [u8]) -> Self
         ensures input { input result ≡ octets.now }
         ensures seen { seen result ≡ octets.now }
-        ensures place { place result ≡ 0 }
+        ensures offset { offset result ≡ 0 }
     {
         Parser {
             octets,
@@ -34,14 +34,14 @@ impl<'a> Parser<'a> {
 
     /// Returns the offset in the input.
     pub fn pos(&self) -> usize
-        ensures { result ≡ place self.now }
+        ensures { result ≡ offset self.now }
     {
         self.pos
     }
 
     /// Returns the number of octets left before the end.
     pub fn remaining(&self) -> usize
-        ensures { place self.now + result ≡ length (seen self.now) }
+        ensures { offset self.now + result ≡ length (seen self.now) }
     {
         self.end - self.pos
     }
@@ -80,7 +80,7 @@ impl<'a> Parser<'a> {
     /// Returns the next `n` octets without moving. Returns `ShortInput` if fewer are left.
     pub fn peek(&self, n: usize) -> Result<&'a [u8], ParseError>
         ensures { Peeks self.now n result (λ octets. octets.now
-            ≡ slice_range (seen self.now) (place self.now) (place self.now + n)) }
+            ≡ slice_range (seen self.now) (offset self.now) (offset self.now + n)) }
     {
         if n > self.remaining() {
             return Err(ParseError::ShortInput);
@@ -91,7 +91,7 @@ impl<'a> Parser<'a> {
     /// Reads a big-endian number of two octets. Returns `ShortInput` if fewer are left.
     pub fn parse_u16_be(&mut self) -> Result<u16, ParseError>
         ensures { Takes self.old self.new 2 result
-            (λ value. value ≡ number_at w16 (seen self.old) (place self.old)) }
+            (λ value. value ≡ number_at w16 (seen self.old) (offset self.old)) }
     {
         let octets = self.peek(2)?;
         let value = u16::from_be_bytes([octets[0], octets[1]]);
@@ -102,7 +102,7 @@ impl<'a> Parser<'a> {
     /// Reads a big-endian number of four octets. Returns `ShortInput` if fewer are left.
     pub fn parse_u32_be(&mut self) -> Result<u32, ParseError>
         ensures { Takes self.old self.new 4 result
-            (λ value. value ≡ number_at w32 (seen self.old) (place self.old)) }
+            (λ value. value ≡ number_at w32 (seen self.old) (offset self.old)) }
     {
         let octets = self.peek(4)?;
         let value = u32::from_be_bytes([octets[0], octets[1], octets[2], octets[3]]);
@@ -118,8 +118,8 @@ impl<'a> Parser<'a> {
     pub fn parse_parser(&mut self, n: usize) -> Result<Parser<'a>, ParseError>
         ensures { Takes self.old self.new n result
             (λ inner. (input inner ≡ input self.old)
-            × (seen inner ≡ take (place self.old + n) (seen self.old))
-            × (place inner ≡ place self.old)) }
+            × (seen inner ≡ take (offset self.old + n) (seen self.old))
+            × (offset inner ≡ offset self.old)) }
     {
         let mut inner = *self;
         self.advance(n)?;

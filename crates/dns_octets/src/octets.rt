@@ -17,10 +17,10 @@ pub trait Octets: Drop {
 
 /// A type that holds octets and can overwrite them.
 pub trait OctetsMut: Octets {
-    /// Overwrites the octets from offset `place` on.
-    fn write_at(&mut self, place: usize, octets: &[u8])
-        requires { place + length octets.now ≤ length (Self.octets self.old) }
-        ensures { Self.octets self.new ≡ overwritten (Self.octets self.old) place octets.now };
+    /// Overwrites the octets from offset `offset` on.
+    fn write_at(&mut self, offset: usize, octets: &[u8])
+        requires { offset + length octets.now ≤ length (Self.octets self.old) }
+        ensures { Self.octets self.new ≡ overwritten (Self.octets self.old) offset octets.now };
 }
 
 /// A conversion that keeps what the source holds.
@@ -89,29 +89,29 @@ impl<T: Octets> Octets for &T {
     }
 }
 
-/// Overwrites the octets of the target from offset `place` on.
-pub(crate) fn overwrite_slice(target: &mut [u8], place: usize, octets: &[u8])
-    requires { place + length octets.now ≤ length target.old }
-    ensures { target.new ≡ overwritten target.old place octets.now }
+/// Overwrites the octets of the target from offset `offset` on.
+pub(crate) fn overwrite_slice(target: &mut [u8], offset: usize, octets: &[u8])
+    requires { offset + length octets.now ≤ length target.old }
+    ensures { target.new ≡ overwritten target.old offset octets.now }
 {
-    target[place..place + octets.len()].copy_from_slice(octets);
+    target[offset..offset + octets.len()].copy_from_slice(octets);
 }
 
 impl OctetsMut for Vec<u8> {
-    fn write_at(&mut self, place: usize, octets: &[u8]) {
-        overwrite_slice(self.as_mut_slice(), place, octets);
+    fn write_at(&mut self, offset: usize, octets: &[u8]) {
+        overwrite_slice(self.as_mut_slice(), offset, octets);
     }
 }
 
 impl<const N: usize> OctetsMut for ArrayVec<u8, N> {
-    fn write_at(&mut self, place: usize, octets: &[u8]) {
-        overwrite_slice(self.as_mut_slice(), place, octets);
+    fn write_at(&mut self, offset: usize, octets: &[u8]) {
+        overwrite_slice(self.as_mut_slice(), offset, octets);
     }
 }
 
 impl<const N: usize> OctetsMut for [u8; N] {
-    fn write_at(&mut self, place: usize, octets: &[u8]) {
-        overwrite_slice(self, place, octets);
+    fn write_at(&mut self, offset: usize, octets: &[u8]) {
+        overwrite_slice(self, offset, octets);
     }
 }
 

@@ -3,7 +3,7 @@ use Rattle.std.specs.Prelude.{◌≡◌, ℕ, Result, Ok, Err, List, ◌++◌, �
 use Rattle.dns_octets.specs.declared.error.ParseError.{ParseError}
 use Rattle.dns_name.specs.Names.{fault_of, Labels}
 use Rattle.dns_name.specs.ParsedName.{labels}
-use Rattle.dns_name.specs.Parsers.{seen, place, MovesTo}
+use Rattle.dns_name.specs.Parsers.{seen, offset, MovesTo}
 use Rattle.dns_name.specs.declared.parsed_name.ParsedName.{ParsedName}
 use Rattle.dns_name.specs.declared.parser.Parser.{Parser}
 use Rattle.dns_number.specs.Classes.{class_text}
@@ -37,13 +37,13 @@ parsed_question = question_item labels
 
 -- What parsing returns: the question at the parser's offset, with the parser moved past it; or the fault there, and the parser doesn't move.
 abbrev pub ParsesQuestion : Parser → Parser → Result (Question ParsedName) ParseError → Type 0
-ParsesQuestion old new (Ok q) = ReadsQuestion (seen old) (place old) (place new) (parsed_question q) × MovesTo old new (place new)
-ParsesQuestion old new (Err e) = QuestionFaultAt (seen old) (place old) (fault_of e) × (new ≡ old)
+ParsesQuestion old new (Ok q) = ReadsQuestion (seen old) (offset old) (offset new) (parsed_question q) × MovesTo old new (offset new)
+ParsesQuestion old new (Err e) = QuestionFaultAt (seen old) (offset old) (fault_of e) × (new ≡ old)
 
 -- Skipping moves the parser past the question. If it can't be skipped, it returns the fault, and the parser doesn't move.
 abbrev pub SkipsOverQuestion : Parser → Parser → Result Unit ParseError → Type 0
-SkipsOverQuestion old new (Ok _) = SkipsQuestion (seen old) (place old) (place new) × MovesTo old new (place new)
-SkipsOverQuestion old new (Err e) = QuestionSkipFaultAt (seen old) (place old) (fault_of e) × (new ≡ old)
+SkipsOverQuestion old new (Ok _) = SkipsQuestion (seen old) (offset old) (offset new) × MovesTo old new (offset new)
+SkipsOverQuestion old new (Err e) = QuestionSkipFaultAt (seen old) (offset old) (fault_of e) × (new ≡ old)
 
 -- Questions in presentation format. RFC 1035 section 5.1.
 

@@ -16,7 +16,7 @@ pub struct CharStr<'a> {
 
 impl<'a> CharStr<'a> {
     ghost use Rattle.std.specs.Prelude.{◌↔◌, slice_range, IfSome, IsSome};
-    ghost use Rattle.dns_name.specs.Parsers.{seen, place, Takes};
+    ghost use Rattle.dns_name.specs.Parsers.{seen, offset, Takes};
 
     /// The character string in these octets. `None` unless the first octet is the number of the
     /// others.
@@ -43,9 +43,9 @@ impl<'a> CharStr<'a> {
 
     /// Reads a character string and advances past it.
     pub fn parse(parser: &mut Parser<'a>) -> Result<Self, ParseError>
-        ensures { let n = string_size (seen parser.old) (place parser.old) in
+        ensures { let n = string_size (seen parser.old) (offset parser.old) in
             Takes parser.old parser.new n result (λ string. string.octets.now
-            ≡ slice_range (seen parser.old) (place parser.old) (place parser.old + n)) }
+            ≡ slice_range (seen parser.old) (offset parser.old) (offset parser.old + n)) }
     {
         let size = 1 + usize::from(parser.peek(1)?[0]);
         let octets = parser.peek(size)?;

@@ -14,23 +14,23 @@ walk_within w = omega (arith, length-take w.parser.end w.parser.octets.now, w.pa
 -- the first field is incomplete
 pub cut_here : (p n e : ℕ) (field : Field) (behind : List Row) (old new : Walk) (fault : Fault) → LacksField field (octets old) (at old + n) fault → new ≡ old → at old ≡ p → e ≡ p + n
     → CutsFields (field_row p e field ∷ behind) old new fault
-cut_here p n e field behind old new fault h same place end =
+cut_here p n e field behind old new fault h same offset end =
     let P : ℕ → Type 0 = λ q. CutRows (octets old) (field_row p e field ∷ behind) q fault [] in
-    let within : p ≤ length (octets old) = omega (arith, walk_within old, place) in
-    let cut : P p = record { field = field; end = e; behind = behind; made = refl; within = within; short = omega (arith, h.1, place, end); told = h.0 } in
+    let within : p ≤ length (octets old) = omega (arith, walk_within old, offset) in
+    let cut : P p = record { field = field; end = e; behind = behind; made = refl; within = within; short = omega (arith, h.1, offset, end); told = h.0 } in
     record {
       rows = [];
       adds = ap (λ (w : Walk). w.rows.items) same ∙ sym (append-nil old.rows.items);
-      cut = subst P (sym (ap (λ (w : Walk). at w) same ∙ place)) cut;
+      cut = subst P (sym (ap (λ (w : Walk). at w) same ∙ offset)) cut;
     }
 
 -- a field after others is incomplete
-cut_rows_after : (b : List ℕ) (front behind rows : List Row) (place : ℕ) (fault : Fault) → CutRows b behind place fault rows → CutRows b (front ++ behind) place fault (front ++ rows)
-cut_rows_after b front behind rows place fault h = record {
+cut_rows_after : (b : List ℕ) (front behind rows : List Row) (offset : ℕ) (fault : Fault) → CutRows b behind offset fault rows → CutRows b (front ++ behind) offset fault (front ++ rows)
+cut_rows_after b front behind rows offset fault h = record {
   field = h.field;
   end = h.end;
   behind = h.behind;
-  made = ap (λ others. front ++ others) h.made ∙ sym (append_assoc front rows (field_row place h.end h.field ∷ h.behind));
+  made = ap (λ others. front ++ others) h.made ∙ sym (append_assoc front rows (field_row offset h.end h.field ∷ h.behind));
   within = h.within;
   short = h.short;
   told = h.told;

@@ -31,7 +31,7 @@ pub octets_then : (n : ℕ) (field : Field) (shape : Shape) (stop : Option RowFa
     → at old + n ≤ length (octets old) → MarksData shape stop mid new → MarksData (Octets n field shape) stop old new
 octets_then n field shape stop old mid new h within k =
     let P : List ℕ → ℕ → Type 0 = λ b p. ShowsData b shape stop p (at new) k.rows in
-    let behind : P (octets old) (at old + n) = subst (λ b. P b (at old + n)) h.seen (subst (λ p. P (octets mid) p) h.place k.shows) in
+    let behind : P (octets old) (at old + n) = subst (λ b. P b (at old + n)) h.seen (subst (λ p. P (octets mid) p) h.offset k.shows) in
     record {
       rows = field_row (at old) (at old + n) field ∷ k.rows;
       adds = k.adds ∙ ap (λ rows. rows ++ k.rows) h.rows ∙ append_assoc old.rows.items (field_row (at old) (at old + n) field ∷ []) k.rows;
@@ -74,19 +74,19 @@ rest_rows n old new (Ok v) some end h =
     record {
       rows = field_row (at old) (at old + n) DataField ∷ [];
       adds = h.rows;
-      shows = subst (λ q. ShowsData (octets old) Rest None (at old) q (field_row (at old) (at old + n) DataField ∷ [])) (sym h.place) shows;
+      shows = subst (λ q. ShowsData (octets old) Rest None (at old) q (field_row (at old) (at old + n) DataField ∷ [])) (sym h.offset) shows;
     }
 rest_rows n old new (Err stop) some end h = tt
 
 -- the rows of a walk up to the end of the RDATA are rows of the record
 pub within_rows : (rtype len : ℕ) (stop : Option RowFault) (old mid new : Walk) → octets mid ≡ take (at old + len) (octets old) → at mid ≡ at old → mid.rows.items ≡ old.rows.items
     → MarksData (shape_of rtype) stop mid new → MarksWithin rtype len stop old new
-within_rows rtype len stop old mid new seen place rows h =
+within_rows rtype len stop old mid new seen offset rows h =
     let P : List ℕ → ℕ → Type 0 = λ b p. ShowsData b (shape_of rtype) stop p (at new) h.rows in
     record {
       rows = h.rows;
       adds = h.adds ∙ ap (λ rows. rows ++ h.rows) rows;
-      shows = subst (λ p. P (take (at old + len) (octets old)) p) place (subst (λ b. P b (at mid)) seen h.shows);
+      shows = subst (λ p. P (take (at old + len) (octets old)) p) offset (subst (λ b. P b (at mid)) seen h.shows);
     }
 
 -- a walk that sees at most `len` octets more ends at most `len` octets further
@@ -97,7 +97,7 @@ not_past old new len seen there =
 
 -- consecutive character strings
 abbrev pub no_texts : (old : Walk) → PassesTexts old old
-no_texts old = record { rows = []; adds = record { rows = sym (append-nil old.rows.items); seen = refl; place = refl }; texts = no_text }
+no_texts old = record { rows = []; adds = record { rows = sym (append-nil old.rows.items); seen = refl; offset = refl }; texts = no_text }
 
 pub one_more_text : (n : ℕ) (old mid new : Walk) → PassesTexts old mid → slice_get (octets mid) (at mid) ≡ Some n
     → Adds (field_row (at mid) (at mid + (1 + n)) Text ∷ []) (at mid + (1 + n)) mid new → at mid + (1 + n) ≤ length (octets mid) → PassesTexts old new
@@ -109,8 +109,8 @@ one_more_text n old mid new h there k within =
     let P : ℕ → Type 0 = λ q. TextRows (octets old) (at old) q (h.rows ++ row ∷ []) in
     record {
       rows = h.rows ++ row ∷ [];
-      adds = record { rows = all.rows; seen = all.seen; place = refl };
-      texts = subst P (sym k.place) (text h.rows h.texts there_too within_too);
+      adds = record { rows = all.rows; seen = all.seen; offset = refl };
+      texts = subst P (sym k.offset) (text h.rows h.texts there_too within_too);
     }
 
 pub all_texts : (old new : Walk) → PassesTexts old new → slice_get (octets new) (at new) ≡ None → MarksData Texts None old new
@@ -176,7 +176,7 @@ cut_len n old mid new fault h read k same =
     let len = number_at w16 (octets old) (p + 2) in
     let grown : p + 4 ≡ p + 2 + 2 = omega arith in
     let rows : ℕ → List Row = λ code. field_row (p + 2) (p + 4) (OptionLength code) ∷ option_data_rows code (p + 4) (p + 4 + len) in
-    let cut : CutsFields (rows n) mid new fault = cut_here (p + 2) 2 (p + 4) (OptionLength n) (option_data_rows n (p + 4) (p + 4 + len)) mid new fault k same h.place grown in
+    let cut : CutsFields (rows n) mid new fault = cut_here (p + 2) 2 (p + 4) (OptionLength n) (option_data_rows n (p + 4) (p + 4 + len)) mid new fault k same h.offset grown in
     cut_after (field_row p (p + 2) OptionCode ∷ []) (rows (number_at w16 (octets old) p)) (p + 2) old mid new fault h (subst (λ code. CutsFields (rows code) mid new fault) read cut)
 
 pub cut_value : (n size : ℕ) (old mid last new : Walk) (fault : RowFault) → Adds (field_row (at old) (at old + 2) OptionCode ∷ []) (at old + 2) old mid → n ≡ number_at w16 (octets old) (at old)
@@ -187,11 +187,11 @@ cut_value n size old mid last new fault h read k sized l same =
     let grown : p + 4 ≡ p + 2 + 2 = omega arith in
     let front = field_row p (p + 2) OptionCode ∷ [] in
     let both = adds_row front old mid last (p + 2) 2 (p + 4) (OptionLength n) h k grown in
-    let cut = cut_here (p + 4) size (p + 4 + size) (OptionData n) [] last new fault l same both.place refl in
-    let some : p + 4 < p + 4 + size = omega (arith, l.1, walk_within last, both.place) in
+    let cut = cut_here (p + 4) size (p + 4 + size) (OptionData n) [] last new fault l same both.offset refl in
+    let some : p + 4 < p + 4 + size = omega (arith, l.1, walk_within last, both.offset) in
     let one = subst (λ rows. CutsFields rows last new fault) (sym (data_row n (p + 4) (p + 4 + size) some)) cut in
     let whole : CutsFields (option_rows n size p) old new fault =
     cut_after (front ++ field_row (p + 2) (p + 4) (OptionLength n) ∷ []) (option_data_rows n (p + 4) (p + 4 + size)) (p + 4) old last new fault both one in
-    let sized_there : size ≡ number_at w16 (octets old) (p + 2) = sized ∙ ap (λ b. number_at w16 b (at mid)) h.seen ∙ ap (λ p. number_at w16 (octets old) p) h.place in
+    let sized_there : size ≡ number_at w16 (octets old) (p + 2) = sized ∙ ap (λ b. number_at w16 b (at mid)) h.seen ∙ ap (λ p. number_at w16 (octets old) p) h.offset in
     let P : ℕ → ℕ → Type 0 = λ code len. CutsFields (option_rows code len p) old new fault in
     subst (λ code. P code (number_at w16 (octets old) (p + 2))) read (subst (λ len. P n len) sized_there whole)

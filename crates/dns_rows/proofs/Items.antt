@@ -37,10 +37,10 @@ use Rattle.dns_rows.proofs.Names.{adds_row, adds_then}
 
 -- an item, or a record, stops with this fault for some result of reading it
 abbrev pub AnyStops : List ℕ → Part → ℕ → ℕ → RowFault → List Row → Type 0
-AnyStops b part p place fault others = (x : Result (Entry part) Fault) × ItemStops b part x p place fault others
+AnyStops b part p offset fault others = (x : Result (Entry part) Fault) × ItemStops b part x p offset fault others
 
 abbrev pub AnyRecordStops : List ℕ → ℕ → ℕ → RowFault → List Row → Type 0
-AnyRecordStops b p place fault others = (x : Result RecordEntry Fault) × RecordStops b x p place fault others
+AnyRecordStops b p offset fault others = (x : Result RecordEntry Fault) × RecordStops b x p offset fault others
 
 -- the walk stopped in an item
 marks_stop : (part : Part) (number : ℕ) (others : List Row) (old new : Walk) (fault : RowFault) → new.rows.items ≡ old.rows.items ++ item_row part number (at old) ∷ others
@@ -80,7 +80,7 @@ class_cut old mid new fault h k same =
     let r = at old in
     let grown : r + 4 ≡ r + 2 + 2 = omega arith in
     cut_after (field_row r (r + 2) fields.Type ∷ []) (field_row (r + 2) (r + 4) fields.Class ∷ []) (r + 2) old mid new fault h
-    (cut_here (r + 2) 2 (r + 4) fields.Class [] mid new fault k same h.place grown)
+    (cut_here (r + 2) 2 (r + 4) fields.Class [] mid new fault k same h.offset grown)
 
 -- a question with a name, a type and a class
 pub marks_question : (number : ℕ) (old a b new : Walk) → PassesItemName names.Question (item_row Question number (at old)) old a
@@ -95,7 +95,7 @@ marks_question number old a b new h k l within =
     let typed = adds_row rows old a b r 2 (r + 2) fields.Type h.adds k refl in
     let all = adds_row (rows ++ type_row ∷ []) old b new (r + 2) 2 (r + 4) fields.Class typed l grown in
     let same = ap length typed.seen in
-    let there : r + 4 ≤ length (octets old) = omega (arith, same, typed.place, within) in
+    let there : r + 4 ≤ length (octets old) = omega (arith, same, typed.offset, within) in
     let whole = rows ++ type_row ∷ class_row ∷ [] in
     let x : QuestionItem = record { name = h.labels; rtype = number_at w16 (octets old) r; class = number_at w16 (octets old) (r + 2) } in
     let shows : ShowsQuestion (octets old) number x (at old) (r + 4) whole = record {
@@ -107,16 +107,16 @@ marks_question number old a b new h k l within =
     record {
       entry = x;
       rows = whole;
-      adds = record { rows = all.rows ∙ ap (λ rows. old.rows.items ++ rows) (append_assoc rows (type_row ∷ []) (class_row ∷ [])); seen = all.seen; place = refl };
-      shows = subst (λ q. ShowsQuestion (octets old) number x (at old) q whole) (sym all.place) shows;
+      adds = record { rows = all.rows ∙ ap (λ rows. old.rows.items ++ rows) (append_assoc rows (type_row ∷ []) (class_row ∷ [])); seen = all.seen; offset = refl };
+      shows = subst (λ q. ShowsQuestion (octets old) number x (at old) q whole) (sym all.offset) shows;
     }
 
 -- a record that can't be read, or whose RDATA can't, is an item that stops
-record_stops : (b : List ℕ) (part : Part) (p place : ℕ) (fault : RowFault) (others : List Row) → IsTrue (holds_records part) → AnyRecordStops b p place fault others → AnyStops b part p place fault others
-record_stops b Question p place fault others h s = absurd (cc h)
-record_stops b Answer p place fault others h s = s
-record_stops b Authority p place fault others h s = s
-record_stops b Additional p place fault others h s = s
+record_stops : (b : List ℕ) (part : Part) (p offset : ℕ) (fault : RowFault) (others : List Row) → IsTrue (holds_records part) → AnyRecordStops b p offset fault others → AnyStops b part p offset fault others
+record_stops b Question p offset fault others h s = absurd (cc h)
+record_stops b Answer p offset fault others h s = s
+record_stops b Authority p offset fault others h s = s
+record_stops b Additional p offset fault others h s = s
 
 record_shows : (b : List ℕ) (part : Part) (number : ℕ) (x : RecordEntry) (p q : ℕ) (rows : List Row) → IsTrue (holds_records part) → ShowsRecord b part number x p q rows
     → (y : Entry part) × ShowsItem b part number y p q rows
@@ -158,7 +158,7 @@ class_lacks rtype old mid new fault h read k =
     let r = at old in
     let rows : List Row = class_rows (number_at w16 (octets old) r) (r + 2) in
     let P : ℕ → ℕ → Type 0 = λ n p. CutsFields (class_rows n p) mid new fault in
-    let cut : CutsFields rows mid new fault = subst (λ n. P n (r + 2)) read (subst (λ p. P rtype p) h.place k) in
+    let cut : CutsFields rows mid new fault = subst (λ n. P n (r + 2)) read (subst (λ p. P rtype p) h.offset k) in
     let last = field_row (r + 8) (r + 10) fields.DataLength ∷ [] in
     cut_after (field_row r (r + 2) fields.Type ∷ []) (rows ++ last) (r + 2) old mid new fault h (cut_before rows last mid new fault cut)
 
@@ -169,8 +169,8 @@ len_lacks rtype old mid last new fault h read k l same =
     let r = at old in
     let rows : List Row = class_rows (number_at w16 (octets old) r) (r + 2) in
     let P : ℕ → ℕ → Type 0 = λ n p. Adds (class_rows n p) (p + 6) mid last in
-    let class : Adds rows (r + 2 + 6) mid last = subst (λ n. P n (r + 2)) read (subst (λ p. P rtype p) h.place k) in
-    let there : at last ≡ r + 8 = omega (arith, class.place) in
+    let class : Adds rows (r + 2 + 6) mid last = subst (λ n. P n (r + 2)) read (subst (λ p. P rtype p) h.offset k) in
+    let there : at last ≡ r + 8 = omega (arith, class.offset) in
     let grown : r + 10 ≡ r + 8 + 2 = omega arith in
     let end = field_row (r + 8) (r + 10) fields.DataLength ∷ [] in
     cut_after (field_row r (r + 2) fields.Type ∷ []) (rows ++ end) (r + 2) old mid new fault h
@@ -184,7 +184,7 @@ opt_cut_2 old a new fault h k same =
     let grown : p + 3 ≡ p + 2 + 1 = omega arith in
     let behind = field_row (p + 3) (p + 4) fields.Version ∷ field_row (p + 4) (p + 6) fields.OptFlags ∷ [] in
     cut_after (field_row p (p + 2) fields.PayloadSize ∷ []) (field_row (p + 2) (p + 3) fields.ExtendedRcode ∷ behind) (p + 2) old a new fault h
-    (cut_here (p + 2) 1 (p + 3) fields.ExtendedRcode behind a new fault k same h.place grown)
+    (cut_here (p + 2) 1 (p + 3) fields.ExtendedRcode behind a new fault k same h.offset grown)
 
 two_opt_rows : (old a b : Walk) → Adds (field_row (at old) (at old + 2) fields.PayloadSize ∷ []) (at old + 2) old a → Adds (field_row (at a) (at a + 1) fields.ExtendedRcode ∷ []) (at a + 1) a b
     → Adds (field_row (at old) (at old + 2) fields.PayloadSize ∷ field_row (at old + 2) (at old + 3) fields.ExtendedRcode ∷ []) (at old + 3) old b
@@ -200,7 +200,7 @@ opt_cut_3 old a b new fault h k l same =
     let grown : p + 4 ≡ p + 3 + 1 = omega arith in
     let behind = field_row (p + 4) (p + 6) fields.OptFlags ∷ [] in
     cut_after (field_row p (p + 2) fields.PayloadSize ∷ field_row (p + 2) (p + 3) fields.ExtendedRcode ∷ []) (field_row (p + 3) (p + 4) fields.Version ∷ behind) (p + 3) old b new fault both
-    (cut_here (p + 3) 1 (p + 4) fields.Version behind b new fault l same both.place grown)
+    (cut_here (p + 3) 1 (p + 4) fields.Version behind b new fault l same both.offset grown)
 
 pub opt_cut_4 : (old a b d new : Walk) (fault : RowFault) → Adds (field_row (at old) (at old + 2) fields.PayloadSize ∷ []) (at old + 2) old a → Adds (field_row (at a) (at a + 1) fields.ExtendedRcode ∷ []) (at a + 1) a b
     → Adds (field_row (at b) (at b + 1) fields.Version ∷ []) (at b + 1) b d → LacksField fields.OptFlags (octets d) (at d + 2) fault → new ≡ d → CutsFields (opt_rows (at old)) old new fault
@@ -212,7 +212,7 @@ opt_cut_4 old a b d new fault h k l m same =
     let three = adds_row front old b d (p + 3) 1 (p + 4) fields.Version both l further in
     let grown : p + 6 ≡ p + 4 + 2 = omega arith in
     cut_after (front ++ field_row (p + 3) (p + 4) fields.Version ∷ []) (field_row (p + 4) (p + 6) fields.OptFlags ∷ []) (p + 4) old d new fault three
-    (cut_here (p + 4) 2 (p + 6) fields.OptFlags [] d new fault m same three.place grown)
+    (cut_here (p + 4) 2 (p + 6) fields.OptFlags [] d new fault m same three.offset grown)
 
 -- what is read of a record
 abbrev entry_of : List (List ℕ) → List ℕ → ℕ → ℕ → ℕ → RecordEntry
@@ -238,7 +238,7 @@ data_cut : (rtype len : ℕ) (a b new : Walk) → PassesNumbers rtype len a b �
 data_cut rtype len a b new k short same =
     let r = at a in
     let rdata = field_row (r + 10) (r + 10 + len) fields.Data ∷ [] in
-    let cut = cut_here (r + 10) len (r + 10 + len) fields.Data [] b new (Short fields.Data) (refl, short) same k.adds.place refl in
+    let cut = cut_here (r + 10) len (r + 10 + len) fields.Data [] b new (Short fields.Data) (refl, short) same k.adds.offset refl in
     let whole = cut_after (number_rows rtype r) rdata (r + 10) a b new (Short fields.Data) k.adds cut in
     let P : ℕ → ℕ → Type 0 = λ n m. CutsFields (number_rows n r ++ field_row (r + 10) (r + 10 + m) fields.Data ∷ []) a new (Short fields.Data) in
     subst (λ n. P n (number_at w16 (octets a) (r + 8))) k.rtype_there (subst (λ m. P rtype m) k.len_there whole)
@@ -248,13 +248,13 @@ pub data_stops : (part : Part) (number rtype len : ℕ) (old a b new : Walk) (fa
     → PassesNumbers rtype len a b → StopsWithin rtype len b new fault → MarksStop part number old new fault
 data_stops part number rtype len old a b new _ records h k (missing short same) =
     let size = ap length k.adds.seen in
-    let lacks : LacksRecord (octets a) (at a) = lacks_data k.within (omega (arith, short, k.len_there, size, k.adds.place)) in
+    let lacks : LacksRecord (octets a) (at a) = lacks_data k.within (omega (arith, short, k.len_there, size, k.adds.offset)) in
     record_short part number old a new (Short fields.Data) records h (data_cut rtype len a b new k short same) lacks
 data_stops part number rtype len old a b new _ records h k (stopped stop there w left) =
     let r = at a in
     let seen = k.adds.seen ∙ h.adds.seen in
     let same = ap length seen in
-    let there_too : r + 10 + len ≤ length (octets old) = omega (arith, there, same, k.adds.place) in
+    let there_too : r + 10 + len ≤ length (octets old) = omega (arith, there, same, k.adds.offset) in
     let P : List ℕ → ℕ → Type 0 = λ b p. ShowsData (take (p + len) b) (shape_of rtype) stop p (at new) w.rows in
     let x = entry_of h.labels (octets old) r rtype len in
     let row = item_row part number (at old) in
@@ -270,8 +270,8 @@ data_stops part number rtype len old a b new _ records h k (stopped stop there w
       owner = h.shows;
       data_rows = w.rows;
       stop = stop;
-      value = subst (λ p. P (octets old) p) k.adds.place (subst (λ o. P o (at b)) seen w.shows);
-      left_over = λ e. omega (arith, left e, k.adds.place);
+      value = subst (λ p. P (octets old) p) k.adds.offset (subst (λ o. P o (at b)) seen w.shows);
+      left_over = λ e. omega (arith, left e, k.adds.offset);
       told = refl;
       made = refl;
     } in
@@ -281,18 +281,18 @@ data_stops part number rtype len old a b new _ records h k (stopped stop there w
 pub marks_record : (part : Part) (number rtype len : ℕ) (old a b new : Walk) → IsTrue (holds_records part) → PassesItemName names.Owner (item_row part number (at old)) old a
     → PassesNumbers rtype len a b → MarksWithin rtype len None b new → octets new ≡ octets b → at new ≡ at b + len → at b + len ≤ length (octets b)
     → MarksItem part number old new
-marks_record part number rtype len old a b new records h k g seen place within =
+marks_record part number rtype len old a b new records h k g seen offset within =
     let r = at a in
     let same : length (octets b) ≡ length (octets old) = ap length (k.adds.seen ∙ h.adds.seen) in
-    let there : r + 10 + len ≤ length (octets old) = omega (arith, within, k.adds.place, same) in
-    let to : at new ≡ r + 10 + len = omega (arith, place, k.adds.place) in
+    let there : r + 10 + len ≤ length (octets old) = omega (arith, within, k.adds.offset, same) in
+    let to : at new ≡ r + 10 + len = omega (arith, offset, k.adds.offset) in
     let named = adds_then (item_row part number (at old) ∷ h.rows) (number_rows rtype r) r (r + 10) old a b h.adds k.adds in
     let front = item_row part number (at old) ∷ h.rows in
     let rows = front ++ (number_rows rtype r ++ g.rows) in
     let joined : (front ++ number_rows rtype r) ++ g.rows ≡ rows = append_assoc front (number_rows rtype r) g.rows in
     let P : List ℕ → ℕ → ℕ → Type 0 = λ b from to. ShowsData (take (from + len) b) (shape_of rtype) None from to g.rows in
     let value : P (octets old) (r + 10) (r + 10 + len) =
-    subst (λ from. P (octets old) from (r + 10 + len)) k.adds.place (subst (λ o. P o (at b) (r + 10 + len)) (k.adds.seen ∙ h.adds.seen) (subst (λ to. P (octets b) (at b) to) to g.shows)) in
+    subst (λ from. P (octets old) from (r + 10 + len)) k.adds.offset (subst (λ o. P o (at b) (r + 10 + len)) (k.adds.seen ∙ h.adds.seen) (subst (λ to. P (octets b) (at b) to) to g.shows)) in
     let x = entry_of h.labels (octets old) r rtype len in
     let shows : ShowsRecord (octets old) part number x (at old) (r + 10 + len) rows = record {
       reads = reads_record (item_row part number (at old)) rtype len old a b h k there;
@@ -309,7 +309,7 @@ marks_record part number rtype len old a b new records h k g seen place within =
       adds = record {
         rows = g.adds ∙ ap (λ rows. rows ++ g.rows) named.rows ∙ append_assoc old.rows.items (front ++ number_rows rtype r) g.rows ∙ ap (λ rows. old.rows.items ++ rows) joined;
         seen = seen ∙ k.adds.seen ∙ h.adds.seen;
-        place = refl;
+        offset = refl;
       };
       shows = subst (λ q. ShowsItem (octets old) part number whole.0 (at old) q rows) (sym to) whole.1;
     }
@@ -327,18 +327,18 @@ reads_next b Answer number n p q x rows s = (records_from_are_read b).entry n p 
 reads_next b Authority number n p q x rows s = (records_from_are_read b).entry n p q x s.reads
 reads_next b Additional number n p q x rows s = (records_from_are_read b).entry n p q x s.reads
 
-record_reads_stop : (b : List ℕ) (n p place : ℕ) (x : Result RecordEntry Fault) (fault : RowFault) (shown : List Row) → RecordStops b x p place fault shown
+record_reads_stop : (b : List ℕ) (n p offset : ℕ) (x : Result RecordEntry Fault) (fault : RowFault) (shown : List Row) → RecordStops b x p offset fault shown
     → (others : List (Result RecordEntry Fault)) × (records_from b (suc n) p ≡ x ∷ others)
-record_reads_stop b n p place (Ok x) fault shown s = (records_from b n s.end, (records_from_are_read b).entry n p s.end x s.reads)
-record_reads_stop b n p place (Err f) fault shown s = ([], (records_from_are_read b).stop n p f s.0)
+record_reads_stop b n p offset (Ok x) fault shown s = (records_from b n s.end, (records_from_are_read b).entry n p s.end x s.reads)
+record_reads_stop b n p offset (Err f) fault shown s = ([], (records_from_are_read b).stop n p f s.0)
 
-reads_stop : (b : List ℕ) (part : Part) (n p place : ℕ) (x : Result (Entry part) Fault) (fault : RowFault) (shown : List Row) → ItemStops b part x p place fault shown
+reads_stop : (b : List ℕ) (part : Part) (n p offset : ℕ) (x : Result (Entry part) Fault) (fault : RowFault) (shown : List Row) → ItemStops b part x p offset fault shown
     → (others : List (Result (Entry part) Fault)) × (reading_from b part (suc n) p ≡ x ∷ others)
-reads_stop b Question n p place (Ok x) fault shown s = absurd s
-reads_stop b Question n p place (Err f) fault shown s = ([], (questions_from_are_read b).stop n p f s.0)
-reads_stop b Answer n p place x fault shown s = record_reads_stop b n p place x fault shown s
-reads_stop b Authority n p place x fault shown s = record_reads_stop b n p place x fault shown s
-reads_stop b Additional n p place x fault shown s = record_reads_stop b n p place x fault shown s
+reads_stop b Question n p offset (Ok x) fault shown s = absurd s
+reads_stop b Question n p offset (Err f) fault shown s = ([], (questions_from_are_read b).stop n p f s.0)
+reads_stop b Answer n p offset x fault shown s = record_reads_stop b n p offset x fault shown s
+reads_stop b Authority n p offset x fault shown s = record_reads_stop b n p offset x fault shown s
+reads_stop b Additional n p offset x fault shown s = record_reads_stop b n p offset x fault shown s
 
 -- an item that is shown can be skipped
 skips_item : (b : List ℕ) (part : Part) (number p q : ℕ) (x : Entry part) (rows : List Row) → ShowsItem b part number x p q rows → SkipsItem b part p q
@@ -351,7 +351,7 @@ skips_item b Additional number p q x rows s = s.reads.skips
 pub first_none : (part : Part) (old : Walk) → MarksFirst part 0 old old
 first_none part old = record {
   rows = [];
-  adds = record { rows = sym (append-nil old.rows.items); seen = refl; place = refl };
+  adds = record { rows = sym (append-nil old.rows.items); seen = refl; offset = refl };
   first = λ k end stop behind r.
       let same : k ≡ 0 + k = omega arith in
       subst (λ m. ReadingRows (octets old) part 1 (reading_from (octets old) part m (at old)) stop (at old) end behind) same r;
@@ -476,9 +476,9 @@ part_then all part parts stop old mid new h k l =
 -- what a walk shows that began after the header section, with no rows
 pub shows_octets : (b : List ℕ) (stop : Option RowFault) (old new : Walk) → MarksParts all_parts stop old new → octets old ≡ b → at old ≡ 12 → old.rows.items ≡ []
     → ShowsParts b all_parts stop 12 (at new) new.rows.items
-shows_octets b stop old new h seen place rows =
+shows_octets b stop old new h seen offset rows =
     let P : List ℕ → ℕ → Type 0 = λ b p. ShowsParts b all_parts stop p (at new) h.rows in
-    let shows : P b 12 = subst (λ b. P b 12) seen (subst (λ p. P (octets old) p) place h.shows) in
+    let shows : P b 12 = subst (λ b. P b 12) seen (subst (λ p. P (octets old) p) offset h.shows) in
     let all_rows : new.rows.items ≡ h.rows = h.adds ∙ ap (λ rows. rows ++ h.rows) rows in
     let Q : List Row → Type 0 = λ rows. ShowsParts b all_parts stop 12 (at new) rows in
     subst Q (sym all_rows) shows

@@ -20,7 +20,7 @@ use Rattle.dns_rows.specs.declared.row.NameOf.{NameOf}
 use Rattle.dns_rows.specs.declared.row.Row.{Row}
 use Rattle.dns_rows.specs.declared.walk.Stop.{Stop}
 use Rattle.dns_rows.specs.declared.walk.Walk.{Walk}
-use Rattle.dns_name.specs.Parsers.{place, seen}
+use Rattle.dns_name.specs.Parsers.{offset, seen}
 use Rattle.dns_name.specs.declared.parser.Parser.{Parser}
 
 -- rows that a walk adds, and then more rows
@@ -28,7 +28,7 @@ pub adds_then : (x y : List Row) (m n : ℕ) (a b c : Walk) → Adds x m a b →
 adds_then x y m n a b c h k = record {
   rows = k.rows ∙ ap (λ rows. rows ++ y) h.rows ∙ append_assoc a.rows.items x y;
   seen = k.seen ∙ h.seen;
-  place = k.place;
+  offset = k.offset;
 }
 
 -- a label has 1 to 63 octets
@@ -87,7 +87,7 @@ end_here b p s q none (label_walked {n = n} k short fits w) = absurd (none n (re
 pub none_passed : (of : NameOf) (old : Walk) → PassesLabels of 0 old old
 none_passed of old = record {
   rows = [];
-  adds = record { rows = sym (append-nil old.rows.items); seen = refl; place = refl };
+  adds = record { rows = sym (append-nil old.rows.items); seen = refl; offset = refl };
   shown = no_labels;
   ends = λ q w. w;
   faults = λ f w. w;
@@ -101,18 +101,18 @@ one_more_label of size n old mid new h label k =
     let b = octets old in
     let row = field_row (at mid) (at mid + (n + 1)) (fields.Label of) in
     let begins : head_at b (at mid) ≡ Ok (Label n) = subst (λ b. head_at b (at mid) ≡ Ok (Label n)) h.adds.seen label.begins in
-    let to : at new ≡ at mid + 1 + n = k.place ∙ omega arith in
+    let to : at new ≡ at mid + 1 + n = k.offset ∙ omega arith in
     let all = adds_then h.rows (row ∷ []) (at mid) (at mid + (n + 1)) old mid new h.adds k in
     record {
       rows = h.rows ++ row ∷ [];
-      adds = record { rows = all.rows; seen = all.seen; place = refl };
+      adds = record { rows = all.rows; seen = all.seen; offset = refl };
       shown =
           let begins_there : IsLabelAt b (at mid) size n = subst (λ b. IsLabelAt b (at mid) size n) h.adds.seen label in
           let short : (at mid - at old) + n + 1 ≤ max_size = omega (arith, h.sizes, begins_there.short) in
           let there = label_more b of h.shown begins_there.begins short begins_there.fits in
           let same : at mid + 1 + n ≡ at mid + (n + 1) = omega arith in
-          let P : ℕ → ℕ → Type 0 = λ place end. LabelRows b of (at old) (at old) place (h.rows ++ field_row (at mid) end (fields.Label of) ∷ []) in
-          subst (λ end. P (at new) end) same (subst (λ place. P place (at mid + 1 + n)) (sym to) there);
+          let P : ℕ → ℕ → Type 0 = λ offset end. LabelRows b of (at old) (at old) offset (h.rows ++ field_row (at mid) end (fields.Label of) ∷ []) in
+          subst (λ end. P (at new) end) same (subst (λ offset. P offset (at mid + 1 + n)) (sym to) there);
       faults = λ f w.
           let begins_there : IsLabelAt b (at mid) size n = subst (λ b. IsLabelAt b (at mid) size n) h.adds.seen label in
           let there = fault_behind b (at mid) size n f begins_there (h.faults f w) in
@@ -153,10 +153,10 @@ pointer_row b of start p q h (pointer_end k) = pointer_rows k
 -- the row for the end of a name, or no row if the allocation fails
 pub end_passed : (of : NameOf) (start : ℕ) (row : Row) (old new : Walk) (behind : Parser) (r : Result Unit Stop) → seen behind ≡ octets old
     → OnOk r (new.rows.items ≡ old.rows.items ++ row ∷ []) → OnOk r (new.parser ≡ behind)
-    → NameRows (octets old) of start (at old) (place behind) (row ∷ []) → OnOk r (PassesEnd of start (place behind) old new)
+    → NameRows (octets old) of start (at old) (offset behind) (row ∷ []) → OnOk r (PassesEnd of start (offset behind) old new)
 end_passed of start row old new behind (Ok v) e h k shows = record {
   rows = row ∷ [];
-  adds = record { rows = h; seen = ap (λ p. seen p) k ∙ e; place = ap (λ p. place p) k };
+  adds = record { rows = h; seen = ap (λ p. seen p) k ∙ e; offset = ap (λ p. offset p) k };
   shows = shows;
 }
 end_passed of start row old new behind (Err stop) e h k shows = tt
@@ -166,7 +166,7 @@ pub adds_row : (x : List Row) (old mid new : Walk) (p n e : ℕ) (field : Field)
     → Adds (field_row (at mid) (at mid + n) field ∷ []) (at mid + n) mid new → e ≡ p + n → Adds (x ++ field_row p e field ∷ []) e old new
 adds_row x old mid new p n e field h k same =
     let P : ℕ → Type 0 = λ m. Adds (field_row m (m + n) field ∷ []) (m + n) mid new in
-    let there = subst P h.place k in
+    let there = subst P h.offset k in
     let Q : ℕ → Type 0 = λ e. Adds (x ++ field_row p e field ∷ []) e old new in
     subst Q (sym same) (adds_then x (field_row p (p + n) field ∷ []) p (p + n) old mid new h there)
 
@@ -183,5 +183,5 @@ item_misses of row old mid new fault rows same h = record {
   rows = h.rows;
   adds = h.adds ∙ ap (λ front. front ++ h.rows) rows ∙ append_assoc old.rows.items (row ∷ []) h.rows;
   f = h.f;
-  lacks = subst (λ p. LacksName (seen p) of (place p) h.f (at new) fault h.rows) same h.lacks;
+  lacks = subst (λ p. LacksName (seen p) of (offset p) h.f (at new) fault h.rows) same h.lacks;
 }

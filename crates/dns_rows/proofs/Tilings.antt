@@ -39,34 +39,34 @@ pub counted_after : (rows later : List Row) (start end : ℕ) (field : Field) �
 counted_after rows later start end field e = ap (λ rows. item_count rows) e ∙ item_count-one_more rows start end field
 
 -- rows up to an offset, and then rows from there
-pub joined : (rows others : List Row) (start place end : ℕ) → Tiles rows start place → Tiles others place end → Tiles (rows ++ others) start end
-joined [] others start place end h k = subst (λ n. Tiles others n end) (sym h) k
-joined (first ∷ rows) others start place end h k = (h.0, h.1, joined rows others first.end place end h.2 k)
+pub joined : (rows others : List Row) (start offset end : ℕ) → Tiles rows start offset → Tiles others offset end → Tiles (rows ++ others) start end
+joined [] others start offset end h k = subst (λ n. Tiles others n end) (sym h) k
+joined (first ∷ rows) others start offset end h k = (h.0, h.1, joined rows others first.end offset end h.2 k)
 
-pub tiles_fault : (stop : Option Fault) (place : ℕ) → Tiles (fault_rows stop place) place place
-tiles_fault None place = refl
-tiles_fault (Some fault) place = (refl, omega arith, refl)
+pub tiles_fault : (stop : Option Fault) (offset : ℕ) → Tiles (fault_rows stop offset) offset offset
+tiles_fault None offset = refl
+tiles_fault (Some fault) offset = (refl, omega arith, refl)
 
 -- the row of the remaining octets, if the rows before don't end past them
-pub tiles_unread : (place len : ℕ) → place ≤ len → Tiles (unread_rows place len) place len
-tiles_unread place len within =
-    elim (nat_lt place len) as (λ b. nat_lt place len ≡ b → Tiles (if b then record { start = place; end = len; kind = Unread } ∷ [] else []) place len) [
+pub tiles_unread : (offset len : ℕ) → offset ≤ len → Tiles (unread_rows offset len) offset len
+tiles_unread offset len within =
+    elim (nat_lt offset len) as (λ b. nat_lt offset len ≡ b → Tiles (if b then record { start = offset; end = len; kind = Unread } ∷ [] else []) offset len) [
       | true ↦ λ e. (refl, within, refl)
-      | false ↦ λ e. let past : place ≡ len = grind (arith, nat_tests, e) in past
+      | false ↦ λ e. let past : offset ≡ len = grind (arith, nat_tests, e) in past
     ] refl
 
 -- the rows of a header section, of the fields after it, of a fault and of the remaining octets
-pub tiles_message : (others : List Row) (stop : Option Fault) (place len : ℕ) → Tiles others 12 place → place ≤ len
-    → Tiles ((header_rows ++ others) ++ (fault_rows stop place ++ unread_rows place len)) 0 len
-tiles_message others stop place len h within =
+pub tiles_message : (others : List Row) (stop : Option Fault) (offset len : ℕ) → Tiles others 12 offset → offset ≤ len
+    → Tiles ((header_rows ++ others) ++ (fault_rows stop offset ++ unread_rows offset len)) 0 len
+tiles_message others stop offset len h within =
     let head : Tiles header_rows 0 12 = (refl, omega arith, (refl, omega arith, (refl, omega arith, (refl, omega arith, (refl, omega arith, (refl, omega arith, refl)))))) in
-    let rest : Tiles (fault_rows stop place ++ unread_rows place len) place len = joined (fault_rows stop place) (unread_rows place len) place place len (tiles_fault stop place) (tiles_unread place len within) in
-    joined (header_rows ++ others) (fault_rows stop place ++ unread_rows place len) 0 place len (joined header_rows others 0 12 place head h) rest
+    let rest : Tiles (fault_rows stop offset ++ unread_rows offset len) offset len = joined (fault_rows stop offset) (unread_rows offset len) offset offset len (tiles_fault stop offset) (tiles_unread offset len within) in
+    joined (header_rows ++ others) (fault_rows stop offset ++ unread_rows offset len) 0 offset len (joined header_rows others 0 12 offset head h) rest
 
 -- the rows of a message, from the lists that they are put together from
-pub made_of : (rows front header others : List Row) (stop : Option Fault) (at place len : ℕ) → rows ≡ front ++ (fault_rows stop at ++ unread_rows at len)
-    → front ≡ header ++ others → header ≡ header_rows → at ≡ place → rows ≡ header_rows ++ others ++ (fault_rows stop place ++ unread_rows place len)
-made_of rows front header others stop at place len e f g h =
+pub made_of : (rows front header others : List Row) (stop : Option Fault) (at offset len : ℕ) → rows ≡ front ++ (fault_rows stop at ++ unread_rows at len)
+    → front ≡ header ++ others → header ≡ header_rows → at ≡ offset → rows ≡ header_rows ++ others ++ (fault_rows stop offset ++ unread_rows offset len)
+made_of rows front header others stop at offset len e f g h =
     e ∙ ap (λ front. front ++ (fault_rows stop at ++ unread_rows at len)) (f ∙ ap (λ header. header ++ others) g)
     ∙ ap (λ at. header_rows ++ others ++ (fault_rows stop at ++ unread_rows at len)) h
 
@@ -74,4 +74,4 @@ made_of rows front header others stop at place len e f g h =
 pub tiles_shown : (b : List ℕ) (rows : List Row) → ShowsMessage b rows → Tiles rows 0 (length b)
 tiles_shown b rows s =
     let P : List Row → Type 0 = λ rows. Tiles rows 0 (length b) in
-    subst P (sym s.made) (tiles_message s.others s.stop s.place (length b) s.fields.tiles s.within)
+    subst P (sym s.made) (tiles_message s.others s.stop s.offset (length b) s.fields.tiles s.within)

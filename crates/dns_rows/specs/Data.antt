@@ -80,9 +80,9 @@ pub record ShowsOption (b : List ℕ) (p q : ℕ) (rows : List Row) : Type 0 whe
   pub within : q ≤ length b
   pub made : rows ≡ option_rows code len p
 
--- an option at p is incomplete: `shown` are the rows before the incomplete field, which begins at `place`, and this is its fault
+-- an option at p is incomplete: `shown` are the rows before the incomplete field, which begins at `offset`, and this is its fault
 abbrev pub LacksOption : List ℕ → ℕ → ℕ → rows.Fault → List Row → Type 0
-LacksOption b p place fault shown = CutRows b (option_rows (number_at w16 b p) (number_at w16 b (p + 2)) p) place fault shown
+LacksOption b p offset fault shown = CutRows b (option_rows (number_at w16 b p) (number_at w16 b (p + 2)) p) offset fault shown
 
 -- the rows of options from p to q
 pub data OptionRows (b : List ℕ) (p : ℕ) : ℕ → List Row → Type 0 where
@@ -101,7 +101,7 @@ pub data ShowsData (b : List ℕ) : Shape → Option rows.Fault → ℕ → ℕ 
   texts : {p q : ℕ} {rows : List Row} → TextRows b p q rows → length b ≤ q → ShowsData b Texts None p q rows
   text_short : {n p q : ℕ} {rows : List Row} → TextRows b p q rows → slice_get b q ≡ Some n → length b < q + (1 + n) → ShowsData b Texts (Some (Short Text)) p q rows
   options : {p q : ℕ} {rows : List Row} → OptionRows b p q rows → length b ≤ q → ShowsData b Options None p q rows
-  no_option : {p q place : ℕ} {fault : rows.Fault} (rows others : List Row) → OptionRows b p q rows → q < length b → LacksOption b q place fault others
-      → ShowsData b Options (Some fault) p place (rows ++ others)
+  no_option : {p q offset : ℕ} {fault : rows.Fault} (rows others : List Row) → OptionRows b p q rows → q < length b → LacksOption b q offset fault others
+      → ShowsData b Options (Some fault) p offset (rows ++ others)
   nothing : {p : ℕ} → length b ≤ p → ShowsData b Rest None p p []
   rest : {p : ℕ} → p < length b → ShowsData b Rest None p (length b) (field_row p (length b) Data ∷ [])

@@ -73,24 +73,24 @@ abbrev pub data_fault : Option rows.Fault → rows.Fault
 data_fault None = Trailing
 data_fault (Some fault) = fault
 
--- A record at p can be read, but not its RDATA: a field can't be read at `place`, or octets follow the last field there. `shown` are the rows up to `place`, after the row where the record begins.
-pub record DataStops (b : List ℕ) (x : RecordEntry) (p place : ℕ) (fault : rows.Fault) (shown : List Row) : Type 0 where
+-- A record at p can be read, but not its RDATA: a field can't be read at `offset`, or octets follow the last field there. `shown` are the rows up to `offset`, after the row where the record begins.
+pub record DataStops (b : List ℕ) (x : RecordEntry) (p offset : ℕ) (fault : rows.Fault) (shown : List Row) : Type 0 where
   pub end : ℕ
   pub reads : ReadsRecord b p end x
   pub owner_rows : List Row
   pub owner : NameRows b names.Owner p p reads.skips.name_end owner_rows
   pub data_rows : List Row
   pub stop : Option rows.Fault
-  pub value : ShowsData (up_to_data_end b x) (shape_of x.rtype) stop x.data_start place data_rows
-  pub left_over : stop ≡ None → place < x.data_end
+  pub value : ShowsData (up_to_data_end b x) (shape_of x.rtype) stop x.data_start offset data_rows
+  pub left_over : stop ≡ None → offset < x.data_end
   pub told : fault ≡ data_fault stop
   pub made : shown ≡ owner_rows ++ (number_rows x.rtype reads.skips.name_end ++ data_rows)
 
 -- An item at p, which is a name and the fields after it, can't be read: its name can't be, or a field is incomplete. The rows are those up to there, after the row where the item begins. RFC 1035 sections 4.1.2 to 4.1.4.
 pub data LacksItem (b : List ℕ) (of : NameOf) (behind : ℕ → List Row) (p : ℕ) : Fault → ℕ → rows.Fault → List Row → Type 0 where
-  name : {f : Fault} {place : ℕ} {fault : rows.Fault} {shown : List Row} → LacksName b of p f place fault shown → LacksItem b of behind p f place fault shown
-  short : {name : Labels} {r place : ℕ} {fault : rows.Fault} (name_rows others : List Row) → Stands b p name → Walked b p r → NameRows b of p p r name_rows
-      → CutRows b (behind r) place fault others → LacksItem b of behind p ShortInput place fault (name_rows ++ others)
+  name : {f : Fault} {offset : ℕ} {fault : rows.Fault} {shown : List Row} → LacksName b of p f offset fault shown → LacksItem b of behind p f offset fault shown
+  short : {name : Labels} {r offset : ℕ} {fault : rows.Fault} (name_rows others : List Row) → Stands b p name → Walked b p r → NameRows b of p p r name_rows
+      → CutRows b (behind r) offset fault others → LacksItem b of behind p ShortInput offset fault (name_rows ++ others)
 
 -- the rows of the fields after the owner of a record, which ends at r: its numbers, and its RDATA as a whole. RFC 1035 section 4.1.3.
 abbrev pub record_rows : List ℕ → ℕ → List Row
@@ -98,13 +98,13 @@ record_rows b r = number_rows (number_at w16 b r) r ++ field_row (r + 10) (r + 1
 
 -- a question at p can't be read
 abbrev pub QuestionStops : List ℕ → Result QuestionItem Fault → ℕ → ℕ → rows.Fault → List Row → Type 0
-QuestionStops b (Ok x) p place fault shown = ⊥
-QuestionStops b (Err f) p place fault shown = QuestionFaultAt b p f × LacksItem b names.Question question_rows p f place fault shown
+QuestionStops b (Ok x) p offset fault shown = ⊥
+QuestionStops b (Err f) p offset fault shown = QuestionFaultAt b p f × LacksItem b names.Question question_rows p f offset fault shown
 
 -- a record at p can't be read, or its RDATA can't
 abbrev pub RecordStops : List ℕ → Result RecordEntry Fault → ℕ → ℕ → rows.Fault → List Row → Type 0
-RecordStops b (Ok x) p place fault shown = DataStops b x p place fault shown
-RecordStops b (Err f) p place fault shown = RecordFaultAt b p f × LacksItem b names.Owner (record_rows b) p f place fault shown
+RecordStops b (Ok x) p offset fault shown = DataStops b x p offset fault shown
+RecordStops b (Err f) p offset fault shown = RecordFaultAt b p f × LacksItem b names.Owner (record_rows b) p f offset fault shown
 
 -- The sections of a message, which `Part` names, and what reading them gives. RFC 1035 section 4.1.
 
@@ -154,17 +154,17 @@ ShowsItem b Answer number x p q rows = ShowsRecord b Answer number x p q rows
 ShowsItem b Authority number x p q rows = ShowsRecord b Authority number x p q rows
 ShowsItem b Additional number x p q rows = ShowsRecord b Additional number x p q rows
 
--- an item of a section, read as x, stops with a fault at `place`, and `shown` are the rows up to there, after the row where the item begins
+-- an item of a section, read as x, stops with a fault at `offset`, and `shown` are the rows up to there, after the row where the item begins
 abbrev pub ItemStops : List ℕ → (part : Part) → Result (Entry part) Fault → ℕ → ℕ → rows.Fault → List Row → Type 0
-ItemStops b Question x p place fault shown = QuestionStops b x p place fault shown
-ItemStops b Answer x p place fault shown = RecordStops b x p place fault shown
-ItemStops b Authority x p place fault shown = RecordStops b x p place fault shown
-ItemStops b Additional x p place fault shown = RecordStops b x p place fault shown
+ItemStops b Question x p offset fault shown = QuestionStops b x p offset fault shown
+ItemStops b Answer x p offset fault shown = RecordStops b x p offset fault shown
+ItemStops b Authority x p offset fault shown = RecordStops b x p offset fault shown
+ItemStops b Additional x p offset fault shown = RecordStops b x p offset fault shown
 
--- an item begins at p and stops with a fault at `place`, and these are its rows up to there
-pub record StopsItem (b : List ℕ) (part : Part) (number : ℕ) (x : Result (Entry part) Fault) (p place : ℕ) (fault : rows.Fault) (rows : List Row) : Type 0 where
+-- an item begins at p and stops with a fault at `offset`, and these are its rows up to there
+pub record StopsItem (b : List ℕ) (part : Part) (number : ℕ) (x : Result (Entry part) Fault) (p offset : ℕ) (fault : rows.Fault) (rows : List Row) : Type 0 where
   pub others : List Row
-  pub stops : ItemStops b part x p place fault others
+  pub stops : ItemStops b part x p offset fault others
   pub made : rows ≡ item_row part number p ∷ others
 
 -- The rows of a reading of a section's items, from p to q, where the first item has this number: those of its entries in order. If an item stops with a fault, they end at the fault, and nothing read after it is shown.
@@ -172,8 +172,8 @@ pub data ReadingRows (b : List ℕ) (part : Part) : ℕ → List (Result (Entry 
   none : {number p : ℕ} → ReadingRows b part number [] None p p []
   entry : {number p q r : ℕ} {x : Entry part} {others : List (Result (Entry part) Fault)} {stop : Option rows.Fault} (rows behind : List Row)
       → ShowsItem b part number x p q rows → ReadingRows b part (suc number) others stop q r behind → ReadingRows b part number (Ok x ∷ others) stop p r (rows ++ behind)
-  stops : {number p place : ℕ} {x : Result (Entry part) Fault} {others : List (Result (Entry part) Fault)} {fault : rows.Fault} {rows : List Row}
-      → StopsItem b part number x p place fault rows → ReadingRows b part number (x ∷ others) (Some fault) p place rows
+  stops : {number p offset : ℕ} {x : Result (Entry part) Fault} {others : List (Result (Entry part) Fault)} {fault : rows.Fault} {rows : List Row}
+      → StopsItem b part number x p offset fault rows → ReadingRows b part number (x ∷ others) (Some fault) p offset rows
 
 -- the reading of a section that starts at p
 abbrev pub reading_of : List ℕ → (part : Part) → ℕ → List (Result (Entry part) Fault)
@@ -185,5 +185,5 @@ pub data ShowsParts (b : List ℕ) : List Part → Option rows.Fault → ℕ →
   all : {part : Part} {parts : List Part} {p q r : ℕ} {stop : Option rows.Fault} (rows others : List Row)
       → PartStarts b part p → ReadingRows b part 1 (reading_of b part p) None p q rows → ShowsParts b parts stop q r others
       → ShowsParts b (part ∷ parts) stop p r (rows ++ others)
-  fault : {part : Part} {parts : List Part} {p place : ℕ} {fault : rows.Fault} {rows : List Row}
-      → PartStarts b part p → ReadingRows b part 1 (reading_of b part p) (Some fault) p place rows → ShowsParts b (part ∷ parts) (Some fault) p place rows
+  fault : {part : Part} {parts : List Part} {p offset : ℕ} {fault : rows.Fault} {rows : List Row}
+      → PartStarts b part p → ReadingRows b part 1 (reading_of b part p) (Some fault) p offset rows → ShowsParts b (part ∷ parts) (Some fault) p offset rows

@@ -41,9 +41,9 @@ TellsFault Behind f = ⊤
 TellsFault LongPointer f = f ≡ Form
 TellsFault Trailing f = ⊥
 
--- No name can be read at p. Its labels extend to `place` and have these rows, and `fault` is why it can't be read further.
-pub record LacksName (b : List ℕ) (of : NameOf) (p : ℕ) (f : Fault) (place : ℕ) (fault : rows.Fault) (shown : List Row) : Type 0 where
+-- No name can be read at p. Its labels extend to `offset` and have these rows, and `fault` is why it can't be read further.
+pub record LacksName (b : List ℕ) (of : NameOf) (p : ℕ) (f : Fault) (offset : ℕ) (fault : rows.Fault) (shown : List Row) : Type 0 where
   pub faulty : FaultAt b p f
-  pub labels : LabelRows b of p p place shown
-  pub stops : StopsName b of p place fault
+  pub labels : LabelRows b of p p offset shown
+  pub stops : StopsName b of p offset fault
   pub tells : TellsFault fault f

@@ -40,12 +40,12 @@ pub record AreFields (rows : List Row) (from to : ℕ) : Type 0 where
   pub tiles : Tiles rows from to
   pub fields : All IsField rows
 
--- Of consecutive fields, `rows` are those before an incomplete one, which begins at `place` and runs past the end of the octets. The fault says which field it is.
-pub record CutRows (b : List ℕ) (whole : List Row) (place : ℕ) (fault : Fault) (rows : List Row) : Type 0 where
+-- Of consecutive fields, `rows` are those before an incomplete one, which begins at `offset` and runs past the end of the octets. The fault says which field it is.
+pub record CutRows (b : List ℕ) (whole : List Row) (offset : ℕ) (fault : Fault) (rows : List Row) : Type 0 where
   pub field : Field
   pub end : ℕ
   pub behind : List Row
-  pub made : whole ≡ rows ++ field_row place end field ∷ behind
-  pub within : place ≤ length b
+  pub made : whole ≡ rows ++ field_row offset end field ∷ behind
+  pub within : offset ≤ length b
   pub short : length b < end
   pub told : fault ≡ Short field

@@ -22,12 +22,12 @@ header_rows =
 
 -- the row of a fault, which has no octets, if there is one
 abbrev pub fault_rows : Option Fault → ℕ → List Row
-fault_rows None place = []
-fault_rows (Some fault) place = record { start = place; end = place; kind = kinds.Fault fault } ∷ []
+fault_rows None offset = []
+fault_rows (Some fault) offset = record { start = offset; end = offset; kind = kinds.Fault fault } ∷ []
 
 -- the row of the remaining octets, if there are any
 abbrev pub unread_rows : ℕ → ℕ → List Row
-unread_rows place end = if nat_lt place end then record { start = place; end = end; kind = kinds.Unread } ∷ [] else []
+unread_rows offset end = if nat_lt offset end then record { start = offset; end = end; kind = kinds.Unread } ∷ [] else []
 
 -- the number of items that the header section of a message counts. RFC 1035 section 4.1.1.
 abbrev pub counted_items : List ℕ → ℕ
@@ -38,13 +38,13 @@ abbrev pub Begins : Option Fault → ℕ → ℕ → Type 0
 Begins None n all = n ≡ all
 Begins (Some fault) n all = n ≤ all
 
--- The rows of a message: those of its header section, those of the fields from there to `place`, that of a fault at `place`, if there is one, and that of the remaining octets. The fields are those of the readings of the four sections, in order, up to the fault. If there is no fault, each item that the header section counts begins at a row.
+-- The rows of a message: those of its header section, those of the fields from there to `offset`, that of a fault at `offset`, if there is one, and that of the remaining octets. The fields are those of the readings of the four sections, in order, up to the fault. If there is no fault, each item that the header section counts begins at a row.
 pub record ShowsMessage (b : List ℕ) (rows : List Row) : Type 0 where
   pub others : List Row
   pub stop : Option Fault
-  pub place : ℕ
-  pub made : rows ≡ header_rows ++ others ++ (fault_rows stop place ++ unread_rows place (length b))
-  pub fields : AreFields others header_size place
-  pub within : place ≤ length b
+  pub offset : ℕ
+  pub made : rows ≡ header_rows ++ others ++ (fault_rows stop offset ++ unread_rows offset (length b))
+  pub fields : AreFields others header_size offset
+  pub within : offset ≤ length b
   pub items : Begins stop (item_count others) (counted_items b)
-  pub parts : ShowsParts b all_parts stop header_size place others
+  pub parts : ShowsParts b all_parts stop header_size offset others

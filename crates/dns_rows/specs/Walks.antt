@@ -4,7 +4,7 @@ use Rattle.dns_rows.specs.Named.{LabelRows, NameRows}
 use Rattle.std.specs.Prelude.{◌<◌, ◌≡◌, suc, Bool, true, false, ℕ, ◌+◌, ◌-◌, ◌≤◌, List, ◌++◌, ◌∷◌, length, ⊤, Option, Some, None, Result, Ok, Err, take}
 use Rattle.std.specs.Int.{w16}
 use Rattle.dns_name.specs.Names.{head_at, max_size, Fault, FaultAt, Faulty, Labels, Stands, Walked, WalkedBehind}
-use Rattle.dns_name.specs.Parsers.{input, place, number_at, seen}
+use Rattle.dns_name.specs.Parsers.{input, offset, number_at, seen}
 use Rattle.dns_name.specs.declared.head.Head.TheVariants.{Root, Label, Pointer}
 use Rattle.dns_code.specs.HeaderSection.{header_size}
 use Rattle.dns_code.specs.HeaderCounts.{Counts}
@@ -29,7 +29,7 @@ use Rattle.dns_rows.specs.declared.walk.Walk.{Walk}
 
 -- the offset of a walk
 abbrev pub at : Walk → ℕ
-at walk = place walk.parser
+at walk = offset walk.parser
 
 -- the octets that a walk sees
 abbrev pub octets : Walk → List ℕ
@@ -65,7 +65,7 @@ pub record Comes (n : ℕ) (old new : Walk) : Type 0 where
 pub record Adds (added : List Row) (to : ℕ) (old new : Walk) : Type 0 where
   pub rows : new.rows.items ≡ old.rows.items ++ added
   pub seen : octets new ≡ octets old
-  pub place : at new ≡ to
+  pub offset : at new ≡ to
 
 -- if the step stopped with a fault, `P` holds of it
 abbrev pub OnFaultOf : {T : Type 0} → Result T Stop → (rows.Fault → Type 0) → Type 0

@@ -28,21 +28,21 @@ pub(crate) fn header(alloc: Global) -> Result<Vec<Row>, AllocError>
     Ok(rows)
 }
 
-/// Appends the row of the fault at `place`, if there is one, and that of the octets from `place` to
+/// Appends the row of the fault at `offset`, if there is one, and that of the octets from `offset` to
 /// `len`, if there are any.
 pub(crate) fn push_rest(
     rows: &mut Vec<Row>,
     stop: Option<Fault>,
-    place: usize,
+    offset: usize,
     len: usize,
 ) -> Result<(), AllocError>
     ensures { OnOk result (rows.new.items
-        ≡ rows.old.items ++ (fault_rows stop place ++ unread_rows place len)) }
+        ≡ rows.old.items ++ (fault_rows stop offset ++ unread_rows offset len)) }
 {
-    push_fault(rows, stop, place)?;
-    if place < len {
+    push_fault(rows, stop, offset)?;
+    if offset < len {
         rows.push(Row {
-            start: place,
+            start: offset,
             end: len,
             kind: Kind::Unread,
         })?;
@@ -50,13 +50,13 @@ pub(crate) fn push_rest(
     Ok(())
 }
 
-fn push_fault(rows: &mut Vec<Row>, stop: Option<Fault>, place: usize) -> Result<(), AllocError>
-    ensures { OnOk result (rows.new.items ≡ rows.old.items ++ fault_rows stop place) }
+fn push_fault(rows: &mut Vec<Row>, stop: Option<Fault>, offset: usize) -> Result<(), AllocError>
+    ensures { OnOk result (rows.new.items ≡ rows.old.items ++ fault_rows stop offset) }
 {
     if let Some(fault) = stop {
         rows.push(Row {
-            start: place,
-            end: place,
+            start: offset,
+            end: offset,
             kind: Kind::Fault(fault),
         })?;
     }

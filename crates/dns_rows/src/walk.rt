@@ -4,7 +4,7 @@ ghost use Rattle.std.specs.Prelude.{◌≡◌, ◌+◌, ◌<◌, ◌≤◌, ◌�
 ghost use Rattle.std.specs.Int.{w16};
 ghost use Rattle.dns_name.specs.Names.{head_at};
 ghost use Rattle.dns_name.specs.declared.head.Head.TheVariants as Head;
-ghost use Rattle.dns_name.specs.Parsers.{input, place, seen, number_at};
+ghost use Rattle.dns_name.specs.Parsers.{input, offset, seen, number_at};
 ghost use Rattle.dns_code.specs.HeaderCounts.{counts};
 ghost use Rattle.dns_code.specs.HeaderSection.{header_size};
 ghost use Rattle.dns_rows.specs.Faults.{StopsName};
@@ -46,7 +46,7 @@ impl<'a> Walk<'a> {
         ensures marked { IsMarked result }
         ensures items { items result ≡ 0 }
         ensures rows { result.rows.items ≡ [] }
-        ensures place { at result ≡ header_size }
+        ensures offset { at result ≡ header_size }
         ensures seen { seen result.parser ≡ octets.now }
         ensures input { input result.parser ≡ octets.now }
     {
@@ -63,12 +63,12 @@ impl<'a> Walk<'a> {
     fn mark(&mut self, behind: Parser<'a>, field: Field) -> Result<(), Stop>
         requires marked { IsMarked self.old }
         requires input { input behind ≡ input self.old.parser }
-        requires order { at self.old ≤ place behind }
-        requires is_field { IsField (field_row (at self.old) (place behind) field) }
+        requires order { at self.old ≤ offset behind }
+        requires is_field { IsField (field_row (at self.old) (offset behind) field) }
         ensures comes { Comes (items_at field) self.old self.new }
         ensures begins { OnOk result (items self.new ≡ items self.old + items_at field) }
         ensures adds { OnOk result (self.new.rows.items
-            ≡ self.old.rows.items ++ field_row (at self.old) (place behind.entry) field ∷ []) }
+            ≡ self.old.rows.items ++ field_row (at self.old) (offset behind.entry) field ∷ []) }
         ensures moves { OnOk result (self.new.parser ≡ behind.entry) }
         ensures never { OnFault result ⊥ }
     {
@@ -206,9 +206,9 @@ impl<'a> Walk<'a> {
         requires marked { IsMarked self.old }
         requires input { input behind ≡ input self.old.parser }
         requires seen { seen behind ≡ octets self.old }
-        requires ends { IsEnd (octets self.old) (at self.old) (place behind) }
+        requires ends { IsEnd (octets self.old) (at self.old) (offset behind) }
         ensures comes { Comes 0 self.old self.new }
-        ensures passes { OnOk result (PassesEnd name start (place behind.entry) self.old self.new) }
+        ensures passes { OnOk result (PassesEnd name start (offset behind.entry) self.old self.new) }
         ensures never { OnFault result ⊥ }
     {
         match self.first() {
@@ -225,12 +225,15 @@ impl<'a> Walk<'a> {
         requires no_root { head_at (octets self.now) (at self.now) ≡ Ok Head.Root → ⊥ }
         ensures { StopsName (octets self.now) name start (at self.now) result }
     {
-        let place = self.parser.pos();
+        let offset = self.parser.pos();
         match self.first() {
             Some(0x40..=0xbf) => Fault::Label,
             Some(high @ 0xc0..) => self.pointer_fault(name, start, high),
-            Some(len) if place.saturating_sub(start).saturating_add(usize::from(len)) >= MAX_SIZE =>
-                Fault::LongName,
+            Some(len)
+                if offset
+                    .saturating_sub(start)
+                    .saturating_add(usize::from(len))
+                    >= MAX_SIZE => Fault::LongName,
             _ => Fault::Short(Field::Label(name)),
         }
     }
@@ -258,12 +261,12 @@ impl<'a> Walk<'a> {
     }
 
     /// Whether a name can be read at this offset.
-    fn has_name(&self, place: usize) -> bool
-        requires { place ≤ length (octets self.now) }
-        ensures { HasName (octets self.now) place result }
+    fn has_name(&self, offset: usize) -> bool
+        requires { offset ≤ length (octets self.now) }
+        ensures { HasName (octets self.now) offset result }
     {
         let mut there = self.parser;
-        there.seek(place).is_ok() && ParsedName::parse(&mut there).is_ok()
+        there.seek(offset).is_ok() && ParsedName::parse(&mut there).is_ok()
     }
 
     /// Walks over the items of all sections, as many as the header section counts.
@@ -398,7 +401,7 @@ impl<'a> Walk<'a> {
         ensures comes { Comes 0 self.old self.new }
         ensures there { OnOk result (at self.old + len ≤ length (octets self.old)) }
         ensures seen { OnOk result (octets self.new ≡ octets self.old) }
-        ensures place { OnOk result (at self.new ≡ at self.old + len) }
+        ensures offset { OnOk result (at self.new ≡ at self.old + len) }
         ensures shows { OnOk result (MarksWithin rtype len None self.old self.new) }
         ensures stops { OnFaultOf result (StopsWithin rtype len self.old self.new) }
     {

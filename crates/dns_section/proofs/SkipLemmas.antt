@@ -1,7 +1,7 @@
 -- Consecutive entries that a parser skips.
 use Rattle.std.proofs.Common.{◌∙◌, ℕ, zero, suc, ◌+◌, ◌<◌, List, arith, add-one, refl, subst}
 use Rattle.dns_name.specs.Names.{Fault, fault_of}
-use Rattle.dns_name.specs.Parsers.{seen, place, MovesTo}
+use Rattle.dns_name.specs.Parsers.{seen, offset, MovesTo}
 use Rattle.dns_octets.specs.declared.error.ParseError.{ParseError}
 use Rattle.dns_name.specs.declared.parser.Parser.{Parser}
 use Rattle.dns_section.specs.Reading.{Passed, StopsPassing}
@@ -21,15 +21,15 @@ module _ {Skips : ℕ → ℕ → Type 0} {FaultOf : ℕ → Fault → Type 0} w
   stopped (suc n) none fault l = here fault
   stopped (suc n) (more h x) fault l = behind h (stopped n x fault (omega arith))
 
-module _ (SkipsIn : List ℕ → ℕ → ℕ → Type 0) (FaultIn : List ℕ → ℕ → Fault → Type 0) (old mid : Parser) (i : ℕ) (passed : Passed (SkipsIn (seen old)) i (place old) (place mid) × MovesTo old mid (place mid)) where
+module _ (SkipsIn : List ℕ → ℕ → ℕ → Type 0) (FaultIn : List ℕ → ℕ → Fault → Type 0) (old mid : Parser) (i : ℕ) (passed : Passed (SkipsIn (seen old)) i (offset old) (offset mid) × MovesTo old mid (offset mid)) where
   -- the parser skips one more entry
-  pub skips_more : (new : Parser) → SkipsIn (seen mid) (place mid) (place new) × MovesTo mid new (place new) → Passed (SkipsIn (seen old)) (i + 1) (place old) (place new) × MovesTo old new (place new)
+  pub skips_more : (new : Parser) → SkipsIn (seen mid) (offset mid) (offset new) × MovesTo mid new (offset new) → Passed (SkipsIn (seen old)) (i + 1) (offset old) (offset new) × MovesTo old new (offset new)
   skips_more new h =
-      let s = subst (λ (b : List ℕ). SkipsIn b (place mid) (place new)) passed.1.seen h.0 in (
+      let s = subst (λ (b : List ℕ). SkipsIn b (offset mid) (offset new)) passed.1.seen h.0 in (
         rw add-one (passed_last passed.0 s),
-        record { input = h.1.input ∙ passed.1.input; seen = h.1.seen ∙ passed.1.seen; place = refl },
+        record { input = h.1.input ∙ passed.1.input; seen = h.1.seen ∙ passed.1.seen; offset = refl },
       )
 
   -- the parser can't skip the next entry
-  pub skips_stop : (n : ℕ) (e : ParseError) → FaultIn (seen mid) (place mid) (fault_of e) → i < n → StopsPassing (SkipsIn (seen old)) (FaultIn (seen old)) n (place old) (fault_of e)
-  skips_stop n e fault l = stopped n passed.0 (subst (λ (b : List ℕ). FaultIn b (place mid) (fault_of e)) passed.1.seen fault) l
+  pub skips_stop : (n : ℕ) (e : ParseError) → FaultIn (seen mid) (offset mid) (fault_of e) → i < n → StopsPassing (SkipsIn (seen old)) (FaultIn (seen old)) n (offset old) (fault_of e)
+  skips_stop n e fault l = stopped n passed.0 (subst (λ (b : List ℕ). FaultIn b (offset mid) (fault_of e)) passed.1.seen fault) l

@@ -2,7 +2,7 @@
 use Rattle.std.specs.Iterator.{YieldsFirstBy}
 use Rattle.std.specs.Prelude.{◌≡◌, ℕ, List, Option, Some, None, Result, Ok, Err}
 use Rattle.dns_name.specs.Names.{Fault, fault_of}
-use Rattle.dns_name.specs.Parsers.{seen, place}
+use Rattle.dns_name.specs.Parsers.{seen, offset}
 use Rattle.dns_octets.specs.declared.error.ParseError.{ParseError}
 use Rattle.dns_name.specs.declared.parsed_name.ParsedName.{ParsedName}
 use Rattle.dns_code.specs.HeaderSection.{header_size}
@@ -20,7 +20,7 @@ octets_of section = seen section.parser
 
 -- the offset after the questions that were yielded
 abbrev pub position : QuestionSection → ℕ
-position section = place section.parser
+position section = offset section.parser
 
 -- the count of questions that may still come, or the error that was yielded
 abbrev pub to_come : QuestionSection → Result ℕ ParseError

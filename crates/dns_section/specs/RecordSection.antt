@@ -2,7 +2,7 @@
 use Rattle.std.specs.Iterator.{YieldsFirstBy}
 use Rattle.std.specs.Prelude.{◌≡◌, ◌≢◌, ℕ, List, Option, Some, None, Result, Ok, Err}
 use Rattle.dns_name.specs.Names.{Fault, fault_of}
-use Rattle.dns_name.specs.Parsers.{seen, place}
+use Rattle.dns_name.specs.Parsers.{seen, offset}
 use Rattle.dns_octets.specs.declared.error.ParseError.{ParseError}
 use Rattle.dns_question.specs.Questions.{SkipsQuestion, QuestionSkipFaultAt}
 use Rattle.dns_item.specs.Items.{SkipsRecord, ReadsRecord, RecordFaultAt, RecordSkipFaultAt}
@@ -23,7 +23,7 @@ octets_of cursor = seen cursor.parser
 
 -- the offset after the records that were yielded
 abbrev pub position : RecordSection → ℕ
-position cursor = place cursor.parser
+position cursor = offset cursor.parser
 
 -- the section whose records these are
 abbrev pub section_of : RecordSection → Section

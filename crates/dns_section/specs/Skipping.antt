@@ -2,15 +2,15 @@
 use Rattle.std.specs.Bool.{⊤}
 use Rattle.std.specs.Prelude.{◌≡◌, ℕ, suc, List, [], Option, Some, None, Result, Ok, Err}
 use Rattle.dns_name.specs.Names.{Fault, fault_of}
-use Rattle.dns_name.specs.Parsers.{place, MovesTo}
+use Rattle.dns_name.specs.Parsers.{offset, MovesTo}
 use Rattle.dns_octets.specs.declared.error.ParseError.{ParseError}
 use Rattle.dns_name.specs.declared.parser.Parser.{Parser}
 use Rattle.dns_section.specs.Reading.{Passed, StopsPassing}
 
 -- The parser moves past n entries, or the error is that of the first entry that can't be skipped.
 abbrev pub SkipsAll : (ℕ → ℕ → Type 0) → (ℕ → Fault → Type 0) → ℕ → Parser → Parser → Result Unit ParseError → Type 0
-SkipsAll Skips FaultOf n old new (Ok _) = Passed Skips n (place old) (place new) × MovesTo old new (place new)
-SkipsAll Skips FaultOf n old new (Err e) = StopsPassing Skips FaultOf n (place old) (fault_of e)
+SkipsAll Skips FaultOf n old new (Ok _) = Passed Skips n (offset old) (offset new) × MovesTo old new (offset new)
+SkipsAll Skips FaultOf n old new (Err e) = StopsPassing Skips FaultOf n (offset old) (fault_of e)
 
 -- the reading of at most as many entries as are to come, or nothing after an error
 abbrev pub items_left : {X : Type 0} → (ℕ → List (Result X Fault)) → Result ℕ ParseError → List (Result X Fault)

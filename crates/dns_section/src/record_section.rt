@@ -1,6 +1,6 @@
 ghost use Rattle.std.specs.Prelude.{◌≡◌, ◌≤◌, length};
 ghost use Rattle.dns_name.specs.NearNames.{IsNear, IsNear-prop};
-ghost use Rattle.dns_name.specs.Parsers.{input, seen, place};
+ghost use Rattle.dns_name.specs.Parsers.{input, seen, offset};
 ghost use Rattle.dns_code.specs.HeaderSection.{header_size};
 ghost use Rattle.dns_item.specs.Items.{SkipsRecord, RecordSkipFaultAt};
 ghost use Rattle.dns_section.specs.Skipping.{SkipsAll};
@@ -42,7 +42,7 @@ impl<'a> RecordSection<'a> {
         requires whole { seen parser ≡ input parser }
         requires near { IsNear (seen parser) near }
         ensures fresh { IsFresh section (seen parser.entry) result }
-        ensures position { position result ≡ place parser.entry }
+        ensures position { position result ≡ offset parser.entry }
     {
         let counts = HeaderCounts::for_message_slice(parser.as_slice());
         let count = match section {

@@ -60,18 +60,18 @@ pub refused : (room : Option ℕ) (grows : Bool) (xs : List ℕ) (t u : Written)
 refused room grows xs t u v r e l f is few out h =
     rw (out, ← is) (refuses room grows xs t u e l f (rw (length-append, is) few) h)
 
-written_two_on : (ys bytes : List ℕ) (place : ℕ) → 2 ≤ length ys → drop 2 (take (place + 2) ys ++ bytes ++ drop (place + 2 + length bytes) ys) ≡ take place (drop 2 ys) ++ bytes ++ drop (place + length bytes) (drop 2 ys)
-written_two_on [] bytes place l = absurd (omega arith)
-written_two_on (a ∷ []) bytes place l = absurd (omega arith)
-written_two_on (a ∷ b ∷ ys) bytes place l =
-    let e : place + 2 ≡ suc (suc place) = omega arith in
-    let f : place + 2 + length bytes ≡ suc (suc (place + length bytes)) = omega arith in
+written_two_on : (ys bytes : List ℕ) (offset : ℕ) → 2 ≤ length ys → drop 2 (take (offset + 2) ys ++ bytes ++ drop (offset + 2 + length bytes) ys) ≡ take offset (drop 2 ys) ++ bytes ++ drop (offset + length bytes) (drop 2 ys)
+written_two_on [] bytes offset l = absurd (omega arith)
+written_two_on (a ∷ []) bytes offset l = absurd (omega arith)
+written_two_on (a ∷ b ∷ ys) bytes offset l =
+    let e : offset + 2 ≡ suc (suc offset) = omega arith in
+    let f : offset + 2 + length bytes ≡ suc (suc (offset + length bytes)) = omega arith in
     rw (f, e) refl
 
 -- Overwriting the wrapped target two octets further on overwrites the message at the offset.
-pub over : (t u : Written) (xs bytes : List ℕ) (place : ℕ) → 2 ≤ length t.octets → u ≡ overwrite (place + 2) bytes t → drop 2 t.octets ≡ xs → plain (drop 2 u.octets) ≡ overwrite place bytes (plain xs)
-over t u xs bytes place l e is =
-    same_written _ _ (ap (λ (w : Written). drop 2 w.octets) e ∙ written_two_on t.octets bytes place l ∙ ap (λ (ys : List ℕ). take place ys ++ bytes ++ drop (place + length bytes) ys) is) refl
+pub over : (t u : Written) (xs bytes : List ℕ) (offset : ℕ) → 2 ≤ length t.octets → u ≡ overwrite (offset + 2) bytes t → drop 2 t.octets ≡ xs → plain (drop 2 u.octets) ≡ overwrite offset bytes (plain xs)
+over t u xs bytes offset l e is =
+    same_written _ _ (ap (λ (w : Written). drop 2 w.octets) e ∙ written_two_on t.octets bytes offset l ∙ ap (λ (ys : List ℕ). take offset ys ++ bytes ++ drop (offset + length bytes) ys) is) refl
 
 -- If the wrapped target is within its capacity, the message is within its own.
 pub fits : (room : Option ℕ) (t : Written) (xs : List ℕ) → 2 ≤ length t.octets → length t.octets ≤ 65537 → Fits room (length t.octets) → drop 2 t.octets ≡ xs → Fits (stream_room room) (length xs)

@@ -157,8 +157,8 @@ impl<T: Composer> Composer for StreamTarget<T> {
         }
     }
 
-    fn write_at(&mut self, place: usize, octets: &[u8]) {
-        self.target.write_at(place + PREFIX_LEN, octets);
+    fn write_at(&mut self, offset: usize, octets: &[u8]) {
+        self.target.write_at(offset + PREFIX_LEN, octets);
     }
 }
 

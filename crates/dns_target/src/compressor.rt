@@ -10,7 +10,7 @@ use crate::hash_index::HashIndex;
 use crate::hashes::Hashes;
 use crate::index::SuffixIndex;
 use crate::label_starts::{LabelStarts, note_starts};
-use crate::places::Places;
+use crate::offsets::Offsets;
 use crate::texts::append_planned;
 use crate::tree::Tree;
 use arrayvec::ArrayVec;
@@ -28,7 +28,7 @@ pub struct Compressor<Target: Composer, Index: SuffixIndex> {
 
 /// A compressor whose table stores the first 24 suffixes that are written as labels below offset
 /// 16,384. It allocates nothing itself. Suffixes match octet for octet.
-pub type StaticCompressor<Target> = Compressor<Target, Places>;
+pub type StaticCompressor<Target> = Compressor<Target, Offsets>;
 
 /// A compressor whose table stores each suffix that is written as labels below offset 16,384.
 /// Suffixes match octet for octet.
@@ -62,14 +62,14 @@ impl<Target: Composer, Index: SuffixIndex> Model for Compressor<Target, Index> {
         × Index.is_of (Target.written s.target).octets s.index };
 }
 
-impl<Target: Composer> Compressor<Target, Places> {
+impl<Target: Composer> Compressor<Target, Offsets> {
     /// Returns a compressor over `target`, which must not compress. The octets stay, and the table
     /// is empty.
     pub fn new(target: Target) -> Self
         requires { Target.rule ≡ Plain }
         ensures { result ≡ record { octets = (Target.written target).octets; memory = nothing } }
     {
-        Compressor::over(target, Places::new())
+        Compressor::over(target, Offsets::new())
     }
 }
 
@@ -154,18 +154,18 @@ impl<Target: Composer, Index: SuffixIndex> Compressor<Target, Index> {
         note_starts(&name, octets, &mut starts);
         let labels = LabelStarts::new(name, octets, starts.as_slice());
         let content = self.target.as_slice();
-        let place = content.len();
+        let offset = content.len();
         let (found, hint) = self.index.look_up(content, &labels);
         let plan = self.index.plan(content, &labels, found);
         append_planned(&mut self.target, &labels, found, plan.whole)?;
         let written = self.target.as_slice();
         match self
             .index
-            .remember(written, &labels, place, found, hint, plan.count)
+            .remember(written, &labels, offset, found, hint, plan.count)
         {
             Ok(()) => Ok(()),
             Err(_) => {
-                self.target.truncate(place);
+                self.target.truncate(offset);
                 Err(AppendError::OutOfMemory)
             }
         }
@@ -226,8 +226,8 @@ impl<Target: Composer, Index: SuffixIndex> Composer for Compressor<Target, Index
         self.index.forget(len);
     }
 
-    fn write_at(&mut self, place: usize, octets: &[u8]) {
-        self.target.write_at(place, octets);
+    fn write_at(&mut self, offset: usize, octets: &[u8]) {
+        self.target.write_at(offset, octets);
     }
 }
 

@@ -42,9 +42,9 @@ impl HashIndex {
         requires recent { IsRest content.now self.now.suffixes.suffixes self.now.recent }
         ensures within { result.from ≤ length labels.now }
         ensures there { RestIsName (memory_in content.now (spots_in self.now.suffixes.suffixes))
-            result.place (drop result.from labels.now) }
+            result.offset (drop result.from labels.now) }
     {
-        let Some(place) = self.recent else {
+        let Some(offset) = self.recent else {
             return Found::nothing(labels);
         };
         let count = self.recent_labels;
@@ -52,23 +52,23 @@ impl HashIndex {
             return Found::nothing(labels);
         }
         let from = labels.len() - count;
-        if !stands_flat(content, usize::from(place), labels.tail(from)) {
+        if !stands_flat(content, usize::from(offset), labels.tail(from)) {
             return Found::nothing(labels);
         }
         Found {
             from,
-            place: Some(place),
+            offset: Some(offset),
         }
     }
 }
 
-/// The number of suffixes to add for a name at offset `place`, whose new suffixes begin at the
+/// The number of suffixes to add for a name at offset `offset`, whose new suffixes begin at the
 /// labels before `from`: all of these, or none if one begins at 16,384 or above.
-fn near_count(labels: &LabelStarts<'_>, place: usize, from: usize) -> usize
+fn near_count(labels: &LabelStarts<'_>, offset: usize, from: usize) -> usize
     requires { from ≤ length labels.now }
-    ensures { result ≡ near_count_of place labels.now from }
+    ensures { result ≡ near_count_of offset labels.now from }
 {
-    if reaches(labels, place, from) {
+    if reaches(labels, offset, from) {
         from
     } else {
         0
@@ -80,7 +80,7 @@ fn near_count(labels: &LabelStarts<'_>, place: usize, from: usize) -> usize
 fn shared_from(found: Found) -> usize
     ensures { result ≤ found.from }
 {
-    match found.place {
+    match found.offset {
         Some(_) => found.from,
         None => 0,
     }
@@ -91,7 +91,7 @@ impl SuffixIndex for HashIndex {
 
     ghost use Rattle.std.specs.Prelude.{◌≡◌, ◌≤◌, ◌+◌, ◌<◌, ◌⊎◌, length, ℕ, true, refl};
     ghost use Rattle.dns_name.specs.Names.{pointer_end};
-    ghost use Rattle.dns_wire.specs.Choice.{place_of};
+    ghost use Rattle.dns_wire.specs.Choice.{label_offset};
     ghost use Rattle.dns_wire.specs.Pieces.{Hash};
     ghost use Rattle.dns_target.specs.Table.{spots_in, AreKeyed, IsRest, keyed_again, rest_again};
 
@@ -107,7 +107,7 @@ impl SuffixIndex for HashIndex {
 
     ghost is_planned = { λ s name w from count.
         ((count ≡ 0) ⊎ (count ≡ from))
-        × ((i : ℕ) → i < count → place_of w name i < pointer_end) };
+        × ((i : ℕ) → i < count → label_offset w name i < pointer_end) };
 
     ghost lacks_room = { λ s from count. s.suffixes.room < count };
 
@@ -120,17 +120,17 @@ impl SuffixIndex for HashIndex {
         let mut key = Key::new();
         let Found {
             mut from,
-            mut place,
+            mut offset,
         } = self.recent_in(content, labels);
         while from > 0 {
-            key.set(labels.label(from - 1), place);
+            key.set(labels.label(from - 1), offset);
             let Some(longer) = self.suffixes.find(&key) else {
-                return (Found { from, place }, ());
+                return (Found { from, offset }, ());
             };
-            place = Some(longer);
+            offset = Some(longer);
             from -= 1;
         }
-        (Found { from, place }, ())
+        (Found { from, offset }, ())
     }
 
     fn plan(&self, content: &[u8], labels: &LabelStarts<'_>, found: Found) -> Plan {
@@ -144,22 +144,22 @@ impl SuffixIndex for HashIndex {
         &mut self,
         content: &[u8],
         labels: &LabelStarts<'_>,
-        place: usize,
+        offset: usize,
         found: Found,
         _hint: (),
         count: usize,
     ) -> Result<(), AllocError> {
         self.suffixes.reserve(count)?;
-        let mut rest = found.place;
+        let mut rest = found.offset;
         let mut index = count;
         while index > 0 {
             index -= 1;
-            let here = (place + labels.start(index)) as u16;
+            let here = (offset + labels.start(index)) as u16;
             self.suffixes
                 .push(labels.label(index), rest, here, content.len());
             rest = Some(here);
         }
-        self.recent = found.place.or(rest);
+        self.recent = found.offset.or(rest);
         self.recent_labels = labels.len() - shared_from(found);
         Ok(())
     }

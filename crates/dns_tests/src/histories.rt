@@ -265,8 +265,8 @@ fn assert_compressed<T: CloneTarget>(
 ) -> Result<(), Fail>
     requires { T.rule ≡ Plain }
 {
-    let places = StaticCompressor::new(target.clone_target()?);
-    assert_ends(rt, alloc, places, COMPRESSED, is_full)?;
+    let offsets = StaticCompressor::new(target.clone_target()?);
+    assert_ends(rt, alloc, offsets, COMPRESSED, is_full)?;
     let tree = TreeCompressor::new(alloc, target.clone_target()?);
     assert_ends(rt, alloc, tree, COMPRESSED, is_full)?;
     let hash = HashCompressor::new(alloc, target.clone_target()?);

@@ -478,7 +478,7 @@ struct Long {
     count: usize,
     end: &'static str,
     /// The index of the line, counted from 0.
-    place: usize,
+    offset: usize,
     line: &'static str,
     status: u8,
 }
@@ -490,7 +490,7 @@ const LONG: &[Long] = &[
         repeated: "push . A\n",
         count: 101,
         end: "",
-        place: 100,
+        offset: 100,
         line: "ok 512",
         status: 0,
     },
@@ -500,7 +500,7 @@ const LONG: &[Long] = &[
         repeated: "push . A\n",
         count: 101,
         end: "",
-        place: 101,
+        offset: 101,
         line: "refused short 512",
         status: 0,
     },
@@ -510,7 +510,7 @@ const LONG: &[Long] = &[
         repeated: "push . A\n",
         count: 101,
         end: "",
-        place: 100,
+        offset: 100,
         line: "ok 507",
         status: 0,
     },
@@ -520,7 +520,7 @@ const LONG: &[Long] = &[
         repeated: "push . A\n",
         count: 101,
         end: "",
-        place: 101,
+        offset: 101,
         line: "ok 512",
         status: 0,
     },
@@ -530,7 +530,7 @@ const LONG: &[Long] = &[
         repeated: "push . A\n",
         count: 101,
         end: "",
-        place: 102,
+        offset: 102,
         line: "refused short 512",
         status: 0,
     },
@@ -540,7 +540,7 @@ const LONG: &[Long] = &[
         repeated: "00",
         count: 65_531,
         end: " 3:",
-        place: 1,
+        offset: 1,
         line: "refused short 12",
         status: 0,
     },
@@ -550,7 +550,7 @@ const LONG: &[Long] = &[
         repeated: "00",
         count: 65_536,
         end: "",
-        place: 1,
+        offset: 1,
         line: "bad line 2",
         status: 1,
     },
@@ -570,7 +570,7 @@ fn is_printed(alloc: Global, long: &Long) -> Result<bool, Fail> {
     let script = script_of(alloc, long)?;
     let mut output = Vec::new(alloc);
     let status = run(alloc, "build fixed", script.as_bytes(), &mut output)?;
-    let line = str::from_utf8(&output)?.lines().nth(long.place);
+    let line = str::from_utf8(&output)?.lines().nth(long.offset);
     Ok(status == long.status && line == Some(long.line))
 }
 

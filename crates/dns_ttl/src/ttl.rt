@@ -1,7 +1,7 @@
 ghost use Rattle.std.specs.Prelude.{◌≡◌, ◌↔◌, ℕ, ◌+◌, ◌-◌, ◌*◌, ◌/◌, ◌%◌, ◌^◌, ◌<◌, ◌≤◌, min, sum, IsTrue, SomeIff};
 ghost use Rattle.std.specs.Int.{to_be_bytes, w32};
 ghost use Rattle.std.specs.Duration.{as_nanos};
-ghost use Rattle.dns_name.specs.Parsers.{seen, place, number_at, Takes};
+ghost use Rattle.dns_name.specs.Parsers.{seen, offset, number_at, Takes};
 ghost use Rattle.dns_wire.specs.Pieces.{put_octets};
 ghost use Rattle.dns_wire.specs.Targets.{Appends};
 ghost use Rattle.dns_ttl.specs.Ttl.{FitsTtl, most_seconds, cap_seconds, whole_seconds, nanos_of_seconds};
@@ -230,7 +230,7 @@ impl Ttl {
     /// section 4.1.3). Returns `ShortInput` if fewer remain.
     pub fn parse(parser: &mut Parser<'_>) -> Result<Self, ParseError>
         ensures { Takes parser.old parser.new Self.COMPOSE_LEN result
-            (λ ttl. ttl ≡ number_at w32 (seen parser.old) (place parser.old)) }
+            (λ ttl. ttl ≡ number_at w32 (seen parser.old) (offset parser.old)) }
     {
         parser.parse_u32_be().map(Ttl::from_secs)
     }

@@ -12,7 +12,7 @@ use Rattle.dns_view.specs.declared.html.TheConstants.{HEAD, TIP}
 use Rattle.dns_rows.specs.declared.row.Kind.{Kind}
 use Rattle.dns_rows.specs.declared.row.Row.{Row}
 use Rattle.dns_view.proofs.Appended.{appends_both, appends_same, on_ok}
-use Rattle.dns_view.specs.Pages.{arrow_text, class_text, escaped, IsCells, IsPage, IsTableRow, arrow_between, cell_text, left_edge, octet_cells, opening_text, path_text, place_label, rectangle_text, upper_edge}
+use Rattle.dns_view.specs.Pages.{arrow_text, class_text, escaped, IsCells, IsPage, IsTableRow, arrow_between, cell_text, left_edge, octet_cells, opening_text, path_text, offset_label, rectangle_text, upper_edge}
 
 -- decimal texts of the constants
 decimal_thirty : decimal 30 ≡ codes "30"
@@ -40,13 +40,13 @@ pub opening_pieces : (count width height : ℕ) → width ≡ left_edge 15 + 72 
     → codes "<svg width=\"" ++ (decimal width ++ (codes "\" height=\"" ++ (decimal height ++ codes "\">\n"))) ≡ opening_text count
 opening_pieces count width height e f = rw (e, f) (five (codes "<svg width=\"") (decimal (left_edge 15 + 72)) (codes "\" height=\"") (decimal (upper_edge count + 60)) (codes "\">\n"))
 
-pub place_pieces : (place base : ℕ) → place % 16 ≡ 0 → base ≡ upper_edge place + 20
-    → codes "<text class=\"place\" x=\"" ++ (decimal 50 ++ (codes "\" y=\"" ++ (decimal base ++ (codes "\">" ++ (decimal place ++ codes "</text>\n"))))) ≡ place_label place
-place_pieces place base e f = rw (e, f, decimal_fifty) (simp append_assoc)
+pub offset_pieces : (offset base : ℕ) → offset % 16 ≡ 0 → base ≡ upper_edge offset + 20
+    → codes "<text class=\"place\" x=\"" ++ (decimal 50 ++ (codes "\" y=\"" ++ (decimal base ++ (codes "\">" ++ (decimal offset ++ codes "</text>\n"))))) ≡ offset_label offset
+offset_pieces offset base e f = rw (e, f, decimal_fifty) (simp append_assoc)
 
-pub rectangle_pieces : (place x y : ℕ) → x ≡ left_edge place → y ≡ upper_edge place
-    → codes "<rect x=\"" ++ (decimal x ++ (codes "\" y=\"" ++ (decimal y ++ (codes "\" width=\"" ++ (decimal 36 ++ (codes "\" height=\"" ++ (decimal 30 ++ codes "\"/>"))))))) ≡ rectangle_text place
-rectangle_pieces place x y e f = rw (e, f, decimal_thirty, decimal_thirty_six) (simp append_assoc)
+pub rectangle_pieces : (offset x y : ℕ) → x ≡ left_edge offset → y ≡ upper_edge offset
+    → codes "<rect x=\"" ++ (decimal x ++ (codes "\" y=\"" ++ (decimal y ++ (codes "\" width=\"" ++ (decimal 36 ++ (codes "\" height=\"" ++ (decimal 30 ++ codes "\"/>"))))))) ≡ rectangle_text offset
+rectangle_pieces offset x y e f = rw (e, f, decimal_thirty, decimal_thirty_six) (simp append_assoc)
 
 pub arrow_pieces : (from to from_x from_y bend_x to_x to_y : ℕ) → from_x ≡ left_edge from + 36 → from_y ≡ upper_edge from + 6 → bend_x ≡ max from_x to_x + 36 → to_x ≡ left_edge to + 18 → to_y ≡ upper_edge to + 26
     → path_text from_x from_y bend_x to_x to_y ++ (codes "<title>" ++ (decimal from ++ (codes " points to " ++ (decimal to ++ codes "</title></path>\n")))) ≡ arrow_between from to
@@ -77,15 +77,15 @@ pub cells_more : (start : ℕ) (octets : List ℕ) (i : ℕ) → i < length octe
 cells_more start octets i within =
     let octet = get_or octets i 0 in
     let before = enumerate_from start (take i octets) in
-    let place : start + length (take i octets) ≡ start + i = omega (arith, length-take i octets) in
-    sym (ap (octet_cells start) (take_more octets i 0 within) ∙ ap (flat_map cell_text) (enumerated_more start (take i octets) octet ∙ ap (λ n. before ++ (n, octet) ∷ []) place)
+    let offset : start + length (take i octets) ≡ start + i = omega (arith, length-take i octets) in
+    sym (ap (octet_cells start) (take_more octets i 0 within) ∙ ap (flat_map cell_text) (enumerated_more start (take i octets) octet ∙ ap (λ n. before ++ (n, octet) ∷ []) offset)
     ∙ flat_map-append cell_text before ((start + i, octet) ∷ []) ∙ ap (λ l. flat_map cell_text before ++ l) (append-nil (cell_text (start + i, octet))))
 
 -- the class, the offset and the texts around them
-pub field_pieces : (kind : Kind) (class : List ℕ) (place : ℕ) → class ≡ class_text kind
-    → codes "<tr class=\"" ++ (class ++ (codes "\"><td class=\"place\">" ++ (decimal place ++ codes "</td><td class=\"octets\">")))
-    ≡ codes "<tr class=\"" ++ class_text kind ++ codes "\"><td class=\"place\">" ++ decimal place ++ codes "</td><td class=\"octets\">"
-field_pieces kind class place e = rw e (five (codes "<tr class=\"") (class_text kind) (codes "\"><td class=\"place\">") (decimal place) (codes "</td><td class=\"octets\">"))
+pub field_pieces : (kind : Kind) (class : List ℕ) (offset : ℕ) → class ≡ class_text kind
+    → codes "<tr class=\"" ++ (class ++ (codes "\"><td class=\"place\">" ++ (decimal offset ++ codes "</td><td class=\"octets\">")))
+    ≡ codes "<tr class=\"" ++ class_text kind ++ codes "\"><td class=\"place\">" ++ decimal offset ++ codes "</td><td class=\"octets\">"
+field_pieces kind class offset e = rw e (five (codes "<tr class=\"") (class_text kind) (codes "\"><td class=\"place\">") (decimal offset) (codes "</td><td class=\"octets\">"))
 
 module _ {X E : Type 0} (r : Result X E) (a b c d e f : Option (List ℕ)) where
   pub cells_printed : (message : List ℕ) (row : Row) (class words octets : List ℕ) → class ≡ class_text row.kind → octets ≡ row_octets message row

@@ -8,7 +8,7 @@ use Rattle.std.proofs.Math.Nat.{sub_self}
 use lib.Utf8.{encode}
 use Rattle.dns_view.specs.Printed.{Prints}
 use Rattle.dns_view.specs.Digits.{octet_text}
-use Rattle.dns_view.specs.Texts.{columns, digits_text, line_octets, line_text, place_text, spaces, IsLines, IsShort, Line}
+use Rattle.dns_view.specs.Texts.{columns, digits_text, line_octets, line_text, offset_text, spaces, IsLines, IsShort, Line}
 use Rattle.dns_view.proofs.Appended.{appends_both, appends_same}
 use Rattle.std.specs.Io.KnownBytes.{Appends}
 use Rattle.std.proofs.lemmas.List.Elements.{All-nil, All-push}
@@ -27,9 +27,9 @@ filled : (n m : ℕ) (text : List ℕ) → m ≡ n → ((repeat m (32 ∷ []) ++
 filled n m text e = rw e (simp (append-nil, sub_self, repeat_one))
 
 -- what `{:>6}` prints for a number
-pub place_padded : (n : ℕ) → padded_integral (format_spec 32 3 0 6 (2 ^ 64 - 1)) false [] (decimal n) ≡ place_text n
+pub offset_padded : (n : ℕ) → padded_integral (format_spec 32 3 0 6 (2 ^ 64 - 1)) false [] (decimal n) ≡ offset_text n
 unfolding padded_integral char_count encode
-place_padded n = filled (6 - length (decimal n)) (6 - length (decimal n) - 0 - 0) (decimal n) (omega arith)
+offset_padded n = filled (6 - length (decimal n)) (6 - length (decimal n) - 0 - 0) (decimal n) (omega arith)
 
 -- one item more of a list, and its text
 flat_map_last : {X : Type 0} (f : X → List ℕ) (xs : List X) (x : X) → flat_map f (xs ++ x ∷ []) ≡ flat_map f xs ++ f x
@@ -56,27 +56,27 @@ pub parts_of : (whole front back : List ℕ) (n : ℕ) → front ≡ take n whol
 parts_of whole front back n e f = rw (e, f) (sym (take-append-drop n whole))
 
 -- from `old` to `new`, the writer got the offset of a row, some lines of its octets, and the spaces before the next line
-pub record Underway (place : ℕ) (whole left : List ℕ) (old new : Option (List ℕ)) : Type 0 where
+pub record Underway (offset : ℕ) (whole left : List ℕ) (old new : Option (List ℕ)) : Type 0 where
   pub done : List Line
   pub octets : flat_map (λ line. line.octets) done ++ left ≡ whole
   pub short : All IsShort done
-  pub appended : Appends old new (place_text place ++ codes " " ++ flat_map (λ line. line_text line ++ spaces 7) done)
+  pub appended : Appends old new (offset_text offset ++ codes " " ++ flat_map (λ line. line_text line ++ spaces 7) done)
 
 -- no line is printed at first
-pub none_done : (place : ℕ) (octets : List ℕ) (old new : Option (List ℕ)) → Appends old new (place_text place ++ codes " ") → Underway place octets octets old new
-none_done place octets old new h = record {
+pub none_done : (offset : ℕ) (octets : List ℕ) (old new : Option (List ℕ)) → Appends old new (offset_text offset ++ codes " ") → Underway offset octets octets old new
+none_done offset octets old new h = record {
   done = [];
   octets = refl;
   short = All-nil IsShort;
-  appended = appends_same old new _ _ (sym (append-nil (place_text place ++ codes " "))) h;
+  appended = appends_same old new _ _ (sym (append-nil (offset_text offset ++ codes " "))) h;
 }
 
 -- one line more is printed
-pub one_done : (place : ℕ) (whole left octets behind words : List ℕ) (a b c d : Option (List ℕ)) → Underway place whole left a b → left ≡ octets ++ behind → length octets ≤ line_octets → length words ≤ columns
-    → Appends b c (line_text record { octets = octets; words = words }) → Appends c d (codes "       ") → Underway place whole behind a d
-one_done place whole left octets behind words a b c d u parts few fits h k =
+pub one_done : (offset : ℕ) (whole left octets behind words : List ℕ) (a b c d : Option (List ℕ)) → Underway offset whole left a b → left ≡ octets ++ behind → length octets ≤ line_octets → length words ≤ columns
+    → Appends b c (line_text record { octets = octets; words = words }) → Appends c d (codes "       ") → Underway offset whole behind a d
+one_done offset whole left octets behind words a b c d u parts few fits h k =
     let line : Line = record { octets = octets; words = words } in
-    let head = place_text place ++ codes " " in
+    let head = offset_text offset ++ codes " " in
     let texts = flat_map (λ (l : Line). line_text l ++ spaces 7) u.done in
     record {
       done = u.done ++ line ∷ [];
@@ -88,26 +88,26 @@ one_done place whole left octets behind words a b c d u parts few fits h k =
     }
 
 -- some lines and a last one are the lines of a row
-lines_of : (place : ℕ) (whole : List ℕ) (done : List Line) (last : Line) → flat_map (λ line. line.octets) (done ++ last ∷ []) ≡ whole → All IsShort (done ++ last ∷ [])
-    → IsLines place whole (place_text place ++ codes " " ++ (flat_map (λ line. line_text line ++ spaces 7) done ++ line_text last))
-lines_of place whole [] last e short = record { first = last; others = []; whole = e; short = short; is = sym (append-nil (place_text place ++ codes " " ++ line_text last)) }
-lines_of place whole (first ∷ more) last e short = record {
+lines_of : (offset : ℕ) (whole : List ℕ) (done : List Line) (last : Line) → flat_map (λ line. line.octets) (done ++ last ∷ []) ≡ whole → All IsShort (done ++ last ∷ [])
+    → IsLines offset whole (offset_text offset ++ codes " " ++ (flat_map (λ line. line_text line ++ spaces 7) done ++ line_text last))
+lines_of offset whole [] last e short = record { first = last; others = []; whole = e; short = short; is = sym (append-nil (offset_text offset ++ codes " " ++ line_text last)) }
+lines_of offset whole (first ∷ more) last e short = record {
   first = first;
   others = more ++ last ∷ [];
   whole = e;
   short = short;
-  is = behind_first line_text (spaces 7) (place_text place ++ codes " ") first more last;
+  is = behind_first line_text (spaces 7) (offset_text offset ++ codes " ") first more last;
 }
 
 -- the last line is printed
-pub last_done : (place : ℕ) (whole left octets behind words : List ℕ) (a b c : Option (List ℕ)) → Underway place whole left a b → left ≡ octets ++ behind → behind ≡ [] → length octets ≤ line_octets → length words ≤ columns
-    → Appends b c (line_text record { octets = octets; words = words }) → Prints (IsLines place whole) a c
-last_done place whole left octets behind words a b c u parts none few fits h =
+pub last_done : (offset : ℕ) (whole left octets behind words : List ℕ) (a b c : Option (List ℕ)) → Underway offset whole left a b → left ≡ octets ++ behind → behind ≡ [] → length octets ≤ line_octets → length words ≤ columns
+    → Appends b c (line_text record { octets = octets; words = words }) → Prints (IsLines offset whole) a c
+last_done offset whole left octets behind words a b c u parts none few fits h =
     let line : Line = record { octets = octets; words = words } in
-    let head = place_text place ++ codes " " in
+    let head = offset_text offset ++ codes " " in
     let texts = flat_map (λ (l : Line). line_text l ++ spaces 7) u.done in
     let all = sym (append-nil (flat_map (λ (l : Line). l.octets) (u.done ++ line ∷ []))) ∙ ap (λ (l : List ℕ). flat_map (λ (l : Line). l.octets) (u.done ++ line ∷ []) ++ l) (sym none) ∙ all_octets u.done line left behind whole parts u.octets in (
       head ++ (texts ++ line_text line),
-      lines_of place whole u.done line all (All-push IsShort u.done line u.short record { octets = few; words = fits }),
+      lines_of offset whole u.done line all (All-push IsShort u.done line u.short record { octets = few; words = fits }),
       appends_same a c (head ++ texts ++ line_text line) _ (append_assoc head texts (line_text line)) (appends_both a b c (head ++ texts) _ u.appended h),
     )

@@ -12,11 +12,11 @@ use Rattle.dns_view.specs.declared.html.TheConstants.{HEAD, TIP}
 
 -- the left edge of an octet's cell: a line has sixteen cells of width 36, after a margin of 60
 abbrev pub left_edge : ℕ → ℕ
-left_edge place = place % 16 * 36 + 60
+left_edge offset = offset % 16 * 36 + 60
 
 -- the upper edge of an octet's cell: each line has height 30
 abbrev pub upper_edge : ℕ → ℕ
-upper_edge place = place / 16 * 30
+upper_edge offset = offset / 16 * 30
 
 -- an octet of a text, where `<`, `>` and `&` are escaped
 abbrev pub escaped_octet : ℕ → List ℕ
@@ -57,22 +57,22 @@ abbrev pub opening_text : ℕ → List ℕ
 opening_text count = codes "<svg width=\"" ++ decimal (left_edge 15 + 72) ++ codes "\" height=\"" ++ decimal (upper_edge count + 60) ++ codes "\">\n"
 
 -- the offset of an octet that is the first on a line, before its cell; nothing for others
-abbrev pub place_label : ℕ → List ℕ
-place_label place =
-    if place % 16 == 0 then codes "<text class=\"place\" x=\"50\" y=\"" ++ decimal (upper_edge place + 20) ++ codes "\">" ++ decimal place ++ codes "</text>\n" else []
+abbrev pub offset_label : ℕ → List ℕ
+offset_label offset =
+    if offset % 16 == 0 then codes "<text class=\"place\" x=\"50\" y=\"" ++ decimal (upper_edge offset + 20) ++ codes "\">" ++ decimal offset ++ codes "</text>\n" else []
 
 -- the rectangle of an octet's cell
 abbrev pub rectangle_text : ℕ → List ℕ
-rectangle_text place = codes "<rect x=\"" ++ decimal (left_edge place) ++ codes "\" y=\"" ++ decimal (upper_edge place) ++ codes "\" width=\"36\" height=\"30\"/>"
+rectangle_text offset = codes "<rect x=\"" ++ decimal (left_edge offset) ++ codes "\" y=\"" ++ decimal (upper_edge offset) ++ codes "\" width=\"36\" height=\"30\"/>"
 
 -- the digits of an octet in its cell, with an `id` made of the offset
 abbrev pub cell_digits : ℕ → ℕ → List ℕ
-cell_digits place octet =
-    codes "<text x=\"" ++ decimal (left_edge place + 18) ++ codes "\" y=\"" ++ decimal (upper_edge place + 20) ++ codes "\" id=\"o" ++ decimal place ++ codes "\">" ++ octet_text octet ++ codes "</text>\n"
+cell_digits offset octet =
+    codes "<text x=\"" ++ decimal (left_edge offset + 18) ++ codes "\" y=\"" ++ decimal (upper_edge offset + 20) ++ codes "\" id=\"o" ++ decimal offset ++ codes "\">" ++ octet_text octet ++ codes "</text>\n"
 
 -- the cell of an octet, given with its offset
 abbrev pub cell_text : ℕ × ℕ → List ℕ
-cell_text (place, octet) = place_label place ++ (rectangle_text place ++ cell_digits place octet)
+cell_text (offset, octet) = offset_label offset ++ (rectangle_text offset ++ cell_digits offset octet)
 
 -- the cells of consecutive octets, the first at offset `start`
 abbrev pub octet_cells : ℕ → List ℕ → List ℕ

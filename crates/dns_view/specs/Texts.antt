@@ -18,8 +18,8 @@ abbrev pub spaces : ℕ → List ℕ
 spaces n = replicate n 32
 
 -- an offset, right-aligned in six columns
-abbrev pub place_text : ℕ → List ℕ
-place_text place = spaces (6 - length (decimal place)) ++ decimal place
+abbrev pub offset_text : ℕ → List ℕ
+offset_text offset = spaces (6 - length (decimal offset)) ++ decimal offset
 
 -- octets in digits, each after a space
 abbrev pub digits_text : List ℕ → List ℕ
@@ -49,12 +49,12 @@ abbrev pub line_text : Line → List ℕ
 line_text line = digits_text line.octets ++ words_text (length line.octets) line.words ++ 10 ∷ []
 
 -- the text of consecutive octets from an offset: lines that have these octets in order, the first after the offset, each other after seven spaces
-pub record IsLines (place : ℕ) (octets text : List ℕ) : Type 0 where
+pub record IsLines (offset : ℕ) (octets text : List ℕ) : Type 0 where
   pub first : Line
   pub others : List Line
   pub whole : flat_map (λ line. line.octets) (first ∷ others) ≡ octets
   pub short : All IsShort (first ∷ others)
-  pub is : text ≡ place_text place ++ codes " " ++ line_text first ++ flat_map (λ line. spaces 7 ++ line_text line) others
+  pub is : text ≡ offset_text offset ++ codes " " ++ line_text first ++ flat_map (λ line. spaces 7 ++ line_text line) others
 
 -- some words and a line feed
 abbrev pub IsWords : List ℕ → Type 0

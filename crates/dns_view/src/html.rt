@@ -3,7 +3,7 @@
 ghost use Rattle.std.specs.Prelude.{◌≡◌, ◌+◌, ◌^◌, ◌<◌, length, OnOk};
 ghost use Rattle.std.specs.Io.KnownBytes.{Appends};
 ghost use Rattle.std.specs.List.{flat_map};
-ghost use Rattle.dns_view.specs.Pages.{arrow_between, arrow_text, cell_digits, cell_text, class_text, escaped, escaped_octet, field_class, field_row_text, item_row_text, left_edge, octet_cells, opening_text, path_text, place_label, rectangle_text, table_octets, upper_edge, IsCells, IsPage, IsTableRow};
+ghost use Rattle.dns_view.specs.Pages.{arrow_between, arrow_text, cell_digits, cell_text, class_text, escaped, escaped_octet, field_class, field_row_text, item_row_text, left_edge, octet_cells, opening_text, path_text, offset_label, rectangle_text, table_octets, upper_edge, IsCells, IsPage, IsTableRow};
 ghost use Rattle.dns_view.specs.Printed.{Prints, PrintsEach};
 
 use crate::meaning::Meaning;
@@ -25,7 +25,7 @@ const HEIGHT: u128 = 30;
 const MARGIN: usize = 60;
 
 /// The right edge of the offsets that are printed before the lines of the grid.
-const PLACE_END: usize = 50;
+const OFFSET_END: usize = 50;
 
 /// The text before the grid. The page needs no other file.
 const HEAD: &str = "<!DOCTYPE html>
@@ -105,17 +105,17 @@ fn print_opening<W: Write>(writer: &mut W, count: usize) -> io::Result<()>
 }
 
 /// The left edge of an octet's cell.
-fn x_of(place: usize) -> usize
-    ensures { result ≡ left_edge place }
+fn x_of(offset: usize) -> usize
+    ensures { result ≡ left_edge offset }
 {
-    (place % OCTETS) * WIDTH + MARGIN
+    (offset % OCTETS) * WIDTH + MARGIN
 }
 
 /// The upper edge of an octet's cell, which may exceed 64 bits.
-fn y_of(place: usize) -> u128
-    ensures { result ≡ upper_edge place }
+fn y_of(offset: usize) -> u128
+    ensures { result ≡ upper_edge offset }
 {
-    (place / OCTETS) as u128 * HEIGHT
+    (offset / OCTETS) as u128 * HEIGHT
 }
 
 /// The class of a row in the page's style sheet.
@@ -215,22 +215,22 @@ fn print_octet_cells<W: Write>(writer: &mut W, start: usize, octets: &[u8]) -> i
 }
 
 /// Prints the cell of an octet, and before the first of a line its offset.
-fn print_cell<W: Write>(writer: &mut W, place: usize, octet: u8) -> io::Result<()>
+fn print_cell<W: Write>(writer: &mut W, offset: usize, octet: u8) -> io::Result<()>
     ensures { OnOk result (Appends (W.contents writer.old) (W.contents writer.new)
-        (cell_text (place, octet))) }
+        (cell_text (offset, octet))) }
 {
-    print_place(writer, place)?;
-    print_rectangle(writer, place)?;
-    print_cell_digits(writer, place, octet)
+    print_offset(writer, offset)?;
+    print_rectangle(writer, offset)?;
+    print_cell_digits(writer, offset, octet)
 }
 
 /// Prints the rectangle of an octet's cell.
-fn print_rectangle<W: Write>(writer: &mut W, place: usize) -> io::Result<()>
+fn print_rectangle<W: Write>(writer: &mut W, offset: usize) -> io::Result<()>
     ensures { OnOk result (Appends (W.contents writer.old) (W.contents writer.new)
-        (rectangle_text place)) }
+        (rectangle_text offset)) }
 {
-    let x = x_of(place);
-    let y = y_of(place);
+    let x = x_of(offset);
+    let y = y_of(offset);
     write!(
         writer,
         "<rect x=\"{x}\" y=\"{y}\" width=\"{WIDTH}\" height=\"{HEIGHT}\"/>"
@@ -238,29 +238,32 @@ fn print_rectangle<W: Write>(writer: &mut W, place: usize) -> io::Result<()>
 }
 
 /// Prints the digits of an octet into its cell, with an `id` made of the offset.
-fn print_cell_digits<W: Write>(writer: &mut W, place: usize, octet: u8) -> io::Result<()>
+fn print_cell_digits<W: Write>(writer: &mut W, offset: usize, octet: u8) -> io::Result<()>
     ensures { OnOk result (Appends (W.contents writer.old) (W.contents writer.new)
-        (cell_digits place octet)) }
+        (cell_digits offset octet)) }
 {
-    let middle = x_of(place) + WIDTH / 2;
-    let base = y_of(place) + 20;
-    write!(writer, "<text x=\"{middle}\" y=\"{base}\" id=\"o{place}\">")?;
+    let middle = x_of(offset) + WIDTH / 2;
+    let base = y_of(offset) + 20;
+    write!(
+        writer,
+        "<text x=\"{middle}\" y=\"{base}\" id=\"o{offset}\">"
+    )?;
     print_octet(writer, octet)?;
     writer.write_all(b"</text>\n")
 }
 
 /// Prints the offset of an octet if it is the first on a line.
-fn print_place<W: Write>(writer: &mut W, place: usize) -> io::Result<()>
+fn print_offset<W: Write>(writer: &mut W, offset: usize) -> io::Result<()>
     ensures { OnOk result (Appends (W.contents writer.old) (W.contents writer.new)
-        (place_label place)) }
+        (offset_label offset)) }
 {
-    if place % OCTETS != 0 {
+    if offset % OCTETS != 0 {
         return Ok(());
     }
-    let base = y_of(place) + 20;
+    let base = y_of(offset) + 20;
     writeln!(
         writer,
-        "<text class=\"place\" x=\"{PLACE_END}\" y=\"{base}\">{place}</text>"
+        "<text class=\"place\" x=\"{OFFSET_END}\" y=\"{base}\">{offset}</text>"
     )
 }
 

@@ -189,10 +189,10 @@ fn field_words(field: Field) -> &'static str {
 fn write_name<W: fmt::Write>(
     f: &mut fmt::Formatter<W>,
     message: &[u8],
-    place: usize,
+    offset: usize,
 ) -> fmt::Result {
     let mut parser = Parser::new(message);
-    if parser.seek(place).is_err() {
+    if parser.seek(offset).is_err() {
         return Ok(());
     }
     match ParsedName::parse(&mut parser) {

@@ -7,38 +7,38 @@ use Rattle.std.proofs.lemmas.Grind.{common_steps}
 use Rattle.std.specs.FinMap.{get, len}
 use Rattle.dns_name.specs.Names.{Labels, framed}
 use Rattle.dns_wire.specs.Pieces.{Memory, Spot, remember, Rule, Plain, Static, Tree, Hash, spell, is_kept, put_name, pointer}
-use Rattle.dns_wire.specs.Choice.{place_of, first_suffixes, IsFirstKnown, IsFar, Chooses, IsAmong, NamesByChoice}
+use Rattle.dns_wire.specs.Choice.{label_offset, first_suffixes, IsFirstKnown, IsFar, Chooses, IsAmong, NamesByChoice}
 use Rattle.dns_wire.specs.Choice.Chooses.{shared, written_out}
 use Rattle.dns_wire.proofs.theory.PutNames.{SpellsAs, spells_as}
 use Rattle.dns_wire.proofs.theory.PutNames.SpellsAs.{at_root, at_known, at_kept, at_far}
 
 -- A suffix that may enter the table isn't too far.
-far_not : (rule : Rule) (held place : ℕ) → is_kept rule place held ≡ true → IsFar rule held place → ⊥
-far_not Plain held place e h = cc
-far_not Static held place e (inl h) = grind (arith, common_steps)
-far_not Static held place e (inr h) = grind (arith, common_steps)
-far_not Tree held place e h = grind (arith, common_steps)
-far_not Hash held place e h = h
+far_not : (rule : Rule) (held offset : ℕ) → is_kept rule offset held ≡ true → IsFar rule held offset → ⊥
+far_not Plain held offset e h = cc
+far_not Static held offset e (inl h) = grind (arith, common_steps)
+far_not Static held offset e (inr h) = grind (arith, common_steps)
+far_not Tree held offset e h = grind (arith, common_steps)
+far_not Hash held offset e h = h
 
-far_static : (place held : ℕ) (b : Bool) → nat_lt place 16384 ≡ b → b && nat_lt held 24 ≡ false → (16384 ≤ place) ⊎ (24 ≤ held)
-far_static place held true t e = inr (grind (arith, common_steps))
-far_static place held false t e = inl (grind (arith, common_steps))
+far_static : (offset held : ℕ) (b : Bool) → nat_lt offset 16384 ≡ b → b && nat_lt held 24 ≡ false → (16384 ≤ offset) ⊎ (24 ≤ held)
+far_static offset held true t e = inr (grind (arith, common_steps))
+far_static offset held false t e = inl (grind (arith, common_steps))
 
 -- Any other suffix is.
-far_is : (rule : Rule) (held place : ℕ) → is_kept rule place held ≡ false → IsFar rule held place
-far_is Plain held place e = tt
-far_is Static held place e = far_static place held (nat_lt place 16384) refl e
-far_is Tree held place e = grind (arith, common_steps)
-far_is Hash held place e = cc
+far_is : (rule : Rule) (held offset : ℕ) → is_kept rule offset held ≡ false → IsFar rule held offset
+far_is Plain held offset e = tt
+far_is Static held offset e = far_static offset held (nat_lt offset 16384) refl e
+far_is Tree held offset e = grind (arith, common_steps)
+far_is Hash held offset e = cc
 
 -- The same for equal numbers.
-far_same : (rule : Rule) (held held' place place' : ℕ) → held ≡ held' → place ≡ place' → IsFar rule held place → IsFar rule held' place'
-far_same rule held held' place place' e f far = subst (λ x. IsFar rule x place') e (subst (λ x. IsFar rule held x) f far)
+far_same : (rule : Rule) (held held' offset offset' : ℕ) → held ≡ held' → offset ≡ offset' → IsFar rule held offset → IsFar rule held' offset'
+far_same rule held held' offset offset' e f far = subst (λ x. IsFar rule x offset') e (subst (λ x. IsFar rule held x) f far)
 
 -- If the first suffix can enter the table and so can the next k, the first k + 1 can.
 not_far_step : (rule : Rule) (w held : ℕ) (label : List ℕ) (rest : Labels) (k : ℕ) → (IsFar rule held w → ⊥)
-    → ((i : ℕ) → i < k → IsFar rule (held + 1 + i) (place_of (w + 1 + length label) rest i) → ⊥)
-    → (i : ℕ) → i < suc k → IsFar rule (held + i) (place_of w (label ∷ rest) i) → ⊥
+    → ((i : ℕ) → i < k → IsFar rule (held + 1 + i) (label_offset (w + 1 + length label) rest i) → ⊥)
+    → (i : ℕ) → i < suc k → IsFar rule (held + i) (label_offset w (label ∷ rest) i) → ⊥
 not_far_step rule w held label rest k here h zero l far = here (far_same rule (held + 0) held (w + 0) w (omega arith) (omega arith) far)
 not_far_step rule w held label rest k here h (suc i) l far = h i (omega arith) (far_same rule _ _ _ _ (omega arith) (omega arith) far)
 
@@ -84,13 +84,13 @@ chooses_step rule m w held label rest e here (shared j end known ends near) =
     (shared (suc j) end (known_step m label rest j e known) ends (not_far_step rule w held label rest j here near))
 chooses_step rule m w held label rest e here (written_out c j known less far near) =
     written_out (suc c) (suc j) (known_step m label rest j e known) (omega arith)
-    (far_same rule (held + 1 + c) (held + suc c) (place_of (w + 1 + length label) rest c) (place_of w (label ∷ rest) (suc c)) (omega arith) (omega arith) far)
+    (far_same rule (held + 1 + c) (held + suc c) (label_offset (w + 1 + length label) rest c) (label_offset w (label ∷ rest) (suc c)) (omega arith) (omega arith) far)
     (not_far_step rule w held label rest c here near)
 
 -- The octets of a name and the suffixes written out are as chosen.
 chosen : {rule : Rule} {m : Memory} {p held : ℕ} {name : Labels} {text : List ℕ} {ss : List (Labels × ℕ)} → SpellsAs rule m p held name text ss → Chooses rule m p held name text ss
 chosen {m = m} at_root = shared 0 (0 ∷ []) (known_none m) (inl (refl, refl)) (λ i l far. omega arith)
-chosen {m = m} (at_known {first = first} {rest = rest} {x = x} e) = shared 0 (pointer x.place) (known_here m first rest x e) (inr (x, e, refl)) (λ i l far. omega arith)
+chosen {m = m} (at_known {first = first} {rest = rest} {x = x} e) = shared 0 (pointer x.offset) (known_here m first rest x e) (inr (x, e, refl)) (λ i l far. omega arith)
 chosen {rule = rule} {m = m} (at_kept {p = p} {held = held} {first = first} {rest = rest} e k s) = chooses_step rule m p held first rest e (far_not rule held p k) (chosen s)
 chosen {rule = rule} {m = m} (at_far {p = p} {held = held} {first = first} {rest = rest} e k) =
     let known = first_known m rest in

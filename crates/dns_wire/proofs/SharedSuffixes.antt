@@ -146,10 +146,10 @@ inserted_other false v o x e = (x, e)
 -- The table has each suffix of the list.
 listed_found : (m : Memory) (t : Labels) (q : ℕ) (ss : List (Labels × ℕ)) → Listed t ss → (x : Spot) × (get (remember m ss q) t ≡ Some x)
 listed_found m t q [] h = absurd h
-listed_found m t q (s ∷ ss) (inl e) = (record { place = s.1; end = q }, inserted_same (remember m ss q) t s.0 (record { place = s.1; end = q }) e)
+listed_found m t q (s ∷ ss) (inl e) = (record { offset = s.1; end = q }, inserted_same (remember m ss q) t s.0 (record { offset = s.1; end = q }) e)
 listed_found m t q (s ∷ ss) (inr h) =
     let f = listed_found m t q ss h in
-    let v : Spot = record { place = s.1; end = q } in
+    let v : Spot = record { offset = s.1; end = q } in
     let o = inserted_other (eq_by_cmp suffix_cmp t s.0) v (get (remember m ss q) t) f.0 f.1 in
     (o.0, get-insert suffix_total (remember m ss q) s.0 v t ∙ o.1)
 
@@ -241,7 +241,7 @@ pub len_remember : (m : Memory) (ss : List (Labels × ℕ)) (q : ℕ) → len m 
 len_remember m [] q = omega arith
 len_remember m (s ∷ ss) q =
     let r = remember m ss q in
-    let v : Spot = record { place = s.1; end = q } in
+    let v : Spot = record { offset = s.1; end = q } in
     let a = len_remember m ss q in
     let b : len r ≤ len (insert r s.0 v) = len_more r s.0 v (contains_key r s.0) (len-insert suffix_total r s.0 v) in
     omega arith
@@ -271,5 +271,5 @@ len_spell {m = m} q (at_kept {p = p} {first = first} {rest = rest} {ss = ss} e k
       | inl a ↦ let k : None ≡ Some x = sym e ∙ a in cc
       | inr a ↦ longer first rest a.0
     ]) in
-    len_new r (first ∷ rest) (record { place = p; end = q }) new ∙ omega arith
+    len_new r (first ∷ rest) (record { offset = p; end = q }) new ∙ omega arith
 len_spell q (at_far e k) = omega arith

@@ -6,8 +6,8 @@ use Rattle.dns_name.specs.Names.{Labels, framed, name_size, uncompressed, pointe
 use Rattle.dns_wire.specs.Pieces.{Memory, Spot, remember, Rule, Plain, Static, Tree, Hash, Laid, pointer, put_name}
 
 -- The offset of label i, if the name is written at offset w without pointers.
-abbrev pub place_of : ℕ → Labels → ℕ → ℕ
-place_of w name i = w + name_size (take i name)
+abbrev pub label_offset : ℕ → Labels → ℕ → ℕ
+label_offset w name i = w + name_size (take i name)
 
 -- The first i suffixes of a name at offset w, the longest first, each with its offset.
 abbrev pub first_suffixes : ℕ → Labels → ℕ → List (Labels × ℕ)
@@ -23,24 +23,24 @@ pub record IsFirstKnown (m : Memory) (name : Labels) (j : ℕ) : Type 0 where
 
 -- What follows the written labels: a zero octet if no labels remain, else a pointer to the remaining labels.
 abbrev pub EndsWith : Memory → Labels → List ℕ → Type 0
-EndsWith m others end = ((others ≡ []) × (end ≡ 0 ∷ [])) ⊎ ((x : Spot) × (get m others ≡ Some x) × (end ≡ pointer x.place))
+EndsWith m others end = ((others ≡ []) × (end ≡ 0 ∷ [])) ⊎ ((x : Spot) × (get m others ≡ Some x) × (end ≡ pointer x.offset))
 
--- A suffix at offset `place` can't enter the table, which has `held` entries. This never holds under the hash rule, which decides once the name is written.
+-- A suffix at offset `offset` can't enter the table, which has `held` entries. This never holds under the hash rule, which decides once the name is written.
 abbrev pub IsFar : Rule → ℕ → ℕ → Type 0
-IsFar Plain held place = Unit {0}
-IsFar Static held place = (pointer_end ≤ place) ⊎ (24 ≤ held)
-IsFar Tree held place = pointer_end ≤ place
-IsFar Hash held place = ⊥
+IsFar Plain held offset = Unit {0}
+IsFar Static held offset = (pointer_end ≤ offset) ⊎ (24 ≤ held)
+IsFar Tree held offset = pointer_end ≤ offset
+IsFar Hash held offset = ⊥
 
 -- The octets of a name at offset w, and the suffixes that may enter the table.
 pub data Chooses (rule : Rule) (m : Memory) (w held : ℕ) (name : Labels) : List ℕ → List (Labels × ℕ) → Type 0 where
   -- Every suffix before the one in the table can enter it: their labels are written, then a pointer or the root.
   shared : (j : ℕ) (end : List ℕ) → IsFirstKnown m name j → EndsWith m (drop j name) end
-      → ((i : ℕ) → i < j → IsFar rule (held + i) (place_of w name i) → ⊥)
+      → ((i : ℕ) → i < j → IsFar rule (held + i) (label_offset w name i) → ⊥)
       → Chooses rule m w held name (flat_map framed (take j name) ++ end) (first_suffixes j name w)
   -- Suffix c is the first that can't enter the table, and is before the one in the table: the name is written uncompressed, and the c suffixes before c may enter.
-  written_out : (c j : ℕ) → IsFirstKnown m name j → c < j → IsFar rule (held + c) (place_of w name c)
-      → ((i : ℕ) → i < c → IsFar rule (held + i) (place_of w name i) → ⊥)
+  written_out : (c j : ℕ) → IsFirstKnown m name j → c < j → IsFar rule (held + c) (label_offset w name c)
+      → ((i : ℕ) → i < c → IsFar rule (held + i) (label_offset w name i) → ⊥)
       → Chooses rule m w held name (uncompressed name) (first_suffixes c name w)
 
 -- A suffix with its offset is among these.

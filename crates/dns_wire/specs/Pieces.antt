@@ -25,7 +25,7 @@ suffix_exact = slice_cmp-IsAntisymmetric (slice_cmp-IsAntisymmetric nat_cmp-IsAn
 
 -- An entry of the table: the offset of a suffix, and the end of the name that it was written in.
 pub record Spot : Type 0 where
-  pub place : ℕ
+  pub offset : ℕ
   pub end : ℕ
 
 -- The compression table: a finite map from suffixes to their entries.
@@ -48,7 +48,7 @@ cut m len = retain_keys m (λ suffix. ends_within len (get m suffix))
 -- The table with entries for these suffixes at their offsets, from a name that ends at `end`.
 abbrev pub remember : Memory → List (Labels × ℕ) → ℕ → Memory
 remember m [] end = m
-remember m (s ∷ ss) end = insert (remember m ss end) s.0 (record { place = s.1; end = end })
+remember m (s ∷ ss) end = insert (remember m ss end) s.0 (record { offset = s.1; end = end })
 
 -- Each name in the table ends within the first w octets.
 abbrev pub IsWithin : Memory → ℕ → Type 0
@@ -56,15 +56,15 @@ IsWithin m w = (s : Labels) (x : Spot) → get m s ≡ Some x → x.end ≤ w
 
 -- Each suffix in the table is at or after offset a.
 pub record IsBehind (m : Memory) (a : ℕ) : Type 0 where
-  pub each : (s : Labels) (x : Spot) → get m s ≡ Some x → a ≤ x.place
+  pub each : (s : Labels) (x : Spot) → get m s ≡ Some x → a ≤ x.offset
 
 -- No name in the table uses any of the n octets from offset a on.
 abbrev pub IsClear : Memory → ℕ → ℕ → Type 0
-IsClear m a n = (s : Labels) (x : Spot) → get m s ≡ Some x → (n ≡ 0) ⊎ (x.end ≤ a) ⊎ (a + n ≤ x.place)
+IsClear m a n = (s : Labels) (x : Spot) → get m s ≡ Some x → (n ≡ 0) ⊎ (x.end ≤ a) ⊎ (a + n ≤ x.offset)
 
 -- An entry is unchanged, or it is new and its name was written between offsets w and v.
 abbrev pub IsOldOrWithin : Option Spot → Option Spot → ℕ → ℕ → Type 0
-IsOldOrWithin before after w v = (after ≡ before) ⊎ ((before ≡ None) × ((x : Spot) × (after ≡ Some x) × (w ≤ x.place) × (w < x.end) × (x.end ≤ v)))
+IsOldOrWithin before after w v = (after ≡ before) ⊎ ((before ≡ None) × ((x : Spot) × (after ≡ Some x) × (w ≤ x.offset) × (w < x.end) × (x.end ≤ v)))
 
 -- Table n is table m with entries added for names written between offsets w and v.
 pub record Extends (m n : Memory) (w v : ℕ) : Type 0 where
@@ -118,31 +118,31 @@ pub record IsGrowing (piece : Piece) : Type 0 where
 
 -- The two octets of a pointer to an offset below 16,384.
 abbrev pub pointer : ℕ → List ℕ
-pointer place = (192 + place / 256) ∷ place % 256 ∷ []
+pointer offset = (192 + offset / 256) ∷ offset % 256 ∷ []
 
 -- The capacity of the static rule's table, in suffixes.
 abbrev pub static_entries : ℕ
 static_entries = 24
 
--- Whether a suffix at offset `place` may enter the table, which has `held` entries. The hash rule decides later, in `kept`.
+-- Whether a suffix at offset `offset` may enter the table, which has `held` entries. The hash rule decides later, in `kept`.
 abbrev pub is_kept : Rule → ℕ → ℕ → Bool
-is_kept Plain place held = false
-is_kept Static place held = nat_lt place pointer_end && nat_lt held static_entries
-is_kept Tree place held = nat_lt place pointer_end
-is_kept Hash place held = true
+is_kept Plain offset held = false
+is_kept Static offset held = nat_lt offset pointer_end && nat_lt held static_entries
+is_kept Tree offset held = nat_lt offset pointer_end
+is_kept Hash offset held = true
 
 -- A suffix in the table: a pointer. Else, if the table may take it here: the label, then its parent encoded after it. Else: the whole name uncompressed.
 -- The second component lists the suffixes that are written as labels and may enter the table, each with its offset.
 abbrev pub spell_label : Option Spot → Bool → List ℕ → Labels → ℕ → List ℕ × List (Labels × ℕ) → List ℕ × List (Labels × ℕ)
-spell_label (Some spot) keep label rest place after = (pointer spot.place, [])
-spell_label None true label rest place after = (framed label ++ after.0, (label ∷ rest, place) ∷ after.1)
-spell_label None false label rest place after = (uncompressed (label ∷ rest), [])
+spell_label (Some spot) keep label rest offset after = (pointer spot.offset, [])
+spell_label None true label rest offset after = (framed label ++ after.0, (label ∷ rest, offset) ∷ after.1)
+spell_label None false label rest offset after = (uncompressed (label ∷ rest), [])
 
--- A name encoded at offset `place`, with `held` entries in the table.
+-- A name encoded at offset `offset`, with `held` entries in the table.
 abbrev pub spell : Rule → Memory → ℕ → ℕ → Labels → List ℕ × List (Labels × ℕ)
-spell rule m place held [] = (0 ∷ [], [])
-spell rule m place held (label ∷ rest) =
-    spell_label (get m (label ∷ rest)) (is_kept rule place held) label rest place (spell rule m (place + 1 + length label) (held + 1) rest)
+spell rule m offset held [] = (0 ∷ [], [])
+spell rule m offset held (label ∷ rest) =
+    spell_label (get m (label ∷ rest)) (is_kept rule offset held) label rest offset (spell rule m (offset + 1 + length label) (held + 1) rest)
 
 -- The suffixes that enter the table. Under the hash rule it is all or none: none if one of them is past pointer range.
 abbrev pub kept : Rule → List (Labels × ℕ) → List (Labels × ℕ)

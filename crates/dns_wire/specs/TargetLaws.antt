@@ -41,18 +41,18 @@ StandsOfIn = (b : List ℕ) (lo hi p : ℕ) (name : Labels) → hi ≤ length b 
 
 -- A name is still encoded after octets are overwritten before or after those that it uses.
 abbrev pub StandsWhenOverwritten : Type 0
-StandsWhenOverwritten = (t : Written) (place : ℕ) (octets : List ℕ) (lo hi p : ℕ) (name : Labels)
-    → place + length octets ≤ length t.octets → hi ≤ length t.octets → (place + length octets ≤ lo) ⊎ (hi ≤ place)
-    → StandsIn t.octets lo hi p name → StandsIn (overwrite place octets t).octets lo hi p name
+StandsWhenOverwritten = (t : Written) (offset : ℕ) (octets : List ℕ) (lo hi p : ℕ) (name : Labels)
+    → offset + length octets ≤ length t.octets → hi ≤ length t.octets → (offset + length octets ≤ lo) ⊎ (hi ≤ offset)
+    → StandsIn t.octets lo hi p name → StandsIn (overwrite offset octets t).octets lo hi p name
 
 -- What holds of a table entry: a pointer can lead to it, a label begins there, and the suffix is encoded there within the octets before its name's end.
 pub record Recalled (b : List ℕ) (s : Labels) (x : Spot) : Type 0 where
-  pub near : x.place < pointer_end
-  pub ordered : x.place < x.end
+  pub near : x.offset < pointer_end
+  pub ordered : x.offset < x.end
   pub within : x.end ≤ length b
-  pub labelled : (n : ℕ) × (head_at b x.place ≡ Ok (Label n))
-  pub stands : Stands b x.place s
-  pub stands_within : Stands (take x.end b) x.place s
+  pub labelled : (n : ℕ) × (head_at b x.offset ≡ Ok (Label n))
+  pub stands : Stands b x.offset s
+  pub stands_within : Stands (take x.end b) x.offset s
 
 -- `Recalled` holds of every entry of a sound table.
 abbrev pub RemembersWhatStands : Type 0
@@ -60,7 +60,7 @@ RemembersWhatStands = (b : List ℕ) (m : Memory) (s : Labels) (x : Spot) → Re
 
 -- If all entries are at or after offset lo, their suffixes use no octet before lo.
 abbrev pub StandsBehind : Type 0
-StandsBehind = (b : List ℕ) (m : Memory) (lo : ℕ) (s : Labels) (x : Spot) → Remembers b m → IsBehind m lo → get m s ≡ Some x → StandsIn b lo x.end x.place s
+StandsBehind = (b : List ℕ) (m : Memory) (lo : ℕ) (s : Labels) (x : Spot) → Remembers b m → IsBehind m lo → get m s ≡ Some x → StandsIn b lo x.end x.offset s
 
 -- An empty table is sound for all octets.
 abbrev pub NothingIsTarget : Type 0
@@ -80,7 +80,7 @@ CutKeeps = (t : Written) (len : ℕ) → IsTarget t → IsTarget (cut_to len t)
 
 -- So does overwriting octets that no name in the table uses.
 abbrev pub OverwriteKeeps : Type 0
-OverwriteKeeps = (t : Written) (place : ℕ) (octets : List ℕ) → IsClear t.memory place (length octets) → IsTarget t → IsTarget (overwrite place octets t)
+OverwriteKeeps = (t : Written) (offset : ℕ) (octets : List ℕ) → IsClear t.memory offset (length octets) → IsTarget t → IsTarget (overwrite offset octets t)
 
 -- Truncating to the old length undoes the append of a growing encoding.
 abbrev pub CutUndoes : Type 0
@@ -104,11 +104,11 @@ BothGrow = (a b : Piece) → IsGrowing a → IsGrowing b → IsGrowing (both a b
 
 -- If all entries are at or after an offset within the content, they still are after a growing encoding is appended.
 abbrev pub PiecesStayBehind : Type 0
-PiecesStayBehind = (piece : Piece) (t : Written) (place : ℕ) → IsGrowing piece → place ≤ length t.octets → IsBehind t.memory place → IsBehind (lay piece t).memory place
+PiecesStayBehind = (piece : Piece) (t : Written) (offset : ℕ) → IsGrowing piece → offset ≤ length t.octets → IsBehind t.memory offset → IsBehind (lay piece t).memory offset
 
 -- They still are after a name is appended.
 abbrev pub NamesStayBehind : Type 0
-NamesStayBehind = (rule : Rule) (t : Written) (name : Labels) (place : ℕ) → place ≤ length t.octets → IsBehind t.memory place → IsBehind (lay (put_name rule name) t).memory place
+NamesStayBehind = (rule : Rule) (t : Written) (name : Labels) (offset : ℕ) → offset ≤ length t.octets → IsBehind t.memory offset → IsBehind (lay (put_name rule name) t).memory offset
 
 -- A name is encoded at offset p, its encoding takes the octets p..q, and a pointer there leads to an earlier label below offset 16,384.
 pub record ReadsName (b : List ℕ) (p q : ℕ) (name : Labels) : Type 0 where

@@ -19,7 +19,7 @@ pub record At (b : List ℕ) (p : ℕ) (xs : List ℕ) : Type 0 where
 pub data Spelled (m : Memory) (b : List ℕ) (q : ℕ) : ℕ → Labels → Type 0 where
   root : {p : ℕ} → At b p (0 ∷ []) → q ≡ p + 1 → Spelled m b q p []
   label : {p : ℕ} {first : List ℕ} {rest : Labels} → IsLabel first → At b p (framed first) → Spelled m b q (p + 1 + length first) rest → Spelled m b q p (first ∷ rest)
-  pointer : {p : ℕ} {name : Labels} {x : Spot} → get m name ≡ Some x → x.end ≤ p → At b p (pointer_octets x.place) → q ≡ p + 2 → Spelled m b q p name
+  pointer : {p : ℕ} {name : Labels} {x : Spot} → get m name ≡ Some x → x.end ≤ p → At b p (pointer_octets x.offset) → q ≡ p + 2 → Spelled m b q p name
 
 -- The octets encode a name, and begin with a label.
 abbrev pub Labelled : Memory → List ℕ → ℕ → ℕ → Labels → Type 0
@@ -28,9 +28,9 @@ Labelled m b q p (first ∷ rest) = IsLabel first × At b p (framed first) × Sp
 
 -- An entry of the table is sound: a pointer can lead to it, a label begins there, and the octets up to the name's end encode the suffix.
 pub record IsRemembered (b : List ℕ) (m : Memory) (s : Labels) (x : Spot) : Type 0 where
-  pub near : x.place < pointer_end
+  pub near : x.offset < pointer_end
   pub short : name_size s ≤ max_size
-  pub spelled : Labelled m b x.end x.place s
+  pub spelled : Labelled m b x.end x.offset s
 
 -- Every entry of the table is sound.
 pub record Remembers (b : List ℕ) (m : Memory) : Type 0 where
@@ -57,9 +57,9 @@ lay piece t = let laid = piece t.memory (length t.octets) in record { octets = t
 abbrev pub cut_to : ℕ → Written → Written
 cut_to len t = record { octets = take len t.octets; memory = cut t.memory len }
 
--- A target after octets are overwritten, from offset `place` on.
+-- A target after octets are overwritten, from offset `offset` on.
 abbrev pub overwrite : ℕ → List ℕ → Written → Written
-overwrite place octets t = record { octets = overwritten t.octets place octets; memory = t.memory }
+overwrite offset octets t = record { octets = overwritten t.octets offset octets; memory = t.memory }
 
 -- A length of n octets is within the capacity, if there is one.
 abbrev pub Fits : Option ℕ → ℕ → Type 0
@@ -99,7 +99,7 @@ pub record Composes (room : Option ℕ) (grows : Bool) (piece : Piece) (before a
 
 -- The code of a table entry: its offset and its end.
 abbrev pub spot_code : Coded Spot
-spot_code = code_by (ℕ × ℕ) (coded× coded_ℕ coded_ℕ) (λ s. (s.place, s.end)) (λ p. record { place = p.0; end = p.1 }) (λ _. refl)
+spot_code = code_by (ℕ × ℕ) (coded× coded_ℕ coded_ℕ) (λ s. (s.offset, s.end)) (λ p. record { offset = p.0; end = p.1 }) (λ _. refl)
 
 -- The code of a target: its octets and its table.
 abbrev pub written_code : Coded Written

@@ -52,11 +52,11 @@ pub trait Composer: Drop {
         ensures cut { written self.new ≡ cut_to len (written self.old) }
         ensures is_target { IsTarget (written self.new) };
 
-    /// Overwrites the octets from offset `place` on, which no name in the table may use.
-    fn write_at(&mut self, place: usize, octets: &[u8])
-        requires within { place + length octets.now ≤ length (written self.old).octets }
-        requires clear { IsClear (written self.old).memory place (length octets.now) }
-        ensures { written self.new ≡ overwrite place octets.now (written self.old) };
+    /// Overwrites the octets from offset `offset` on, which no name in the table may use.
+    fn write_at(&mut self, offset: usize, octets: &[u8])
+        requires within { offset + length octets.now ≤ length (written self.old).octets }
+        requires clear { IsClear (written self.old).memory offset (length octets.now) }
+        ensures { written self.new ≡ overwrite offset octets.now (written self.old) };
 
     /// A target that doesn't compress has an empty table.
     ghost plain_forgets: { rule ≡ Plain → (t : Self) → (written t).memory ≡ nothing };
@@ -135,8 +135,8 @@ impl Composer for Vec<u8> {
         self.truncate(len);
     }
 
-    fn write_at(&mut self, place: usize, octets: &[u8]) {
-        OctetsMut::write_at(self, place, octets);
+    fn write_at(&mut self, offset: usize, octets: &[u8]) {
+        OctetsMut::write_at(self, offset, octets);
     }
 }
 
@@ -191,8 +191,8 @@ impl<const N: usize> Composer for ArrayVec<u8, N> {
         self.truncate(len)
     }
 
-    fn write_at(&mut self, place: usize, octets: &[u8]) {
-        OctetsMut::write_at(self, place, octets);
+    fn write_at(&mut self, offset: usize, octets: &[u8]) {
+        OctetsMut::write_at(self, offset, octets);
     }
 }
 
@@ -249,7 +249,7 @@ impl<T: Composer> Composer for &mut T {
     }
 
     #[inline(always)]
-    fn write_at(&mut self, place: usize, octets: &[u8]) {
-        (**self).write_at(place, octets)
+    fn write_at(&mut self, offset: usize, octets: &[u8]) {
+        (**self).write_at(offset, octets)
     }
 }

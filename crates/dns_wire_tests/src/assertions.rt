@@ -32,16 +32,16 @@ pub(crate) fn name_of<'a>(rt: &impl Abort, octets: &'a [u8]) -> Name<&'a [u8]> {
     Name::from_octets(octets).expect(rt, "a name")
 }
 
-/// The name at offset `place` of a message.
-pub(crate) fn name_at<'a>(rt: &impl Abort, message: &'a [u8], place: usize) -> ParsedName<'a> {
-    let mut parser = parser_at(rt, message, place);
+/// The name at offset `offset` of a message.
+pub(crate) fn name_at<'a>(rt: &impl Abort, message: &'a [u8], offset: usize) -> ParsedName<'a> {
+    let mut parser = parser_at(rt, message, offset);
     ParsedName::parse(&mut parser).expect(rt, "a name in a message")
 }
 
-/// A parser at offset `place` of a message.
-pub(crate) fn parser_at<'a>(rt: &impl Abort, message: &'a [u8], place: usize) -> Parser<'a> {
+/// A parser at offset `offset` of a message.
+pub(crate) fn parser_at<'a>(rt: &impl Abort, message: &'a [u8], offset: usize) -> Parser<'a> {
     let mut parser = Parser::new(message);
-    parser.seek(place).expect(rt, "a place in a message");
+    parser.seek(offset).expect(rt, "a place in a message");
     parser
 }
 

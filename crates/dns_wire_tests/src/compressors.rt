@@ -37,7 +37,7 @@ pub(crate) struct Row {
     pub(crate) steps: &'static [Step],
     pub(crate) len: usize,
     /// The steps of a static compressor.
-    pub(crate) by_place: &'static [Step],
+    pub(crate) by_offset: &'static [Step],
     /// The steps of a tree compressor and of an index compressor.
     pub(crate) by_tree: &'static [Step],
     /// The steps of a hash compressor.
@@ -49,7 +49,7 @@ pub(crate) const ALIKE: Row = Row {
     name: "",
     steps: &[],
     len: 0,
-    by_place: &[],
+    by_offset: &[],
     by_tree: &[],
     by_hash: &[],
 };
@@ -171,7 +171,7 @@ const ROWS: &[Row] = &[
         name: "Second label past the bound",
         steps: &[Step::Fill(16_383), Step::Name(A_B, Ok(A_B))],
         len: 16_388,
-        by_place: &[Step::Name(A_B, Ok(b"\xff\xff"))],
+        by_offset: &[Step::Name(A_B, Ok(b"\xff\xff"))],
         by_tree: &[Step::Name(A_B, Ok(b"\xff\xff"))],
         by_hash: &[Step::Name(A_B, Ok(A_B))],
     },
@@ -179,7 +179,7 @@ const ROWS: &[Row] = &[
         name: "The 25th suffix",
         steps: &[Step::Fill(12), Step::Letters],
         len: 187,
-        by_place: &[Step::Name(b"\x01y\x00", Ok(b"\x01y\x00"))],
+        by_offset: &[Step::Name(b"\x01y\x00", Ok(b"\x01y\x00"))],
         by_tree: &[Step::Name(b"\x01y\x00", Ok(b"\xc0\xb4"))],
         by_hash: &[Step::Name(b"\x01y\x00", Ok(b"\xc0\xb4"))],
     },
@@ -187,7 +187,7 @@ const ROWS: &[Row] = &[
         name: "Clones",
         steps: &[Step::Fill(12), Step::Name(A, Ok(A)), Step::Fill(19)],
         len: 19,
-        by_place: A_AGAIN,
+        by_offset: A_AGAIN,
         by_tree: A_AGAIN,
         by_hash: A_AGAIN,
     },
@@ -238,8 +238,8 @@ pub(crate) fn assert_rows<T: CloneTarget + FreezeBuilder>(
     requires { T.rule ≡ Plain }
 {
     for row in rows {
-        let places = StaticCompressor::new(clone_of(rt, empty));
-        assert_clone_row(rt, row, places, row.by_place);
+        let offsets = StaticCompressor::new(clone_of(rt, empty));
+        assert_clone_row(rt, row, offsets, row.by_offset);
         let tree = TreeCompressor::new(alloc, clone_of(rt, empty));
         assert_clone_row(rt, row, tree, row.by_tree);
         let index = IndexCompressor::new(alloc, clone_of(rt, empty));

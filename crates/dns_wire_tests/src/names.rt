@@ -23,7 +23,7 @@ const POSITIVE_RESPONSE: &[u8] =
 struct Case {
     row: &'static str,
     message: &'static [u8],
-    place: usize,
+    offset: usize,
     /// The octets of the uncompressed name.
     parsed: Result<&'static [u8], ParseError>,
     /// The offset after the name.
@@ -34,35 +34,35 @@ const CASES: &[Case] = &[
     Case {
         row: "Positive response: the name of the question",
         message: POSITIVE_RESPONSE,
-        place: 12,
+        offset: 12,
         parsed: Ok(b"\x07example\x03com\x00"),
         skipped: Ok(25),
     },
     Case {
         row: "Positive response: the owner, which points there",
         message: POSITIVE_RESPONSE,
-        place: 29,
+        offset: 29,
         parsed: Ok(b"\x07example\x03com\x00"),
         skipped: Ok(31),
     },
     Case {
         row: "a pointer to the middle of a name",
         message: b"\x07example\x03com\x00\x01a\xC0\x08",
-        place: 13,
+        offset: 13,
         parsed: Ok(b"\x01a\x03com\x00"),
         skipped: Ok(17),
     },
     Case {
         row: "Compression loop",
         message: b"\x00\x00\x00\x00\x00\x01\x00\x00\x00\x00\x00\x00\x01\x61\xC0\x0C\x00\x01\x00\x01",
-        place: 12,
+        offset: 12,
         parsed: Err(LONG_NAME),
         skipped: Ok(16),
     },
     Case {
         row: "Pointer to its own place",
         message: b"\x00\x00\x00\x00\x00\x01\x00\x00\x00\x00\x00\x00\xC0\x0C\x00\x01\x00\x01",
-        place: 12,
+        offset: 12,
         parsed: Err(BAD_POINTER),
         skipped: Ok(14),
     },
@@ -70,55 +70,55 @@ const CASES: &[Case] = &[
     Case {
         row: "Pointer into the header",
         message: b"\x00\x00\x00\x00\x00\x01\x00\x00\x00\x00\x00\x00\xC0\x04\x00\x01\x00\x01",
-        place: 12,
+        offset: 12,
         parsed: Ok(b"\x00"),
         skipped: Ok(14),
     },
     Case {
         row: "Reserved label types: 01",
         message: b"\x00\x00\x00\x00\x00\x01\x00\x00\x00\x00\x00\x00\x40\x00\x00\x01\x00\x01",
-        place: 12,
+        offset: 12,
         parsed: Err(BAD_LABEL),
         skipped: Err(BAD_LABEL),
     },
     Case {
         row: "Reserved label types: 10",
         message: b"\x00\x00\x00\x00\x00\x01\x00\x00\x00\x00\x00\x00\x80\x00\x00\x01\x00\x01",
-        place: 12,
+        offset: 12,
         parsed: Err(BAD_LABEL),
         skipped: Err(BAD_LABEL),
     },
     Case {
         row: "Missing question",
         message: b"\x00\x00\x00\x00\x00\x01\x00\x00\x00\x00\x00\x00",
-        place: 12,
+        offset: 12,
         parsed: Err(SHORT),
         skipped: Err(SHORT),
     },
     Case {
         row: "half a pointer",
         message: b"\x00\xC0",
-        place: 1,
+        offset: 1,
         parsed: Err(SHORT),
         skipped: Err(SHORT),
     },
     Case {
         row: "a label that runs past the end",
         message: b"\x03co",
-        place: 0,
+        offset: 0,
         parsed: Err(SHORT),
         skipped: Err(SHORT),
     },
 ];
 
 /// Parses a name, which has these octets uncompressed, and checks that the parser is at offset
-/// `place` then.
+/// `offset` then.
 fn assert_parsed(
     rt: &impl Abort,
     row: &str,
     parser: &mut Parser<'_>,
     expected: Result<&[u8], ParseError>,
-    place: usize,
+    offset: usize,
 ) {
     match ParsedName::parse(parser) {
         Ok(name) => {
@@ -131,49 +131,49 @@ fn assert_parsed(
         }
         Err(fault) => assert_same(rt, row, Err(fault), expected),
     }
-    assert_same(rt, row, parser.pos(), place);
+    assert_same(rt, row, parser.pos(), offset);
 }
 
-/// Skips a name, and checks that the parser is at offset `place` then.
+/// Skips a name, and checks that the parser is at offset `offset` then.
 fn assert_skipped(
     rt: &impl Abort,
     row: &str,
     parser: &mut Parser<'_>,
     fault: Option<ParseError>,
-    place: usize,
+    offset: usize,
 ) {
     let skipped = ParsedName::skip(parser).err();
-    assert_same(rt, row, (skipped, parser.pos()), (fault, place));
+    assert_same(rt, row, (skipped, parser.pos()), (fault, offset));
 }
 
 #[test]
 fn parses_and_skips(rt: HostRuntime) {
     for case in CASES {
         let row = case.row;
-        let behind = case.skipped.unwrap_or(case.place);
+        let behind = case.skipped.unwrap_or(case.offset);
         let parsed = if case.parsed.is_ok() {
             behind
         } else {
-            case.place
+            case.offset
         };
-        let mut parser = parser_at(&rt, case.message, case.place);
+        let mut parser = parser_at(&rt, case.message, case.offset);
         assert_parsed(&rt, row, &mut parser, case.parsed, parsed);
-        let mut parser = parser_at(&rt, case.message, case.place);
+        let mut parser = parser_at(&rt, case.message, case.offset);
         assert_skipped(&rt, row, &mut parser, case.skipped.err(), behind);
     }
 }
 
 /// Fails unless parsing and skipping a name return this error, and the parser stays at offset
-/// `place`.
+/// `offset`.
 fn assert_refused(
     rt: &impl Abort,
     row: &str,
     parser: &mut Parser<'_>,
     fault: ParseError,
-    place: usize,
+    offset: usize,
 ) {
-    assert_parsed(rt, row, parser, Err(fault), place);
-    assert_skipped(rt, row, parser, Some(fault), place);
+    assert_parsed(rt, row, parser, Err(fault), offset);
+    assert_skipped(rt, row, parser, Some(fault), offset);
 }
 
 /// A CNAME record whose RDATA is one octet, at offset 23: the first octet of a pointer.

@@ -57,8 +57,8 @@ const COMPARED: &[(usize, bool, bool, Ordering, Ordering)] = &[
 #[test]
 fn ignores_letter_case_but_for_octets_eq(rt: HostRuntime) {
     let name = name_at(&rt, NAMES, 0);
-    for &(place, octets, letters, from_root, composed) in COMPARED {
-        let other = name_at(&rt, NAMES, place);
+    for &(offset, octets, letters, from_root, composed) in COMPARED {
+        let other = name_at(&rt, NAMES, offset);
         let equal = [
             name.octets_eq(&other),
             name.name_eq(&other),
@@ -66,14 +66,14 @@ fn ignores_letter_case_but_for_octets_eq(rt: HostRuntime) {
             hash_of(&name) == hash_of(&other),
         ];
         let expected = [octets, letters, letters, letters];
-        assert_same(&rt, "equality", (place, equal), (place, expected));
+        assert_same(&rt, "equality", (offset, equal), (offset, expected));
         let orders = [
             name.name_cmp(&other),
             compare(&name, &other),
             name.lowercase_composed_cmp(&other),
         ];
         let expected = [from_root, from_root, composed];
-        assert_same(&rt, "order", (place, orders), (place, expected));
+        assert_same(&rt, "order", (offset, orders), (offset, expected));
     }
 }
 

@@ -11,12 +11,12 @@ fn reads_and_moves(rt: HostRuntime) {
     let mut parser = Parser::new(OCTETS);
     let numbers = (parser.parse_u16_be(), parser.parse_u32_be());
     assert_same(&rt, "numbers", numbers, (Ok(0x0102), Ok(0x0304_0506)));
-    let place = (parser.pos(), parser.remaining());
-    assert_same(&rt, "behind numbers", place, (6, 2));
+    let offset = (parser.pos(), parser.remaining());
+    assert_same(&rt, "behind numbers", offset, (6, 2));
     let moves = [parser.advance(2), parser.seek(8), parser.seek(1)];
     assert_same(&rt, "moves", moves, [Ok(()); 3]);
-    let place = (parser.pos(), parser.remaining());
-    assert_same(&rt, "behind moves", place, (1, 7));
+    let offset = (parser.pos(), parser.remaining());
+    assert_same(&rt, "behind moves", offset, (1, 7));
     assert_same(&rt, "the input", parser.as_slice(), OCTETS.as_slice());
 }
 
@@ -44,7 +44,7 @@ fn makes_an_inner_parser(rt: HostRuntime) {
     let moves = [inner.seek(4), inner.seek(2)];
     assert_same(&rt, "moves", moves, [Err(SHORT), Ok(())]);
     assert_same(&rt, "a number", inner.parse_u16_be(), Err(SHORT));
-    let place = (inner.pos(), inner.remaining());
-    assert_same(&rt, "behind moves", place, (2, 1));
+    let offset = (inner.pos(), inner.remaining());
+    assert_same(&rt, "behind moves", offset, (2, 1));
     assert_same(&rt, "the input", inner.as_slice(), OCTETS.as_slice());
 }

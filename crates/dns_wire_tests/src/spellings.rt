@@ -51,9 +51,9 @@ const POINTER_LEN: usize = 2;
 fn choice_lens(alloc: Global, earlier: &[&[u8]], name: &[u8]) -> Result<Vec<usize>, AllocError> {
     let mut lens = Vec::new(alloc);
     for count in 0..name.len() / LABEL_LEN {
-        let place = count * LABEL_LEN;
-        if earlier.iter().any(|other| other.ends_with(&name[place..])) {
-            lens.push(place + POINTER_LEN)?;
+        let offset = count * LABEL_LEN;
+        if earlier.iter().any(|other| other.ends_with(&name[offset..])) {
+            lens.push(offset + POINTER_LEN)?;
         }
     }
     lens.push(name.len())?;

@@ -123,5 +123,5 @@ impl Composer for Refusing {
     #[tactic(auto, using(dns_wire::proofs::theory::Memories::cut_nothing, dns_wire::proofs::theory::Memories::nothing_is_kept))]
     fn truncate(&mut self, _len: usize) {}
 
-    fn write_at(&mut self, _place: usize, _octets: &[u8]) {}
+    fn write_at(&mut self, _offset: usize, _octets: &[u8]) {}
 }

@@ -30,16 +30,16 @@ rcode_kept m n same = omega (arith, same 0 (omega arith), same 1 (omega arith), 
 
 module _ (b : List ℕ) (x : ℕ) (set : Bool) (all : length b ≡ 4) where
   -- a bit other than the changed one stays
-  kept : (octet place : ℕ) → ChangesBit octet x place set → (k : ℕ) → k < 8 → k ≢ place → bit x k ≡ bit octet k
-  kept octet place changes k within other = same_bit octet x k (changes.others k within other)
+  kept : (octet offset : ℕ) → ChangesBit octet x offset set → (k : ℕ) → k < 8 → k ≢ offset → bit x k ≡ bit octet k
+  kept octet offset changes k within other = same_bit octet x k (changes.others k within other)
 
   -- the opcode stays if the changed bit isn't one of its own
-  opcode_stays : (place : ℕ) → ChangesBit (slice_index b 2) x place set → (place ≡ 7) ⊎ (place < 3) → bits x 3 4 ≡ bits (slice_index b 2) 3 4
-  opcode_stays place changes h = opcode_kept _ _ (λ k low high. changes.others k (omega arith) (omega arith))
+  opcode_stays : (offset : ℕ) → ChangesBit (slice_index b 2) x offset set → (offset ≡ 7) ⊎ (offset < 3) → bits x 3 4 ≡ bits (slice_index b 2) 3 4
+  opcode_stays offset changes h = opcode_kept _ _ (λ k low high. changes.others k (omega arith) (omega arith))
 
   -- the rcode stays if the changed bit isn't one of its own
-  rcode_stays : (place : ℕ) → ChangesBit (slice_index b 3) x place set → 4 ≤ place → bits x 0 4 ≡ bits (slice_index b 3) 0 4
-  rcode_stays place changes h = rcode_kept _ _ (λ k low. changes.others k (omega arith) (omega arith))
+  rcode_stays : (offset : ℕ) → ChangesBit (slice_index b 3) x offset set → 4 ≤ offset → bits x 0 4 ≡ bits (slice_index b 3) 0 4
+  rcode_stays offset changes h = rcode_kept _ _ (λ k low. changes.others k (omega arith) (omega arith))
 
   -- writing bit 7 of octet 2 changes QR alone
   pub qr_changed : ChangesBit (slice_index b 2) x 7 set → fields_in (slice_set b 2 x) ≡ record (fields_in b) { qr = set }

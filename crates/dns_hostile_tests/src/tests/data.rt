@@ -29,17 +29,17 @@ fn assert_typed<'a, D: ParseRecordData<'a> + ComposeRecordData + Drop>(
     rtype: Rtype,
     standing: Standing<Entry>,
 ) {
-    let place = parser.pos();
+    let offset = parser.pos();
     let mut behind = parser;
     let data = data_of::<D>(D::parse_rdata(rtype, &mut behind));
-    let expected = data_at(octets, place, rtype.to_int());
-    assert_read(rt, "data", place, (data, behind.pos()), expected);
+    let expected = data_at(octets, offset, rtype.to_int());
+    assert_read(rt, "data", offset, (data, behind.pos()), expected);
     let expected = typed_of(octets, standing, rtype.to_int());
     let mut behind = parser;
     let record = Record::<ParsedName<'a>, D>::parse(&mut behind).plain();
     let end = match standing {
         Ok((_, end)) => end,
-        Err(_) => place,
+        Err(_) => offset,
     };
     assert_same(rt, "record", (record, behind.pos()), (expected, end));
     let mut behind = parser;

@@ -199,13 +199,13 @@ pub(crate) fn assert_same<T: Copy + Debug + PartialEq>(
 pub(crate) fn assert_read<T: Copy + Debug + PartialEq>(
     rt: &impl Abort,
     what: &str,
-    place: usize,
+    offset: usize,
     (found, here): (Result<T, Fault>, usize),
     expected: Standing<T>,
 ) {
     let expected = match expected {
         Ok((standing, end)) => (Ok(standing), end),
-        Err(fault) => (Err(fault), place),
+        Err(fault) => (Err(fault), offset),
     };
     assert_same(rt, what, (found, here), expected);
 }

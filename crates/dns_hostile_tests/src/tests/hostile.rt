@@ -66,10 +66,10 @@ fn assert_replaced<const N: usize>(
     alloc: Global,
     octets: [u8; N],
 ) -> Result<(), Fail> {
-    for place in 0..N {
+    for offset in 0..N {
         for octet in REPLACEMENTS {
             let mut replaced = octets;
-            replaced[place] = octet;
+            replaced[offset] = octet;
             assert_all(rt, alloc, &replaced)?;
         }
     }

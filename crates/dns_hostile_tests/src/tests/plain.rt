@@ -18,10 +18,10 @@ pub(crate) type Standing<T> = Result<(T, usize), Fault>;
 
 /// Appends the labels of the name at this offset, each after its length, to the labels before it,
 /// which take `size` octets (RFC 1035 section 4.1.4).
-fn add_labels(octets: &[u8], place: usize, size: usize, labels: Buffer) -> Result<Buffer, Fault>
+fn add_labels(octets: &[u8], offset: usize, size: usize, labels: Buffer) -> Result<Buffer, Fault>
     requires { size ≤ 254 }
 {
-    let Some(first) = octets.get(place).copied() else {
+    let Some(first) = octets.get(offset).copied() else {
         return Err(Fault::Short);
     };
     let len = usize::from(first);
@@ -31,17 +31,17 @@ fn add_labels(octets: &[u8], place: usize, size: usize, labels: Buffer) -> Resul
             if size + len + 1 > 254 {
                 return Err(Fault::Form);
             }
-            if octets.len() - place <= len {
+            if octets.len() - offset <= len {
                 return Err(Fault::Short);
             }
-            let behind = place + 1 + len;
-            let labels = labels.with(&octets[place..behind]);
+            let behind = offset + 1 + len;
+            let labels = labels.with(&octets[offset..behind]);
             add_labels(octets, behind, size + len + 1, labels)
         }
         64..=191 => Err(Fault::Form),
         _ => {
-            let target = pointer_target(octets, place)?;
-            if target >= place {
+            let target = pointer_target(octets, offset)?;
+            if target >= offset {
                 return Err(Fault::Form);
             }
             add_labels(octets, target, size, labels)
@@ -50,8 +50,8 @@ fn add_labels(octets: &[u8], place: usize, size: usize, labels: Buffer) -> Resul
 }
 
 /// The offset that the pointer at this offset leads to.
-fn pointer_target(octets: &[u8], place: usize) -> Result<usize, Fault> {
-    match octets.get(place..) {
+fn pointer_target(octets: &[u8], offset: usize) -> Result<usize, Fault> {
+    match octets.get(offset..) {
         Some([high, low, ..]) => Ok(usize::from(u16::from_be_bytes([high & 0x3f, *low]))),
         _ => Err(Fault::Short),
     }
@@ -59,43 +59,43 @@ fn pointer_target(octets: &[u8], place: usize) -> Result<usize, Fault> {
 
 /// The offset after the name at this offset, for a name whose labels so far take `size` octets.
 /// Pointers are not followed.
-fn end_of_labels(octets: &[u8], place: usize, size: usize) -> Result<usize, Fault>
+fn end_of_labels(octets: &[u8], offset: usize, size: usize) -> Result<usize, Fault>
     requires { size ≤ 254 }
 {
-    let Some(first) = octets.get(place).copied() else {
+    let Some(first) = octets.get(offset).copied() else {
         return Err(Fault::Short);
     };
     let len = usize::from(first);
     match first {
-        0 => Ok(place + 1),
+        0 => Ok(offset + 1),
         1..=63 => {
             if size + len + 1 > 254 {
                 return Err(Fault::Form);
             }
-            if octets.len() - place <= len {
+            if octets.len() - offset <= len {
                 return Err(Fault::Short);
             }
-            end_of_labels(octets, place + 1 + len, size + len + 1)
+            end_of_labels(octets, offset + 1 + len, size + len + 1)
         }
         64..=191 => Err(Fault::Form),
         _ => {
-            if octets.len() - place < 2 {
+            if octets.len() - offset < 2 {
                 return Err(Fault::Short);
             }
-            Ok(place + 2)
+            Ok(offset + 2)
         }
     }
 }
 
 /// The offset after the name at this offset, which may be malformed where its pointer leads.
-pub(crate) fn name_end(octets: &[u8], place: usize) -> Result<usize, Fault> {
-    end_of_labels(octets, place, 0)
+pub(crate) fn name_end(octets: &[u8], offset: usize) -> Result<usize, Fault> {
+    end_of_labels(octets, offset, 0)
 }
 
 /// The uncompressed name that is encoded at this offset, or its leftmost error.
-pub(crate) fn name_at(octets: &[u8], place: usize) -> Standing<Buffer> {
-    let name = add_labels(octets, place, 0, Buffer::new())?;
-    Ok((name, name_end(octets, place)?))
+pub(crate) fn name_at(octets: &[u8], offset: usize) -> Standing<Buffer> {
+    let name = add_labels(octets, offset, 0, Buffer::new())?;
+    Ok((name, name_end(octets, offset)?))
 }
 
 /// Checks that all the octets are one uncompressed name whose labels so far take `size` octets
@@ -132,8 +132,8 @@ pub(crate) struct Entry {
 }
 
 /// The question with this name, whose type begins at this offset (RFC 1035 section 4.1.2).
-fn question_of(name: Buffer, octets: &[u8], place: usize) -> Option<(Entry, usize)> {
-    let [type_high, type_low, class_high, class_low, ..] = octets.get(place..)? else {
+fn question_of(name: Buffer, octets: &[u8], offset: usize) -> Option<(Entry, usize)> {
+    let [type_high, type_low, class_high, class_low, ..] = octets.get(offset..)? else {
         return None;
     };
     let question = Entry {
@@ -143,29 +143,29 @@ fn question_of(name: Buffer, octets: &[u8], place: usize) -> Option<(Entry, usiz
         ttl: 0,
         data: Buffer::new(),
     };
-    Some((question, place + 4))
+    Some((question, offset + 4))
 }
 
 /// The header of a record: all but the RDATA, and its length in octets (RFC 1035 section 4.1.3).
 pub(crate) type Header = (Entry, u16);
 
 /// The record header with this owner, whose type begins at this offset. The RDATA may be missing.
-fn header_of(owner: Buffer, octets: &[u8], place: usize) -> Option<(Header, usize)> {
-    let (question, place) = question_of(owner, octets, place)?;
-    let [first, second, third, fourth, high, low, ..] = octets.get(place..)? else {
+fn header_of(owner: Buffer, octets: &[u8], offset: usize) -> Option<(Header, usize)> {
+    let (question, offset) = question_of(owner, octets, offset)?;
+    let [first, second, third, fourth, high, low, ..] = octets.get(offset..)? else {
         return None;
     };
     let ttl = u32::from_be_bytes([*first, *second, *third, *fourth]);
     let rdlen = u16::from_be_bytes([*high, *low]);
-    Some(((Entry { ttl, ..question }, rdlen), place + 6))
+    Some(((Entry { ttl, ..question }, rdlen), offset + 6))
 }
 
 /// The record with this owner, whose type begins at this offset.
-fn record_of(owner: Buffer, octets: &[u8], place: usize) -> Option<(Entry, usize)> {
-    let ((header, rdlen), place) = header_of(owner, octets, place)?;
+fn record_of(owner: Buffer, octets: &[u8], offset: usize) -> Option<(Entry, usize)> {
+    let ((header, rdlen), offset) = header_of(owner, octets, offset)?;
     let len = usize::from(rdlen);
-    let data = Buffer::of(octets.get(place..)?.get(..len)?);
-    Some((Entry { data, ..header }, place + len))
+    let data = Buffer::of(octets.get(offset..)?.get(..len)?);
+    Some((Entry { data, ..header }, offset + len))
 }
 
 /// The entry of a section: a question in section 0, a record in sections 1 to 3.
@@ -173,31 +173,31 @@ fn entry_of(
     name: Buffer,
     octets: &[u8],
     section: u8,
-    place: usize,
+    offset: usize,
 ) -> Result<(Entry, usize), Fault> {
     match section {
-        0 => question_of(name, octets, place),
-        _ => record_of(name, octets, place),
+        0 => question_of(name, octets, offset),
+        _ => record_of(name, octets, offset),
     }
     .ok_or(Fault::Short)
 }
 
 /// The offset after the entry of a section at this offset. Its name may be malformed where its
 /// pointer leads.
-pub(crate) fn skip_entry(octets: &[u8], section: u8, place: usize) -> Result<usize, Fault> {
-    let behind = name_end(octets, place)?;
+pub(crate) fn skip_entry(octets: &[u8], section: u8, offset: usize) -> Result<usize, Fault> {
+    let behind = name_end(octets, offset)?;
     Ok(entry_of(Buffer::new(), octets, section, behind)?.1)
 }
 
 /// The entry of a section at this offset.
-pub(crate) fn entry_at(octets: &[u8], section: u8, place: usize) -> Standing<Entry> {
-    let (name, behind) = name_at(octets, place)?;
+pub(crate) fn entry_at(octets: &[u8], section: u8, offset: usize) -> Standing<Entry> {
+    let (name, behind) = name_at(octets, offset)?;
     entry_of(name, octets, section, behind)
 }
 
 /// The record header at this offset.
-pub(crate) fn header_at(octets: &[u8], place: usize) -> Standing<Header> {
-    let (owner, behind) = name_at(octets, place)?;
+pub(crate) fn header_at(octets: &[u8], offset: usize) -> Standing<Header> {
+    let (owner, behind) = name_at(octets, offset)?;
     header_of(owner, octets, behind).ok_or(Fault::Short)
 }
 
@@ -214,11 +214,11 @@ pub(crate) fn start(octets: &[u8], section: u8) -> Result<usize, Fault> {
     if section == 0 {
         return Ok(12);
     }
-    let mut place = start(octets, section - 1)?;
+    let mut offset = start(octets, section - 1)?;
     for _ in 0..count(octets, section - 1) {
-        place = skip_entry(octets, section - 1, place)?;
+        offset = skip_entry(octets, section - 1, offset)?;
     }
-    Ok(place)
+    Ok(offset)
 }
 
 /// Reads the entries of a section in order, up to the first that can't be read.
@@ -227,7 +227,7 @@ pub(crate) struct Reading<'a> {
     octets: &'a [u8],
     pub(crate) section: u8,
     /// The offset after the entries that were read.
-    pub(crate) place: usize,
+    pub(crate) offset: usize,
     left: u16,
     /// Why no more entries can be read.
     fault: Option<Fault>,
@@ -235,11 +235,11 @@ pub(crate) struct Reading<'a> {
 
 impl<'a> Reading<'a> {
     /// The reading of a section that begins at this offset.
-    pub(crate) fn at(octets: &'a [u8], section: u8, place: usize) -> Self {
+    pub(crate) fn at(octets: &'a [u8], section: u8, offset: usize) -> Self {
         Reading {
             octets,
             section,
-            place,
+            offset,
             left: count(octets, section),
             fault: None,
         }
@@ -253,9 +253,9 @@ impl<'a> Reading<'a> {
     /// The next entry, or the error of the first that can't be read, after which there are no more.
     pub(crate) fn next(&mut self) -> Option<Result<Entry, Fault>> {
         self.left = self.left.checked_sub(1)?;
-        match entry_at(self.octets, self.section, self.place) {
+        match entry_at(self.octets, self.section, self.offset) {
             Ok((entry, end)) => {
-                self.place = end;
+                self.offset = end;
                 Some(Ok(entry))
             }
             Err(fault) => {

@@ -17,25 +17,25 @@ pub(crate) fn has_options(octets: &[u8]) -> bool {
 }
 
 /// `len` octets from this offset on.
-pub(crate) fn octets_at(octets: &[u8], place: usize, len: usize) -> Standing<Buffer> {
-    match octets.get(place..).and_then(|behind| behind.get(..len)) {
-        Some(octets) => Ok((Buffer::of(octets), place.saturating_add(len))),
+pub(crate) fn octets_at(octets: &[u8], offset: usize, len: usize) -> Standing<Buffer> {
+    match octets.get(offset..).and_then(|behind| behind.get(..len)) {
+        Some(octets) => Ok((Buffer::of(octets), offset.saturating_add(len))),
         None => Err(Fault::Short),
     }
 }
 
 /// The names of SOA, and its five numbers.
-fn soa_at(seen: &[u8], place: usize) -> Standing<Buffer> {
-    let (mname, place) = name_at(seen, place)?;
-    let (rname, place) = name_at(seen, place)?;
-    let (numbers, end) = octets_at(seen, place, 20)?;
+fn soa_at(seen: &[u8], offset: usize) -> Standing<Buffer> {
+    let (mname, offset) = name_at(seen, offset)?;
+    let (rname, offset) = name_at(seen, offset)?;
+    let (numbers, end) = octets_at(seen, offset, 20)?;
     let names = mname.with(rname.as_slice());
     Ok((names.with(numbers.as_slice()), end))
 }
 
 /// All octets from this offset on, which have to be options.
-fn options_at(seen: &[u8], place: usize) -> Standing<Buffer> {
-    match seen.get(place..) {
+fn options_at(seen: &[u8], offset: usize) -> Standing<Buffer> {
+    match seen.get(offset..) {
         Some(options) if has_options(options) => Ok((Buffer::of(options), seen.len())),
         _ => Err(Fault::Short),
     }
@@ -43,12 +43,12 @@ fn options_at(seen: &[u8], place: usize) -> Standing<Buffer> {
 
 /// The RDATA of this record type from this offset on, its names uncompressed, or its leftmost
 /// error. The types are A, NS, CNAME, SOA and OPT.
-pub(crate) fn data_at(seen: &[u8], place: usize, rtype: u16) -> Standing<Buffer> {
+pub(crate) fn data_at(seen: &[u8], offset: usize, rtype: u16) -> Standing<Buffer> {
     match rtype {
-        1 => octets_at(seen, place, 4),
-        2 | 5 => name_at(seen, place),
-        6 => soa_at(seen, place),
-        _ => options_at(seen, place),
+        1 => octets_at(seen, offset, 4),
+        2 | 5 => name_at(seen, offset),
+        6 => soa_at(seen, offset),
+        _ => options_at(seen, offset),
     }
 }
 
@@ -75,9 +75,9 @@ pub(crate) fn typed_of(
 
 /// The record header at this offset, whose RDATA has to be complete, and the offset after the
 /// RDATA.
-pub(crate) fn header_passed(octets: &[u8], place: usize) -> Standing<Header> {
-    let (header, _) = header_at(octets, place)?;
-    let (_, end) = entry_at(octets, 1, place)?;
+pub(crate) fn header_passed(octets: &[u8], offset: usize) -> Standing<Header> {
+    let (header, _) = header_at(octets, offset)?;
+    let (_, end) = entry_at(octets, 1, offset)?;
     Ok((header, end))
 }
 

@@ -39,7 +39,7 @@ pub(crate) fn next_typed(
     for _ in 0..=u16::MAX {
         match reading.next()? {
             Ok(entry) if entry.rtype != rtype || in_only && entry.class != 1 => {}
-            Ok(entry) => return typed_of(octets, Ok((entry, reading.place)), rtype).transpose(),
+            Ok(entry) => return typed_of(octets, Ok((entry, reading.offset)), rtype).transpose(),
             Err(fault) => return Some(Err(fault)),
         }
     }
@@ -52,7 +52,7 @@ fn next_name(octets: &[u8], name: &Buffer) -> Option<Buffer> {
     for _ in 0..u16::MAX {
         let entry = reading.next()?.ok()?;
         if entry.name.as_slice().eq_ignore_ascii_case(name.as_slice()) {
-            if let Ok(Some(alias)) = typed_of(octets, Ok((entry, reading.place)), 5) {
+            if let Ok(Some(alias)) = typed_of(octets, Ok((entry, reading.offset)), 5) {
                 return Some(alias.data);
             }
         }
@@ -94,7 +94,7 @@ pub(crate) fn last_additional(octets: &[u8], rtype: u16) -> Option<Entry> {
     let mut last = Err(Fault::Short);
     for _ in 0..u16::MAX {
         match reading.next() {
-            Some(entry) => last = Ok((entry.ok()?, reading.place)),
+            Some(entry) => last = Ok((entry.ok()?, reading.offset)),
             None => break,
         }
     }

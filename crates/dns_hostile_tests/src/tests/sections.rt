@@ -13,7 +13,7 @@ pub(crate) fn assert_questions(rt: &impl Abort, message: &Message<&[u8]>) {
     let mut reading = Reading::at(message.as_slice(), 0, 12);
     let mut questions = message.question();
     for _ in 0..=u16::MAX {
-        assert_same(rt, "place of a question", questions.pos(), reading.place);
+        assert_same(rt, "place of a question", questions.pos(), reading.offset);
         let starts = [questions.answer().plain(), questions.next_section().plain()];
         assert_same(rt, "answer section", starts, [reading.start_behind(); 2]);
         let expected = reading.next();
@@ -35,7 +35,7 @@ fn next_start(reading: &Reading<'_>) -> Result<Option<usize>, Fault> {
 /// Checks the offset of a cursor after a reading, and that the cursor and each iterator over it
 /// advance to the next section.
 fn assert_cursor(rt: &impl Abort, records: RecordSection<'_>, reading: &Reading<'_>) {
-    assert_same(rt, "place of a record", records.pos(), reading.place);
+    assert_same(rt, "place of a record", records.pos(), reading.offset);
     let all = records.into_records::<Opaque<'_>>();
     let starts = [
         records.next_section().plain(),
@@ -59,7 +59,7 @@ fn assert_records(rt: &impl Abort, mut records: RecordSection<'_>, mut reading: 
             break;
         }
     }
-    assert_same(rt, "end of the records", all.unwrap().pos(), reading.place);
+    assert_same(rt, "end of the records", all.unwrap().pos(), reading.offset);
 }
 
 /// Checks that an iterator over addresses yields those of a reading.
@@ -86,10 +86,10 @@ fn assert_section(
     section: u8,
     records: Result<RecordSection<'_>, ParseError>,
 ) {
-    let place = start(octets, section);
-    assert_same(rt, "section", records.plain(), place);
-    if let (Ok(records), Ok(place)) = (records, place) {
-        let reading = Reading::at(octets, section, place);
+    let offset = start(octets, section);
+    assert_same(rt, "section", records.plain(), offset);
+    if let (Ok(records), Ok(offset)) = (records, offset) {
+        let reading = Reading::at(octets, section, offset);
         assert_records(rt, records, reading);
         assert_addresses(rt, octets, records.limit_to(), reading, false);
         assert_addresses(rt, octets, records.limit_to_in(), reading, true);

@@ -10,55 +10,55 @@ use std::process::Abort;
 
 /// Checks the name, the question and the record that are read at this offset.
 fn assert_entries(rt: &impl Abort, octets: &[u8], parser: Parser<'_>) {
-    let place = parser.pos();
+    let offset = parser.pos();
     let mut behind = parser;
     let name = ParsedName::parse(&mut behind).plain();
-    let expected = name_at(octets, place);
-    assert_read(rt, "name", place, (name, behind.pos()), expected);
+    let expected = name_at(octets, offset);
+    assert_read(rt, "name", offset, (name, behind.pos()), expected);
     let mut behind = parser;
     let question = Question::parse(&mut behind).plain();
-    let expected = entry_at(octets, 0, place);
-    assert_read(rt, "question", place, (question, behind.pos()), expected);
+    let expected = entry_at(octets, 0, offset);
+    assert_read(rt, "question", offset, (question, behind.pos()), expected);
     let mut behind = parser;
     let record = ParsedRecord::parse(&mut behind).plain();
-    let expected = entry_at(octets, 1, place);
-    assert_read(rt, "record", place, (record, behind.pos()), expected);
+    let expected = entry_at(octets, 1, offset);
+    assert_read(rt, "record", offset, (record, behind.pos()), expected);
 }
 
 /// Checks the record header that is read at this offset, whether or not the RDATA is skipped.
 fn assert_headers(rt: &impl Abort, octets: &[u8], parser: Parser<'_>) {
-    let place = parser.pos();
-    let expected = header_at(octets, place);
+    let offset = parser.pos();
+    let expected = header_at(octets, offset);
     let mut behind = parser;
     let header = RecordHeader::parse(&mut behind).plain();
-    assert_read(rt, "header", place, (header, behind.pos()), expected);
+    assert_read(rt, "header", offset, (header, behind.pos()), expected);
     let mut behind = parser;
     let header = RecordHeader::parse_ref(&mut behind).plain();
-    assert_read(rt, "header", place, (header, behind.pos()), expected);
+    assert_read(rt, "header", offset, (header, behind.pos()), expected);
     let mut behind = parser;
     let header = RecordHeader::parse_and_skip(&mut behind).plain();
-    let expected = header_passed(octets, place);
-    assert_read(rt, "header", place, (header, behind.pos()), expected);
+    let expected = header_passed(octets, offset);
+    assert_read(rt, "header", offset, (header, behind.pos()), expected);
 }
 
 /// Checks the TTL and the header section at this offset, and the name of all octets from it on.
 fn assert_fixed(rt: &impl Abort, octets: &[u8], parser: Parser<'_>) {
-    let place = parser.pos();
+    let offset = parser.pos();
     let mut behind = parser;
     let ttl = Ttl::parse(&mut behind).plain();
-    let expected = octets_at(octets, place, 4);
-    assert_read(rt, "TTL", place, (ttl, behind.pos()), expected);
+    let expected = octets_at(octets, offset, 4);
+    assert_read(rt, "TTL", offset, (ttl, behind.pos()), expected);
     let mut behind = parser;
     let section = HeaderSection::parse(&mut behind).plain();
-    let expected = octets_at(octets, place, 12);
+    let expected = octets_at(octets, offset, 12);
     assert_read(
         rt,
         "header section",
-        place,
+        offset,
         (section, behind.pos()),
         expected,
     );
-    let rest = octets.get(place..).unwrap_or(b"");
+    let rest = octets.get(offset..).unwrap_or(b"");
     let name = Name::from_octets(rest).plain();
     assert_same(rt, "whole name", name, whole_name(rest));
 }
@@ -73,7 +73,7 @@ fn passed(answer: Result<(), ParseError>, parser: Parser<'_>) -> Result<usize, F
 
 /// Checks what is skipped at this offset.
 fn assert_skips(rt: &impl Abort, octets: &[u8], parser: Parser<'_>) {
-    let place = parser.pos();
+    let offset = parser.pos();
     let mut behind = parser;
     let answer = ParsedName::skip(&mut behind);
     let name = passed(answer, behind);
@@ -84,9 +84,9 @@ fn assert_skips(rt: &impl Abort, octets: &[u8], parser: Parser<'_>) {
     let answer = ParsedRecord::skip(&mut behind);
     let record = passed(answer, behind);
     let expected = [
-        name_end(octets, place),
-        skip_entry(octets, 0, place),
-        skip_entry(octets, 1, place),
+        name_end(octets, offset),
+        skip_entry(octets, 0, offset),
+        skip_entry(octets, 1, offset),
     ];
     assert_same(
         rt,
@@ -98,9 +98,9 @@ fn assert_skips(rt: &impl Abort, octets: &[u8], parser: Parser<'_>) {
 
 /// Reads and skips at each offset up to the end.
 pub(crate) fn assert_walks(rt: &impl Abort, octets: &[u8]) {
-    for place in 0..=octets.len() {
+    for offset in 0..=octets.len() {
         let mut parser = Parser::new(octets);
-        assert!(rt; parser.seek(place).is_ok());
+        assert!(rt; parser.seek(offset).is_ok());
         assert_entries(rt, octets, parser);
         assert_headers(rt, octets, parser);
         assert_fixed(rt, octets, parser);

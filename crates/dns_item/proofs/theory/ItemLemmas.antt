@@ -9,7 +9,7 @@ use Rattle.dns_wire.specs.Targets.{Written, IsTarget, lay}
 use Rattle.dns_wire.proofs.theory.PutNames.{put_name_grows, put_octets_grows, put_parts_grows, both_grows, with_length_grows}
 use Rattle.dns_wire.proofs.theory.PieceLaws.{number_16, number_32, HasLength, stable_length, puts_with_length, Puts, IsStable, Behind, stable_behind, puts_both, HasOctets, stable_octets, puts_octets, HasName, stable_name, puts_put_name, HasParts, stable_parts, puts_parts, parts_rise, parts_within, parts_stand}
 use Rattle.dns_wire.proofs.theory.NameSizes.{parts_are_short}
-use Rattle.dns_wire.proofs.theory.SpelledNames.{at_first, at_second, at_place, spelled_stands, spelled_walked}
+use Rattle.dns_wire.proofs.theory.SpelledNames.{at_first, at_second, at_offset, spelled_stands, spelled_walked}
 use Rattle.dns_item.specs.Items.{RecordEntry, ReadsRecordItem, RecordItem, IsRecord, record_fields, put_record, RecordsGrow, RecordsReadBack}
 
 -- writing a record adds only its own suffixes to the compression table
@@ -55,7 +55,7 @@ reads_record x t p q is good h =
     let long : s + 2 ≤ q = parts_rise x.parts t (s + 2) q h.2.2.1 in
     let few : q ≤ s + 2 + 65535 = h.2.2.2 in
     let within : q ≤ length t.octets = parts_within x.parts t (s + 2) q h.2.2.0.within h.2.2.1 in
-    let len : number_at w16 t.octets (r + 8) ≡ q - (s + 2) = number_16 t.octets (r + 8) (q - (s + 2)) (omega arith) (at_place is_s h.2.2.0) in
+    let len : number_at w16 t.octets (r + 8) ≡ q - (s + 2) = number_16 t.octets (r + 8) (q - (s + 2)) (omega arith) (at_offset is_s h.2.2.0) in
     let short : 0 + name_size x.owner ≤ max_size = let k = is.owner.short in omega arith in
     record {
       entry = entry_of x (r + 10) q;
@@ -64,7 +64,7 @@ reads_record x t p q is good h =
         owner = spelled_stands good is.owner.short h.1;
         rtype = sym (number_16 t.octets r x.rtype is.rtype (at_first {xs = to_be_bytes w16 x.rtype} (to_be_bytes w16 x.class ++ to_be_bytes w32 x.ttl) here));
         class = sym (number_16 t.octets (r + 2) x.class is.class (at_first {xs = to_be_bytes w16 x.class} (to_be_bytes w32 x.ttl) rest));
-        ttl = sym (number_32 t.octets (r + 4) x.ttl is.ttl (at_place (omega arith) (at_second (to_be_bytes w16 x.class) {ys = to_be_bytes w32 x.ttl} rest)));
+        ttl = sym (number_32 t.octets (r + 4) x.ttl is.ttl (at_offset (omega arith) (at_second (to_be_bytes w16 x.class) {ys = to_be_bytes w32 x.ttl} rest)));
         data_start = refl;
         data_end = refl;
       };

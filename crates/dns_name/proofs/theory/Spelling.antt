@@ -115,8 +115,8 @@ rest_label b at n at' r h e = go r.name r.is_name r.octets r.short
         let l = labelled b at label name t.0 o in
         let same : length label ≡ n = cc (l.begins, h) in
         let Q : ℕ → Type 0 = λ k. uncompressed name ≡ drop k b in
-        let place : at + 1 + length label ≡ at' = omega arith in
-        record { name = name; is_name = t.1; octets = subst Q place l.behind; short = omega arith }
+        let offset : at + 1 + length label ≡ at' = omega arith in
+        record { name = name; is_name = t.1; octets = subst Q offset l.behind; short = omega arith }
 
 -- The test continues after a label.
 pub spells_label : (b : List ℕ) (at n at' : ℕ) → Spells b at → Begins b at at (Label n) → at' ≡ at + 1 + n → Spells b at'
@@ -212,7 +212,7 @@ counted_root b at count n c read none name s = go c.others c.is_name c.octets (c
 
 -- After a label, one more is counted.
 pub counted_label : (b : List ℕ) (at count n at' : ℕ) → Counted b at count → n ≡ get_or b at 0 → n ≢ 0 → at' ≡ at + 1 + n → Counted b at' (count + 1)
-counted_label b at count n at' c read some place = go c.others c.is_name c.octets c.all
+counted_label b at count n at' c read some offset = go c.others c.is_name c.octets c.all
   where
     go : (others : Labels) → IsName others → uncompressed others ≡ drop at b → ((name : Labels) → Stands b 0 name → length name ≡ count + length others)
         → Counted b at' (count + 1)

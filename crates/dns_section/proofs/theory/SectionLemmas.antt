@@ -20,10 +20,10 @@ use Rattle.dns_section.specs.declared.section.Section.TheVariants.{Answer, Autho
 pub begins_answers : (b : List ℕ) (old : QuestionSection) (new : RecordSection) → BeginsQuestions b old → EntersAnswers old new → BeginsSection Answer b new
 begins_answers b old new begins enters =
     let counted = subst (λ (left : Result ℕ ParseError). SkipsRest (SkipsQuestion (questions.octets_of old)) left (questions.position old) (position new)) begins.count enters.skips in
-    let placed = subst (λ p. Passed (SkipsQuestion (questions.octets_of old)) (question_count b) p (position new)) begins.start counted in
+    let same_offset = subst (λ p. Passed (SkipsQuestion (questions.octets_of old)) (question_count b) p (position new)) begins.start counted in
     record {
       fresh = subst (λ (o : List ℕ). IsFresh Answer o new) begins.octets enters.fresh;
-      start = subst (λ (o : List ℕ). Passed (SkipsQuestion o) (question_count b) header_size (position new)) begins.octets placed;
+      start = subst (λ (o : List ℕ). Passed (SkipsQuestion o) (question_count b) header_size (position new)) begins.octets same_offset;
     }
 
 -- a section starts after the records of the section before it

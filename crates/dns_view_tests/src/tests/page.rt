@@ -53,14 +53,14 @@ fn assert_count(rt: &impl Abort, page: &str, text: &str, count: usize) {
 
 /// Fails unless each octet has its digits at its offset, in a grid of sixteen columns.
 fn assert_cells(rt: &impl Abort, alloc: Global, page: &str) -> Result<(), Fail> {
-    for (place, octet) in MESSAGE.iter().enumerate() {
-        assert_count(rt, page, &cell(alloc, place, *octet)?, 1);
+    for (offset, octet) in MESSAGE.iter().enumerate() {
+        assert_count(rt, page, &cell(alloc, offset, *octet)?, 1);
     }
     Ok(())
 }
 
-fn cell(alloc: Global, place: usize, octet: u8) -> Result<String, AllocError> {
-    format!(in alloc; "id=\"o{place}\">{octet:02x}</text>")
+fn cell(alloc: Global, offset: usize, octet: u8) -> Result<String, AllocError> {
+    format!(in alloc; "id=\"o{offset}\">{octet:02x}</text>")
 }
 
 fn assert_whole(rt: &impl Abort, page: &str) {

@@ -80,7 +80,7 @@ pub extends_join : (a b c : Memory) (w v : ℕ) → Extends a b w v → Extends 
 extends_join a b c w v x y = record { each = λ s. join_one (get a s) (get b s) (get c s) w v (x.each s) (y.each s) }
 
 inserted_one : (before after found : Option Spot) (x : Spot) (w v : ℕ) (b : Bool) → found ≡ cond b (Some x) after → (b ≡ true → before ≡ None)
-    → IsOldOrWithin before after w v → w ≤ x.place → w < x.end → x.end ≤ v → IsOldOrWithin before found w v
+    → IsOldOrWithin before after w v → w ≤ x.offset → w < x.end → x.end ≤ v → IsOldOrWithin before found w v
 inserted_one before after found x w v true e h (inl same) p q r = inr (h refl, (x, e, p, q, r))
 inserted_one before after found x w v true e h (inr new) p q r = inr (h refl, (x, e, p, q, r))
 inserted_one before after found x w v false e h (inl same) p q r = inl (e ∙ same)
@@ -91,7 +91,7 @@ pub tied : (q k : Labels) → eq_by_cmp suffix_cmp q k ≡ true → q ≡ k
 tied q k e = suffix_exact q k ((Equal-is (suffix_cmp q k)).0 e)
 
 -- Inserting a new suffix extends the table.
-pub inserted : (m n : Memory) (k : Labels) (x : Spot) (w v : ℕ) → Extends m n w v → get m k ≡ None → w ≤ x.place → w < x.end → x.end ≤ v
+pub inserted : (m n : Memory) (k : Labels) (x : Spot) (w v : ℕ) → Extends m n w v → get m k ≡ None → w ≤ x.offset → w < x.end → x.end ≤ v
     → Extends m (insert n k x) w v
 inserted m n k x w v g none p q r = record {
   each = λ s. inserted_one (get m s) (get n s) _ x w v (eq_by_cmp suffix_cmp s k) (get-insert suffix_total n k x s) (λ e. ap (get m) (tied s k e) ∙ none) (g.each s) p q r;
@@ -106,12 +106,12 @@ pub gets : {m n : Memory} {w v : ℕ} → Extends m n w v → (s : Labels) (x : 
 gets {m = m} {n = n} {w = w} {v = v} g s x e = old_kept (get m s) (get n s) w v x (g.each s) e
 
 behind_one : (a w v : ℕ) (before after : Option Spot) → a ≤ w → IsOldOrWithin before after w v
-    → ((x : Spot) → before ≡ Some x → a ≤ x.place) → (x : Spot) → after ≡ Some x → a ≤ x.place
+    → ((x : Spot) → before ≡ Some x → a ≤ x.offset) → (x : Spot) → after ≡ Some x → a ≤ x.offset
 behind_one a w v before after l (inl same) h x e = h x (sym same ∙ e)
 behind_one a w v before after l (inr new) h x e =
     let s : Some new.1.0 ≡ Some x = sym new.1.1 ∙ e in
     let same : new.1.0 ≡ x = cc in
-    subst (λ (z : Spot). a ≤ z.place) same (omega (arith, new.1.2))
+    subst (λ (z : Spot). a ≤ z.offset) same (omega (arith, new.1.2))
 
 -- If all entries are at or after an offset, so are those of an extension after it.
 pub behind_more : {m n : Memory} {w v : ℕ} (a : ℕ) → a ≤ w → Extends m n w v → IsBehind m a → IsBehind n a
@@ -165,7 +165,7 @@ AreShorter n (s ∷ ss) = (length s.0 < n) × AreShorter n ss
 pub get-remember_longer : (m : Memory) (ss : List (Labels × ℕ)) (end : ℕ) (k : Labels) → get m k ≡ None → AreShorter (length k) ss → get (remember m ss end) k ≡ None
 get-remember_longer m [] end k none h = none
 get-remember_longer m (s ∷ ss) end k none h =
-    get-insert_other (remember m ss end) s.0 (record { place = s.1; end = end }) k (λ e. let z = ap length e in let l = h.0 in omega arith)
+    get-insert_other (remember m ss end) s.0 (record { offset = s.1; end = end }) k (λ e. let z = ap length e in let l = h.0 in omega arith)
     ∙ get-remember_longer m ss end k none h.1
 
 -- Targets with an empty table.

@@ -29,7 +29,7 @@ newer m w w' (s ∷ ss) l h = (h.0, omega (arith, h.1), newer m w w' ss l h.2)
 -- How a name is encoded: its octets, and the suffixes that are written out.
 pub data SpellsAs (rule : Rule) (m : Memory) : ℕ → ℕ → Labels → List ℕ → List (Labels × ℕ) → Type 0 where
   at_root : {p held : ℕ} → SpellsAs rule m p held [] (0 ∷ []) []
-  at_known : {p held : ℕ} {first : List ℕ} {rest : Labels} {x : Spot} → get m (first ∷ rest) ≡ Some x → SpellsAs rule m p held (first ∷ rest) (put_pointer x.place) []
+  at_known : {p held : ℕ} {first : List ℕ} {rest : Labels} {x : Spot} → get m (first ∷ rest) ≡ Some x → SpellsAs rule m p held (first ∷ rest) (put_pointer x.offset) []
   at_kept : {p held : ℕ} {first : List ℕ} {rest : Labels} {text : List ℕ} {ss : List (Labels × ℕ)} → get m (first ∷ rest) ≡ None → is_kept rule p held ≡ true
       → SpellsAs rule m (p + 1 + length first) (held + 1) rest text ss → SpellsAs rule m p held (first ∷ rest) (framed first ++ text) ((first ∷ rest, p) ∷ ss)
   at_far : {p held : ℕ} {first : List ℕ} {rest : Labels} → get m (first ∷ rest) ≡ None → is_kept rule p held ≡ false → SpellsAs rule m p held (first ∷ rest) (uncompressed (first ∷ rest)) []
@@ -66,7 +66,7 @@ kept_new Hash m w ss h = chosen_new m w _ ss h
 extends-remember : (m : Memory) (ss : List (Labels × ℕ)) (w end : ℕ) → w < end → AreNew m w ss → Extends m (remember m ss end) w end
 extends-remember m [] w end l h = extends_refl m w end
 extends-remember m (s ∷ ss) w end l h =
-    inserted m (remember m ss end) s.0 (record { place = s.1; end = end }) w end (extends-remember m ss w end l h.2) h.0 h.1 l (omega arith)
+    inserted m (remember m ss end) s.0 (record { offset = s.1; end = end }) w end (extends-remember m ss w end l h.2) h.0 h.1 l (omega arith)
 
 -- A written name takes at least one octet.
 spell_long : {rule : Rule} {m : Memory} {p held : ℕ} {name : Labels} {text : List ℕ} {ss : List (Labels × ℕ)} → SpellsAs rule m p held name text ss → 0 < length text
@@ -213,21 +213,21 @@ near_kept Hash m b q ss h = near_chosen m b q ss (list_all (λ s. nat_lt s.1 163
 
 found_one : (m r : Memory) (s : Labels × ℕ) (q : ℕ) (P : Labels × ℕ → Type 0) (k : Labels) (x : Spot) (same : Bool)
     → (same ≡ true → k ≡ s.0) → P s
-    → (get r k ≡ Some x → (get m k ≡ Some x) ⊎ (P (k, x.place) × (x.end ≡ q)))
-    → cond same (Some (let y : Spot = record { place = s.1; end = q } in y)) (get r k) ≡ Some x → (get m k ≡ Some x) ⊎ (P (k, x.place) × (x.end ≡ q))
+    → (get r k ≡ Some x → (get m k ≡ Some x) ⊎ (P (k, x.offset) × (x.end ≡ q)))
+    → cond same (Some (let y : Spot = record { offset = s.1; end = q } in y)) (get r k) ≡ Some x → (get m k ≡ Some x) ⊎ (P (k, x.offset) × (x.end ≡ q))
 found_one m r s q P k x true is p rec e =
-    let y : Spot = record { place = s.1; end = q } in
+    let y : Spot = record { offset = s.1; end = q } in
     let same : y ≡ x = cc in
-    inr (subst (λ (z : Spot). P (k, z.place) × (z.end ≡ q)) same (subst (λ (n : Labels). P (n, s.1)) (sym (is refl)) p, refl))
+    inr (subst (λ (z : Spot). P (k, z.offset) × (z.end ≡ q)) same (subst (λ (n : Labels). P (n, s.1)) (sym (is refl)) p, refl))
 found_one m r s q P k x false is p rec e = rec e
 
 -- A suffix in the table was there before, or is one of the added ones.
 pub found : (m : Memory) (ss : List (Labels × ℕ)) (q : ℕ) (P : Labels × ℕ → Type 0) (k : Labels) (x : Spot) → Each P ss
-    → get (remember m ss q) k ≡ Some x → (get m k ≡ Some x) ⊎ (P (k, x.place) × (x.end ≡ q))
+    → get (remember m ss q) k ≡ Some x → (get m k ≡ Some x) ⊎ (P (k, x.offset) × (x.end ≡ q))
 found m [] q P k x all e = inl e
 found m (s ∷ ss) q P k x all e =
     found_one m (remember m ss q) s q P k x (eq_by_cmp suffix_cmp k s.0) (tied k s.0) all.0 (found m ss q P k x all.1)
-    (sym (get-insert suffix_total (remember m ss q) s.0 (record { place = s.1; end = q }) k) ∙ e)
+    (sym (get-insert suffix_total (remember m ss q) s.0 (record { offset = s.1; end = q }) k) ∙ e)
 
 -- Each name in a sound table ends within the content.
 pub ends_within_content : {m : Memory} {b : List ℕ} → Remembers b m → IsWithin m (length b)
@@ -235,7 +235,7 @@ ends_within_content r s x e = (spelled_long (kept_spelled s x (r.each s x e))).1
 
 -- The entry of a suffix that was written out within pointer range is sound.
 new_kept : (m n : Memory) (b : List ℕ) (s : Labels) (x : Spot) → ((s : Labels) (x : Spot) → get m s ≡ Some x → get n s ≡ Some x)
-    → Out IsNear m b x.end (s, x.place) → IsRemembered b n s x
+    → Out IsNear m b x.end (s, x.offset) → IsRemembered b n s x
 new_kept m n b s x g h =
     kept_moved m n b b s x (λ p xs l fits h. h) (λ t y e less. g t y e) (record { near = h.near; short = h.short; spelled = h.spelled })
 
@@ -262,7 +262,7 @@ by_rule rule m n b name held l r is g =
         each = λ s x e.
             elim (found m (kept rule written.1) q (Out IsNear m (b ++ text) q) s x all (ap (λ (n : Memory). get n s) (sym is) ∙ e)) [
               | inl old ↦ kept_more n text s x g (r.each s x old)
-              | inr new ↦ new_kept m n (b ++ text) s x g (subst (λ q. Out IsNear m (b ++ text) q (s, x.place)) (sym new.1) new.0)
+              | inr new ↦ new_kept m n (b ++ text) s x g (subst (λ q. Out IsNear m (b ++ text) q (s, x.offset)) (sym new.1) new.0)
             ];
       };
     }

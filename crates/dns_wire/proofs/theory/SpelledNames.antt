@@ -21,7 +21,7 @@ record Split (b : List ℕ) (p : ℕ) (xs : List ℕ) : Type 0 where
   before : List ℕ
   after : List ℕ
   whole : b ≡ before ++ (xs ++ after)
-  place : length before ≡ p
+  offset : length before ≡ p
 
 -- `At` gives `Split`.
 split : {b : List ℕ} {p : ℕ} {xs : List ℕ} → At b p xs → Split b p xs
@@ -35,13 +35,13 @@ split {b = b} {p = p} {xs = xs} h =
       before = take p b;
       after = drop n (drop p b);
       whole = sym (take-append-drop p b) ∙ ap (λ (c : List ℕ). take p b ++ c) behind;
-      place = length-take p b ∙ omega arith;
+      offset = length-take p b ∙ omega arith;
     }
 
 -- The octets from the offset on.
 split_dropped : {b : List ℕ} {p : ℕ} {xs : List ℕ} (h : Split b p xs) → drop p b ≡ xs ++ h.after
 split_dropped {p = p} {xs = xs} h =
-    ap (drop p) h.whole ∙ ap (λ n. drop n (h.before ++ (xs ++ h.after))) (sym h.place) ∙ drop-append_seam h.before (xs ++ h.after)
+    ap (drop p) h.whole ∙ ap (λ n. drop n (h.before ++ (xs ++ h.after))) (sym h.offset) ∙ drop-append_seam h.before (xs ++ h.after)
 
 -- `Split` gives `At`.
 join : {b : List ℕ} {p : ℕ} {xs : List ℕ} → Split b p xs → At b p xs
@@ -50,35 +50,35 @@ join {b = b} {p = p} {xs = xs} h =
     let f = length-append xs h.after in
     let n : p + length xs - p ≡ length xs = omega arith in
     record {
-      within = omega (arith, h.place);
+      within = omega (arith, h.offset);
       same = ap (λ n. take n (drop p b)) n ∙ ap (take (length xs)) (split_dropped h) ∙ take-append_seam xs h.after;
     }
 
 -- Octets appended to others are at their end.
 pub at_end : (b xs : List ℕ) → At (b ++ xs) (length b) xs
-at_end b xs = join (record { before = b; after = []; whole = ap (λ (c : List ℕ). b ++ c) (sym (append-nil xs)); place = refl })
+at_end b xs = join (record { before = b; after = []; whole = ap (λ (c : List ℕ). b ++ c) (sym (append-nil xs)); offset = refl })
 
 -- Octets at an offset are there in every longer content.
 pub at_append : {b : List ℕ} {p : ℕ} {xs : List ℕ} (c : List ℕ) → At b p xs → At (b ++ c) p xs
 at_append c h =
     let s = split h in
-    join (record { before = s.before; after = s.after ++ c; whole = ap (λ (b : List ℕ). b ++ c) s.whole ∙ simp append_assoc; place = s.place })
+    join (record { before = s.before; after = s.after ++ c; whole = ap (λ (b : List ℕ). b ++ c) s.whole ∙ simp append_assoc; offset = s.offset })
 
 -- The first of two lists of octets is at the offset.
 pub at_first : {b : List ℕ} {p : ℕ} {xs : List ℕ} (ys : List ℕ) → At b p (xs ++ ys) → At b p xs
 at_first {xs = xs} ys h =
     let s = split h in
-    join (record { before = s.before; after = ys ++ s.after; whole = s.whole ∙ ap (λ (c : List ℕ). s.before ++ c) (append_assoc xs ys s.after); place = s.place })
+    join (record { before = s.before; after = ys ++ s.after; whole = s.whole ∙ ap (λ (c : List ℕ). s.before ++ c) (append_assoc xs ys s.after); offset = s.offset })
 
 -- The second is after the first.
 pub at_second : {b : List ℕ} {p : ℕ} (xs : List ℕ) {ys : List ℕ} → At b p (xs ++ ys) → At b (p + length xs) ys
 at_second xs {ys} h =
     let s = split h in
-    join (record { before = s.before ++ xs; after = s.after; whole = s.whole ∙ simp append_assoc; place = length-append s.before xs ∙ ap (λ n. n + length xs) s.place })
+    join (record { before = s.before ++ xs; after = s.after; whole = s.whole ∙ simp append_assoc; offset = length-append s.before xs ∙ ap (λ n. n + length xs) s.offset })
 
 -- The same at an equal offset.
-pub at_place : {b : List ℕ} {p q : ℕ} {xs : List ℕ} → p ≡ q → At b p xs → At b q xs
-at_place e h = let s = split h in join (record { before = s.before; after = s.after; whole = s.whole; place = s.place ∙ e })
+pub at_offset : {b : List ℕ} {p q : ℕ} {xs : List ℕ} → p ≡ q → At b p xs → At b q xs
+at_offset e h = let s = split h in join (record { before = s.before; after = s.after; whole = s.whole; offset = s.offset ∙ e })
 
 take_three : (len : ℕ) (xs ys zs : List ℕ) → length xs + length ys ≤ len → take len (xs ++ (ys ++ zs)) ≡ xs ++ (ys ++ take (len - length xs - length ys) zs)
 take_three len xs ys zs h =
@@ -93,27 +93,27 @@ at_take {xs = xs} len fits h =
     join (record {
       before = s.before;
       after = take (len - length s.before - length xs) s.after;
-      whole = ap (take len) s.whole ∙ take_three len s.before xs s.after (omega (arith, s.place));
-      place = s.place;
+      whole = ap (take len) s.whole ∙ take_three len s.before xs s.after (omega (arith, s.offset));
+      offset = s.offset;
     })
 
 -- Octets before overwritten ones are unchanged.
-pub at_before : {b : List ℕ} {p : ℕ} {xs : List ℕ} (over : List ℕ) (place : ℕ) → p + length xs ≤ place → At b p xs → At (overwritten b place over) p xs
-at_before {b = b} over place front h = at_append (drop (place + length over) b) (at_append over (at_take place front h))
+pub at_before : {b : List ℕ} {p : ℕ} {xs : List ℕ} (over : List ℕ) (offset : ℕ) → p + length xs ≤ offset → At b p xs → At (overwritten b offset over) p xs
+at_before {b = b} over offset front h = at_append (drop (offset + length over) b) (at_append over (at_take offset front h))
 
 -- Octets after overwritten ones are unchanged.
-pub at_behind : {b : List ℕ} {p : ℕ} {xs : List ℕ} (over : List ℕ) (place : ℕ) → place + length over ≤ p → At b p xs → At (overwritten b place over) p xs
-at_behind {b = b} {p = p} {xs = xs} over place back h =
+pub at_behind : {b : List ℕ} {p : ℕ} {xs : List ℕ} (over : List ℕ) (offset : ℕ) → offset + length over ≤ p → At b p xs → At (overwritten b offset over) p xs
+at_behind {b = b} {p = p} {xs = xs} over offset back h =
     let s = split h in
-    let n = place + length over in
-    let low : n ≤ length s.before = omega (arith, s.place) in
+    let n = offset + length over in
+    let low : n ≤ length s.before = omega (arith, s.offset) in
     let inside = h.within in
     let dropped : drop n b ≡ drop n s.before ++ (xs ++ s.after) = ap (drop n) s.whole ∙ drop-append-le n s.before (xs ++ s.after) low in
     join (record {
-      before = take place b ++ (over ++ drop n s.before);
+      before = take offset b ++ (over ++ drop n s.before);
       after = s.after;
-      whole = ap (λ (c : List ℕ). take place b ++ over ++ c) dropped ∙ simp append_assoc;
-      place = rw (length-append, length-append, length-take, length-drop) (omega (arith, s.place));
+      whole = ap (λ (c : List ℕ). take offset b ++ over ++ c) dropped ∙ simp append_assoc;
+      offset = rw (length-append, length-append, length-take, length-drop) (omega (arith, s.offset));
     })
 
 -- The first of the octets is at the offset.
@@ -142,7 +142,7 @@ label_part first behind h = at_first {xs = framed first} behind h
 
 -- The octets after a label.
 pub behind_label : {b : List ℕ} {p : ℕ} (first behind : List ℕ) → At b p (framed first ++ behind) → At b (p + 1 + length first) behind
-behind_label first behind h = at_place (omega arith) (at_second (framed first) {ys = behind} h)
+behind_label first behind h = at_offset (omega arith) (at_second (framed first) {ys = behind} h)
 
 -- An encoded name takes at least one octet, and ends within the content.
 pub spelled_long : {m : Memory} {b : List ℕ} {q p : ℕ} {name : Labels} → Spelled m b q p name → (p < q) × (q ≤ length b)
@@ -160,7 +160,7 @@ moved m n b c lo q f g low (label {p = p} {first = first} l h x) =
     let w = spelled_long x in
     label l (f p (framed first) low (omega (arith, w.0)) h) (moved m n b c lo q f g (omega arith) x)
 moved m n b c lo q f g low (pointer {p = p} {name = name} {x = x} e before h is) =
-    pointer (g name x e (omega arith)) before (f p (pointer_octets x.place) low (omega arith) h) is
+    pointer (g name x e (omega arith)) before (f p (pointer_octets x.offset) low (omega arith) h) is
 
 -- The same for a name that begins with a label.
 labelled_moved : (m n : Memory) (b c : List ℕ) (lo q : ℕ)
@@ -178,15 +178,15 @@ labelled_spelled p [] h = absurd h
 labelled_spelled p (first ∷ rest) h = label h.0 h.1 h.2
 
 -- A suffix with a sound entry is encoded at its offset, up to the end of its name.
-pub kept_spelled : {m : Memory} {b : List ℕ} (s : Labels) (x : Spot) → IsRemembered b m s x → Spelled m b x.end x.place s
-kept_spelled s x k = labelled_spelled x.place s k.spelled
+pub kept_spelled : {m : Memory} {b : List ℕ} (s : Labels) (x : Spot) → IsRemembered b m s x → Spelled m b x.end x.offset s
+kept_spelled s x k = labelled_spelled x.offset s k.spelled
 
 -- The same as `moved` for a sound entry.
 pub kept_moved : (m n : Memory) (b c : List ℕ) (s : Labels) (x : Spot)
-    → ((p : ℕ) (xs : List ℕ) → x.place ≤ p → p + length xs ≤ x.end → At b p xs → At c p xs)
+    → ((p : ℕ) (xs : List ℕ) → x.offset ≤ p → p + length xs ≤ x.end → At b p xs → At c p xs)
     → ((s : Labels) (y : Spot) → get m s ≡ Some y → y.end < x.end → get n s ≡ Some y)
     → IsRemembered b m s x → IsRemembered c n s x
-kept_moved m n b c s x f g k = record { near = k.near; short = k.short; spelled = labelled_moved m n b c x.place x.end f g x.place s (omega arith) k.spelled }
+kept_moved m n b c s x f g k = record { near = k.near; short = k.short; spelled = labelled_moved m n b c x.offset x.end f g x.offset s (omega arith) k.spelled }
 
 -- An encoded name is encoded in more octets, with a larger table.
 pub spelled_more : {m : Memory} {b : List ℕ} {q p : ℕ} {name : Labels} (n : Memory) (c : List ℕ)
@@ -199,7 +199,7 @@ pub kept_more : {m : Memory} {b : List ℕ} (n : Memory) (c : List ℕ) (s : Lab
 kept_more {m = m} {b = b} n c s x g k = kept_moved m n b (b ++ c) s x (λ p xs low fits h. at_append c h) (λ t y e less. g t y e) k
 
 -- A written name (`Spelled`) is encoded in the sense of `Stands`, if so is each entry of the table whose name ends before q.
-stands_if : {m : Memory} {b : List ℕ} {q : ℕ} → Remembers b m → ((s : Labels) (x : Spot) → get m s ≡ Some x → x.end < q → Stands b x.place s)
+stands_if : {m : Memory} {b : List ℕ} {q : ℕ} → Remembers b m → ((s : Labels) (x : Spot) → get m s ≡ Some x → x.end < q → Stands b x.offset s)
     → {p : ℕ} {name : Labels} → name_size name ≤ max_size → Spelled m b q p name → Stands b p name
 stands_if r ih short (root h e) = Stands.root (root_at h)
 stands_if {b = b} {q = q} r ih short (label {p = p} {first = first} {rest = rest} l h x) =
@@ -209,13 +209,13 @@ stands_if {b = b} {q = q} r ih short (label {p = p} {first = first} {rest = rest
 stands_if r ih short (pointer {p = p} {name = name} {x = x} e before h is) =
     let k = r.each name x e in
     let w = spelled_long (kept_spelled name x k) in
-    Stands.pointer (pointer_at x.place k.near h) (omega (arith, w.0)) (ih name x e (omega arith))
+    Stands.pointer (pointer_at x.offset k.near h) (omega (arith, w.0)) (ih name x e (omega arith))
 
 -- By induction on the end.
 stands_below : {m : Memory} {b : List ℕ} → Remembers b m → (k q p : ℕ) (name : Labels) → q < k → name_size name ≤ max_size → Spelled m b q p name → Stands b p name
 stands_below r zero q p name h short s = absurd (omega arith)
 stands_below r (suc k) q p name h short s =
-    stands_if r (λ t x e less. let kept = r.each t x e in stands_below r k x.end x.place t (omega arith) kept.short (kept_spelled t x kept)) short s
+    stands_if r (λ t x e less. let kept = r.each t x e in stands_below r k x.end x.offset t (omega arith) kept.short (kept_spelled t x kept)) short s
 
 -- A written name that is short enough is encoded in the sense of `Stands`.
 pub spelled_stands : {m : Memory} {b : List ℕ} {q p : ℕ} {name : Labels} → Remembers b m → name_size name ≤ max_size → Spelled m b q p name → Stands b p name
@@ -228,7 +228,7 @@ spelled_walked s r small (label {p = p} {first = first} l h x) =
     let w = spelled_long x in
     WalkedBehind.label (label_begins l h) (omega arith) (omega arith) (spelled_walked (s + length first + 1) r (omega arith) x)
 spelled_walked {b = b} s r small (pointer {p = p} {name = name} {x = x} e before h is) =
-    subst (λ q. WalkedBehind b p s q) (sym is) (WalkedBehind.pointer (pointer_at x.place (r.each name x e).near h))
+    subst (λ q. WalkedBehind b p s q) (sym is) (WalkedBehind.pointer (pointer_at x.offset (r.each name x e).near h))
 
 -- A name that ends within the first `len` octets is encoded after truncation.
 spelled_cut : {m : Memory} {b : List ℕ} {q p : ℕ} {name : Labels} (len : ℕ) → q ≤ len → Spelled m b q p name → Spelled (cut m len) (take len b) q p name
@@ -245,19 +245,19 @@ remembers_cut {m = m} {b = b} len r = record {
 }
 
 -- Overwriting with no octets changes nothing.
-overwritten_by_none : (b : List ℕ) (place : ℕ) (over : List ℕ) → length over ≡ 0 → overwritten b place over ≡ b
-overwritten_by_none b place over none =
-    let same_end : place + 0 ≡ place = omega arith in
-    rw (nil_from_length over none, append-nil) (ap (λ (n : ℕ). take place b ++ drop n b) same_end ∙ take-append-drop place b)
+overwritten_by_none : (b : List ℕ) (offset : ℕ) (over : List ℕ) → length over ≡ 0 → overwritten b offset over ≡ b
+overwritten_by_none b offset over none =
+    let same_end : offset + 0 ≡ offset = omega arith in
+    rw (nil_from_length over none, append-nil) (ap (λ (n : ℕ). take offset b ++ drop n b) same_end ∙ take-append-drop offset b)
 
 -- Overwriting octets that no name in the table uses keeps it sound.
-pub remembers_over : {m : Memory} {b : List ℕ} (place : ℕ) (over : List ℕ) → IsClear m place (length over) → Remembers b m → Remembers (overwritten b place over) m
-remembers_over {m = m} {b = b} place over clear r = record {
+pub remembers_over : {m : Memory} {b : List ℕ} (offset : ℕ) (over : List ℕ) → IsClear m offset (length over) → Remembers b m → Remembers (overwritten b offset over) m
+remembers_over {m = m} {b = b} offset over clear r = record {
   each = λ s x e.
       elim (clear s x e) [
-        | inl none ↦ (subst (λ (c : List ℕ). Remembers c m) (sym (overwritten_by_none b place over none)) r).each s x e
-        | inr (inl w) ↦ kept_moved m m b _ s x (λ p xs low fits h. at_before over place (omega (arith, w)) h) (λ t y e less. e) (r.each s x e)
-        | inr (inr w) ↦ kept_moved m m b _ s x (λ p xs low fits h. at_behind over place (omega (arith, w)) h) (λ t y e less. e) (r.each s x e)
+        | inl none ↦ (subst (λ (c : List ℕ). Remembers c m) (sym (overwritten_by_none b offset over none)) r).each s x e
+        | inr (inl w) ↦ kept_moved m m b _ s x (λ p xs low fits h. at_before over offset (omega (arith, w)) h) (λ t y e less. e) (r.each s x e)
+        | inr (inr w) ↦ kept_moved m m b _ s x (λ p xs low fits h. at_behind over offset (omega (arith, w)) h) (λ t y e less. e) (r.each s x e)
       ];
 }
 

@@ -107,46 +107,46 @@ pub stands_append : {b : List ℕ} {p : ℕ} {name : Labels} (c : List ℕ) → 
 stands_append {b = b} c s = in_stands (omega (arith, length-append b c)) (agreed (agree_append b c) (stands_in s))
 
 -- Octets agree before overwritten ones.
-agree_front : (b over : List ℕ) (place lo hi : ℕ) → place + length over ≤ length b → hi ≤ place → Agree b (take place b ++ (over ++ drop (place + length over) b)) lo hi
-agree_front b over place lo hi fits l =
-    let n = length-take place b in
-    let m = length-append (take place b) (over ++ drop (place + length over) b) in
+agree_front : (b over : List ℕ) (offset lo hi : ℕ) → offset + length over ≤ length b → hi ≤ offset → Agree b (take offset b ++ (over ++ drop (offset + length over) b)) lo hi
+agree_front b over offset lo hi fits l =
+    let n = length-take offset b in
+    let m = length-append (take offset b) (over ++ drop (offset + length over) b) in
     record {
       long = omega arith;
-      same = λ k low h. sym (get_take b place k (omega arith)) ∙ get_append (take place b) _ k (omega arith);
+      same = λ k low h. sym (get_take b offset k (omega arith)) ∙ get_append (take offset b) _ k (omega arith);
     }
 
 -- Octets agree after overwritten ones.
-agree_back : (b over : List ℕ) (place lo hi : ℕ) → place + length over ≤ length b → place + length over ≤ lo → hi ≤ length b
-    → Agree b (take place b ++ (over ++ drop (place + length over) b)) lo hi
-agree_back b over place lo hi fits l small =
-    let end = place + length over in
+agree_back : (b over : List ℕ) (offset lo hi : ℕ) → offset + length over ≤ length b → offset + length over ≤ lo → hi ≤ length b
+    → Agree b (take offset b ++ (over ++ drop (offset + length over) b)) lo hi
+agree_back b over offset lo hi fits l small =
+    let end = offset + length over in
     let behind = drop end b in
-    let n = length-take place b in
-    let m = length-append (take place b) (over ++ behind) in
+    let n = length-take offset b in
+    let m = length-append (take offset b) (over ++ behind) in
     let m' = length-append over behind in
     let d = length-drop end b in
     record {
       long = omega arith;
       same = λ k low h.
           let j = k - end in
-          let e : k ≡ length (take place b) + (length over + j) = omega arith in
+          let e : k ≡ length (take offset b) + (length over + j) = omega arith in
           let f : end + j ≡ k = omega arith in
-          sym (ap (slice_get (take place b ++ (over ++ behind))) e ∙ get_behind (take place b) (over ++ behind) (length over + j) ∙ get_behind over behind j ∙ get_dropped b end j ∙ ap (slice_get b) f);
+          sym (ap (slice_get (take offset b ++ (over ++ behind))) e ∙ get_behind (take offset b) (over ++ behind) (length over + j) ∙ get_behind over behind j ∙ get_dropped b end j ∙ ap (slice_get b) f);
     }
 
 -- Octets agree before or after overwritten ones.
-agree_overwritten : (b over : List ℕ) (place lo hi : ℕ) → place + length over ≤ length b → hi ≤ length b → (place + length over ≤ lo) ⊎ (hi ≤ place)
-    → Agree b (take place b ++ (over ++ drop (place + length over) b)) lo hi
-agree_overwritten b over place lo hi fits l (inl w) = agree_back b over place lo hi fits w l
-agree_overwritten b over place lo hi fits l (inr w) = agree_front b over place lo hi fits w
+agree_overwritten : (b over : List ℕ) (offset lo hi : ℕ) → offset + length over ≤ length b → hi ≤ length b → (offset + length over ≤ lo) ⊎ (hi ≤ offset)
+    → Agree b (take offset b ++ (over ++ drop (offset + length over) b)) lo hi
+agree_overwritten b over offset lo hi fits l (inl w) = agree_back b over offset lo hi fits w l
+agree_overwritten b over offset lo hi fits l (inr w) = agree_front b over offset lo hi fits w
 
 -- A name is still encoded after octets that it doesn't use are overwritten.
 pub stands_when_overwritten : StandsWhenOverwritten
-stands_when_overwritten t place over lo hi p name fits l w s =
+stands_when_overwritten t offset over lo hi p name fits l w s =
     let b = t.octets in
-    let e : take place b ++ (over ++ drop (place + length over) b) ≡ overwritten b place over = sym (append_assoc (take place b) over (drop (place + length over) b)) in
-    subst (λ (c : List ℕ). StandsIn c lo hi p name) e (agreed (agree_overwritten b over place lo hi fits l w) s)
+    let e : take offset b ++ (over ++ drop (offset + length over) b) ≡ overwritten b offset over = sym (append_assoc (take offset b) over (drop (offset + length over) b)) in
+    subst (λ (c : List ℕ). StandsIn c lo hi p name) e (agreed (agree_overwritten b over offset lo hi fits l w) s)
 
 -- A name that uses octets in lo..hi uses octets in lo..top, if hi ≤ top.
 wider_in : {b : List ℕ} {lo hi top p : ℕ} {name : Labels} → hi ≤ top → StandsIn b lo hi p name → StandsIn b lo top p name
@@ -155,7 +155,7 @@ wider_in l (label {p = p} {n = n} low high h x z) = label low (omega arith) h (w
 wider_in l (pointer low high h back x) = pointer low (omega arith) h back (wider_in l x)
 
 -- A name encoded up to q uses no octet before lo, if the same holds for each entry of the table whose name ends before q.
-in_if : {m : Memory} {b : List ℕ} {lo q : ℕ} → Remembers b m → ((s : Labels) (x : Spot) → get m s ≡ Some x → x.end < q → StandsIn b lo x.end x.place s)
+in_if : {m : Memory} {b : List ℕ} {lo q : ℕ} → Remembers b m → ((s : Labels) (x : Spot) → get m s ≡ Some x → x.end < q → StandsIn b lo x.end x.offset s)
     → {p : ℕ} {name : Labels} → lo ≤ p → name_size name ≤ max_size → Spelled m b q p name → StandsIn b lo q p name
 in_if r ih low short (Spelled.root h e) = root low (omega arith) (octets_at.root_at h)
 in_if {b = b} {lo = lo} {q = q} r ih low short (Spelled.label {p = p} {first = first} {rest = rest} l h x) =
@@ -165,17 +165,17 @@ in_if {b = b} {lo = lo} {q = q} r ih low short (Spelled.label {p = p} {first = f
 in_if r ih low short (Spelled.pointer {p = p} {name = name} {x = x} e before h is) =
     let k = r.each name x e in
     let w = spelled_long (kept_spelled name x k) in
-    pointer low (omega arith) (octets_at.pointer_at x.place k.near h) (omega (arith, w.0)) (wider_in (omega arith) (ih name x e (omega arith)))
+    pointer low (omega arith) (octets_at.pointer_at x.offset k.near h) (omega (arith, w.0)) (wider_in (omega arith) (ih name x e (omega arith)))
 
 -- By induction on the end.
 in_below : {m : Memory} {b : List ℕ} {lo : ℕ} → Remembers b m → IsBehind m lo → (k q p : ℕ) (name : Labels) → q < k → lo ≤ p → name_size name ≤ max_size
     → Spelled m b q p name → StandsIn b lo q p name
 in_below r all zero q p name h low short s = absurd (omega arith)
 in_below r all (suc k) q p name h low short s =
-    in_if r (λ t x e less. let kept = r.each t x e in in_below r all k x.end x.place t (omega arith) (all.each t x e) kept.short (kept_spelled t x kept)) low short s
+    in_if r (λ t x e less. let kept = r.each t x e in in_below r all k x.end x.offset t (omega arith) (all.each t x e) kept.short (kept_spelled t x kept)) low short s
 
 -- If all entries of the table are at or after an offset, their suffixes use no octet before it.
 pub stands_behind : StandsBehind
 stands_behind b m lo s x r all e =
     let kept = r.each s x e in
-    in_below r all (x.end + 1) x.end x.place s (omega arith) (all.each s x e) kept.short (kept_spelled s x kept)
+    in_below r all (x.end + 1) x.end x.offset s (omega arith) (all.each s x e) kept.short (kept_spelled s x kept)

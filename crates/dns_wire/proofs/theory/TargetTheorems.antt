@@ -26,7 +26,7 @@ pointed r (label l h x) = WellPointed.label (label_begins l h) (pointed r x)
 pointed {m = m} {b = b} r (pointer {name = name} {x = x} e before h is) =
     let k = r.each name x e in
     let w = spelled_long (kept_spelled name x k) in
-    WellPointed.pointer (pointer_at x.place k.near h) (omega (arith, w.0)) k.near (begins m b x.end x.place name k.spelled).1 is
+    WellPointed.pointer (pointer_at x.offset k.near h) (omega (arith, w.0)) k.near (begins m b x.end x.offset name k.spelled).1 is
 
 -- Suffixes in the table are encoded where it says.
 pub remembers_what_stands : RemembersWhatStands
@@ -38,7 +38,7 @@ remembers_what_stands b m s x r e =
       near = k.near;
       ordered = w.0;
       within = w.1;
-      labelled = begins m b x.end x.place s k.spelled;
+      labelled = begins m b x.end x.offset s k.spelled;
       stands = spelled_stands r k.short h;
       stands_within = stands_within x.end r (omega arith) k.short h;
     }
@@ -49,11 +49,11 @@ nothing_is_target b = nothing_is_kept b
 
 -- A growing encoding keeps all entries at or after an offset.
 pub pieces_stay_behind : PiecesStayBehind
-pieces_stay_behind piece t place grows l h = behind_more place l (grows.grows t.memory (length t.octets)) h
+pieces_stay_behind piece t offset grows l h = behind_more offset l (grows.grows t.memory (length t.octets)) h
 
 -- So does a name.
 pub names_stay_behind : NamesStayBehind
-names_stay_behind rule t name place l h = pieces_stay_behind _ t place (put_name_grows rule name) l h
+names_stay_behind rule t name offset l h = pieces_stay_behind _ t offset (put_name_grows rule name) l h
 
 -- A written name reads back.
 pub names_read_back : NamesReadBack
@@ -102,7 +102,7 @@ parts_point_to_labels rule t parts is good =
 pub spelled_near : {m : Memory} {b : List ℕ} {q p : ℕ} {name : Labels} → length b ≤ 16384 → Remembers b m → Spelled m b q p name → LabelsNear b q p
 spelled_near l r (root h e) = LabelsNear.root (root_at h) e
 spelled_near l r (label is h x) = let w = spelled_long x in LabelsNear.label (label_begins is h) (omega (arith, w)) (spelled_near l r x)
-spelled_near l r (pointer {name = name} {x = x} e before h is) = LabelsNear.pointer (pointer_at x.place (r.each name x e).near h) is
+spelled_near l r (pointer {name = name} {x = x} e before h is) = LabelsNear.pointer (pointer_at x.offset (r.each name x e).near h) is
 
 -- So are those of parts.
 pub short_parts_are_near : ShortPartsAreNear

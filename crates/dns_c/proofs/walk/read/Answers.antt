@@ -1,4 +1,4 @@
-use Rattle.dns_c.proofs.WalkLemmas.{positive, entry_of_question, entry_of_record, answered_within, placed_question, placed_record, question_form, record_form}
+use Rattle.dns_c.proofs.WalkLemmas.{positive, entry_of_question, entry_of_record, answered_within, question_at_offset, record_at_offset, question_form, record_form}
 use Rattle.dns_c.proofs.walk.read.Goals as goal
 
 pub returns-then-cursor-eq0 : goal.returns-then-cursor-eq0
@@ -7,7 +7,7 @@ returns-then-cursor-eq0 c =
     record {
       entry = entry;
       within = answered_within c.args.octets.now c.args.cursor.now c.read_question.result entry;
-      place = placed_question c.args.octets.now c.args.cursor.now c.read_question.result c.if-cursor-eq0.true c.read_question.ensures.answers c.read_question.ensures.spans;
+      place = question_at_offset c.args.octets.now c.args.cursor.now c.read_question.result c.if-cursor-eq0.true c.read_question.ensures.answers c.read_question.ensures.spans;
       form = question_form c.args.octets.now c.args.cursor.now.place c.read_question.result c.read_question.ensures.answers;
     }
 
@@ -18,6 +18,6 @@ returns-else-cursor-eq0 c =
     record {
       entry = entry;
       within = answered_within c.args.octets.now c.args.cursor.now c.read_record.result entry;
-      place = placed_record c.args.octets.now c.args.cursor.now c.read_record.result c.read_record.ensures.answers c.read_record.ensures.spans;
+      place = record_at_offset c.args.octets.now c.args.cursor.now c.read_record.result c.read_record.ensures.answers c.read_record.ensures.spans;
       form = record_form c.args.octets.now c.args.cursor.now.section c.args.cursor.now.place c.read_record.result c.read_record.ensures.answers;
     }

@@ -14,5 +14,5 @@ returns-in_err-compose_canonical_rdata g c =
 
 pub write_length-requires-clause-clear : goal.write_length-requires-clause-clear
 write_length-requires-clause-clear g c =
-    rw c.as_slice-place.ensures.octets
-    (clear_length (put_parts g.T.Composer.rule (canonical (g.D.RecordData.parts c.args.data.now))) _ _ _ (put_parts_grows _ _) c.as_slice-place.ensures.is_target c.in_ok-append_slice.ensures.ok c.in_ok-compose_canonical_rdata.ensures.ok)
+    rw c.as_slice-offset.ensures.octets
+    (clear_length (put_parts g.T.Composer.rule (canonical (g.D.RecordData.parts c.args.data.now))) _ _ _ (put_parts_grows _ _) c.as_slice-offset.ensures.is_target c.in_ok-append_slice.ensures.ok c.in_ok-compose_canonical_rdata.ensures.ok)

@@ -13,5 +13,5 @@ returns-in_err-compose_rdata-clause-composes g c =
 
 pub write_length-requires-clause-clear : goal.write_length-requires-clause-clear
 write_length-requires-clause-clear g c =
-    rw c.as_slice-place.ensures.octets
-    (clear_length (put_parts g.T.Composer.rule (g.D.RecordData.parts c.args.data.now)) _ _ _ (put_parts_grows _ _) c.as_slice-place.ensures.is_target c.in_ok-append_slice.ensures.ok c.in_ok-compose_rdata.ensures.composes.ok)
+    rw c.as_slice-offset.ensures.octets
+    (clear_length (put_parts g.T.Composer.rule (g.D.RecordData.parts c.args.data.now)) _ _ _ (put_parts_grows _ _) c.as_slice-offset.ensures.is_target c.in_ok-append_slice.ensures.ok c.in_ok-compose_rdata.ensures.composes.ok)

@@ -1,5 +1,5 @@
 use Rattle.std.proofs.Common.{◌≡◌, ℕ, ◌+◌, length, ◌∙◌, ap, subst, sym, arith}
-use Rattle.dns_name.specs.Parsers.{place}
+use Rattle.dns_name.specs.Parsers.{offset}
 use Rattle.dns_code.specs.HeaderCounts.{counts}
 use Rattle.dns_rows.specs.Fields.{item_count}
 use Rattle.dns_rows.specs.Shown.{counted_items, Begins}
@@ -34,15 +34,15 @@ returns-clause-shows c =
     record {
       others = others;
       stop = stop;
-      place = place walk.parser;
-      made = made_of c.push_rest.new.rows.items c.append.new.self.items c.in_ok-rows.rows.items others stop c.pos.result (place walk.parser) (length b)
+      offset = offset walk.parser;
+      made = made_of c.push_rest.new.rows.items c.append.new.self.items c.in_ok-rows.rows.items others stop c.pos.result (offset walk.parser) (length b)
           c.in_ok-push_rest.ensures c.in_ok-append.ensures.items c.in_ok-rows.ensures c.pos.ensures;
       fields = c.fault_of.ensures.comes.marked;
       within =
           let same = ap length (c.fault_of.ensures.comes.input ∙ c.new-walk.ensures.input) in
           omega (arith, same, walk.parser.before_end, walk.parser.within);
       items = subst P all c.in_ok-stop.ensures.begins;
-      parts = shows_octets b stop c.new-walk.result walk c.in_ok-stop.ensures.shows c.new-walk.ensures.seen c.new-walk.ensures.place c.new-walk.ensures.rows;
+      parts = shows_octets b stop c.new-walk.result walk c.in_ok-stop.ensures.shows c.new-walk.ensures.seen c.new-walk.ensures.offset c.new-walk.ensures.rows;
     }
 
 pub returns-clause-tiles : goal.returns-clause-tiles

@@ -6,7 +6,7 @@ use Rattle.dns_section.proofs.SkipLemmas.{skips_more, skips_stop}
 use Rattle.dns_section.proofs.question_section.skip_questions.Goals as goal
 
 pub loop-question-init : goal.loop-question-init
-loop-question-init c = (none, record { input = refl; seen = refl; place = refl })
+loop-question-init c = (none, record { input = refl; seen = refl; offset = refl })
 
 pub loop-question-preserved : goal.loop-question-preserved
 loop-question-preserved c =

@@ -6,7 +6,7 @@ use Rattle.dns_section.proofs.SkipLemmas.{skips_more, skips_stop}
 use Rattle.dns_section.proofs.record_section.skip_records.Goals as goal
 
 pub loop-record-init : goal.loop-record-init
-loop-record-init c = (none, record { input = refl; seen = refl; place = refl })
+loop-record-init c = (none, record { input = refl; seen = refl; offset = refl })
 
 pub loop-record-preserved : goal.loop-record-preserved
 loop-record-preserved c =

@@ -3,12 +3,12 @@ use Rattle.std.specs.Fmt.{styled_decimal}
 use Rattle.std.proofs.lemmas.Bool.Decides.{nat_tests}
 use Rattle.std.proofs.lemmas.List.{nil_from_length}
 use Rattle.dns_view.proofs.Appended.{appends_same}
-use Rattle.dns_view.proofs.TextLines.{none_done, one_done, last_done, parts_of, place_padded}
+use Rattle.dns_view.proofs.TextLines.{none_done, one_done, last_done, parts_of, offset_padded}
 use Rattle.dns_view.proofs.text.print_lines.Goals as goal
 
 pub loop-octets_left-init : goal.loop-octets_left-init
 loop-octets_left-init g c =
-    none_done _ _ _ _ (appends_same _ _ _ _ (ap (λ s. styled_decimal s c.args.start ++ 32 ∷ []) c.laid_out.ensures ∙ ap (λ (l : List ℕ). l ++ 32 ∷ []) (place_padded c.args.start)) c.in_ok-write.ensures.bytes)
+    none_done _ _ _ _ (appends_same _ _ _ _ (ap (λ s. styled_decimal s c.args.start ++ 32 ∷ []) c.laid_out.ensures ∙ ap (λ (l : List ℕ). l ++ 32 ∷ []) (offset_padded c.args.start)) c.in_ok-write.ensures.bytes)
 
 pub returns-then-is_empty-2 : goal.returns-then-is_empty-2
 returns-then-is_empty-2 g c =

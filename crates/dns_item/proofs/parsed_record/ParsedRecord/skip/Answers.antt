@@ -20,7 +20,7 @@ returns-in_err-rdlen c =
     let p = err_from_is_err_and c.from_residual-in_err-rdlen.result c.from_residual-in_err-rdlen.ensures.1 in
     let h = c.in_err-rdlen.ensures in
     let first = c.in_ok-advance.ensures in
-    let at = first.1.place in
+    let at = first.1.offset in
     rw (p.1, p.2) (without_fields _ _ _ _ c.in_ok-skip.ensures (omega (arith, h.0, at)) (ap length first.1.seen) h.1, refl)
 
 pub returns-in_err-advance-2 : goal.returns-in_err-advance-2

@@ -1,6 +1,6 @@
 use Rattle.std.proofs.Common.{refl}
 use Rattle.std.proofs.lemmas.Result.{err_from_is_err_and}
-use Rattle.dns_name.specs.Parsers.{place}
+use Rattle.dns_name.specs.Parsers.{offset}
 use Rattle.dns_item.proofs.RecordLemmas.{with_data, without_data, without_header}
 use Rattle.dns_item.proofs.record_header.RecordHeader+ParsedName.parse_and_skip.Goals as goal
 
@@ -19,4 +19,4 @@ pub returns : goal.returns
 returns c =
     let h = c.in_ok-advance.ensures in
     let r = with_data c.args.parser.now c.in_ok-header.behind c.advance.new.self c.in_ok-header.header _ c.in_ok-header.ensures.reads c.from.ensures h.0 h.1 in
-    ((place c.in_ok-header.behind, r.0), r.1)
+    ((offset c.in_ok-header.behind, r.0), r.1)

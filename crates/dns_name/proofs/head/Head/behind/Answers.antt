@@ -12,11 +12,11 @@ returns-in_err-head c =
 
 pub returns-then-size-taken-gt-MAX_SIZE : goal.returns-then-size-taken-gt-MAX_SIZE
 returns-then-size-taken-gt-MAX_SIZE c =
-    let h : head_at c.args.octets.now c.args.place ≡ Ok (Label c.in-Label.len) = cc c.in_ok-head.ensures.head in
+    let h : head_at c.args.octets.now c.args.offset ≡ Ok (Label c.in-Label.len) = cc c.in_ok-head.ensures.head in
     SkipFaulty.long h (omega arith)
 
 pub returns-then-taken-octets : goal.returns-then-taken-octets
 returns-then-taken-octets c =
-    let h : head_at c.args.octets.now c.args.place ≡ Ok (Label c.in-Label.len) = cc c.in_ok-head.ensures.head in
-    let w : c.args.place < length c.args.octets.now = c.in_ok-head.ensures.within in
+    let h : head_at c.args.octets.now c.args.offset ≡ Ok (Label c.in-Label.len) = cc c.in_ok-head.ensures.head in
+    let w : c.args.offset < length c.args.octets.now = c.in_ok-head.ensures.within in
     SkipFaulty.cut h (omega arith) (omega arith)

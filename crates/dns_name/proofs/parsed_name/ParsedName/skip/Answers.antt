@@ -32,5 +32,5 @@ returns c = (
     | in-Root w ↦ (passes_root _ _ _ _ _ c.walk.invariant (cc (c.in_ok-behind.ensures.there, w.in-Root.is)) w.end-is).0
     | in-Pointer w ↦ (passes_pointer _ _ _ _ w.in-Pointer._target _ c.walk.invariant (cc (c.in_ok-behind.ensures.there, w.in-Pointer.is)) w.end-is).0
   ],
-  record { input = refl; seen = refl; place = refl },
+  record { input = refl; seen = refl; offset = refl },
 )

@@ -1,5 +1,5 @@
 use Rattle.std.proofs.Common.{◌≡◌, ◌∙◌, sym, ap, arith, slice_get, Some}
-use Rattle.dns_name.specs.Parsers.{place}
+use Rattle.dns_name.specs.Parsers.{offset}
 use Rattle.dns_rows.specs.Fields.{field_row}
 use Rattle.dns_rows.specs.Walks.{at, octets}
 use Rattle.dns_rows.specs.declared.row.Field.TheVariants.{Root, Pointer}
@@ -10,7 +10,7 @@ use Rattle.dns_rows.proofs.walk.Walk.end_name.Goals as goal
 pub returns-in-Some-eq0-clause-passes : goal.returns-in-Some-eq0-clause-passes
 returns-in-Some-eq0-clause-passes c =
     let p = at c.args.self.now in
-    let q = place c.args.behind in
+    let q = offset c.args.behind in
     let zero_there : slice_get (octets c.args.self.now) p ≡ Some 0 = let zero_octet : c.in-Some-eq0.field-0 ≡ 0 = omega arith in c.first.ensures ∙ c.in-Some-eq0.is ∙ ap (λ n. Some n) zero_octet in
     let row = field_row p q (Root c.args.name c.args.start) in
     end_passed c.args.name c.args.start row c.args.self.now c.mark.new.self c.args.behind c.mark.result c.requires.seen c.mark.ensures.adds c.mark.ensures.moves
@@ -19,7 +19,7 @@ returns-in-Some-eq0-clause-passes c =
 pub returns-in_default-clause-passes : goal.returns-in_default-clause-passes
 returns-in_default-clause-passes c =
     let p = at c.args.self.now in
-    let q = place c.args.behind in
+    let q = offset c.args.behind in
     let row = field_row p q (Pointer c.args.name c.args.start) in
     let other : slice_get (octets c.args.self.now) p ≡ Some 0 → ⊥ = λ e. elim c.in_default.branch [
       | in_default-via-in-Some+in_default w ↦ w.in_default.field-0-test.1 (some_same _ 0 (sym w.in_default.ensures ∙ e))

@@ -36,7 +36,7 @@ returns-in_err-number-2-clause-stops c =
     let same_octets = ap length c.in_ok-number.ensures.adds.seen in
     on_fault_2 c.from_residual-in_err-number-2.result (LacksField fields.Class (octets typed) (at typed + 2)) (λ _. new ≡ typed) (MarksStop Question c.args.number old new)
     (λ fault h same. question_short c.args.number old mid new fault c.in_ok-item.ensures.passes
-    (class_cut mid typed new fault c.in_ok-number.ensures.adds h same) (omega (arith, h.1, same_octets, c.in_ok-number.ensures.adds.place))) (search rules) (search rules)
+    (class_cut mid typed new fault c.in_ok-number.ensures.adds h same) (omega (arith, h.1, same_octets, c.in_ok-number.ensures.adds.offset))) (search rules) (search rules)
 
 pub returns-clause-shows : goal.returns-clause-shows
 returns-clause-shows c =

@@ -42,4 +42,4 @@ returns-clause-shows c =
     let Q : ℕ → Type 0 = λ len. MarksWithin c.in_ok-rtype.rtype len None b new in
     marks_record c.args.part c.args.number c.in_ok-rtype.rtype c.in_ok-rtype.len c.args.self.now c.item.new.self b new c.requires.part
     c.in_ok-item.ensures.passes c.in_ok-rtype.ensures.passes (subst Q c.from.ensures c.in_ok-within.ensures.shows) c.in_ok-within.ensures.seen
-    (c.in_ok-within.ensures.place ∙ ap (λ n. at b + n) c.from.ensures) (subst P c.from.ensures c.in_ok-within.ensures.there)
+    (c.in_ok-within.ensures.offset ∙ ap (λ n. at b + n) c.from.ensures) (subst P c.from.ensures c.in_ok-within.ensures.there)

@@ -1,5 +1,5 @@
 use Rattle.std.proofs.Common.{◌≡◌, ◌+◌, ◌<◌, ◌≤◌, ◌∙◌, arith, length, refl, rules, Some, None, take}
-use Rattle.dns_name.specs.Parsers.{place}
+use Rattle.dns_name.specs.Parsers.{offset}
 use Rattle.dns_rows.specs.Data.{shape_of}
 use Rattle.dns_rows.specs.Walks.{at, octets, StopsData, StopsWithin}
 use Rattle.dns_rows.specs.Walks.StopsWithin.{missing, stopped}
@@ -15,9 +15,9 @@ returns-in_err-data-clause-stops c =
     let mid : Walk = record { parser = c.in-Ok.inner; rows = old.rows } in
     let there : at old + c.args.len ≤ length (octets old) = search rules in
     let seen : octets mid ≡ take (at old + c.args.len) (octets old) = search rules in
-    let placed : at mid ≡ at old = search rules in
+    let same_offset : at mid ≡ at old = search rules in
     on_fault c.from_residual.result (StopsData (shape_of c.args.rtype) mid new) (StopsWithin c.args.rtype c.args.len old new)
-    (λ fault h. stopped (Some fault) there (within_rows c.args.rtype c.args.len (Some fault) old mid new seen placed refl h) (λ e. absurd (cc e))) (search rules)
+    (λ fault h. stopped (Some fault) there (within_rows c.args.rtype c.args.len (Some fault) old mid new seen same_offset refl h) (λ e. absurd (cc e))) (search rules)
 
 pub returns-then-pos-clause-stops : goal.returns-then-pos-clause-stops
 returns-then-pos-clause-stops c =
@@ -26,11 +26,11 @@ returns-then-pos-clause-stops c =
     let mid : Walk = record { parser = c.in-Ok.inner; rows = old.rows } in
     let there : at old + c.args.len ≤ length (octets old) = search rules in
     let seen : octets mid ≡ take (at old + c.args.len) (octets old) = search rules in
-    let placed : at mid ≡ at old = search rules in
-    let to : place c.parse_parser.new.self ≡ at old + c.args.len = search rules in
+    let same_offset : at mid ≡ at old = search rules in
+    let to : offset c.parse_parser.new.self ≡ at old + c.args.len = search rules in
     let past = not_past old new c.args.len (c.in_ok-data.ensures.sees ∙ seen) there in
     let fewer : at new < at old + c.args.len = omega (arith, past, to) in
-    stopped None there (within_rows c.args.rtype c.args.len None old mid new seen placed refl c.in_ok-data.ensures.shows) (λ _. fewer)
+    stopped None there (within_rows c.args.rtype c.args.len None old mid new seen same_offset refl c.in_ok-data.ensures.shows) (λ _. fewer)
 
 pub returns-in_default-clause-stops : goal.returns-in_default-clause-stops
 returns-in_default-clause-stops c =

@@ -1,6 +1,6 @@
 use Rattle.std.proofs.Common.{◌∙◌, ◌∷◌, List, ℕ, ap, sym}
 use Rattle.std.specs.Prelude.{Ok}
-use Rattle.dns_name.specs.Parsers.{seen, place}
+use Rattle.dns_name.specs.Parsers.{seen, offset}
 use Rattle.dns_question.specs.Question.{parsed_question}
 use Rattle.dns_section.specs.QuestionSection.{octets_of, position, to_come}
 use Rattle.dns_section.specs.QuestionsFrom.{questions_from}
@@ -19,8 +19,8 @@ returns-in-Ok-clause-steps c =
     let old = c.args.self.now in
     let new = c.parse.new.parser in
     let reads = c.in-Ok.ensures in
-    gives_entry (questions_from_are_read (octets_of old)) (position old) (to_come old) _ c.in_ok-ok.ensures.value _ (place new) _ c.in_ok-left.ensures reads.0
-    ∙ ap (λ (b : List ℕ). Ok (parsed_question c.in-Ok.question) ∷ questions_from b c.in_ok-left.left (place new)) (sym reads.1.seen)
+    gives_entry (questions_from_are_read (octets_of old)) (position old) (to_come old) _ c.in_ok-ok.ensures.value _ (offset new) _ c.in_ok-left.ensures reads.0
+    ∙ ap (λ (b : List ℕ). Ok (parsed_question c.in-Ok.question) ∷ questions_from b c.in_ok-left.left (offset new)) (sym reads.1.seen)
 
 pub returns-in-Err-clause-steps : goal.returns-in-Err-clause-steps
 returns-in-Err-clause-steps c =

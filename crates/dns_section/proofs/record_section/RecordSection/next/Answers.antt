@@ -1,7 +1,7 @@
 use Rattle.std.proofs.Common.{◌≡◌, ◌∙◌, ◌∷◌, List, map, ℕ, ap, sym}
 use Rattle.std.specs.Prelude.{Result, Ok, Err}
 use Rattle.dns_name.specs.Names.{Fault}
-use Rattle.dns_name.specs.Parsers.{place}
+use Rattle.dns_name.specs.Parsers.{offset}
 use Rattle.dns_octets.specs.declared.error.ParseError.{ParseError}
 use Rattle.dns_item.specs.Items.{RecordEntry}
 use Rattle.dns_item.specs.ParsedRecord.{parsed_entry}
@@ -33,8 +33,8 @@ returns-in-Ok-clause-steps c =
     let reads = c.in-Ok.ensures.parses in
     let entry = parsed_entry c.in-Ok.record in
     left_in (octets_of old) (position old) (to_come old) _
-    (gives_entry (records_from_are_read (octets_of old)) (position old) (to_come old) _ c.in_ok-ok.ensures.value _ (place new) _ c.in_ok-left.ensures reads.0)
-    ∙ (λ i. Ok (record { octets = sym reads.2.seen i; entry = entry }) ∷ records_in (sym reads.1.seen i) c.in_ok-left.left (place new))
+    (gives_entry (records_from_are_read (octets_of old)) (position old) (to_come old) _ c.in_ok-ok.ensures.value _ (offset new) _ c.in_ok-left.ensures reads.0)
+    ∙ (λ i. Ok (record { octets = sym reads.2.seen i; entry = entry }) ∷ records_in (sym reads.1.seen i) c.in_ok-left.left (offset new))
 
 pub returns-in-Err-clause-steps : goal.returns-in-Err-clause-steps
 returns-in-Err-clause-steps c =

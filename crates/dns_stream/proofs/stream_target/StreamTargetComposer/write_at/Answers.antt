@@ -6,4 +6,4 @@ pub write_at-requires-clause-clear : goal.write_at-requires-clause-clear
 write_at-requires-clause-clear g c = clear_plain _ _ _ (g.met.T.Composer.plain_forgets c.self.invariant.plain _)
 
 pub returns : goal.returns
-returns g c = over _ _ _ c.args.octets.now c.args.place c.self.invariant.long c.write_at.ensures c.self.view_is
+returns g c = over _ _ _ c.args.octets.now c.args.offset c.self.invariant.long c.write_at.ensures c.self.view_is

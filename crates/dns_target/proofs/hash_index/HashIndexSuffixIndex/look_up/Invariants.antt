@@ -6,7 +6,7 @@ use Rattle.dns_target.proofs.hash_index.HashIndexSuffixIndex.look_up.Given as go
 abbrev pub invariant-loop-from : goal.invariant-loop-from
 invariant-loop-from l = record {
   within : l.from ≤ length l.labels;
-  path : RestIsName (memory_in l.content (spots_in l.self.suffixes.suffixes)) l.place (drop l.from l.labels);
+  path : RestIsName (memory_in l.content (spots_in l.self.suffixes.suffixes)) l.offset (drop l.from l.labels);
 }
 
 abbrev pub decreases-loop-from : goal.decreases-loop-from

@@ -8,9 +8,9 @@ abbrev pub invariant-loop-index : goal.invariant-loop-index
 invariant-loop-index l = record {
   within : l.index ≤ l.count;
   room : l.index ≤ l.self.suffixes.room;
-  held : spots_in l.self.suffixes.suffixes ≡ with_suffixes (spots_in l.fn.self.suffixes.suffixes) (drop l.index (first_suffixes l.count l.labels l.place)) (length l.content);
+  held : spots_in l.self.suffixes.suffixes ≡ with_suffixes (spots_in l.fn.self.suffixes.suffixes) (drop l.index (first_suffixes l.count l.labels l.offset)) (length l.content);
   keyed : AreKeyed l.content l.self.suffixes.suffixes;
-  found : IsRest l.content l.self.suffixes.suffixes l.found.place;
+  found : IsRest l.content l.self.suffixes.suffixes l.found.offset;
   last : IsRest l.content l.self.suffixes.suffixes l.rest;
   rest : 0 < l.count → RestIsName (memory_in l.content (spots_in l.self.suffixes.suffixes)) l.rest (drop l.index l.labels);
 }
