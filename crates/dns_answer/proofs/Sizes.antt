@@ -21,8 +21,8 @@ head_size : (s : State) → length (header_octets s.header) ≡ 4 → length (he
 head_size s four = length-append _ _ ∙ ap (λ n. n + 8) four
 
 -- the size of a message with these encodings after the header section
-abbrev behind : List Piece → ℕ
-behind ps = 12 + length (all_of ps nothing 12).octets
+abbrev after : List Piece → ℕ
+after ps = 12 + length (all_of ps nothing 12).octets
 
 -- the size of a message is that of the header section and of the encodings after it
 pub sized : (s : State) → length (header_octets s.header) ≡ 4 → size s ≡ 12 + length (all_of (pieces_of Plain s) nothing 12).octets
@@ -35,7 +35,7 @@ cut_within s four tc =
     let asked = map (put_question Plain) s.questions in
     let l = longer asked (map (put_record Plain) s.answers ++ (map (put_record Plain) s.authorities ++ map (put_record Plain) s.additionals)) nothing 12 in
     let a = sized s four in
-    let b : size (tc_rewound InAnswer s) ≡ behind asked = sized (tc_rewound InAnswer s) tc ∙ ap behind (append-nil asked) in
+    let b : size (tc_rewound InAnswer s) ≡ after asked = sized (tc_rewound InAnswer s) tc ∙ ap after (append-nil asked) in
     omega (arith, a, b, l)
 
 -- moving to the answer section writes no octets if nothing follows the questions
@@ -48,9 +48,9 @@ pub longer_questions : (s : State) (xs ys : List QuestionItem) → length (heade
 longer_questions s xs ys four =
     let put = put_question Plain in
     let l = longer (map put xs) (map put ys) nothing 12 in
-    let a : size (record (up_to InQuestion s) { questions = xs }) ≡ behind (map put xs) = sized (record (up_to InQuestion s) { questions = xs }) four ∙ ap behind (append-nil (map put xs)) in
-    let b : size (record (up_to InQuestion s) { questions = xs ++ ys }) ≡ behind (map put xs ++ map put ys) =
-    sized (record (up_to InQuestion s) { questions = xs ++ ys }) four ∙ ap behind (append-nil (map put (xs ++ ys)) ∙ map-append put xs ys) in
+    let a : size (record (up_to InQuestion s) { questions = xs }) ≡ after (map put xs) = sized (record (up_to InQuestion s) { questions = xs }) four ∙ ap after (append-nil (map put xs)) in
+    let b : size (record (up_to InQuestion s) { questions = xs ++ ys }) ≡ after (map put xs ++ map put ys) =
+    sized (record (up_to InQuestion s) { questions = xs ++ ys }) four ∙ ap after (append-nil (map put (xs ++ ys)) ∙ map-append put xs ys) in
     omega (arith, a, b, l)
 
 -- further answers don't shorten the message
@@ -60,14 +60,14 @@ longer_answers s xs ys four =
     let asked = map (put_question Plain) s.questions in
     let front = asked ++ map put (s.answers ++ xs) in
     let l = longer front (map put ys) nothing 12 in
-    let a : size (with_answers xs (up_to InAnswer s)) ≡ behind front =
-    sized (with_answers xs (up_to InAnswer s)) four ∙ ap (λ (ps : List Piece). behind (asked ++ ps)) (append-nil (map put (s.answers ++ xs))) in
+    let a : size (with_answers xs (up_to InAnswer s)) ≡ after front =
+    sized (with_answers xs (up_to InAnswer s)) four ∙ ap (λ (ps : List Piece). after (asked ++ ps)) (append-nil (map put (s.answers ++ xs))) in
     let e : map put (s.answers ++ (xs ++ ys)) ≡ map put (s.answers ++ xs) ++ map put ys =
     ap (map put) (sym (append_assoc s.answers xs ys)) ∙ map-append put (s.answers ++ xs) ys in
-    let b : size (with_answers (xs ++ ys) (up_to InAnswer s)) ≡ behind (front ++ map put ys) =
+    let b : size (with_answers (xs ++ ys) (up_to InAnswer s)) ≡ after (front ++ map put ys) =
     sized (with_answers (xs ++ ys) (up_to InAnswer s)) four
-    ∙ ap (λ (ps : List Piece). behind (asked ++ ps)) (append-nil (map put (s.answers ++ (xs ++ ys))) ∙ e)
-    ∙ ap behind (sym (append_assoc asked (map put (s.answers ++ xs)) (map put ys))) in
+    ∙ ap (λ (ps : List Piece). after (asked ++ ps)) (append-nil (map put (s.answers ++ (xs ++ ys))) ∙ e)
+    ∙ ap after (sym (append_assoc asked (map put (s.answers ++ xs)) (map put ys))) in
     omega (arith, a, b, l)
 
 -- an encoding has at least one octet, for any compression table and at any offset
@@ -107,10 +107,10 @@ pub items_within : (s : State) → length (header_octets s.header) ≡ 4 → 12 
 items_within s four =
     let questions = map (put_question Plain) s.questions in
     let answers = map (put_record Plain) s.answers in
-    let behind_them = map (put_record Plain) s.authorities ++ map (put_record Plain) s.additionals in
+    let after_them = map (put_record Plain) s.authorities ++ map (put_record Plain) s.additionals in
     let l = pieces_within (questions ++ answers) nothing 12 (every_both questions answers (every_question s.questions) (every_record s.answers)) in
-    let m = longer (questions ++ answers) behind_them nothing 12 in
-    let a = sized s four ∙ ap behind (sym (append_assoc questions answers behind_them)) in
+    let m = longer (questions ++ answers) after_them nothing 12 in
+    let a = sized s four ∙ ap after (sym (append_assoc questions answers after_them)) in
     let n = length-append questions answers in
     let q = length-map s.questions (put_question Plain) in
     let r = length-map s.answers (put_record Plain) in

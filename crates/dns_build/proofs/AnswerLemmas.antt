@@ -18,20 +18,20 @@ use Rattle.dns_build.specs.State.{State, InQuestion, with_question, with_questio
 use Rattle.dns_build.specs.declared.push_error.PushError.{PushError}
 
 -- an empty list has no element
-none_there : {X : Type 0} (before behind : List X) (x : X) → [] ≡ before ++ x ∷ behind → ⊥
-none_there [] behind x is = cc
-none_there (y ∷ before) behind x is = cc
+none_there : {X : Type 0} (before after : List X) (x : X) → [] ≡ before ++ x ∷ after → ⊥
+none_there [] after x is = cc
+none_there (y ∷ before) after x is = cc
 
 -- an element of a list with one more element is the last one, or is in the list
-at_end_or_before : {X : Type 0} (xs before behind : List X) (x y : X) → xs ++ x ∷ [] ≡ before ++ y ∷ behind
+at_end_or_before : {X : Type 0} (xs before after : List X) (x y : X) → xs ++ x ∷ [] ≡ before ++ y ∷ after
     → ((before ≡ xs) × (y ≡ x)) ⊎ ((less : List X) × (xs ≡ before ++ y ∷ less))
-at_end_or_before [] [] behind x y is = inl (refl, cc)
-at_end_or_before [] (z ∷ before) behind x y is = let rest : [] ≡ before ++ y ∷ behind = cc in absurd (none_there before behind y rest)
-at_end_or_before (w ∷ xs) [] behind x y is = let same : w ≡ y = cc in inr (xs, ap (λ z. z ∷ xs) same)
-at_end_or_before {X} (w ∷ xs) (z ∷ before) behind x y is =
+at_end_or_before [] [] after x y is = inl (refl, cc)
+at_end_or_before [] (z ∷ before) after x y is = let rest : [] ≡ before ++ y ∷ after = cc in absurd (none_there before after y rest)
+at_end_or_before (w ∷ xs) [] after x y is = let same : w ≡ y = cc in inr (xs, ap (λ z. z ∷ xs) same)
+at_end_or_before {X} (w ∷ xs) (z ∷ before) after x y is =
     let same : w ≡ z = cc in
-    let rest : xs ++ x ∷ [] ≡ before ++ y ∷ behind = cc in
-    by (at_end_or_before xs before behind x y rest) same
+    let rest : xs ++ x ∷ [] ≡ before ++ y ∷ after = cc in
+    by (at_end_or_before xs before after x y rest) same
   where
     by : ((before ≡ xs) × (y ≡ x)) ⊎ ((less : List X) × (xs ≡ before ++ y ∷ less)) → w ≡ z
         → ((z ∷ before ≡ w ∷ xs) × (y ≡ x)) ⊎ ((less : List X) × (w ∷ xs ≡ (z ∷ before) ++ y ∷ less))
@@ -41,12 +41,12 @@ at_end_or_before {X} (w ∷ xs) (z ∷ before) behind x y is =
 module _ (room : Option ℕ) (grows : Bool) (rule : Rule) (s : State) where
   -- an empty list of questions can be pushed
   pub none_accepted : AreAccepted room grows rule s []
-  none_accepted before x behind is = absurd (none_there before behind x is)
+  none_accepted before x after is = absurd (none_there before after x is)
 
   -- if one more question can be pushed, all of them can
   one_accepted : (xs : List QuestionItem) (x : QuestionItem) → AreAccepted room grows rule s xs → AnswersQuestion room grows rule x (with_questions xs s) (Ok tt)
       → AreAccepted room grows rule s (xs ++ x ∷ [])
-  one_accepted xs x accepted more before y behind is = by (at_end_or_before xs before behind x y is)
+  one_accepted xs x accepted more before y after is = by (at_end_or_before xs before after x y is)
     where
       by : ((before ≡ xs) × (y ≡ x)) ⊎ ((less : List QuestionItem) × (xs ≡ before ++ y ∷ less)) → AnswersQuestion room grows rule y (with_questions before s) (Ok tt)
       by (inl p) = subst (λ (q : QuestionItem × List QuestionItem). AnswersQuestion room grows rule q.0 (with_questions q.1 s) (Ok tt)) (λ i. (sym p.1 i, sym p.0 i)) more
@@ -75,15 +75,15 @@ module _ (room : Option ℕ) (grows : Bool) (rule : Rule) (s : State) where
       subst (λ (ys : List QuestionItem). AreAccepted room grows rule s ys × StandsFor InQuestion rule (with_questions ys s) now) all (p.accepted, p.stands)
 
   module _ (xs rest : List QuestionItem) (x : QuestionItem) (less : List QuestionItem) (is : rest ≡ x ∷ less) (old new : Built) where
-    behind : (p : Pushing xs rest old) → xs ≡ p.first ++ x ∷ less
-    behind p = p.all ∙ ap (λ (ys : List QuestionItem). p.first ++ ys) is
+    after : (p : Pushing xs rest old) → xs ≡ p.first ++ x ∷ less
+    after p = p.all ∙ ap (λ (ys : List QuestionItem). p.first ++ ys) is
 
     -- the next question is pushed
     pub takes-next : InEach InQuestion rule old (λ t. AnswersQuestion room grows rule x t (Ok tt)) → MovesState InQuestion InQuestion rule (with_question x) old new
         → Pushing xs rest old → Pushing xs less new
     takes-next fits moves p = record {
       first = p.first ++ x ∷ [];
-      all = behind p ∙ sym (append_assoc p.first (x ∷ []) less);
+      all = after p ∙ sym (append_assoc p.first (x ∷ []) less);
       accepted = one_accepted p.first x p.accepted (fits (with_questions p.first s) p.stands);
       stands =
           let same : with_question x (with_questions p.first s) ≡ with_questions (p.first ++ x ∷ []) s = λ i. record s { questions = append_assoc s.questions p.first (x ∷ []) i } in
@@ -94,7 +94,7 @@ module _ (room : Option ℕ) (grows : Bool) (rule : Rule) (s : State) where
     pub refuses-next : (e : PushError) → InEach InQuestion rule old (λ t. AnswersQuestion room grows rule x t (Err e)) → new ≡ old → Pushing xs rest old → Asks room grows rule s xs (Err e) new
     refuses-next e refused same p = (
       p.first,
-      record { accepted = p.accepted; next = x; others = less; all = behind p; refused = refused (with_questions p.first s) p.stands },
+      record { accepted = p.accepted; next = x; others = less; all = after p; refused = refused (with_questions p.first s) p.stands },
       subst (StandsFor InQuestion rule (with_questions p.first s)) (sym same) p.stands,
     )
 

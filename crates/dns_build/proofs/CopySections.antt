@@ -9,7 +9,7 @@ use Rattle.dns_item.specs.ParsedRecord.{StandingRecord}
 use Rattle.dns_item.specs.declared.parsed_record.ParsedRecord.{ParsedRecord}
 use Rattle.dns_section.specs.Reading.{StopsPassing}
 use Rattle.dns_section.specs.RecordSection.{octets_of, position, to_come, records_left, BeginsSection}
-use Rattle.dns_section.specs.Sections.{record_count, StartFault, StartsAt, section_behind}
+use Rattle.dns_section.specs.Sections.{record_count, StartFault, StartsAt, section_after}
 use Rattle.dns_section.specs.Skipping.{StopsInRest}
 use Rattle.dns_section.specs.declared.record_section.RecordSection.{RecordSection}
 use Rattle.dns_section.specs.declared.section.Section.{Section}
@@ -27,17 +27,17 @@ in_answer_already : (s : State) → s.stage ≡ InAnswer → s ≡ up_to InAnswe
 in_answer_already s here last = (λ i. record s { stage = here i }) ∙ ap (λ (t : State). record t { stage = InAnswer }) last
 
 -- the fault of a record that can't be skipped is why the next section has no start
-start_fault : (which next : Section) (b : List ℕ) (p : ℕ) (f : Fault) → section_behind which ≡ Some next → (StartsAt which b p) → StopsPassing (SkipsRecord b) (RecordSkipFaultAt b) (record_count which b) p f → StartFault next b f
-start_fault Answer next b p f behind start stops = let e : Authority ≡ next = cc in subst (λ k. StartFault k b f) e (inr (p, start, stops))
-start_fault Authority next b p f behind start stops = let e : Additional ≡ next = cc in subst (λ k. StartFault k b f) e (inr (p, start, stops))
-start_fault Additional next b p f behind start stops = absurd (cc)
+start_fault : (which next : Section) (b : List ℕ) (p : ℕ) (f : Fault) → section_after which ≡ Some next → (StartsAt which b p) → StopsPassing (SkipsRecord b) (RecordSkipFaultAt b) (record_count which b) p f → StartFault next b f
+start_fault Answer next b p f after start stops = let e : Authority ≡ next = cc in subst (λ k. StartFault k b f) e (inr (p, start, stops))
+start_fault Authority next b p f after start stops = let e : Additional ≡ next = cc in subst (λ k. StartFault k b f) e (inr (p, start, stops))
+start_fault Additional next b p f after start stops = absurd (cc)
 
-pub next_fault : (which next : Section) (b : List ℕ) (cursor : RecordSection) (e : ParseError) → section_behind which ≡ Some next → BeginsSection which b cursor
+pub next_fault : (which next : Section) (b : List ℕ) (cursor : RecordSection) (e : ParseError) → section_after which ≡ Some next → BeginsSection which b cursor
     → StopsInRest (SkipsRecord (octets_of cursor)) (RecordSkipFaultAt (octets_of cursor)) (to_come cursor) (position cursor) e → StartFault next b (fault_of e)
-next_fault which next b cursor e behind begins stops =
+next_fault which next b cursor e after begins stops =
     let counted = subst (λ (left : Result ℕ ParseError). StopsInRest (SkipsRecord (octets_of cursor)) (RecordSkipFaultAt (octets_of cursor)) left (position cursor) e) begins.fresh.count stops in
     let there = subst (λ (o : List ℕ). StopsInRest (SkipsRecord o) (RecordSkipFaultAt o) (Ok (record_count which b)) (position cursor) e) begins.fresh.octets counted in
-    start_fault which next b (position cursor) (fault_of e) behind begins.start there
+    start_fault which next b (position cursor) (fault_of e) after begins.start there
 
 module _ {F R : Type 0} (call : F → ParsedRecord → Option R → F → Type 0) (item : R → RecordItem) (room : Option ℕ) (grows : Bool) (rule : Rule) (b : List ℕ) where
   -- some sections are copied, `which` and `sections` remain, and the builder has moved to `which`

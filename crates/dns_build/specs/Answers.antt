@@ -50,11 +50,11 @@ IsFailure rule s b = IsAnswer rule (with_header (with_rcode 2 s.header) s) b
 module _ (room : Option ℕ) (grows : Bool) (rule : Rule) (s : State) where
   -- each of these questions can be pushed after those before it
   abbrev pub AreAccepted : List QuestionItem → Type 0
-  AreAccepted xs = (before : List QuestionItem) (x : QuestionItem) (behind : List QuestionItem) → xs ≡ before ++ x ∷ behind
+  AreAccepted xs = (before : List QuestionItem) (x : QuestionItem) (after : List QuestionItem) → xs ≡ before ++ x ∷ after
       → AnswersQuestion room grows rule x (with_questions before s) (Ok tt)
 
   -- the questions `first` can be pushed, and pushing the next one fails
-  pub record RefusesBehind (xs first : List QuestionItem) (e : PushError) : Type 0 where
+  pub record RefusesAfter (xs first : List QuestionItem) (e : PushError) : Type 0 where
     pub accepted : AreAccepted first
     pub next : QuestionItem
     pub others : List QuestionItem
@@ -64,17 +64,17 @@ module _ (room : Option ℕ) (grows : Bool) (rule : Rule) (s : State) where
   -- a question builder with all questions, or with those before the one that fails
   abbrev pub Asks : List QuestionItem → Result (Unit {0}) PushError → Built → Type 0
   Asks xs (Ok _) b = AreAccepted xs × StandsFor InQuestion rule (with_questions xs s) b
-  Asks xs (Err e) b = (first : List QuestionItem) × RefusesBehind xs first e × StandsFor InQuestion rule (with_questions first s) b
+  Asks xs (Err e) b = (first : List QuestionItem) × RefusesAfter xs first e × StandsFor InQuestion rule (with_questions first s) b
 
   -- an answer builder with all questions, or the error of the one that fails
   abbrev pub GivesAnswer : List QuestionItem → Result Built PushError → Type 0
   GivesAnswer xs (Ok b) = AreAccepted xs × IsAnswer rule (with_questions xs s) b
-  GivesAnswer xs (Err e) = (first : List QuestionItem) × RefusesBehind xs first e
+  GivesAnswer xs (Err e) = (first : List QuestionItem) × RefusesAfter xs first e
 
   -- `Ok` with an answer builder that has all questions, or `Err` with one that has those before the one that fails, and the rcode SERVFAIL
   abbrev pub GivesEither : List QuestionItem → Result Built Built → Type 0
   GivesEither xs (Ok b) = AreAccepted xs × IsAnswer rule (with_questions xs s) b
-  GivesEither xs (Err b) = (e : PushError) × (first : List QuestionItem) × RefusesBehind xs first e × IsFailure rule (with_questions first s) b
+  GivesEither xs (Err b) = (e : PushError) × (first : List QuestionItem) × RefusesAfter xs first e × IsFailure rule (with_questions first s) b
 
   -- an answer builder as in either case of `GivesEither`
   abbrev pub IsEither : List QuestionItem → Built → Type 0

@@ -4,7 +4,7 @@ use Rattle.std.specs.FinMap.{len}
 use Rattle.dns_name.specs.Names.{pointer_end}
 use Rattle.dns_wire.specs.Parts.{Part, Octets, CompressibleName, PartsNear, PartsPointed}
 use Rattle.dns_wire.specs.Spelling.{IsShortest, SharesAll}
-use Rattle.dns_wire.specs.Pieces.{Rule, IsBehind}
+use Rattle.dns_wire.specs.Pieces.{Rule, IsAtOrAfter}
 use Rattle.dns_wire.specs.Targets.{IsTarget}
 use Rattle.dns_code.specs.Header.{header_octets, fields}
 use Rattle.dns_code.specs.HeaderSection.{header_size}
@@ -98,7 +98,7 @@ FoldsReadBack = (rule : Rule) (s : State) → IsState s → ReadsBack s (fold ru
 
 -- each suffix in its compression table is encoded at its offset, after the header section
 abbrev pub FoldsRemember : Type 0
-FoldsRemember = (rule : Rule) (s : State) → IsState s → IsTarget (fold rule s) × IsBehind (fold rule s).memory header_size
+FoldsRemember = (rule : Rule) (s : State) → IsState s → IsTarget (fold rule s) × IsAtOrAfter (fold rule s).memory header_size
 
 -- setting TC changes no other field of a header
 abbrev pub TcIsSet : Type 0

@@ -21,7 +21,7 @@ HasNoOpt = All (λ x. x.rtype ≡ 41 → ⊥)
 
 -- A gathered OPT record that is the first of the additional section reads back: its fields, its options, and the 12-bit rcode, whose lower four bits are in the header.
 abbrev pub OptsReadBack : Type 0
-OptsReadBack = (g : Gathered) (s : State) (b : List ℕ) (before behind : List RecordItem) → s.additionals ≡ before ++ opt_record g ∷ behind → IsGathered g → HasNoOpt before → ReadsBack s b
+OptsReadBack = (g : Gathered) (s : State) (b : List ℕ) (before after : List RecordItem) → s.additionals ≡ before ++ opt_record g ∷ after → IsGathered g → HasNoOpt before → ReadsBack s b
     → (opt_of b ≡ Some (said g)) × (opt_rcode_of b ≡ g.fields.ext * 16 + (fields s.header).rcode)
 
 -- setting the rcode changes no other field of a header

@@ -21,7 +21,7 @@ fn assert_prefix<T: Composer>(rt: &impl Abort, row: &str, target: &StreamTarget<
 }
 
 /// Makes the calls of a row. Fails unless this length precedes the message then.
-fn run_behind<T: Composer>(
+fn run_after<T: Composer>(
     rt: &impl Abort,
     alloc: Global,
     builder: MessageBuilder<StreamTarget<T>>,
@@ -47,7 +47,7 @@ static FULL_ARRAY: Row = Row {
 fn fills_an_array(rt: HostRuntime) {
     let target = StreamTarget::new(ArrayVec::<u8, 20>::new()).expect(&rt, "room");
     let builder = MessageBuilder::from_target(target).expect(&rt, "room");
-    run_behind(&rt, rt.alloc(), builder, &FULL_ARRAY, b"\x00\x11");
+    run_after(&rt, rt.alloc(), builder, &FULL_ARRAY, b"\x00\x11");
 }
 
 /// A record with which the message would have more than 65,535 octets.
@@ -74,10 +74,10 @@ fn fills_a_message(rt: HostRuntime) {
     let alloc = rt.alloc();
     for (row, prefix) in [(&TOO_LONG, b"\x00\x0C"), (&FULL, b"\xFF\xFF")] {
         let builder = MessageBuilder::new_stream_vec(alloc).expect(&rt, "memory");
-        run_behind(&rt, alloc, builder, row, prefix);
+        run_after(&rt, alloc, builder, row, prefix);
         let target = StreamTarget::new_vec(alloc).expect(&rt, "memory");
         let builder = MessageBuilder::from_target(target).expect(&rt, "memory");
-        run_behind(&rt, alloc, builder, row, prefix);
+        run_after(&rt, alloc, builder, row, prefix);
     }
 }
 
@@ -115,7 +115,7 @@ fn assert_message<T: Composer>(rt: &impl Abort, target: &StreamTarget<T>) {
 }
 
 #[test]
-fn compresses_behind_the_length(rt: HostRuntime) {
+fn compresses_after_the_length(rt: HostRuntime) {
     let target = StreamTarget::new_vec(rt.alloc()).expect(&rt, "memory");
     let target = StaticCompressor::new(target);
     let builder = MessageBuilder::from_target(target).expect(&rt, "memory");

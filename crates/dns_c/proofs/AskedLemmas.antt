@@ -11,7 +11,7 @@ use Rattle.dns_c.specs.declared.code.Fault.TheVariants as faults
 module _ (b : List ℕ) where
   -- there is at most one such question
   same_asked : (x y : QuestionItem) → AsksOne b x → AsksOne b y → x ≡ y
-  same_asked x y h k = ((question_or_fault b).one header_size h.behind k.behind x y h.reads k.reads).1
+  same_asked x y h k = ((question_or_fault b).one header_size h.after k.after x y h.reads k.reads).1
 
   module _ (long : header_size ≤ length b) (is : (fields_in (take 4 b)).qr ≡ true) where
     pub response_told : (n : ℕ) → AsksNothing b n → n ≡ number_of faults.IsResponse
@@ -46,7 +46,7 @@ module _ (b : List ℕ) where
       class_told n (inr (inl h)) = let is = h.1 in let not = asks.standard.query.query in absurd (cc)
       class_told n (inr (inr (inl h))) = absurd (h.1 asks.standard.opcode)
       class_told n (inr (inr (inr (inl h)))) = absurd (h.1 asks.one)
-      class_told n (inr (inr (inr (inr (inl h))))) = absurd ((question_or_fault b).not_both header_size asks.behind x h.2.0 asks.reads h.2.1)
+      class_told n (inr (inr (inr (inr (inl h))))) = absurd ((question_or_fault b).not_both header_size asks.after x h.2.0 asks.reads h.2.1)
       class_told n (inr (inr (inr (inr (inr (inl h)))))) = h.1
       class_told n (inr (inr (inr (inr (inr (inr h)))))) = absurd (other (ap (λ (z : QuestionItem). z.class) (same_asked x h.0.0 asks h.0.1) ∙ h.0.2))
 
@@ -59,7 +59,7 @@ module _ (b : List ℕ) where
       type_told n (inr (inl h)) = let is = h.1 in let not = asks.standard.query.query in absurd (cc)
       type_told n (inr (inr (inl h))) = absurd (h.1 asks.standard.opcode)
       type_told n (inr (inr (inr (inl h)))) = absurd (h.1 asks.one)
-      type_told n (inr (inr (inr (inr (inl h))))) = absurd ((question_or_fault b).not_both header_size asks.behind x h.2.0 asks.reads h.2.1)
+      type_told n (inr (inr (inr (inr (inl h))))) = absurd ((question_or_fault b).not_both header_size asks.after x h.2.0 asks.reads h.2.1)
       type_told n (inr (inr (inr (inr (inr (inl h)))))) = absurd (h.0.2 (ap (λ (z : QuestionItem). z.class) (sym (same_asked x h.0.0 asks h.0.1)) ∙ internet))
       type_told n (inr (inr (inr (inr (inr (inr h)))))) = h.1
 

@@ -76,10 +76,10 @@ pub zone_text : (mname rname : Labels) (zone : Soa ParsedName) → NumbersFit zo
     → absolute_name mname ++ codes " " ++ absolute_name rname ++ codes " " ++ decimal (serial_of zone) ++ codes " " ++ decimal (refresh_of zone) ++ codes " " ++ decimal (retry_of zone) ++ codes " " ++ decimal (expire_of zone) ++ codes " " ++ decimal (minimum_of zone)
     ≡ name_text mname ++ codes ". " ++ name_text rname ++ codes ". " ++ zone_numbers_text (number_octets zone)
 zone_text mname rname zone fit =
-    let behind : List ℕ → List ℕ = λ numbers. name_text mname ++ codes ". " ++ name_text rname ++ codes ". " ++ numbers in
+    let after : List ℕ → List ℕ = λ numbers. name_text mname ++ codes ". " ++ name_text rname ++ codes ". " ++ numbers in
     let spaced : absolute_name mname ++ codes " " ++ absolute_name rname ++ codes " " ++ decimal (serial_of zone) ++ codes " " ++ decimal (refresh_of zone) ++ codes " " ++ decimal (retry_of zone) ++ codes " " ++ decimal (expire_of zone) ++ codes " " ++ decimal (minimum_of zone)
-    ≡ behind (numbers_text zone) = simp append_assoc in
-    spaced ∙ ap behind (sym (zone_numbers zone fit))
+    ≡ after (numbers_text zone) = simp append_assoc in
+    spaced ∙ ap after (sym (zone_numbers zone fit))
 
 -- the text of opaque octets, as it is written
 pub opaque_none : (octets : List ℕ) → octets ≡ [] → codes "\\# " ++ decimal (length octets) ≡ opaque_text octets

@@ -7,11 +7,11 @@ use Rattle.std.proofs.lemmas.Option.{slice_get-get_or, slice_get_past}
 use Rattle.std.specs.Prelude.{Option, Some, None, Ok, Err, slice_get}
 use Rattle.dns_name.specs.Names.{Fault as FaultThere, FaultAt, Faulty, head_at, head_of, max_size}
 use Rattle.dns_name.specs.Names.Fault.{ShortInput, Form}
-use Rattle.dns_name.specs.Names.Faulty.{head as no_head, long as long_label, cut as cut_label, ahead as ahead_pointer, label as behind_label, pointer as behind_pointer}
+use Rattle.dns_name.specs.Names.Faulty.{head as no_head, long as long_label, cut as cut_label, ahead as ahead_pointer, label as after_label, pointer as after_pointer}
 use Rattle.dns_name.specs.declared.head.Head.TheVariants.{Root, Label, Pointer}
 use Rattle.dns_name.proofs.theory.HeadLemmas.{label_begins, root_begins}
-use Rattle.dns_question.specs.BehindNames.{FieldsFaultAt}
-use Rattle.dns_question.specs.BehindNames.FieldsFaultAt.{name as in_name, short as behind_name}
+use Rattle.dns_question.specs.AfterNames.{FieldsFaultAt}
+use Rattle.dns_question.specs.AfterNames.FieldsFaultAt.{name as in_name, short as after_name}
 use Rattle.dns_c.specs.Codes.{number_of}
 use Rattle.dns_c.specs.NameFaults.{LeadsOn, Misformed, TellsAt}
 use Rattle.dns_c.specs.NameFaults.Misformed.{bits, long, ahead, label, pointer}
@@ -54,34 +54,34 @@ module _ (b : List ℕ) (p : ℕ) where
     root_faultless f is (long_label h past) = cc
     root_faultless f is (cut_label h fits past) = cc
     root_faultless f is (ahead_pointer h back) = cc
-    root_faultless f is (behind_label h fits there rest) = cc
-    root_faultless f is (behind_pointer h back rest) = cc
+    root_faultless f is (after_label h fits there rest) = cc
+    root_faultless f is (after_pointer h back rest) = cc
 
     short_other : (f : FaultThere) → head_at b p ≡ Err ShortInput → f ≡ Form → Faulty b p s f → ⊥
     short_other f is form (no_head h) = cc
     short_other f is form (long_label h past) = cc
     short_other f is form (cut_label h fits past) = cc
     short_other f is form (ahead_pointer h back) = cc
-    short_other f is form (behind_label h fits there rest) = cc
-    short_other f is form (behind_pointer h back rest) = cc
+    short_other f is form (after_label h fits there rest) = cc
+    short_other f is form (after_pointer h back rest) = cc
 
     label_on : (n : ℕ) (f : FaultThere) → head_at b p ≡ Ok (Label n) → s + n + 1 ≤ max_size → f ≡ Form → Faulty b p s f → (p + 1 + n ≤ length b) × Faulty b (p + 1 + n) (s + n + 1) Form
     label_on n f is room form (no_head h) = absurd (cc)
     label_on n f is room form (long_label {n = m} h past) = let same : m ≡ n = cc in absurd (omega arith)
     label_on n f is room form (cut_label h fits past) = absurd (cc)
     label_on n f is room form (ahead_pointer h back) = absurd (cc)
-    label_on n f is room form (behind_label {n = m} h fits there rest) =
+    label_on n f is room form (after_label {n = m} h fits there rest) =
         let same : m ≡ n = cc in
         (omega arith, subst (λ (g : FaultThere). Faulty b (p + 1 + n) (s + n + 1) g) form (subst (λ (k : ℕ). Faulty b (p + 1 + k) (s + k + 1) f) same rest))
-    label_on n f is room form (behind_pointer h back rest) = absurd (cc)
+    label_on n f is room form (after_pointer h back rest) = absurd (cc)
 
     pointer_on : (t : ℕ) (f : FaultThere) → head_at b p ≡ Ok (Pointer t) → t < p → f ≡ Form → Faulty b p s f → Faulty b t s Form
     pointer_on t f is back form (no_head h) = absurd (cc)
     pointer_on t f is back form (long_label h past) = absurd (cc)
     pointer_on t f is back form (cut_label h fits past) = absurd (cc)
     pointer_on t f is back form (ahead_pointer {t = u} h forth) = let same : u ≡ t = cc in absurd (omega arith)
-    pointer_on t f is back form (behind_label h fits there rest) = absurd (cc)
-    pointer_on t f is back form (behind_pointer {t = u} h before rest) =
+    pointer_on t f is back form (after_label h fits there rest) = absurd (cc)
+    pointer_on t f is back form (after_pointer {t = u} h before rest) =
         let same : u ≡ t = cc in
         subst (λ (g : FaultThere). Faulty b t s g) form (subst (λ (k : ℕ). Faulty b k s f) same rest)
 
@@ -123,9 +123,9 @@ module _ (b : List ℕ) (p : ℕ) where
         pub cut_there : (fault : Fault) → length b ≤ p + 1 → Faulty b p s Form → Misformed b p s fault
         cut_there fault past h = absurd (short_other Form (cut_begins x first high (slice_get_past b (p + 1) past)) refl h)
 
-        module _ (t : ℕ) (behind : p + 1 < length b) (leads : t ≡ (x - 192) * 256 + get_or b (p + 1) 0) where
+        module _ (t : ℕ) (after : p + 1 < length b) (leads : t ≡ (x - 192) * 256 + get_or b (p + 1) 0) where
           pointed : head_at b p ≡ Ok (Pointer t)
-          pointed = rw leads (pointer_begins x (get_or b (p + 1) 0) first high (slice_get-get_or b (p + 1) 0 behind))
+          pointed = rw leads (pointer_begins x (get_or b (p + 1) 0) first high (slice_get-get_or b (p + 1) 0 after))
 
           pub leads_ahead : p ≤ t → Misformed b p s faults.BadPointer
           leads_ahead past = ahead pointed past
@@ -166,4 +166,4 @@ tells_form b p fault h = record { kind = misformed_number h; form = λ is. (faul
 -- what begins with a name is malformed only if the name is
 pub form_in_name : (b : List ℕ) (Lacks : ℕ → Type 0) (p : ℕ) (f : FaultThere) → FieldsFaultAt b Lacks p f → f ≡ Form → FaultAt b p Form
 form_in_name b Lacks p f (in_name h) is = subst (FaultAt b p) is h
-form_in_name b Lacks p f (behind_name stands walked lacks) is = absurd (cc)
+form_in_name b Lacks p f (after_name stands walked lacks) is = absurd (cc)

@@ -25,8 +25,8 @@ too_long old text more start past h =
     omega arith
 
 -- what is appended is written after the text
-pub written : (old new text more : List ℕ) (start behind : ℕ) → behind ≤ length new → take behind new ≡ take start old ++ more → Holds old text (Some start) → Holds new (text ++ more) (Some behind)
-written old new text more start behind within is h = (within, is ∙ ap (λ (t : List ℕ). t ++ more) h.1)
+pub written : (old new text more : List ℕ) (start after : ℕ) → after ≤ length new → take after new ≡ take start old ++ more → Holds old text (Some start) → Holds new (text ++ more) (Some after)
+written old new text more start after within is h = (within, is ∙ ap (λ (t : List ℕ). t ++ more) h.1)
 
 -- the text of a name label by label, with a dot after each; the root label is skipped
 abbrev pub dotted : Labels → List ℕ
@@ -46,14 +46,14 @@ name_dotted [] some h = absurd (some refl)
 name_dotted (label ∷ name) some h = all_dotted label name h
 
 -- a label and a dot are written
-pub one_dotted : (text label : List ℕ) (behind : Labels) (whole : List ℕ) → (label ≡ [] → ⊥) → text ++ dotted (label ∷ behind) ≡ whole → ((text ++ label_text label) ++ dot ∷ []) ++ dotted behind ≡ whole
-one_dotted text [] behind whole some e = absurd (some refl)
-one_dotted text (o ∷ label) behind whole some e = simp append_assoc (simp append_assoc at e)
+pub one_dotted : (text label : List ℕ) (after : Labels) (whole : List ℕ) → (label ≡ [] → ⊥) → text ++ dotted (label ∷ after) ≡ whole → ((text ++ label_text label) ++ dot ∷ []) ++ dotted after ≡ whole
+one_dotted text [] after whole some e = absurd (some refl)
+one_dotted text (o ∷ label) after whole some e = simp append_assoc (simp append_assoc at e)
 
 -- the root label is skipped
-pub root_passed : (text label : List ℕ) (behind : Labels) (whole : List ℕ) → label ≡ [] → text ++ dotted (label ∷ behind) ≡ whole → text ++ dotted behind ≡ whole
-root_passed text [] behind whole none e = e
-root_passed text (o ∷ label) behind whole none e = absurd (cc)
+pub root_passed : (text label : List ℕ) (after : Labels) (whole : List ℕ) → label ≡ [] → text ++ dotted (label ∷ after) ≡ whole → text ++ dotted after ≡ whole
+root_passed text [] after whole none e = e
+root_passed text (o ∷ label) after whole none e = absurd (cc)
 
 -- how an octet of a label is printed
 pub special_text : (o : ℕ) → (o ≡ 46) ⊎ ((o ≡ 46 → ⊥) × (o ≡ 92)) → 92 ∷ o ∷ [] ≡ octet_text o

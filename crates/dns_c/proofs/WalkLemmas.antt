@@ -14,7 +14,7 @@ use Rattle.dns_item.specs.Items.{SkipsRecord, RecordEntry, ReadsRecord, RecordFa
 use Rattle.dns_section.specs.Reading.{Passed, StopsPassing, Reading}
 use Rattle.dns_section.specs.Reading.Reading.{none as no_entry, entry, stop}
 use Rattle.dns_section.specs.Reading.Passed.{none, more}
-use Rattle.dns_section.specs.Reading.StopsPassing.{behind}
+use Rattle.dns_section.specs.Reading.StopsPassing.{after}
 use Rattle.dns_section.specs.QuestionsFrom.{questions_from}
 use Rattle.dns_section.specs.RecordsFrom.{records_from, in_octets, records_in}
 use Rattle.dns_section.specs.Sections.{question_count, answer_count, authority_count, additional_count}
@@ -24,19 +24,19 @@ use Rattle.dns_section.proofs.theory.QuestionsFromLemmas.{questions_from_are_rea
 use Rattle.dns_section.proofs.theory.RecordsFromLemmas.{records_from_are_read}
 use Rattle.dns_section.proofs.theory.StartLemmas.{questions_pass_or_stop}
 use Rattle.dns_item.specs.ParsedRecord.{StandingRecord}
-use Rattle.dns_section.specs.Sections.{section_behind, record_count, StartsAt, AnswersStart, AnswersFault}
+use Rattle.dns_section.specs.Sections.{section_after, record_count, StartsAt, AnswersStart, AnswersFault}
 use Rattle.dns_read.specs.MessageIter.{records_end, HasNoFault}
 use Rattle.dns_read.specs.Searches.{questions_of}
 use Rattle.dns_read.specs.SectionStarts.{found, records_of}
-use Rattle.dns_section.proofs.theory.SectionLemmas.{starts_behind}
+use Rattle.dns_section.proofs.theory.SectionLemmas.{starts_after}
 use Rattle.dns_read.proofs.theory.SectionStartLemmas.{start_found, no_answers, no_authorities, no_additionals, no_reading}
-use Rattle.dns_question.specs.BehindNames.FieldsFaultAt.{name as in_name}
+use Rattle.dns_question.specs.AfterNames.FieldsFaultAt.{name as in_name}
 use Rattle.dns_c.proofs.NameFaultLemmas.{form_in_name}
 use Rattle.dns_c.specs.Steps.{left_from, IsHeader, IsOpen, Opens, AnswersQuestion, AnswersRecord, AnswersEntry, Spans, Tells}
 use Rattle.dns_c.specs.declared.walk.Cursor.{Cursor}
 use Rattle.dns_c.specs.declared.walk.Header.{Header}
 use Rattle.dns_c.specs.declared.walk.Item.{Item}
-use Rattle.dns_c.specs.Walk.{Entry, Asked, Stated, Given, walk_of, asked_then, stated_then, behind_section, records_left, questions_end, section_at, count_at, left_at}
+use Rattle.dns_c.specs.Walk.{Entry, Asked, Stated, Given, walk_of, asked_then, stated_then, after_section, records_left, questions_end, section_at, count_at, left_at}
 
 -- The offset after questions.
 
@@ -61,11 +61,11 @@ module _ (b : List ℕ) where
   end_by : (n p q : ℕ) → SkipsQuestion b p q → ((r : ℕ) × Passed (SkipsQuestion b) n q r) ⊎ ((f : Fault) × StopsPassing (SkipsQuestion b) (QuestionSkipFaultAt b) n q f)
       → questions_end b (suc n) p ≡ questions_end b n q
   end_by n p q skips (inl r) = end_passed (suc n) p r.0 (more skips r.1) ∙ sym (end_passed n q r.0 r.1)
-  end_by n p q skips (inr f) = end_stopped (suc n) p f.0 (behind skips f.1) ∙ sym (end_stopped n q f.0 f.1)
+  end_by n p q skips (inr f) = end_stopped (suc n) p f.0 (after skips f.1) ∙ sym (end_stopped n q f.0 f.1)
 
   -- after a question there is one less to skip
-  end_behind : (n p q : ℕ) → SkipsQuestion b p q → questions_end b (suc n) p ≡ questions_end b n q
-  end_behind n p q skips = end_by n p q skips ((questions_pass_or_stop b n).some q)
+  end_after : (n p q : ℕ) → SkipsQuestion b p q → questions_end b (suc n) p ≡ questions_end b n q
+  end_after n p q skips = end_by n p q skips ((questions_pass_or_stop b n).some q)
 
   -- what follows the questions
   abbrev follows : Option ℕ → List Given
@@ -77,7 +77,7 @@ module _ (b : List ℕ) where
   unfolding left_at
   question_first n p q x reads =
       ap (λ (xs : List (Result QuestionItem Fault)). asked_then xs (follows (questions_end b (suc n) p))) ((questions_from_are_read b).entry n p q x reads)
-      ∙ ap (λ (end : Option ℕ). asked_then (Ok x ∷ questions_from b n q) (follows end)) (end_behind n p q reads.skips)
+      ∙ ap (λ (end : Option ℕ). asked_then (Ok x ∷ questions_from b n q) (follows end)) (end_after n p q reads.skips)
 
   pub question_fault : (n p : ℕ) (f : Fault) → QuestionFaultAt b p f → left_at b 0 (suc n) p ≡ Err f ∷ []
   unfolding left_at
@@ -94,7 +94,7 @@ module _ (b : List ℕ) where
 
   -- what is still to come, by what is read of a section
   abbrev by_reading : Section → ℕ → List (Result RecordEntry Fault) → List Given
-  by_reading which p xs = let ys = map (in_octets b) xs in stated_then which ys (behind_section which b (records_end p ys))
+  by_reading which p xs = let ys = map (in_octets b) xs in stated_then which ys (after_section which b (records_end p ys))
 
   record_then : (which : Section) (n p q : ℕ) (x : RecordEntry) → ReadsRecord b p q x → records_left which b (suc n) p ≡ Ok (Stated which x) ∷ records_left which b n q
   unfolding records_in
@@ -106,7 +106,7 @@ module _ (b : List ℕ) where
   unfolding records_in
   fault_then which n p f fault = ap (by_reading which p) ((records_from_are_read b).stop n p f fault)
 
-  none_then : (which : Section) (p : ℕ) → records_left which b 0 p ≡ behind_section which b p
+  none_then : (which : Section) (p : ℕ) → records_left which b 0 p ≡ after_section which b p
   unfolding records_in
   none_then which p = ap (by_reading which p) ((records_from_are_read b).none p)
 
@@ -238,12 +238,12 @@ passed_all b (entry {n = n} {q = q} {xs = xs} reads rest) h =
 passed_all b (stop {f = f} fault) h = let refused = h.0 in absurd (cc)
 
 -- so the next section begins where the last of them ends
-next_start : (which next : Section) (b : List ℕ) (p : ℕ) → section_behind which ≡ Some next → StartsAt which b p
+next_start : (which next : Section) (b : List ℕ) (p : ℕ) → section_after which ≡ Some next → StartsAt which b p
     → let xs = records_in b (record_count which b) p in HasNoFault xs → StartsAt next b (records_end p xs)
 unfolding records_in
 next_start which next b p follows_it start faultless =
     let n = record_count which b in
-    starts_behind which next b p (records_end p (records_in b n p)) follows_it start (passed_all b ((records_from_are_read b).reading n p) faultless)
+    starts_after which next b p (records_end p (records_in b n p)) follows_it start (passed_all b ((records_from_are_read b).reading n p) faultless)
 
 -- what follows a reading matters only if it has no error
 ends_alike : (which : Section) (xs : List (Result StandingRecord Fault)) (us vs : List Given) → (HasNoFault xs → us ≡ vs) → stated_then which xs us ≡ stated_then which xs vs
@@ -283,15 +283,15 @@ module _ (b : List ℕ) where
       ∙ ap (λ ys. stated_then Answer ys authorities_of) (reading_at Answer p start)
 
   -- if the answer section has no start, no section has one
-  none_behind : (f : Fault) → AnswersFault b f → answers_of ≡ []
-  none_behind f fault =
+  none_after : (f : Fault) → AnswersFault b f → answers_of ≡ []
+  none_after f fault =
       ap (λ xs. stated_then Answer xs authorities_of) (no_reading Answer b (no_answers b f fault))
       ∙ ap (λ xs. stated_then Authority xs additionals_of) (no_reading Authority b (no_authorities b f (inl fault)))
       ∙ ap (λ xs. stated_then Additional xs []) (no_reading Additional b (no_additionals b f (inl (inl fault))))
 
   by_start : ((p : ℕ) × AnswersStart b p) ⊎ ((f : Fault) × AnswersFault b f) → follows b (questions_end b (question_count b) header_size) ≡ answers_of
   by_start (inl start) = ap (follows b) (end_passed b (question_count b) header_size start.0 start.1) ∙ from_answers start.0 start.1
-  by_start (inr fault) = ap (follows b) (end_stopped b (question_count b) header_size fault.0 fault.1) ∙ sym (none_behind fault.0 fault.1)
+  by_start (inr fault) = ap (follows b) (end_stopped b (question_count b) header_size fault.0 fault.1) ∙ sym (none_after fault.0 fault.1)
 
   -- before the first question, a cursor has all entries still to come
   pub begun : left_at b 0 (question_count b) header_size ≡ walk_of b

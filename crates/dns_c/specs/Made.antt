@@ -63,8 +63,8 @@ pub record HoldsStandardQuery (b : List ℕ) : Type 0 where
 pub record AsksOne (b : List ℕ) (x : QuestionItem) : Type 0 where
   pub standard : HoldsStandardQuery b
   pub one : question_count b ≡ 1
-  pub behind : ℕ
-  pub reads : ReadsQuestion b header_size behind x
+  pub after : ℕ
+  pub reads : ReadsQuestion b header_size after x
 
 -- the question asks for IPv4 addresses: class IN, and type A or ANY. RFC 1035 sections 3.2.2 to 3.2.4
 pub record Asks (b : List ℕ) (x : QuestionItem) : Type 0 where

@@ -26,17 +26,17 @@ pub data Entry : Type 0 where
 abbrev pub Given : Type 0
 Given = Result Entry Fault
 
--- the questions of a reading, followed by `behind`; an error ends the list
+-- the questions of a reading, followed by `after`; an error ends the list
 abbrev pub asked_then : List (Result QuestionItem Fault) → List Given → List Given
-asked_then [] behind = behind
-asked_then (Ok x ∷ xs) behind = Ok (Asked x) ∷ asked_then xs behind
-asked_then (Err f ∷ xs) behind = Err f ∷ []
+asked_then [] after = after
+asked_then (Ok x ∷ xs) after = Ok (Asked x) ∷ asked_then xs after
+asked_then (Err f ∷ xs) after = Err f ∷ []
 
--- the records of a section, followed by `behind`; an error ends the list
+-- the records of a section, followed by `after`; an error ends the list
 abbrev pub stated_then : Section → List (Result StandingRecord Fault) → List Given → List Given
-stated_then which [] behind = behind
-stated_then which (Ok x ∷ xs) behind = Ok (Stated which x.entry) ∷ stated_then which xs behind
-stated_then which (Err f ∷ xs) behind = Err f ∷ []
+stated_then which [] after = after
+stated_then which (Ok x ∷ xs) after = Ok (Stated which x.entry) ∷ stated_then which xs after
+stated_then which (Err f ∷ xs) after = Err f ∷ []
 
 -- what iterating over a message yields: its four sections in order; the first error ends it
 abbrev pub walk_of : List ℕ → List Given
@@ -46,19 +46,19 @@ walk_of b =
 
 -- What is still to come, by the section, the entries left in it, and the offset.
 
--- at most n records of a section from offset p on, followed by what `behind` yields where the last of them ends
+-- at most n records of a section from offset p on, followed by what `after` yields where the last of them ends
 abbrev pub records_then : Section → List ℕ → ℕ → (ℕ → List Given) → ℕ → List Given
-records_then which b n behind p = let xs = records_in b n p in stated_then which xs (behind (records_end p xs))
+records_then which b n after p = let xs = records_in b n p in stated_then which xs (after (records_end p xs))
 
 -- what the sections after a section yield, if the next one begins at an offset
-abbrev pub behind_section : Section → List ℕ → ℕ → List Given
-behind_section Answer b = records_then Authority b (authority_count b) (records_then Additional b (additional_count b) (λ _. []))
-behind_section Authority b = records_then Additional b (additional_count b) (λ _. [])
-behind_section Additional b = λ _. []
+abbrev pub after_section : Section → List ℕ → ℕ → List Given
+after_section Answer b = records_then Authority b (authority_count b) (records_then Additional b (additional_count b) (λ _. []))
+after_section Authority b = records_then Additional b (additional_count b) (λ _. [])
+after_section Additional b = λ _. []
 
 -- at most n records of a section from p on, and the sections after it
 abbrev pub records_left : Section → List ℕ → ℕ → ℕ → List Given
-records_left which b n = records_then which b n (behind_section which b)
+records_left which b n = records_then which b n (after_section which b)
 
 -- the offset after n questions, if they can be skipped
 unfoldable pub questions_end : List ℕ → ℕ → ℕ → Option ℕ

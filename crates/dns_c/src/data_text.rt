@@ -14,7 +14,7 @@ ghost use Rattle.dns_c.specs.Texts.{Holds, NoRecordAt, RecordAt, data_octets, da
 
 use crate::code::Fault;
 use crate::name_fault::fault_at;
-use crate::pieces::{End, START, put, put_behind, put_hex, put_name, put_number};
+use crate::pieces::{End, START, append_after, put, put_hex, put_name, put_number};
 use crate::walk::{Item, parser_at};
 use dns_data::{A, Cname, Ns, ParseRecordData, Soa};
 use dns_item::ParsedRecord;
@@ -55,9 +55,9 @@ fn put_address(data: &A, out: &mut [u8]) -> End
 {
     let [a, b, c, d] = data.octets();
     let end = put_number(u64::from(a), out, START);
-    let end = put_behind(b".", u64::from(b), out, end);
-    let end = put_behind(b".", u64::from(c), out, end);
-    put_behind(b".", u64::from(d), out, end)
+    let end = append_after(b".", u64::from(b), out, end);
+    let end = append_after(b".", u64::from(c), out, end);
+    append_after(b".", u64::from(d), out, end)
 }
 
 /// Writes the RDATA of SOA: two names and five numbers, separated by single spaces.
@@ -67,11 +67,11 @@ fn put_zone(data: &Soa<ParsedName<'_>>, out: &mut [u8]) -> End
     let end = put_name(data.mname(), out, START);
     let end = put(b" ", out, end);
     let end = put_name(data.rname(), out, end);
-    let end = put_behind(b" ", u64::from(data.serial()), out, end);
-    let end = put_behind(b" ", u64::from(data.refresh()), out, end);
-    let end = put_behind(b" ", u64::from(data.retry()), out, end);
-    let end = put_behind(b" ", u64::from(data.expire()), out, end);
-    put_behind(b" ", u64::from(data.minimum()), out, end)
+    let end = append_after(b" ", u64::from(data.serial()), out, end);
+    let end = append_after(b" ", u64::from(data.refresh()), out, end);
+    let end = append_after(b" ", u64::from(data.retry()), out, end);
+    let end = append_after(b" ", u64::from(data.expire()), out, end);
+    append_after(b" ", u64::from(data.minimum()), out, end)
 }
 
 /// Writes RDATA in the form of RFC 3597 section 5: `\#`, the length, and the octets in hexadecimal
@@ -80,7 +80,7 @@ fn put_opaque(octets: &[u8], out: &mut [u8]) -> End
     ensures { Holds out.new (opaque_text octets.now) result }
 {
     let end = put(b"\\#", out, START);
-    let end = put_behind(b" ", octets.len() as u64, out, end);
+    let end = append_after(b" ", octets.len() as u64, out, end);
     if octets.is_empty() {
         return end;
     }

@@ -12,7 +12,7 @@ use dns_wire::ParseError;
 const MAX_SIZE: usize = 254;
 
 /// The offset and size after the label at `pos`, for a name whose labels so far take `size` octets.
-fn behind_label(octets: &[u8], pos: usize, size: usize, len: u8) -> Result<(usize, usize), Fault>
+fn after_label(octets: &[u8], pos: usize, size: usize, len: u8) -> Result<(usize, usize), Fault>
     requires within { pos < length octets.now }
     requires at { len ≡ slice_index octets.now pos }
     requires some { 1 ≤ len }
@@ -34,12 +34,7 @@ fn behind_label(octets: &[u8], pos: usize, size: usize, len: u8) -> Result<(usiz
 
 /// The offset and size after the pointer at `pos`, for a name whose labels so far take `size`
 /// octets.
-fn behind_pointer(
-    octets: &[u8],
-    pos: usize,
-    size: usize,
-    first: u8,
-) -> Result<(usize, usize), Fault>
+fn after_pointer(octets: &[u8], pos: usize, size: usize, first: u8) -> Result<(usize, usize), Fault>
     requires within { pos < length octets.now }
     requires at { first ≡ slice_index octets.now pos }
     requires pointer { 192 ≤ first }
@@ -74,12 +69,12 @@ fn lead(octets: &[u8], pos: usize, size: usize) -> Result<(usize, usize), Fault>
         return Err(Fault::Form);
     }
     if first < 64 {
-        return behind_label(octets, pos, size, first);
+        return after_label(octets, pos, size, first);
     }
     if first < 192 {
         return Err(Fault::BadLabel);
     }
-    behind_pointer(octets, pos, size, first)
+    after_pointer(octets, pos, size, first)
 }
 
 /// How the name at offset `place` is malformed, if it is.

@@ -27,9 +27,9 @@ pub(crate) fn put(octets: &[u8], out: &mut [u8], end: End) -> End
     if start > out.len() || octets.len() > out.len() - start {
         return None;
     }
-    let behind = start + octets.len();
-    out[start..behind].copy_from_slice(octets);
-    Some(behind)
+    let after = start + octets.len();
+    out[start..after].copy_from_slice(octets);
+    Some(after)
 }
 
 /// Appends a number in decimal.
@@ -42,7 +42,7 @@ pub(crate) fn put_number(number: u64, out: &mut [u8], end: End) -> End
 }
 
 /// Appends a separator and a number in decimal.
-pub(crate) fn put_behind(separator: &[u8], number: u64, out: &mut [u8], end: End) -> End
+pub(crate) fn append_after(separator: &[u8], number: u64, out: &mut [u8], end: End) -> End
     ensures { (text : List ℕ) → Holds out.old text end
         → Holds out.new (text ++ separator.now ++ decimal number) result }
 {

@@ -234,9 +234,9 @@ pub(crate) fn next(octets: &[u8], cursor: &mut Cursor, item: &mut Item) -> Resul
         return Ok(false);
     }
     match read(octets, cursor) {
-        Ok((read, behind)) => {
+        Ok((read, after)) => {
             *item = read;
-            cursor.place = behind;
+            cursor.place = after;
             cursor.left -= 1;
             Ok(true)
         }

@@ -5,24 +5,24 @@ use Rattle.std.proofs.lemmas.List.Concat.{flat_map-append}
 use Rattle.dns_code.specs.Flags.{space, joined, name_if_set, names_shown}
 
 -- the separator that is printed after some names and before the next
-abbrev pub separator_behind : List (List ℕ) → List ℕ
-separator_behind [] = []
-separator_behind (x ∷ xs) = space ∷ []
+abbrev pub separator_after : List (List ℕ) → List ℕ
+separator_after [] = []
+separator_after (x ∷ xs) = space ∷ []
 
 -- joining one more name
-joined-push : (xs : List (List ℕ)) (x : List ℕ) → joined (xs ++ x ∷ []) ≡ joined xs ++ (separator_behind xs ++ x)
+joined-push : (xs : List (List ℕ)) (x : List ℕ) → joined (xs ++ x ∷ []) ≡ joined xs ++ (separator_after xs ++ x)
 joined-push [] x = refl
 joined-push (y ∷ []) x = refl
 joined-push (y ∷ z ∷ xs) x = ap (λ (t : List ℕ). y ++ (space ∷ t)) (joined-push (z ∷ xs) x) ∙ sym (append_assoc y (space ∷ joined (z ∷ xs)) (space ∷ x))
 
 -- the names with a separator and one more name printed after them
-pub joined_more : (xs : List (List ℕ)) (separator x : List ℕ) → separator ≡ separator_behind xs → joined xs ++ (separator ++ x) ≡ joined (xs ++ x ∷ [])
+pub joined_more : (xs : List (List ℕ)) (separator x : List ℕ) → separator ≡ separator_after xs → joined xs ++ (separator ++ x) ≡ joined (xs ++ x ∷ [])
 joined_more xs separator x e = ap (λ (s : List ℕ). joined xs ++ (s ++ x)) e ∙ sym (joined-push xs x)
 
 -- after a name the separator is a space
-pub separator_behind-push : (xs : List (List ℕ)) (x : List ℕ) → separator_behind (xs ++ x ∷ []) ≡ space ∷ []
-separator_behind-push [] x = refl
-separator_behind-push (y ∷ xs) x = refl
+pub separator_after-push : (xs : List (List ℕ)) (x : List ℕ) → separator_after (xs ++ x ∷ []) ≡ space ∷ []
+separator_after-push [] x = refl
+separator_after-push (y ∷ xs) x = refl
 
 -- one more flag, which is set
 pub names_shown-set : (names : List (Bool × Bor (List ℕ))) (i : ℕ) (d : Bool × Bor (List ℕ)) → i < length names → (get_or names i d).0 ≡ true

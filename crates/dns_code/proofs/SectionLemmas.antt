@@ -7,5 +7,5 @@ pub front : (n : ℕ) (b c : List ℕ) → length b ≡ n → take n (b ++ c) �
 front n b c h = grind (arith, common_steps)
 
 -- the second of two lists
-pub behind_front : (n : ℕ) (b c : List ℕ) → length b ≡ n → drop n (b ++ c) ≡ c
-behind_front n b c h = grind (arith, common_steps)
+pub after_front : (n : ℕ) (b c : List ℕ) → length b ≡ n → drop n (b ++ c) ≡ c
+after_front n b c h = grind (arith, common_steps)

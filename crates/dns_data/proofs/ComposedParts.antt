@@ -10,7 +10,7 @@ use Rattle.dns_wire.proofs.theory.PieceLaws.{appends_compose, composes_both, com
 use Rattle.dns_wire.proofs.theory.PutNames.{put_part_grows}
 use Rattle.dns_name.proofs.theory.LabelsLemmas.{length-uncompressed}
 use Rattle.dns_data.specs.RecordData.{IsData}
-use Rattle.dns_data.specs.Laws.{NoPartComposes, OnePartComposes, PartsComposeBehind, RefusedPartComposes, NamesAreBounded}
+use Rattle.dns_data.specs.Laws.{NoPartComposes, OnePartComposes, PartsComposeAfter, RefusedPartComposes, NamesAreBounded}
 
 -- appending no octets changes nothing
 lay-nothing : (t : Written) → t ≡ lay (put_octets []) t
@@ -23,9 +23,9 @@ no_part_composes room grows rule t fits =
     record { ok = lay-nothing t; err = tt; answer = subst (λ (u : Written). Fits room (length u.octets)) (lay-nothing t) fits }
 
 -- parts composed after an appended part compose all
-pub parts_compose_behind : PartsComposeBehind
+pub parts_compose_after : PartsComposeAfter
 unfolding put_parts
-parts_compose_behind room grows rule part parts t u v r is h =
+parts_compose_after room grows rule part parts t u v r is h =
     composes_both room grows (put_part rule part) (put_parts rule parts) t u v r (put_part_grows rule part) is h
 
 -- if the first part can't be appended, composing all parts fails
@@ -37,7 +37,7 @@ refused_part_composes room grows rule part parts t u r q e is out h =
 -- one append composes one part
 pub one_part_composes : OnePartComposes
 one_part_composes room grows rule part t u (Ok done) h =
-    parts_compose_behind room grows rule part [] t u u (Ok done) h.ok
+    parts_compose_after room grows rule part [] t u u (Ok done) h.ok
     (no_part_composes room grows rule u (subst (λ (w : Written). Fits room (length w.octets)) (sym h.ok) h.answer))
 one_part_composes room grows rule part t u (Err e) h = refused_part_composes room grows rule part [] t u (Err e) (Err e) e refl refl h
 

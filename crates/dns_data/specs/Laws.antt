@@ -18,8 +18,8 @@ OnePartComposes = (room : Option ℕ) (grows : Bool) (rule : Rule) (part : Part)
     → Appends room grows (put_part rule part) t u r → Composes room grows (put_parts rule (part ∷ [])) t u r
 
 -- after the first part is appended, composing the remaining parts composes all of them, whatever the result
-abbrev pub PartsComposeBehind : Type 0
-PartsComposeBehind = (room : Option ℕ) (grows : Bool) (rule : Rule) (part : Part) (parts : List Part) (t u v : Written) (r : Result Unit AppendError)
+abbrev pub PartsComposeAfter : Type 0
+PartsComposeAfter = (room : Option ℕ) (grows : Bool) (rule : Rule) (part : Part) (parts : List Part) (t u v : Written) (r : Result Unit AppendError)
     → u ≡ lay (put_part rule part) t → Composes room grows (put_parts rule parts) u v r → Composes room grows (put_parts rule (part ∷ parts)) t v r
 
 -- if the first part can't be appended, composing all parts fails with the same error

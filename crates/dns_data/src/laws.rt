@@ -3,7 +3,7 @@
 ghost use Rattle.std.specs.Prelude.{◌≡◌};
 ghost use Rattle.std.specs.Ordering.{as_partial_cmp};
 ghost use Rattle.dns_data.specs.DataOrders.{zones_equal, zone_order, zone_hash_input};
-ghost use Rattle.dns_data.specs.Laws.{NoPartComposes, OnePartComposes, PartsComposeBehind, RefusedPartComposes, NamesAreBounded, OneDatumOrFault, StandingPartsRead};
+ghost use Rattle.dns_data.specs.Laws.{NoPartComposes, OnePartComposes, PartsComposeAfter, RefusedPartComposes, NamesAreBounded, OneDatumOrFault, StandingPartsRead};
 
 use crate::soa::Soa;
 use std::hash::Hash;
@@ -14,7 +14,7 @@ use std::hash::Hash;
 pub fn parts_compose()
     ensures none { NoPartComposes }
     ensures one { OnePartComposes }
-    ensures behind { PartsComposeBehind }
+    ensures after { PartsComposeAfter }
     ensures refused { RefusedPartComposes }
 {}
 

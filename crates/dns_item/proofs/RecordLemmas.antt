@@ -4,12 +4,12 @@ use Rattle.std.specs.Int.{w16}
 use Rattle.dns_octets.specs.declared.error.ParseError.{ParseError}
 use Rattle.dns_octets.specs.declared.error.ParseError.TheVariants.{ShortInput}
 use Rattle.dns_name.specs.Names.{Fault, fault_of, Labels, Stands}
-use Rattle.dns_name.specs.ParsedName.{MovesBehindName}
+use Rattle.dns_name.specs.ParsedName.{MovesPastName}
 use Rattle.dns_name.specs.Parsers.{seen, offset, MovesTo, number_at}
 use Rattle.dns_name.specs.declared.parsed_name.ParsedName.{ParsedName}
 use Rattle.dns_name.specs.declared.parser.Parser.{Parser}
-use Rattle.dns_question.specs.BehindNames.FieldsFaultAt.{name, short as short_fields}
-use Rattle.dns_question.specs.BehindNames.FieldsSkipFaultAt.{short as unended_record}
+use Rattle.dns_question.specs.AfterNames.FieldsFaultAt.{name, short as short_fields}
+use Rattle.dns_question.specs.AfterNames.FieldsSkipFaultAt.{short as unended_record}
 use Rattle.dns_item.specs.Items.{HeaderFaultAt, ReadsRecord, RecordFaultAt, RecordEntry, RecordSkipFaultAt}
 use Rattle.dns_item.specs.Items.LacksRecord.{fields, rdata}
 use Rattle.dns_item.specs.RecordHeader.{rdlen_of, record_at, ParsesHeader}
@@ -19,7 +19,7 @@ use Rattle.dns_item.proofs.theory.EntryLemmas.{record_or_fault}
 -- What parsing a record header returns, and when a header and its RDATA are a record.
 
 -- too few octets follow a parsed owner
-pub short : (old mid : Parser) (owner : Labels) (e : ParseError) → Stands (seen old) (offset old) owner → MovesBehindName old mid → length (seen mid) < offset mid + 10 → e ≡ ShortInput
+pub short : (old mid : Parser) (owner : Labels) (e : ParseError) → Stands (seen old) (offset old) owner → MovesPastName old mid → length (seen mid) < offset mid + 10 → e ≡ ShortInput
     → HeaderFaultAt (seen old) (offset old) (fault_of e)
 short old mid owner e stands moves l is =
     let n : length (seen mid) ≡ length (seen old) = ap length moves.1.seen in
@@ -64,22 +64,22 @@ without_data old mid header n e parses is l short_input =
     subst (λ e. RecordFaultAt (seen old) (offset old) (fault_of e)) (sym short_input) (short_fields reads.owner reads.walked (rdata (omega arith) (omega arith)))
 
 -- some of the ten octets after a skipped owner aren't there
-pub without_fields : (old mid : Parser) (n : ℕ) (e : ParseError) → MovesBehindName old mid → n < offset mid + 10 → n ≡ length (seen mid) → e ≡ ShortInput
+pub without_fields : (old mid : Parser) (n : ℕ) (e : ParseError) → MovesPastName old mid → n < offset mid + 10 → n ≡ length (seen mid) → e ≡ ShortInput
     → RecordSkipFaultAt (seen old) (offset old) (fault_of e)
 without_fields old mid n e moves l long is =
     let k : length (seen mid) ≡ length (seen old) = ap length moves.1.seen in
     subst (λ e. RecordSkipFaultAt (seen old) (offset old) (fault_of e)) (sym is) (unended_record moves.0 (fields (omega arith)))
 
 -- the ten octets are there, but not all of the RDATA
-pub lacks_data : (old mid behind last : Parser) (n : ℕ) (e : ParseError) → MovesBehindName old mid → MovesTo mid behind (offset mid + 8) → MovesTo behind last (offset behind + 2)
-    → offset behind + 2 ≤ length (seen behind) → n ≡ number_at w16 (seen behind) (offset behind) → length (seen last) < offset last + n → e ≡ ShortInput → RecordSkipFaultAt (seen old) (offset old) (fault_of e)
-lacks_data old mid behind last n e moves first second long is l short_input =
-    let there : seen behind ≡ seen old = first.seen ∙ moves.1.seen in
-    let k : length (seen behind) ≡ length (seen old) = ap length there in
-    let m : length (seen last) ≡ length (seen behind) = ap length second.seen in
+pub lacks_data : (old mid after last : Parser) (n : ℕ) (e : ParseError) → MovesPastName old mid → MovesTo mid after (offset mid + 8) → MovesTo after last (offset after + 2)
+    → offset after + 2 ≤ length (seen after) → n ≡ number_at w16 (seen after) (offset after) → length (seen last) < offset last + n → e ≡ ShortInput → RecordSkipFaultAt (seen old) (offset old) (fault_of e)
+lacks_data old mid after last n e moves first second long is l short_input =
+    let there : seen after ≡ seen old = first.seen ∙ moves.1.seen in
+    let k : length (seen after) ≡ length (seen old) = ap length there in
+    let m : length (seen last) ≡ length (seen after) = ap length second.seen in
     let p = first.offset in
     let q = second.offset in
-    let number : n ≡ number_at w16 (seen old) (offset mid + 8) = is ∙ ap (λ (b : List ℕ). number_at w16 b (offset behind)) there ∙ ap (number_at w16 (seen old)) p in
+    let number : n ≡ number_at w16 (seen old) (offset mid + 8) = is ∙ ap (λ (b : List ℕ). number_at w16 b (offset after)) there ∙ ap (number_at w16 (seen old)) p in
     subst (λ e. RecordSkipFaultAt (seen old) (offset old) (fault_of e)) (sym short_input) (unended_record moves.0 (rdata (omega arith) (omega arith)))
 
 -- what holds of a parsed record and its octets holds of each record that can be read there
@@ -89,6 +89,6 @@ of_read P b seen_then p end q then x h is k holds =
     subst (λ (c : List ℕ). P c x) is (subst (P seen_then) ((record_or_fault b).one p end q then x h k).1 holds)
 
 -- a parser past the record that was read is past each record that can be read there
-pub behind_read : (old new : Parser) (q : ℕ) (then x : RecordEntry)
+pub after_read : (old new : Parser) (q : ℕ) (then x : RecordEntry)
     → ReadsRecord (seen old) (offset old) (offset new) then → MovesTo old new (offset new) → ReadsRecord (seen old) (offset old) q x → MovesTo old new q
-behind_read old new q then x h moves k = subst (MovesTo old new) ((record_or_fault (seen old)).one (offset old) (offset new) q then x h k).0 moves
+after_read old new q then x h moves k = subst (MovesTo old new) ((record_or_fault (seen old)).one (offset old) (offset new) q then x h k).0 moves

@@ -6,7 +6,7 @@ use Rattle.dns_name.specs.Parsers.{number_at}
 use Rattle.dns_wire.specs.Parts.{Part, AreParts, put_parts, parts_size, PartsStand}
 use Rattle.dns_wire.specs.Pieces.{Rule, Piece, put_octets, both, with_length, put_name, IsGrowing}
 use Rattle.dns_wire.specs.Targets.{Written, IsTarget, lay}
-use Rattle.dns_question.specs.BehindNames.{SkipsFields, FieldsFaultAt, FieldsSkipFaultAt}
+use Rattle.dns_question.specs.AfterNames.{SkipsFields, FieldsFaultAt, FieldsSkipFaultAt}
 
 -- a record, with its RDATA as a list of parts
 pub record RecordItem : Type 0 where

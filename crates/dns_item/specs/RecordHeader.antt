@@ -63,7 +63,7 @@ ParsesHeader old new (Err e) = HeaderFaultAt (seen old) (offset old) (fault_of e
 
 -- As `ParsesHeader`, with the parser after the header returned beside it.
 abbrev pub ReadsAhead : Parser → Result (RecordHeader ParsedName × Parser) ParseError → Type 0
-ReadsAhead parser (Ok (header, behind)) = ParsesHeader parser behind (Ok header)
+ReadsAhead parser (Ok (header, after)) = ParsesHeader parser after (Ok header)
 ReadsAhead parser (Err e) = HeaderFaultAt (seen parser) (offset parser) (fault_of e)
 
 -- As `ParsesHeader`, for a call that skips the RDATA too: the header is that of a record that can be read, and the parser moves past the record.

@@ -28,7 +28,7 @@ abbrev pub IsThere : List ℕ → RecordEntry → Type 0
 IsThere b x = x.data_end ≤ length b
 
 -- The parser moves past a record's RDATA if that is all there, and otherwise doesn't move.
-pub record MovesBehindData (old new : Parser) (x : RecordEntry) : Type 0 where
+pub record MovesPastRdata (old new : Parser) (x : RecordEntry) : Type 0 where
   pub there : IsThere (seen old) x → MovesTo old new x.data_end
   pub missing : (IsThere (seen old) x → ⊥) → new ≡ old
 

@@ -103,8 +103,8 @@ pub fn parse_record_near<'a>(
     ensures near { IsNear (seen parser.old) near.new }
 {
     let (header, data) = RecordHeader::read(*parser, near)?;
-    let mut behind = data;
-    behind.advance(usize::from(header.rdlen()))?;
-    *parser = behind;
+    let mut after = data;
+    after.advance(usize::from(header.rdlen()))?;
+    *parser = after;
     Ok(ParsedRecord { header, data })
 }

@@ -125,8 +125,8 @@ impl<'a> RecordHeader<ParsedName<'a>> {
     pub fn parse(parser: &mut Parser<'a>) -> Result<Self, ParseError>
         ensures { ParsesHeader parser.old parser.new result }
     {
-        let (header, behind) = RecordHeader::read(*parser, &mut NearName::new())?;
-        *parser = behind;
+        let (header, after) = RecordHeader::read(*parser, &mut NearName::new())?;
+        *parser = after;
         Ok(header)
     }
 
@@ -144,9 +144,9 @@ impl<'a> RecordHeader<ParsedName<'a>> {
     pub fn parse_and_skip(parser: &mut Parser<'a>) -> Result<Self, ParseError>
         ensures { ParsesAndSkips parser.old parser.new result }
     {
-        let (header, mut behind) = RecordHeader::read(*parser, &mut NearName::new())?;
-        behind.advance(usize::from(header.rdlen))?;
-        *parser = behind;
+        let (header, mut after) = RecordHeader::read(*parser, &mut NearName::new())?;
+        after.advance(usize::from(header.rdlen))?;
+        *parser = after;
         Ok(header)
     }
 

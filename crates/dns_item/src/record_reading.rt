@@ -5,7 +5,7 @@ ghost use Rattle.dns_name.specs.Parsers.{seen, offset, MovesTo};
 ghost use Rattle.dns_item.specs.Items.{ReadsRecord, RecordEntry, RecordFaultAt};
 ghost use Rattle.dns_item.specs.ParsedRecord.{octets_of, parsed_entry};
 ghost use Rattle.dns_item.specs.RecordHeader.{rtype_of, record_at};
-ghost use Rattle.dns_item.specs.RecordReading.{MovesBehindData, AnswersLaidOut, AnswersTaken, GivesBack, GivesBackTaken, GivesValueBack, GivesValueBackTaken, IsWhole, IsWholeTaken};
+ghost use Rattle.dns_item.specs.RecordReading.{MovesPastRdata, AnswersLaidOut, AnswersTaken, GivesBack, GivesBackTaken, GivesValueBack, GivesValueBackTaken, IsWhole, IsWholeTaken};
 
 use crate::parsed_record::ParsedRecord;
 use crate::record::Record;
@@ -59,7 +59,7 @@ impl<'a> RecordHeader<ParsedName<'a>> {
     ) -> Result<Option<Record<ParsedName<'a>, D>>, ParseError>
         ensures answers { AnswersTaken D.rtype_of D.parts (seen parser.old)
             (record_at self.entry (offset parser.old)) (D.layout (rtype_of self.entry)) result }
-        ensures moves { MovesBehindData parser.old parser.new
+        ensures moves { MovesPastRdata parser.old parser.new
             (record_at self.entry (offset parser.old)) }
     {
         let mut ahead = parser.parse_parser(usize::from(self.rdlen()))?;
@@ -77,7 +77,7 @@ impl<'a> RecordHeader<ParsedName<'a>> {
     ) -> Result<Record<ParsedName<'a>, D>, ParseError>
         ensures answers { AnswersLaidOut D.rtype_of D.parts (seen parser.old)
             (record_at self.entry (offset parser.old)) (D.any_layout (rtype_of self.entry)) result }
-        ensures moves { MovesBehindData parser.old parser.new
+        ensures moves { MovesPastRdata parser.old parser.new
             (record_at self.entry (offset parser.old)) }
     {
         let mut ahead = parser.parse_parser(usize::from(self.rdlen()))?;

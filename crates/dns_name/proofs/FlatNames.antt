@@ -14,18 +14,18 @@ use Rattle.dns_name.proofs.theory.Spelling.{drop_label, drop_root, get_drop}
 pub record Flat (b : List ℕ) (start at : ℕ) (whole : Labels) : Type 0 where
   pub rest : Labels
   pub stands : Stands b at rest
-  pub whole_if : (behind : List ℕ) → drop at b ≡ uncompressed rest ++ behind → drop start b ≡ uncompressed whole ++ behind
-  pub rest_if : (behind : List ℕ) → drop start b ≡ uncompressed whole ++ behind → drop at b ≡ uncompressed rest ++ behind
+  pub whole_if : (after : List ℕ) → drop at b ≡ uncompressed rest ++ after → drop start b ≡ uncompressed whole ++ after
+  pub rest_if : (after : List ℕ) → drop start b ≡ uncompressed whole ++ after → drop at b ≡ uncompressed rest ++ after
 
 pub flat_none : (b : List ℕ) (p : ℕ) (name : Labels) → Stands b p name → Flat b p p name
-flat_none b p name s = record { rest = name; stands = s; whole_if = λ behind e. e; rest_if = λ behind e. e }
+flat_none b p name s = record { rest = name; stands = s; whole_if = λ after e. e; rest_if = λ after e. e }
 
 -- The uncompressed octets of a label and a name after it.
-label_octets : (b : List ℕ) (at n : ℕ) (name : Labels) (behind : List ℕ) → at + 1 + n ≤ length b
-    → uncompressed (label_at b at n ∷ name) ++ behind ≡ n ∷ (label_at b at n ++ (uncompressed name ++ behind))
-label_octets b at n name behind fits =
-    append_assoc (length (label_at b at n) ∷ label_at b at n) (uncompressed name) behind
-    ∙ ap (λ k. k ∷ (label_at b at n ++ (uncompressed name ++ behind))) (length_label b at n fits)
+label_octets : (b : List ℕ) (at n : ℕ) (name : Labels) (after : List ℕ) → at + 1 + n ≤ length b
+    → uncompressed (label_at b at n ∷ name) ++ after ≡ n ∷ (label_at b at n ++ (uncompressed name ++ after))
+label_octets b at n name after fits =
+    append_assoc (length (label_at b at n) ∷ label_at b at n) (uncompressed name) after
+    ∙ ap (λ k. k ∷ (label_at b at n ++ (uncompressed name ++ after))) (length_label b at n fits)
 
 -- The walk continues after a label.
 pub flat_label : (b : List ℕ) (start at n at' : ℕ) (whole : Labels) → Flat b start at whole → head_at b at ≡ Ok (Label n) → at' ≡ at + 1 + n → Flat b start at' whole
@@ -35,14 +35,14 @@ flat_label b start at n at' whole f h e =
     subst (λ k. Flat b start k whole) (sym e) (record {
       rest = l.others;
       stands = l.stand;
-      whole_if = λ behind d.
-          f.whole_if behind (drop_label b at n h ∙ ap (λ (c : List ℕ). n ∷ (label_at b at n ++ c)) d ∙ sym (label_octets b at n l.others behind l.fits)
-          ∙ ap (λ (c : List ℕ). c ++ behind) (sym whole_rest));
-      rest_if = λ behind d.
-          let same : (n ∷ label_at b at n) ++ drop (at + 1 + n) b ≡ (n ∷ label_at b at n) ++ (uncompressed l.others ++ behind) =
-          sym (drop_label b at n h) ∙ f.rest_if behind d ∙ ap (λ (c : List ℕ). c ++ behind) whole_rest ∙ label_octets b at n l.others behind l.fits in
+      whole_if = λ after d.
+          f.whole_if after (drop_label b at n h ∙ ap (λ (c : List ℕ). n ∷ (label_at b at n ++ c)) d ∙ sym (label_octets b at n l.others after l.fits)
+          ∙ ap (λ (c : List ℕ). c ++ after) (sym whole_rest));
+      rest_if = λ after d.
+          let same : (n ∷ label_at b at n) ++ drop (at + 1 + n) b ≡ (n ∷ label_at b at n) ++ (uncompressed l.others ++ after) =
+          sym (drop_label b at n h) ∙ f.rest_if after d ∙ ap (λ (c : List ℕ). c ++ after) whole_rest ∙ label_octets b at n l.others after l.fits in
           sym (drop-append_seam (n ∷ label_at b at n) (drop (at + 1 + n) b)) ∙ ap (drop (length (n ∷ label_at b at n))) same
-          ∙ drop-append_seam (n ∷ label_at b at n) (uncompressed l.others ++ behind);
+          ∙ drop-append_seam (n ∷ label_at b at n) (uncompressed l.others ++ after);
     })
 
 -- At the root label, the octets from `start` on are the uncompressed name.
@@ -51,27 +51,27 @@ flat_root b start at whole f h =
     f.whole_if (drop (at + 1) b) (drop_root b at h ∙ ap (λ (name : Labels). uncompressed name ++ drop (at + 1) b) (sym (at_root b f.stands h)))
 
 -- At a pointer they aren't.
-pub flat_pointer : (b : List ℕ) (start at t : ℕ) (whole : Labels) → Flat b start at whole → head_at b at ≡ Ok (Pointer t) → (behind : List ℕ) → drop start b ≡ uncompressed whole ++ behind → ⊥
-flat_pointer b start at t whole f h behind e = go f.rest f.stands (f.rest_if behind e)
+pub flat_pointer : (b : List ℕ) (start at t : ℕ) (whole : Labels) → Flat b start at whole → head_at b at ≡ Ok (Pointer t) → (after : List ℕ) → drop start b ≡ uncompressed whole ++ after → ⊥
+flat_pointer b start at t whole f h after e = go f.rest f.stands (f.rest_if after e)
   where
-    go : (rest : Labels) → Stands b at rest → drop at b ≡ uncompressed rest ++ behind → ⊥
-    go [] s d = let r = root_begins b at (get_drop b at 0 behind d) in cc (r, h)
+    go : (rest : Labels) → Stands b at rest → drop at b ≡ uncompressed rest ++ after → ⊥
+    go [] s d = let r = root_begins b at (get_drop b at 0 after d) in cc (r, h)
     go (label ∷ rest) s d =
         let l = All-head IsLabel label rest (standing_name s).labels in
-        let r = label_begins b at (length label) l.some l.short (get_drop b at (length label) ((label ++ uncompressed rest) ++ behind) d) in
+        let r = label_begins b at (length label) l.some l.short (get_drop b at (length label) ((label ++ uncompressed rest) ++ after) d) in
         cc (r, h)
 
 -- Octets that begin with an uncompressed name are at least as long as it.
-pub flat_within : (b : List ℕ) (start : ℕ) (name : Labels) (behind : List ℕ) → drop start b ≡ uncompressed name ++ behind → start + length (uncompressed name) ≤ length b
-flat_within b start name behind e =
+pub flat_within : (b : List ℕ) (start : ℕ) (name : Labels) (after : List ℕ) → drop start b ≡ uncompressed name ++ after → start + length (uncompressed name) ≤ length b
+flat_within b start name after e =
     let size = length-drop start b in
-    let long = ap length e ∙ length-append (uncompressed name) behind in
+    let long = ap length e ∙ length-append (uncompressed name) after in
     let some = length-uncompressed name in
     omega arith
 
 -- Their first octets, as many as the name takes, are the uncompressed name.
-pub flat_octets : (b : List ℕ) (start size : ℕ) (name : Labels) (behind : List ℕ) → drop start b ≡ uncompressed name ++ behind → size ≡ length (uncompressed name)
+pub flat_octets : (b : List ℕ) (start size : ℕ) (name : Labels) (after : List ℕ) → drop start b ≡ uncompressed name ++ after → size ≡ length (uncompressed name)
     → take (start + size - start) (drop start b) ≡ uncompressed name
-flat_octets b start size name behind e is =
+flat_octets b start size name after e is =
     let k : start + size - start ≡ length (uncompressed name) = omega (arith, is) in
-    rw k (ap (take (length (uncompressed name))) e ∙ take-append_seam (uncompressed name) behind)
+    rw k (ap (take (length (uncompressed name))) e ∙ take-append_seam (uncompressed name) after)

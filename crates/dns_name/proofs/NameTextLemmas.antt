@@ -23,10 +23,10 @@ all_text_left [] h = refl
 all_text_left (label ∷ name) h = joined_left [] label name h
 
 -- Printing the separator and a label leaves the text of the other labels, with a dot as the next separator.
-pub one_label_printed : (printed separator label : List ℕ) (behind : Labels) (whole : List ℕ) → (label ≡ [] → ⊥)
-    → printed ++ text_left separator (label ∷ behind) ≡ whole → (printed ++ (separator ++ label_text label)) ++ text_left (dot ∷ []) behind ≡ whole
-one_label_printed printed separator [] behind whole some e = absurd (some refl)
-one_label_printed printed separator (o ∷ label) behind whole some e =
-    append_assoc printed (separator ++ label_text (o ∷ label)) (text_left (dot ∷ []) behind)
-    ∙ ap (λ (t : List ℕ). printed ++ t) (append_assoc separator (label_text (o ∷ label)) (text_left (dot ∷ []) behind))
+pub one_label_printed : (printed separator label : List ℕ) (after : Labels) (whole : List ℕ) → (label ≡ [] → ⊥)
+    → printed ++ text_left separator (label ∷ after) ≡ whole → (printed ++ (separator ++ label_text label)) ++ text_left (dot ∷ []) after ≡ whole
+one_label_printed printed separator [] after whole some e = absurd (some refl)
+one_label_printed printed separator (o ∷ label) after whole some e =
+    append_assoc printed (separator ++ label_text (o ∷ label)) (text_left (dot ∷ []) after)
+    ∙ ap (λ (t : List ℕ). printed ++ t) (append_assoc separator (label_text (o ∷ label)) (text_left (dot ∷ []) after))
     ∙ e

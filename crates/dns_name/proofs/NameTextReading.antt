@@ -72,12 +72,12 @@ framed_more name label octets e =
     flat_map-append framed name (label ∷ []) ∙ ap (λ (o : List ℕ). o ++ (framed label ++ [])) e ∙ ap (λ (t : List ℕ). octets ++ t) (append-nil (framed label))
 
 -- One more label is read, and the dot after it.
-label_passed : (text octets left label behind : List ℕ) → InLabels text octets left → LabelFirst left (length octets) label behind → 2 ≤ length behind
-    → InLabels text (octets ++ framed label) (drop 1 behind)
+label_passed : (text octets left label after : List ℕ) → InLabels text octets left → LabelFirst left (length octets) label after → 2 ≤ length after
+    → InLabels text (octets ++ framed label) (drop 1 after)
 label_passed text octets left label [] x l long = absurd (omega (arith, long))
-label_passed text octets left label (c ∷ behind) x l long =
+label_passed text octets left label (c ∷ after) x l long =
     let size : length (octets ++ framed label) ≡ length octets + length label + 1 = omega (arith, length-append octets (framed label)) in
-    let whole : left ≡ l.front ++ dot ∷ behind = l.whole ∙ ap (λ d. l.front ++ d ∷ behind) l.ends in
+    let whole : left ≡ l.front ++ dot ∷ after = l.whole ∙ ap (λ d. l.front ++ d ∷ after) l.ends in
     record {
       name = x.name ++ label ∷ [];
       same = framed_more x.name label octets x.same;
@@ -86,36 +86,36 @@ label_passed text octets left label (c ∷ behind) x l long =
       some = omega (arith, long);
       spelled = λ rest h. subst (λ name. SpellsLabels text name) (sym (append_assoc x.name (label ∷ []) rest))
           (x.spelled (label ∷ rest) (subst (λ t. SpellsLabels t (label ∷ rest)) (sym whole) (SpellsLabels.more l.spelled h)));
-      faults = λ f h. x.faults f (l.faults f (subst (λ d. NameTextFaulty (d ∷ behind) (length label) (length octets) f) (sym l.ends)
-          (NameTextFaulty.behind_dot l.is_label.some (subst (λ n. NameTextFaulty behind 0 n f) size h))));
+      faults = λ f h. x.faults f (l.faults f (subst (λ d. NameTextFaulty (d ∷ after) (length label) (length octets) f) (sym l.ends)
+          (NameTextFaulty.after_dot l.is_label.some (subst (λ n. NameTextFaulty after 0 n f) size h))));
     }
 
 -- The same, with the remaining text as a slice.
-pub labels_more : (text octets left label behind : List ℕ) → InLabels text octets left → LabelFirst left (length octets) label behind → 2 ≤ length behind
-    → InLabels text (octets ++ framed label) (take (length behind - 1) (drop 1 behind))
-labels_more text octets left label behind x l long =
-    let all : take (length behind - 1) (drop 1 behind) ≡ drop 1 behind = grind (arith, common_steps) in
-    subst (λ t. InLabels text (octets ++ framed label) t) (sym all) (label_passed text octets left label behind x l long)
+pub labels_more : (text octets left label after : List ℕ) → InLabels text octets left → LabelFirst left (length octets) label after → 2 ≤ length after
+    → InLabels text (octets ++ framed label) (take (length after - 1) (drop 1 after))
+labels_more text octets left label after x l long =
+    let all : take (length after - 1) (drop 1 after) ≡ drop 1 after = grind (arith, common_steps) in
+    subst (λ t. InLabels text (octets ++ framed label) t) (sym all) (label_passed text octets left label after x l long)
 
-last_label : (left label behind : List ℕ) (size : ℕ) → LabelFirst left size label behind → length behind < 2 → SpellsLabels left (label ∷ [])
+last_label : (left label after : List ℕ) (size : ℕ) → LabelFirst left size label after → length after < 2 → SpellsLabels left (label ∷ [])
 last_label left label [] size l short = subst (λ t. SpellsLabels t (label ∷ [])) (sym (l.whole ∙ append-nil l.front)) (SpellsLabels.last l.spelled)
 last_label left label (c ∷ []) size l short =
     subst (λ t. SpellsLabels t (label ∷ [])) (sym (l.whole ∙ ap (λ d. l.front ++ d ∷ []) l.ends)) (SpellsLabels.closed l.spelled)
-last_label left label (c ∷ d ∷ behind) size l short = absurd (omega (arith, short))
+last_label left label (c ∷ d ∷ after) size l short = absurd (omega (arith, short))
 
 length-framed : (name : Labels) → length (flat_map framed name) ≡ name_size name
 length-framed [] = refl
 length-framed (label ∷ name) = omega (arith, length-append label (flat_map framed name), length-framed name)
 
 -- The last label is read.
-pub labels_end : (text octets left label behind : List ℕ) → InLabels text octets left → LabelFirst left (length octets) label behind → length behind < 2
+pub labels_end : (text octets left label after : List ℕ) → InLabels text octets left → LabelFirst left (length octets) label after → length after < 2
     → AreOctets (SpellsLabels text) ((octets ++ framed label) ++ 0 ∷ [])
-labels_end text octets left label behind x l short =
+labels_end text octets left label after x l short =
     let same = framed_more x.name label octets x.same in
     let size = length-framed (x.name ++ label ∷ []) in
     let room = ap length same in (
       x.name ++ label ∷ [],
-      x.spelled (label ∷ []) (last_label left label behind (length octets) l short),
+      x.spelled (label ∷ []) (last_label left label after (length octets) l short),
       record {
         labels = All-append IsLabel x.name (label ∷ []) x.labels (one_label label l.is_label);
         short = omega (arith, size, room, l.room, length-append octets (framed label));

@@ -95,7 +95,7 @@ pub data NameTextFaulty : List ℕ → ℕ → ℕ → PresentationError → Typ
   long_name : {text rest : List ℕ} {o n size : ℕ} → SpellsFirst text o rest → n < 63 → max_size < size + n + 2 → NameTextFaulty text n size LongName
   octet : {text rest : List ℕ} {o n size : ℕ} {f : PresentationError} → SpellsFirst text o rest → n < 63 → size + n + 2 ≤ max_size
       → NameTextFaulty rest (n + 1) size f → NameTextFaulty text n size f
-  behind_dot : {text : List ℕ} {n size : ℕ} {f : PresentationError} → 0 < n → NameTextFaulty text 0 (size + n + 1) f → NameTextFaulty (dot ∷ text) n size f
+  after_dot : {text : List ℕ} {n size : ℕ} {f : PresentationError} → 0 < n → NameTextFaulty text 0 (size + n + 1) f → NameTextFaulty (dot ∷ text) n size f
 
 -- The leftmost fault of a text.
 abbrev pub NameTextFault : List ℕ → PresentationError → Type 0

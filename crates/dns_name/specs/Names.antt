@@ -132,15 +132,15 @@ FaultAt b p f = Faulty b p 0 f
 -- It doesn't depend on where the pointer leads.
 
 -- In a name whose labels so far take s octets, the rest of its encoding takes the octets p..q. A pointer ends it and isn't followed.
-pub data WalkedBehind (b : List ℕ) : ℕ → ℕ → ℕ → Type 0 where
-  root : {p s : ℕ} → head_at b p ≡ Ok Root → WalkedBehind b p s (p + 1)
-  pointer : {p s t : ℕ} → head_at b p ≡ Ok (Pointer t) → WalkedBehind b p s (p + 2)
+pub data NameContinues (b : List ℕ) : ℕ → ℕ → ℕ → Type 0 where
+  root : {p s : ℕ} → head_at b p ≡ Ok Root → NameContinues b p s (p + 1)
+  pointer : {p s t : ℕ} → head_at b p ≡ Ok (Pointer t) → NameContinues b p s (p + 2)
   label : {p n s q : ℕ} → head_at b p ≡ Ok (Label n) → s + n + 1 ≤ max_size → p + 1 + n ≤ length b
-      → WalkedBehind b (p + 1 + n) (s + n + 1) q → WalkedBehind b p s q
+      → NameContinues b (p + 1 + n) (s + n + 1) q → NameContinues b p s q
 
 -- The encoding of a name at offset p takes the octets p..q.
 abbrev pub Walked : List ℕ → ℕ → ℕ → Type 0
-Walked b p q = WalkedBehind b p 0 q
+Walked b p q = NameContinues b p 0 q
 
 -- In a name whose labels so far take s octets, skipping on at offset p fails with this fault. Skipping doesn't follow pointers.
 pub data SkipFaulty (b : List ℕ) : ℕ → ℕ → Fault → Type 0 where

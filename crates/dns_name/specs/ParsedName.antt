@@ -14,20 +14,20 @@ labels name = name.name_at.0.0
 
 -- The octets at the name's offset are its uncompressed octets.
 abbrev pub IsFlat : ParsedName → Type 0
-IsFlat name = (behind : List ℕ) × (drop name.pos name.octets.now ≡ uncompressed (labels name) ++ behind)
+IsFlat name = (after : List ℕ) × (drop name.pos name.octets.now ≡ uncompressed (labels name) ++ after)
 
 -- The parser moved past the encoding of the name at its old offset, and sees the same octets.
-abbrev pub MovesBehindName : Parser → Parser → Type 0
-MovesBehindName old new = Walked (seen old) (offset old) (offset new) × MovesTo old new (offset new)
+abbrev pub MovesPastName : Parser → Parser → Type 0
+MovesPastName old new = Walked (seen old) (offset old) (offset new) × MovesTo old new (offset new)
 
 -- The result is the name encoded at the parser's offset, and the parser moved past its encoding; or it is the fault there, and the parser is unchanged.
 abbrev pub ParsesName : Parser → Parser → Result ParsedName ParseError → Type 0
-ParsesName old new (Ok name) = Stands (seen old) (offset old) (labels name) × MovesBehindName old new
+ParsesName old new (Ok name) = Stands (seen old) (offset old) (labels name) × MovesPastName old new
 ParsesName old new (Err e) = FaultAt (seen old) (offset old) (fault_of e) × (new ≡ old)
 
 -- The parser moved past the encoding of a name; or the result is the fault of skipping, and the parser is unchanged.
 abbrev pub SkipsName : Parser → Parser → Result Unit ParseError → Type 0
-SkipsName old new (Ok _) = MovesBehindName old new
+SkipsName old new (Ok _) = MovesPastName old new
 SkipsName old new (Err e) = SkipFaultAt (seen old) (offset old) (fault_of e) × (new ≡ old)
 
 -- If a name is encoded at offset p, the result is that name.
@@ -40,8 +40,8 @@ label_octets label = label.octets.now
 
 -- The first label of a name, and the offset of the remaining labels.
 abbrev pub IsFirst : List ℕ → Labels → Label → ℕ → Type 0
-IsFirst b [] label behind = (label_octets label ≡ []) × Stands b behind []
-IsFirst b (first ∷ others) label behind = (label_octets label ≡ first) × Stands b behind others
+IsFirst b [] label after = (label_octets label ≡ []) × Stands b after []
+IsFirst b (first ∷ others) label after = (label_octets label ≡ first) × Stands b after others
 
 -- The remaining labels of an iterator, the root label last.
 abbrev pub labels_left : LabelIter → Labels

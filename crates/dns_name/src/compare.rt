@@ -57,14 +57,14 @@ pub fn order_from_root(name: &ParsedName<'_>, other: &ParsedName<'_>) -> Orderin
 {
     let count = name.label_count();
     let other_count = other.label_count();
-    let labels = labels_behind(name, count.saturating_sub(other_count));
-    let others = labels_behind(other, other_count.saturating_sub(count));
+    let labels = labels_after(name, count.saturating_sub(other_count));
+    let others = labels_after(other, other_count.saturating_sub(count));
     order_of_as_many(labels, others).then(count.cmp(&other_count))
 }
 
 /// Returns the labels of the name without the first `count`.
 #[tactic(auto, using(crate::proofs::RootOrders::drop_steps))]
-fn labels_behind<'a>(name: &ParsedName<'a>, count: usize) -> LabelIter<'a>
+fn labels_after<'a>(name: &ParsedName<'a>, count: usize) -> LabelIter<'a>
     ensures { labels_left result ≡ drop count (with_root (labels name.now)) }
 {
     let mut labels = name.iter_labels();

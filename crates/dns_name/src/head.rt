@@ -81,7 +81,7 @@ impl Head {
     ///
     /// Errors: those of `at`; `Form` if a label would make the name too long; `ShortInput` if a
     /// label runs past the end.
-    pub(crate) fn behind(octets: &[u8], offset: usize, size: usize) -> Result<Head, ParseError>
+    pub(crate) fn after(octets: &[u8], offset: usize, size: usize) -> Result<Head, ParseError>
         requires { size ≤ MAX_SIZE }
         ensures { BeginsOrFails octets.now offset size result }
     {
@@ -101,7 +101,7 @@ impl Head {
     /// Skips the consecutive labels at offset `start` in a name, after labels of `size` octets.
     /// Returns the leftmost error of the name there if the labels are malformed.
     #[inline(always)]
-    pub(crate) fn behind_labels(
+    pub(crate) fn after_labels(
         octets: &[u8],
         start: usize,
         size: usize,

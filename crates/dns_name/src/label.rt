@@ -75,8 +75,8 @@ impl<'a> Label<'a> {
             if first < 192 {
                 let start = at + 1;
                 let end = start + usize::from(first);
-                let behind = if first == 0 { at } else { end };
-                return (Label::new(&octets[start..end]), behind);
+                let after = if first == 0 { at } else { end };
+                return (Label::new(&octets[start..end]), after);
             }
             at = Head::target(octets, at);
         }

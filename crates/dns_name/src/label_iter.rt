@@ -47,9 +47,9 @@ impl<'a> Iterator for LabelIter<'a> {
         if self.left == 0 {
             return None;
         }
-        let (label, behind) = Label::first_at(self.octets, self.pos);
+        let (label, after) = Label::first_at(self.octets, self.pos);
         self.left -= label.len() + 1;
-        self.pos = behind;
+        self.pos = after;
         Some(label)
     }
 }
@@ -67,13 +67,13 @@ impl DoubleEndedIterator for LabelIter<'_> {
         let mut pos = self.pos;
         let mut passed = 0;
         let last = 'walk: loop {
-            let (label, behind) = Label::first_at(self.octets, pos);
+            let (label, after) = Label::first_at(self.octets, pos);
             let taken = label.len() + 1;
             if passed + taken == self.left {
                 break label;
             }
             passed += taken;
-            pos = behind;
+            pos = after;
         };
         self.left = passed;
         Some(last)

@@ -74,7 +74,7 @@ fn check(octets: &[u8]) -> Result<(), ParseError>
 {
     let mut size = 0;
     'walk: loop {
-        match Head::behind(octets, size, size)? {
+        match Head::after(octets, size, size)? {
             Head::Root => break,
             Head::Label(len) => size += usize::from(len) + 1,
             Head::Pointer(_) => return Err(ParseError::Form(FormError::BAD_POINTER)),

@@ -81,7 +81,7 @@ fn next_octet(
     requires room { size ≤ max_size }
     ensures { StepsLabel text.now len size result }
 {
-    let Some((first, behind)) = text.split_first() else {
+    let Some((first, after)) = text.split_first() else {
         return Ok(None);
     };
     if *first == b'.' {
@@ -91,7 +91,7 @@ fn next_octet(
             Ok(None)
         };
     }
-    let (octet, rest) = read_octet(*first, behind)?;
+    let (octet, rest) = read_octet(*first, after)?;
     if len == MAX_LABEL {
         return Err(PresentationError::LongLabel);
     }
@@ -126,12 +126,12 @@ fn read_labels(text: &[u8]) -> Result<ArrayVec<u8, 255>, PresentationError>
     let mut octets = ArrayVec::new();
     let mut left = text;
     'labels: loop {
-        let (label, behind) = read_label(left, octets.len())?;
+        let (label, after) = read_label(left, octets.len())?;
         append_label(&mut octets, Label::new(label.as_slice()));
-        if behind.len() < 2 {
+        if after.len() < 2 {
             break;
         }
-        left = &behind[1..];
+        left = &after[1..];
     }
     octets.push(0);
     Ok(octets)

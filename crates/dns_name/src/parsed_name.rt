@@ -73,7 +73,7 @@ impl<'a> ParsedName<'a> {
                 count: usize::from(near.count),
             });
         }
-        let row = Head::behind_labels(octets, start, 0)?;
+        let row = Head::after_labels(octets, start, 0)?;
         let before = row.end - start;
         let Some(target) = row.target else {
             return Ok(NameExtent {
@@ -114,7 +114,7 @@ impl<'a> ParsedName<'a> {
         let mut size = before;
         let mut count = 0;
         'walk: loop {
-            let row = Head::behind_labels(octets, pos, size)?;
+            let row = Head::after_labels(octets, pos, size)?;
             size += row.end - pos;
             count += row.count;
             let Some(target) = row.target else {
@@ -138,7 +138,7 @@ impl<'a> ParsedName<'a> {
         let mut pos = start;
         let mut size = 0;
         let end = 'walk: loop {
-            match Head::behind(octets, pos, size)? {
+            match Head::after(octets, pos, size)? {
                 Head::Root => break pos + 1,
                 Head::Label(len) => {
                     let taken = usize::from(len) + 1;

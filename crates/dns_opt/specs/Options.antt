@@ -9,17 +9,17 @@ pub record OptionItem : Type 0 where
   pub code : ℕ
   pub octets : List ℕ
 
--- Octets `b` begin with the option, and `behind` follows it. An option is encoded as two octets of code, two octets of length, and its octets.
-pub record OptionBegins (x : OptionItem) (b behind : List ℕ) : Type 0 where
+-- Octets `b` begin with the option, and `after` follows it. An option is encoded as two octets of code, two octets of length, and its octets.
+pub record OptionBegins (x : OptionItem) (b after : List ℕ) : Type 0 where
   pub there : 4 ≤ length b
   pub code : number_in b 0 ≡ x.code
   pub size : number_in b 2 ≡ length x.octets
-  pub octets : drop 4 b ≡ x.octets ++ behind
+  pub octets : drop 4 b ≡ x.octets ++ after
 
 -- octets are exactly these options, in order
 abbrev pub AreOptions : List ℕ → List OptionItem → Type 0
 AreOptions b [] = b ≡ []
-AreOptions b (x ∷ xs) = (behind : List ℕ) × OptionBegins x b behind × AreOptions behind xs
+AreOptions b (x ∷ xs) = (after : List ℕ) × OptionBegins x b after × AreOptions after xs
 
 -- the octets of an option, and those of options in order
 abbrev pub put_option : OptionItem → List ℕ

@@ -11,16 +11,16 @@ use Rattle.dns_opt.specs.Options.{OptionItem, OptionBegins, AreOptions}
 abbrev pub first_option : List ℕ → OptionItem
 first_option b = record { code = number_in b 0; octets = take (number_in b 2) (drop 4 b) }
 
-abbrev pub behind_first : List ℕ → List ℕ
-behind_first b = drop (number_in b 2) (drop 4 b)
+abbrev pub after_first : List ℕ → List ℕ
+after_first b = drop (number_in b 2) (drop 4 b)
 
-pub one_first : (x : OptionItem) (b behind : List ℕ) → OptionBegins x b behind → (x ≡ first_option b) × (behind ≡ behind_first b)
-one_first x b behind h =
-    let octets = sym (ap (take (number_in b 2)) h.octets ∙ take_at x.octets behind (number_in b 2) (sym h.size)) in
-    let rest = sym (ap (drop (number_in b 2)) h.octets ∙ drop_at x.octets behind (number_in b 2) (sym h.size)) in
+pub one_first : (x : OptionItem) (b after : List ℕ) → OptionBegins x b after → (x ≡ first_option b) × (after ≡ after_first b)
+one_first x b after h =
+    let octets = sym (ap (take (number_in b 2)) h.octets ∙ take_at x.octets after (number_in b 2) (sym h.size)) in
+    let rest = sym (ap (drop (number_in b 2)) h.octets ∙ drop_at x.octets after (number_in b 2) (sym h.size)) in
     ((λ i. record { code = sym h.code i; octets = octets i }), rest)
 
-pub first_begins : (b : List ℕ) → 4 ≤ length b → number_in b 2 ≤ length (drop 4 b) → OptionBegins (first_option b) b (behind_first b)
+pub first_begins : (b : List ℕ) → 4 ≤ length b → number_in b 2 ≤ length (drop 4 b) → OptionBegins (first_option b) b (after_first b)
 first_begins b there fits = record {
   there = there;
   code = refl;
@@ -29,31 +29,31 @@ first_begins b there fits = record {
 }
 
 -- an option takes at least four octets
-less_behind : (b : List ℕ) → 4 ≤ length b → length (behind_first b) < length b
-less_behind b there = let e = length-drop (number_in b 2) (drop 4 b) in let f = length-drop 4 b in omega (arith, e, f)
+less_after : (b : List ℕ) → 4 ≤ length b → length (after_first b) < length b
+less_after b there = let e = length-drop (number_in b 2) (drop 4 b) in let f = length-drop 4 b in omega (arith, e, f)
 
 -- octets are a list of options, or no list is one of them
 abbrev IsOneOrNone : List ℕ → Type 0
 IsOneOrNone b = ((xs : List OptionItem) × AreOptions b xs) ⊎ ((xs : List OptionItem) → AreOptions b xs → ⊥)
 
 -- fewer than four octets don't begin with an option
-pub none_in_short : (b : List ℕ) → length b < 4 → (x : OptionItem) (behind : List ℕ) → OptionBegins x b behind → ⊥
-none_in_short b short x behind h = let there = h.there in omega arith
+pub none_in_short : (b : List ℕ) → length b < 4 → (x : OptionItem) (after : List ℕ) → OptionBegins x b after → ⊥
+none_in_short b short x after h = let there = h.there in omega arith
 
 -- nor do octets that end before the option does
-pub none_in_cut : (b : List ℕ) → length (drop 4 b) < number_in b 2 → (x : OptionItem) (behind : List ℕ) → OptionBegins x b behind → ⊥
-none_in_cut b short x behind h =
+pub none_in_cut : (b : List ℕ) → length (drop 4 b) < number_in b 2 → (x : OptionItem) (after : List ℕ) → OptionBegins x b after → ⊥
+none_in_cut b short x after h =
     let size = h.size in
-    let all = ap length h.octets ∙ length-append x.octets behind in
+    let all = ap length h.octets ∙ length-append x.octets after in
     omega (arith, size, all)
 
-pub none_at_all : (b : List ℕ) → 0 < length b → ((x : OptionItem) (behind : List ℕ) → OptionBegins x b behind → ⊥) → (xs : List OptionItem) → AreOptions b xs → ⊥
+pub none_at_all : (b : List ℕ) → 0 < length b → ((x : OptionItem) (after : List ℕ) → OptionBegins x b after → ⊥) → (xs : List OptionItem) → AreOptions b xs → ⊥
 none_at_all b there never [] h = let e = ap length h in omega (arith, e)
 none_at_all b there never (x ∷ xs) h = never x h.0 h.1
 
-none_behind : (b : List ℕ) → 0 < length b → ((xs : List OptionItem) → AreOptions (behind_first b) xs → ⊥) → (xs : List OptionItem) → AreOptions b xs → ⊥
-none_behind b there never [] h = let e = ap length h in omega (arith, e)
-none_behind b there never (x ∷ xs) h = never xs (subst (λ (o : List ℕ). AreOptions o xs) (one_first x b h.0 h.1).1 h.2)
+none_after : (b : List ℕ) → 0 < length b → ((xs : List OptionItem) → AreOptions (after_first b) xs → ⊥) → (xs : List OptionItem) → AreOptions b xs → ⊥
+none_after b there never [] h = let e = ap length h in omega (arith, e)
+none_after b there never (x ∷ xs) h = never xs (subst (λ (o : List ℕ). AreOptions o xs) (one_first x b h.0 h.1).1 h.2)
 
 read : (n : ℕ) (b : List ℕ) → length b ≤ n → IsOneOrNone b
 read n [] l = inl ([], refl)
@@ -64,9 +64,9 @@ read (suc n) (o ∷ os) l =
       | inl short ↦ inr (none_at_all b (omega arith) (none_in_short b short))
       | inr there ↦ elim (cases_lt (length (drop 4 b)) (number_in b 2)) [
         | inl cut ↦ inr (none_at_all b (omega arith) (none_in_cut b cut))
-        | inr fits ↦ let less = less_behind b there in elim (read n (behind_first b) (omega (arith, less))) [
-          | inl p ↦ inl (first_option b ∷ p.0, (behind_first b, first_begins b there fits, p.1))
-          | inr never ↦ inr (none_behind b (omega arith) never)
+        | inr fits ↦ let less = less_after b there in elim (read n (after_first b) (omega (arith, less))) [
+          | inl p ↦ inl (first_option b ∷ p.0, (after_first b, first_begins b there fits, p.1))
+          | inr never ↦ inr (none_after b (omega arith) never)
         ]
       ]
     ]
@@ -78,7 +78,7 @@ one_list b (x ∷ xs) [] h k = let there = h.1.there in let e = ap length k in a
 one_list b (x ∷ xs) (y ∷ ys) h k =
     let p = one_first x b h.0 h.1 in
     let q = one_first y b k.0 k.1 in
-    let rest = one_list (behind_first b) xs ys (subst (λ (o : List ℕ). AreOptions o xs) p.1 h.2) (subst (λ (o : List ℕ). AreOptions o ys) q.1 k.2) in
+    let rest = one_list (after_first b) xs ys (subst (λ (o : List ℕ). AreOptions o xs) p.1 h.2) (subst (λ (o : List ℕ). AreOptions o ys) q.1 k.2) in
     λ i. (p.0 ∙ sym q.0) i ∷ rest i
 
 -- the list, if octets are one

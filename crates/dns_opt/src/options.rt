@@ -13,7 +13,7 @@ pub fn are_options(octets: &[u8]) -> bool
     let mut left = octets;
     while !left.is_empty() {
         match split_option(left) {
-            Some((_, _, behind)) => left = behind,
+            Some((_, _, after)) => left = after,
             None => return false,
         }
     }

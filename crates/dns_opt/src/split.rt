@@ -8,11 +8,11 @@ use dns_code::OptionCode;
 pub(crate) fn split_option(octets: &[u8]) -> Option<(OptionCode, &[u8], &[u8])>
     ensures { Splits octets.now result }
 {
-    let [code_high, code_low, high, low, behind @ ..] = octets else {
+    let [code_high, code_low, high, low, after @ ..] = octets else {
         return None;
     };
     let len = usize::from(u16::from_be_bytes([*high, *low]));
-    let (option, behind) = behind.split_at_checked(len)?;
+    let (option, after) = after.split_at_checked(len)?;
     let code = OptionCode::from_int(u16::from_be_bytes([*code_high, *code_low]));
-    Some((code, option, behind))
+    Some((code, option, after))
 }

@@ -11,14 +11,14 @@ use Rattle.dns_name.specs.declared.name_error.FromStrError.TheVariants.{Presenta
 use Rattle.dns_number.specs.Classes.{SpellsClass}
 use Rattle.dns_number.specs.NumberTexts.{ReadsNumber}
 use Rattle.dns_number.specs.Types.{SpellsType}
-use Rattle.dns_question.specs.QuestionTexts.{ReadsFields, SpellsNoClass, SpellsNoType, IsErrorOfName, IsKind, Fields, ReadsFault, ReadsTextBehindName, named, ReadsText, asks, AreWords}
-use Rattle.dns_question.specs.QuestionTexts.ReadsWords.{class_alone, no_type_behind_class, class_and_type, neither, type_alone, no_class_behind_type, type_and_class, bad_name}
+use Rattle.dns_question.specs.QuestionTexts.{ReadsFields, SpellsNoClass, SpellsNoType, IsErrorOfName, IsKind, Fields, ReadsFault, ReadsTextAfterName, named, ReadsText, asks, AreWords}
+use Rattle.dns_question.specs.QuestionTexts.ReadsWords.{class_alone, no_type_after_class, class_and_type, neither, type_alone, no_class_after_type, type_and_class, bad_name}
 use Rattle.dns_question.specs.declared.question_error.PresentationErrorEnum.TheVariants.{MissingQtype, BadClass, BadQtype, BadName}
 use Rattle.dns_question.specs.Question.{qname_of, qtype_of, qclass_of, question_item}
 use Rattle.dns_question.specs.declared.question.Question.{Question}
 use Rattle.dns_question.specs.declared.question_error.FromStrError.{FromStrError}
 use Rattle.dns_question.specs.declared.question_error.PresentationErrorEnum.{PresentationErrorEnum}
-use Rattle.dns_question.proofs.WordLemmas.{word_before, utf8_behind, some_words}
+use Rattle.dns_question.proofs.WordLemmas.{word_before, utf8_after, some_words}
 
 -- What the words for a type and a class are read as.
 
@@ -35,7 +35,7 @@ module _ (b : List ℕ) where
   read_class_alone o class e h = subst (λ o'. ReadsFields b o' (Err MissingQtype)) (sym e) (λ a name s. class_alone {name = name} {class = class} s h)
 
   pub read_class_without_type : (o : Option (Bor (List ℕ))) (c : Bor (List ℕ)) (class : ℕ) → o ≡ Some c → SpellsClass b class → SpellsNoType c.now → ReadsFields b o (Err BadQtype)
-  read_class_without_type o c class e h n = subst (λ o'. ReadsFields b o' (Err BadQtype)) (sym e) (λ more a name s. no_type_behind_class {name = name} {class = class} s h n)
+  read_class_without_type o c class e h n = subst (λ o'. ReadsFields b o' (Err BadQtype)) (sym e) (λ more a name s. no_type_after_class {name = name} {class = class} s h n)
 
   pub read_class_and_type : (o : Option (Bor (List ℕ))) (c : Bor (List ℕ)) (rtype class : ℕ) → o ≡ Some c → SpellsClass b class → SpellsType c.now rtype
       → ReadsFields b o (Ok (rtype, class))
@@ -50,7 +50,7 @@ module _ (b : List ℕ) where
 
   pub read_type_without_class : (o : Option (Bor (List ℕ))) (c : Bor (List ℕ)) (rtype : ℕ) → o ≡ Some c → SpellsNoClass b → SpellsType b rtype → SpellsNoClass c.now
       → ReadsFields b o (Err BadClass)
-  read_type_without_class o c rtype e n t m = subst (λ o'. ReadsFields b o' (Err BadClass)) (sym e) (λ more a name s. no_class_behind_type {name = name} {rtype = rtype} s n t m)
+  read_type_without_class o c rtype e n t m = subst (λ o'. ReadsFields b o' (Err BadClass)) (sym e) (λ more a name s. no_class_after_type {name = name} {rtype = rtype} s n t m)
 
   pub read_type_and_class : (o : Option (Bor (List ℕ))) (c : Bor (List ℕ)) (rtype class : ℕ) → o ≡ Some c → SpellsNoClass b → SpellsType b rtype → SpellsClass c.now class
       → ReadsFields b o (Ok (rtype, class))
@@ -77,19 +77,19 @@ module _ (text : List ℕ) (s t : SplitWhitespace) (x : Bor (List ℕ)) (start :
   all_words : (words : List (List ℕ)) → AreWords (split_whitespace_rest t) words → AreWords text (x.now ∷ words)
   all_words words w = subst (λ bs. AreWords bs (x.now ∷ words)) start (word_before s t x words step w)
 
-  behind : IsUtf8 (split_whitespace_rest t)
-  behind = utf8_behind s t x step (subst (λ bs. IsUtf8 bs) (sym start) u)
+  after : IsUtf8 (split_whitespace_rest t)
+  after = utf8_after s t x step (subst (λ bs. IsUtf8 bs) (sym start) u)
 
   -- the first word is the text of a name
-  pub reads_named : (name : Labels) (fields : Fields) → SpellsName x.now name → ReadsTextBehindName (split_whitespace_rest t) fields → ReadsText text (named name fields)
+  pub reads_named : (name : Labels) (fields : Fields) → SpellsName x.now name → ReadsTextAfterName (split_whitespace_rest t) fields → ReadsText text (named name fields)
   reads_named name fields h reads =
-      let r = reads behind in
+      let r = reads after in
       record { words = x.now ∷ r.0; are_words = all_words r.0 r.1; reads = r.2 x.now name h }
 
   -- the first word is not the text of a name
   pub reads_bad_name : (e : NameError) (f : FromStrError) → NoName x.now e → IsErrorOfName e f → ReadsFault ⊥ text f
   reads_bad_name (NamePresentation fault) f h is =
-      let more = some_words (split_whitespace_rest t) behind in
+      let more = some_words (split_whitespace_rest t) after in
       answers_kind ⊥ text (BadName fault) f is (record { words = x.now ∷ more.0; are_words = all_words more.0 more.1; reads = bad_name h })
   reads_bad_name NameShortBuf f h is = absurd h
   reads_bad_name NameOutOfMemory f h is = absurd h

@@ -33,17 +33,17 @@ and_right : (a b : Bool) → (a && b) ≡ true → b ≡ true
 and_right true b e = e
 and_right false b e = cc
 
-behind_chars : (ds cs text : List ℕ) → all_scalars cs ≡ true → encode_utf8_all cs ≡ encode_utf8_all ds ++ text → IsUtf8 text
-behind_chars [] cs text s e = (cs, (s, e))
-behind_chars (d ∷ ds) cs text s e =
+after_chars : (ds cs text : List ℕ) → all_scalars cs ≡ true → encode_utf8_all cs ≡ encode_utf8_all ds ++ text → IsUtf8 text
+after_chars [] cs text s e = (cs, (s, e))
+after_chars (d ∷ ds) cs text s e =
     let cut = cons_from_encodes cs (encode_utf8_all ds ++ text) d (e ∙ append_assoc (encode_utf8 d) (encode_utf8_all ds) text) in
-    behind_chars ds cut.0 text (and_right (scalar d) (all_scalars cut.0) (ap all_scalars (sym cut.1) ∙ s)) cut.2
+    after_chars ds cut.0 text (and_right (scalar d) (all_scalars cut.0) (ap all_scalars (sym cut.1) ∙ s)) cut.2
 
-pub utf8_behind : (s t : SplitWhitespace) (x : Bor (List ℕ)) → split_whitespace_steps s (Some x) t → IsUtf8 (split_whitespace_rest s) → IsUtf8 (split_whitespace_rest t)
-utf8_behind s t x h u =
+pub utf8_after : (s t : SplitWhitespace) (x : Bor (List ℕ)) → split_whitespace_steps s (Some x) t → IsUtf8 (split_whitespace_rest s) → IsUtf8 (split_whitespace_rest t)
+utf8_after s t x h u =
     let rest : List ℕ = split_whitespace_rest t in
-    let v = behind_chars h.3.0 u.0 (x.now ++ rest) u.1.0 (u.1.1 ∙ h.1 ∙ ap (λ g. g ++ (x.now ++ rest)) (sym h.3.1)) in
-    behind_chars h.4.0 v.0 rest v.1.0 (v.1.1 ∙ ap (λ w. w ++ rest) (sym h.4.1))
+    let v = after_chars h.3.0 u.0 (x.now ++ rest) u.1.0 (u.1.1 ∙ h.1 ∙ ap (λ g. g ++ (x.now ++ rest)) (sym h.3.1)) in
+    after_chars h.4.0 v.0 rest v.1.0 (v.1.1 ∙ ap (λ w. w ++ rest) (sym h.4.1))
 
 -- ---- each text has words
 
@@ -126,8 +126,8 @@ begins [] s = at_end
 begins (c ∷ cs) s = by_white (begins cs (and_right (scalar c) (all_scalars cs) s)) (is_whitespace c) refl
   where
     by_white : Begins cs → (w : Bool) → is_whitespace c ≡ w → Begins (c ∷ cs)
-    by_white behind true e = let rest = words_of cs behind in at_white e (wider_gap c (encode_utf8_all cs) rest.0 e rest.1)
-    by_white behind false e = at_word (longer_word c cs e (and_right (scalar c) (all_scalars cs) s) behind)
+    by_white after true e = let rest = words_of cs after in at_white e (wider_gap c (encode_utf8_all cs) rest.0 e rest.1)
+    by_white after false e = at_word (longer_word c cs e (and_right (scalar c) (all_scalars cs) s) after)
 
 pub some_words : (text : List ℕ) → IsUtf8 text → (words : List (List ℕ)) × AreWords text words
 some_words text u =
@@ -167,9 +167,9 @@ cut_word : (c : ℕ) (cs : List ℕ) → is_whitespace c ≡ false → cut (c �
 cut_word c cs e = ap (λ (b : Bool). let made : Cut = cond b ([], finished (cut cs)) (c ∷ (cut cs).0, (cut cs).1) in made) e
 
 -- white space before characters adds no word
-behind_gap : (gap cs : List ℕ) → NonePass is_not_whitespace gap → words_in (gap ++ cs) ≡ words_in cs
-behind_gap [] cs h = refl
-behind_gap (c ∷ gap) cs h = ap finished (cut_white c (gap ++ cs) (white_is c h.0)) ∙ behind_gap gap cs h.1
+after_gap : (gap cs : List ℕ) → NonePass is_not_whitespace gap → words_in (gap ++ cs) ≡ words_in cs
+after_gap [] cs h = refl
+after_gap (c ∷ gap) cs h = ap finished (cut_white c (gap ++ cs) (white_is c h.0)) ∙ after_gap gap cs h.1
 
 -- characters that aren't white space extend the first word
 before_cut : (first cs : List ℕ) → NonePass is_whitespace first → cut (first ++ cs) ≡ (first ++ (cut cs).0, (cut cs).1)
@@ -178,9 +178,9 @@ before_cut (c ∷ first) cs h =
     cut_word c (first ++ cs) h.0 ∙ ap (λ (x : Cut). let made : Cut = (c ∷ x.0, x.1) in made) (before_cut first cs h.1)
 
 -- no characters, or characters that begin with white space, have no first word
-cut_behind : (cs : List ℕ) → StartsWhite (encode_utf8_all cs) → cut cs ≡ ([], words_in cs)
-cut_behind [] h = refl
-cut_behind (c ∷ cs) h =
+cut_after : (cs : List ℕ) → StartsWhite (encode_utf8_all cs) → cut cs ≡ ([], words_in cs)
+cut_after [] h = refl
+cut_after (c ∷ cs) h =
     let some : 0 < length (encode_utf8 c ++ encode_utf8_all cs) = omega (arith, length-append (encode_utf8 c) (encode_utf8_all cs), length-encode c, (len_utf8_bounds c).0) in
     let x = h.1 some in
     let same = encode_same c x.0 (encode_utf8_all cs) h.0 x.2 in
@@ -192,7 +192,7 @@ first_word : (first cs : List ℕ) → NonePass is_whitespace first → 0 < leng
     → words_in (first ++ cs) ≡ encode_utf8_all first ∷ words_in cs
 first_word [] cs h some white = absurd (omega arith)
 first_word (c ∷ first) cs h some white =
-    ap finished (before_cut (c ∷ first) cs h ∙ ap (λ (x : Cut). let made : Cut = ((c ∷ first) ++ x.0, x.1) in made) (cut_behind cs white))
+    ap finished (before_cut (c ∷ first) cs h ∙ ap (λ (x : Cut). let made : Cut = ((c ∷ first) ++ x.0, x.1) in made) (cut_after cs white))
     ∙ ap (λ (w : List ℕ). encode_utf8_all (c ∷ w) ∷ words_in cs) (append-nil first)
 
 -- the characters of a text with words, which are those cut from them
@@ -205,7 +205,7 @@ cut_from : (text : List ℕ) (words : List (List ℕ)) → AreWords text words �
 cut_from text _ (none h) = record {
   chars = h.0;
   encoded = h.1;
-  cut_words = ap words_in (sym (append-nil h.0)) ∙ behind_gap h.0 [] h.2;
+  cut_words = ap words_in (sym (append-nil h.0)) ∙ after_gap h.0 [] h.2;
 }
 cut_from _ _ (word {gap} {word = first} {text} {words} g w s r) =
     let rest = cut_from text words r in
@@ -216,7 +216,7 @@ cut_from _ _ (word {gap} {word = first} {text} {words} g w s r) =
       encoded = encodes-append g.0 (w.no_white.0 ++ rest.chars)
           ∙ ap (λ bs. bs ++ encode_utf8_all (w.no_white.0 ++ rest.chars)) g.1
           ∙ ap (λ bs. gap ++ bs) (encodes-append w.no_white.0 rest.chars ∙ ap (λ bs. bs ++ encode_utf8_all rest.chars) w.no_white.1 ∙ ap (λ bs. first ++ bs) rest.encoded);
-      cut_words = behind_gap g.0 (w.no_white.0 ++ rest.chars) g.2
+      cut_words = after_gap g.0 (w.no_white.0 ++ rest.chars) g.2
           ∙ first_word w.no_white.0 rest.chars w.no_white.2 some white
           ∙ ap (λ bs. bs ∷ words_in rest.chars) w.no_white.1
           ∙ ap (λ ws. first ∷ ws) rest.cut_words;

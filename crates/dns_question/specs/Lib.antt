@@ -1,4 +1,4 @@
-pub mod BehindNames
+pub mod AfterNames
 pub mod Questions
 pub mod Question
 pub mod QuestionTexts

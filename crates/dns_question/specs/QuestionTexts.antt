@@ -35,7 +35,7 @@ pub record IsWord (text : List ℕ) : Type 0 where
 
 -- empty, or beginning with white space
 abbrev pub StartsWhite : List ℕ → Type 0
-StartsWhite text = (behind : List ℕ) × EmptyOrStartsWithPassing is_whitespace text behind
+StartsWhite text = (after : List ℕ) × EmptyOrStartsWithPassing is_whitespace text after
 
 -- the words of a text from the left, each as long as possible
 pub data AreWords : List ℕ → List (List ℕ) → Type 0 where
@@ -68,7 +68,7 @@ pub data ReadsWords : List (List ℕ) → Answer → Type 0 where
   bad_name : {a : List ℕ} {more : List (List ℕ)} {f : NamePresentationError} → NameTextFault a f → ReadsWords (a ∷ more) (Err (BadName f))
   name_alone : {a : List ℕ} {name : Labels} → SpellsName a name → ReadsWords (a ∷ []) (Err MissingClassAndQtype)
   class_alone : {a b : List ℕ} {name : Labels} {class : ℕ} → SpellsName a name → SpellsClass b class → ReadsWords (a ∷ b ∷ []) (Err MissingQtype)
-  no_type_behind_class : {a b c : List ℕ} {more : List (List ℕ)} {name : Labels} {class : ℕ} → SpellsName a name → SpellsClass b class → SpellsNoType c
+  no_type_after_class : {a b c : List ℕ} {more : List (List ℕ)} {name : Labels} {class : ℕ} → SpellsName a name → SpellsClass b class → SpellsNoType c
       → ReadsWords (a ∷ b ∷ c ∷ more) (Err BadQtype)
   class_and_type : {a b c : List ℕ} {name : Labels} {rtype class : ℕ} → SpellsName a name → SpellsClass b class → SpellsType c rtype
       → ReadsWords (a ∷ b ∷ c ∷ []) (Ok (asks name rtype class))
@@ -76,7 +76,7 @@ pub data ReadsWords : List (List ℕ) → Answer → Type 0 where
       → ReadsWords (a ∷ b ∷ more) (Err BadQtype)
   type_alone : {a b : List ℕ} {name : Labels} {rtype : ℕ} → SpellsName a name → SpellsNoClass b → SpellsType b rtype
       → ReadsWords (a ∷ b ∷ []) (Ok (asks name rtype class_in))
-  no_class_behind_type : {a b c : List ℕ} {more : List (List ℕ)} {name : Labels} {rtype : ℕ} → SpellsName a name → SpellsNoClass b → SpellsType b rtype → SpellsNoClass c
+  no_class_after_type : {a b c : List ℕ} {more : List (List ℕ)} {name : Labels} {rtype : ℕ} → SpellsName a name → SpellsNoClass b → SpellsType b rtype → SpellsNoClass c
       → ReadsWords (a ∷ b ∷ c ∷ more) (Err BadClass)
   type_and_class : {a b c : List ℕ} {name : Labels} {rtype class : ℕ} → SpellsName a name → SpellsNoClass b → SpellsType b rtype → SpellsClass c class
       → ReadsWords (a ∷ b ∷ c ∷ []) (Ok (asks name rtype class))
@@ -133,18 +133,18 @@ named name (Ok (rtype, class)) = Ok (asks name rtype class)
 named name (Err f) = Err f
 
 -- after every word that is the text of a name, the words are read as these fields
-abbrev pub ReadsBehindName : List (List ℕ) → Fields → Type 0
-ReadsBehindName words fields = (a : List ℕ) (name : Labels) → SpellsName a name → ReadsWords (a ∷ words) (named name fields)
+abbrev pub ReadsAfterName : List (List ℕ) → Fields → Type 0
+ReadsAfterName words fields = (a : List ℕ) (name : Labels) → SpellsName a name → ReadsWords (a ∷ words) (named name fields)
 
 -- What the second word and the third, if there is one, are read as. If three words are wrong, they are so whatever words follow.
 abbrev pub ReadsFields : List ℕ → Option (Bor (List ℕ)) → Fields → Type 0
-ReadsFields b None fields = ReadsBehindName (b ∷ []) fields
-ReadsFields b (Some c) (Ok x) = ReadsBehindName (b ∷ c.now ∷ []) (Ok x)
-ReadsFields b (Some c) (Err f) = (more : List (List ℕ)) → ReadsBehindName (b ∷ c.now ∷ more) (Err f)
+ReadsFields b None fields = ReadsAfterName (b ∷ []) fields
+ReadsFields b (Some c) (Ok x) = ReadsAfterName (b ∷ c.now ∷ []) (Ok x)
+ReadsFields b (Some c) (Err f) = (more : List (List ℕ)) → ReadsAfterName (b ∷ c.now ∷ more) (Err f)
 
 -- what the text after the first word is read as
-abbrev pub ReadsTextBehindName : List ℕ → Fields → Type 0
-ReadsTextBehindName text fields = IsUtf8 text → (words : List (List ℕ)) × AreWords text words × ReadsBehindName words fields
+abbrev pub ReadsTextAfterName : List ℕ → Fields → Type 0
+ReadsTextAfterName text fields = IsUtf8 text → (words : List (List ℕ)) × AreWords text words × ReadsAfterName words fields
 
 -- the text is read as a question
 abbrev pub ReadsSomeQuestion : List ℕ → Type 0

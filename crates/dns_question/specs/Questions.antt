@@ -5,7 +5,7 @@ use Rattle.dns_name.specs.Names.{Labels, IsName, Fault, Stands, ReadsOrFaults, E
 use Rattle.dns_name.specs.Parsers.{number_at}
 use Rattle.dns_wire.specs.Pieces.{Rule, Piece, put_octets, both, put_name, IsGrowing}
 use Rattle.dns_wire.specs.Targets.{Written, IsTarget, lay}
-use Rattle.dns_question.specs.BehindNames.{SkipsFields, FieldsFaultAt, FieldsSkipFaultAt}
+use Rattle.dns_question.specs.AfterNames.{SkipsFields, FieldsFaultAt, FieldsSkipFaultAt}
 
 -- a question: name, type and class
 pub record QuestionItem : Type 0 where

@@ -2,7 +2,7 @@
 ghost use Rattle.std.specs.Prelude.{◌≡◌, ℕ, List};
 ghost use Rattle.std.specs.Str.Iter.{split_whitespace_rest};
 ghost use Rattle.dns_number.specs.Classes.{SpellsClass};
-ghost use Rattle.dns_question.specs.QuestionTexts.{ReadsFields, ReadsQuestionText, ReadsSomeQuestion, ReadsTextBehindName, SpellsNoClass};
+ghost use Rattle.dns_question.specs.QuestionTexts.{ReadsFields, ReadsQuestionText, ReadsSomeQuestion, ReadsTextAfterName, SpellsNoClass};
 
 use crate::question::Question;
 use crate::question_error::{FromStrError, PresentationErrorEnum};
@@ -56,8 +56,8 @@ fn read_fields(first: &str, second: Option<&str>) -> Result<(Rtype, Class), Pres
 }
 
 /// Reads the words after the name.
-fn read_behind_name(mut words: SplitWhitespace<'_>) -> Result<(Rtype, Class), PresentationErrorEnum>
-    ensures { ReadsTextBehindName (split_whitespace_rest words.entry) result }
+fn read_after_name(mut words: SplitWhitespace<'_>) -> Result<(Rtype, Class), PresentationErrorEnum>
+    ensures { ReadsTextAfterName (split_whitespace_rest words.entry) result }
 {
     let Some(first) = words.next() else {
         return Err(PresentationErrorEnum::MissingClassAndQtype);
@@ -87,7 +87,7 @@ impl FromStr for Question<Name<ArrayVec<u8, 255>>> {
             return Err(FromStrError::of_kind(PresentationErrorEnum::MissingQname));
         };
         let qname = Name::<ArrayVec<u8, 255>>::from_str(word)?;
-        match read_behind_name(words) {
+        match read_after_name(words) {
             Ok((qtype, qclass)) => Ok(Question::new(qname, qtype, qclass)),
             Err(kind) => Err(FromStrError::of_kind(kind)),
         }

@@ -12,26 +12,26 @@ front : (n : ℕ) (b c : List ℕ) → length b ≡ n → take n (b ++ c) ≡ b
 front n b c h = grind (arith, common_steps)
 
 -- the second of two appended lists
-behind_front : (n : ℕ) (b c : List ℕ) → length b ≡ n → drop n (b ++ c) ≡ c
-behind_front n b c h = grind (arith, common_steps)
+after_front : (n : ℕ) (b c : List ℕ) → length b ≡ n → drop n (b ++ c) ≡ c
+after_front n b c h = grind (arith, common_steps)
 
 -- the first octets are those written
 pub overwritten_front : (b h : List ℕ) → length h ≡ 4 → take 4 (overwritten b 0 h) ≡ h
 overwritten_front b h n = front 4 h (drop (0 + length h) b) n
 
 -- the octets after them stay
-pub overwritten_behind : (b h : List ℕ) → length h ≡ 4 → drop 4 (overwritten b 0 h) ≡ drop 4 b
-overwritten_behind b h n =
+pub overwritten_after : (b h : List ℕ) → length h ≡ 4 → drop 4 (overwritten b 0 h) ≡ drop 4 b
+overwritten_after b h n =
     let e : 0 + length h ≡ 4 = omega arith in
-    behind_front 4 h (drop (0 + length h) b) n ∙ ap (λ k. drop k b) e
+    after_front 4 h (drop (0 + length h) b) n ∙ ap (λ k. drop k b) e
 
 -- the octets before those overwritten stay
 pub kept_before : (b xs : List ℕ) (p : ℕ) → p ≤ length b → take p (overwritten b p xs) ≡ take p b
 kept_before b xs p l = grind (arith, common_steps)
 
 -- the octets after those overwritten stay
-pub kept_behind : (b xs : List ℕ) (p q : ℕ) → p + length xs ≡ q → q ≤ length b → drop q (overwritten b p xs) ≡ drop q b
-kept_behind b xs p q e l = grind (arith, common_steps)
+pub kept_after : (b xs : List ℕ) (p q : ℕ) → p + length xs ≡ q → q ≤ length b → drop q (overwritten b p xs) ≡ drop q b
+kept_after b xs p q e l = grind (arith, common_steps)
 
 -- the octets that were written are read
 written_there : (b xs : List ℕ) (p q : ℕ) → p + length xs ≡ q → q ≤ length b → slice_range (overwritten b p xs) p q ≡ xs

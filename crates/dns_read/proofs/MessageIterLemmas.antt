@@ -9,10 +9,10 @@ use Rattle.dns_item.specs.Items.{SkipsRecord, ReadsRecord, RecordEntry, RecordFa
 use Rattle.dns_item.specs.ParsedRecord.{StandingRecord}
 use Rattle.dns_section.specs.Reading.{Passed, StopsPassing, Reading}
 use Rattle.dns_section.specs.Reading.Passed.{none as no_more, more}
-use Rattle.dns_section.specs.Reading.StopsPassing.{here, behind as stops_behind}
+use Rattle.dns_section.specs.Reading.StopsPassing.{here, after as stops_after}
 use Rattle.dns_section.specs.Reading.Reading.{none as no_entry, entry, stop}
 use Rattle.dns_section.specs.RecordsFrom.{records_from, in_octets, records_in}
-use Rattle.dns_section.specs.Sections.{AnswersFault, answer_count, authority_count, additional_count, record_count, section_behind}
+use Rattle.dns_section.specs.Sections.{AnswersFault, answer_count, authority_count, additional_count, record_count, section_after}
 use Rattle.dns_section.specs.Skipping.{items_left as records_to_come, SkipsRest, StopsInRest}
 use Rattle.dns_section.specs.RecordSection.{octets_of, position, section_of, to_come, records_left, IsFresh, BeginsSection, MovesOn}
 use Rattle.dns_section.specs.declared.record_section.RecordSection.{RecordSection}
@@ -21,25 +21,25 @@ use Rattle.dns_section.specs.declared.section.Section.TheVariants.{Answer, Autho
 use Rattle.std.proofs.lemmas.List.{length-map}
 use Rattle.dns_section.proofs.theory.ReadingLemmas.{readings_of_records_end}
 use Rattle.dns_section.proofs.theory.RecordsFromLemmas.{records_from_are_read}
-use Rattle.dns_section.proofs.theory.SectionLemmas.{starts_behind}
-use Rattle.dns_read.specs.MessageIter.{Item, once_more, in_section, records_end, items_behind, items_in, items_from, rest_of, cursor_items, message_items, HasNoFault, SectionsFollow}
+use Rattle.dns_section.proofs.theory.SectionLemmas.{starts_after}
+use Rattle.dns_read.specs.MessageIter.{Item, once_more, in_section, records_end, items_after, items_in, items_from, rest_of, cursor_items, message_items, HasNoFault, SectionsFollow}
 use Rattle.dns_read.specs.SectionStarts.{start_of}
 use Rattle.dns_read.proofs.ReadingItems.{has_item}
 use Rattle.dns_read.proofs.theory.SectionStartLemmas.{start_found, no_answers}
 
 -- the items after a section are those of the next
-pub behind_next : (which next : Section) (b : List ℕ) (p : ℕ) → section_behind which ≡ Some next → items_behind which b p ≡ items_from next b p
-behind_next Answer next b p e = let same : Authority ≡ next = cc in ap (λ k. items_from k b p) same
-behind_next Authority next b p e = let same : Additional ≡ next = cc in ap (λ k. items_from k b p) same
-behind_next Additional next b p e = absurd (cc)
+pub after_next : (which next : Section) (b : List ℕ) (p : ℕ) → section_after which ≡ Some next → items_after which b p ≡ items_from next b p
+after_next Answer next b p e = let same : Authority ≡ next = cc in ap (λ k. items_from k b p) same
+after_next Authority next b p e = let same : Additional ≡ next = cc in ap (λ k. items_from k b p) same
+after_next Additional next b p e = absurd (cc)
 
 -- the items of a section and of those after it, by what is read of the section
 abbrev items_by : Section → List ℕ → ℕ → List (Result StandingRecord Fault) → List Item
-items_by which b p xs = in_section which xs (items_behind which b (records_end p xs))
+items_by which b p xs = in_section which xs (items_after which b (records_end p xs))
 
 module _ (which : Section) (b : List ℕ) where
   -- without records, the items are those after the section
-  nothing_first : (n p : ℕ) → records_in b n p ≡ [] → items_in which b n p ≡ items_behind which b p
+  nothing_first : (n p : ℕ) → records_in b n p ≡ [] → items_in which b n p ≡ items_after which b p
   nothing_first n p e = ap (items_by which b p) e
 
 -- a reading of records is empty only if no record was asked for
@@ -59,7 +59,7 @@ stays n p q (more h x) e = absurd (cc)
 
 never_stops : {Skips : ℕ → ℕ → Type 0} {FaultOf : ℕ → Fault → Type 0} (n p : ℕ) (f : Fault) → StopsPassing Skips FaultOf n p f → n ≡ 0 → ⊥
 never_stops n p f (here h) e = absurd (cc)
-never_stops n p f (stops_behind h x) e = absurd (cc)
+never_stops n p f (stops_after h x) e = absurd (cc)
 
 -- the fault of a section is yielded again unless the section is the last
 again : (which : Section) (f : Fault) → (which ≡ Additional → ⊥) → once_more which f ≡ Err f ∷ []
@@ -69,11 +69,11 @@ again Additional f other = absurd (other refl)
 
 module _ (which : Section) (b : List ℕ) where
   -- the cursor has nothing left in its section, and the next section begins
-  pub rest_next : (next : Section) (left : Result ℕ ParseError) (p q : ℕ) → records_to_come (λ k. records_in b k p) left ≡ [] → section_behind which ≡ Some next
+  pub rest_next : (next : Section) (left : Result ℕ ParseError) (p q : ℕ) → records_to_come (λ k. records_in b k p) left ≡ [] → section_after which ≡ Some next
       → SkipsRest (SkipsRecord b) left p q → rest_of which b left p ≡ items_from next b q
-  rest_next next (Ok n) p q none behind skips =
-      nothing_first which b n p none ∙ behind_next which next b p behind ∙ ap (items_from next b) (stays n p q skips (no_records b n p none))
-  rest_next next (Err e) p q none behind skips = absurd skips
+  rest_next next (Ok n) p q none after skips =
+      nothing_first which b n p none ∙ after_next which next b p after ∙ ap (items_from next b) (stays n p q skips (no_records b n p none))
+  rest_next next (Err e) p q none after skips = absurd skips
 
   -- the cursor has nothing left in its section, and the next section has no start
   pub rest_stop : (left : Result ℕ ParseError) (p : ℕ) (e : ParseError) → records_to_come (λ k. records_in b k p) left ≡ [] → (which ≡ Additional → ⊥)
@@ -87,21 +87,21 @@ rest_end b (Ok n) p none = nothing_first Additional b n p none
 rest_end b (Err e) p none = refl
 
 -- how many items there are at most
-length-in_section : (which : Section) (xs : List (Result StandingRecord Fault)) (behind : List Item) (m : ℕ) → 1 ≤ m → length behind ≤ m → length (in_section which xs behind) ≤ length xs + m
-length-in_section which [] behind m one l = omega arith
-length-in_section which (Ok x ∷ xs) behind m one l = let rest = length-in_section which xs behind m one l in omega (arith, rest)
-length-in_section Answer (Err f ∷ xs) behind m one l = omega arith
-length-in_section Authority (Err f ∷ xs) behind m one l = omega arith
-length-in_section Additional (Err f ∷ xs) behind m one l = omega arith
+length-in_section : (which : Section) (xs : List (Result StandingRecord Fault)) (after : List Item) (m : ℕ) → 1 ≤ m → length after ≤ m → length (in_section which xs after) ≤ length xs + m
+length-in_section which [] after m one l = omega arith
+length-in_section which (Ok x ∷ xs) after m one l = let rest = length-in_section which xs after m one l in omega (arith, rest)
+length-in_section Answer (Err f ∷ xs) after m one l = omega arith
+length-in_section Authority (Err f ∷ xs) after m one l = omega arith
+length-in_section Additional (Err f ∷ xs) after m one l = omega arith
 
 length-records_in : (b : List ℕ) (n p : ℕ) → length (records_in b n p) ≤ n
 unfolding records_in
 length-records_in b n p = simp length-map ((readings_of_records_end b).short n p (records_from b n p) ((records_from_are_read b).reading n p))
 
-length-items : (which : Section) (b : List ℕ) (n p m : ℕ) → 1 ≤ m → ((q : ℕ) → length (items_behind which b q) ≤ m) → length (items_in which b n p) ≤ n + m
+length-items : (which : Section) (b : List ℕ) (n p m : ℕ) → 1 ≤ m → ((q : ℕ) → length (items_after which b q) ≤ m) → length (items_in which b n p) ≤ n + m
 length-items which b n p m one l =
     let xs = records_in b n p in
-    omega (arith, length-in_section which xs (items_behind which b (records_end p xs)) m one (l (records_end p xs)), length-records_in b n p)
+    omega (arith, length-in_section which xs (items_after which b (records_end p xs)) m one (l (records_end p xs)), length-records_in b n p)
 
 length-items_from : (b : List ℕ) (p : ℕ) → length (items_from Answer b p) ≤ answer_count b + authority_count b + additional_count b + 1
 length-items_from b p =
@@ -120,10 +120,10 @@ passed_all b (stop {f = f} fault) h = let refused = h.0 in absurd (cc)
 
 pub sections_follow : SectionsFollow
 unfolding records_in
-sections_follow which next b p behind start faultless =
+sections_follow which next b p after start faultless =
     let n = record_count which b in
     let end = records_end p (records_in b n p) in
-    (starts_behind which next b p end behind start (passed_all b ((records_from_are_read b).reading n p) faultless), behind_next which next b end behind)
+    (starts_after which next b p end after start (passed_all b ((records_from_are_read b).reading n p) faultless), after_next which next b end after)
 
 -- how many sections there are, this one included
 abbrev pub sections_from : Section → ℕ
@@ -136,7 +136,7 @@ abbrev pub sections_left : Option RecordSection → ℕ
 sections_left None = 0
 sections_left (Some cursor) = sections_from (section_of cursor)
 
-pub fewer_sections : (which next : Section) → section_behind which ≡ Some next → sections_from next < sections_from which
+pub fewer_sections : (which next : Section) → section_after which ≡ Some next → sections_from next < sections_from which
 fewer_sections Answer next e = let same : Authority ≡ next = cc in subst (λ k. sections_from k < 3) same (omega arith)
 fewer_sections Authority next e = let same : Additional ≡ next = cc in subst (λ k. sections_from k < 2) same (omega arith)
 fewer_sections Additional next e = absurd (cc)

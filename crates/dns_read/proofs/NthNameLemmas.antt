@@ -52,31 +52,31 @@ module _ (b : List ℕ) where
 
   -- the last name of the chain is unique
   one_last : (i j : ℕ) (x y : Labels) → nth_name b i ≡ Some x → nth_name b (suc i) ≡ None → nth_name b j ≡ Some y → nth_name b (suc j) ≡ None → Some x ≡ Some y
-  one_last i j x y at_i behind_i at_j behind_j =
+  one_last i j x y at_i after_i at_j after_j =
       elim (leb_tells (suc i) j) [
-        | inl l ↦ absurd (before_some (suc i) j y behind_i at_j l.1)
+        | inl l ↦ absurd (before_some (suc i) j y after_i at_j l.1)
         | inr l ↦ elim (leb_tells (suc j) i) [
-          | inl k ↦ absurd (before_some (suc j) i x behind_j at_i k.1)
+          | inl k ↦ absurd (before_some (suc j) i x after_j at_i k.1)
           | inr k ↦ let same : i ≡ j = omega (arith, l.1, k.1) in sym at_i ∙ ap (nth_name b) same ∙ at_j
         ]
       ]
 
   -- if the chain ends with x, no other result is possible
   end_alone : (i p : ℕ) (x : Labels) (y : Option Labels) → i < 20 → start_of Answer b ≡ Some p → nth_name b i ≡ Some x → nth_name b (suc i) ≡ None → CanonicalName b y → Some x ≡ y
-  end_alone i p x y l start at_i behind_i (ends j q name k starts at_j behind_j) = one_last i j x name at_i behind_i at_j behind_j
-  end_alone i p x y l start at_i behind_i (goes_on name at_end) = absurd (before_some (suc i) 20 name behind_i at_end (omega arith))
-  end_alone i p x y l start at_i behind_i (no_question none) = absurd (before_some 0 i x none at_i (omega arith))
-  end_alone i p x y l start at_i behind_i (no_section none) = absurd (let same = sym start ∙ none in cc)
+  end_alone i p x y l start at_i after_i (ends j q name k starts at_j after_j) = one_last i j x name at_i after_i at_j after_j
+  end_alone i p x y l start at_i after_i (goes_on name at_end) = absurd (before_some (suc i) 20 name after_i at_end (omega arith))
+  end_alone i p x y l start at_i after_i (no_question none) = absurd (before_some 0 i x none at_i (omega arith))
+  end_alone i p x y l start at_i after_i (no_section none) = absurd (let same = sym start ∙ none in cc)
 
   -- if the chain doesn't end, there is no canonical name
   no_end : (y : Option Labels) → CanonicalName b y → CanonicalName b None → None ≡ y
-  no_end y (ends i p name l start at_i behind_i) h = sym (end_alone i p name None l start at_i behind_i h)
+  no_end y (ends i p name l start at_i after_i) h = sym (end_alone i p name None l start at_i after_i h)
   no_end y (goes_on name at_end) h = refl
   no_end y (no_question none) h = refl
   no_end y (no_section none) h = refl
 
   one_answer : (x y : Option Labels) → CanonicalName b x → CanonicalName b y → x ≡ y
-  one_answer x y (ends i p name l start at_i behind_i) h = end_alone i p name y l start at_i behind_i h
+  one_answer x y (ends i p name l start at_i after_i) h = end_alone i p name y l start at_i after_i h
   one_answer x y (goes_on name at_end) h = no_end y h (goes_on name at_end)
   one_answer x y (no_question none) h = no_end y h (no_question none)
   one_answer x y (no_section none) h = no_end y h (no_section none)

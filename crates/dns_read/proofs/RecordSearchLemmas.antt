@@ -26,9 +26,9 @@ use Rattle.dns_read.specs.RecordSearches.{last_from, last_item, last_record, las
 use Rattle.dns_read.proofs.theory.SectionStartLemmas.{begins_reading, no_reading, no_additionals, begun, not_begun}
 
 -- the last item of a list, after the last item so far
-abbrev pub last_behind : {X : Type 0} → Option X → List X → Option X
-last_behind None xs = last_item xs
-last_behind (Some x) xs = Some (last_from x xs)
+abbrev pub last_after : {X : Type 0} → Option X → List X → Option X
+last_after None xs = last_item xs
+last_after (Some x) xs = Some (last_from x xs)
 
 module _ (b : List ℕ) where
   -- the last record of the additional section, by a cursor over it

@@ -12,7 +12,7 @@ use Rattle.dns_item.specs.ParsedRecord.{StandingRecord, standing_record}
 use Rattle.dns_item.specs.declared.parsed_record.ParsedRecord.{ParsedRecord}
 use Rattle.dns_section.specs.RecordSection.{octets_of, position, section_of, to_come}
 use Rattle.dns_section.specs.RecordsFrom.{records_in}
-use Rattle.dns_section.specs.Sections.{authority_count, additional_count, record_count, StartsAt, section_behind}
+use Rattle.dns_section.specs.Sections.{authority_count, additional_count, record_count, StartsAt, section_after}
 use Rattle.dns_section.specs.declared.record_section.RecordSection.{RecordSection}
 use Rattle.dns_section.specs.declared.section.Section.{Section}
 use Rattle.dns_section.specs.declared.section.Section.TheVariants.{Answer, Authority, Additional}
@@ -36,9 +36,9 @@ once_more Additional f = []
 
 -- the items of a section, each record with its section, then those of the sections after it; a fault ends them
 abbrev pub in_section : Section → List (Result StandingRecord Fault) → List Item → List Item
-in_section which [] behind = behind
-in_section which (Ok x ∷ xs) behind = Ok (x, which) ∷ in_section which xs behind
-in_section which (Err f ∷ xs) behind = Err f ∷ once_more which f
+in_section which [] after = after
+in_section which (Ok x ∷ xs) after = Ok (x, which) ∷ in_section which xs after
+in_section which (Err f ∷ xs) after = Err f ∷ once_more which f
 
 -- the offset where the last record of a reading from p ends
 abbrev pub records_end : ℕ → List (Result StandingRecord Fault) → ℕ
@@ -51,14 +51,14 @@ abbrev pub records_then : Section → List ℕ → ℕ → (ℕ → List Item) �
 records_then which b n follows p = let xs = records_in b n p in in_section which xs (follows (records_end p xs))
 
 -- the items of the sections after this one, by the offset where the first of them starts
-abbrev pub items_behind : Section → List ℕ → ℕ → List Item
-items_behind Answer b = records_then Authority b (authority_count b) (records_then Additional b (additional_count b) (λ _. []))
-items_behind Authority b = records_then Additional b (additional_count b) (λ _. [])
-items_behind Additional b = λ _. []
+abbrev pub items_after : Section → List ℕ → ℕ → List Item
+items_after Answer b = records_then Authority b (authority_count b) (records_then Additional b (additional_count b) (λ _. []))
+items_after Authority b = records_then Additional b (additional_count b) (λ _. [])
+items_after Additional b = λ _. []
 
 -- at most n records of a section from an offset, then the items of the sections after it
 abbrev pub items_in : Section → List ℕ → ℕ → ℕ → List Item
-items_in which b n = records_then which b n (items_behind which b)
+items_in which b n = records_then which b n (items_after which b)
 
 -- the items of this section and of those after it, by the offset where this one starts
 abbrev pub items_from : Section → List ℕ → ℕ → List Item
@@ -118,5 +118,5 @@ HasNoFault = AllByRecursion IsOk
 
 -- If the reading of a section has no fault, the next section starts where the last of its records ends, and the items of the sections after it begin there.
 abbrev pub SectionsFollow : Type 0
-SectionsFollow = (which next : Section) (b : List ℕ) (p : ℕ) → section_behind which ≡ Some next → StartsAt which b p
-    → let xs = records_in b (record_count which b) p in HasNoFault xs → StartsAt next b (records_end p xs) × (items_behind which b (records_end p xs) ≡ items_from next b (records_end p xs))
+SectionsFollow = (which next : Section) (b : List ℕ) (p : ℕ) → section_after which ≡ Some next → StartsAt which b p
+    → let xs = records_in b (record_count which b) p in HasNoFault xs → StartsAt next b (records_end p xs) × (items_after which b (records_end p xs) ≡ items_from next b (records_end p xs))

@@ -279,7 +279,7 @@ impl<Octs: OctetsMut> Message<Octs> {
         ensures count { additional_count (message_octets self.new)
             ≡ additional_count (message_octets self.old) - 1 }
         ensures before { take 10 (message_octets self.new) ≡ take 10 (message_octets self.old) }
-        ensures behind { drop header_size (message_octets self.new)
+        ensures after { drop header_size (message_octets self.new)
             ≡ drop header_size (message_octets self.old) }
     {
         let count = self.header_counts().arcount() - 1;

@@ -82,7 +82,7 @@ fn composes_headers_and_data(rt: HostRuntime) {
 
 /// The length is that of what is written.
 #[test]
-fn composes_compressed_data_behind_its_length(rt: HostRuntime) {
+fn composes_compressed_data_after_its_length(rt: HostRuntime) {
     let server = Ns::new(name(&rt, b"\x01a\x00"));
     assert_holds(&rt, "type", server.rtype() == Rtype::NS);
     let mut target = StaticCompressor::new(Vec::new(rt.alloc()));

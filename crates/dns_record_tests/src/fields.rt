@@ -10,19 +10,19 @@ use dns_message::wire::AppendError;
 /// Appends fields in order.
 pub fn compose_fields<T: Composer>(
     first: &[u8],
-    behind: &[&[u8]],
+    after: &[&[u8]],
     target: &mut T,
 ) -> Result<(), AppendError>
     ensures { Composes T.room T.grows (put_parts T.rule (Octets first.now
-        ∷ map (λ field. Octets field.now) behind.now)) (T.written target.old)
+        ∷ map (λ field. Octets field.now) after.now)) (T.written target.old)
         (T.written target.new) result }
 {
     parts_compose();
-    match behind {
+    match after {
         [] => target.append_slice(first),
-        [second, behind @ ..] => {
+        [second, after @ ..] => {
             target.append_slice(first)?;
-            compose_fields(second, behind, target)
+            compose_fields(second, after, target)
         }
     }
 }

@@ -59,7 +59,7 @@ fn address_in(parser: &mut Parser<'_>) -> Result<Option<[u8; 4]>, ParseError> {
 }
 
 #[test]
-fn reads_data_behind_a_header(rt: HostRuntime) -> Result<(), Fail> {
+fn reads_data_after_a_header(rt: HostRuntime) -> Result<(), Fail> {
     let address = address_in(&mut Parser::new(ADDRESS));
     assert_holds(&rt, "address", address == Ok(Some([203, 0, 113, 1])));
     let mut parser = Parser::new(&ADDRESS[..16]);

@@ -50,12 +50,12 @@ module _ {F R : Type 0} (call : F → ParsedRecord → Option R → F → Type 0
   keeps_cut none h = (refl, h)
   keeps_cut (dropped {xs = xs} shown called rest) h =
       let one = cuts _ shown None _ h called in
-      let behind = keeps_cut rest one.1 in
-      (behind.0 ∙ ap (λ o. cons_option o (filter_map (cut_item most) xs)) one.0, behind.1)
+      let after = keeps_cut rest one.1 in
+      (after.0 ∙ ap (λ o. cons_option o (filter_map (cut_item most) xs)) one.0, after.1)
   keeps_cut (kept {xs = xs} shown answer called rest) h =
       let one = cuts _ shown (Some answer) _ h called in
-      let behind = keeps_cut rest one.1 in
-      (ap (λ (items : List RecordItem). item answer ∷ items) behind.0 ∙ ap (λ o. cons_option o (filter_map (cut_item most) xs)) one.0, behind.1)
+      let after = keeps_cut rest one.1 in
+      (ap (λ (items : List RecordItem). item answer ∷ items) after.0 ∙ ap (λ o. cons_option o (filter_map (cut_item most) xs)) one.0, after.1)
 
   pub section_cut : (b : List ℕ) (section : Section) (f g : F) (items : List RecordItem) → KeepsSection call item b section f items g → Holds f → CutsSection most b section items × Holds g
   section_cut b section f g items k h =

@@ -36,9 +36,9 @@ no_start_fault Authority b p f x y = (start_or_fault.authorities b).not_both p f
 no_start_fault Additional b p f x y = (start_or_fault.additionals b).not_both p f x y
 
 -- a reading without a fault has none after its first item
-behind_first : (r : Result RecordItem Fault) (rest : List (Result RecordItem Fault)) → first_fault (r ∷ rest) ≡ None → first_fault rest ≡ None
-behind_first (Ok x) rest whole = whole
-behind_first (Err f) rest whole = absurd (cc)
+after_first : (r : Result RecordItem Fault) (rest : List (Result RecordItem Fault)) → first_fault (r ∷ rest) ≡ None → first_fault rest ≡ None
+after_first (Ok x) rest whole = whole
+after_first (Err f) rest whole = absurd (cc)
 
 -- each section of a readable message can be read
 pub section_reads : (b : List ℕ) → MessageReads b → (section : Section) → SectionReads b section
@@ -51,7 +51,7 @@ module _ {F R : Type 0} (call : F → ParsedRecord → Option R → F → Type 0
       → CopiesList call item room grows rule stage xs f s result g t → result ≡ Err (Parse e) → first_fault (limited (every any_layout) xs) ≡ None → ⊥
   no_fault_in_list stage no_record is whole = absurd (cc)
   no_fault_in_list stage (record_copied {x = x} {xs = xs} one rest) is whole =
-      no_fault_in_list stage rest is (behind_first (laid_out x (any_layout x.entry.rtype)) (limited (every any_layout) xs) whole)
+      no_fault_in_list stage rest is (after_first (laid_out x (any_layout x.entry.rtype)) (limited (every any_layout) xs) whole)
   no_fault_in_list stage (refused one) is whole = absurd (cc)
   no_fault_in_list stage fault is whole = absurd (cc)
 

@@ -14,7 +14,7 @@ use Rattle.dns_section.specs.RecordsFrom.{in_octets, records_from, records_in}
 use Rattle.dns_section.specs.Sections.{record_count}
 use Rattle.dns_section.specs.declared.section.Section.{Section}
 use Rattle.dns_section.specs.declared.section.Section.TheVariants.{Answer, Authority, Additional}
-use Rattle.dns_build.specs.Answers.{RefusesBehind}
+use Rattle.dns_build.specs.Answers.{RefusesAfter}
 use Rattle.dns_build.specs.CopyRecords.{CopiesList, CopiesSection, CopiesSections, PushesKept, record_sections}
 use Rattle.dns_build.specs.CopyRecords.CopiesList.{none as no_record, copied as record_copied, refused, fault}
 use Rattle.dns_build.specs.CopyRecords.CopiesSection.{started, unstarted}
@@ -197,7 +197,7 @@ module _ (grows : Bool) where
 
   -- pushing one of several questions fails only because an allocation failed
   pub asking_refused : (s : State) (xs first : List QuestionItem) (e : PushError) → IsOpen s → Every IsNamed xs → length s.questions + length xs ≤ most_entries
-      → RefusesBehind None grows Static s xs first e → e ≡ OutOfMemory
+      → RefusesAfter None grows Static s xs first e → e ≡ OutOfMemory
   asking_refused s xs first e is all few p =
       let named = every_parts IsNamed first (p.next ∷ p.others) (subst (Every IsNamed) p.all all) in
       let l = ap (λ (ys : List QuestionItem). length ys) p.all in

@@ -62,9 +62,9 @@ unfolding put_record
 record_most x is m w =
     let fields = record_fields x in
     let data_piece = put_parts Static x.parts in
-    let behind = length_most data_piece (parts_size x.parts) (parts_are_short Static x.parts) in
+    let after = length_most data_piece (parts_size x.parts) (parts_are_short Static x.parts) in
     let a = both_most (put_name Static x.owner) (both (put_octets fields) (with_length data_piece)) 255 (8 + (2 + parts_size x.parts)) (name_most x.owner is.owner)
-    (both_most (put_octets fields) (with_length data_piece) 8 (2 + parts_size x.parts) (octets_most fields) behind) m w in
+    (both_most (put_octets fields) (with_length data_piece) 8 (2 + parts_size x.parts) (octets_most fields) after) m w in
     let b = is.parts in
     omega (arith, a, b)
 

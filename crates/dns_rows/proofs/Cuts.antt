@@ -12,12 +12,12 @@ pub walk_within : (w : Walk) → at w ≤ length (octets w)
 walk_within w = omega (arith, length-take w.parser.end w.parser.octets.now, w.parser.before_end, w.parser.within)
 
 -- the first field is incomplete
-pub cut_here : (p n e : ℕ) (field : Field) (behind : List Row) (old new : Walk) (fault : Fault) → LacksField field (octets old) (at old + n) fault → new ≡ old → at old ≡ p → e ≡ p + n
-    → CutsFields (field_row p e field ∷ behind) old new fault
-cut_here p n e field behind old new fault h same offset end =
-    let P : ℕ → Type 0 = λ q. CutRows (octets old) (field_row p e field ∷ behind) q fault [] in
+pub cut_here : (p n e : ℕ) (field : Field) (after : List Row) (old new : Walk) (fault : Fault) → LacksField field (octets old) (at old + n) fault → new ≡ old → at old ≡ p → e ≡ p + n
+    → CutsFields (field_row p e field ∷ after) old new fault
+cut_here p n e field after old new fault h same offset end =
+    let P : ℕ → Type 0 = λ q. CutRows (octets old) (field_row p e field ∷ after) q fault [] in
     let within : p ≤ length (octets old) = omega (arith, walk_within old, offset) in
-    let cut : P p = record { field = field; end = e; behind = behind; made = refl; within = within; short = omega (arith, h.1, offset, end); told = h.0 } in
+    let cut : P p = record { field = field; end = e; after = after; made = refl; within = within; short = omega (arith, h.1, offset, end); told = h.0 } in
     record {
       rows = [];
       adds = ap (λ (w : Walk). w.rows.items) same ∙ sym (append-nil old.rows.items);
@@ -25,24 +25,24 @@ cut_here p n e field behind old new fault h same offset end =
     }
 
 -- a field after others is incomplete
-cut_rows_after : (b : List ℕ) (front behind rows : List Row) (offset : ℕ) (fault : Fault) → CutRows b behind offset fault rows → CutRows b (front ++ behind) offset fault (front ++ rows)
-cut_rows_after b front behind rows offset fault h = record {
+cut_rows_after : (b : List ℕ) (front after rows : List Row) (offset : ℕ) (fault : Fault) → CutRows b after offset fault rows → CutRows b (front ++ after) offset fault (front ++ rows)
+cut_rows_after b front after rows offset fault h = record {
   field = h.field;
   end = h.end;
-  behind = h.behind;
-  made = ap (λ others. front ++ others) h.made ∙ sym (append_assoc front rows (field_row offset h.end h.field ∷ h.behind));
+  after = h.after;
+  made = ap (λ others. front ++ others) h.made ∙ sym (append_assoc front rows (field_row offset h.end h.field ∷ h.after));
   within = h.within;
   short = h.short;
   told = h.told;
 }
 
-pub cut_after : (front behind : List Row) (q : ℕ) (old mid new : Walk) (fault : Fault) → Adds front q old mid → CutsFields behind mid new fault → CutsFields (front ++ behind) old new fault
-cut_after front behind q old mid new fault h k =
-    let cut = cut_rows_after (octets mid) front behind k.rows (at new) fault k.cut in
+pub cut_after : (front after : List Row) (q : ℕ) (old mid new : Walk) (fault : Fault) → Adds front q old mid → CutsFields after mid new fault → CutsFields (front ++ after) old new fault
+cut_after front after q old mid new fault h k =
+    let cut = cut_rows_after (octets mid) front after k.rows (at new) fault k.cut in
     record {
       rows = front ++ k.rows;
       adds = k.adds ∙ ap (λ rows. rows ++ k.rows) h.rows ∙ append_assoc old.rows.items front k.rows;
-      cut = subst (λ b. CutRows b (front ++ behind) (at new) fault (front ++ k.rows)) h.seen cut;
+      cut = subst (λ b. CutRows b (front ++ after) (at new) fault (front ++ k.rows)) h.seen cut;
     }
 
 -- fields after the incomplete one make no difference
@@ -53,8 +53,8 @@ cut_before whole others old new fault h = record {
   cut = record {
     field = h.cut.field;
     end = h.cut.end;
-    behind = h.cut.behind ++ others;
-    made = ap (λ rows. rows ++ others) h.cut.made ∙ append_assoc h.rows (field_row (at new) h.cut.end h.cut.field ∷ h.cut.behind) others;
+    after = h.cut.after ++ others;
+    made = ap (λ rows. rows ++ others) h.cut.made ∙ append_assoc h.rows (field_row (at new) h.cut.end h.cut.field ∷ h.cut.after) others;
     within = h.cut.within;
     short = h.cut.short;
     told = h.cut.told;

@@ -31,11 +31,11 @@ pub octets_then : (n : ℕ) (field : Field) (shape : Shape) (stop : Option RowFa
     → at old + n ≤ length (octets old) → MarksData shape stop mid new → MarksData (Octets n field shape) stop old new
 octets_then n field shape stop old mid new h within k =
     let P : List ℕ → ℕ → Type 0 = λ b p. ShowsData b shape stop p (at new) k.rows in
-    let behind : P (octets old) (at old + n) = subst (λ b. P b (at old + n)) h.seen (subst (λ p. P (octets mid) p) h.offset k.shows) in
+    let after : P (octets old) (at old + n) = subst (λ b. P b (at old + n)) h.seen (subst (λ p. P (octets mid) p) h.offset k.shows) in
     record {
       rows = field_row (at old) (at old + n) field ∷ k.rows;
       adds = k.adds ∙ ap (λ rows. rows ++ k.rows) h.rows ∙ append_assoc old.rows.items (field_row (at old) (at old + n) field ∷ []) k.rows;
-      shows = more_octets within behind;
+      shows = more_octets within after;
     }
 
 -- an incomplete field of n octets
@@ -49,11 +49,11 @@ octets_short n field shape old new fault h same =
 -- a name, and then the remaining fields
 pub name_then : (of : NameOf) (shape : Shape) (stop : Option RowFault) (old mid new : Walk) → PassesName of old mid → MarksData shape stop mid new → MarksData (Named of shape) stop old new
 name_then of shape stop old mid new h k =
-    let behind : ShowsData (octets old) shape stop (at mid) (at new) k.rows = subst (λ b. ShowsData b shape stop (at mid) (at new) k.rows) h.adds.seen k.shows in
+    let after : ShowsData (octets old) shape stop (at mid) (at new) k.rows = subst (λ b. ShowsData b shape stop (at mid) (at new) k.rows) h.adds.seen k.shows in
     record {
       rows = h.rows ++ k.rows;
       adds = k.adds ∙ ap (λ rows. rows ++ k.rows) h.adds.rows ∙ append_assoc old.rows.items h.rows k.rows;
-      shows = name h.rows k.rows h.stands h.walked h.shows behind;
+      shows = name h.rows k.rows h.stands h.walked h.shows after;
     }
 
 -- a name that can't be read

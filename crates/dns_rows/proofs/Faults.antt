@@ -9,7 +9,7 @@ use Rattle.dns_name.specs.Names.Faulty.{head, long, cut, ahead, label, pointer}
 use Rattle.dns_name.specs.declared.head.Head.TheVariants.{Root, Label, Pointer}
 use Rattle.dns_name.proofs.theory.HeadLemmas.{at_label, at_pointer, label_begins, pointer_begins, root_begins}
 use Rattle.dns_rows.specs.Faults.{StopsName, TellsFault}
-use Rattle.dns_rows.specs.Faults.StopsName.{none as no_octet, half as half_pointer, cut as cut_label, label as no_label, long as long_name, ahead as ahead_pointer, behind as behind_pointer, pointed}
+use Rattle.dns_rows.specs.Faults.StopsName.{none as no_octet, half as half_pointer, cut as cut_label, label as no_label, long as long_name, ahead as ahead_pointer, after as after_pointer, pointed}
 use Rattle.dns_rows.specs.declared.row.Fault.{Fault as RowFault}
 use Rattle.dns_rows.specs.declared.row.Fault.TheVariants as faults
 use Rattle.dns_rows.specs.declared.row.Field.TheVariants as fields
@@ -133,5 +133,5 @@ tells_name b of start p _ f (cut_label {n = n} h fits past) w = fault_of_cut b p
 tells_name b of start p _ f (no_label h) w = fault_of_none b p (p - start) f Form h w
 tells_name b of start p _ f (long_name {n = n} h far) w = fault_of_long b p (p - start) n f h far w
 tells_name b of start p _ f (ahead_pointer {t = t} h far) w = fault_of_ahead b p (p - start) t f h far w
-tells_name b of start p _ f (behind_pointer h back no_name) w = tt
+tells_name b of start p _ f (after_pointer h back no_name) w = tt
 tells_name b of start p _ f (pointed {name = name} h back there) w = form_of_standing b p (p - start) f name (Stands.pointer h back there) w

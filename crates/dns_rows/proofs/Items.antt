@@ -7,7 +7,7 @@ use Rattle.dns_name.specs.Names.Fault.{ShortInput}
 use Rattle.dns_name.specs.Parsers.{number_at}
 use Rattle.dns_rows.specs.Data.{shape_of, ShowsData}
 use Rattle.dns_rows.specs.Walks.StopsWithin.{missing, stopped}
-use Rattle.dns_question.specs.BehindNames.FieldsFaultAt.{name as name_fault, short as short_fields}
+use Rattle.dns_question.specs.AfterNames.FieldsFaultAt.{name as name_fault, short as short_fields}
 use Rattle.dns_code.specs.HeaderCounts.{Counts}
 use Rattle.dns_question.specs.Questions.{QuestionItem}
 use Rattle.dns_item.specs.Items.{LacksRecord, RecordEntry, ReadsRecord}
@@ -53,15 +53,15 @@ pub question_unnamed : (number : ℕ) (old new : Walk) (fault : RowFault) → Mi
 question_unnamed number old new fault h = marks_stop Question number h.rows old new fault h.adds (Err h.f, (name_fault h.lacks.faulty, name_lacks h.lacks))
 
 -- a field after the name of an item is incomplete
-behind_name : (of : NameOf) (behind : ℕ → List Row) (row : Row) (old mid new : Walk) (fault : RowFault) (h : PassesItemName of row old mid) (k : CutsFields (behind (at mid)) mid new fault)
-    → LacksItem (octets old) of behind (at old) ShortInput (at new) fault (h.rows ++ k.rows)
-behind_name of behind row old mid new fault h k =
-    fields_lack h.rows k.rows h.stands h.walked h.shows (subst (λ b. CutRows b (behind (at mid)) (at new) fault k.rows) h.adds.seen k.cut)
+after_name : (of : NameOf) (after : ℕ → List Row) (row : Row) (old mid new : Walk) (fault : RowFault) (h : PassesItemName of row old mid) (k : CutsFields (after (at mid)) mid new fault)
+    → LacksItem (octets old) of after (at old) ShortInput (at new) fault (h.rows ++ k.rows)
+after_name of after row old mid new fault h k =
+    fields_lack h.rows k.rows h.stands h.walked h.shows (subst (λ b. CutRows b (after (at mid)) (at new) fault k.rows) h.adds.seen k.cut)
 
 -- the rows of an item up to the incomplete field
-rows_there : (of : NameOf) (row : Row) (behind : List Row) (old mid new : Walk) (fault : RowFault) (h : PassesItemName of row old mid) (k : CutsFields behind mid new fault)
+rows_there : (of : NameOf) (row : Row) (after : List Row) (old mid new : Walk) (fault : RowFault) (h : PassesItemName of row old mid) (k : CutsFields after mid new fault)
     → new.rows.items ≡ old.rows.items ++ row ∷ (h.rows ++ k.rows)
-rows_there of row behind old mid new fault h k = k.adds ∙ ap (λ rows. rows ++ k.rows) h.adds.rows ∙ append_assoc old.rows.items (row ∷ h.rows) k.rows
+rows_there of row after old mid new fault h k = k.adds ∙ ap (λ rows. rows ++ k.rows) h.adds.rows ∙ append_assoc old.rows.items (row ∷ h.rows) k.rows
 
 -- a question whose type or class is incomplete
 pub question_short : (number : ℕ) (old mid new : Walk) (fault : RowFault) → PassesItemName names.Question (item_row Question number (at old)) old mid → CutsFields (question_rows (at mid)) mid new fault
@@ -69,7 +69,7 @@ pub question_short : (number : ℕ) (old mid new : Walk) (fault : RowFault) → 
 question_short number old mid new fault h k short =
     let row = item_row Question number (at old) in
     let short_there : length (octets old) < at mid + 4 = subst (λ (b : List ℕ). length b < at mid + 4) h.adds.seen short in
-    let lacks = behind_name names.Question (λ r. question_rows r) row old mid new fault h k in
+    let lacks = after_name names.Question (λ r. question_rows r) row old mid new fault h k in
     marks_stop Question number (h.rows ++ k.rows) old new fault (rows_there names.Question row (question_rows (at mid)) old mid new fault h k)
     (Err ShortInput, (short_fields h.stands h.walked short_there, lacks))
 
@@ -139,7 +139,7 @@ record_short part number old mid new fault records h k short =
     let b = octets old in
     let short_there : LacksRecord b (at mid) = subst (λ b. LacksRecord b (at mid)) h.adds.seen short in
     let cut : CutsFields (record_rows b (at mid)) mid new fault = subst (λ b. CutsFields (record_rows b (at mid)) mid new fault) h.adds.seen k in
-    let lacks = behind_name names.Owner (record_rows b) row old mid new fault h cut in
+    let lacks = after_name names.Owner (record_rows b) row old mid new fault h cut in
     marks_stop part number (h.rows ++ cut.rows) old new fault (rows_there names.Owner row (record_rows b (at mid)) old mid new fault h cut)
     (record_stops b part (at old) (at new) fault (h.rows ++ cut.rows) records (Err ShortInput, (short_fields h.stands h.walked short_there, lacks)))
 
@@ -182,9 +182,9 @@ pub opt_cut_2 : (old a new : Walk) (fault : RowFault) → Adds (field_row (at ol
 opt_cut_2 old a new fault h k same =
     let p = at old in
     let grown : p + 3 ≡ p + 2 + 1 = omega arith in
-    let behind = field_row (p + 3) (p + 4) fields.Version ∷ field_row (p + 4) (p + 6) fields.OptFlags ∷ [] in
-    cut_after (field_row p (p + 2) fields.PayloadSize ∷ []) (field_row (p + 2) (p + 3) fields.ExtendedRcode ∷ behind) (p + 2) old a new fault h
-    (cut_here (p + 2) 1 (p + 3) fields.ExtendedRcode behind a new fault k same h.offset grown)
+    let after = field_row (p + 3) (p + 4) fields.Version ∷ field_row (p + 4) (p + 6) fields.OptFlags ∷ [] in
+    cut_after (field_row p (p + 2) fields.PayloadSize ∷ []) (field_row (p + 2) (p + 3) fields.ExtendedRcode ∷ after) (p + 2) old a new fault h
+    (cut_here (p + 2) 1 (p + 3) fields.ExtendedRcode after a new fault k same h.offset grown)
 
 two_opt_rows : (old a b : Walk) → Adds (field_row (at old) (at old + 2) fields.PayloadSize ∷ []) (at old + 2) old a → Adds (field_row (at a) (at a + 1) fields.ExtendedRcode ∷ []) (at a + 1) a b
     → Adds (field_row (at old) (at old + 2) fields.PayloadSize ∷ field_row (at old + 2) (at old + 3) fields.ExtendedRcode ∷ []) (at old + 3) old b
@@ -198,9 +198,9 @@ opt_cut_3 old a b new fault h k l same =
     let p = at old in
     let both = two_opt_rows old a b h k in
     let grown : p + 4 ≡ p + 3 + 1 = omega arith in
-    let behind = field_row (p + 4) (p + 6) fields.OptFlags ∷ [] in
-    cut_after (field_row p (p + 2) fields.PayloadSize ∷ field_row (p + 2) (p + 3) fields.ExtendedRcode ∷ []) (field_row (p + 3) (p + 4) fields.Version ∷ behind) (p + 3) old b new fault both
-    (cut_here (p + 3) 1 (p + 4) fields.Version behind b new fault l same both.offset grown)
+    let after = field_row (p + 4) (p + 6) fields.OptFlags ∷ [] in
+    cut_after (field_row p (p + 2) fields.PayloadSize ∷ field_row (p + 2) (p + 3) fields.ExtendedRcode ∷ []) (field_row (p + 3) (p + 4) fields.Version ∷ after) (p + 3) old b new fault both
+    (cut_here (p + 3) 1 (p + 4) fields.Version after b new fault l same both.offset grown)
 
 pub opt_cut_4 : (old a b d new : Walk) (fault : RowFault) → Adds (field_row (at old) (at old + 2) fields.PayloadSize ∷ []) (at old + 2) old a → Adds (field_row (at a) (at a + 1) fields.ExtendedRcode ∷ []) (at a + 1) a b
     → Adds (field_row (at b) (at b + 1) fields.Version ∷ []) (at b + 1) b d → LacksField fields.OptFlags (octets d) (at d + 2) fault → new ≡ d → CutsFields (opt_rows (at old)) old new fault
@@ -352,24 +352,24 @@ pub first_none : (part : Part) (old : Walk) → MarksFirst part 0 old old
 first_none part old = record {
   rows = [];
   adds = record { rows = sym (append-nil old.rows.items); seen = refl; offset = refl };
-  first = λ k end stop behind r.
+  first = λ k end stop after r.
       let same : k ≡ 0 + k = omega arith in
-      subst (λ m. ReadingRows (octets old) part 1 (reading_from (octets old) part m (at old)) stop (at old) end behind) same r;
+      subst (λ m. ReadingRows (octets old) part 1 (reading_from (octets old) part m (at old)) stop (at old) end after) same r;
   skips = λ k end w. let same : k ≡ 0 + k = omega arith in subst (λ m. Passed (SkipsItem (octets old) part) m (at old) end) same w;
 }
 
 one_more_row : (b : List ℕ) (part : Part) (n p q r : ℕ) (x : Entry part) (first rows : List Row) → AreFirstRows b part n p q first → ShowsItem b part (suc n) x q r rows
     → AreFirstRows b part (n + 1) p r (first ++ rows)
-one_more_row b part n p q r x first rows h shows = λ k end stop behind w.
-    let numbered : ReadingRows b part (suc (suc n)) (reading_from b part k r) stop r end behind =
-    subst (λ i. ReadingRows b part (suc i) (reading_from b part k r) stop r end behind) (add-one n) w in
-    let there : ReadingRows b part (suc n) (Ok x ∷ reading_from b part k r) stop q end (rows ++ behind) = entry rows behind shows numbered in
-    let P : List (Result (Entry part) Fault) → Type 0 = λ xs. ReadingRows b part (suc n) xs stop q end (rows ++ behind) in
+one_more_row b part n p q r x first rows h shows = λ k end stop after w.
+    let numbered : ReadingRows b part (suc (suc n)) (reading_from b part k r) stop r end after =
+    subst (λ i. ReadingRows b part (suc i) (reading_from b part k r) stop r end after) (add-one n) w in
+    let there : ReadingRows b part (suc n) (Ok x ∷ reading_from b part k r) stop q end (rows ++ after) = entry rows after shows numbered in
+    let P : List (Result (Entry part) Fault) → Type 0 = λ xs. ReadingRows b part (suc n) xs stop q end (rows ++ after) in
     let read = subst P (sym (reads_next b part (suc n) k q r x rows shows)) there in
-    let all = h (suc k) end stop (rows ++ behind) read in
+    let all = h (suc k) end stop (rows ++ after) read in
     let counted : n + suc k ≡ n + 1 + k = omega arith in
     let Q : ℕ → List Row → Type 0 = λ m shown. ReadingRows b part 1 (reading_from b part m p) stop p end shown in
-    subst (λ m. Q m ((first ++ rows) ++ behind)) counted (subst (λ shown. Q (n + suc k) shown) (sym (append_assoc first rows behind)) all)
+    subst (λ m. Q m ((first ++ rows) ++ after)) counted (subst (λ shown. Q (n + suc k) shown) (sym (append_assoc first rows after)) all)
 
 pub one_more_item : (part : Part) (n : ℕ) (old mid new : Walk) → MarksFirst part n old mid → MarksItem part (n + 1) mid new → MarksFirst part (n + 1) old new
 one_more_item part n old mid new h k =
@@ -466,11 +466,11 @@ pub part_then : (all : Counts) (part : Part) (parts : List Part) (stop : Option 
     → MarksParts (part ∷ parts) stop old new
 part_then all part parts stop old mid new h k l =
     let b = octets old in
-    let behind : ShowsParts b parts stop (at mid) (at new) l.rows = subst (λ b. ShowsParts b parts stop (at mid) (at new) l.rows) k.adds.seen l.shows in
+    let after : ShowsParts b parts stop (at mid) (at new) l.rows = subst (λ b. ShowsParts b parts stop (at mid) (at new) l.rows) k.adds.seen l.shows in
     record {
       rows = k.rows ++ l.rows;
       adds = l.adds ∙ ap (λ rows. rows ++ l.rows) k.adds.rows ∙ append_assoc old.rows.items k.rows l.rows;
-      shows = all_shown k.rows l.rows h.starts (whole_part b part (count_in all part) (count_of b part) (at old) (at mid) k.rows k.first (counted_so b all part h.counts)) behind;
+      shows = all_shown k.rows l.rows h.starts (whole_part b part (count_in all part) (count_of b part) (at old) (at mid) k.rows k.first (counted_so b all part h.counts)) after;
     }
 
 -- what a walk shows that began after the header section, with no rows

@@ -2,9 +2,9 @@
 use Rattle.dns_rows.specs.Named.{LabelRows, NameRows}
 use Rattle.dns_rows.specs.Named.LabelRows.{none as no_labels, label as row_label}
 use Rattle.std.proofs.Common.{◌≡◌, ℕ, ◌+◌, ◌-◌, ◌<◌, ◌≤◌, OnOk, Result, Err, ◌⊎◌, inl, inr, List, [], ◌∷◌, ◌++◌, length, slice_get, Option, Some, None, Ok, ◌∙◌, ap, subst, sym, refl, arith, append_assoc, append-nil}
-use Rattle.dns_name.specs.Names.{head_at, max_size, Fault, Faulty, WalkedBehind}
+use Rattle.dns_name.specs.Names.{head_at, max_size, Fault, Faulty, NameContinues}
 use Rattle.dns_name.specs.Names.Faulty.{head as head_fault, long as long_fault, cut as cut_fault, ahead as ahead_fault, label as label_fault, pointer as pointer_fault}
-use Rattle.dns_name.specs.Names.WalkedBehind.{root as root_walked, pointer as pointer_walked, label as label_walked}
+use Rattle.dns_name.specs.Names.NameContinues.{root as root_walked, pointer as pointer_walked, label as label_walked}
 use Rattle.dns_name.specs.declared.head.Head.TheVariants.{Label}
 use Rattle.dns_name.specs.Unique.{label_of}
 use Rattle.dns_name.proofs.theory.HeadLemmas.{label_there, root_there, root_begins}
@@ -48,23 +48,23 @@ no_label b p size m h wrong n label =
     ]
 
 -- the encoded length of a name, past the label at p
-label_behind : (b : List ℕ) (p s n q : ℕ) → head_at b p ≡ Ok (Label n) → WalkedBehind b p s q → WalkedBehind b (p + 1 + n) (s + n + 1) q
-label_behind b p s n q h (root_walked k) = cc
-label_behind b p s n q h (pointer_walked k) = cc
-label_behind b p s n q h (label_walked {n = m} k short fits w) =
+label_after : (b : List ℕ) (p s n q : ℕ) → head_at b p ≡ Ok (Label n) → NameContinues b p s q → NameContinues b (p + 1 + n) (s + n + 1) q
+label_after b p s n q h (root_walked k) = cc
+label_after b p s n q h (pointer_walked k) = cc
+label_after b p s n q h (label_walked {n = m} k short fits w) =
     let same : m ≡ n = cc in
-    subst (λ n. WalkedBehind b (p + 1 + n) (s + n + 1) q) same w
+    subst (λ n. NameContinues b (p + 1 + n) (s + n + 1) q) same w
 
 -- the fault past the label at p
-fault_behind : (b : List ℕ) (p s n : ℕ) (f : Fault) → IsLabelAt b p s n → Faulty b p s f → Faulty b (p + 1 + n) (s + n + 1) f
-fault_behind b p s n f label (head_fault k) = cc (k, label.begins)
-fault_behind b p s n f label (long_fault {n = m} k long) = let same : m ≡ n = cc (k, label.begins) in absurd (omega (arith, same, long, label.short))
-fault_behind b p s n f label (cut_fault {n = m} k short cut) = let same : m ≡ n = cc (k, label.begins) in absurd (omega (arith, same, cut, label.fits))
-fault_behind b p s n f label (ahead_fault k w) = cc (k, label.begins)
-fault_behind b p s n f label (label_fault {n = m} k short fits w) =
+fault_after : (b : List ℕ) (p s n : ℕ) (f : Fault) → IsLabelAt b p s n → Faulty b p s f → Faulty b (p + 1 + n) (s + n + 1) f
+fault_after b p s n f label (head_fault k) = cc (k, label.begins)
+fault_after b p s n f label (long_fault {n = m} k long) = let same : m ≡ n = cc (k, label.begins) in absurd (omega (arith, same, long, label.short))
+fault_after b p s n f label (cut_fault {n = m} k short cut) = let same : m ≡ n = cc (k, label.begins) in absurd (omega (arith, same, cut, label.fits))
+fault_after b p s n f label (ahead_fault k w) = cc (k, label.begins)
+fault_after b p s n f label (label_fault {n = m} k short fits w) =
     let same : m ≡ n = cc (k, label.begins) in
     subst (λ n. Faulty b (p + 1 + n) (s + n + 1) f) same w
-fault_behind b p s n f label (pointer_fault k back w) = cc (k, label.begins)
+fault_after b p s n f label (pointer_fault k back w) = cc (k, label.begins)
 
 -- one label more after labels
 label_more : (b : List ℕ) (of : NameOf) {start p q n : ℕ} {rows : List Row} → LabelRows b of start p q rows → head_at b q ≡ Ok (Label n) → (q - start) + n + 1 ≤ max_size → q + 1 + n ≤ length b
@@ -73,12 +73,12 @@ label_more b of no_labels h short fits = row_label h short fits no_labels
 label_more b of (row_label k w x l) h short fits = row_label k w x (label_more b of l h short fits)
 
 -- labels, and then the remaining name
-labels_then : (b : List ℕ) (of : NameOf) {first start p q end : ℕ} {rows behind : List Row} → LabelRows b of first p q rows → NameRows b of start q end behind → NameRows b of start p end (rows ++ behind)
+labels_then : (b : List ℕ) (of : NameOf) {first start p q end : ℕ} {rows after : List Row} → LabelRows b of first p q rows → NameRows b of start q end after → NameRows b of start p end (rows ++ after)
 labels_then b of no_labels r = r
 labels_then b of (row_label k w x l) r = label_rows k (labels_then b of l r)
 
 -- the name ends where no label begins
-end_here : (b : List ℕ) (p s q : ℕ) → ((n : ℕ) → IsLabelAt b p s n → ⊥) → WalkedBehind b p s q → IsEnd b p q
+end_here : (b : List ℕ) (p s q : ℕ) → ((n : ℕ) → IsLabelAt b p s n → ⊥) → NameContinues b p s q → IsEnd b p q
 end_here b p s q none (root_walked k) = root_end k
 end_here b p s q none (pointer_walked k) = pointer_end k
 end_here b p s q none (label_walked {n = n} k short fits w) = absurd (none n (record { begins = k; short = short; fits = fits }))
@@ -115,14 +115,14 @@ one_more_label of size n old mid new h label k =
           subst (λ end. P (at new) end) same (subst (λ offset. P offset (at mid + 1 + n)) (sym to) there);
       faults = λ f w.
           let begins_there : IsLabelAt b (at mid) size n = subst (λ b. IsLabelAt b (at mid) size n) h.adds.seen label in
-          let there = fault_behind b (at mid) size n f begins_there (h.faults f w) in
+          let there = fault_after b (at mid) size n f begins_there (h.faults f w) in
           let grown : size + n + 1 ≡ size + (n + 1) = omega arith in
           subst (λ s. Faulty b (at new) s f) grown (subst (λ p. Faulty b p (size + n + 1) f) (sym to) there);
       sizes = omega (arith, to, h.sizes);
       ends = λ q w.
-          let there = label_behind b (at mid) size n q begins (h.ends q w) in
+          let there = label_after b (at mid) size n q begins (h.ends q w) in
           let grown : size + n + 1 ≡ size + (n + 1) = omega arith in
-          subst (λ s. WalkedBehind b (at new) s q) grown (subst (λ p. WalkedBehind b p (size + n + 1) q) (sym to) there);
+          subst (λ s. NameContinues b (at new) s q) grown (subst (λ p. NameContinues b p (size + n + 1) q) (sym to) there);
     }
 
 -- a walk went over all labels of a name if none begins at its offset
@@ -134,7 +134,7 @@ all_labels of size old new h none =
       rows = h.rows;
       adds = h.adds;
       shown = h.shown;
-      labels = λ start end behind r. labels_then (octets old) of h.shown r;
+      labels = λ start end after r. labels_then (octets old) of h.shown r;
       ends = λ q w. end_here (octets old) (at new) size q none_there (h.ends q w);
       order = omega (arith, h.sizes);
       faults = λ f w. subst (λ s. Faulty (octets old) (at new) s f) same (h.faults f w);
@@ -151,15 +151,15 @@ pointer_row b of start p q h (root_end k) = absurd (h (root_there b p k))
 pointer_row b of start p q h (pointer_end k) = pointer_rows k
 
 -- the row for the end of a name, or no row if the allocation fails
-pub end_passed : (of : NameOf) (start : ℕ) (row : Row) (old new : Walk) (behind : Parser) (r : Result Unit Stop) → seen behind ≡ octets old
-    → OnOk r (new.rows.items ≡ old.rows.items ++ row ∷ []) → OnOk r (new.parser ≡ behind)
-    → NameRows (octets old) of start (at old) (offset behind) (row ∷ []) → OnOk r (PassesEnd of start (offset behind) old new)
-end_passed of start row old new behind (Ok v) e h k shows = record {
+pub end_passed : (of : NameOf) (start : ℕ) (row : Row) (old new : Walk) (after : Parser) (r : Result Unit Stop) → seen after ≡ octets old
+    → OnOk r (new.rows.items ≡ old.rows.items ++ row ∷ []) → OnOk r (new.parser ≡ after)
+    → NameRows (octets old) of start (at old) (offset after) (row ∷ []) → OnOk r (PassesEnd of start (offset after) old new)
+end_passed of start row old new after (Ok v) e h k shows = record {
   rows = row ∷ [];
   adds = record { rows = h; seen = ap (λ p. seen p) k ∙ e; offset = ap (λ p. offset p) k };
   shows = shows;
 }
-end_passed of start row old new behind (Err stop) e h k shows = tt
+end_passed of start row old new after (Err stop) e h k shows = tt
 
 -- a row at the offset of a walk
 pub adds_row : (x : List Row) (old mid new : Walk) (p n e : ℕ) (field : Field) → Adds x p old mid

@@ -87,10 +87,10 @@ pub record DataStops (b : List ℕ) (x : RecordEntry) (p offset : ℕ) (fault : 
   pub made : shown ≡ owner_rows ++ (number_rows x.rtype reads.skips.name_end ++ data_rows)
 
 -- An item at p, which is a name and the fields after it, can't be read: its name can't be, or a field is incomplete. The rows are those up to there, after the row where the item begins. RFC 1035 sections 4.1.2 to 4.1.4.
-pub data LacksItem (b : List ℕ) (of : NameOf) (behind : ℕ → List Row) (p : ℕ) : Fault → ℕ → rows.Fault → List Row → Type 0 where
-  name : {f : Fault} {offset : ℕ} {fault : rows.Fault} {shown : List Row} → LacksName b of p f offset fault shown → LacksItem b of behind p f offset fault shown
+pub data LacksItem (b : List ℕ) (of : NameOf) (after : ℕ → List Row) (p : ℕ) : Fault → ℕ → rows.Fault → List Row → Type 0 where
+  name : {f : Fault} {offset : ℕ} {fault : rows.Fault} {shown : List Row} → LacksName b of p f offset fault shown → LacksItem b of after p f offset fault shown
   short : {name : Labels} {r offset : ℕ} {fault : rows.Fault} (name_rows others : List Row) → Stands b p name → Walked b p r → NameRows b of p p r name_rows
-      → CutRows b (behind r) offset fault others → LacksItem b of behind p ShortInput offset fault (name_rows ++ others)
+      → CutRows b (after r) offset fault others → LacksItem b of after p ShortInput offset fault (name_rows ++ others)
 
 -- the rows of the fields after the owner of a record, which ends at r: its numbers, and its RDATA as a whole. RFC 1035 section 4.1.3.
 abbrev pub record_rows : List ℕ → ℕ → List Row
@@ -170,8 +170,8 @@ pub record StopsItem (b : List ℕ) (part : Part) (number : ℕ) (x : Result (En
 -- The rows of a reading of a section's items, from p to q, where the first item has this number: those of its entries in order. If an item stops with a fault, they end at the fault, and nothing read after it is shown.
 pub data ReadingRows (b : List ℕ) (part : Part) : ℕ → List (Result (Entry part) Fault) → Option rows.Fault → ℕ → ℕ → List Row → Type 0 where
   none : {number p : ℕ} → ReadingRows b part number [] None p p []
-  entry : {number p q r : ℕ} {x : Entry part} {others : List (Result (Entry part) Fault)} {stop : Option rows.Fault} (rows behind : List Row)
-      → ShowsItem b part number x p q rows → ReadingRows b part (suc number) others stop q r behind → ReadingRows b part number (Ok x ∷ others) stop p r (rows ++ behind)
+  entry : {number p q r : ℕ} {x : Entry part} {others : List (Result (Entry part) Fault)} {stop : Option rows.Fault} (rows after : List Row)
+      → ShowsItem b part number x p q rows → ReadingRows b part (suc number) others stop q r after → ReadingRows b part number (Ok x ∷ others) stop p r (rows ++ after)
   stops : {number p offset : ℕ} {x : Result (Entry part) Fault} {others : List (Result (Entry part) Fault)} {fault : rows.Fault} {rows : List Row}
       → StopsItem b part number x p offset fault rows → ReadingRows b part number (x ∷ others) (Some fault) p offset rows
 

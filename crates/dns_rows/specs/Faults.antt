@@ -9,7 +9,7 @@ use Rattle.dns_rows.specs.Named.{LabelRows}
 use Rattle.dns_rows.specs.declared.row.Row.{Row}
 use Rattle.dns_rows.specs.declared.row.NameOf.{NameOf}
 use Rattle.dns_rows.specs.declared.row.Fault as rows
-use Rattle.dns_rows.specs.declared.row.Fault.TheVariants.{Short, Label, LongName, Pointer, Behind, LongPointer, Trailing}
+use Rattle.dns_rows.specs.declared.row.Fault.TheVariants.{Short, Label, LongName, Pointer, After, LongPointer, Trailing}
 use Rattle.dns_rows.specs.declared.row.Field.TheVariants as fields
 
 -- A name that begins at `start` can be read up to p, label by label, but not further. This is the fault that a row reports there.
@@ -27,7 +27,7 @@ pub data StopsName (b : List ℕ) (of : NameOf) (start p : ℕ) : rows.Fault →
   -- the pointer doesn't lead back
   ahead : {t : ℕ} → head_at b p ≡ Ok (heads.Pointer t) → p ≤ t → StopsName b of start p Pointer
   -- the pointer leads to octets from which no name can be read
-  behind : {t : ℕ} {f : Fault} → head_at b p ≡ Ok (heads.Pointer t) → t < p → FaultAt b t f → StopsName b of start p Behind
+  after : {t : ℕ} {f : Fault} → head_at b p ≡ Ok (heads.Pointer t) → t < p → FaultAt b t f → StopsName b of start p After
   -- the pointer leads to a name
   pointed : {t : ℕ} {name : Labels} → head_at b p ≡ Ok (heads.Pointer t) → t < p → Stands b t name → StopsName b of start p LongPointer
 
@@ -37,7 +37,7 @@ TellsFault (Short field) f = f ≡ ShortInput
 TellsFault Label f = f ≡ Form
 TellsFault LongName f = f ≡ Form
 TellsFault Pointer f = f ≡ Form
-TellsFault Behind f = ⊤
+TellsFault After f = ⊤
 TellsFault LongPointer f = f ≡ Form
 TellsFault Trailing f = ⊥
 

@@ -44,8 +44,8 @@ pub record AreFields (rows : List Row) (from to : ℕ) : Type 0 where
 pub record CutRows (b : List ℕ) (whole : List Row) (offset : ℕ) (fault : Fault) (rows : List Row) : Type 0 where
   pub field : Field
   pub end : ℕ
-  pub behind : List Row
-  pub made : whole ≡ rows ++ field_row offset end field ∷ behind
+  pub after : List Row
+  pub made : whole ≡ rows ++ field_row offset end field ∷ after
   pub within : offset ≤ length b
   pub short : length b < end
   pub told : fault ≡ Short field

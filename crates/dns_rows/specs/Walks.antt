@@ -3,7 +3,7 @@ use Rattle.dns_rows.specs.Data.{option_rows, shape_of, Shape, ShowsData, TextRow
 use Rattle.dns_rows.specs.Named.{LabelRows, NameRows}
 use Rattle.std.specs.Prelude.{◌<◌, ◌≡◌, suc, Bool, true, false, ℕ, ◌+◌, ◌-◌, ◌≤◌, List, ◌++◌, ◌∷◌, length, ⊤, Option, Some, None, Result, Ok, Err, take}
 use Rattle.std.specs.Int.{w16}
-use Rattle.dns_name.specs.Names.{head_at, max_size, Fault, FaultAt, Faulty, Labels, Stands, Walked, WalkedBehind}
+use Rattle.dns_name.specs.Names.{head_at, max_size, Fault, FaultAt, Faulty, Labels, Stands, Walked, NameContinues}
 use Rattle.dns_name.specs.Parsers.{input, offset, number_at, seen}
 use Rattle.dns_name.specs.declared.head.Head.TheVariants.{Root, Label, Pointer}
 use Rattle.dns_code.specs.HeaderSection.{header_size}
@@ -103,14 +103,14 @@ HasName b p false = (f : Fault) × FaultAt b p f
 
 -- these are rows of labels from p to q: before the rows of the remaining name they are rows of the name
 abbrev pub AreLabelRows : List ℕ → NameOf → ℕ → ℕ → List Row → Type 0
-AreLabelRows b of p q rows = (start end : ℕ) (behind : List Row) → NameRows b of start q end behind → NameRows b of start p end (rows ++ behind)
+AreLabelRows b of p q rows = (start end : ℕ) (after : List Row) → NameRows b of start q end after → NameRows b of start p end (rows ++ after)
 
 -- the walk went over labels of `size` octets
 pub record PassesLabels (of : NameOf) (size : ℕ) (old new : Walk) : Type 0 where
   pub rows : List Row
   pub adds : Adds rows (at new) old new
   pub shown : LabelRows (octets old) of (at old) (at old) (at new) rows
-  pub ends : (q : ℕ) → Walked (octets old) (at old) q → WalkedBehind (octets old) (at new) size q
+  pub ends : (q : ℕ) → Walked (octets old) (at old) q → NameContinues (octets old) (at new) size q
   pub faults : (f : Fault) → FaultAt (octets old) (at old) f → Faulty (octets old) (at new) size f
   pub sizes : at new ≡ at old + size
 
@@ -200,8 +200,8 @@ SkipsItem b Additional = SkipsRecord b
 -- these are the rows of the first n items of a section: before the rows of the items after them they are rows of the section
 abbrev pub AreFirstRows : List ℕ → Part → ℕ → ℕ → ℕ → List Row → Type 0
 AreFirstRows b part n p q first =
-    (k end : ℕ) (stop : Option rows.Fault) (behind : List Row) → ReadingRows b part (suc n) (reading_from b part k q) stop q end behind
-    → ReadingRows b part 1 (reading_from b part (n + k) p) stop p end (first ++ behind)
+    (k end : ℕ) (stop : Option rows.Fault) (after : List Row) → ReadingRows b part (suc n) (reading_from b part k q) stop q end after
+    → ReadingRows b part 1 (reading_from b part (n + k) p) stop p end (first ++ after)
 
 -- the walk went over the first n items of a section
 pub record MarksFirst (part : Part) (n : ℕ) (old new : Walk) : Type 0 where

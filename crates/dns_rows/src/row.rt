@@ -145,7 +145,7 @@ pub enum Fault {
     /// The pointer doesn't lead back.
     Pointer,
     /// The pointer leads to octets from which no name can be read.
-    Behind,
+    After,
     /// The pointer leads to a name with which this one exceeds 255 octets.
     LongPointer,
     /// Octets follow the last field of the RDATA.

@@ -58,25 +58,25 @@ impl<'a> Walk<'a> {
         }
     }
 
-    /// Adds the row of a field from here to the offset of the parser `behind`, and continues with
+    /// Adds the row of a field from here to the offset of the parser `after`, and continues with
     /// that parser.
-    fn mark(&mut self, behind: Parser<'a>, field: Field) -> Result<(), Stop>
+    fn mark(&mut self, after: Parser<'a>, field: Field) -> Result<(), Stop>
         requires marked { IsMarked self.old }
-        requires input { input behind ≡ input self.old.parser }
-        requires order { at self.old ≤ offset behind }
-        requires is_field { IsField (field_row (at self.old) (offset behind) field) }
+        requires input { input after ≡ input self.old.parser }
+        requires order { at self.old ≤ offset after }
+        requires is_field { IsField (field_row (at self.old) (offset after) field) }
         ensures comes { Comes (items_at field) self.old self.new }
         ensures begins { OnOk result (items self.new ≡ items self.old + items_at field) }
         ensures adds { OnOk result (self.new.rows.items
-            ≡ self.old.rows.items ++ field_row (at self.old) (offset behind.entry) field ∷ []) }
-        ensures moves { OnOk result (self.new.parser ≡ behind.entry) }
+            ≡ self.old.rows.items ++ field_row (at self.old) (offset after.entry) field ∷ []) }
+        ensures moves { OnOk result (self.new.parser ≡ after.entry) }
         ensures never { OnFault result ⊥ }
     {
-        let row = tile::field(self.parser.pos(), behind.pos(), field);
+        let row = tile::field(self.parser.pos(), after.pos(), field);
         let Ok(()) = self.rows.push(row) else {
             return Err(Stop::Memory);
         };
-        self.parser = behind;
+        self.parser = after;
         Ok(())
     }
 
@@ -93,11 +93,11 @@ impl<'a> Walk<'a> {
             (LacksField field (octets self.old) (at self.old + n)) }
         ensures stays { OnFault result (self.new ≡ self.old) }
     {
-        let mut behind = self.parser;
-        if behind.advance(n).is_err() {
+        let mut after = self.parser;
+        if after.advance(n).is_err() {
             return Err(Stop::Fault(Fault::Short(field)));
         }
-        self.mark(behind, field)?;
+        self.mark(after, field)?;
         Ok(())
     }
 
@@ -114,11 +114,11 @@ impl<'a> Walk<'a> {
             (LacksField field (octets self.old) (at self.old + 2)) }
         ensures stays { OnFault result (self.new ≡ self.old) }
     {
-        let mut behind = self.parser;
-        let Ok(number) = behind.parse_u16_be() else {
+        let mut after = self.parser;
+        let Ok(number) = after.parse_u16_be() else {
             return Err(Stop::Fault(Fault::Short(field)));
         };
-        self.mark(behind, field)?;
+        self.mark(after, field)?;
         Ok(number)
     }
 
@@ -191,29 +191,29 @@ impl<'a> Walk<'a> {
         ensures misses { OnFaultOf result (MissesName name self.old self.new) }
     {
         let start = self.parser.pos();
-        let mut behind = self.parser;
-        let parsed = ParsedName::parse(&mut behind);
+        let mut after = self.parser;
+        let parsed = ParsedName::parse(&mut after);
         self.labels(name)?;
         if parsed.is_err() {
             return Err(Stop::Fault(self.name_fault(name, start)));
         }
-        self.end_name(behind, name, start)
+        self.end_name(after, name, start)
     }
 
     /// Walks over the root label or pointer that ends a name here. The name begins at `start`, and
-    /// ends at the offset of the parser `behind`.
-    fn end_name(&mut self, behind: Parser<'a>, name: NameOf, start: usize) -> Result<(), Stop>
+    /// ends at the offset of the parser `after`.
+    fn end_name(&mut self, after: Parser<'a>, name: NameOf, start: usize) -> Result<(), Stop>
         requires marked { IsMarked self.old }
-        requires input { input behind ≡ input self.old.parser }
-        requires seen { seen behind ≡ octets self.old }
-        requires ends { IsEnd (octets self.old) (at self.old) (offset behind) }
+        requires input { input after ≡ input self.old.parser }
+        requires seen { seen after ≡ octets self.old }
+        requires ends { IsEnd (octets self.old) (at self.old) (offset after) }
         ensures comes { Comes 0 self.old self.new }
-        ensures passes { OnOk result (PassesEnd name start (offset behind.entry) self.old self.new) }
+        ensures passes { OnOk result (PassesEnd name start (offset after.entry) self.old self.new) }
         ensures never { OnFault result ⊥ }
     {
         match self.first() {
-            Some(0) => self.mark(behind, Field::Root(name, start)),
-            _ => self.mark(behind, Field::Pointer(name, start)),
+            Some(0) => self.mark(after, Field::Root(name, start)),
+            _ => self.mark(after, Field::Pointer(name, start)),
         }
     }
 
@@ -256,7 +256,7 @@ impl<'a> Walk<'a> {
         } else if self.has_name(target) {
             Fault::LongPointer
         } else {
-            Fault::Behind
+            Fault::After
         }
     }
 
@@ -405,16 +405,16 @@ impl<'a> Walk<'a> {
         ensures shows { OnOk result (MarksWithin rtype len None self.old self.new) }
         ensures stops { OnFaultOf result (StopsWithin rtype len self.old self.new) }
     {
-        let mut behind = self.parser;
-        let Ok(inner) = behind.parse_parser(len) else {
+        let mut after = self.parser;
+        let Ok(inner) = after.parse_parser(len) else {
             return Err(Stop::Fault(Fault::Short(Field::Data)));
         };
         self.parser = inner;
         self.data(rtype)?;
-        if self.parser.pos() != behind.pos() {
+        if self.parser.pos() != after.pos() {
             return Err(Stop::Fault(Fault::Trailing));
         }
-        self.parser = behind;
+        self.parser = after;
         Ok(())
     }
 

@@ -6,7 +6,7 @@ use Rattle.dns_octets.specs.declared.error.ParseError.{ParseError}
 use Rattle.dns_name.specs.declared.parser.Parser.{Parser}
 use Rattle.dns_section.specs.Reading.{Passed, StopsPassing}
 use Rattle.dns_section.specs.Reading.Passed.{none, more}
-use Rattle.dns_section.specs.Reading.StopsPassing.{here, behind}
+use Rattle.dns_section.specs.Reading.StopsPassing.{here, after}
 
 module _ {Skips : ℕ → ℕ → Type 0} where
   -- one more entry after those skipped
@@ -19,7 +19,7 @@ module _ {Skips : ℕ → ℕ → Type 0} {FaultOf : ℕ → Fault → Type 0} w
   stopped : (n : ℕ) {i p q : ℕ} {f : Fault} → Passed Skips i p q → FaultOf q f → i < n → StopsPassing Skips FaultOf n p f
   stopped zero x fault l = absurd (omega arith)
   stopped (suc n) none fault l = here fault
-  stopped (suc n) (more h x) fault l = behind h (stopped n x fault (omega arith))
+  stopped (suc n) (more h x) fault l = after h (stopped n x fault (omega arith))
 
 module _ (SkipsIn : List ℕ → ℕ → ℕ → Type 0) (FaultIn : List ℕ → ℕ → Fault → Type 0) (old mid : Parser) (i : ℕ) (passed : Passed (SkipsIn (seen old)) i (offset old) (offset mid) × MovesTo old mid (offset mid)) where
   -- the parser skips one more entry

@@ -38,14 +38,14 @@ PassesTo answer_of answers old new (Some answer) = PassesToAnswer answers old ne
 PassesTo answer_of answers old new None = PassesToEnd answers old new
 
 -- What was left is what was skipped, then the item for which `answer` is yielded, then what is left now.
-pub record YieldsAnswer (answers : List (Result StandingRecord Fault) → List (Result RecordItem Fault)) (before behind : List (Result StandingRecord Fault)) (answer : Result RecordItem Fault) : Type 0 where
+pub record YieldsAnswer (answers : List (Result StandingRecord Fault) → List (Result RecordItem Fault)) (before after : List (Result StandingRecord Fault)) (answer : Result RecordItem Fault) : Type 0 where
   pub skipped : List (Result StandingRecord Fault)
   pub last : Result StandingRecord Fault
-  pub left : before ≡ skipped ++ last ∷ behind
+  pub left : before ≡ skipped ++ last ∷ after
   pub unanswered : answers skipped ≡ []
   pub answered : answers (last ∷ []) ≡ answer ∷ []
 
 -- The iterator yields its result for the first item that it doesn't skip. If it skips all, it yields nothing and nothing is left.
 abbrev pub YieldsNext : {A : Type 0} → (A → Result RecordItem Fault) → (List (Result StandingRecord Fault) → List (Result RecordItem Fault)) → List (Result StandingRecord Fault) → List (Result StandingRecord Fault) → Option A → Type 0
-YieldsNext answer_of answers before behind (Some answer) = YieldsAnswer answers before behind (answer_of answer)
-YieldsNext answer_of answers before behind None = (answers before ≡ []) × (behind ≡ [])
+YieldsNext answer_of answers before after (Some answer) = YieldsAnswer answers before after (answer_of answer)
+YieldsNext answer_of answers before after None = (answers before ≡ []) × (after ≡ [])

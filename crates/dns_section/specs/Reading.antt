@@ -10,7 +10,7 @@ pub data Passed (Skips : ℕ → ℕ → Type 0) : ℕ → ℕ → ℕ → Type 
 -- of n entries from offset p, one can't be skipped, and this is the fault of the first such
 pub data StopsPassing (Skips : ℕ → ℕ → Type 0) (FaultOf : ℕ → Fault → Type 0) : ℕ → ℕ → Fault → Type 0 where
   here : {n p : ℕ} {f : Fault} → FaultOf p f → StopsPassing Skips FaultOf (suc n) p f
-  behind : {n p q : ℕ} {f : Fault} → Skips p q → StopsPassing Skips FaultOf n q f → StopsPassing Skips FaultOf (suc n) p f
+  after : {n p q : ℕ} {f : Fault} → Skips p q → StopsPassing Skips FaultOf n q f → StopsPassing Skips FaultOf (suc n) p f
 
 -- The reading of at most n entries from offset p: the consecutive readable ones and, if an entry isn't readable, its fault as the last item.
 pub data Reading {X : Type 0} (Reads : ℕ → ℕ → X → Type 0) (FaultOf : ℕ → Fault → Type 0) : ℕ → ℕ → List (Result X Fault) → Type 0 where

@@ -30,7 +30,7 @@ pub record AreReadings {X : Type 0} (Reads : ℕ → ℕ → X → Type 0) (Faul
 -- a reading of at most n entries has at most n items, and a fault is its last item
 pub record ReadingsEnd {X : Type 0} (Reads : ℕ → ℕ → X → Type 0) (FaultOf : ℕ → Fault → Type 0) : Type 0 where
   pub short : (n p : ℕ) (xs : List (Result X Fault)) → Reading Reads FaultOf n p xs → length xs ≤ n
-  pub last : (n p : ℕ) (xs before behind : List (Result X Fault)) (f : Fault) → Reading Reads FaultOf n p xs → xs ≡ before ++ Err f ∷ behind → behind ≡ []
+  pub last : (n p : ℕ) (xs before after : List (Result X Fault)) (f : Fault) → Reading Reads FaultOf n p xs → xs ≡ before ++ Err f ∷ after → after ≡ []
 
 -- `ReadingsEnd` for questions
 abbrev pub ReadingsOfQuestionsEnd : Type 0

@@ -10,7 +10,7 @@ use Rattle.dns_item.specs.ParsedRecord.{octets_of as record_octets, parsed_entry
 use Rattle.dns_item.specs.declared.parsed_record.ParsedRecord.{ParsedRecord}
 use Rattle.dns_section.specs.QuestionSection as questions
 use Rattle.dns_section.specs.RecordsFrom.{records_in}
-use Rattle.dns_section.specs.Sections.{record_count, StartsAt, section_behind}
+use Rattle.dns_section.specs.Sections.{record_count, StartsAt, section_after}
 use Rattle.dns_section.specs.Skipping.{items_left, CountsDown, SkipsRest, StopsInRest}
 use Rattle.dns_section.specs.declared.question_section.QuestionSection.{QuestionSection}
 use Rattle.dns_section.specs.declared.record_section.RecordSection.{RecordSection}
@@ -80,7 +80,7 @@ MovesToAnswers old (Err e) = StopsInRest (SkipsQuestion (questions.octets_of old
 
 -- the next section begins after the records that were left, which are skipped
 pub record EntersNext (old new : RecordSection) : Type 0 where
-  pub next : section_behind (section_of old) ≡ Some (section_of new)
+  pub next : section_after (section_of old) ≡ Some (section_of new)
   pub fresh : IsFresh (section_of new) (octets_of old) new
   pub skips : SkipsRest (SkipsRecord (octets_of old)) (to_come old) (position old) (position new)
 

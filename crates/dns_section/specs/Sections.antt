@@ -63,10 +63,10 @@ StartFault Answer b f = AnswersFault b f
 StartFault Authority b f = AuthoritiesFault b f
 StartFault Additional b f = AdditionalsFault b f
 
-abbrev pub section_behind : Section → Option Section
-section_behind Answer = Some Authority
-section_behind Authority = Some Additional
-section_behind Additional = None
+abbrev pub section_after : Section → Option Section
+section_after Answer = Some Authority
+section_after Authority = Some Additional
+section_after Additional = None
 
 -- the reading of at most n questions from offset p
 abbrev pub ReadingQuestions : List ℕ → ℕ → ℕ → List (Result QuestionItem Fault) → Type 0

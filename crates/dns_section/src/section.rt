@@ -12,7 +12,7 @@ pub enum Section {
 }
 
 impl Section {
-    ghost use Rattle.dns_section.specs.Sections.{section_behind};
+    ghost use Rattle.dns_section.specs.Sections.{section_after};
     ghost use Rattle.dns_section.specs.declared.section.Section.TheVariants.{Answer};
 
     /// The answer section.
@@ -24,7 +24,7 @@ impl Section {
 
     /// The section after this one, or `None` after the additional section.
     pub(crate) fn next(self) -> Option<Section>
-        ensures { result ≡ section_behind self }
+        ensures { result ≡ section_after self }
     {
         match self {
             Section::Answer => Some(Section::Authority),

@@ -38,5 +38,5 @@ pub printed_as : {X E : Type 0} (a b : Option (List ℕ)) (output : Option (List
 printed_as a b output text r is h = subst (λ (o : Option (List ℕ)). OnOk r (IfSome o (Appends a b))) is h
 
 -- a text is printed, and then another
-pub printed_then : (a b c : Option (List ℕ)) (xs text behind : List ℕ) → xs ≡ text → Appends a b xs → Appends b c behind → Appends a c (text ++ behind)
-printed_then a b c xs text behind is h k = appends_both a b c text behind (subst (λ (l : List ℕ). Appends a b l) is h) k
+pub printed_then : (a b c : Option (List ℕ)) (xs text after : List ℕ) → xs ≡ text → Appends a b xs → Appends b c after → Appends a c (text ++ after)
+printed_then a b c xs text after is h k = appends_both a b c text after (subst (λ (l : List ℕ). Appends a b l) is h) k

@@ -46,10 +46,10 @@ module _ (b : List ℕ) (section : Section) (cursor : RecordSection) (begins : B
   lines_are = ap (flat_map (record_line (section_word section))) begins.fresh.records
 
   -- a section is printed, and then what follows it
-  pub section_printed : {E X : Type 0} (old mid new : Option (List ℕ)) (r : Result X E) (behind : List ℕ)
-      → Appends old mid (flat_map (record_line (section_word section)) (records_left cursor)) → OnOk r (Appends mid new behind)
-      → OnOk r (Appends old new (section_lines b section (Some (position cursor)) behind))
-  section_printed old mid new r behind h k = prints_both old mid new _ _ behind r lines_are h k
+  pub section_printed : {E X : Type 0} (old mid new : Option (List ℕ)) (r : Result X E) (after : List ℕ)
+      → Appends old mid (flat_map (record_line (section_word section)) (records_left cursor)) → OnOk r (Appends mid new after)
+      → OnOk r (Appends old new (section_lines b section (Some (position cursor)) after))
+  section_printed old mid new r after h k = prints_both old mid new _ _ after r lines_are h k
 
   -- a section is printed, and nothing after it
   pub last_printed : {E X : Type 0} (old new : Option (List ℕ)) (r : Result X E)

@@ -112,10 +112,10 @@ abbrev pub record_line : List ℕ → Result StandingRecord Fault → List ℕ
 record_line word (Ok x) = line (word ++ codes " " ++ record_text x)
 record_line word (Err f) = line (word ++ codes " error")
 
--- what is printed from a section on: a line for each of its items, then `behind`; if it has no start, a line that says it is missing, and nothing more
+-- what is printed from a section on: a line for each of its items, then `after`; if it has no start, a line that says it is missing, and nothing more
 abbrev pub section_lines : List ℕ → Section → Option ℕ → List ℕ → List ℕ
-section_lines b section (Some start) behind = flat_map (record_line (section_word section)) (records_in b (record_count section b) start) ++ behind
-section_lines b section None behind = line (section_word section ++ codes " missing")
+section_lines b section (Some start) after = flat_map (record_line (section_word section)) (records_in b (record_count section b) start) ++ after
+section_lines b section None after = line (section_word section ++ codes " missing")
 
 -- the lines of the sections of records, up to the first that has no start
 abbrev pub records_text : List ℕ → List ℕ

@@ -65,7 +65,7 @@ pub pushed_first : (stand : PushedRecordsStand) (found : StartsAreFound) (layout
     → IsSomeAnd result (λ answer. IsOkAnd answer (λ r. StandsAs b x (standing_record r)))
 pushed_first stand found layouts b x old new result was begins steps =
     let all = subst (λ (xs : List RecordItem). AllStandAs b xs (records_of Answer b)) was.first (stand was.s b was.reads_back Answer) in
-    first_stands b x was.behind old new result steps (subst (AllStandAs b (x ∷ was.behind)) (sym (all_left found b old begins)) all)
+    first_stands b x was.after old new result steps (subst (AllStandAs b (x ∷ was.after)) (sym (all_left found b old begins)) all)
 
 -- pushing onto empty answers and rewinding leaves nothing
 pub in_vain : (law : RewindsLeaveNothing) (rule : Rule) (x : RecordItem) (old full new : Built) (result : Result (Unit {0}) PushError) → OnErr result (full ≡ old)

@@ -30,6 +30,6 @@ address_record owner class ttl octets = record { owner = owner; rtype = 1; class
 pub record WasPushedFirst (layouts : ℕ → Option Layout) (b : List ℕ) (x : RecordItem) : Type 0 where
   pub s : State
   pub reads_back : ReadsBack s b
-  pub behind : List RecordItem
-  pub first : s.answers ≡ x ∷ behind
+  pub after : List RecordItem
+  pub first : s.answers ≡ x ∷ after
   pub laid : IsTakenBy layouts x

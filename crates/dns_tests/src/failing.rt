@@ -113,13 +113,13 @@ fn fails_where_input_is_cut(rt: HostRuntime) -> Result<(), Fail> {
     Ok(())
 }
 
-/// Whether the writer gets what is printed before the steps that fail, followed by `behind`, and
+/// Whether the writer gets what is printed before the steps that fail, followed by `after`, and
 /// the exit status is this one.
 fn is_cut(
     alloc: Global,
     row: Run,
     gap: (usize, usize),
-    behind: &[u8],
+    after: &[u8],
     status: u8,
 ) -> Result<bool, Fail> {
     let (from, to) = gap;
@@ -131,7 +131,7 @@ fn is_cut(
     };
     let ended = run(alloc, row.words, row.input, &mut writer)?;
     let before = &row.printed[..from.min(row.printed.len())];
-    Ok(writer.taken.strip_suffix(behind) == Some(before) && ended == status)
+    Ok(writer.taken.strip_suffix(after) == Some(before) && ended == status)
 }
 
 /// One step fails, the write of an octet or the last flush; and then all steps from it on. The

@@ -105,7 +105,7 @@ fn is_printed(alloc: Global, filling: &Filled) -> Result<bool, Fail> {
 }
 
 #[test]
-fn compresses_behind_long_data(rt: HostRuntime) -> Result<(), Fail> {
+fn compresses_after_long_data(rt: HostRuntime) -> Result<(), Fail> {
     for filling in FILLED {
         assert!(rt; is_printed(rt.alloc(), filling)?, "{}", filling.row);
     }

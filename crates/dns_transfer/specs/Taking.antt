@@ -5,7 +5,7 @@ use Rattle.dns_transfer.specs.Transfer.{AreAnswersOf, IsMessage, Taken, is_whole
 
 -- a stream begins with the length of a message and the message, followed by these octets
 abbrev pub BeginsWith : List ℕ → List ℕ → List ℕ → Type 0
-BeginsWith stream message behind = IsMessage message × (stream ≡ with_prefix message ++ behind)
+BeginsWith stream message after = IsMessage message × (stream ≡ with_prefix message ++ after)
 
 -- the items of a list up to its first fault
 abbrev pub up_to_fault : List Taken → List Taken

@@ -14,7 +14,7 @@ IsMessage b = (header_size ≤ length b) × (length b ≤ most_octets)
 
 -- a stream doesn't begin with the length of a message and the message
 abbrev pub BeginsWithNone : List ℕ → Type 0
-BeginsWithNone stream = (message behind : List ℕ) → IsMessage message → stream ≢ with_prefix message ++ behind
+BeginsWithNone stream = (message after : List ℕ) → IsMessage message → stream ≢ with_prefix message ++ after
 
 -- A stream is these messages, each after its length, followed by octets that don't begin with another one.
 pub record AreMessagesOf (stream : List ℕ) (messages : List (List ℕ)) (rest : List ℕ) : Type 0 where

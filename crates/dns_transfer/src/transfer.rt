@@ -24,9 +24,9 @@ pub(crate) fn messages<'a>(
 {
     let mut messages = Vec::new(alloc);
     let mut rest = stream;
-    while let Some((message, behind)) = first_message(rest) {
+    while let Some((message, after)) = first_message(rest) {
         messages.push(message)?;
-        rest = behind;
+        rest = after;
     }
     Ok((messages, rest))
 }
@@ -36,10 +36,10 @@ fn first_message<'a>(stream: &'a [u8]) -> Option<(Message<&'a [u8]>, &'a [u8])>
     ensures { MatchOption result (BeginsWithNone stream.now)
         (λ found. BeginsWith stream.now (message_octets found.0) found.1.now) }
 {
-    let (length, behind) = stream.split_at_checked(2)?;
+    let (length, after) = stream.split_at_checked(2)?;
     let length = u16::from_be_bytes([length[0], length[1]]);
-    let (octets, behind) = behind.split_at_checked(usize::from(length))?;
-    Some((Message::from_slice(octets).ok()?, behind))
+    let (octets, after) = after.split_at_checked(usize::from(length))?;
+    Some((Message::from_slice(octets).ok()?, after))
 }
 
 /// Returns the records of the answer sections of messages, in order, up to the error of the first

@@ -41,15 +41,15 @@ module _ {X : Type 0} (f : X → List ℕ) (between : List ℕ) where
   joined [] last = sym (append-nil (between ++ f last))
   joined (x ∷ xs) last = rw (← joined xs last) (simp append_assoc)
 
-  behind_first : (front : List ℕ) (first : X) (xs : List X) (last : X)
+  after_first : (front : List ℕ) (first : X) (xs : List X) (last : X)
       → front ++ (flat_map (λ x. f x ++ between) (first ∷ xs) ++ f last) ≡ front ++ f first ++ flat_map (λ x. between ++ f x) (xs ++ last ∷ [])
-  behind_first front first xs last = rw (← joined xs last) (simp append_assoc)
+  after_first front first xs last = rw (← joined xs last) (simp append_assoc)
 
 -- the octets of one line more, and those after it
-all_octets : (done : List Line) (line : Line) (left behind whole : List ℕ) → left ≡ line.octets ++ behind → flat_map (λ line. line.octets) done ++ left ≡ whole → flat_map (λ line. line.octets) (done ++ line ∷ []) ++ behind ≡ whole
-all_octets done line left behind whole parts e =
+all_octets : (done : List Line) (line : Line) (left after whole : List ℕ) → left ≡ line.octets ++ after → flat_map (λ line. line.octets) done ++ left ≡ whole → flat_map (λ line. line.octets) (done ++ line ∷ []) ++ after ≡ whole
+all_octets done line left after whole parts e =
     let before = flat_map (λ (l : Line). l.octets) done in
-    ap (λ l. l ++ behind) (flat_map_last (λ (l : Line). l.octets) done line) ∙ append_assoc before line.octets behind ∙ ap (λ l. before ++ l) (sym parts) ∙ e
+    ap (λ l. l ++ after) (flat_map_last (λ (l : Line). l.octets) done line) ∙ append_assoc before line.octets after ∙ ap (λ l. before ++ l) (sym parts) ∙ e
 
 -- a list is its front and its back
 pub parts_of : (whole front back : List ℕ) (n : ℕ) → front ≡ take n whole → back ≡ drop n whole → whole ≡ front ++ back
@@ -72,15 +72,15 @@ none_done offset octets old new h = record {
 }
 
 -- one line more is printed
-pub one_done : (offset : ℕ) (whole left octets behind words : List ℕ) (a b c d : Option (List ℕ)) → Underway offset whole left a b → left ≡ octets ++ behind → length octets ≤ line_octets → length words ≤ columns
-    → Appends b c (line_text record { octets = octets; words = words }) → Appends c d (codes "       ") → Underway offset whole behind a d
-one_done offset whole left octets behind words a b c d u parts few fits h k =
+pub one_done : (offset : ℕ) (whole left octets after words : List ℕ) (a b c d : Option (List ℕ)) → Underway offset whole left a b → left ≡ octets ++ after → length octets ≤ line_octets → length words ≤ columns
+    → Appends b c (line_text record { octets = octets; words = words }) → Appends c d (codes "       ") → Underway offset whole after a d
+one_done offset whole left octets after words a b c d u parts few fits h k =
     let line : Line = record { octets = octets; words = words } in
     let head = offset_text offset ++ codes " " in
     let texts = flat_map (λ (l : Line). line_text l ++ spaces 7) u.done in
     record {
       done = u.done ++ line ∷ [];
-      octets = all_octets u.done line left behind whole parts u.octets;
+      octets = all_octets u.done line left after whole parts u.octets;
       short = All-push IsShort u.done line u.short record { octets = few; words = fits };
       appended = appends_same a d (head ++ texts ++ line_text line ++ codes "       ") _
           (append_assoc (head ++ texts) (line_text line) (spaces 7) ∙ append_assoc head texts (line_text line ++ spaces 7) ∙ ap (λ l. head ++ l) (sym (flat_map_last (λ l. line_text l ++ spaces 7) u.done line)))
@@ -96,17 +96,17 @@ lines_of offset whole (first ∷ more) last e short = record {
   others = more ++ last ∷ [];
   whole = e;
   short = short;
-  is = behind_first line_text (spaces 7) (offset_text offset ++ codes " ") first more last;
+  is = after_first line_text (spaces 7) (offset_text offset ++ codes " ") first more last;
 }
 
 -- the last line is printed
-pub last_done : (offset : ℕ) (whole left octets behind words : List ℕ) (a b c : Option (List ℕ)) → Underway offset whole left a b → left ≡ octets ++ behind → behind ≡ [] → length octets ≤ line_octets → length words ≤ columns
+pub last_done : (offset : ℕ) (whole left octets after words : List ℕ) (a b c : Option (List ℕ)) → Underway offset whole left a b → left ≡ octets ++ after → after ≡ [] → length octets ≤ line_octets → length words ≤ columns
     → Appends b c (line_text record { octets = octets; words = words }) → Prints (IsLines offset whole) a c
-last_done offset whole left octets behind words a b c u parts none few fits h =
+last_done offset whole left octets after words a b c u parts none few fits h =
     let line : Line = record { octets = octets; words = words } in
     let head = offset_text offset ++ codes " " in
     let texts = flat_map (λ (l : Line). line_text l ++ spaces 7) u.done in
-    let all = sym (append-nil (flat_map (λ (l : Line). l.octets) (u.done ++ line ∷ []))) ∙ ap (λ (l : List ℕ). flat_map (λ (l : Line). l.octets) (u.done ++ line ∷ []) ++ l) (sym none) ∙ all_octets u.done line left behind whole parts u.octets in (
+    let all = sym (append-nil (flat_map (λ (l : Line). l.octets) (u.done ++ line ∷ []))) ∙ ap (λ (l : List ℕ). flat_map (λ (l : Line). l.octets) (u.done ++ line ∷ []) ++ l) (sym none) ∙ all_octets u.done line left after whole parts u.octets in (
       head ++ (texts ++ line_text line),
       lines_of offset whole u.done line all (All-push IsShort u.done line u.short record { octets = few; words = fits }),
       appends_same a c (head ++ texts ++ line_text line) _ (append_assoc head texts (line_text line)) (appends_both a b c (head ++ texts) _ u.appended h),

@@ -148,7 +148,7 @@ impl<'a> Meaning<'a> {
             Fault::Label => f.write_str("no label begins with the high bits 01 or 10"),
             Fault::LongName => f.write_str("with this label the name has more than 255 octets"),
             Fault::Pointer => write!(f, "pointer to {target}, which doesn't lead back"),
-            Fault::Behind => write!(f, "pointer to {target}, where no name can be read"),
+            Fault::After => write!(f, "pointer to {target}, where no name can be read"),
             Fault::LongPointer => write!(
                 f,
                 "pointer to {target}, with which the name has more than 255 octets"

@@ -63,11 +63,11 @@ fn print_lines<W: Write>(
     let mut words_left = words;
     write!(writer, "{start:>6} ")?;
     loop {
-        let (group, octets_behind) = octets_left.split_at(octets_left.len().min(OCTETS));
-        let (line, words_behind) = split_line(words_left);
+        let (group, octets_after) = octets_left.split_at(octets_left.len().min(OCTETS));
+        let (line, words_after) = split_line(words_left);
         print_line(writer, group, line)?;
-        octets_left = octets_behind;
-        words_left = words_behind;
+        octets_left = octets_after;
+        words_left = words_after;
         if octets_left.is_empty() && words_left.is_empty() {
             return Ok(());
         }

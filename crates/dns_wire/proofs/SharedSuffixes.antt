@@ -11,7 +11,7 @@ use Rattle.dns_wire.specs.Targets.{At}
 use Rattle.dns_wire.specs.Spelling.{IsSuffix, IsShared, SharesAll}
 use Rattle.dns_wire.specs.Parts.{LabelsNear}
 use Rattle.dns_wire.proofs.theory.TargetTheorems.{near_label}
-use Rattle.dns_wire.proofs.theory.SpelledNames.{label_begins, label_part, behind_label}
+use Rattle.dns_wire.proofs.theory.SpelledNames.{label_begins, label_part, after_label}
 use Rattle.dns_wire.proofs.theory.Memories.{get-insert_same}
 use Rattle.dns_wire.proofs.theory.PutNames.{Each, found, SpellsAs, spells_as}
 use Rattle.dns_wire.proofs.theory.PutNames.SpellsAs.{at_root, at_known, at_kept, at_far}
@@ -56,11 +56,11 @@ best_root : (names : List Labels) → Best names [] 1
 best_root names = inl (refl, λ first rest e s. let some = shared_some names rest s in let l : 0 ≡ length first + length rest = ap length e ∙ length-append first rest in omega arith)
 
 -- If the whole name isn't shared, a shared suffix is one of its parent.
-behind_first : (P : Labels → Labels → Type 0) (names : List Labels) (label : List ℕ) (others : Labels) → (IsShared names (label ∷ others) → ⊥)
+after_first : (P : Labels → Labels → Type 0) (names : List Labels) (label : List ℕ) (others : Labels) → (IsShared names (label ∷ others) → ⊥)
     → ((f r : Labels) → others ≡ f ++ r → IsShared names r → P (label ∷ f) r)
     → (f r : Labels) → label ∷ others ≡ f ++ r → IsShared names r → P f r
-behind_first P names label others without h [] r e s = absurd (without (subst (λ (n : Labels). IsShared names n) (sym e) s))
-behind_first P names label others without h (l ∷ f) r e s =
+after_first P names label others without h [] r e s = absurd (without (subst (λ (n : Labels). IsShared names n) (sym e) s))
+after_first P names label others without h (l ∷ f) r e s =
     let one : label ≡ l = cc in
     let two : others ≡ f ++ r = cc in
     subst (λ (k : List ℕ). P (k ∷ f) r) one (h f r two s)
@@ -68,7 +68,7 @@ behind_first P names label others without h (l ∷ f) r e s =
 -- A label before a shortest parent is shortest, if the whole name isn't shared.
 best_label : (names : List Labels) (label : List ℕ) (others : Labels) (n : ℕ) → (IsShared names (label ∷ others) → ⊥) → Best names others n → Best names (label ∷ others) (1 + length label + n)
 best_label names label others n without (inl a) =
-    inl (omega (arith, a.0), behind_first (λ f r. ⊥) names label others without (λ f r e s. a.1 f r e s))
+    inl (omega (arith, a.0), after_first (λ f r. ⊥) names label others without (λ f r e s. a.1 f r e s))
 best_label names label others n without (inr a) =
     inr (
       label ∷ a.0,
@@ -76,7 +76,7 @@ best_label names label others n without (inr a) =
       ap (λ (k : Labels). label ∷ k) a.2,
       a.3,
       omega (arith, a.4),
-      behind_first (λ f r. name_size (label ∷ a.0) ≤ name_size f) names label others without (λ f r e s. let l = a.5 f r e s in omega arith),
+      after_first (λ f r. name_size (label ∷ a.0) ≤ name_size f) names label others without (λ f r e s. let l = a.5 f r e s in omega arith),
     )
 
 -- A name is written as short as possible.
@@ -213,7 +213,7 @@ near_kept r b q (at_known e) is near h few = tt
 near_kept {rule = rule} r b q (at_kept {held = held} {first = first} {rest = rest} {text = text} {ss = ss} e k s) is near h few =
     let tail = name_tail first rest is in
     let a = near_label near (label_begins tail.0 (label_part first text h)) in
-    near_kept r b q s tail.1 a.1 (behind_label first text h) (few_less rule (held + 1 + length ss) (held + suc (length ss)) (omega arith) few)
+    near_kept r b q s tail.1 a.1 (after_label first text h) (few_less rule (held + 1 + length ss) (held + suc (length ss)) (omega arith) few)
 near_kept {rule = rule} r b q (at_far {p = p} {held = held} {first = first} {rest = rest} e k) is near h few =
     let a = near_label near (label_begins (name_tail first rest is).0 (label_part first (uncompressed rest) h)) in
     let t : true ≡ false = sym (r.keeps p held a.0 (few_less rule held (held + 0) (omega arith) few)) ∙ k in
@@ -227,8 +227,8 @@ near_suffixes b q (at_kept {p = p} {first = first} {rest = rest} {text = text} e
     let tail = name_tail first rest is in
     let a = near_label near (label_begins tail.0 (label_part first text h)) in
     let small : nat_lt p 16384 ≡ true = let k = a.0 in grind (arith, common_steps) in
-    let behind = near_suffixes b q s tail.1 a.1 (behind_label first text h) in
-    rw (small, behind) refl
+    let after = near_suffixes b q s tail.1 a.1 (after_label first text h) in
+    rw (small, after) refl
 near_suffixes b q (at_far e k) is near h = refl
 
 -- An insertion never removes an entry.

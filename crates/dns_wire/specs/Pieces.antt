@@ -55,7 +55,7 @@ abbrev pub IsWithin : Memory → ℕ → Type 0
 IsWithin m w = (s : Labels) (x : Spot) → get m s ≡ Some x → x.end ≤ w
 
 -- Each suffix in the table is at or after offset a.
-pub record IsBehind (m : Memory) (a : ℕ) : Type 0 where
+pub record IsAtOrAfter (m : Memory) (a : ℕ) : Type 0 where
   pub each : (s : Labels) (x : Spot) → get m s ≡ Some x → a ≤ x.offset
 
 -- No name in the table uses any of the n octets from offset a on.

@@ -5,7 +5,7 @@ use Rattle.dns_octets.specs.declared.error.AppendError.{AppendError}
 use Rattle.dns_name.specs.Names.{Labels, name_size, max_size, head_at, label_at, IsName, uncompressed, pointer_end, Stands, Walked}
 use Rattle.dns_name.specs.declared.head.Head.TheVariants.{Root, Label, Pointer}
 use Rattle.dns_wire.specs.Parts.{WellPointed, Part, PartsStand, AreParts, put_parts}
-use Rattle.dns_wire.specs.Pieces.{Memory, Spot, nothing, IsBehind, IsClear, Rule, Piece, IsGrowing, put_octets, both, put_name}
+use Rattle.dns_wire.specs.Pieces.{Memory, Spot, nothing, IsAtOrAfter, IsClear, Rule, Piece, IsGrowing, put_octets, both, put_name}
 use Rattle.dns_wire.specs.Targets.{Remembers, Written, IsTarget, lay, cut_to, overwrite, Appends, Composes}
 
 -- Names encoded between two offsets, and octets that agree there. RFC 1035 section 4.1.4.
@@ -59,8 +59,8 @@ abbrev pub RemembersWhatStands : Type 0
 RemembersWhatStands = (b : List ℕ) (m : Memory) (s : Labels) (x : Spot) → Remembers b m → get m s ≡ Some x → Recalled b s x
 
 -- If all entries are at or after offset lo, their suffixes use no octet before lo.
-abbrev pub StandsBehind : Type 0
-StandsBehind = (b : List ℕ) (m : Memory) (lo : ℕ) (s : Labels) (x : Spot) → Remembers b m → IsBehind m lo → get m s ≡ Some x → StandsIn b lo x.end x.offset s
+abbrev pub NamesAreAtOrAfter : Type 0
+NamesAreAtOrAfter = (b : List ℕ) (m : Memory) (lo : ℕ) (s : Labels) (x : Spot) → Remembers b m → IsAtOrAfter m lo → get m s ≡ Some x → StandsIn b lo x.end x.offset s
 
 -- An empty table is sound for all octets.
 abbrev pub NothingIsTarget : Type 0
@@ -103,12 +103,12 @@ abbrev pub BothGrow : Type 0
 BothGrow = (a b : Piece) → IsGrowing a → IsGrowing b → IsGrowing (both a b)
 
 -- If all entries are at or after an offset within the content, they still are after a growing encoding is appended.
-abbrev pub PiecesStayBehind : Type 0
-PiecesStayBehind = (piece : Piece) (t : Written) (offset : ℕ) → IsGrowing piece → offset ≤ length t.octets → IsBehind t.memory offset → IsBehind (lay piece t).memory offset
+abbrev pub EncodersStayAtOrAfter : Type 0
+EncodersStayAtOrAfter = (piece : Piece) (t : Written) (offset : ℕ) → IsGrowing piece → offset ≤ length t.octets → IsAtOrAfter t.memory offset → IsAtOrAfter (lay piece t).memory offset
 
 -- They still are after a name is appended.
-abbrev pub NamesStayBehind : Type 0
-NamesStayBehind = (rule : Rule) (t : Written) (name : Labels) (offset : ℕ) → offset ≤ length t.octets → IsBehind t.memory offset → IsBehind (lay (put_name rule name) t).memory offset
+abbrev pub NamesStayAtOrAfter : Type 0
+NamesStayAtOrAfter = (rule : Rule) (t : Written) (name : Labels) (offset : ℕ) → offset ≤ length t.octets → IsAtOrAfter t.memory offset → IsAtOrAfter (lay (put_name rule name) t).memory offset
 
 -- A name is encoded at offset p, its encoding takes the octets p..q, and a pointer there leads to an earlier label below offset 16,384.
 pub record ReadsName (b : List ℕ) (p q : ℕ) (name : Labels) : Type 0 where

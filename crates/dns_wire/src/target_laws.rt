@@ -3,8 +3,8 @@
 ghost use Rattle.dns_wire.specs.Choice.{NamesByChoice};
 ghost use Rattle.dns_wire.specs.Spelling.{PartsAreShortest, PartsPointToLabels, ShortPartsAreNear};
 ghost use Rattle.dns_wire.specs.TargetLaws.{StandsWhereAgreed, StandsWithMore, StandsInAll, StandsOfIn, StandsWhenOverwritten};
-ghost use Rattle.dns_wire.specs.TargetLaws.{RemembersWhatStands, StandsBehind, NothingIsTarget, NameKeeps, OctetsKeep, CutKeeps, OverwriteKeeps};
-ghost use Rattle.dns_wire.specs.TargetLaws.{CutUndoes, NamesGrow, OctetsGrow, PartsGrow, BothGrow, PiecesStayBehind, NamesStayBehind};
+ghost use Rattle.dns_wire.specs.TargetLaws.{RemembersWhatStands, NamesAreAtOrAfter, NothingIsTarget, NameKeeps, OctetsKeep, CutKeeps, OverwriteKeeps};
+ghost use Rattle.dns_wire.specs.TargetLaws.{CutUndoes, NamesGrow, OctetsGrow, PartsGrow, BothGrow, EncodersStayAtOrAfter, NamesStayAtOrAfter};
 ghost use Rattle.dns_wire.specs.TargetLaws.{NamesReadBack, PartsReadBack, NamesAreShort, AppendsCompose, ComposesBoth, ComposesFirst};
 
 /// A name encoded in a content is encoded in every longer one, and in one with octets overwritten
@@ -21,7 +21,7 @@ pub fn standing_is_stable()
 /// overwrites preserve this. Truncating to the old length undoes an append.
 pub fn memory_is_sound()
     ensures stands { RemembersWhatStands }
-    ensures stands_behind { StandsBehind }
+    ensures names_are_at_or_after { NamesAreAtOrAfter }
     ensures nothing { NothingIsTarget }
     ensures name { NameKeeps }
     ensures octets { OctetsKeep }
@@ -32,8 +32,8 @@ pub fn memory_is_sound()
     ensures octets_grow { OctetsGrow }
     ensures parts_grow { PartsGrow }
     ensures both_grow { BothGrow }
-    ensures behind { PiecesStayBehind }
-    ensures names_behind { NamesStayBehind }
+    ensures after { EncodersStayAtOrAfter }
+    ensures names_after { NamesStayAtOrAfter }
 {}
 
 /// Names and parts read back unchanged from where they were written, under every rule.

@@ -150,16 +150,16 @@ fn assert_skipped(
 fn parses_and_skips(rt: HostRuntime) {
     for case in CASES {
         let row = case.row;
-        let behind = case.skipped.unwrap_or(case.offset);
+        let after = case.skipped.unwrap_or(case.offset);
         let parsed = if case.parsed.is_ok() {
-            behind
+            after
         } else {
             case.offset
         };
         let mut parser = parser_at(&rt, case.message, case.offset);
         assert_parsed(&rt, row, &mut parser, case.parsed, parsed);
         let mut parser = parser_at(&rt, case.message, case.offset);
-        assert_skipped(&rt, row, &mut parser, case.skipped.err(), behind);
+        assert_skipped(&rt, row, &mut parser, case.skipped.err(), after);
     }
 }
 

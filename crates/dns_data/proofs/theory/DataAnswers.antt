@@ -85,26 +85,26 @@ module _ (b : List ℕ) where
   one_datum (Fixed n layout) p q r (Octets x ∷ xs) [] h k = absurd k
   one_datum (Fixed n layout) p q r (Octets x ∷ xs) (CompressibleName y ∷ ys) h k = absurd k
   one_datum (Fixed n layout) p q r (Octets x ∷ xs) (Octets y ∷ ys) h k =
-      let behind = one_datum layout (p + n) q r xs ys h.2 k.2 in
+      let after = one_datum layout (p + n) q r xs ys h.2 k.2 in
       let same : x ≡ y = sym h.1 ∙ k.1 in
-      (behind.0, cc (same, behind.1))
+      (after.0, cc (same, after.1))
   one_datum (CharacterString layout) p q r [] ys h k = absurd h
   one_datum (CharacterString layout) p q r (CompressibleName x ∷ xs) ys h k = absurd h
   one_datum (CharacterString layout) p q r (Octets x ∷ xs) [] h k = absurd k
   one_datum (CharacterString layout) p q r (Octets x ∷ xs) (CompressibleName y ∷ ys) h k = absurd k
   one_datum (CharacterString layout) p q r (Octets x ∷ xs) (Octets y ∷ ys) h k =
-      let behind = one_datum layout (p + string_size b p) q r xs ys h.2 k.2 in
+      let after = one_datum layout (p + string_size b p) q r xs ys h.2 k.2 in
       let same : x ≡ y = sym h.1 ∙ k.1 in
-      (behind.0, cc (same, behind.1))
+      (after.0, cc (same, after.1))
   one_datum (DomainName layout) p q r [] ys h k = absurd h
   one_datum (DomainName layout) p q r (Octets x ∷ xs) ys h k = absurd h
   one_datum (DomainName layout) p q r (CompressibleName x ∷ xs) [] h k = absurd k
   one_datum (DomainName layout) p q r (CompressibleName x ∷ xs) (Octets y ∷ ys) h k = absurd k
   one_datum (DomainName layout) p q r (CompressibleName x ∷ xs) (CompressibleName y ∷ ys) h k =
       let end : k.0 ≡ h.0 = one_end b k.2 h.2 in
-      let behind = one_datum layout h.0 q r xs ys h.3 (subst (λ e. DataStands b layout e r ys) end k.3) in
+      let after = one_datum layout h.0 q r xs ys h.3 (subst (λ e. DataStands b layout e r ys) end k.3) in
       let same : x ≡ y = same_name b h.1 k.1 in
-      (behind.0, cc (same, behind.1))
+      (after.0, cc (same, after.1))
 
   not_both : (layout : Layout) (p q : ℕ) (parts : List Part) (f : Fault) → p ≤ length b → DataStands b layout p q parts → DataFaultAt b layout p f → ⊥
   not_both End p q parts f l h k = k

@@ -45,9 +45,9 @@ standing_parts_read b end p (Rest accepts) parts l h (octets, is, good) =
 standing_parts_read b end p (Fixed n layout) [] l h is = absurd is
 standing_parts_read b end p (Fixed n layout) (CompressibleName name ∷ parts) l h is = absurd is
 standing_parts_read b end p (Fixed n layout) (Octets octets ∷ parts) l h is =
-    let behind : PartsStand b end (p + n) parts = subst (λ k. PartsStand b end (p + k) parts) is.0 h.1 in
+    let after : PartsStand b end (p + n) parts = subst (λ k. PartsStand b end (p + k) parts) is.0 h.1 in
     let here : slice_range b p (p + n) ≡ octets = subst (λ k. slice_range b p (p + k) ≡ octets) is.0 h.0 in
-    (is.0, range_before b end p n (parts_rise b end (p + n) parts behind) ∙ here, standing_parts_read b end (p + n) layout parts l behind is.1)
+    (is.0, range_before b end p n (parts_rise b end (p + n) parts after) ∙ here, standing_parts_read b end (p + n) layout parts l after is.1)
 standing_parts_read b end p (CharacterString layout) [] l h is = absurd is
 standing_parts_read b end p (CharacterString layout) (CompressibleName name ∷ parts) l h is = absurd is
 standing_parts_read b end p (CharacterString layout) (Octets octets ∷ parts) l h is =

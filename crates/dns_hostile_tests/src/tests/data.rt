@@ -30,25 +30,25 @@ fn assert_typed<'a, D: ParseRecordData<'a> + ComposeRecordData + Drop>(
     standing: Standing<Entry>,
 ) {
     let offset = parser.pos();
-    let mut behind = parser;
-    let data = data_of::<D>(D::parse_rdata(rtype, &mut behind));
+    let mut after = parser;
+    let data = data_of::<D>(D::parse_rdata(rtype, &mut after));
     let expected = data_at(octets, offset, rtype.to_int());
-    assert_read(rt, "data", offset, (data, behind.pos()), expected);
+    assert_read(rt, "data", offset, (data, after.pos()), expected);
     let expected = typed_of(octets, standing, rtype.to_int());
-    let mut behind = parser;
-    let record = Record::<ParsedName<'a>, D>::parse(&mut behind).plain();
+    let mut after = parser;
+    let record = Record::<ParsedName<'a>, D>::parse(&mut after).plain();
     let end = match standing {
         Ok((_, end)) => end,
         Err(_) => offset,
     };
-    assert_same(rt, "record", (record, behind.pos()), (expected, end));
-    let mut behind = parser;
-    if let Ok(header) = RecordHeader::parse(&mut behind) {
-        let record = header.parse_into_record::<D>(&mut behind).plain();
+    assert_same(rt, "record", (record, after.pos()), (expected, end));
+    let mut after = parser;
+    if let Ok(header) = RecordHeader::parse(&mut after) {
+        let record = header.parse_into_record::<D>(&mut after).plain();
         assert_same(rt, "record of a header", record, expected);
     }
-    let mut behind = parser;
-    if let Ok(record) = ParsedRecord::parse(&mut behind) {
+    let mut after = parser;
+    if let Ok(record) = ParsedRecord::parse(&mut after) {
         let answers = [
             record.to_record::<D>().plain(),
             record.into_record::<D>().plain(),
@@ -63,15 +63,15 @@ fn assert_opaque<'a>(rt: &impl Abort, parser: Parser<'a>, standing: Standing<Ent
         Ok((entry, _)) => Ok(entry),
         Err(fault) => Err(fault),
     };
-    let mut behind = parser;
-    if let Ok(header) = RecordHeader::parse(&mut behind) {
+    let mut after = parser;
+    if let Ok(header) = RecordHeader::parse(&mut after) {
         let record = header
-            .parse_into_any_record::<Opaque<'a>>(&mut behind)
+            .parse_into_any_record::<Opaque<'a>>(&mut after)
             .plain();
         assert_same(rt, "record of a header", record, expected);
     }
-    let mut behind = parser;
-    if let Ok(record) = ParsedRecord::parse(&mut behind) {
+    let mut after = parser;
+    if let Ok(record) = ParsedRecord::parse(&mut after) {
         let record = record.into_any_record::<Opaque<'a>>().plain();
         assert_same(rt, "record with its data", record, expected);
     }

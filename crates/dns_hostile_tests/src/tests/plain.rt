@@ -34,9 +34,9 @@ fn add_labels(octets: &[u8], offset: usize, size: usize, labels: Buffer) -> Resu
             if octets.len() - offset <= len {
                 return Err(Fault::Short);
             }
-            let behind = offset + 1 + len;
-            let labels = labels.with(&octets[offset..behind]);
-            add_labels(octets, behind, size + len + 1, labels)
+            let after = offset + 1 + len;
+            let labels = labels.with(&octets[offset..after]);
+            add_labels(octets, after, size + len + 1, labels)
         }
         64..=191 => Err(Fault::Form),
         _ => {
@@ -106,12 +106,12 @@ pub(crate) fn check_name(octets: &[u8], size: usize) -> Result<(), Fault>
     match octets {
         [] | [192..=255] => Err(Fault::Short),
         [0] => Ok(()),
-        [first @ 1..=63, behind @ ..] => {
+        [first @ 1..=63, after @ ..] => {
             let len = usize::from(*first);
             if size + len + 1 > 254 {
                 return Err(Fault::Form);
             }
-            match behind.get(len..) {
+            match after.get(len..) {
                 Some(rest) => check_name(rest, size + len + 1),
                 None => Err(Fault::Short),
             }
@@ -185,20 +185,20 @@ fn entry_of(
 /// The offset after the entry of a section at this offset. Its name may be malformed where its
 /// pointer leads.
 pub(crate) fn skip_entry(octets: &[u8], section: u8, offset: usize) -> Result<usize, Fault> {
-    let behind = name_end(octets, offset)?;
-    Ok(entry_of(Buffer::new(), octets, section, behind)?.1)
+    let after = name_end(octets, offset)?;
+    Ok(entry_of(Buffer::new(), octets, section, after)?.1)
 }
 
 /// The entry of a section at this offset.
 pub(crate) fn entry_at(octets: &[u8], section: u8, offset: usize) -> Standing<Entry> {
-    let (name, behind) = name_at(octets, offset)?;
-    entry_of(name, octets, section, behind)
+    let (name, after) = name_at(octets, offset)?;
+    entry_of(name, octets, section, after)
 }
 
 /// The record header at this offset.
 pub(crate) fn header_at(octets: &[u8], offset: usize) -> Standing<Header> {
-    let (owner, behind) = name_at(octets, offset)?;
-    header_of(owner, octets, behind).ok_or(Fault::Short)
+    let (owner, after) = name_at(octets, offset)?;
+    header_of(owner, octets, after).ok_or(Fault::Short)
 }
 
 /// The number of entries of a section by the header section.
@@ -268,7 +268,7 @@ impl<'a> Reading<'a> {
 
     /// Where the next section begins, or why it doesn't: the error that was met, or else that of
     /// the entry for which the section has no start.
-    pub(crate) fn start_behind(&self) -> Result<usize, Fault> {
+    pub(crate) fn start_after(&self) -> Result<usize, Fault> {
         match self.fault {
             Some(fault) => Err(fault),
             None => start(self.octets, self.section.saturating_add(1)),

@@ -11,14 +11,14 @@ pub(crate) fn has_options(octets: &[u8]) -> bool {
         return octets.is_empty();
     };
     match rest.get(usize::from(u16::from_be_bytes([*high, *low]))..) {
-        Some(behind) => has_options(behind),
+        Some(after) => has_options(after),
         None => false,
     }
 }
 
 /// `len` octets from this offset on.
 pub(crate) fn octets_at(octets: &[u8], offset: usize, len: usize) -> Standing<Buffer> {
-    match octets.get(offset..).and_then(|behind| behind.get(..len)) {
+    match octets.get(offset..).and_then(|after| after.get(..len)) {
         Some(octets) => Ok((Buffer::of(octets), offset.saturating_add(len))),
         None => Err(Fault::Short),
     }
@@ -65,8 +65,8 @@ pub(crate) fn typed_of(
     }
     let start = end.saturating_sub(entry.data.as_slice().len());
     let seen = octets.get(..end).ok_or(Fault::Short)?;
-    let (data, behind) = data_at(seen, start, rtype)?;
-    if behind == end {
+    let (data, after) = data_at(seen, start, rtype)?;
+    if after == end {
         Ok(Some(Entry { data, ..entry }))
     } else {
         Err(Fault::Form)

@@ -15,7 +15,7 @@ pub(crate) fn assert_questions(rt: &impl Abort, message: &Message<&[u8]>) {
     for _ in 0..=u16::MAX {
         assert_same(rt, "place of a question", questions.pos(), reading.offset);
         let starts = [questions.answer().plain(), questions.next_section().plain()];
-        assert_same(rt, "answer section", starts, [reading.start_behind(); 2]);
+        assert_same(rt, "answer section", starts, [reading.start_after(); 2]);
         let expected = reading.next();
         assert_same(rt, "question", questions.next().plain(), expected);
         if expected.is_none() {
@@ -28,7 +28,7 @@ pub(crate) fn assert_questions(rt: &impl Abort, message: &Message<&[u8]>) {
 fn next_start(reading: &Reading<'_>) -> Result<Option<usize>, Fault> {
     match reading.section {
         3 => Ok(None),
-        _ => Ok(Some(reading.start_behind()?)),
+        _ => Ok(Some(reading.start_after()?)),
     }
 }
 

@@ -11,51 +11,51 @@ use std::process::Abort;
 /// Checks the name, the question and the record that are read at this offset.
 fn assert_entries(rt: &impl Abort, octets: &[u8], parser: Parser<'_>) {
     let offset = parser.pos();
-    let mut behind = parser;
-    let name = ParsedName::parse(&mut behind).plain();
+    let mut after = parser;
+    let name = ParsedName::parse(&mut after).plain();
     let expected = name_at(octets, offset);
-    assert_read(rt, "name", offset, (name, behind.pos()), expected);
-    let mut behind = parser;
-    let question = Question::parse(&mut behind).plain();
+    assert_read(rt, "name", offset, (name, after.pos()), expected);
+    let mut after = parser;
+    let question = Question::parse(&mut after).plain();
     let expected = entry_at(octets, 0, offset);
-    assert_read(rt, "question", offset, (question, behind.pos()), expected);
-    let mut behind = parser;
-    let record = ParsedRecord::parse(&mut behind).plain();
+    assert_read(rt, "question", offset, (question, after.pos()), expected);
+    let mut after = parser;
+    let record = ParsedRecord::parse(&mut after).plain();
     let expected = entry_at(octets, 1, offset);
-    assert_read(rt, "record", offset, (record, behind.pos()), expected);
+    assert_read(rt, "record", offset, (record, after.pos()), expected);
 }
 
 /// Checks the record header that is read at this offset, whether or not the RDATA is skipped.
 fn assert_headers(rt: &impl Abort, octets: &[u8], parser: Parser<'_>) {
     let offset = parser.pos();
     let expected = header_at(octets, offset);
-    let mut behind = parser;
-    let header = RecordHeader::parse(&mut behind).plain();
-    assert_read(rt, "header", offset, (header, behind.pos()), expected);
-    let mut behind = parser;
-    let header = RecordHeader::parse_ref(&mut behind).plain();
-    assert_read(rt, "header", offset, (header, behind.pos()), expected);
-    let mut behind = parser;
-    let header = RecordHeader::parse_and_skip(&mut behind).plain();
+    let mut after = parser;
+    let header = RecordHeader::parse(&mut after).plain();
+    assert_read(rt, "header", offset, (header, after.pos()), expected);
+    let mut after = parser;
+    let header = RecordHeader::parse_ref(&mut after).plain();
+    assert_read(rt, "header", offset, (header, after.pos()), expected);
+    let mut after = parser;
+    let header = RecordHeader::parse_and_skip(&mut after).plain();
     let expected = header_passed(octets, offset);
-    assert_read(rt, "header", offset, (header, behind.pos()), expected);
+    assert_read(rt, "header", offset, (header, after.pos()), expected);
 }
 
 /// Checks the TTL and the header section at this offset, and the name of all octets from it on.
 fn assert_fixed(rt: &impl Abort, octets: &[u8], parser: Parser<'_>) {
     let offset = parser.pos();
-    let mut behind = parser;
-    let ttl = Ttl::parse(&mut behind).plain();
+    let mut after = parser;
+    let ttl = Ttl::parse(&mut after).plain();
     let expected = octets_at(octets, offset, 4);
-    assert_read(rt, "TTL", offset, (ttl, behind.pos()), expected);
-    let mut behind = parser;
-    let section = HeaderSection::parse(&mut behind).plain();
+    assert_read(rt, "TTL", offset, (ttl, after.pos()), expected);
+    let mut after = parser;
+    let section = HeaderSection::parse(&mut after).plain();
     let expected = octets_at(octets, offset, 12);
     assert_read(
         rt,
         "header section",
         offset,
-        (section, behind.pos()),
+        (section, after.pos()),
         expected,
     );
     let rest = octets.get(offset..).unwrap_or(b"");
@@ -74,15 +74,15 @@ fn passed(answer: Result<(), ParseError>, parser: Parser<'_>) -> Result<usize, F
 /// Checks what is skipped at this offset.
 fn assert_skips(rt: &impl Abort, octets: &[u8], parser: Parser<'_>) {
     let offset = parser.pos();
-    let mut behind = parser;
-    let answer = ParsedName::skip(&mut behind);
-    let name = passed(answer, behind);
-    let mut behind = parser;
-    let answer = Question::skip(&mut behind);
-    let question = passed(answer, behind);
-    let mut behind = parser;
-    let answer = ParsedRecord::skip(&mut behind);
-    let record = passed(answer, behind);
+    let mut after = parser;
+    let answer = ParsedName::skip(&mut after);
+    let name = passed(answer, after);
+    let mut after = parser;
+    let answer = Question::skip(&mut after);
+    let question = passed(answer, after);
+    let mut after = parser;
+    let answer = ParsedRecord::skip(&mut after);
+    let record = passed(answer, after);
     let expected = [
         name_end(octets, offset),
         skip_entry(octets, 0, offset),

@@ -7,7 +7,7 @@ use Rattle.dns_name.specs.Parsers.{number_at}
 use Rattle.dns_wire.specs.Parts.{PartsStand, put_parts}
 use Rattle.dns_wire.specs.Targets.{Written, IsTarget, lay}
 use Rattle.dns_wire.proofs.theory.PutNames.{put_name_grows, put_octets_grows, put_parts_grows, both_grows, with_length_grows}
-use Rattle.dns_wire.proofs.theory.PieceLaws.{number_16, number_32, HasLength, stable_length, puts_with_length, Puts, IsStable, Behind, stable_behind, puts_both, HasOctets, stable_octets, puts_octets, HasName, stable_name, puts_put_name, HasParts, stable_parts, puts_parts, parts_rise, parts_within, parts_stand}
+use Rattle.dns_wire.proofs.theory.PieceLaws.{number_16, number_32, HasLength, stable_length, puts_with_length, Puts, IsStable, Consecutive, stable_after, puts_both, HasOctets, stable_octets, puts_octets, HasName, stable_name, puts_put_name, HasParts, stable_parts, puts_parts, parts_rise, parts_within, parts_stand}
 use Rattle.dns_wire.proofs.theory.NameSizes.{parts_are_short}
 use Rattle.dns_wire.proofs.theory.SpelledNames.{at_first, at_second, at_offset, spelled_stands, spelled_walked}
 use Rattle.dns_item.specs.Items.{RecordEntry, ReadsRecordItem, RecordItem, IsRecord, record_fields, put_record, RecordsGrow, RecordsReadBack}
@@ -20,13 +20,13 @@ records_grow rule x =
 
 -- the octets of a record go from p to q
 abbrev pub HasRecord : RecordItem → Written → ℕ → ℕ → Type 0
-HasRecord x = Behind (HasName x.owner) (Behind (HasOctets (record_fields x)) (HasLength (HasParts x.parts)))
+HasRecord x = Consecutive (HasName x.owner) (Consecutive (HasOctets (record_fields x)) (HasLength (HasParts x.parts)))
 
 -- octets of a record stay its octets
 pub stable_record : (x : RecordItem) → IsStable (HasRecord x)
 stable_record x =
-    stable_behind (HasName x.owner) (Behind (HasOctets (record_fields x)) (HasLength (HasParts x.parts))) (stable_name x.owner)
-    (stable_behind (HasOctets (record_fields x)) (HasLength (HasParts x.parts)) (stable_octets (record_fields x)) (stable_length (HasParts x.parts) (stable_parts x.parts)))
+    stable_after (HasName x.owner) (Consecutive (HasOctets (record_fields x)) (HasLength (HasParts x.parts))) (stable_name x.owner)
+    (stable_after (HasOctets (record_fields x)) (HasLength (HasParts x.parts)) (stable_octets (record_fields x)) (stable_length (HasParts x.parts) (stable_parts x.parts)))
 
 -- a record is at the offset where it was written
 pub puts_record : (rule : Rule) (x : RecordItem) → IsRecord x → Puts (put_record rule x) (HasRecord x)
@@ -35,9 +35,9 @@ puts_record rule x is =
     let inner = put_parts rule x.parts in
     let small : (m : Memory) (w : ℕ) → length (inner m w).octets ≤ 65535 = λ m w. let a = parts_are_short rule x.parts m w in let b = is.short in omega arith in
     let last = puts_with_length inner (HasParts x.parts) small (puts_parts rule x.parts is.parts) in
-    let behind = puts_both (put_octets (record_fields x)) (with_length inner) (HasOctets (record_fields x)) (HasLength (HasParts x.parts)) (stable_octets (record_fields x)) (puts_octets (record_fields x)) last in
-    puts_both (put_name rule x.owner) (both (put_octets (record_fields x)) (with_length inner)) (HasName x.owner) (Behind (HasOctets (record_fields x)) (HasLength (HasParts x.parts)))
-    (stable_name x.owner) (puts_put_name rule x.owner is.owner) behind
+    let after = puts_both (put_octets (record_fields x)) (with_length inner) (HasOctets (record_fields x)) (HasLength (HasParts x.parts)) (stable_octets (record_fields x)) (puts_octets (record_fields x)) last in
+    puts_both (put_name rule x.owner) (both (put_octets (record_fields x)) (with_length inner)) (HasName x.owner) (Consecutive (HasOctets (record_fields x)) (HasLength (HasParts x.parts)))
+    (stable_name x.owner) (puts_put_name rule x.owner is.owner) after
 
 -- what is read of a record whose RDATA goes from one offset to another
 entry_of : RecordItem → ℕ → ℕ → RecordEntry

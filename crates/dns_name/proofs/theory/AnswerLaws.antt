@@ -78,13 +78,13 @@ module _ (b : List ℕ) where
   abbrev left : ℕ → ℕ → ℕ
   left p s = (255 - s) * (length b + 1) + p
 
-  less_behind : (p s n : ℕ) → 0 < n → s + n + 1 ≤ max_size → p + 1 + n ≤ length b → left (p + 1 + n) (s + n + 1) < left p s
-  less_behind p s n some small fits = grind arith
+  less_after : (p s n : ℕ) → 0 < n → s + n + 1 ≤ max_size → p + 1 + n ≤ length b → left (p + 1 + n) (s + n + 1) < left p s
+  less_after p s n some small fits = grind arith
 
-  behind : (p s n : ℕ) → head_at b p ≡ Ok (Label n) → s + n + 1 ≤ max_size → p + 1 + n ≤ length b → Answer (p + 1 + n) (s + n + 1) → Answer p s
-  behind p s n e small fits (inl a) =
+  after : (p s n : ℕ) → head_at b p ≡ Ok (Label n) → s + n + 1 ≤ max_size → p + 1 + n ≤ length b → Answer (p + 1 + n) (s + n + 1) → Answer p s
+  after p s n e small fits (inl a) =
       inl (label_at b p n ∷ a.0, Stands.label e fits a.1 (omega (arith, a.2)), (let w = name_size-label_at b p n a.0 fits in omega (arith, w, a.2)))
-  behind p s n e small fits (inr a) = inr (a.0, label e small fits a.1)
+  after p s n e small fits (inr a) = inr (a.0, label e small fits a.1)
 
   at : (p s t : ℕ) → head_at b p ≡ Ok (Pointer t) → t < p → Answer t s → Answer p s
   at p s t e back (inl a) = inl (a.0, Stands.pointer e back a.1, a.2)
@@ -96,7 +96,7 @@ module _ (b : List ℕ) where
   go p s small rec (Ok (Label n)) e =
       elim (leb_tells (s + n + 1) max_size) [
         | inl w ↦ elim (leb_tells (p + 1 + n) (length b)) [
-          | inl v ↦ behind p s n e w.1 v.1 (rec (p + 1 + n) (s + n + 1) w.1 (less_behind p s n (label_head b p n e).some w.1 v.1))
+          | inl v ↦ after p s n e w.1 v.1 (rec (p + 1 + n) (s + n + 1) w.1 (less_after p s n (label_head b p n e).some w.1 v.1))
           | inr v ↦ inr (ShortInput, cut e w.1 (omega (arith, v.1)))
         ]
         | inr w ↦ inr (Form, long e (omega (arith, w.1)))

@@ -4,7 +4,7 @@ use Rattle.std.specs.Prelude.{Option, Some, None, Ok, IsOk, slice_get}
 use Rattle.std.proofs.lemmas.Option.{slice_get_within}
 use Rattle.std.proofs.lemmas.Bool.Decides.{nat_tests}
 use Rattle.std.proofs.lemmas.Grind.{common_steps}
-use Rattle.dns_name.specs.Names.{head_of, head_at, Fault, Labels, name_size, max_size, Begins, Stands, label_at, WalkedBehind, Walked, SkipFaulty, SkipFaultAt}
+use Rattle.dns_name.specs.Names.{head_of, head_at, Fault, Labels, name_size, max_size, Begins, Stands, label_at, NameContinues, Walked, SkipFaulty, SkipFaultAt}
 use Rattle.dns_name.specs.declared.head.Head.TheVariants.{Root, Label, Pointer}
 use Rattle.dns_name.specs.Unique.{NameAt, label_of, label_head}
 use Rattle.dns_name.specs.Names.Stands.{root, label, pointer}
@@ -74,7 +74,7 @@ same_head b c p first second = λ i. head_of (first i) (second i)
 -- Labels of this size lead from `start` to `at`. So the end or the fault of a walk from `at` is that of the walk from `start`.
 pub record Passes (b : List ℕ) (start at size : ℕ) : Type 0 where
   pub within : size ≤ max_size
-  pub ends : (q : ℕ) → WalkedBehind b at size q → Walked b start q
+  pub ends : (q : ℕ) → NameContinues b at size q → Walked b start q
   pub faults : (f : Fault) → SkipFaulty b at size f → SkipFaultAt b start f
 
 pub passes_none : (b : List ℕ) (p : ℕ) → Passes b p p 0
@@ -89,7 +89,7 @@ passes_label b start at size n at' size' l h es ea =
     let Q : ℕ → Type 0 = λ a. Passes b start a (size + n + 1) in
     subst P (sym es) (subst Q (sym ea) (record {
       within = small;
-      ends = λ q w. l.ends q (WalkedBehind.label h.there small fits w);
+      ends = λ q w. l.ends q (NameContinues.label h.there small fits w);
       faults = λ f w. l.faults f (SkipFaulty.label h.there small fits w);
     }))
 
@@ -97,13 +97,13 @@ pub passes_root : (b : List ℕ) (start at size q : ℕ) → Passes b start at s
     → Walked b start q × (q ≤ length b)
 passes_root b start at size q l h e =
     let w : at < length b = root_within b at h in
-    (subst (λ q. Walked b start q) (sym e) (l.ends (at + 1) (WalkedBehind.root h)), omega arith)
+    (subst (λ q. Walked b start q) (sym e) (l.ends (at + 1) (NameContinues.root h)), omega arith)
 
 pub passes_pointer : (b : List ℕ) (start at size t q : ℕ) → Passes b start at size → head_at b at ≡ Ok (Pointer t) → q ≡ at + 2
     → Walked b start q × (q ≤ length b)
 passes_pointer b start at size t q l h e =
     let w : at + 1 < length b = pointer_within b at t h in
-    (subst (λ q. Walked b start q) (sym e) (l.ends (at + 2) (WalkedBehind.pointer h)), omega arith)
+    (subst (λ q. Walked b start q) (sym e) (l.ends (at + 2) (NameContinues.pointer h)), omega arith)
 
 -- What a name encoded at an offset is, by what begins there.
 
@@ -151,12 +151,12 @@ module _ (b : List ℕ) where
       let P : Labels → Type 0 = λ name. IsFirst b name l at in
       subst P (sym (at_root (f.same name s) h)) (e, root h)
 
-  pub first_label : {from at n behind : ℕ} (l : LabelOf) → Follows from at → head_at b at ≡ Ok (Label n) → label_octets l ≡ label_at b at n → behind ≡ at + 1 + n
-      → (name : Labels) → Stands b from name → IsFirst b name l behind
-  first_label {at = at} {n = n} {behind = behind} l f h e eb name s =
+  pub first_label : {from at n after : ℕ} (l : LabelOf) → Follows from at → head_at b at ≡ Ok (Label n) → label_octets l ≡ label_at b at n → after ≡ at + 1 + n
+      → (name : Labels) → Stands b from name → IsFirst b name l after
+  first_label {at = at} {n = n} {after = after} l f h e eb name s =
       let w = at_label (f.same name s) h in
-      let P : Labels → Type 0 = λ name. IsFirst b name l behind in
-      let Q : ℕ → Type 0 = λ behind. Stands b behind w.others in
+      let P : Labels → Type 0 = λ name. IsFirst b name l after in
+      let Q : ℕ → Type 0 = λ after. Stands b after w.others in
       subst P (sym w.whole) (e, subst Q (sym eb) w.stand)
 
   -- A root label, a label or a pointer begins where a name is encoded.
@@ -184,8 +184,8 @@ module _ (b : List ℕ) where
   length_first {at = at} {n = zero} name h = rw (label_at-none at) (omega arith)
   length_first {n = suc n} name h = length_label_at name (h (omega arith))
 
-  pub first_octet : {from at n behind : ℕ} (l : LabelOf) → Follows from at → (n ≡ 0 → head_at b at ≡ Ok Root) → (0 < n → head_at b at ≡ Ok (Label n))
-      → label_octets l ≡ label_at b at n → (n ≡ 0 → behind ≡ at) → (0 < n → behind ≡ at + 1 + n) → (name : Labels) → Stands b from name → IsFirst b name l behind
+  pub first_octet : {from at n after : ℕ} (l : LabelOf) → Follows from at → (n ≡ 0 → head_at b at ≡ Ok Root) → (0 < n → head_at b at ≡ Ok (Label n))
+      → label_octets l ≡ label_at b at n → (n ≡ 0 → after ≡ at) → (0 < n → after ≡ at + 1 + n) → (name : Labels) → Stands b from name → IsFirst b name l after
   first_octet {at = at} {n = zero} l f none some e here on name s =
       subst (λ p. IsFirst b name l p) (sym (here refl)) (first_root l f (none refl) (e ∙ label_at-none at) name s)
   first_octet {n = suc n} l f none some e here on name s = first_label l f (some (omega arith)) e (on (omega arith)) name s

@@ -47,12 +47,12 @@ pub parsed_whole : (name : ParsedName) → WholeName (uncompressed (labels name)
 parsed_whole name = ((labels name, stands_in_own _ (parsed_is name)), refl)
 
 -- The labels of a `ParsedName` fit in 255 octets uncompressed, each after those before it.
-pub label_room : (name : ParsedName) (before label behind : List ℕ) → before ++ (framed label ++ behind) ≡ uncompressed (labels name)
+pub label_room : (name : ParsedName) (before label after : List ℕ) → before ++ (framed label ++ after) ≡ uncompressed (labels name)
     → length before + length (framed label) ≤ 255
-label_room name before label behind e =
+label_room name before label after e =
     let all = ap length e ∙ length-uncompressed (labels name) in
     let short = (parsed_is name).short in
-    omega (arith, all, short, length-append before (framed label ++ behind), length-append (framed label) behind)
+    omega (arith, all, short, length-append before (framed label ++ after), length-append (framed label) after)
 
 -- Names with the same octets have the same labels.
 pub same_names : {X Y : Type 0} {holder : Ghosts X} {other_holder : Ghosts Y} (name : Name X holder) (other : Name Y other_holder)
@@ -71,9 +71,9 @@ lower_labels : (name : Labels) → All IsLabel name → map to_ascii_lowercase (
 lower_labels [] h = refl
 lower_labels (label ∷ name) h =
     let short = (All-head IsLabel label name h).short in
-    let behind = lower_labels name (All-tail IsLabel label name h) in
+    let after = lower_labels name (All-tail IsLabel label name h) in
     map-append to_ascii_lowercase (framed label) (uncompressed name)
-    ∙ ap (λ (c : List ℕ). map to_ascii_lowercase (framed label) ++ c) behind
+    ∙ ap (λ (c : List ℕ). map to_ascii_lowercase (framed label) ++ c) after
     ∙ ap (λ k. k ∷ (lowered_label label ++ uncompressed (lowered name))) (lower_short (length label) short ∙ sym (length-map label to_ascii_lowercase))
 
 -- Lowercasing the uncompressed octets lowercases the labels only, as no length octet is a letter.

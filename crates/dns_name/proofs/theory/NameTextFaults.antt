@@ -55,8 +55,8 @@ fault_known (NameTextFaulty.octet {n = n} {size = size} s short room more) (suc 
     let x : nat_eq n 63 ≡ false = grind (arith, nat_tests) in
     let y : nat_lt max_size (size + n + 2) ≡ false = grind (arith, nat_tests) in
     rw (first_is s, x, y) (fault_known more k (omega (arith, h, first_shorter s)))
-fault_known (NameTextFaulty.behind_dot some more) zero h = absurd (omega (arith, h))
-fault_known (NameTextFaulty.behind_dot {n = n} some more) (suc k) h =
+fault_known (NameTextFaulty.after_dot some more) zero h = absurd (omega (arith, h))
+fault_known (NameTextFaulty.after_dot {n = n} some more) (suc k) h =
     let x : nat_eq n 0 ≡ false = grind (arith, nat_tests) in
     rw x (fault_known more k (omega (arith, h)))
 
@@ -193,8 +193,8 @@ labels_are (SpellsLabels.last {text = text} {label = label} l) all k h =
     subst (λ t. labels_of_text k t ≡ label ∷ []) whole (label_passed l [] [] (λ j within. end_passed j (omega (arith, within))) k (omega (arith, h, ap length whole)))
 labels_are (SpellsLabels.closed l) all k h = label_passed l (dot ∷ []) [] (λ j within. last_dot_passed j (omega (arith, within))) k h
 labels_are (SpellsLabels.more {text = text} {label = label} {rest = rest} l others) all k h =
-    let behind = All-tail IsLabel label rest all in
-    label_passed l (dot ∷ text) rest (λ j within. dot_passed text rest (labels_long others behind) (λ i fits. labels_are others behind i fits) j within) k h
+    let after = All-tail IsLabel label rest all in
+    label_passed l (dot ∷ text) rest (λ j within. dot_passed text rest (labels_long others after) (λ i fits. labels_are others after i fits) j within) k h
 
 dot_spells_no_labels : (text : List ℕ) (name : Labels) → text ≡ dot ∷ [] → SpellsLabels text name → All IsLabel name → ⊥
 dot_spells_no_labels text name e s all =
@@ -311,7 +311,7 @@ at_dot [] (suc n) size short room next = inl (rest_dot (suc n) size (omega arith
 at_dot (c ∷ text) (suc n) size short room next =
     elim (next (omega arith) (omega arith)) [
       | inl x ↦ inl (rest_more (c ∷ text) (suc n) size (omega arith) short x)
-      | inr f ↦ inr (f.0, (let some : 0 < suc n = omega arith in NameTextFaulty.behind_dot some f.1))
+      | inr f ↦ inr (f.0, (let some : 0 < suc n = omega arith in NameTextFaulty.after_dot some f.1))
     ]
 
 -- No octet can be read.

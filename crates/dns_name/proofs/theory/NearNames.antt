@@ -5,7 +5,7 @@ use Rattle.std.proofs.lemmas.Option.{slice_get_past, slice_get-get_or}
 use Rattle.std.proofs.lemmas.Nat.{or_comm, or_shifted}
 use Rattle.std.specs.Prelude.{bit_or}
 use Rattle.std.proofs.lemmas.Bool.Decides.{leb_tells}
-use Rattle.dns_name.specs.Names.{Fault, Labels, name_size, max_size, head_of, head_at, label_at, Stands, Faulty, FaultAt, WalkedBehind}
+use Rattle.dns_name.specs.Names.{Fault, Labels, name_size, max_size, head_of, head_at, label_at, Stands, Faulty, FaultAt, NameContinues}
 use Rattle.dns_name.specs.Names.Fault.{ShortInput, Form}
 use Rattle.dns_name.specs.NearNames.{IsNear, LabelsTo, row_count, PassesLabels, Measures, Arrives, LeadsBackTo}
 use Rattle.dns_name.specs.NearNames.LabelsTo.{none, label}
@@ -98,9 +98,9 @@ pub row_faults : (b : List ℕ) {p s q r : ℕ} → LabelsTo b p s q r → (f : 
 row_faults b none f m = m
 row_faults b (label h small fits x) f m = Faulty.label h small fits (row_faults b x f m)
 
-pub row_ends : (b : List ℕ) {p s q r : ℕ} → LabelsTo b p s q r → (e : ℕ) → WalkedBehind b q r e → WalkedBehind b p s e
+pub row_ends : (b : List ℕ) {p s q r : ℕ} → LabelsTo b p s q r → (e : ℕ) → NameContinues b q r e → NameContinues b p s e
 row_ends b none e m = m
-row_ends b (label h small fits x) e m = WalkedBehind.label h small fits (row_ends b x e m)
+row_ends b (label h small fits x) e m = NameContinues.label h small fits (row_ends b x e m)
 
 -- The progress of a walk over labels and pointers, which has skipped k labels. The name or fault at q gives that at p.
 pub record Leading (b : List ℕ) (p s q r k : ℕ) : Type 0 where
@@ -157,7 +157,7 @@ arrives_root b p q n x =
     let w = row_names b x.row [] (Stands.root x.there) (omega (arith, x.short)) in
     record {
       name = ((w.0, w.1), omega (arith, w.2), omega (arith, w.3, x.counted));
-      walked = row_ends b x.row (q + 1) (WalkedBehind.root x.there);
+      walked = row_ends b x.row (q + 1) (NameContinues.root x.there);
       within = omega (arith, x.within);
     }
 
@@ -168,15 +168,15 @@ arrives_pointer b p q n t size count all number x back name short size_is count_
     let inside : q + 1 < length b = pointer_within b q t x.there in
     record {
       name = ((w.0, w.1), omega (arith, w.2, name.1), omega (arith, w.3, name.2, x.counted));
-      walked = row_ends b x.row (q + 2) (WalkedBehind.pointer x.there);
+      walked = row_ends b x.row (q + 2) (NameContinues.pointer x.there);
       within = omega arith;
     }
 
 pub fails_ahead : (b : List ℕ) (p s q n t : ℕ) → PassesLabels b p s q n (Some t) → q ≤ t → Faulty b p s Form
 fails_ahead b p s q n t x ahead = row_faults b x.row Form (Faulty.ahead x.there ahead)
 
-pub fails_behind : (b : List ℕ) (p q n t : ℕ) (f : Fault) → PassesLabels b p 0 q n (Some t) → t < q → Faulty b t (q - p) f → FaultAt b p f
-fails_behind b p q n t f x back m =
+pub fails_after : (b : List ℕ) (p q n t : ℕ) (f : Fault) → PassesLabels b p 0 q n (Some t) → t < q → Faulty b t (q - p) f → FaultAt b p f
+fails_after b p q n t f x back m =
     let P : ℕ → Type 0 = λ k. Faulty b t k f in
     let e : q - p ≡ 0 + (q - p) = omega arith in
     row_faults b x.row f (Faulty.pointer x.there back (subst P e m))
@@ -196,4 +196,4 @@ pub arrives_back : (b : List ℕ) (p : ℕ) (near : NearName) → LeadsBackTo b 
 arrives_back b p near x is =
     let n = is x.known in
     let inside : p + 1 < length b = pointer_within b p near.pos x.there in
-    record { name = ((n.0.0, Stands.pointer x.there x.back n.0.1), n.1, n.2); walked = WalkedBehind.pointer x.there; within = omega arith }
+    record { name = ((n.0.0, Stands.pointer x.there x.back n.0.1), n.1, n.2); walked = NameContinues.pointer x.there; within = omega arith }

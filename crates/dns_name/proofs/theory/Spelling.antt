@@ -45,7 +45,7 @@ record Labelled (b : List ℕ) (p : ℕ) (label : List ℕ) (name : Labels) : Ty
   begins : head_at b p ≡ Ok (Label (length label))
   octets : label_at b p (length label) ≡ label
   fits : p + 1 + length label ≤ length b
-  behind : uncompressed name ≡ drop (p + 1 + length label) b
+  after : uncompressed name ≡ drop (p + 1 + length label) b
 
 labelled : (b : List ℕ) (p : ℕ) (label : List ℕ) (name : Labels) → IsLabel label → uncompressed (label ∷ name) ≡ drop p b → Labelled b p label name
 labelled b p label name l e =
@@ -60,7 +60,7 @@ labelled b p label name l e =
       begins = label_begins b p n l.some l.short there;
       octets = ap (λ m. take m (drop (p + 1) b)) k ∙ ap (take n) next ∙ take-append_seam label (uncompressed name);
       fits = omega arith;
-      behind = sym (sym (drop-drop n (p + 1) b) ∙ ap (drop n) next ∙ drop-append_seam label (uncompressed name));
+      after = sym (sym (drop-drop n (p + 1) b) ∙ ap (drop n) next ∙ drop-append_seam label (uncompressed name));
     }
 
 -- The octets from offset p on are the root's zero octet alone.
@@ -83,7 +83,7 @@ stands_spelled b p (label ∷ name) n e =
     let t = name_tail label name n in
     let l = labelled b p label name t.0 e in
     let P : List ℕ → Type 0 = λ octets. Stands b p (octets ∷ name) in
-    subst P l.octets (Stands.label l.begins l.fits (stands_spelled b (p + 1 + length label) name t.1 l.behind) (omega (arith, n.short)))
+    subst P l.octets (Stands.label l.begins l.fits (stands_spelled b (p + 1 + length label) name t.1 l.after) (omega (arith, n.short)))
 
 -- The octets from `at` on are an uncompressed name, which is short enough after labels that take all octets before it.
 pub record Rest (b : List ℕ) (at : ℕ) : Type 0 where
@@ -116,7 +116,7 @@ rest_label b at n at' r h e = go r.name r.is_name r.octets r.short
         let same : length label ≡ n = cc (l.begins, h) in
         let Q : ℕ → Type 0 = λ k. uncompressed name ≡ drop k b in
         let offset : at + 1 + length label ≡ at' = omega arith in
-        record { name = name; is_name = t.1; octets = subst Q offset l.behind; short = omega arith }
+        record { name = name; is_name = t.1; octets = subst Q offset l.after; short = omega arith }
 
 -- The test continues after a label.
 pub spells_label : (b : List ℕ) (at n at' : ℕ) → Spells b at → Begins b at at (Label n) → at' ≡ at + 1 + n → Spells b at'
@@ -126,9 +126,9 @@ spells_label b at n at' s h e =
     record {
       passes = passes_label b 0 at at n at' at' s.passes h (omega arith) e;
       whole = λ name m small octets.
-          let behind : Stands b (at + 1 + n) name = subst (λ k. Stands b k name) e m in
+          let after : Stands b (at + 1 + n) name = subst (λ k. Stands b k name) e m in
           let size : name_size (label_at b at n ∷ name) ≡ n + 1 + name_size name = name_size-label_at b at n name fits in
-          s.whole (label_at b at n ∷ name) (Stands.label h.there fits behind (omega arith)) (omega arith)
+          s.whole (label_at b at n ∷ name) (Stands.label h.there fits after (omega arith)) (omega arith)
           (ap (λ k. k ∷ (label_at b at n ++ uncompressed name)) same ∙ ap (λ (c : List ℕ). n ∷ (label_at b at n ++ c)) (octets ∙ ap (λ k. drop k b) e) ∙ sym (drop_label b at n h.there));
       rest = λ u. rest_label b at n at' (s.rest u) h.there e;
     }
@@ -226,7 +226,7 @@ counted_label b at count n at' c read some offset = go c.others c.is_name c.octe
         record {
           others = others;
           is_name = t.1;
-          octets = subst Q to l.behind;
+          octets = subst Q to l.after;
           few = omega (arith, c.few);
           all = λ name s. let e = all name s in omega (arith, e);
         }

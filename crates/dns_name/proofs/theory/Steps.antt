@@ -41,23 +41,23 @@ module _ (b : List ℕ) where
       name_size-take (suc k) (x ∷ xs) = omega (arith, name_size-take k xs)
 
   -- What remains after the first label.
-  record After (behind left : ℕ) (labels : Labels) (l : Label) : Type 0 where
+  record After (next_offset left : ℕ) (labels : Labels) (l : Label) : Type 0 where
     fits : length (label_octets l) + 1 ≤ left
-    rest : LabelsAt b behind (left - (length (label_octets l) + 1))
+    rest : LabelsAt b next_offset (left - (length (label_octets l) + 1))
     gives : labels ≡ label_octets l ∷ take rest.1.0 (with_root rest.0.0)
 
-  after : (behind left count : ℕ) (name : Labels) (l : Label) → left ≢ 0 → IsFirst b name l behind → LabelsTake (with_root name) left count → After behind left (take count (with_root name)) l
-  after behind left zero name l some f c = absurd (some (sym c.1))
-  after behind left (suc k) [] l some f c =
+  after : (next_offset left count : ℕ) (name : Labels) (l : Label) → left ≢ 0 → IsFirst b name l next_offset → LabelsTake (with_root name) left count → After next_offset left (take count (with_root name)) l
+  after next_offset left zero name l some f c = absurd (some (sym c.1))
+  after next_offset left (suc k) [] l some f c =
       let none : k ≡ 0 = omega (arith, c.0) in
-      let P : ℕ → Type 0 = λ k. LabelsTake (with_root []) left (suc k) → After behind left (take (suc k) (with_root [])) l in
+      let P : ℕ → Type 0 = λ k. LabelsTake (with_root []) left (suc k) → After next_offset left (take (suc k) (with_root [])) l in
       let none_left : length (label_octets l) ≡ 0 = ap length f.0 in
       subst P (sym none) (λ c. record {
         fits = omega (arith, c.1);
         rest = (([], f.1), (0, (omega arith, omega (arith, c.1))));
         gives = ap (λ x. x ∷ []) (sym f.0);
       }) c
-  after behind left (suc k) (first ∷ others) l some f c =
+  after next_offset left (suc k) (first ∷ others) l some f c =
       let same : length (label_octets l) ≡ length first = ap length f.0 in
       record {
         fits = omega (arith, c.1);
@@ -65,23 +65,23 @@ module _ (b : List ℕ) where
         gives = ap (λ x. x ∷ take k (with_root others)) (sym f.0);
       }
 
-  module _ (p left behind taken : ℕ) (l : Label) (t : taken ≡ length (label_octets l) + 1) (n : LabelsAt b p left) (some : left ≢ 0)
-      (f : (name : Labels) → Stands b p name → IsFirst b name l behind) where
-    next : After behind left (take n.1.0 (with_root n.0.0)) l
-    next = after behind left n.1.0 n.0.0 l some (f n.0.0 n.0.1) n.1.1
+  module _ (p left next_offset taken : ℕ) (l : Label) (t : taken ≡ length (label_octets l) + 1) (n : LabelsAt b p left) (some : left ≢ 0)
+      (f : (name : Labels) → Stands b p name → IsFirst b name l next_offset) where
+    next : After next_offset left (take n.1.0 (with_root n.0.0)) l
+    next = after next_offset left n.1.0 n.0.0 l some (f n.0.0 n.0.1) n.1.1
 
     pub step_fits : taken ≤ left
     step_fits = let w = next.fits in omega (arith, w)
 
-    pub step_has : LabelsAt b behind (left - taken)
-    step_has = subst (λ k. LabelsAt b behind (left - k)) (sym t) next.rest
+    pub step_has : LabelsAt b next_offset (left - taken)
+    step_has = subst (λ k. LabelsAt b next_offset (left - k)) (sym t) next.rest
 
-    pub step_gives : (m : LabelsAt b behind (left - taken)) → take n.1.0 (with_root n.0.0) ≡ label_octets l ∷ take m.1.0 (with_root m.0.0)
-    step_gives = subst (λ k. (m : LabelsAt b behind (left - k)) → take n.1.0 (with_root n.0.0) ≡ label_octets l ∷ take m.1.0 (with_root m.0.0)) (sym t)
-        (λ m. next.gives ∙ ap (λ (m : LabelsAt b behind (left - (length (label_octets l) + 1))). label_octets l ∷ take m.1.0 (with_root m.0.0)) (LabelsAt-prop b behind _ next.rest m))
+    pub step_gives : (m : LabelsAt b next_offset (left - taken)) → take n.1.0 (with_root n.0.0) ≡ label_octets l ∷ take m.1.0 (with_root m.0.0)
+    step_gives = subst (λ k. (m : LabelsAt b next_offset (left - k)) → take n.1.0 (with_root n.0.0) ≡ label_octets l ∷ take m.1.0 (with_root m.0.0)) (sym t)
+        (λ m. next.gives ∙ ap (λ (m : LabelsAt b next_offset (left - (length (label_octets l) + 1))). label_octets l ∷ take m.1.0 (with_root m.0.0)) (LabelsAt-prop b next_offset _ next.rest m))
 
     -- One label fewer remains.
-    pub step_fewer : (m : LabelsAt b behind (left - taken)) → length (take m.1.0 (with_root m.0.0)) < length (take n.1.0 (with_root n.0.0))
+    pub step_fewer : (m : LabelsAt b next_offset (left - taken)) → length (take m.1.0 (with_root m.0.0)) < length (take n.1.0 (with_root n.0.0))
     step_fewer m = let e = ap length (step_gives m) in omega (arith, e)
 
   -- A step from the back has skipped some labels, fewer than remain. They take `passed` octets, and the labels after them are encoded at `pos`.
@@ -98,20 +98,20 @@ module _ (b : List ℕ) where
       first zero c = absurd (some (sym c.1))
       first (suc k) c = omega arith
 
-  behind_number : (behind k : ℕ) (l : Label) (name : Labels) → k < length name → IsFirst b (drop k name) l behind → Stands b behind (drop (suc k) name)
-  behind_number behind k l [] h f = absurd (omega arith)
-  behind_number behind zero l (x ∷ name) h f = f.1
-  behind_number behind (suc k) l (x ∷ name) h f = behind_number behind k l name (omega arith) f
+  after_number : (next_offset k : ℕ) (l : Label) (name : Labels) → k < length name → IsFirst b (drop k name) l next_offset → Stands b next_offset (drop (suc k) name)
+  after_number next_offset k l [] h f = absurd (omega arith)
+  after_number next_offset zero l (x ∷ name) h f = f.1
+  after_number next_offset (suc k) l (x ∷ name) h f = after_number next_offset k l name (omega arith) f
 
-  take_last : (behind k : ℕ) (l : Label) (name : Labels) → k ≤ length name → IsFirst b (drop k name) l behind
+  take_last : (next_offset k : ℕ) (l : Label) (name : Labels) → k ≤ length name → IsFirst b (drop k name) l next_offset
       → take (suc k) (with_root name) ≡ take k (with_root name) ++ label_octets l ∷ []
-  take_last behind zero l [] h f = ap (λ x. x ∷ []) (sym f.0)
-  take_last behind (suc k) l [] h f = absurd (omega arith)
-  take_last behind zero l (x ∷ name) h f = ap (λ x. x ∷ []) (sym f.0)
-  take_last behind (suc k) l (x ∷ name) h f = ap (λ xs. x ∷ xs) (take_last behind k l name (omega arith) f)
+  take_last next_offset zero l [] h f = ap (λ x. x ∷ []) (sym f.0)
+  take_last next_offset (suc k) l [] h f = absurd (omega arith)
+  take_last next_offset zero l (x ∷ name) h f = ap (λ x. x ∷ []) (sym f.0)
+  take_last next_offset (suc k) l (x ∷ name) h f = ap (λ xs. x ∷ xs) (take_last next_offset k l name (omega arith) f)
 
-  module _ (p left pos passed behind taken : ℕ) (l : Label) (n : LabelsAt b p left) (s : Passed n.0.0 n.1.0 pos passed)
-      (f : (name : Labels) → Stands b pos name → IsFirst b name l behind) (t : taken ≡ length (label_octets l) + 1) where
+  module _ (p left pos passed next_offset taken : ℕ) (l : Label) (n : LabelsAt b p left) (s : Passed n.0.0 n.1.0 pos passed)
+      (f : (name : Labels) → Stands b pos name → IsFirst b name l next_offset) (t : taken ≡ length (label_octets l) + 1) where
     abbrev name : Labels
     name = n.0.0
 
@@ -119,7 +119,7 @@ module _ (b : List ℕ) where
     within = let e = length-with_root name in let c = n.1.1.0 in omega (arith, s.before)
 
     last : take (suc s.number) (with_root name) ≡ take s.number (with_root name) ++ label_octets l ∷ []
-    last = take_last behind s.number l name within (f (drop s.number name) s.stands)
+    last = take_last next_offset s.number l name within (f (drop s.number name) s.stands)
 
     sizes : LabelsTake (with_root name) (passed + taken) (suc s.number)
     sizes =
@@ -131,11 +131,11 @@ module _ (b : List ℕ) where
         let differ : suc s.number ≢ n.1.0 = λ e. other (sym sizes.1 ∙ ap (λ k. name_size (take k (with_root name))) e ∙ n.1.1.1) in
         omega (arith, s.before)
 
-    pub step_on : passed + taken ≢ left → Passed name n.1.0 behind (passed + taken)
+    pub step_on : passed + taken ≢ left → Passed name n.1.0 next_offset (passed + taken)
     step_on other =
         let m = more other in
         let e = length-with_root name in let c = n.1.1.0 in
-        record { number = suc s.number; before = m; stands = behind_number behind s.number l name (omega arith) (f (drop s.number name) s.stands); size = sizes.1 }
+        record { number = suc s.number; before = m; stands = after_number next_offset s.number l name (omega arith) (f (drop s.number name) s.stands); size = sizes.1 }
 
     pub back_has : passed + taken ≡ left → LabelsAt b p passed
     back_has all = let e = length-with_root name in let w = within in (n.0, (s.number, (omega arith, s.size)))

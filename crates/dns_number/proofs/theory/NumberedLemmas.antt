@@ -27,18 +27,18 @@ module _ (word text : List ℕ) where
   digits_are x = ap (λ k. drop k text) (sym (same_length x)) ∙ ap (drop (length x.front)) x.whole ∙ drop-append_seam x.front x.digits
 
   -- the text after the word is a numeral
-  numeral_behind : {n : ℕ} (x : IsNumbered word text n) → IsNumeral 10 (drop (length word) text)
-  numeral_behind x = subst (λ ds. IsNumeral 10 ds) (sym (digits_are x)) x.numeral
+  numeral_after : {n : ℕ} (x : IsNumbered word text n) → IsNumeral 10 (drop (length word) text)
+  numeral_after x = subst (λ ds. IsNumeral 10 ds) (sym (digits_are x)) x.numeral
 
   -- its value is a 16-bit number
-  value_behind : {n : ℕ} (x : IsNumbered word text n) → digits_value 10 (drop (length word) text) < 2 ^ 16
-  value_behind x = subst (λ m. m < 2 ^ 16) (sym (ap (digits_value 10) (digits_are x) ∙ x.value)) x.fits
+  value_after : {n : ℕ} (x : IsNumbered word text n) → digits_value 10 (drop (length word) text) < 2 ^ 16
+  value_after x = subst (λ m. m < 2 ^ 16) (sym (ap (digits_value 10) (digits_are x) ∙ x.value)) x.fits
 
   -- if the text begins with the word, its number is that of the digits after the word
   pub numbered_is : (r : Option ℕ) → str_to_ascii_lowercase (take (length word) text) ≡ str_to_ascii_lowercase word
       → SomeIff r (IsNumeral 10 (drop (length word) text) × (digits_value 10 (drop (length word) text) < 2 ^ 16)) (digits_value 10 (drop (length word) text))
       → (n : ℕ) → IsNumbered word text n ↔ (r ≡ Some n)
-  numbered_is None same h n = (λ x. absurd (h (numeral_behind x, value_behind x)), λ e. cc)
+  numbered_is None same h n = (λ x. absurd (h (numeral_after x, value_after x)), λ e. cc)
   numbered_is (Some k) same h n = (
     λ x. ap Some (h.1 ∙ ap (digits_value 10) (digits_are x) ∙ x.value),
     λ e. let k_is : k ≡ n = cc in record {

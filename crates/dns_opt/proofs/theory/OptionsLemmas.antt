@@ -42,44 +42,44 @@ some_of b (Some xs) e h = (xs, options_of-holds b xs e)
 some_of b None e h = absurd (cc)
 
 -- the octets after an option are a list of options if all octets are
-behind_list : (x : OptionItem) (b behind : List ℕ) (xs : List OptionItem) → OptionBegins x b behind → AreOptions b xs → (ys : List OptionItem) × (xs ≡ x ∷ ys) × AreOptions behind ys
-behind_list x b behind [] begins h = let there = begins.there in let e = ap length h in absurd (omega (arith, e))
-behind_list x b behind (y ∷ ys) begins h =
-    let p = one_first x b behind begins in
+after_list : (x : OptionItem) (b after : List ℕ) (xs : List OptionItem) → OptionBegins x b after → AreOptions b xs → (ys : List OptionItem) × (xs ≡ x ∷ ys) × AreOptions after ys
+after_list x b after [] begins h = let there = begins.there in let e = ap length h in absurd (omega (arith, e))
+after_list x b after (y ∷ ys) begins h =
+    let p = one_first x b after begins in
     let q = one_first y b h.0 h.1 in
     (ys, (λ i. (q.0 ∙ sym p.0) i ∷ ys), subst (λ (o : List ℕ). AreOptions o ys) (q.1 ∙ sym p.1) h.2)
 
-pub given_first : (x : OptionItem) (b behind : List ℕ) → OptionBegins x b behind → IsSome (options_of b) → IsSome (options_of behind) × (options_in b ≡ x ∷ options_in behind)
-given_first x b behind begins some =
+pub given_first : (x : OptionItem) (b after : List ℕ) → OptionBegins x b after → IsSome (options_of b) → IsSome (options_of after) × (options_in b ≡ x ∷ options_in after)
+given_first x b after begins some =
     let all = some_of b (options_of b) refl some in
-    let rest = behind_list x b behind all.0 begins all.1 in
-    let e : options_of behind ≡ Some rest.0 = options_of-is behind rest.0 rest.2 in
+    let rest = after_list x b after all.0 begins all.1 in
+    let e : options_of after ≡ Some rest.0 = options_of-is after rest.0 rest.2 in
     let f : options_of b ≡ Some (x ∷ rest.0) = options_of-is b all.0 all.1 ∙ ap (λ (xs : List OptionItem). let o : Option (List OptionItem) = Some xs in o) rest.1 in (
       rw e refl,
       ap (λ (o : Option (List OptionItem)). option_map_or (λ (xs : List OptionItem). xs) o []) f
           ∙ sym (ap (λ (o : Option (List OptionItem)). x ∷ option_map_or (λ (xs : List OptionItem). xs) o []) e),
     )
 
-no_options : (b : List ℕ) → ((x : OptionItem) (behind : List ℕ) → OptionBegins x b behind → ⊥) → (xs : List OptionItem) → AreOptions b xs → options_in b ≡ []
+no_options : (b : List ℕ) → ((x : OptionItem) (after : List ℕ) → OptionBegins x b after → ⊥) → (xs : List OptionItem) → AreOptions b xs → options_in b ≡ []
 no_options b never [] h = ap (λ (o : Option (List OptionItem)). option_map_or (λ (xs : List OptionItem). xs) o []) (options_of-is b [] h)
 no_options b never (x ∷ xs) h = absurd (never x h.0 h.1)
 
-pub given_none : (b : List ℕ) → ((x : OptionItem) (behind : List ℕ) → OptionBegins x b behind → ⊥) → IsSome (options_of b) → options_in b ≡ []
+pub given_none : (b : List ℕ) → ((x : OptionItem) (after : List ℕ) → OptionBegins x b after → ⊥) → IsSome (options_of b) → options_in b ≡ []
 given_none b never some = let all = some_of b (options_of b) refl some in no_options b never all.0 all.1
 
 -- octets that begin with an option are a list of options if and only if the octets after it are
-told : (x : OptionItem) (b behind : List ℕ) → OptionBegins x b behind → ((ys : List OptionItem) × AreOptions behind ys) ⊎ ((ys : List OptionItem) → AreOptions behind ys → ⊥) → are_options b ≡ are_options behind
-told x b behind begins (inl p) =
-    let e : options_of behind ≡ Some p.0 = options_of-is behind p.0 p.1 in
-    let f : options_of b ≡ Some (x ∷ p.0) = options_of-is b (x ∷ p.0) (behind, begins, p.1) in
+told : (x : OptionItem) (b after : List ℕ) → OptionBegins x b after → ((ys : List OptionItem) × AreOptions after ys) ⊎ ((ys : List OptionItem) → AreOptions after ys → ⊥) → are_options b ≡ are_options after
+told x b after begins (inl p) =
+    let e : options_of after ≡ Some p.0 = options_of-is after p.0 p.1 in
+    let f : options_of b ≡ Some (x ∷ p.0) = options_of-is b (x ∷ p.0) (after, begins, p.1) in
     ap (λ (o : Option (List OptionItem)). is_some o) f ∙ sym (ap (λ (o : Option (List OptionItem)). is_some o) e)
-told x b behind begins (inr never) =
-    let e = options_of-none behind never in
-    let f = options_of-none b (λ xs h. let rest = behind_list x b behind xs begins h in never rest.0 rest.2) in
+told x b after begins (inr never) =
+    let e = options_of-none after never in
+    let f = options_of-none b (λ xs h. let rest = after_list x b after xs begins h in never rest.0 rest.2) in
     ap (λ (o : Option (List OptionItem)). is_some o) f ∙ sym (ap (λ (o : Option (List OptionItem)). is_some o) e)
 
-pub told_behind : (x : OptionItem) (b behind : List ℕ) → OptionBegins x b behind → are_options b ≡ are_options behind
-told_behind x b behind begins = told x b behind begins (one_or_none behind)
+pub reported_after : (x : OptionItem) (b after : List ℕ) → OptionBegins x b after → are_options b ≡ are_options after
+reported_after x b after begins = told x b after begins (one_or_none after)
 
 -- no octets are a list of options
 pub told_empty : (b : List ℕ) → length b ≡ 0 → are_options b ≡ true
@@ -87,12 +87,12 @@ told_empty [] e = ap (λ (o : Option (List OptionItem)). is_some o) options_of-n
 told_empty (o ∷ os) e = absurd (omega (arith, e))
 
 -- octets that don't begin with an option are no list of options
-pub told_none : (b : List ℕ) → 0 < length b → ((x : OptionItem) (behind : List ℕ) → OptionBegins x b behind → ⊥) → are_options b ≡ false
+pub told_none : (b : List ℕ) → 0 < length b → ((x : OptionItem) (after : List ℕ) → OptionBegins x b after → ⊥) → are_options b ≡ false
 told_none b there never = ap (λ (o : Option (List OptionItem)). is_some o) (options_of-none b (none_at_all b there never))
 
 -- an encoded option is at the start
-put_begins : (x : OptionItem) (behind : List ℕ) → IsOption x → OptionBegins x (put_option x ++ behind) behind
-put_begins x behind h = record {
+put_begins : (x : OptionItem) (after : List ℕ) → IsOption x → OptionBegins x (put_option x ++ after) after
+put_begins x after h = record {
   there = omega arith;
   code = from_be_bytes-to_be_bytes_2 x.code h.code;
   size = from_be_bytes-to_be_bytes_2 (length x.octets) h.short;
@@ -104,17 +104,17 @@ options_put [] each = refl
 options_put (x ∷ xs) each = (put_options xs, put_begins x (put_options xs) (All-head IsOption x xs each), options_put xs (All-tail IsOption x xs each))
 
 -- octets that begin with an option still do with others appended
-begins_longer : (x : OptionItem) (b behind c : List ℕ) → OptionBegins x b behind → OptionBegins x (b ++ c) (behind ++ c)
-begins_longer x (o ∷ p ∷ q ∷ r ∷ os) behind c h = record {
+begins_longer : (x : OptionItem) (b after c : List ℕ) → OptionBegins x b after → OptionBegins x (b ++ c) (after ++ c)
+begins_longer x (o ∷ p ∷ q ∷ r ∷ os) after c h = record {
   there = omega arith;
   code = h.code;
   size = h.size;
-  octets = ap (λ (ys : List ℕ). ys ++ c) h.octets ∙ append_assoc x.octets behind c;
+  octets = ap (λ (ys : List ℕ). ys ++ c) h.octets ∙ append_assoc x.octets after c;
 }
-begins_longer x [] behind c h = absurd (let there = h.there in omega arith)
-begins_longer x (o ∷ []) behind c h = absurd (let there = h.there in omega arith)
-begins_longer x (o ∷ p ∷ []) behind c h = absurd (let there = h.there in omega arith)
-begins_longer x (o ∷ p ∷ q ∷ []) behind c h = absurd (let there = h.there in omega arith)
+begins_longer x [] after c h = absurd (let there = h.there in omega arith)
+begins_longer x (o ∷ []) after c h = absurd (let there = h.there in omega arith)
+begins_longer x (o ∷ p ∷ []) after c h = absurd (let there = h.there in omega arith)
+begins_longer x (o ∷ p ∷ q ∷ []) after c h = absurd (let there = h.there in omega arith)
 
 -- two lists of options in order are one list
 pub options_joined : (b c : List ℕ) (xs ys : List OptionItem) → AreOptions b xs → AreOptions c ys → AreOptions (b ++ c) (xs ++ ys)
@@ -140,8 +140,8 @@ put_length b [] h = sym (ap length h)
 put_length b (x ∷ xs) h =
     let rest = put_length h.0 xs h.2 in
     let there = h.1.there in
-    let behind = ap length h.1.octets ∙ length-append x.octets h.0 in
-    omega (arith, rest, there, behind, length-drop 4 b, length-append (put_option x) (put_options xs))
+    let after = ap length h.1.octets ∙ length-append x.octets h.0 in
+    omega (arith, rest, there, after, length-drop 4 b, length-append (put_option x) (put_options xs))
 
 -- as `put_length`, of the options in octets that are a list of options
 pub options_length : (b : List ℕ) → IsSome (options_of b) → length (put_options (options_in b)) ≡ length b

@@ -83,12 +83,12 @@ abbrev pub with_left : OptBuilder → List OptionItem → Gathered
 with_left builder left = record (gathered builder) { options = (gathered builder).options ++ left }
 
 -- the option that is added is the first of the remaining ones
-pub one_added : (x : OptionItem) (old new : OptBuilder) (left behind : List OptionItem) → gathered new ≡ record (gathered old) { options = (gathered old).options ++ x ∷ [] }
-    → left ≡ x ∷ behind → with_left new behind ≡ with_left old left
-one_added x old new left behind added first =
+pub one_added : (x : OptionItem) (old new : OptBuilder) (left after : List OptionItem) → gathered new ≡ record (gathered old) { options = (gathered old).options ++ x ∷ [] }
+    → left ≡ x ∷ after → with_left new after ≡ with_left old left
+one_added x old new left after added first =
     let g : List OptionItem → Gathered = λ xs. record (gathered old) { options = xs } in
-    ap (λ (all : Gathered). record all { options = all.options ++ behind }) added
-    ∙ ap g (append_assoc (gathered old).options (x ∷ []) behind) ∙ ap (with_left old) (sym first)
+    ap (λ (all : Gathered). record all { options = all.options ++ after }) added
+    ∙ ap g (append_assoc (gathered old).options (x ∷ []) after) ∙ ap (with_left old) (sym first)
 
 -- no options remain
 pub none_left : (builder : OptBuilder) (left : List OptionItem) → left ≡ [] → with_left builder left ≡ gathered builder
@@ -97,16 +97,16 @@ none_left builder left none =
     ap (with_left builder) none ∙ ap g (append-nil (gathered builder).options)
 
 -- if the first of the remaining options exceeds the limit, so do all of them
-pub too_many : (x : OptionItem) (old new : OptBuilder) (left behind : List OptionItem) (r : Result (Unit {0}) AppendError) → Adds x old new r → r ≡ Err ShortBuf → left ≡ x ∷ behind
+pub too_many : (x : OptionItem) (old new : OptBuilder) (left after : List OptionItem) (r : Result (Unit {0}) AppendError) → Adds x old new r → r ≡ Err ShortBuf → left ≡ x ∷ after
     → 65535 < length (put_options (with_left old left).options)
-too_many x old new left behind (Err ShortBuf) h e first =
+too_many x old new left after (Err ShortBuf) h e first =
     let all = ap (λ (xs : List OptionItem). length (put_options ((gathered old).options ++ xs))) first in
-    let parts = ap length (flat_map-append put_option (gathered old).options (x ∷ behind)) in
-    let sums = length-append (put_options (gathered old).options) (put_options (x ∷ behind)) in
-    let more = length-append (put_option x) (put_options behind) in
+    let parts = ap length (flat_map-append put_option (gathered old).options (x ∷ after)) in
+    let sums = length-append (put_options (gathered old).options) (put_options (x ∷ after)) in
+    let more = length-append (put_option x) (put_options after) in
     omega (arith, h.0, all, parts, sums, more)
-too_many x old new left behind (Ok _) h e first = absurd (cc)
-too_many x old new left behind (Err OutOfMemory) h e first = absurd (cc)
+too_many x old new left after (Ok _) h e first = absurd (cc)
+too_many x old new left after (Err OutOfMemory) h e first = absurd (cc)
 
 -- an error that isn't `ShortBuf` is `OutOfMemory`
 pub of_memory : (e : AppendError) → (e ≡ ShortBuf → ⊥) → e ≡ OutOfMemory

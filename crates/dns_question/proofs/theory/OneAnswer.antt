@@ -8,7 +8,7 @@ use Rattle.dns_name.proofs.theory.NameTextFaults.{text_name_or_fault, one_text_f
 use Rattle.dns_number.specs.Classes.{SpellsClass}
 use Rattle.dns_number.specs.Types.{SpellsType}
 use Rattle.dns_question.specs.QuestionTexts.{Fields, named, EachTextAnswered, OneTextAnswer, EachWordsAnswered, OneWordsAnswer, Answer, ReadsWords}
-use Rattle.dns_question.specs.QuestionTexts.ReadsWords.{no_name, bad_name, name_alone, class_alone, no_type_behind_class, class_and_type, neither, type_alone, no_class_behind_type, type_and_class, trailing}
+use Rattle.dns_question.specs.QuestionTexts.ReadsWords.{no_name, bad_name, name_alone, class_alone, no_type_after_class, class_and_type, neither, type_alone, no_class_after_type, type_and_class, trailing}
 use Rattle.dns_question.specs.declared.question_error.PresentationErrorEnum.TheVariants.{BadName, MissingQname, MissingClassAndQtype, MissingQtype, BadClass, BadQtype, TrailingData}
 use Rattle.dns_question.proofs.WordLemmas.{one_words, some_words}
 use Rattle.dns_question.proofs.SpelledNumbers.{type_of, class_of, found, none_found}
@@ -36,26 +36,26 @@ abbrev ended : List (List ℕ) → ℕ → ℕ → Fields
 ended [] rtype class = Ok (rtype, class)
 ended (d ∷ more) rtype class = Err TrailingData
 
-abbrev type_behind : Option ℕ → List (List ℕ) → ℕ → Fields
-type_behind None more class = Err BadQtype
-type_behind (Some rtype) more class = ended more rtype class
+abbrev type_after : Option ℕ → List (List ℕ) → ℕ → Fields
+type_after None more class = Err BadQtype
+type_after (Some rtype) more class = ended more rtype class
 
-abbrev class_behind : Option ℕ → List (List ℕ) → ℕ → Fields
-class_behind None more rtype = Err BadClass
-class_behind (Some class) more rtype = ended more rtype class
+abbrev class_after : Option ℕ → List (List ℕ) → ℕ → Fields
+class_after None more rtype = Err BadClass
+class_after (Some class) more rtype = ended more rtype class
 
-abbrev behind_class : List (List ℕ) → ℕ → Fields
-behind_class [] class = Err MissingQtype
-behind_class (c ∷ more) class = type_behind (type_of c).0 more class
+abbrev after_class : List (List ℕ) → ℕ → Fields
+after_class [] class = Err MissingQtype
+after_class (c ∷ more) class = type_after (type_of c).0 more class
 
-abbrev behind_type : List (List ℕ) → ℕ → Fields
-behind_type [] rtype = Ok (rtype, 1)
-behind_type (c ∷ more) rtype = class_behind (class_of c).0 more rtype
+abbrev after_type : List (List ℕ) → ℕ → Fields
+after_type [] rtype = Ok (rtype, 1)
+after_type (c ∷ more) rtype = class_after (class_of c).0 more rtype
 
 -- the second word is a class, or a type, or neither
 abbrev fields_by : Option ℕ → Option ℕ → List (List ℕ) → Fields
-fields_by (Some class) rtype more = behind_class more class
-fields_by None (Some rtype) more = behind_type more rtype
+fields_by (Some class) rtype more = after_class more class
+fields_by None (Some rtype) more = after_type more rtype
 fields_by None None more = Err BadQtype
 
 abbrev fields_of : List (List ℕ) → Fields
@@ -75,34 +75,34 @@ answer_of (a ∷ more) = answer_by (name_of a).0 more
 named_found : (a : List ℕ) (name : Labels) (more : List (List ℕ)) (fields : Fields) → SpellsName a name → fields_of more ≡ fields → answer_of (a ∷ more) ≡ named name fields
 named_found a name more fields s e = ap (λ r. answer_by r more) (name_is a (name_of a).0 (Ok name) (name_of a).1 s) ∙ ap (named name) e
 
-class_found : (b : List ℕ) (class : ℕ) (more : List (List ℕ)) → SpellsClass b class → fields_of (b ∷ more) ≡ behind_class more class
+class_found : (b : List ℕ) (class : ℕ) (more : List (List ℕ)) → SpellsClass b class → fields_of (b ∷ more) ≡ after_class more class
 class_found b class more h = ap (λ r. fields_by r (type_of b).0 more) (found (SpellsClass b) (class_of b) class h)
 
-type_found : (b : List ℕ) (rtype : ℕ) (more : List (List ℕ)) → ((n : ℕ) → SpellsClass b n → ⊥) → SpellsType b rtype → fields_of (b ∷ more) ≡ behind_type more rtype
+type_found : (b : List ℕ) (rtype : ℕ) (more : List (List ℕ)) → ((n : ℕ) → SpellsClass b n → ⊥) → SpellsType b rtype → fields_of (b ∷ more) ≡ after_type more rtype
 type_found b rtype more none h =
     ap (λ r. fields_by r (type_of b).0 more) (none_found (SpellsClass b) (class_of b) none) ∙ ap (λ r. fields_by None r more) (found (SpellsType b) (type_of b) rtype h)
 
-second_type : (c : List ℕ) (rtype class : ℕ) (more : List (List ℕ)) → SpellsType c rtype → behind_class (c ∷ more) class ≡ ended more rtype class
-second_type c rtype class more h = ap (λ r. type_behind r more class) (found (SpellsType c) (type_of c) rtype h)
+second_type : (c : List ℕ) (rtype class : ℕ) (more : List (List ℕ)) → SpellsType c rtype → after_class (c ∷ more) class ≡ ended more rtype class
+second_type c rtype class more h = ap (λ r. type_after r more class) (found (SpellsType c) (type_of c) rtype h)
 
-second_class : (c : List ℕ) (rtype class : ℕ) (more : List (List ℕ)) → SpellsClass c class → behind_type (c ∷ more) rtype ≡ ended more rtype class
-second_class c rtype class more h = ap (λ r. class_behind r more rtype) (found (SpellsClass c) (class_of c) class h)
+second_class : (c : List ℕ) (rtype class : ℕ) (more : List (List ℕ)) → SpellsClass c class → after_type (c ∷ more) rtype ≡ ended more rtype class
+second_class c rtype class more h = ap (λ r. class_after r more rtype) (found (SpellsClass c) (class_of c) class h)
 
 is_answer : (words : List (List ℕ)) (x : Answer) → ReadsWords words x → answer_of words ≡ x
 is_answer _ _ no_name = refl
 is_answer _ _ (bad_name {a} {more} {f} h) = ap (λ r. answer_by r more) (name_is a (name_of a).0 (Err f) (name_of a).1 h)
 is_answer _ _ (name_alone {a} {name} s) = named_found a name [] (Err MissingClassAndQtype) s refl
 is_answer _ _ (class_alone {a} {b} {name} {class} s h) = named_found a name (b ∷ []) (Err MissingQtype) s (class_found b class [] h)
-is_answer _ _ (no_type_behind_class {a} {b} {c} {more} {name} {class} s h n) =
-    named_found a name (b ∷ c ∷ more) (Err BadQtype) s (class_found b class (c ∷ more) h ∙ ap (λ r. type_behind r more class) (none_found (SpellsType c) (type_of c) n))
+is_answer _ _ (no_type_after_class {a} {b} {c} {more} {name} {class} s h n) =
+    named_found a name (b ∷ c ∷ more) (Err BadQtype) s (class_found b class (c ∷ more) h ∙ ap (λ r. type_after r more class) (none_found (SpellsType c) (type_of c) n))
 is_answer _ _ (class_and_type {a} {b} {c} {name} {rtype} {class} s h t) =
     named_found a name (b ∷ c ∷ []) (Ok (rtype, class)) s (class_found b class (c ∷ []) h ∙ second_type c rtype class [] t)
 is_answer _ _ (neither {a} {b} {more} {name} s n m) =
     named_found a name (b ∷ more) (Err BadQtype) s
     (ap (λ r. fields_by r (type_of b).0 more) (none_found (SpellsClass b) (class_of b) n) ∙ ap (λ r. fields_by None r more) (none_found (SpellsType b) (type_of b) m))
 is_answer _ _ (type_alone {a} {b} {name} {rtype} s n t) = named_found a name (b ∷ []) (Ok (rtype, 1)) s (type_found b rtype [] n t)
-is_answer _ _ (no_class_behind_type {a} {b} {c} {more} {name} {rtype} s n t m) =
-    named_found a name (b ∷ c ∷ more) (Err BadClass) s (type_found b rtype (c ∷ more) n t ∙ ap (λ r. class_behind r more rtype) (none_found (SpellsClass c) (class_of c) m))
+is_answer _ _ (no_class_after_type {a} {b} {c} {more} {name} {rtype} s n t m) =
+    named_found a name (b ∷ c ∷ more) (Err BadClass) s (type_found b rtype (c ∷ more) n t ∙ ap (λ r. class_after r more rtype) (none_found (SpellsClass c) (class_of c) m))
 is_answer _ _ (type_and_class {a} {b} {c} {name} {rtype} {class} s n t h) =
     named_found a name (b ∷ c ∷ []) (Ok (rtype, class)) s (type_found b rtype (c ∷ []) n t ∙ second_class c rtype class [] h)
 is_answer _ _ (trailing {d} {more} (class_and_type {a} {b} {c} {name} {rtype} {class} s h t)) =
@@ -116,33 +116,33 @@ module _ (a : List ℕ) (name : Labels) (s : SpellsName a name) where
   none_spelled : (Holds : ℕ → Type 0) → ((n : ℕ) → Holds n ↔ (None ≡ Some n)) → (n : ℕ) → Holds n → ⊥
   none_spelled Holds h n x = let e = (h n).0 x in cc e
 
-  read_behind_class : (b : List ℕ) (class : ℕ) (more : List (List ℕ)) → SpellsClass b class → ReadsWords (a ∷ b ∷ more) (named name (behind_class more class))
-  read_behind_class b class [] h = class_alone {name = name} {class = class} s h
-  read_behind_class b class (c ∷ more) h = by (type_of c).0 (type_of c).1 more
+  read_after_class : (b : List ℕ) (class : ℕ) (more : List (List ℕ)) → SpellsClass b class → ReadsWords (a ∷ b ∷ more) (named name (after_class more class))
+  read_after_class b class [] h = class_alone {name = name} {class = class} s h
+  read_after_class b class (c ∷ more) h = by (type_of c).0 (type_of c).1 more
     where
-      by : (r : Option ℕ) → ((n : ℕ) → SpellsType c n ↔ (r ≡ Some n)) → (more : List (List ℕ)) → ReadsWords (a ∷ b ∷ c ∷ more) (named name (type_behind r more class))
-      by None g more = no_type_behind_class {name = name} {class = class} s h (none_spelled (SpellsType c) g)
+      by : (r : Option ℕ) → ((n : ℕ) → SpellsType c n ↔ (r ≡ Some n)) → (more : List (List ℕ)) → ReadsWords (a ∷ b ∷ c ∷ more) (named name (type_after r more class))
+      by None g more = no_type_after_class {name = name} {class = class} s h (none_spelled (SpellsType c) g)
       by (Some rtype) g [] = class_and_type {name = name} {rtype = rtype} {class = class} s h ((g rtype).1 refl)
       by (Some rtype) g (d ∷ more) = trailing (class_and_type {name = name} {rtype = rtype} {class = class} s h ((g rtype).1 refl))
 
-  read_behind_type : (b : List ℕ) (rtype : ℕ) (more : List (List ℕ)) → ((n : ℕ) → SpellsClass b n → ⊥) → SpellsType b rtype
-      → ReadsWords (a ∷ b ∷ more) (named name (behind_type more rtype))
-  read_behind_type b rtype [] none t = type_alone {name = name} {rtype = rtype} s none t
-  read_behind_type b rtype (c ∷ more) none t = by (class_of c).0 (class_of c).1 more
+  read_after_type : (b : List ℕ) (rtype : ℕ) (more : List (List ℕ)) → ((n : ℕ) → SpellsClass b n → ⊥) → SpellsType b rtype
+      → ReadsWords (a ∷ b ∷ more) (named name (after_type more rtype))
+  read_after_type b rtype [] none t = type_alone {name = name} {rtype = rtype} s none t
+  read_after_type b rtype (c ∷ more) none t = by (class_of c).0 (class_of c).1 more
     where
-      by : (r : Option ℕ) → ((n : ℕ) → SpellsClass c n ↔ (r ≡ Some n)) → (more : List (List ℕ)) → ReadsWords (a ∷ b ∷ c ∷ more) (named name (class_behind r more rtype))
-      by None g more = no_class_behind_type {name = name} {rtype = rtype} s none t (none_spelled (SpellsClass c) g)
+      by : (r : Option ℕ) → ((n : ℕ) → SpellsClass c n ↔ (r ≡ Some n)) → (more : List (List ℕ)) → ReadsWords (a ∷ b ∷ c ∷ more) (named name (class_after r more rtype))
+      by None g more = no_class_after_type {name = name} {rtype = rtype} s none t (none_spelled (SpellsClass c) g)
       by (Some class) g [] = type_and_class {name = name} {rtype = rtype} {class = class} s none t ((g class).1 refl)
       by (Some class) g (d ∷ more) = trailing (type_and_class {name = name} {rtype = rtype} {class = class} s none t ((g class).1 refl))
 
-  read_behind : (more : List (List ℕ)) → ReadsWords (a ∷ more) (named name (fields_of more))
-  read_behind [] = name_alone {name = name} s
-  read_behind (b ∷ more) = by (class_of b).0 (class_of b).1 (type_of b).0 (type_of b).1
+  read_after : (more : List (List ℕ)) → ReadsWords (a ∷ more) (named name (fields_of more))
+  read_after [] = name_alone {name = name} s
+  read_after (b ∷ more) = by (class_of b).0 (class_of b).1 (type_of b).0 (type_of b).1
     where
       by : (r : Option ℕ) → ((n : ℕ) → SpellsClass b n ↔ (r ≡ Some n)) → (t : Option ℕ) → ((n : ℕ) → SpellsType b n ↔ (t ≡ Some n))
           → ReadsWords (a ∷ b ∷ more) (named name (fields_by r t more))
-      by (Some class) g t u = read_behind_class b class more ((g class).1 refl)
-      by None g (Some rtype) u = read_behind_type b rtype more (none_spelled (SpellsClass b) g) ((u rtype).1 refl)
+      by (Some class) g t u = read_after_class b class more ((g class).1 refl)
+      by None g (Some rtype) u = read_after_type b rtype more (none_spelled (SpellsClass b) g) ((u rtype).1 refl)
       by None g None u = neither {name = name} s (none_spelled (SpellsClass b) g) (none_spelled (SpellsType b) u)
 
 reads_answer : (words : List (List ℕ)) → ReadsWords words (answer_of words)
@@ -150,7 +150,7 @@ reads_answer [] = no_name
 reads_answer (a ∷ more) = by (name_of a).0 (name_of a).1
   where
     by : (r : Result Labels PresentationError) → IsNameOf a r → ReadsWords (a ∷ more) (answer_by r more)
-    by (Ok name) h = read_behind a name h more
+    by (Ok name) h = read_after a name h more
     by (Err f) h = bad_name h
 
 pub each_words_answered : EachWordsAnswered

@@ -4,7 +4,7 @@ use Rattle.std.specs.Int.{w16}
 use Rattle.dns_name.specs.Parsers.{number_at}
 use Rattle.dns_name.proofs.theory.Names.{one_name}
 use Rattle.dns_question.specs.Questions.{QuestionItem, ReadsQuestion, QuestionOrFault, QuestionEndOrFault, QuestionSkipAgrees}
-use Rattle.dns_question.proofs.theory.FieldsBehindNames.{long_or_short, one_name_end, fields_from, ends_or_faults, reads_or_faults}
+use Rattle.dns_question.proofs.theory.FieldsAfterNames.{long_or_short, one_name_end, fields_from, ends_or_faults, reads_or_faults}
 
 same_question : (b : List ℕ) (p q r : ℕ) (x y : QuestionItem) → ReadsQuestion b p q x → ReadsQuestion b p r y → x ≡ y
 same_question b p q r x y h k =

@@ -5,7 +5,7 @@ use Rattle.dns_name.specs.Names.{name_size, max_size}
 use Rattle.dns_wire.specs.Pieces.{Rule, put_octets, put_name}
 use Rattle.dns_wire.specs.Targets.{Written, IsTarget, lay}
 use Rattle.dns_wire.proofs.theory.PutNames.{put_name_grows, put_octets_grows, both_grows}
-use Rattle.dns_wire.proofs.theory.PieceLaws.{number_16, Puts, IsStable, Behind, stable_behind, puts_both, HasOctets, stable_octets, puts_octets, HasName, stable_name, puts_put_name}
+use Rattle.dns_wire.proofs.theory.PieceLaws.{number_16, Puts, IsStable, Consecutive, stable_after, puts_both, HasOctets, stable_octets, puts_octets, HasName, stable_name, puts_put_name}
 use Rattle.dns_wire.proofs.theory.SpelledNames.{at_first, at_second, spelled_stands, spelled_walked}
 use Rattle.dns_question.specs.Questions.{ReadsQuestion, QuestionsGrow, QuestionsReadBack, QuestionItem, IsQuestion, question_fields, put_question}
 
@@ -16,11 +16,11 @@ questions_grow rule x = both_grows _ _ (put_name_grows rule x.name) (put_octets_
 
 -- the octets of a question go from p to q
 abbrev pub HasQuestion : QuestionItem → Written → ℕ → ℕ → Type 0
-HasQuestion x = Behind (HasName x.name) (HasOctets (question_fields x))
+HasQuestion x = Consecutive (HasName x.name) (HasOctets (question_fields x))
 
 -- they stay so
 pub stable_question : (x : QuestionItem) → IsStable (HasQuestion x)
-stable_question x = stable_behind (HasName x.name) (HasOctets (question_fields x)) (stable_name x.name) (stable_octets (question_fields x))
+stable_question x = stable_after (HasName x.name) (HasOctets (question_fields x)) (stable_name x.name) (stable_octets (question_fields x))
 
 -- a question is at the offset where it was written
 pub puts_question : (rule : Rule) (x : QuestionItem) → IsQuestion x → Puts (put_question rule x) (HasQuestion x)

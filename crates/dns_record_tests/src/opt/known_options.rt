@@ -15,7 +15,7 @@ fn builder(rt: &HostRuntime) -> OptBuilder {
 }
 
 #[test]
-fn adds_one_behind_the_other(rt: HostRuntime) -> Result<(), Fail> {
+fn adds_them_in_order(rt: HostRuntime) -> Result<(), Fail> {
     let mut opt = builder(&rt);
     opt.client_nsid()?;
     opt.dau(&[8, 13])?;

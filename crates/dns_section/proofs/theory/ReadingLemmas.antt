@@ -15,23 +15,23 @@ module _ {X : Type 0} (Reads : ℕ → ℕ → X → Type 0) (FaultOf : ℕ → 
   short_reading (stop {n = n} h) = omega arith
 
   -- a list that has an item isn't empty
-  not_empty : (before behind : List (Result X Fault)) (x : Result X Fault) → let empty : List (Result X Fault) = [] in empty ≡ before ++ x ∷ behind → ⊥
-  not_empty [] behind x e = cc
-  not_empty (y ∷ before) behind x e = cc
+  not_empty : (before after : List (Result X Fault)) (x : Result X Fault) → let empty : List (Result X Fault) = [] in empty ≡ before ++ x ∷ after → ⊥
+  not_empty [] after x e = cc
+  not_empty (y ∷ before) after x e = cc
 
   -- the item of a list with one item is its last
-  single : (g f : Fault) (before behind : List (Result X Fault)) → let one : List (Result X Fault) = Err g ∷ [] in one ≡ before ++ Err f ∷ behind → behind ≡ []
-  single g f [] behind e = cc
-  single g f (y ∷ before) behind e = absurd (not_empty before behind (Err f) (cc))
+  single : (g f : Fault) (before after : List (Result X Fault)) → let one : List (Result X Fault) = Err g ∷ [] in one ≡ before ++ Err f ∷ after → after ≡ []
+  single g f [] after e = cc
+  single g f (y ∷ before) after e = absurd (not_empty before after (Err f) (cc))
 
-  last_fault : {n p : ℕ} {xs : List (Result X Fault)} (before behind : List (Result X Fault)) (f : Fault) → Reading Reads FaultOf n p xs → xs ≡ before ++ Err f ∷ behind → behind ≡ []
-  last_fault before behind f none e = absurd (not_empty before behind (Err f) e)
-  last_fault [] behind f (entry h r) e = cc
-  last_fault (y ∷ before) behind f (entry h r) e = last_fault before behind f r (cc)
-  last_fault before behind f (stop {f = g} h) e = single g f before behind e
+  last_fault : {n p : ℕ} {xs : List (Result X Fault)} (before after : List (Result X Fault)) (f : Fault) → Reading Reads FaultOf n p xs → xs ≡ before ++ Err f ∷ after → after ≡ []
+  last_fault before after f none e = absurd (not_empty before after (Err f) e)
+  last_fault [] after f (entry h r) e = cc
+  last_fault (y ∷ before) after f (entry h r) e = last_fault before after f r (cc)
+  last_fault before after f (stop {f = g} h) e = single g f before after e
 
   readings_end : ReadingsEnd Reads FaultOf
-  readings_end = record { short = λ n p xs r. short_reading r; last = λ n p xs before behind f r e. last_fault before behind f r e }
+  readings_end = record { short = λ n p xs r. short_reading r; last = λ n p xs before after f r e. last_fault before after f r e }
 
 pub readings_of_questions_end : ReadingsOfQuestionsEnd
 readings_of_questions_end b = readings_end (ReadsQuestion b) (QuestionFaultAt b)

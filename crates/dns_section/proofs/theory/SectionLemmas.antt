@@ -9,7 +9,7 @@ use Rattle.dns_section.specs.Reading.{Passed}
 use Rattle.dns_section.specs.QuestionSection as questions
 use Rattle.dns_section.specs.QuestionSection.{BeginsQuestions}
 use Rattle.dns_section.specs.RecordSection.{octets_of, position, section_of, IsFresh, BeginsSection, EntersAnswers, EntersNext}
-use Rattle.dns_section.specs.Sections.{question_count, record_count, StartsAt, section_behind}
+use Rattle.dns_section.specs.Sections.{question_count, record_count, StartsAt, section_after}
 use Rattle.dns_section.specs.Skipping.{SkipsRest}
 use Rattle.dns_section.specs.declared.question_section.QuestionSection.{QuestionSection}
 use Rattle.dns_section.specs.declared.record_section.RecordSection.{RecordSection}
@@ -27,15 +27,15 @@ begins_answers b old new begins enters =
     }
 
 -- a section starts after the records of the section before it
-pub starts_behind : (which next : Section) (b : List ℕ) (p q : ℕ) → section_behind which ≡ Some next → StartsAt which b p → Passed (SkipsRecord b) (record_count which b) p q → StartsAt next b q
-starts_behind Answer next b p q behind start passed = let e : Authority ≡ next = cc in subst (λ k. StartsAt k b q) e (p, start, passed)
-starts_behind Authority next b p q behind start passed = let e : Additional ≡ next = cc in subst (λ k. StartsAt k b q) e (p, start, passed)
-starts_behind Additional next b p q behind start passed = absurd (cc)
+pub starts_after : (which next : Section) (b : List ℕ) (p q : ℕ) → section_after which ≡ Some next → StartsAt which b p → Passed (SkipsRecord b) (record_count which b) p q → StartsAt next b q
+starts_after Answer next b p q after start passed = let e : Authority ≡ next = cc in subst (λ k. StartsAt k b q) e (p, start, passed)
+starts_after Authority next b p q after start passed = let e : Additional ≡ next = cc in subst (λ k. StartsAt k b q) e (p, start, passed)
+starts_after Additional next b p q after start passed = absurd (cc)
 
-pub begins_next : (which next : Section) (b : List ℕ) (old new : RecordSection) → section_behind which ≡ Some next → BeginsSection which b old → EntersNext old new → BeginsSection next b new
-begins_next which next b old new behind begins enters =
+pub begins_next : (which next : Section) (b : List ℕ) (old new : RecordSection) → section_after which ≡ Some next → BeginsSection which b old → EntersNext old new → BeginsSection next b new
+begins_next which next b old new after begins enters =
     let section : section_of new ≡ next = cc in
     let fresh = subst (λ k. IsFresh k b new) section (subst (λ (o : List ℕ). IsFresh (section_of new) o new) begins.fresh.octets enters.fresh) in
     let counted = subst (λ (left : Result ℕ ParseError). SkipsRest (SkipsRecord (octets_of old)) left (position old) (position new)) begins.fresh.count enters.skips in
     let passed = subst (λ (o : List ℕ). SkipsRest (SkipsRecord o) (Ok (record_count which b)) (position old) (position new)) begins.fresh.octets counted in
-    record { fresh = fresh; start = starts_behind which next b (position old) (position new) behind begins.start passed }
+    record { fresh = fresh; start = starts_after which next b (position old) (position new) after begins.start passed }

@@ -6,7 +6,7 @@ use Rattle.dns_question.proofs.theory.QuestionEntryLemmas.{question_end_or_fault
 use Rattle.dns_item.proofs.theory.EntryLemmas.{record_end_or_fault}
 use Rattle.dns_section.specs.Reading.{Passed, StopsPassing}
 use Rattle.dns_section.specs.Reading.Passed.{none, more}
-use Rattle.dns_section.specs.Reading.StopsPassing.{here, behind}
+use Rattle.dns_section.specs.Reading.StopsPassing.{here, after}
 use Rattle.dns_section.specs.Sections.{question_count, answer_count, authority_count, AnswersStart, AuthoritiesStart, AdditionalsStart, AnswersFault, AuthoritiesFault, AdditionalsFault}
 use Rattle.dns_section.specs.Readings.{QuestionsPassOrStop, RecordsPassOrStop, OneStart, StartsOrFaults, StartOrFault}
 
@@ -26,13 +26,13 @@ module _ {Skips : ℕ → ℕ → Type 0} {FaultOf : ℕ → Fault → Type 0} (
 
   stops : {n p : ℕ} {f : Fault} → StopsPassing Skips FaultOf n p f → Stops n p f
   stops (here h) = inl h
-  stops (behind {q = q} h x) = inr (q, h, x)
+  stops (after {q = q} h x) = inr (q, h, x)
 
   passed_or_stopped : (n p : ℕ) → ((q : ℕ) × Passed Skips n p q) ⊎ ((f : Fault) × StopsPassing Skips FaultOf n p f)
   passed_or_stopped zero p = inl (p, none)
   passed_or_stopped (suc n) p =
       elim (each.some p) [
-        | inl a ↦ elim (passed_or_stopped n a.0) [ inl r ↦ inl (r.0, more a.1 r.1) | inr f ↦ inr (f.0, behind a.1 f.1) ]
+        | inl a ↦ elim (passed_or_stopped n a.0) [ inl r ↦ inl (r.0, more a.1 r.1) | inr f ↦ inr (f.0, after a.1 f.1) ]
         | inr f ↦ inr (f.0, here f.1)
       ]
 
@@ -77,29 +77,29 @@ records_pass_or_stop b n = passes_or_stops (record_end_or_fault b) n
 
 -- the section after one that has a start, or has none
 module _ {Start : ℕ → Type 0} {NoStart : Fault → Type 0} {Skips : ℕ → ℕ → Type 0} {FaultOf : ℕ → Fault → Type 0} (before : StartsOrFaults Start NoStart) (each : EndsOrFaults Skips FaultOf) where
-  abbrev Behind : ℕ → Type 0
-  Behind p = (q : ℕ) × Start q × Skips q p
+  abbrev After : ℕ → Type 0
+  After p = (q : ℕ) × Start q × Skips q p
 
-  abbrev NoneBehind : Fault → Type 0
-  NoneBehind f = NoStart f ⊎ ((q : ℕ) × Start q × FaultOf q f)
+  abbrev NoneAfter : Fault → Type 0
+  NoneAfter f = NoStart f ⊎ ((q : ℕ) × Start q × FaultOf q f)
 
-  some_behind : ((p : ℕ) × Behind p) ⊎ ((f : Fault) × NoneBehind f)
-  some_behind = elim before.some [
+  some_after : ((p : ℕ) × After p) ⊎ ((f : Fault) × NoneAfter f)
+  some_after = elim before.some [
     | inl a ↦ elim (each.some a.0) [ inl r ↦ inl (r.0, (a.0, a.1, r.1)) | inr f ↦ inr (f.0, inr (a.0, a.1, f.1)) ]
     | inr f ↦ inr (f.0, inl f.1)
   ]
 
-  one_behind : (p q : ℕ) → Behind p → Behind q → p ≡ q
-  one_behind p q x y = each.one x.0 p q x.2 (subst (λ k. Skips k q) (before.one y.0 x.0 y.1 x.1) y.2)
+  one_after : (p q : ℕ) → After p → After q → p ≡ q
+  one_after p q x y = each.one x.0 p q x.2 (subst (λ k. Skips k q) (before.one y.0 x.0 y.1 x.1) y.2)
 
-  not_both_behind : (p : ℕ) (f : Fault) → Behind p → NoneBehind f → ⊥
-  not_both_behind p f x y = elim y [
+  not_both_after : (p : ℕ) (f : Fault) → After p → NoneAfter f → ⊥
+  not_both_after p f x y = elim y [
     | inl g ↦ before.not_both x.0 f x.1 g
     | inr b ↦ each.not_both x.0 p f x.2 (subst (λ k. FaultOf k f) (before.one b.0 x.0 b.1 x.1) b.2)
   ]
 
-  one_fault_behind : (f g : Fault) → NoneBehind f → NoneBehind g → f ≡ g
-  one_fault_behind f g x y = elim x [
+  one_fault_after : (f g : Fault) → NoneAfter f → NoneAfter g → f ≡ g
+  one_fault_after f g x y = elim x [
     | inl a ↦ elim y [ inl b ↦ before.one_fault f g a b | inr b ↦ absurd (before.not_both b.0 f b.1 a) ]
     | inr a ↦ elim y [
       | inl b ↦ absurd (before.not_both a.0 g a.1 b)
@@ -107,8 +107,8 @@ module _ {Start : ℕ → Type 0} {NoStart : Fault → Type 0} {Skips : ℕ → 
     ]
   ]
 
-  section_behind : StartsOrFaults Behind NoneBehind
-  section_behind = record { some = some_behind; one = one_behind; not_both = not_both_behind; one_fault = one_fault_behind }
+  section_after : StartsOrFaults After NoneAfter
+  section_after = record { some = some_after; one = one_after; not_both = not_both_after; one_fault = one_fault_after }
 
 answers : (b : List ℕ) → StartsOrFaults (AnswersStart b) (AnswersFault b)
 answers b =
@@ -116,10 +116,10 @@ answers b =
     record { some = all.some header_size; one = all.one header_size; not_both = all.not_both header_size; one_fault = all.one_fault header_size }
 
 authorities : (b : List ℕ) → StartsOrFaults (AuthoritiesStart b) (AuthoritiesFault b)
-authorities b = section_behind (answers b) (records_pass_or_stop b (answer_count b))
+authorities b = section_after (answers b) (records_pass_or_stop b (answer_count b))
 
 additionals : (b : List ℕ) → StartsOrFaults (AdditionalsStart b) (AdditionalsFault b)
-additionals b = section_behind (authorities b) (records_pass_or_stop b (authority_count b))
+additionals b = section_after (authorities b) (records_pass_or_stop b (authority_count b))
 
 pub start_or_fault : StartOrFault
 start_or_fault = record { answers = answers; authorities = authorities; additionals = additionals }

@@ -27,7 +27,7 @@ const POINTER_TO_ITSELF: Message<'_> = (
 "#,
 );
 
-const POINTER_BEHIND_LABELS: Message<'_> = (
+const POINTER_AFTER_LABELS: Message<'_> = (
     "pointer behind labels",
     &[
         0x00, 0x00, 0x00, 0x00, 0x00, 0x01, 0x00, 0x00, 0x00, 0x00, 0x00, 0x00, 0x01, 0x61, 0xc0,
@@ -151,7 +151,7 @@ const DATA_THAT_IS_TOO_SHORT: Message<'_> = (
 );
 
 /// An address in five octets.
-const OCTETS_BEHIND_THE_VALUE: Message<'_> = (
+const OCTETS_AFTER_THE_VALUE: Message<'_> = (
     "octets behind the value",
     &[
         0x00, 0x00, 0x00, 0x00, 0x00, 0x00, 0x00, 0x01, 0x00, 0x00, 0x00, 0x00, 0x00, 0x00, 0x01,
@@ -213,7 +213,7 @@ const OPTION_THAT_IS_CUT: Message<'_> = (
 );
 
 /// No fault: two octets follow the last item.
-const OCTETS_BEHIND_THE_ITEMS_UNREAD: Message<'_> = (
+const OCTETS_AFTER_THE_ITEMS_UNREAD: Message<'_> = (
     "octets behind the items unread",
     &[
         0x00, 0x00, 0x00, 0x00, 0x00, 0x00, 0x00, 0x00, 0x00, 0x00, 0x00, 0x00, 0xff, 0xfe,
@@ -225,7 +225,7 @@ const OCTETS_BEHIND_THE_ITEMS_UNREAD: Message<'_> = (
 /// These texts come after the lines of the header.
 const FAULTS: &[Message<'_>] = &[
     POINTER_TO_ITSELF,
-    POINTER_BEHIND_LABELS,
+    POINTER_AFTER_LABELS,
     POINTER_TO_A_FAULT,
     OCTET_THAT_BEGINS_NO_LABEL,
     LABEL_THAT_IS_CUT,
@@ -233,10 +233,10 @@ const FAULTS: &[Message<'_>] = &[
     SHORT_RECORD,
     MISSING_DATA,
     DATA_THAT_IS_TOO_SHORT,
-    OCTETS_BEHIND_THE_VALUE,
+    OCTETS_AFTER_THE_VALUE,
     NAME_THAT_LEAVES_ITS_DATA,
     OPTION_THAT_IS_CUT,
-    OCTETS_BEHIND_THE_ITEMS_UNREAD,
+    OCTETS_AFTER_THE_ITEMS_UNREAD,
 ];
 
 /// The count of questions, then for each name the lengths of its labels and the octets after them,

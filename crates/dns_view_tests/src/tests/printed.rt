@@ -34,9 +34,9 @@ pub(crate) type Labels<'a> = (&'a [u8], &'a [u8]);
 /// A message with a count of questions, whose names are labels of `x`.
 pub(crate) fn questions(alloc: Global, count: u8, names: &[Labels<'_>]) -> Result<Vec<u8>, Fail> {
     let mut octets = Vec::from_slice(alloc, &[0, 0, 0, 0, 0, count, 0, 0, 0, 0, 0, 0])?;
-    for (lens, behind) in names {
+    for (lens, after) in names {
         push_labels(&mut octets, lens)?;
-        octets.extend_from_slice(behind)?;
+        octets.extend_from_slice(after)?;
     }
     Ok(octets)
 }
@@ -62,13 +62,13 @@ pub(crate) fn assert_messages(
     for (row, octets, text) in messages {
         let printed = printed(alloc, octets)?;
         assert_narrow(rt, row, &printed);
-        assert_text(rt, row, text_behind(&printed, before), text);
+        assert_text(rt, row, text_after(&printed, before), text);
     }
     Ok(())
 }
 
 /// The text without its first lines.
-fn text_behind(text: &str, lines: usize) -> &str {
+fn text_after(text: &str, lines: usize) -> &str {
     text.splitn(lines.saturating_add(1), '\n')
         .nth(lines)
         .unwrap_or("")

@@ -9,7 +9,7 @@ use Rattle.std.specs.Ordering.{eq_by_cmp}
 use Rattle.std.proofs.lemmas.Bool.Decides.{nat_tests}
 use Rattle.std.proofs.lemmas.Cmp.{eq_by_cmp_equiv}
 use Rattle.dns_name.specs.Names.{Labels}
-use Rattle.dns_wire.specs.Pieces.{suffix_cmp, suffix_total, suffix_exact, Spot, Memory, ends_within, cut, IsWithin, IsBehind, IsOldOrWithin, Extends, remember, nothing, IsClear}
+use Rattle.dns_wire.specs.Pieces.{suffix_cmp, suffix_total, suffix_exact, Spot, Memory, ends_within, cut, IsWithin, IsAtOrAfter, IsOldOrWithin, Extends, remember, nothing, IsClear}
 use Rattle.dns_wire.specs.Targets.{Remembers}
 
 -- What a truncated table has for a suffix.
@@ -105,17 +105,17 @@ old_kept before after w v x (inr new) e = absurd (let n : None ≡ Some x = sym 
 pub gets : {m n : Memory} {w v : ℕ} → Extends m n w v → (s : Labels) (x : Spot) → get m s ≡ Some x → get n s ≡ Some x
 gets {m = m} {n = n} {w = w} {v = v} g s x e = old_kept (get m s) (get n s) w v x (g.each s) e
 
-behind_one : (a w v : ℕ) (before after : Option Spot) → a ≤ w → IsOldOrWithin before after w v
+at_or_after_one : (a w v : ℕ) (before after : Option Spot) → a ≤ w → IsOldOrWithin before after w v
     → ((x : Spot) → before ≡ Some x → a ≤ x.offset) → (x : Spot) → after ≡ Some x → a ≤ x.offset
-behind_one a w v before after l (inl same) h x e = h x (sym same ∙ e)
-behind_one a w v before after l (inr new) h x e =
+at_or_after_one a w v before after l (inl same) h x e = h x (sym same ∙ e)
+at_or_after_one a w v before after l (inr new) h x e =
     let s : Some new.1.0 ≡ Some x = sym new.1.1 ∙ e in
     let same : new.1.0 ≡ x = cc in
     subst (λ (z : Spot). a ≤ z.offset) same (omega (arith, new.1.2))
 
 -- If all entries are at or after an offset, so are those of an extension after it.
-pub behind_more : {m n : Memory} {w v : ℕ} (a : ℕ) → a ≤ w → Extends m n w v → IsBehind m a → IsBehind n a
-behind_more {m = m} {n = n} {w = w} {v = v} a l g h = record { each = λ s x e. behind_one a w v (get m s) (get n s) l (g.each s) (λ y f. h.each s y f) x e }
+pub at_or_after_more : {m n : Memory} {w v : ℕ} (a : ℕ) → a ≤ w → Extends m n w v → IsAtOrAfter m a → IsAtOrAfter n a
+at_or_after_more {m = m} {n = n} {w = w} {v = v} a l g h = record { each = λ s x e. at_or_after_one a w v (get m s) (get n s) l (g.each s) (λ y f. h.each s y f) x e }
 
 -- Tables with suffixes added.
 

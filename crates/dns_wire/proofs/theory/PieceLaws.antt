@@ -45,15 +45,15 @@ pub record IsStable (P : Written → ℕ → ℕ → Type 0) : Type 0 where
   pub stays : (piece : Piece) (t : Written) (p q : ℕ) → IsGrowing piece → P t p q → P (lay piece t) p q
 
 -- P holds up to an offset, and Q from there on.
-abbrev pub Behind : (P Q : Written → ℕ → ℕ → Type 0) → Written → ℕ → ℕ → Type 0
-Behind P Q t p q = (r : ℕ) × P t p r × Q t r q
+abbrev pub Consecutive : (P Q : Written → ℕ → ℕ → Type 0) → Written → ℕ → ℕ → Type 0
+Consecutive P Q t p q = (r : ℕ) × P t p r × Q t r q
 
 -- Both are stable if each is.
-pub stable_behind : (P Q : Written → ℕ → ℕ → Type 0) → IsStable P → IsStable Q → IsStable (Behind P Q)
-stable_behind P Q f g = record { stays = λ piece t p q grows h. (h.0, f.stays piece t p h.0 grows h.1, g.stays piece t h.0 q grows h.2) }
+pub stable_after : (P Q : Written → ℕ → ℕ → Type 0) → IsStable P → IsStable Q → IsStable (Consecutive P Q)
+stable_after P Q f g = record { stays = λ piece t p q grows h. (h.0, f.stays piece t p h.0 grows h.1, g.stays piece t h.0 q grows h.2) }
 
 -- Two encodings in order write both.
-pub puts_both : (a b : Piece) (P Q : Written → ℕ → ℕ → Type 0) → IsStable P → Puts a P → Puts b Q → Puts (both a b) (Behind P Q)
+pub puts_both : (a b : Piece) (P Q : Written → ℕ → ℕ → Type 0) → IsStable P → Puts a P → Puts b Q → Puts (both a b) (Consecutive P Q)
 puts_both a b P Q f x y = record {
   grows = both_grows a b x.grows y.grows;
   keeps = λ t h. subst (λ (u : Written). IsTarget u) (lay-both a b t) (y.keeps (lay a t) (x.keeps t h));
@@ -62,8 +62,8 @@ puts_both a b P Q f x y = record {
       let second = lay b first in
       let start = length t.octets in
       let middle = length first.octets in
-      let two : Behind P Q second start (length second.octets) = (middle, f.stays b first start middle y.grows (x.puts t h), y.puts first (x.keeps t h)) in
-      subst (λ (u : Written). Behind P Q u start (length u.octets)) (lay-both a b t) two;
+      let two : Consecutive P Q second start (length second.octets) = (middle, f.stays b first start middle y.grows (x.puts t h), y.puts first (x.keeps t h)) in
+      subst (λ (u : Written). Consecutive P Q u start (length u.octets)) (lay-both a b t) two;
 }
 
 -- The octets are between the offsets.
@@ -104,14 +104,14 @@ puts_put_name rule name is = record {
 -- The parts are encoded between the offsets, in order.
 abbrev pub HasParts : List Part → Written → ℕ → ℕ → Type 0
 HasParts [] t p q = p ≡ q
-HasParts (Octets xs ∷ parts) t p q = Behind (HasOctets xs) (HasParts parts) t p q
-HasParts (CompressibleName name ∷ parts) t p q = Behind (HasName name) (HasParts parts) t p q
+HasParts (Octets xs ∷ parts) t p q = Consecutive (HasOctets xs) (HasParts parts) t p q
+HasParts (CompressibleName name ∷ parts) t p q = Consecutive (HasName name) (HasParts parts) t p q
 
 -- Encoded parts are stable.
 pub stable_parts : (parts : List Part) → IsStable (HasParts parts)
 stable_parts [] = record { stays = λ piece t p q grows h. h }
-stable_parts (Octets xs ∷ parts) = stable_behind (HasOctets xs) (HasParts parts) (stable_octets xs) (stable_parts parts)
-stable_parts (CompressibleName name ∷ parts) = stable_behind (HasName name) (HasParts parts) (stable_name name) (stable_parts parts)
+stable_parts (Octets xs ∷ parts) = stable_after (HasOctets xs) (HasParts parts) (stable_octets xs) (stable_parts parts)
+stable_parts (CompressibleName name ∷ parts) = stable_after (HasName name) (HasParts parts) (stable_name name) (stable_parts parts)
 
 -- No parts are written.
 puts_none : Puts (put_octets []) (HasParts [])

@@ -13,7 +13,7 @@ use Rattle.dns_wire.specs.Parts.{Part, Octets, CompressibleName, put_part, put_p
 use Rattle.dns_wire.specs.Targets.{At, Spelled, Labelled, IsRemembered, Remembers}
 use Rattle.dns_wire.specs.Targets.Spelled.{root, label, pointer}
 use Rattle.dns_wire.proofs.theory.Memories.{extends_refl, extends_wider, extends_join, inserted, gets, tied}
-use Rattle.dns_wire.proofs.theory.SpelledNames.{at_end, label_part, behind_label, moved, kept_moved, kept_more, kept_spelled, spelled_long}
+use Rattle.dns_wire.proofs.theory.SpelledNames.{at_end, label_part, after_label, moved, kept_moved, kept_more, kept_spelled, spelled_long}
 
 -- The encodings of names, octets and parts add only suffixes of their own octets.
 
@@ -137,7 +137,7 @@ spelled_full m b q p (first ∷ rest) is h e =
     let t = name_tail first rest is in
     let n = length-append first (uncompressed rest) in
     label t.0 (label_part first (uncompressed rest) h)
-    (spelled_full m b q (p + 1 + length first) rest t.1 (behind_label first (uncompressed rest) h) (omega arith))
+    (spelled_full m b q (p + 1 + length first) rest t.1 (after_label first (uncompressed rest) h) (omega arith))
 
 -- Names that end within p octets end within q ≥ p octets.
 later : (m : Memory) (p q : ℕ) → p ≤ q → IsWithin m p → IsWithin m q
@@ -151,7 +151,7 @@ spelled_by b q (at_known {first = first} {rest = rest} {x = x} g) is ends h e = 
 spelled_by {m = m} b q (at_kept {p = p} {first = first} {rest = rest} {text = text} g k s) is ends h e =
     let n = length-append first text in
     let tail = name_tail first rest is in
-    label tail.0 (label_part first text h) (spelled_by b q s tail.1 (later m p (p + 1 + length first) (omega arith) ends) (behind_label first text h) (omega arith))
+    label tail.0 (label_part first text h) (spelled_by b q s tail.1 (later m p (p + 1 + length first) (omega arith) ends) (after_label first text h) (omega arith))
 spelled_by {m = m} b q (at_far {p = p} {first = first} {rest = rest} g k) is ends h e = spelled_full m b q p (first ∷ rest) is h e
 
 -- An offset is within pointer range.
@@ -187,9 +187,9 @@ all_out {rule = rule} {m = m} b q (at_kept {p = p} {held = held} {first = first}
     let n = length-append first text in
     let tail = name_tail first rest is in
     let ends' : IsWithin m (p + 1 + length first) = later m p (p + 1 + length first) (omega arith) ends in
-    let behind = behind_label first text h in
+    let after = after_label first text h in
     let end : q ≡ p + 1 + length first + length text = omega arith in
-    (record { spelled = (tail.0, label_part first text h, spelled_by b q s tail.1 ends' behind end); short = is.short; near = near_for rule p held k }, all_out b q s tail.1 ends' behind end)
+    (record { spelled = (tail.0, label_part first text h, spelled_by b q s tail.1 ends' after end); short = is.short; near = near_for rule p held k }, all_out b q s tail.1 ends' after end)
 all_out b q (at_far g k) is ends h e = tt
 
 near_tested : (m : Memory) (b : List ℕ) (q : ℕ) (ss : List (Labels × ℕ)) → list_all (λ s. nat_lt s.1 16384) ss ≡ true

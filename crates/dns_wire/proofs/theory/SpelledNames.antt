@@ -5,7 +5,7 @@ use Rattle.std.proofs.lemmas.List.{drop-append-le, take-append-drop, nil_from_le
 use Rattle.std.proofs.Math.Seq.{take-append_seam, drop-append_seam, take-append-add}
 use Rattle.std.specs.FinMap.{get}
 use Rattle.dns_octets.specs.Octets.{overwritten}
-use Rattle.dns_name.specs.Names.{IsLabel, framed, head_at, label_at, Labels, name_size, max_size, Stands, WalkedBehind, Walked}
+use Rattle.dns_name.specs.Names.{IsLabel, framed, head_at, label_at, Labels, name_size, max_size, Stands, NameContinues, Walked}
 use Rattle.dns_name.specs.declared.head.Head.TheVariants.{Root, Label, Pointer}
 use Rattle.dns_name.proofs.theory.Spelling.{get_drop}
 use Rattle.dns_wire.specs.Pieces.{pointer as pointer_octets, Memory, Spot, cut, IsClear}
@@ -29,12 +29,12 @@ split {b = b} {p = p} {xs = xs} h =
     let n = length xs in
     let e : p + n - p ≡ n = omega arith in
     let front : take n (drop p b) ≡ xs = ap (λ k. take k (drop p b)) (sym e) ∙ h.same in
-    let behind : drop p b ≡ xs ++ drop n (drop p b) = sym (take-append-drop n (drop p b)) ∙ ap (λ (c : List ℕ). c ++ drop n (drop p b)) front in
+    let later : drop p b ≡ xs ++ drop n (drop p b) = sym (take-append-drop n (drop p b)) ∙ ap (λ (c : List ℕ). c ++ drop n (drop p b)) front in
     let w = h.within in
     record {
       before = take p b;
       after = drop n (drop p b);
-      whole = sym (take-append-drop p b) ∙ ap (λ (c : List ℕ). take p b ++ c) behind;
+      whole = sym (take-append-drop p b) ∙ ap (λ (c : List ℕ). take p b ++ c) later;
       offset = length-take p b ∙ omega arith;
     }
 
@@ -102,8 +102,8 @@ pub at_before : {b : List ℕ} {p : ℕ} {xs : List ℕ} (over : List ℕ) (offs
 at_before {b = b} over offset front h = at_append (drop (offset + length over) b) (at_append over (at_take offset front h))
 
 -- Octets after overwritten ones are unchanged.
-pub at_behind : {b : List ℕ} {p : ℕ} {xs : List ℕ} (over : List ℕ) (offset : ℕ) → offset + length over ≤ p → At b p xs → At (overwritten b offset over) p xs
-at_behind {b = b} {p = p} {xs = xs} over offset back h =
+pub at_after : {b : List ℕ} {p : ℕ} {xs : List ℕ} (over : List ℕ) (offset : ℕ) → offset + length over ≤ p → At b p xs → At (overwritten b offset over) p xs
+at_after {b = b} {p = p} {xs = xs} over offset back h =
     let s = split h in
     let n = offset + length over in
     let low : n ≤ length s.before = omega (arith, s.offset) in
@@ -137,12 +137,12 @@ pub label_octets : {b : List ℕ} {p : ℕ} {first : List ℕ} → At b p (frame
 label_octets {first = first} h = (at_second (length first ∷ []) {ys = first} h).same
 
 -- The octets of a label, with others after it.
-pub label_part : {b : List ℕ} {p : ℕ} (first behind : List ℕ) → At b p (framed first ++ behind) → At b p (framed first)
-label_part first behind h = at_first {xs = framed first} behind h
+pub label_part : {b : List ℕ} {p : ℕ} (first later : List ℕ) → At b p (framed first ++ later) → At b p (framed first)
+label_part first later h = at_first {xs = framed first} later h
 
 -- The octets after a label.
-pub behind_label : {b : List ℕ} {p : ℕ} (first behind : List ℕ) → At b p (framed first ++ behind) → At b (p + 1 + length first) behind
-behind_label first behind h = at_offset (omega arith) (at_second (framed first) {ys = behind} h)
+pub after_label : {b : List ℕ} {p : ℕ} (first later : List ℕ) → At b p (framed first ++ later) → At b (p + 1 + length first) later
+after_label first later h = at_offset (omega arith) (at_second (framed first) {ys = later} h)
 
 -- An encoded name takes at least one octet, and ends within the content.
 pub spelled_long : {m : Memory} {b : List ℕ} {q p : ℕ} {name : Labels} → Spelled m b q p name → (p < q) × (q ≤ length b)
@@ -222,13 +222,13 @@ pub spelled_stands : {m : Memory} {b : List ℕ} {q p : ℕ} {name : Labels} →
 spelled_stands {q = q} {p = p} {name = name} r short s = stands_below r (q + 1) q p name (omega arith) short s
 
 -- Its encoding ends at q.
-pub spelled_walked : {m : Memory} {b : List ℕ} {q p : ℕ} {name : Labels} (s : ℕ) → Remembers b m → s + name_size name ≤ max_size → Spelled m b q p name → WalkedBehind b p s q
-spelled_walked {b = b} s r small (root {p = p} h e) = subst (λ q. WalkedBehind b p s q) (sym e) (WalkedBehind.root (root_at h))
+pub spelled_walked : {m : Memory} {b : List ℕ} {q p : ℕ} {name : Labels} (s : ℕ) → Remembers b m → s + name_size name ≤ max_size → Spelled m b q p name → NameContinues b p s q
+spelled_walked {b = b} s r small (root {p = p} h e) = subst (λ q. NameContinues b p s q) (sym e) (NameContinues.root (root_at h))
 spelled_walked s r small (label {p = p} {first = first} l h x) =
     let w = spelled_long x in
-    WalkedBehind.label (label_begins l h) (omega arith) (omega arith) (spelled_walked (s + length first + 1) r (omega arith) x)
+    NameContinues.label (label_begins l h) (omega arith) (omega arith) (spelled_walked (s + length first + 1) r (omega arith) x)
 spelled_walked {b = b} s r small (pointer {p = p} {name = name} {x = x} e before h is) =
-    subst (λ q. WalkedBehind b p s q) (sym is) (WalkedBehind.pointer (pointer_at x.offset (r.each name x e).near h))
+    subst (λ q. NameContinues b p s q) (sym is) (NameContinues.pointer (pointer_at x.offset (r.each name x e).near h))
 
 -- A name that ends within the first `len` octets is encoded after truncation.
 spelled_cut : {m : Memory} {b : List ℕ} {q p : ℕ} {name : Labels} (len : ℕ) → q ≤ len → Spelled m b q p name → Spelled (cut m len) (take len b) q p name
@@ -257,7 +257,7 @@ remembers_over {m = m} {b = b} offset over clear r = record {
       elim (clear s x e) [
         | inl none ↦ (subst (λ (c : List ℕ). Remembers c m) (sym (overwritten_by_none b offset over none)) r).each s x e
         | inr (inl w) ↦ kept_moved m m b _ s x (λ p xs low fits h. at_before over offset (omega (arith, w)) h) (λ t y e less. e) (r.each s x e)
-        | inr (inr w) ↦ kept_moved m m b _ s x (λ p xs low fits h. at_behind over offset (omega (arith, w)) h) (λ t y e less. e) (r.each s x e)
+        | inr (inr w) ↦ kept_moved m m b _ s x (λ p xs low fits h. at_after over offset (omega (arith, w)) h) (λ t y e less. e) (r.each s x e)
       ];
 }
 

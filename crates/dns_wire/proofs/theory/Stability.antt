@@ -3,8 +3,8 @@ use Rattle.std.proofs.Common.{◌≡◌, ℕ, zero, suc, ◌+◌, ◌-◌, ◌<�
 use Rattle.std.specs.Prelude.{Option, Some, None, Ok, slice_get}
 use Rattle.std.specs.FinMap.{get}
 use Rattle.dns_name.specs.Names.{Labels, name_size, max_size, head_at, Stands, label_at}
-use Rattle.dns_wire.specs.Pieces.{Memory, Spot, IsBehind}
-use Rattle.dns_wire.specs.TargetLaws.{StandsIn, Agree, StandsWhenOverwritten, StandsBehind}
+use Rattle.dns_wire.specs.Pieces.{Memory, Spot, IsAtOrAfter}
+use Rattle.dns_wire.specs.TargetLaws.{StandsIn, Agree, StandsWhenOverwritten, NamesAreAtOrAfter}
 use Rattle.dns_wire.specs.TargetLaws.StandsIn.{root, label, pointer}
 use Rattle.dns_octets.specs.Octets.{overwritten}
 use Rattle.dns_wire.specs.Targets.{Spelled, Remembers}
@@ -89,9 +89,9 @@ get_take (x ∷ b) zero k h = absurd (omega arith)
 get_take (x ∷ b) (suc e) zero h = refl
 get_take (x ∷ b) (suc e) (suc k) h = get_take b e k (omega arith)
 
-get_behind : (xs ys : List ℕ) (k : ℕ) → slice_get (xs ++ ys) (length xs + k) ≡ slice_get ys k
-get_behind [] ys k = ap (slice_get ys) (let e : 0 + k ≡ k = omega arith in e)
-get_behind (x ∷ xs) ys k = ap (slice_get (x ∷ (xs ++ ys))) (let e : suc (length xs) + k ≡ suc (length xs + k) = omega arith in e) ∙ get_behind xs ys k
+get_after : (xs ys : List ℕ) (k : ℕ) → slice_get (xs ++ ys) (length xs + k) ≡ slice_get ys k
+get_after [] ys k = ap (slice_get ys) (let e : 0 + k ≡ k = omega arith in e)
+get_after (x ∷ xs) ys k = ap (slice_get (x ∷ (xs ++ ys))) (let e : suc (length xs) + k ≡ suc (length xs + k) = omega arith in e) ∙ get_after xs ys k
 
 get_dropped : (b : List ℕ) (n k : ℕ) → slice_get (drop n b) k ≡ slice_get b (n + k)
 get_dropped b zero k = ap (slice_get b) (let e : k ≡ 0 + k = omega arith in e)
@@ -121,10 +121,10 @@ agree_back : (b over : List ℕ) (offset lo hi : ℕ) → offset + length over �
     → Agree b (take offset b ++ (over ++ drop (offset + length over) b)) lo hi
 agree_back b over offset lo hi fits l small =
     let end = offset + length over in
-    let behind = drop end b in
+    let after = drop end b in
     let n = length-take offset b in
-    let m = length-append (take offset b) (over ++ behind) in
-    let m' = length-append over behind in
+    let m = length-append (take offset b) (over ++ after) in
+    let m' = length-append over after in
     let d = length-drop end b in
     record {
       long = omega arith;
@@ -132,7 +132,7 @@ agree_back b over offset lo hi fits l small =
           let j = k - end in
           let e : k ≡ length (take offset b) + (length over + j) = omega arith in
           let f : end + j ≡ k = omega arith in
-          sym (ap (slice_get (take offset b ++ (over ++ behind))) e ∙ get_behind (take offset b) (over ++ behind) (length over + j) ∙ get_behind over behind j ∙ get_dropped b end j ∙ ap (slice_get b) f);
+          sym (ap (slice_get (take offset b ++ (over ++ after))) e ∙ get_after (take offset b) (over ++ after) (length over + j) ∙ get_after over after j ∙ get_dropped b end j ∙ ap (slice_get b) f);
     }
 
 -- Octets agree before or after overwritten ones.
@@ -168,14 +168,14 @@ in_if r ih low short (Spelled.pointer {p = p} {name = name} {x = x} e before h i
     pointer low (omega arith) (octets_at.pointer_at x.offset k.near h) (omega (arith, w.0)) (wider_in (omega arith) (ih name x e (omega arith)))
 
 -- By induction on the end.
-in_below : {m : Memory} {b : List ℕ} {lo : ℕ} → Remembers b m → IsBehind m lo → (k q p : ℕ) (name : Labels) → q < k → lo ≤ p → name_size name ≤ max_size
+in_below : {m : Memory} {b : List ℕ} {lo : ℕ} → Remembers b m → IsAtOrAfter m lo → (k q p : ℕ) (name : Labels) → q < k → lo ≤ p → name_size name ≤ max_size
     → Spelled m b q p name → StandsIn b lo q p name
 in_below r all zero q p name h low short s = absurd (omega arith)
 in_below r all (suc k) q p name h low short s =
     in_if r (λ t x e less. let kept = r.each t x e in in_below r all k x.end x.offset t (omega arith) (all.each t x e) kept.short (kept_spelled t x kept)) low short s
 
 -- If all entries of the table are at or after an offset, their suffixes use no octet before it.
-pub stands_behind : StandsBehind
-stands_behind b m lo s x r all e =
+pub names_are_at_or_after : NamesAreAtOrAfter
+names_are_at_or_after b m lo s x r all e =
     let kept = r.each s x e in
     in_below r all (x.end + 1) x.end x.offset s (omega arith) (all.each s x e) kept.short (kept_spelled s x kept)

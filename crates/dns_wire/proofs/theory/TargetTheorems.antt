@@ -1,15 +1,15 @@
 -- Suffixes in the table are encoded where it says, and what is written reads back.
 use Rattle.std.proofs.Common.{◌≡◌, ℕ, List, [], ◌∷◌, length, arith, ◌+◌, ◌<◌, ◌≤◌, ◌++◌, append-nil, sym, refl, subst}
 use Rattle.std.specs.Prelude.{Ok}
-use Rattle.dns_name.specs.Names.{Labels, head_at, WalkedBehind}
+use Rattle.dns_name.specs.Names.{Labels, head_at, NameContinues}
 use Rattle.dns_name.specs.declared.head.Head.TheVariants.{Label, Root, Pointer}
 use Rattle.dns_wire.specs.Pieces.{Memory, Rule}
 use Rattle.dns_wire.specs.Parts.{put_parts, WellPointed, Part, Octets, CompressibleName, AreParts, PartsFill, LabelsNear}
 use Rattle.dns_wire.specs.Targets.{Spelled, Labelled, Remembers, lay, Written, IsTarget}
 use Rattle.dns_wire.specs.Targets.Spelled.{root, label, pointer}
-use Rattle.dns_wire.specs.TargetLaws.{RemembersWhatStands, NothingIsTarget, PiecesStayBehind, NamesStayBehind, NamesReadBack, PartsReadBack}
+use Rattle.dns_wire.specs.TargetLaws.{RemembersWhatStands, NothingIsTarget, EncodersStayAtOrAfter, NamesStayAtOrAfter, NamesReadBack, PartsReadBack}
 use Rattle.dns_wire.specs.Spelling.{PartsPointToLabels, ShortPartsAreNear}
-use Rattle.dns_wire.proofs.theory.Memories.{behind_more, nothing_is_kept}
+use Rattle.dns_wire.proofs.theory.Memories.{at_or_after_more, nothing_is_kept}
 use Rattle.dns_wire.proofs.theory.PutNames.{put_name_grows}
 use Rattle.dns_wire.proofs.theory.SpelledNames.{root_at, label_begins, pointer_at, spelled_long, kept_spelled, spelled_stands, spelled_walked, stands_within}
 use Rattle.dns_wire.proofs.theory.PieceLaws.{puts_put_name, puts_parts, parts_stand, HasName, HasParts}
@@ -48,12 +48,12 @@ pub nothing_is_target : NothingIsTarget
 nothing_is_target b = nothing_is_kept b
 
 -- A growing encoding keeps all entries at or after an offset.
-pub pieces_stay_behind : PiecesStayBehind
-pieces_stay_behind piece t offset grows l h = behind_more offset l (grows.grows t.memory (length t.octets)) h
+pub encoders_stay_at_or_after : EncodersStayAtOrAfter
+encoders_stay_at_or_after piece t offset grows l h = at_or_after_more offset l (grows.grows t.memory (length t.octets)) h
 
 -- So does a name.
-pub names_stay_behind : NamesStayBehind
-names_stay_behind rule t name offset l h = pieces_stay_behind _ t offset (put_name_grows rule name) l h
+pub names_stay_at_or_after : NamesStayAtOrAfter
+names_stay_at_or_after rule t name offset l h = encoders_stay_at_or_after _ t offset (put_name_grows rule name) l h
 
 -- A written name reads back.
 pub names_read_back : NamesReadBack
@@ -129,7 +129,7 @@ near_pointer (LabelsNear.label h near x) e = cc
 near_pointer (LabelsNear.pointer h end) e = end
 
 -- They end where the encoding of the name does.
-pub near_end : {b : List ℕ} {q r p s : ℕ} → WalkedBehind b p s r → LabelsNear b q p → q ≡ r
-near_end (WalkedBehind.root h) near = near_root near h
-near_end (WalkedBehind.pointer h) near = near_pointer near h
-near_end (WalkedBehind.label h small fits x) near = near_end x (near_label near h).1
+pub near_end : {b : List ℕ} {q r p s : ℕ} → NameContinues b p s r → LabelsNear b q p → q ≡ r
+near_end (NameContinues.root h) near = near_root near h
+near_end (NameContinues.pointer h) near = near_pointer near h
+near_end (NameContinues.label h small fits x) near = near_end x (near_label near h).1

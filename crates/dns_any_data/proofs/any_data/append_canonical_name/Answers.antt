@@ -14,6 +14,6 @@ returns-in_err-append_slice g c =
 
 pub returns : goal.returns
 returns g c =
-    c.parts_compose.ensures.behind _ _ g.T.Composer.rule (Octets c.args.octets.now) (Octets (uncompressed (lowered (labels c.args.name.now))) ∷ []) _ _ _ _
+    c.parts_compose.ensures.after _ _ g.T.Composer.rule (Octets c.args.octets.now) (Octets (uncompressed (lowered (labels c.args.name.now))) ∷ []) _ _ _ _
     c.in_ok-append_slice.ensures.ok
     (c.parts_compose.ensures.one _ _ g.T.Composer.rule (Octets (uncompressed (lowered (labels c.args.name.now)))) _ _ _ c.compose_canonical.ensures)

@@ -19,7 +19,7 @@ returns-in_err-compose_canonical-2 g c =
     let p = err_from_is_err_and c.from_residual-in_err-compose_canonical-2.result c.from_residual-in_err-compose_canonical-2.ensures.1 in
     let first = canonical_part (CompressibleName (labels c.args.first.now)) in
     let second = canonical_part (CompressibleName (labels c.args.second.now)) in
-    c.parts_compose.ensures.behind _ _ g.T.Composer.rule first (second ∷ Octets c.args.octets.now ∷ []) _ _ _ _ c.in_ok-compose_canonical.ensures.ok
+    c.parts_compose.ensures.after _ _ g.T.Composer.rule first (second ∷ Octets c.args.octets.now ∷ []) _ _ _ _ c.in_ok-compose_canonical.ensures.ok
     (c.parts_compose.ensures.refused _ _ g.T.Composer.rule second (Octets c.args.octets.now ∷ []) _ _
     c.compose_canonical-2.result c.from_residual-in_err-compose_canonical-2.result c.in_err-compose_canonical-2.field-0.0 c.in_err-compose_canonical-2.was (p.1 ∙ ap Err p.2)
     c.compose_canonical-2.ensures)
@@ -28,6 +28,6 @@ pub returns : goal.returns
 returns g c =
     let first = canonical_part (CompressibleName (labels c.args.first.now)) in
     let second = canonical_part (CompressibleName (labels c.args.second.now)) in
-    c.parts_compose.ensures.behind _ _ g.T.Composer.rule first (second ∷ Octets c.args.octets.now ∷ []) _ _ _ _ c.in_ok-compose_canonical.ensures.ok
-    (c.parts_compose.ensures.behind _ _ g.T.Composer.rule second (Octets c.args.octets.now ∷ []) _ _ _ _ c.in_ok-compose_canonical-2.ensures.ok
+    c.parts_compose.ensures.after _ _ g.T.Composer.rule first (second ∷ Octets c.args.octets.now ∷ []) _ _ _ _ c.in_ok-compose_canonical.ensures.ok
+    (c.parts_compose.ensures.after _ _ g.T.Composer.rule second (Octets c.args.octets.now ∷ []) _ _ _ _ c.in_ok-compose_canonical-2.ensures.ok
     (c.parts_compose.ensures.one _ _ g.T.Composer.rule (Octets c.args.octets.now) _ _ _ c.append_slice.ensures))

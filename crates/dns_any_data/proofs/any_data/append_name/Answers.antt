@@ -14,7 +14,7 @@ returns-in_err-append_slice-clause-composes g c =
 
 pub returns-clause-composes : goal.returns-clause-composes
 returns-clause-composes g c =
-    c.parts_compose.ensures.behind _ _ g.T.Composer.rule (Octets c.args.octets.now) (CompressibleName (labels c.args.name.now) ∷ []) _ _ _ _
+    c.parts_compose.ensures.after _ _ g.T.Composer.rule (Octets c.args.octets.now) (CompressibleName (labels c.args.name.now) ∷ []) _ _ _ _
     c.in_ok-append_slice.ensures.ok
     (c.parts_compose.ensures.one _ _ g.T.Composer.rule (CompressibleName (labels c.args.name.now)) _ _ _ c.append_compressed_name.ensures)
 

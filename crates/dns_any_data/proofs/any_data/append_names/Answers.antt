@@ -15,7 +15,7 @@ returns-in_err-append_compressed_name-clause-composes g c =
 pub returns-in_err-append_compressed_name-2-clause-composes : goal.returns-in_err-append_compressed_name-2-clause-composes
 returns-in_err-append_compressed_name-2-clause-composes g c =
     let p = err_from_is_err_and c.from_residual-in_err-append_compressed_name-2.result c.from_residual-in_err-append_compressed_name-2.ensures.1 in
-    c.parts_compose.ensures.behind _ _ g.T.Composer.rule (CompressibleName (labels c.args.first.now)) (CompressibleName (labels c.args.second.now) ∷ Octets c.args.octets.now ∷ []) _ _ _ _
+    c.parts_compose.ensures.after _ _ g.T.Composer.rule (CompressibleName (labels c.args.first.now)) (CompressibleName (labels c.args.second.now) ∷ Octets c.args.octets.now ∷ []) _ _ _ _
     c.in_ok-append_compressed_name.ensures.ok
     (c.parts_compose.ensures.refused _ _ g.T.Composer.rule (CompressibleName (labels c.args.second.now)) (Octets c.args.octets.now ∷ []) _ _
     c.append_compressed_name-2.result c.from_residual-in_err-append_compressed_name-2.result c.in_err-append_compressed_name-2.field-0.0 c.in_err-append_compressed_name-2.was (p.1 ∙ ap Err p.2)
@@ -23,9 +23,9 @@ returns-in_err-append_compressed_name-2-clause-composes g c =
 
 pub returns-clause-composes : goal.returns-clause-composes
 returns-clause-composes g c =
-    c.parts_compose.ensures.behind _ _ g.T.Composer.rule (CompressibleName (labels c.args.first.now)) (CompressibleName (labels c.args.second.now) ∷ Octets c.args.octets.now ∷ []) _ _ _ _
+    c.parts_compose.ensures.after _ _ g.T.Composer.rule (CompressibleName (labels c.args.first.now)) (CompressibleName (labels c.args.second.now) ∷ Octets c.args.octets.now ∷ []) _ _ _ _
     c.in_ok-append_compressed_name.ensures.ok
-    (c.parts_compose.ensures.behind _ _ g.T.Composer.rule (CompressibleName (labels c.args.second.now)) (Octets c.args.octets.now ∷ []) _ _ _ _
+    (c.parts_compose.ensures.after _ _ g.T.Composer.rule (CompressibleName (labels c.args.second.now)) (Octets c.args.octets.now ∷ []) _ _ _ _
     c.in_ok-append_compressed_name-2.ensures.ok
     (c.parts_compose.ensures.one _ _ g.T.Composer.rule (Octets c.args.octets.now) _ _ _ c.append_slice.ensures))
 

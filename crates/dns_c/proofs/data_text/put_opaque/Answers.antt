@@ -7,10 +7,10 @@ pub returns-then-is_empty : goal.returns-then-is_empty
 returns-then-is_empty c =
     let octets = c.args.octets.now in
     holds_as _ _ _ _ (opaque_none octets (no_octets octets (sym c.is_empty.ensures ∙ c.if-is_empty.true)))
-    (c.put_behind-end.ensures (codes "\\#") (c.put-end.ensures [] (omega arith, refl)))
+    (c.append_after-end.ensures (codes "\\#") (c.put-end.ensures [] (omega arith, refl)))
 
 pub returns : goal.returns
 returns c =
     let octets = c.args.octets.now in
     holds_as _ _ _ _ (opaque_some octets (some_octets octets (sym c.is_empty.ensures ∙ c.if-is_empty.false)))
-    (c.put_hex.ensures ((codes "\\# " ++ decimal (length octets)) ++ codes " ") (c.put-end-2.ensures (codes "\\# " ++ decimal (length octets)) (c.put_behind-end.ensures (codes "\\#") (c.put-end.ensures [] (omega arith, refl)))))
+    (c.put_hex.ensures ((codes "\\# " ++ decimal (length octets)) ++ codes " ") (c.put-end-2.ensures (codes "\\# " ++ decimal (length octets)) (c.append_after-end.ensures (codes "\\#") (c.put-end.ensures [] (omega arith, refl)))))

@@ -24,4 +24,4 @@ returns c =
     holds_as _ _ _ _
     ((λ i. absolute_name (labels (c.mname.ensures i)) ++ codes " " ++ absolute_name (labels (c.rname.ensures i)) ++ codes " " ++ decimal (serial i) ++ codes " " ++ decimal (refresh i) ++ codes " " ++ decimal (retry i) ++ codes " " ++ decimal (expire i) ++ codes " " ++ decimal (minimum i))
     ∙ zone_text (labels (mname_of zone)) (labels (rname_of zone)) zone fit)
-    (c.put_behind.ensures _ (c.put_behind-end-4.ensures _ (c.put_behind-end-3.ensures _ (c.put_behind-end-2.ensures _ (c.put_behind-end.ensures _ (c.put_name-end-2.ensures _ (c.put-end.ensures _ (c.put_name-end.ensures [] (omega arith, refl)))))))))
+    (c.append_after.ensures _ (c.append_after-end-4.ensures _ (c.append_after-end-3.ensures _ (c.append_after-end-2.ensures _ (c.append_after-end.ensures _ (c.put_name-end-2.ensures _ (c.put-end.ensures _ (c.put_name-end.ensures [] (omega arith, refl)))))))))

@@ -1,7 +1,7 @@
 use Rattle.std.proofs.Common.{◌∙◌, take, ap, rules, Bor, List, ℕ, sym}
 use Rattle.std.proofs.lemmas.Grind.{put_three}
 use Rattle.dns_code.specs.Flags.{names_shown}
-use Rattle.dns_code.proofs.FlagsLemmas.{separator_behind-push, joined_more, names_shown-set, names_shown-unset}
+use Rattle.dns_code.proofs.FlagsLemmas.{separator_after-push, joined_more, names_shown-set, names_shown-unset}
 use Rattle.dns_code.proofs.flags.write_names.Goals as goal
 use Rattle.dns_code.proofs.flags.write_names.Goals.{then-is_set+in_ok-write_str+in_ok-write_str-2, else-is_set}
 
@@ -12,7 +12,7 @@ loop-is_set-preserved g c =
           let before = names_shown (take c.loop-is_set.is_set-index c.args.names.now) in
           let more = names_shown-set c.args.names.now c.loop-is_set.is_set-index _ c.loop-is_set-test.true w.if-is_set.true in (
             search rules,
-            rw more (ap (λ (s : Bor (List ℕ)). s.now) w.separator-is ∙ sym (separator_behind-push before _)),
+            rw more (ap (λ (s : Bor (List ℕ)). s.now) w.separator-is ∙ sym (separator_after-push before _)),
             λ plain.
                 let so_far = c.loop-is_set.invariant.2 plain in
                 let first = w.write_str.ensures.writes so_far.plain (search rules) in

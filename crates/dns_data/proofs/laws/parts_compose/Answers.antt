@@ -5,6 +5,6 @@ pub returns : goal.returns
 returns c = record {
   none = composed.no_part_composes;
   one = composed.one_part_composes;
-  behind = composed.parts_compose_behind;
+  after = composed.parts_compose_after;
   refused = composed.refused_part_composes;
 }

@@ -4,12 +4,12 @@ use Rattle.dns_item.specs.DataAnswer.{HasSpan}
 use Rattle.dns_item.specs.ParsedRecord.{standing_record}
 use Rattle.dns_section.specs.RecordSection.{records_left, record_answer}
 use Rattle.dns_read.specs.RecordSearches.{last_item}
-use Rattle.dns_read.proofs.RecordSearchLemmas.{last_behind}
+use Rattle.dns_read.proofs.RecordSearchLemmas.{last_after}
 use Rattle.dns_read.proofs.record_searches.last_of.Given as goal
 
 abbrev pub invariant-loop-record : goal.invariant-loop-record
 invariant-loop-record l =
-    (last_behind (option_map (λ r. record_answer (Ok r)) l.last) (records_left l.section) ≡ last_item (records_left l.fn.section))
+    (last_after (option_map (λ r. record_answer (Ok r)) l.last) (records_left l.section) ≡ last_item (records_left l.fn.section))
     × IfSome l.last (λ r. HasSpan (standing_record r))
 
 abbrev pub decreases-loop-record : goal.decreases-loop-record

@@ -16,17 +16,17 @@ fields-cons (x ∷ xs) d l = ap (λ ys. Octets x.now ∷ fields ys) (take_all (l
 pub returns-in_err-append_slice-in-len1-up : goal.returns-in_err-append_slice-in-len1-up
 returns-in_err-append_slice-in-len1-up g t c =
     let p = err_from_is_err_and c.from_residual.result c.from_residual.ensures.1 in
-    c.parts_compose.ensures.refused _ _ g.T.Composer.rule (Octets c.args.first.now) (fields c.args.behind.now) _ _
+    c.parts_compose.ensures.refused _ _ g.T.Composer.rule (Octets c.args.first.now) (fields c.args.after.now) _ _
     c.append_slice-in-len1-up.result c.from_residual.result c.in_err-append_slice-in-len1-up.field-0.0 c.in_err-append_slice-in-len1-up.was (p.1 ∙ ap Err p.2)
     c.append_slice-in-len1-up.ensures
 
 pub returns-in-empty : goal.returns-in-empty
 returns-in-empty g t c =
-    let none : c.args.behind.now ≡ [] = nil_from_length c.args.behind.now (omega (arith, c.in-empty.len_below)) in
+    let none : c.args.after.now ≡ [] = nil_from_length c.args.after.now (omega (arith, c.in-empty.len_below)) in
     rw none (c.parts_compose.ensures.one _ _ g.T.Composer.rule (Octets c.args.first.now) _ _ _ c.append_slice.ensures)
 
 pub returns-in_ok-append_slice-in-len1-up : goal.returns-in_ok-append_slice-in-len1-up
 returns-in_ok-append_slice-in-len1-up g t c =
-    c.parts_compose.ensures.behind _ _ g.T.Composer.rule (Octets c.args.first.now) (fields c.args.behind.now) _ _ _ _
+    c.parts_compose.ensures.after _ _ g.T.Composer.rule (Octets c.args.first.now) (fields c.args.after.now) _ _ _ _
     c.in_ok-append_slice-in-len1-up.ensures.ok
-    (rw (fields-cons c.args.behind.now _ c.in-len1-up.len_at_least) at c.compose_fields.ensures)
+    (rw (fields-cons c.args.after.now _ c.in-len1-up.len_at_least) at c.compose_fields.ensures)

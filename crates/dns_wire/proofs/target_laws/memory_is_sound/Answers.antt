@@ -1,14 +1,14 @@
 use Rattle.dns_wire.proofs.theory.PutNames.{put_name_grows, put_octets_grows, put_parts_grows, both_grows}
 use Rattle.dns_wire.proofs.theory.PieceLaws.{puts_put_name, puts_octets, cut_undoes}
 use Rattle.dns_wire.proofs.theory.SpelledNames.{remembers_cut, remembers_over}
-use Rattle.dns_wire.proofs.theory.Stability.{stands_behind}
-use Rattle.dns_wire.proofs.theory.TargetTheorems.{remembers_what_stands, nothing_is_target, pieces_stay_behind, names_stay_behind}
+use Rattle.dns_wire.proofs.theory.Stability.{names_are_at_or_after}
+use Rattle.dns_wire.proofs.theory.TargetTheorems.{remembers_what_stands, nothing_is_target, encoders_stay_at_or_after, names_stay_at_or_after}
 use Rattle.dns_wire.proofs.target_laws.memory_is_sound.Goals as goal
 
 pub returns : goal.returns
 returns c = record {
   stands = remembers_what_stands;
-  stands_behind = stands_behind;
+  names_are_at_or_after = names_are_at_or_after;
   nothing = nothing_is_target;
   name = λ rule t name is h. (puts_put_name rule name is).keeps t h;
   octets = λ t xs h. (puts_octets xs).keeps t h;
@@ -19,6 +19,6 @@ returns c = record {
   octets_grow = put_octets_grows;
   parts_grow = put_parts_grows;
   both_grow = both_grows;
-  behind = pieces_stay_behind;
-  names_behind = names_stay_behind;
+  after = encoders_stay_at_or_after;
+  names_after = names_stay_at_or_after;
 }

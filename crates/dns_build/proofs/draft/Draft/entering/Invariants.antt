@@ -6,5 +6,5 @@ abbrev pub invariant-loop : goal.invariant-loop
 invariant-loop g l = record {
   starts : reverse l.starts.items ≡ replicate l.counter l.start ++ l.fn.self.starts;
   count : length l.starts.items ≡ length l.fn.self.starts + l.counter;
-  behind : All (λ (start : ℕ). 12 ≤ start) l.starts.items;
+  after : All (λ (start : ℕ). 12 ≤ start) l.starts.items;
 }

@@ -1,7 +1,7 @@
 use Rattle.std.proofs.Common.{◌≡◌, ◌∙◌, ap, arith, length, List, ℕ}
 use Rattle.dns_code.specs.declared.header.Header.{Header}
 use Rattle.dns_code.specs.declared.counts.HeaderCounts.{HeaderCounts}
-use Rattle.dns_code.proofs.SectionLemmas.{front, behind_front}
+use Rattle.dns_code.proofs.SectionLemmas.{front, after_front}
 use Rattle.dns_code.proofs.section.HeaderSection.set_header.Goals as goal
 
 pub returns-clause-header : goal.returns-clause-header
@@ -13,4 +13,4 @@ returns-clause-header c =
 pub returns-clause-counts : goal.returns-clause-counts
 returns-clause-counts c =
     let all : length c.copy_from_slice.new.self ≡ 4 = omega arith in
-    ap (λ (b : List ℕ). let h : HeaderCounts = record { octets = b } in h) (behind_front 4 _ _ all)
+    ap (λ (b : List ℕ). let h : HeaderCounts = record { octets = b } in h) (after_front 4 _ _ all)

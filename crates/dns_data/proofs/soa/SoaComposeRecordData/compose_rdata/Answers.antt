@@ -2,7 +2,7 @@ use Rattle.std.proofs.Common.{Err, [], ◌∷◌, ap, ◌∙◌}
 use Rattle.std.proofs.lemmas.Result.{err_from_is_err_and}
 use Rattle.dns_wire.specs.Parts.{Octets, CompressibleName}
 use Rattle.dns_data.specs.Soa.{mname_of, rname_of, number_octets}
-use Rattle.dns_data.proofs.ComposedParts.{one_part_composes, parts_compose_behind, refused_part_composes}
+use Rattle.dns_data.proofs.ComposedParts.{one_part_composes, parts_compose_after, refused_part_composes}
 use Rattle.dns_data.proofs.SoaNumbers.{soa_is_data}
 use Rattle.dns_data.proofs.soa.SoaComposeRecordData.compose_rdata.Goals as goal
 
@@ -25,7 +25,7 @@ returns-in_err-append_compressed_name-2-clause-composes g c =
     let p = err_from_is_err_and c.from_residual-in_err-append_compressed_name-2.result c.from_residual-in_err-append_compressed_name-2.ensures.1 in
     let soa = c.args.self.now in
     let rname = CompressibleName (g.N.ToName.name (rname_of soa)) in
-    parts_compose_behind _ _ _ (CompressibleName (g.N.ToName.name (mname_of soa))) (rname ∷ Octets (number_octets soa) ∷ []) _ _ _ _
+    parts_compose_after _ _ _ (CompressibleName (g.N.ToName.name (mname_of soa))) (rname ∷ Octets (number_octets soa) ∷ []) _ _ _ _
     c.in_ok-append_compressed_name.ensures.ok
     (refused_part_composes _ _ _ rname (Octets (number_octets soa) ∷ []) _ _
     c.append_compressed_name-2.result c.from_residual-in_err-append_compressed_name-2.result c.in_err-append_compressed_name-2.field-0.0 c.in_err-append_compressed_name-2.was (p.1 ∙ ap Err p.2)
@@ -40,9 +40,9 @@ returns-clause-composes g c =
     let soa = c.args.self.now in
     let rname = CompressibleName (g.N.ToName.name (rname_of soa)) in
     let numbers = Octets (number_octets soa) in
-    parts_compose_behind _ _ _ (CompressibleName (g.N.ToName.name (mname_of soa))) (rname ∷ numbers ∷ []) _ _ _ _
+    parts_compose_after _ _ _ (CompressibleName (g.N.ToName.name (mname_of soa))) (rname ∷ numbers ∷ []) _ _ _ _
     c.in_ok-append_compressed_name.ensures.ok
-    (parts_compose_behind _ _ _ rname (numbers ∷ []) _ _ _ _
+    (parts_compose_after _ _ _ rname (numbers ∷ []) _ _ _ _
     c.in_ok-append_compressed_name-2.ensures.ok
     (one_part_composes _ _ _ numbers _ _ _ (rw c.number_octets.ensures at c.append_slice.ensures)))
 

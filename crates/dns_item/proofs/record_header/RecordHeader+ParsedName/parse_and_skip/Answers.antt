@@ -13,10 +13,10 @@ pub returns-in_err-advance : goal.returns-in_err-advance
 returns-in_err-advance c =
     let p = err_from_is_err_and c.from_residual-in_err-advance.result c.from_residual-in_err-advance.ensures.1 in
     let h = c.in_err-advance.ensures in
-    rw (p.1, p.2) (without_data _ c.in_ok-header.behind c.in_ok-header.header _ _ c.in_ok-header.ensures.reads c.from.ensures h.0 h.1, refl)
+    rw (p.1, p.2) (without_data _ c.in_ok-header.after c.in_ok-header.header _ _ c.in_ok-header.ensures.reads c.from.ensures h.0 h.1, refl)
 
 pub returns : goal.returns
 returns c =
     let h = c.in_ok-advance.ensures in
-    let r = with_data c.args.parser.now c.in_ok-header.behind c.advance.new.self c.in_ok-header.header _ c.in_ok-header.ensures.reads c.from.ensures h.0 h.1 in
-    ((offset c.in_ok-header.behind, r.0), r.1)
+    let r = with_data c.args.parser.now c.in_ok-header.after c.advance.new.self c.in_ok-header.header _ c.in_ok-header.ensures.reads c.from.ensures h.0 h.1 in
+    ((offset c.in_ok-header.after, r.0), r.1)

@@ -5,7 +5,7 @@ use Rattle.dns_item.specs.Items.{RecordEntry}
 use Rattle.dns_item.specs.ParsedRecord.{octets_of, parsed_entry}
 use Rattle.dns_item.specs.RecordReading.{AnswersTaken, GivesBackTaken, GivesValueBackTaken}
 use Rattle.dns_item.proofs.theory.EntryLemmas.{record_or_fault}
-use Rattle.dns_item.proofs.RecordLemmas.{of_read, behind_read}
+use Rattle.dns_item.proofs.RecordLemmas.{of_read, after_read}
 use Rattle.dns_item.proofs.record_reading.Record+ParsedName+D.parse.Goals as goal
 
 pub returns-in_err-parse-clause-gives : goal.returns-in_err-parse-clause-gives
@@ -23,7 +23,7 @@ returns-clause-gives g c q x h =
     let parses = c.in_ok-parse.ensures in (
       of_read (λ (b : List ℕ) (x : RecordEntry). AnswersTaken g.D.RecordData.rtype_of g.D.RecordData.parts b x (g.D.ParseRecordData.layout x.rtype) c.into_record.result)
           (seen old) (octets_of r) (offset old) (offset c.parse.new.parser) q (parsed_entry r) x parses.0 parses.2.seen h c.into_record.ensures.answers,
-      behind_read old c.parse.new.parser q (parsed_entry r) x parses.0 parses.1 h,
+      after_read old c.parse.new.parser q (parsed_entry r) x parses.0 parses.1 h,
     )
 
 pub returns-clause-back : goal.returns-clause-back

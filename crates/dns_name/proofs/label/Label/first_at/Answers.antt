@@ -12,10 +12,10 @@ new-requires c =
 pub returns-then-first-lt192 : goal.returns-then-first-lt192
 returns-then-first-lt192 c =
     let low : c.first-first.result < 192 = omega (arith, c.if-first-lt192.true) in
-    let here : c.first-first.result ≡ 0 → c.if-first-eq0.behind ≡ c.walk.at =
-    λ none. elim c.if-first-eq0.branch [ then-first-eq0 w ↦ grind (arith, common_steps, w.if-first-eq0, w.behind-is) | else-first-eq0 w ↦ grind (arith, common_steps, w.if-first-eq0, none) ] in
-    let on : 0 < c.first-first.result → c.if-first-eq0.behind ≡ c.walk.at + 1 + c.first-first.result =
-    λ some. elim c.if-first-eq0.branch [ then-first-eq0 w ↦ grind (arith, common_steps, w.if-first-eq0, some) | else-first-eq0 w ↦ grind (arith, common_steps, w.behind-is, c.from.ensures) ] in
+    let here : c.first-first.result ≡ 0 → c.if-first-eq0.after ≡ c.walk.at =
+    λ none. elim c.if-first-eq0.branch [ then-first-eq0 w ↦ grind (arith, common_steps, w.if-first-eq0, w.after-is) | else-first-eq0 w ↦ grind (arith, common_steps, w.if-first-eq0, none) ] in
+    let on : 0 < c.first-first.result → c.if-first-eq0.after ≡ c.walk.at + 1 + c.first-first.result =
+    λ some. elim c.if-first-eq0.branch [ then-first-eq0 w ↦ grind (arith, common_steps, w.if-first-eq0, some) | else-first-eq0 w ↦ grind (arith, common_steps, w.after-is, c.from.ensures) ] in
     first_octet _ c.new.result c.walk.invariant c.first-first.ensures.root (λ some. c.first-first.ensures.label some low) (rw c.from.ensures at c.new.ensures) here on
 
 pub target-at-requires-clause-known : goal.target-at-requires-clause-known

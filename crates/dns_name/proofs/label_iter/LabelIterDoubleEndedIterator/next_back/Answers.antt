@@ -7,14 +7,14 @@ pub overflow_add-passed : goal.overflow_add-passed
 overflow_add-passed c =
     let below : c.walk.passed < c.args.self.now.left = passed_below _ _ _ _ _ c.args.self.now.labels_at c.walk.invariant in
     let small : c.args.self.now.left ≤ 255 = left_small _ _ _ c.args.self.now.labels_at in
-    let short = c.first_at-behind.result.0.short in
+    let short = c.first_at-after.result.0.short in
     omega (arith, short, c.len-taken.ensures)
 
 pub overflow_add-passed-in-walk : goal.overflow_add-passed-in-walk
 overflow_add-passed-in-walk c =
     let below : c.walk.passed < c.args.self.now.left = passed_below _ _ _ _ _ c.args.self.now.labels_at c.walk.invariant in
     let small : c.args.self.now.left ≤ 255 = left_small _ _ _ c.args.self.now.labels_at in
-    let short = c.first_at-behind.result.0.short in
+    let short = c.first_at-after.result.0.short in
     omega (arith, short, c.len-taken.ensures)
 
 pub walk-init : goal.walk-init
@@ -29,20 +29,20 @@ walk-smaller c =
 
 pub invariant_of-self : goal.invariant_of-self
 invariant_of-self c =
-    let taken : c.len-taken.result + 1 ≡ length (label_octets c.first_at-behind.result.0) + 1 = ap (λ n. n + 1) c.len-taken.ensures in
-    record { labels_at = back_has _ _ _ _ _ _ _ c.first_at-behind.result.0 c.args.self.now.labels_at c.walk.invariant c.first_at-behind.ensures taken c.if-passed-taken.true }
+    let taken : c.len-taken.result + 1 ≡ length (label_octets c.first_at-after.result.0) + 1 = ap (λ n. n + 1) c.len-taken.ensures in
+    record { labels_at = back_has _ _ _ _ _ _ _ c.first_at-after.result.0 c.args.self.now.labels_at c.walk.invariant c.first_at-after.ensures taken c.if-passed-taken.true }
 
 pub returns-clause-steps : goal.returns-clause-steps
 returns-clause-steps c =
-    let taken : c.len-taken.result + 1 ≡ length (label_octets c.first_at-behind.result.0) + 1 = ap (λ n. n + 1) c.len-taken.ensures in
-    search (rules, back_gives _ _ _ _ _ _ _ c.first_at-behind.result.0 c.args.self.now.labels_at c.walk.invariant c.first_at-behind.ensures taken c.if-passed-taken.true)
+    let taken : c.len-taken.result + 1 ≡ length (label_octets c.first_at-after.result.0) + 1 = ap (λ n. n + 1) c.len-taken.ensures in
+    search (rules, back_gives _ _ _ _ _ _ _ c.first_at-after.result.0 c.args.self.now.labels_at c.walk.invariant c.first_at-after.ensures taken c.if-passed-taken.true)
 
 pub walk-preserved : goal.walk-preserved
 walk-preserved c =
-    let taken : c.len-taken.result + 1 ≡ length (label_octets c.first_at-behind.result.0) + 1 = ap (λ n. n + 1) c.len-taken.ensures in
-    step_on _ _ _ _ _ _ _ c.first_at-behind.result.0 c.args.self.now.labels_at c.walk.invariant c.first_at-behind.ensures taken c.if-passed-taken.false
+    let taken : c.len-taken.result + 1 ≡ length (label_octets c.first_at-after.result.0) + 1 = ap (λ n. n + 1) c.len-taken.ensures in
+    step_on _ _ _ _ _ _ _ c.first_at-after.result.0 c.args.self.now.labels_at c.walk.invariant c.first_at-after.ensures taken c.if-passed-taken.false
 
 pub returns-clause-goes : goal.returns-clause-goes
 returns-clause-goes c =
-    let taken : c.len-taken.result + 1 ≡ length (label_octets c.first_at-behind.result.0) + 1 = ap (λ n. n + 1) c.len-taken.ensures in
-    record { on = λ _. (tt, tt, search (rules, back_fewer _ _ _ _ _ _ _ c.first_at-behind.result.0 c.args.self.now.labels_at c.walk.invariant c.first_at-behind.ensures taken c.if-passed-taken.true)); keeps = tt; rests = λ _. tt }
+    let taken : c.len-taken.result + 1 ≡ length (label_octets c.first_at-after.result.0) + 1 = ap (λ n. n + 1) c.len-taken.ensures in
+    record { on = λ _. (tt, tt, search (rules, back_fewer _ _ _ _ _ _ _ c.first_at-after.result.0 c.args.self.now.labels_at c.walk.invariant c.first_at-after.ensures taken c.if-passed-taken.true)); keeps = tt; rests = λ _. tt }

@@ -1,6 +1,6 @@
 use Rattle.std.proofs.Common.{◌+◌, ◌-◌, ◌≤◌, arith}
 use Rattle.std.proofs.lemmas.Result.{err_from_is_err_and}
-use Rattle.dns_name.proofs.theory.NearNames.{arrives_root, arrives_pointer, arrives_back, fails_ahead, fails_behind}
+use Rattle.dns_name.proofs.theory.NearNames.{arrives_root, arrives_pointer, arrives_back, fails_ahead, fails_after}
 use Rattle.dns_name.proofs.parsed_name.ParsedName.walk.Goals as goal
 
 pub returns-then-is_pointed_to-clause-arrives : goal.returns-then-is_pointed_to-clause-arrives
@@ -26,7 +26,7 @@ pub returns-in_err-size-clause-arrives : goal.returns-in_err-size-clause-arrives
 returns-in_err-size-clause-arrives c =
     let p = err_from_is_err_and c.from_residual-in_err-size.result c.from_residual-in_err-size.ensures.1 in
     let row = rw c.in-Some.is at c.in_ok-row.ensures in
-    rw (p.1, p.2) (fails_behind _ _ _ _ _ _ row (omega arith) c.in_err-size.ensures)
+    rw (p.1, p.2) (fails_after _ _ _ _ _ _ row (omega arith) c.in_err-size.ensures)
 
 pub returns-clause-arrives : goal.returns-clause-arrives
 returns-clause-arrives c =

@@ -1,6 +1,6 @@
 use Rattle.std.proofs.Common.{◌∙◌, ap, length, refl, arith, sym, subst, ◌≡◌}
 use Rattle.std.proofs.lemmas.Result.{err_from_is_err_and}
-use Rattle.dns_question.specs.BehindNames.FieldsFaultAt.{name}
+use Rattle.dns_question.specs.AfterNames.FieldsFaultAt.{name}
 use Rattle.dns_question.proofs.QuestionLemmas.{short, reads_fields}
 use Rattle.dns_question.specs.Question.{qname_of, parsed_question}
 use Rattle.dns_name.specs.Names.{Labels, Stands}

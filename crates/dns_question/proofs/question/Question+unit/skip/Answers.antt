@@ -1,6 +1,6 @@
 use Rattle.std.proofs.Common.{refl}
 use Rattle.std.proofs.lemmas.Result.{err_from_is_err_and}
-use Rattle.dns_question.specs.BehindNames.FieldsSkipFaultAt.{name}
+use Rattle.dns_question.specs.AfterNames.FieldsSkipFaultAt.{name}
 use Rattle.dns_question.proofs.QuestionLemmas.{unended}
 use Rattle.dns_question.proofs.question.Question+unit.skip.Goals as goal
 

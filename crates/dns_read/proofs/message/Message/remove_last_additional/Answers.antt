@@ -3,7 +3,7 @@ use Rattle.std.specs.Int.{w16}
 use Rattle.dns_name.specs.Parsers.{number_at}
 use Rattle.dns_code.specs.HeaderSection.{header_size}
 use Rattle.dns_read.specs.Message.{message_octets}
-use Rattle.dns_read.proofs.HeaderLemmas.{kept_before, kept_behind, written_number}
+use Rattle.dns_read.proofs.HeaderLemmas.{kept_before, kept_after, written_number}
 use Rattle.dns_read.proofs.message.Message.remove_last_additional.Goals as goal
 
 pub returns-clause-count : goal.returns-clause-count
@@ -19,7 +19,7 @@ returns-clause-before g c =
     let long = c.args.self.now.long in
     ap (take 10) c.write_at.ensures ∙ kept_before (message_octets c.args.self.now) c.to_be_bytes.result 10 (omega (arith, long))
 
-pub returns-clause-behind : goal.returns-clause-behind
-returns-clause-behind g c =
+pub returns-clause-after : goal.returns-clause-after
+returns-clause-after g c =
     let long = c.args.self.now.long in
-    ap (drop header_size) c.write_at.ensures ∙ kept_behind (message_octets c.args.self.now) c.to_be_bytes.result 10 header_size (omega (arith, ap length c.to_be_bytes.ensures)) (omega (arith, long))
+    ap (drop header_size) c.write_at.ensures ∙ kept_after (message_octets c.args.self.now) c.to_be_bytes.result 10 header_size (omega (arith, ap length c.to_be_bytes.ensures)) (omega (arith, long))

@@ -1,5 +1,5 @@
 use Rattle.std.proofs.Common.{◌∙◌, ap, take, drop}
-use Rattle.dns_read.proofs.HeaderLemmas.{overwritten_front, overwritten_behind}
+use Rattle.dns_read.proofs.HeaderLemmas.{overwritten_front, overwritten_after}
 use Rattle.dns_read.proofs.message.Message.set_header.Goals as goal
 
 pub returns-clause-header : goal.returns-clause-header
@@ -8,4 +8,4 @@ returns-clause-header g c =
 
 pub returns-clause-others : goal.returns-clause-others
 returns-clause-others g c =
-    ap (drop 4) c.write_at.ensures ∙ overwritten_behind _ c.as_slice.result.now c.as_slice.ensures.length
+    ap (drop 4) c.write_at.ensures ∙ overwritten_after _ c.as_slice.result.now c.as_slice.ensures.length

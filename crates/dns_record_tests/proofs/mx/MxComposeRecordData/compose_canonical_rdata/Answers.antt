@@ -16,6 +16,6 @@ returns-in_err-append_slice g c =
 pub returns : goal.returns
 returns g c =
     let mx = c.args.self.now in
-    c.parts_compose.ensures.behind _ _ g.T.Composer.rule (Octets (to_be_bytes w16 mx.preference)) (Octets (uncompressed (lowered (g.N.ToName.name mx.exchange))) ∷ []) _ _ _ _
+    c.parts_compose.ensures.after _ _ g.T.Composer.rule (Octets (to_be_bytes w16 mx.preference)) (Octets (uncompressed (lowered (g.N.ToName.name mx.exchange))) ∷ []) _ _ _ _
     (rw c.to_be_bytes.ensures at c.in_ok-append_slice.ensures.ok)
     (c.parts_compose.ensures.one _ _ g.T.Composer.rule (Octets (uncompressed (lowered (g.N.ToName.name mx.exchange)))) _ _ _ c.compose_canonical.ensures)

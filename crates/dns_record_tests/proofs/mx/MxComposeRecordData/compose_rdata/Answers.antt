@@ -15,7 +15,7 @@ returns-in_err-append_slice-clause-composes g c =
 pub returns-clause-composes : goal.returns-clause-composes
 returns-clause-composes g c =
     let mx = c.args.self.now in
-    c.parts_compose.ensures.behind _ _ g.T.Composer.rule (Octets (to_be_bytes w16 mx.preference)) (CompressibleName (g.N.ToName.name mx.exchange) ∷ []) _ _ _ _
+    c.parts_compose.ensures.after _ _ g.T.Composer.rule (Octets (to_be_bytes w16 mx.preference)) (CompressibleName (g.N.ToName.name mx.exchange) ∷ []) _ _ _ _
     (rw c.to_be_bytes.ensures at c.in_ok-append_slice.ensures.ok)
     (c.parts_compose.ensures.one _ _ g.T.Composer.rule (CompressibleName (g.N.ToName.name mx.exchange)) _ _ _ c.append_compressed_name.ensures)
 

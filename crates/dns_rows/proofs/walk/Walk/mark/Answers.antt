@@ -10,7 +10,7 @@ pub returns-clause-comes : goal.returns-clause-comes
 returns-clause-comes c =
     let rows = c.args.self.now.rows.items in
     let start = at c.args.self.now in
-    let end = offset c.args.behind in
+    let end = offset c.args.after in
     let field = c.args.field in
     let row = c.field-row.ensures ∙ ap (λ n. field_row n c.pos-2.result field) c.pos.ensures ∙ ap (λ n. field_row start n field) c.pos-2.ensures in
     let pushed : c.push.new.self.items ≡ rows ++ field_row start end field ∷ [] = c.in-Ok.ensures.items ∙ ap (λ row. rows ++ row ∷ []) row in

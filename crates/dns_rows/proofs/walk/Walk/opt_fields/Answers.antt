@@ -13,9 +13,9 @@ returns-in_err-number-clause-cuts c =
     let old = c.args.self.now in
     let new = c.number.new.self in
     let p = at old in
-    let behind = field_row (p + 2) (p + 3) ExtendedRcode ∷ field_row (p + 3) (p + 4) Version ∷ field_row (p + 4) (p + 6) OptFlags ∷ [] in
+    let after = field_row (p + 2) (p + 3) ExtendedRcode ∷ field_row (p + 3) (p + 4) Version ∷ field_row (p + 4) (p + 6) OptFlags ∷ [] in
     on_fault_2 c.from_residual.result (LacksField PayloadSize (octets old) (p + 2)) (λ _. new ≡ old) (CutsFields (opt_rows p) old new)
-    (λ fault h same. cut_here p 2 (p + 2) PayloadSize behind old new fault h same refl refl) (search rules) (search rules)
+    (λ fault h same. cut_here p 2 (p + 2) PayloadSize after old new fault h same refl refl) (search rules) (search rules)
 
 pub returns-in_err-octets-clause-cuts : goal.returns-in_err-octets-clause-cuts
 returns-in_err-octets-clause-cuts c =

@@ -2,7 +2,7 @@ use Rattle.std.proofs.Common.{◌≡◌, ◌<◌, ◌∙◌, ap, arith, Ok, sym,
 use Rattle.std.proofs.lemmas.Option.{slice_get_within}
 use Rattle.dns_name.specs.Names.{head_at}
 use Rattle.dns_name.specs.declared.head.Head.TheVariants.{Pointer}
-use Rattle.dns_rows.specs.Faults.StopsName.{half, ahead, behind, pointed}
+use Rattle.dns_rows.specs.Faults.StopsName.{half, ahead, after, pointed}
 use Rattle.dns_rows.specs.Walks.{at, octets, HasName}
 use Rattle.dns_rows.proofs.Faults.{half_head, pointer_there}
 use Rattle.dns_rows.proofs.walk.Walk.pointer_fault.Goals as goal
@@ -45,4 +45,4 @@ returns-else-has_name c =
     let there : head_at b p ≡ Ok (Pointer t) =
     pointer_there b p c.args.high c.in-Some.low c.requires.first (c.second.ensures ∙ c.in-Some.is) c.requires.pointer high low ∙ ap (λ t. Ok (Pointer t)) (sym c.target_of-target.ensures) in
     let no_name : HasName b t false = subst (λ x. HasName b t x) c.if-has_name.false c.has_name.ensures in
-    behind there (omega arith) no_name.1
+    after there (omega arith) no_name.1

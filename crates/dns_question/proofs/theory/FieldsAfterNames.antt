@@ -4,9 +4,9 @@ use Rattle.std.proofs.lemmas.Bool.Decides.{leb_tells}
 use Rattle.dns_name.specs.Names.{Labels, Fault, Stands, Walked, ReadsOrFaults, EndsOrFaults}
 use Rattle.dns_name.specs.Names.Fault.{ShortInput}
 use Rattle.dns_name.proofs.theory.Names.{name_or_fault, not_both, one_fault, end_or_skip_fault, end_not_both, one_end, names_end, skip_faults}
-use Rattle.dns_question.specs.BehindNames.{SkipsFields, FieldsFaultAt, FieldsSkipFaultAt}
-use Rattle.dns_question.specs.BehindNames.FieldsFaultAt.{name as name_fault, short as short_fields}
-use Rattle.dns_question.specs.BehindNames.FieldsSkipFaultAt.{name as name_skip_fault, short as unended_fields}
+use Rattle.dns_question.specs.AfterNames.{SkipsFields, FieldsFaultAt, FieldsSkipFaultAt}
+use Rattle.dns_question.specs.AfterNames.FieldsFaultAt.{name as name_fault, short as short_fields}
+use Rattle.dns_question.specs.AfterNames.FieldsSkipFaultAt.{name as name_skip_fault, short as unended_fields}
 
 -- either n octets are there, or they aren't
 pub long_or_short : (b : List ℕ) (n : ℕ) → (n ≤ length b) ⊎ (length b < n)

@@ -3,7 +3,7 @@ use Rattle.std.specs.Prelude.{Ok}
 use Rattle.std.proofs.lemmas.Result.{err_from_is_err_and}
 use Rattle.dns_name.specs.Names.{head_at, SkipFaulty}
 use Rattle.dns_name.specs.declared.head.Head.TheVariants.{Label}
-use Rattle.dns_name.proofs.head.Head.behind.Goals as goal
+use Rattle.dns_name.proofs.head.Head.after.Goals as goal
 
 pub returns-in_err-head : goal.returns-in_err-head
 returns-in_err-head c =

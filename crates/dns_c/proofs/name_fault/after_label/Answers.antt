@@ -1,6 +1,6 @@
 use Rattle.std.proofs.Common.{arith}
 use Rattle.dns_c.proofs.NameFaultLemmas.{label_leads, past_the_end, too_long}
-use Rattle.dns_c.proofs.name_fault.behind_label.Goals as goal
+use Rattle.dns_c.proofs.name_fault.after_label.Goals as goal
 
 pub returns-then-size-taken-gt-MAX_SIZE-clause-wrong : goal.returns-then-size-taken-gt-MAX_SIZE-clause-wrong
 returns-then-size-taken-gt-MAX_SIZE-clause-wrong c =

@@ -4,8 +4,8 @@ use Rattle.std.specs.Str.Iter.{split_whitespace_rest}
 use Rattle.std.proofs.lemmas.Result.{err_from_is_err_and}
 use Rattle.dns_question.specs.QuestionTexts.{ReadsWords, Fields, named}
 use Rattle.dns_question.specs.QuestionTexts.ReadsWords.{name_alone, trailing}
-use Rattle.dns_question.proofs.WordLemmas.{word_before, no_words, utf8_behind, some_words}
-use Rattle.dns_question.proofs.question_text.read_behind_name.Goals as goal
+use Rattle.dns_question.proofs.WordLemmas.{word_before, no_words, utf8_after, some_words}
+use Rattle.dns_question.proofs.question_text.read_after_name.Goals as goal
 
 pub returns-in_default : goal.returns-in_default
 returns-in_default c = λ u. ([], no_words c.args.words c.next.new.self c.in_default.ensures.steps, λ a name h. name_alone {name = name} h)
@@ -19,9 +19,9 @@ returns-in_default-next c = λ u. (
 
 pub returns-in_err-fields : goal.returns-in_err-fields
 returns-in_err-fields c = λ u.
-    let behind_first = utf8_behind c.args.words c.next.new.self c.in-Some.first c.in-Some.ensures.steps u in
-    let behind_second = utf8_behind c.next.new.self c.next-2.new.self c.in-Some-next.second c.in-Some-next.ensures.steps behind_first in
-    let more = some_words (split_whitespace_rest c.next-2.new.self) behind_second in
+    let after_first = utf8_after c.args.words c.next.new.self c.in-Some.first c.in-Some.ensures.steps u in
+    let after_second = utf8_after c.next.new.self c.next-2.new.self c.in-Some-next.second c.in-Some-next.ensures.steps after_first in
+    let more = some_words (split_whitespace_rest c.next-2.new.self) after_second in
     let words : List (List ℕ) = c.in-Some.first.now ∷ c.in-Some-next.second.now ∷ more.0 in
     let made = err_from_is_err_and c.from_residual.result c.from_residual.ensures.1 in (
       words,
@@ -41,10 +41,10 @@ returns-in-None c = λ u. (
 
 pub returns-in-Some-next-2 : goal.returns-in-Some-next-2
 returns-in-Some-next-2 c = λ u.
-    let behind_first = utf8_behind c.args.words c.next.new.self c.in-Some.first c.in-Some.ensures.steps u in
-    let behind_second = utf8_behind c.next.new.self c.next-2.new.self c.in-Some-next.second c.in-Some-next.ensures.steps behind_first in
-    let behind_third = utf8_behind c.next-2.new.self c.next-3.new.self c.in-Some-next-2.field-0 c.in-Some-next-2.ensures.steps behind_second in
-    let more = some_words (split_whitespace_rest c.next-3.new.self) behind_third in
+    let after_first = utf8_after c.args.words c.next.new.self c.in-Some.first c.in-Some.ensures.steps u in
+    let after_second = utf8_after c.next.new.self c.next-2.new.self c.in-Some-next.second c.in-Some-next.ensures.steps after_first in
+    let after_third = utf8_after c.next-2.new.self c.next-3.new.self c.in-Some-next-2.field-0 c.in-Some-next-2.ensures.steps after_second in
+    let more = some_words (split_whitespace_rest c.next-3.new.self) after_third in
     let third : List (List ℕ) = c.in-Some-next-2.field-0.now ∷ more.0 in (
       c.in-Some.first.now ∷ c.in-Some-next.second.now ∷ third,
       word_before c.args.words c.next.new.self c.in-Some.first (c.in-Some-next.second.now ∷ third) c.in-Some.ensures.steps

@@ -1,6 +1,6 @@
 use Rattle.std.proofs.Common.{arith}
 use Rattle.dns_c.proofs.NameFaultLemmas.{cut_there, leads_ahead, pointer_leads}
-use Rattle.dns_c.proofs.name_fault.behind_pointer.Goals as goal
+use Rattle.dns_c.proofs.name_fault.after_pointer.Goals as goal
 
 pub returns-then-pos-octets-clause-wrong : goal.returns-then-pos-octets-clause-wrong
 returns-then-pos-octets-clause-wrong c = cut_there c.args.octets.now c.args.pos c.args.size c.args.first c.requires.within c.requires.at c.requires.pointer _ (omega arith)
