@@ -9,7 +9,7 @@ use Rattle.dns_wire.specs.Pieces.{Plain}
 use Rattle.dns_wire.specs.Targets.{Fits, Passes}
 use Rattle.dns_question.specs.Questions.{QuestionItem}
 use Rattle.dns_item.specs.Items.{RecordItem}
-use Rattle.dns_build.specs.Standing.{Built, StandsFor, MovesState, InEach, size_after}
+use Rattle.dns_build.specs.BuilderStates.{Built, Represents, MovesState, InEach, size_after}
 use Rattle.dns_build.specs.State.{InAnswer, State, with_record, most_entries, tc_rewound}
 use Rattle.dns_build.specs.declared.push_error.PushError.{PushError}
 use Rattle.dns_build.specs.declared.push_error.PushError.TheVariants.{CountOverflow, LimitExceeded, ShortBuf, OutOfMemory}
@@ -18,10 +18,10 @@ use Rattle.dns_answer.specs.Pushing.{MoreAnswers, PushesEach, AddsAll}
 use Rattle.dns_answer.proofs.Sizes.{longer_answers, items_within}
 
 -- no further answers
-none_more : (s : State) (b : Built) → StandsFor InAnswer Plain s b → MoreAnswers s b []
+none_more : (s : State) (b : Built) → Represents InAnswer Plain s b → MoreAnswers s b []
 none_more s b h =
     let e : s ≡ with_answers [] s = λ i. record s { answers = sym (append-nil s.answers) i } in
-    record { stands = subst (λ (t : State). StandsFor InAnswer Plain t b) e h; within = λ l. subst (λ (t : State). size t ≤ s.limit) e l }
+    record { represents = subst (λ (t : State). Represents InAnswer Plain t b) e h; within = λ l. subst (λ (t : State). size t ≤ s.limit) e l }
 
 -- when pushing an answer succeeds, and the reasons for which it fails
 abbrev HasRoom : RecordItem → State → Type 0
@@ -39,21 +39,21 @@ one_more : (s : State) (xs : List RecordItem) (x : RecordItem) (mid new : Built)
 one_more s xs x mid new h moves room =
     let e : with_record InAnswer x (with_answers xs s) ≡ with_answers (xs ++ x ∷ []) s = λ i. record s { answers = append_assoc s.answers xs (x ∷ []) i } in
     record {
-      stands = subst (λ (t : State). StandsFor InAnswer Plain t new) e (moves (with_answers xs s) h.stands);
-      within = λ l. subst (λ (t : State). size t ≤ s.limit) e (room (with_answers xs s) h.stands).1;
+      represents = subst (λ (t : State). Represents InAnswer Plain t new) e (moves (with_answers xs s) h.represents);
+      within = λ l. subst (λ (t : State). size t ≤ s.limit) e (room (with_answers xs s) h.represents).1;
     }
 
 -- with the first of further answers, a message is no longer than with all
-some_within : (s : State) (b : Built) → StandsFor InAnswer Plain s b → (xs ys : List RecordItem) → size (with_answers xs s) ≤ size (with_answers (xs ++ ys) s)
+some_within : (s : State) (b : Built) → Represents InAnswer Plain s b → (xs ys : List RecordItem) → size (with_answers xs s) ≤ size (with_answers (xs ++ ys) s)
 some_within s b h xs ys =
     subst (λ (t : State). size (with_answers xs t) ≤ size (with_answers (xs ++ ys) t)) (sym h.last) (longer_answers s xs ys h.state.header)
 
 -- if one answer exceeds the limit, all of them do
-limit_passed : (s : State) (xs : List RecordItem) (x : RecordItem) (ys : List RecordItem) (b mid : Built) → StandsFor InAnswer Plain s b → MoreAnswers s mid xs
+limit_passed : (s : State) (xs : List RecordItem) (x : RecordItem) (ys : List RecordItem) (b mid : Built) → Represents InAnswer Plain s b → MoreAnswers s mid xs
     → InEach InAnswer Plain mid (PassesLimit x) → s.limit < size (with_answers ((xs ++ x ∷ []) ++ ys) s)
 limit_passed s xs x ys b mid h more passes =
     let e : with_record InAnswer x (with_answers xs s) ≡ with_answers (xs ++ x ∷ []) s = λ i. record s { answers = append_assoc s.answers xs (x ∷ []) i } in
-    let l : s.limit < size (with_answers (xs ++ x ∷ []) s) = subst (λ (t : State). s.limit < size t) e (passes (with_answers xs s) more.stands).1 in
+    let l : s.limit < size (with_answers (xs ++ x ∷ []) s) = subst (λ (t : State). s.limit < size t) e (passes (with_answers xs s) more.represents).1 in
     let m = some_within s b h (xs ++ x ∷ []) ys in
     omega (arith, l, m)
 
@@ -61,8 +61,8 @@ limit_passed s xs x ys b mid h more passes =
 count_passed : (s : State) (xs : List RecordItem) (x : RecordItem) (mid : Built) → MoreAnswers s mid xs → InEach InAnswer Plain mid (PassesCount x) → most_entries < s.limit
 count_passed s xs x mid more passes =
     let t = with_answers xs s in
-    let p = passes t more.stands in
-    let k = items_within (with_record InAnswer x t) more.stands.state.header in
+    let p = passes t more.represents in
+    let k = items_within (with_record InAnswer x t) more.represents.state.header in
     let n = length-append t.answers (x ∷ []) in
     omega (arith, p, k, n)
 
@@ -93,7 +93,7 @@ module _ {R : Type 0} (item : R → RecordItem) (asked : QuestionItem) (table : 
       ∙ ap (λ (ys : List R). asked_records asked (map item ys)) (take-append-drop i table)
 
   -- at first nothing is pushed
-  pub pushes_none : (s : State) (b : Built) → StandsFor InAnswer Plain s b → MoreAnswers s b (first 0)
+  pub pushes_none : (s : State) (b : Built) → Represents InAnswer Plain s b → MoreAnswers s b (first 0)
   pushes_none s b h = none_more s b h
 
   -- a record that matches is pushed
@@ -115,7 +115,7 @@ module _ {R : Type 0} (item : R → RecordItem) (asked : QuestionItem) (table : 
       → (result ≡ Err LimitExceeded → InEach InAnswer Plain mid (PassesLimit (item x)))
       → (result ≡ Err CountOverflow → InEach InAnswer Plain mid (PassesCount (item x)))
       → (e : PushError) → result ≡ Err e → InEach InAnswer Plain old (λ s. PushesEach (asked_records asked (map item table)) s (Err e) mid)
-  refused_next i x d l is asks old mid so_far result short limit count ShortBuf was s h = short was (with_answers (first i) s) (so_far s h).stands
+  refused_next i x d l is asks old mid so_far result short limit count ShortBuf was s h = short was (with_answers (first i) s) (so_far s h).represents
   refused_next i x d l is asks old mid so_far result short limit count OutOfMemory was s h = tt
   refused_next i x d l is asks old mid so_far result short limit count CountOverflow was s h = count_passed s (first i) (item x) mid (so_far s h) (count was)
   refused_next i x d l is asks old mid so_far result short limit count LimitExceeded was s h =
@@ -138,11 +138,11 @@ chosen xs s b is = ap (λ (t : Bool). cond t (with_answers xs s) (tc_rewound InA
 -- all matches are added
 pub all_added : (xs : List RecordItem) (s : State) (new : Built) → MoreAnswers s new xs → AddsAll xs s (Ok new)
 all_added xs s new more l =
-    subst (λ (t : State). StandsFor InAnswer Plain t new) (sym (chosen xs s true (le-leb (size (with_answers xs s)) s.limit (more.within l)))) more.stands
+    subst (λ (t : State). Represents InAnswer Plain t new) (sym (chosen xs s true (le-leb (size (with_answers xs s)) s.limit (more.within l)))) more.represents
 
 -- no match is added, and TC is set
 pub none_added : (xs : List RecordItem) (s : State) (mid new : Built) → PushesEach xs s (Err LimitExceeded) mid
     → MovesState InAnswer InAnswer Plain (tc_rewound InAnswer) mid new → AddsAll xs s (Ok new)
 none_added xs s mid new p moves l =
     let other = lt-leb (size (with_answers xs s)) s.limit p.2 in
-    subst (λ (t : State). StandsFor InAnswer Plain t new) (sym (chosen xs s false other)) (moves (with_answers p.0 s) p.1.stands)
+    subst (λ (t : State). Represents InAnswer Plain t new) (sym (chosen xs s false other)) (moves (with_answers p.0 s) p.1.represents)

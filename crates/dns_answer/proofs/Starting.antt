@@ -20,7 +20,7 @@ use Rattle.dns_section.proofs.theory.ReadingLemmas.{readings_of_questions_end}
 use Rattle.dns_build.proofs.theory.Asking.{accepted_within}
 use Rattle.dns_build.specs.Answers.{AreAccepted, GivesAnswer, IsEither, answering, readable_questions}
 use Rattle.dns_build.specs.MessageOf.{ReadsBack}
-use Rattle.dns_build.specs.Standing.{Built, InEach, StandsFor, fresh}
+use Rattle.dns_build.specs.BuilderStates.{Built, InEach, Represents, fresh}
 use Rattle.dns_build.specs.State.{InAnswer, State, with_limit, with_questions, tc_rewound}
 use Rattle.dns_build.specs.declared.push_error.PushError.{PushError}
 use Rattle.dns_build.specs.declared.push_error.PushError.TheVariants.{CountOverflow, LimitExceeded, ShortBuf, OutOfMemory}
@@ -102,7 +102,7 @@ module _ (b : List ℕ) where
 
   -- a started reply to which the matches are added is the answer
   pub answered : (table : List RecordItem) (asked : QuestionItem) (mid new : Built) → GivesAnswer None true Plain (answering 0 b (client b)) (readable_questions b) (Ok mid)
-      → InEach InAnswer Plain mid (λ s. AddsAll (asked_records asked table) s (Ok new)) → StandsFor InAnswer Plain (answer_to b table asked) new
+      → InEach InAnswer Plain mid (λ s. AddsAll (asked_records asked table) s (Ok new)) → Represents InAnswer Plain (answer_to b table asked) new
   answered table asked mid new gives adds = adds (asked_again b) gives.1 (started_within gives.0)
 
   -- if the first question can't be read, no question can
@@ -118,14 +118,14 @@ module _ (b : List ℕ) where
       readable (questions_from b (question_count b) header_size) (λ f ys e. end.last (question_count b) header_size _ [] ys f reading e) first
 
   -- so a FORMERR reply has no question
-  pub error_started : (new : Built) → asked_first b ≡ None → IsEither None true Plain (answering 1 b (client b)) (readable_questions b) new → StandsFor InAnswer Plain (format_error b) new
+  pub error_started : (new : Built) → asked_first b ≡ None → IsEither None true Plain (answering 1 b (client b)) (readable_questions b) new → Represents InAnswer Plain (format_error b) new
   error_started new first gives = by (subst (λ xs. IsEither None true Plain (answering 1 b (client b)) xs new) (none_readable first) gives)
     where
       none_refused : (first : List QuestionItem) (x : QuestionItem) (others : List QuestionItem) → [] ≡ first ++ x ∷ others → ⊥
       none_refused [] x others is = cc
       none_refused (y ∷ first) x others is = cc
 
-      by : IsEither None true Plain (answering 1 b (client b)) [] new → StandsFor InAnswer Plain (format_error b) new
+      by : IsEither None true Plain (answering 1 b (client b)) [] new → Represents InAnswer Plain (format_error b) new
       by (inl p) = p.1
       by (inr p) = absurd (none_refused p.1 p.2.next p.2.others p.2.all)
 
@@ -136,8 +136,8 @@ for_query rcode b m limit Gives is taken gives =
     subst (λ (x : List ℕ). Gives (answering rcode x (client x)) (readable_questions x)) is (subst (λ n. Gives (answering rcode m (with_limit n fresh)) (readable_questions m)) taken gives)
 
 -- the octets of a builder are the message of its state
-pub message_of : (s : State) (new : Built) (octets : List ℕ) → StandsFor InAnswer Plain s new → octets ≡ new.written.octets → InEach InAnswer Plain new (λ t. ReadsBack t octets) → IsMessage s octets
-message_of s new octets stands is reads = record { octets = is ∙ ap (λ (w : Written). w.octets) stands.written; reads_back = reads s stands }
+pub message_of : (s : State) (new : Built) (octets : List ℕ) → Represents InAnswer Plain s new → octets ≡ new.written.octets → InEach InAnswer Plain new (λ t. ReadsBack t octets) → IsMessage s octets
+message_of s new octets represents is reads = record { octets = is ∙ ap (λ (w : Written). w.octets) represents.written; reads_back = reads s represents }
 
 -- a message has as many octets as its state says
 pub message_within : (s : State) (octets : List ℕ) (limit : ℕ) → IsMessage s octets → size s ≤ limit → length octets ≤ limit

@@ -9,7 +9,7 @@ use Rattle.dns_item.specs.OptRecord.{OptItem}
 use Rattle.dns_read.specs.OptSearches.{opt_of}
 use Rattle.dns_build.specs.Answers.{answer_header, header_in, readable_questions}
 use Rattle.dns_build.specs.MessageOf.{ReadsBack}
-use Rattle.dns_build.specs.Standing.{fresh, size_after}
+use Rattle.dns_build.specs.BuilderStates.{fresh, size_after}
 use Rattle.dns_build.specs.State.{InAnswer, State, fold, tc_rewound}
 use Rattle.dns_build.specs.declared.push_error.PushError.TheVariants.{CountOverflow, LimitExceeded, ShortBuf, OutOfMemory}
 use Rattle.dns_answer.specs.declared.answering.NoAnswer.{NoAnswer}

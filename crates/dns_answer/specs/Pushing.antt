@@ -2,7 +2,7 @@
 use Rattle.std.specs.Prelude.{◌≤◌, ◌<◌, List, Result, Ok, Err}
 use Rattle.dns_wire.specs.Pieces.{Plain}
 use Rattle.dns_item.specs.Items.{RecordItem}
-use Rattle.dns_build.specs.Standing.{Built, StandsFor}
+use Rattle.dns_build.specs.BuilderStates.{Built, Represents}
 use Rattle.dns_build.specs.State.{InAnswer, State, most_entries}
 use Rattle.dns_build.specs.declared.push_error.PushError.{PushError}
 use Rattle.dns_build.specs.declared.push_error.PushError.TheVariants.{CountOverflow, LimitExceeded, ShortBuf, OutOfMemory}
@@ -10,7 +10,7 @@ use Rattle.dns_answer.specs.Answering.{all_or_none, size, with_answers}
 
 -- a builder with these records appended to the answers of a state, and within the limit if the state is
 pub record MoreAnswers (s : State) (new : Built) (xs : List RecordItem) : Type 0 where
-  pub stands : StandsFor InAnswer Plain (with_answers xs s) new
+  pub represents : Represents InAnswer Plain (with_answers xs s) new
   pub within : size s ≤ s.limit → size (with_answers xs s) ≤ s.limit
 
 -- Why pushing further records fails: an allocation failed, or the limit exceeds 65,535 octets, so that a count can be full.
@@ -30,5 +30,5 @@ PushesEach xs s (Err CountOverflow) new = RefusesMore s CountOverflow
 
 -- a builder within its limit gets all of these records, or none and TC; or a push fails
 abbrev pub AddsAll : List RecordItem → State → Result Built PushError → Type 0
-AddsAll xs s (Ok new) = size s ≤ s.limit → StandsFor InAnswer Plain (all_or_none xs s) new
+AddsAll xs s (Ok new) = size s ≤ s.limit → Represents InAnswer Plain (all_or_none xs s) new
 AddsAll xs s (Err e) = RefusesMore s e

@@ -9,7 +9,7 @@ ghost use Rattle.dns_item.specs.Record.{record_item};
 ghost use Rattle.dns_read.specs.Message.{message_octets};
 ghost use Rattle.dns_read.specs.Searches.{asked_first};
 ghost use Rattle.dns_build.specs.State.{InAnswer, InBuilder, with_limit};
-ghost use Rattle.dns_build.specs.Standing.{InEach, StandsFor, fresh};
+ghost use Rattle.dns_build.specs.BuilderStates.{InEach, Represents, fresh};
 ghost use Rattle.dns_answer.specs.Answering.{HasNoAnswer, IsMessage, answer_to, asked_records, format_error, is_asked, payload_size};
 ghost use Rattle.dns_answer.specs.Pushing.{AddsAll, PushesEach};
 
@@ -75,7 +75,7 @@ pub fn answer<N: ToName, D: ComposeRecordData>(
 
 /// A builder for a message of at most `limit` octets.
 fn limited(alloc: Global, limit: usize) -> Result<MessageBuilder<Vec<u8>>, PushError>
-    ensures stands { IfOk result (StandsFor InBuilder Plain (with_limit limit fresh)) }
+    ensures represents { IfOk result (Represents InBuilder Plain (with_limit limit fresh)) }
     ensures memory { IfErr result (λ error. error ≡ PushError.OutOfMemory) }
 {
     let mut builder = MessageBuilder::new_vec(alloc)?;

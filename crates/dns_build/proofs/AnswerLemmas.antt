@@ -13,7 +13,7 @@ use Rattle.dns_section.specs.QuestionsFrom.{questions_from}
 use Rattle.dns_section.specs.Skipping.{items_left}
 use Rattle.dns_section.specs.declared.question_section.QuestionSection.{QuestionSection}
 use Rattle.dns_build.specs.Answers.{AnswersQuestion, AreAccepted, AnswerHeaderIsSet, Asks, GivesEither, IsEither}
-use Rattle.dns_build.specs.Standing.{Built, StandsFor, MovesState, InEach}
+use Rattle.dns_build.specs.BuilderStates.{Built, Represents, MovesState, InEach}
 use Rattle.dns_build.specs.State.{State, InQuestion, with_question, with_questions}
 use Rattle.dns_build.specs.declared.push_error.PushError.{PushError}
 
@@ -57,22 +57,22 @@ module _ (room : Option ℕ) (grows : Bool) (rule : Rule) (s : State) where
     pub first : List QuestionItem
     pub all : xs ≡ first ++ rest
     pub accepted : AreAccepted room grows rule s first
-    pub stands : StandsFor InQuestion rule (with_questions first s) now
+    pub represents : Represents InQuestion rule (with_questions first s) now
 
   -- at first all questions remain
-  pub begins : (xs rest : List QuestionItem) (now : Built) → rest ≡ xs → StandsFor InQuestion rule s now → Pushing xs rest now
-  begins xs rest now is stands = record {
+  pub begins : (xs rest : List QuestionItem) (now : Built) → rest ≡ xs → Represents InQuestion rule s now → Pushing xs rest now
+  begins xs rest now is represents = record {
     first = [];
     all = sym is;
     accepted = none_accepted;
-    stands = let same : s ≡ with_questions [] s = λ i. record s { questions = sym (append-nil s.questions) i } in subst (λ (t : State). StandsFor InQuestion rule t now) same stands;
+    represents = let same : s ≡ with_questions [] s = λ i. record s { questions = sym (append-nil s.questions) i } in subst (λ (t : State). Represents InQuestion rule t now) same represents;
   }
 
   -- at the end none remains
   pub ends : (xs rest : List QuestionItem) (now : Built) → rest ≡ [] → Pushing xs rest now → Asks room grows rule s xs (Ok tt) now
   ends xs rest now is p =
       let all : p.first ≡ xs = sym (append-nil p.first) ∙ ap (λ (ys : List QuestionItem). p.first ++ ys) (sym is) ∙ sym p.all in
-      subst (λ (ys : List QuestionItem). AreAccepted room grows rule s ys × StandsFor InQuestion rule (with_questions ys s) now) all (p.accepted, p.stands)
+      subst (λ (ys : List QuestionItem). AreAccepted room grows rule s ys × Represents InQuestion rule (with_questions ys s) now) all (p.accepted, p.represents)
 
   module _ (xs rest : List QuestionItem) (x : QuestionItem) (less : List QuestionItem) (is : rest ≡ x ∷ less) (old new : Built) where
     after : (p : Pushing xs rest old) → xs ≡ p.first ++ x ∷ less
@@ -84,18 +84,18 @@ module _ (room : Option ℕ) (grows : Bool) (rule : Rule) (s : State) where
     takes-next fits moves p = record {
       first = p.first ++ x ∷ [];
       all = after p ∙ sym (append_assoc p.first (x ∷ []) less);
-      accepted = one_accepted p.first x p.accepted (fits (with_questions p.first s) p.stands);
-      stands =
+      accepted = one_accepted p.first x p.accepted (fits (with_questions p.first s) p.represents);
+      represents =
           let same : with_question x (with_questions p.first s) ≡ with_questions (p.first ++ x ∷ []) s = λ i. record s { questions = append_assoc s.questions p.first (x ∷ []) i } in
-          subst (λ (t : State). StandsFor InQuestion rule t new) same (moves (with_questions p.first s) p.stands);
+          subst (λ (t : State). Represents InQuestion rule t new) same (moves (with_questions p.first s) p.represents);
     }
 
     -- pushing the next question fails
     pub refuses-next : (e : PushError) → InEach InQuestion rule old (λ t. AnswersQuestion room grows rule x t (Err e)) → new ≡ old → Pushing xs rest old → Asks room grows rule s xs (Err e) new
     refuses-next e refused same p = (
       p.first,
-      record { accepted = p.accepted; next = x; others = less; all = after p; refused = refused (with_questions p.first s) p.stands },
-      subst (StandsFor InQuestion rule (with_questions p.first s)) (sym same) p.stands,
+      record { accepted = p.accepted; next = x; others = less; all = after p; refused = refused (with_questions p.first s) p.represents },
+      subst (Represents InQuestion rule (with_questions p.first s)) (sym same) p.represents,
     )
 
 -- after a question that was read come the other readable ones

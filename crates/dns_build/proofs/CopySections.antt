@@ -5,7 +5,7 @@ use Rattle.dns_octets.specs.declared.error.ParseError.{ParseError}
 use Rattle.dns_name.specs.Names.{Fault, fault_of}
 use Rattle.dns_wire.specs.Pieces.{Rule}
 use Rattle.dns_item.specs.Items.{RecordItem, SkipsRecord, RecordSkipFaultAt}
-use Rattle.dns_item.specs.ParsedRecord.{StandingRecord}
+use Rattle.dns_item.specs.ParsedRecord.{EncodedRecord}
 use Rattle.dns_item.specs.declared.parsed_record.ParsedRecord.{ParsedRecord}
 use Rattle.dns_section.specs.Reading.{StopsPassing}
 use Rattle.dns_section.specs.RecordSection.{octets_of, position, to_come, records_left, BeginsSection}
@@ -18,7 +18,7 @@ use Rattle.dns_build.specs.CopyRecords.{record_sections, CopiesList, CopiesSecti
 use Rattle.dns_build.specs.CopyRecords.CopiesSection.{started, unstarted}
 use Rattle.dns_build.specs.CopyRecords.CopiesSections.{none, copied, stopped}
 use Rattle.dns_build.specs.State.{Stage, InAnswer, InAdditional, State, stage_of, up_to, move_to}
-use Rattle.dns_build.specs.Standing.{Built, StandsFor, MovesState, InEach}
+use Rattle.dns_build.specs.BuilderStates.{Built, Represents, MovesState, InEach}
 use Rattle.dns_build.specs.declared.copy_records_error.CopyRecordsError.{CopyRecordsError}
 use Rattle.dns_build.specs.declared.copy_records_error.CopyRecordsError.TheVariants.{Parse}
 
@@ -43,46 +43,46 @@ module _ {F R : Type 0} (call : F → ParsedRecord → Option R → F → Type 0
   -- some sections are copied, `which` and `sections` remain, and the builder has moved to `which`
   pub record Entered (f : F) (s : State) (which : Section) (sections : List Section) (g : F) (now : Built) : Type 0 where
     pub state : State
-    pub stands : StandsFor (stage_of which) rule (move_to (stage_of which) state) now
+    pub represents : Represents (stage_of which) rule (move_to (stage_of which) state) now
     pub rest : (result : Result (Unit {0}) CopyRecordsError) (h : F) (u : State) → CopiesSections call item room grows rule b (which ∷ sections) g state result h u
         → CopiesSections call item room grows rule b record_sections f s result h u
 
   -- some sections are copied, and `sections` remain
   pub record Left (f : F) (s : State) (stage : Stage) (sections : List Section) (g : F) (now : Built) : Type 0 where
     pub state : State
-    pub stands : StandsFor stage rule state now
+    pub represents : Represents stage rule state now
     pub rest : (result : Result (Unit {0}) CopyRecordsError) (h : F) (u : State) → CopiesSections call item room grows rule b sections g state result h u
         → CopiesSections call item room grows rule b record_sections f s result h u
 
   -- nothing is copied yet
-  pub enters_first : (f : F) (s : State) (now : Built) → StandsFor InAnswer rule s now → Entered f s Answer (Authority ∷ Additional ∷ []) f now
-  enters_first f s now stands = record {
+  pub enters_first : (f : F) (s : State) (now : Built) → Represents InAnswer rule s now → Entered f s Answer (Authority ∷ Additional ∷ []) f now
+  enters_first f s now represents = record {
     state = s;
-    stands = subst (λ (t : State). StandsFor InAnswer rule t now) (in_answer_already s stands.here stands.last) stands;
+    represents = subst (λ (t : State). Represents InAnswer rule t now) (in_answer_already s represents.here represents.last) represents;
     rest = λ result h u c. c;
   }
 
   -- the builder moves to the next section
   pub enters : (f : F) (s : State) (stage : Stage) (which : Section) (sections : List Section) (g : F) (now new : Built) → Left f s stage (which ∷ sections) g now
       → MovesState stage (stage_of which) rule (move_to (stage_of which)) now new → Entered f s which sections g new
-  enters f s stage which sections g now new p moves = record { state = p.state; stands = moves p.state p.stands; rest = p.rest }
+  enters f s stage which sections g now new p moves = record { state = p.state; represents = moves p.state p.represents; rest = p.rest }
 
   -- copying the records of a section from its start copies the section
   from_start : (which : Section) (cursor : RecordSection) (f g : F) (s t : State) (result : Result (Unit {0}) CopyRecordsError) → BeginsSection which b cursor
       → CopiesList call item room grows rule (stage_of which) (records_left cursor) f s result g t → CopiesSection call item room grows rule b which f s result g t
   from_start which cursor f g s t result begins copies =
-      started (position cursor) begins.start (subst (λ (xs : List (Result StandingRecord Fault)). CopiesList call item room grows rule (stage_of which) xs f s result g t) begins.fresh.records copies)
+      started (position cursor) begins.start (subst (λ (xs : List (Result EncodedRecord Fault)). CopiesList call item room grows rule (stage_of which) xs f s result g t) begins.fresh.records copies)
 
   -- a section is copied
   pub leaves : (f : F) (s : State) (which : Section) (sections : List Section) (g h : F) (now new : Built) (cursor : RecordSection) → Entered f s which sections g now → BeginsSection which b cursor
       → InEach (stage_of which) rule now (λ t. CopiesListTo call item room grows rule (stage_of which) (records_left cursor) g t (Ok tt) h new) → Left f s (stage_of which) sections h new
   leaves f s which sections g h now new cursor p begins copies =
-      let made = copies (move_to (stage_of which) p.state) p.stands in
-      record { state = made.0; stands = made.2; rest = λ result k u c. p.rest result k u (copied (from_start which cursor g h _ made.0 (Ok tt) begins made.1) c) }
+      let made = copies (move_to (stage_of which) p.state) p.represents in
+      record { state = made.0; represents = made.2; rest = λ result k u c. p.rest result k u (copied (from_start which cursor g h _ made.0 (Ok tt) begins made.1) c) }
 
   -- all sections are copied
   pub leaves_last : (f : F) (s : State) (g : F) (now : Built) → Left f s InAdditional [] g now → CopiesMessage call item room grows rule b f s (Ok now)
-  leaves_last f s g now p = (g, p.state, p.rest (Ok tt) g p.state none, p.stands)
+  leaves_last f s g now p = (g, p.state, p.rest (Ok tt) g p.state none, p.represents)
 
   -- a section has no start
   pub stops_before : (f : F) (s : State) (which : Section) (sections : List Section) (g : F) (now : Built) (e : ParseError) → Entered f s which sections g now → StartFault which b (fault_of e)
@@ -93,5 +93,5 @@ module _ {F R : Type 0} (call : F → ParsedRecord → Option R → F → Type 0
   pub stops_within : (f : F) (s : State) (which : Section) (sections : List Section) (g h : F) (now new : Built) (cursor : RecordSection) (e : CopyRecordsError) → Entered f s which sections g now → BeginsSection which b cursor
       → InEach (stage_of which) rule now (λ t. CopiesListTo call item room grows rule (stage_of which) (records_left cursor) g t (Err e) h new) → CopiesMessage call item room grows rule b f s (Err e)
   stops_within f s which sections g h now new cursor e p begins copies =
-      let made = copies (move_to (stage_of which) p.state) p.stands in
+      let made = copies (move_to (stage_of which) p.state) p.represents in
       (h, made.0, p.rest (Err e) h made.0 (stopped (from_start which cursor g h _ made.0 (Err e) begins made.1)))

@@ -5,7 +5,7 @@ use Rattle.std.specs.Prelude.{Option, Some, None, option_map, Result, Ok}
 use Rattle.dns_name.specs.Names.{Fault}
 use Rattle.dns_wire.specs.Pieces.{Rule}
 use Rattle.dns_item.specs.Items.{RecordItem}
-use Rattle.dns_item.specs.ParsedRecord.{StandingRecord, standing_record}
+use Rattle.dns_item.specs.ParsedRecord.{EncodedRecord, encoded_record}
 use Rattle.dns_item.specs.declared.parsed_record.ParsedRecord.{ParsedRecord}
 use Rattle.dns_section.specs.declared.section.Section.{Section}
 use Rattle.dns_section.specs.declared.section.Section.TheVariants.{Answer, Authority, Additional}
@@ -16,7 +16,7 @@ use Rattle.dns_build.specs.CopyRecords.CopiesSections.{none as no_section, copie
 use Rattle.dns_build.specs.KeptRecords.{with_copies, Keeps, KeepsSection, KeepsAll}
 use Rattle.dns_build.specs.KeptRecords.Keeps.{none, dropped, kept}
 use Rattle.dns_build.specs.State.{Stage, InBuilder, InQuestion, InAnswer, InAuthority, InAdditional, State, stage_of, with_record, with_records, move_to}
-use Rattle.dns_build.specs.Standing.{Built, StandsFor}
+use Rattle.dns_build.specs.BuilderStates.{Built, Represents}
 use Rattle.dns_build.specs.declared.copy_records_error.CopyRecordsError.{CopyRecordsError}
 
 -- appending no records changes nothing
@@ -36,13 +36,13 @@ one_more InAdditional x xs s = λ i. record s { additionals = append_assoc s.add
 
 module _ {F R : Type 0} (call : F → ParsedRecord → Option R → F → Type 0) (item : R → RecordItem) (room : Option ℕ) (grows : Bool) (rule : Rule) where
   -- the closure returns some records of a reading, and the state has them in its section
-  record KeepsList (stage : Stage) (xs : List (Result StandingRecord Fault)) (f : F) (s : State) (g : F) (t : State) : Type 0 where
+  record KeepsList (stage : Stage) (xs : List (Result EncodedRecord Fault)) (f : F) (s : State) (g : F) (t : State) : Type 0 where
     items : List RecordItem
     keeps : Keeps call item xs f items g
     left : t ≡ with_records stage items s
 
-  keeps_more : (stage : Stage) (shown : ParsedRecord) (answer : Option R) (xs : List (Result StandingRecord Fault)) (f g h : F) (s t u : State)
-      → call f shown answer g → PushesKept room grows rule stage (option_map item answer) s (Ok tt) t → KeepsList stage xs g t h u → KeepsList stage (Ok (standing_record shown) ∷ xs) f s h u
+  keeps_more : (stage : Stage) (shown : ParsedRecord) (answer : Option R) (xs : List (Result EncodedRecord Fault)) (f g h : F) (s t u : State)
+      → call f shown answer g → PushesKept room grows rule stage (option_map item answer) s (Ok tt) t → KeepsList stage xs g t h u → KeepsList stage (Ok (encoded_record shown) ∷ xs) f s h u
   keeps_more stage shown None xs f g h s t u called pushed k = record {
     items = k.items;
     keeps = dropped shown called k.keeps;
@@ -54,11 +54,11 @@ module _ {F R : Type 0} (call : F → ParsedRecord → Option R → F → Type 0
     left = k.left ∙ ap (with_records stage k.items) pushed.1 ∙ one_more stage (item answer) k.items s;
   }
 
-  keeps_list : (stage : Stage) {xs : List (Result StandingRecord Fault)} {f g : F} {s t : State} {result : Result (Unit {0}) CopyRecordsError} → CopiesList call item room grows rule stage xs f s result g t → result ≡ Ok tt
+  keeps_list : (stage : Stage) {xs : List (Result EncodedRecord Fault)} {f g : F} {s t : State} {result : Result (Unit {0}) CopyRecordsError} → CopiesList call item room grows rule stage xs f s result g t → result ≡ Ok tt
       → KeepsList stage xs f s g t
   keeps_list stage {s = s} no_record e = record { items = []; keeps = none; left = no_records stage s }
   keeps_list stage {f = f} {g = h} {s = s} {t = u} (record_copied {xs = xs} one rest) e =
-      subst (λ (x : StandingRecord). KeepsList stage (Ok x ∷ xs) f s h u) one.stands
+      subst (λ (x : EncodedRecord). KeepsList stage (Ok x ∷ xs) f s h u) one.represents
       (keeps_more stage one.shown one.kept xs f _ h s _ u one.called one.pushed (keeps_list stage rest e))
   keeps_list stage (refused one) e = absurd (cc)
   keeps_list stage fault e = absurd (cc)
@@ -106,5 +106,5 @@ module _ {F R : Type 0} (call : F → ParsedRecord → Option R → F → Type 0
         of_answers = x.keeps;
         of_authorities = y.keeps;
         of_additionals = z.keeps;
-        stands = subst (λ (t : State). StandsFor InAdditional rule t new) is m.3;
+        represents = subst (λ (t : State). Represents InAdditional rule t new) is m.3;
       }

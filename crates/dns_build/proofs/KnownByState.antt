@@ -2,7 +2,7 @@
 use Rattle.std.proofs.Common.{◌≡◌, ◌∙◌, sym, refl, subst, List}
 use Rattle.dns_item.specs.Items.{RecordItem}
 use Rattle.dns_build.specs.KnownByState.{BuildersAreKnown, PushesLeaveNothing, RewindsLeaveNothing}
-use Rattle.dns_build.specs.Standing.{StandsFor}
+use Rattle.dns_build.specs.BuilderStates.{Represents}
 use Rattle.dns_build.specs.State.{Stage, InBuilder, InQuestion, InAnswer, InAuthority, InAdditional, State, with_questions, with_records, rewound}
 
 pub builders_are_known : BuildersAreKnown
@@ -24,7 +24,7 @@ records_rewound InAdditional xs s = refl
 leave_nothing : {X : Type 0} (stage : Stage) (with_items : List X → State → State) → ((xs : List X) (s : State) → rewound stage (with_items xs s) ≡ rewound stage s)
     → PushesLeaveNothing stage with_items
 leave_nothing stage with_items out rule s xs empty full new emptied pushed moves =
-    builders_are_known stage rule (rewound stage s) new empty (subst (λ (t : State). StandsFor stage rule t new) (out xs s) (moves (with_items xs s) pushed)) emptied
+    builders_are_known stage rule (rewound stage s) new empty (subst (λ (t : State). Represents stage rule t new) (out xs s) (moves (with_items xs s) pushed)) emptied
 
 pub rewinds_leave_nothing : RewindsLeaveNothing
 rewinds_leave_nothing = record {

@@ -14,7 +14,7 @@ use Rattle.dns_opt_builder.specs.declared.builder.OptBuilder.{OptBuilder}
 use Rattle.dns_item.specs.Items.{RecordItem}
 use Rattle.dns_build.specs.Opt.{opt_record, OptAnswers}
 use Rattle.dns_build.specs.State.{most_entries}
-use Rattle.dns_build.specs.Standing.{PushAnswers, push_error}
+use Rattle.dns_build.specs.BuilderStates.{PushAnswers, push_error}
 use Rattle.dns_build.specs.declared.push_error.PushError.{PushError}
 use Rattle.dns_build.specs.declared.push_error.PushError.TheVariants.{CountOverflow, LimitExceeded, ShortBuf, OutOfMemory}
 

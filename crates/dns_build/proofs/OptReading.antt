@@ -7,7 +7,7 @@ use Rattle.std.specs.List.{cons_option}
 use Rattle.std.specs.Option.{option_map_or}
 use Rattle.std.specs.Prelude.{◌==◌, if◌then◌else◌, IsTrue, Option, Some, None, option_map, option_and_then, Result, Ok}
 use Rattle.dns_name.specs.Names.{Fault}
-use Rattle.dns_wire.specs.Parts.{Part, PartsStand}
+use Rattle.dns_wire.specs.Parts.{Part, PartsAt}
 use Rattle.dns_wire.specs.Parts.Part.{Octets}
 use Rattle.dns_code.specs.Header.{header_octets, fields_in}
 use Rattle.dns_code.proofs.theory.HeaderLemmas.{rcode_changed}
@@ -21,7 +21,7 @@ use Rattle.dns_data.specs.RecordData.{only}
 use Rattle.dns_item.specs.Items.{RecordItem, RecordEntry, ReadsRecord, TellsRecord}
 use Rattle.dns_item.specs.DataAnswer.{HasSpan}
 use Rattle.dns_item.specs.DataAnswer.IsDataAnswer.{whole}
-use Rattle.dns_item.specs.ParsedRecord.{StandingRecord}
+use Rattle.dns_item.specs.ParsedRecord.{EncodedRecord}
 use Rattle.dns_item.specs.RecordReading.{item_of, HasData}
 use Rattle.dns_item.specs.TypedRecords.{with_parts, laid_out, answer_to}
 use Rattle.dns_item.proofs.theory.TypedLemmas.{data_is_answered}
@@ -42,7 +42,7 @@ use Rattle.dns_build.specs.State.{State}
 use Rattle.dns_build.proofs.OptLemmas.{same_item}
 
 -- entries that were read from octets, as the items of a reading
-abbrev pub items_of : List ℕ → List RecordEntry → List (Result StandingRecord Fault)
+abbrev pub items_of : List ℕ → List RecordEntry → List (Result EncodedRecord Fault)
 items_of b entries = let read : List (Result RecordEntry Fault) = map Ok entries in map (in_octets b) read
 
 -- a reading without a fault is the one reading at its offset
@@ -62,7 +62,7 @@ pub first_read : {b : List ℕ} {n p : ℕ} {e : RecordEntry} {xs : List (Result
 first_read (entry {n = n} {q = q} reads rest) = (n, q, reads, rest)
 
 -- octets that fill the RDATA are all octets from its start to its end
-data_filled : (b : List ℕ) (start end : ℕ) (octets : List ℕ) → PartsStand b end start (Octets octets ∷ []) → drop start (take end b) ≡ octets
+data_filled : (b : List ℕ) (start end : ℕ) (octets : List ℕ) → PartsAt b end start (Octets octets ∷ []) → drop start (take end b) ≡ octets
 data_filled b start end octets h =
     let size : length octets ≡ start + length octets - start = omega arith in
     ap (λ (n : ℕ). drop start (take n b)) (sym h.1) ∙ drop-take start (length octets) b ∙ ap (λ (n : ℕ). take n (drop start b)) size ∙ h.0
@@ -77,11 +77,11 @@ gathered_accepted g ok =
 -- an entry that was read as the OPT record of `g`
 module _ (g : Gathered) (b : List ℕ) (p q : ℕ) (e : RecordEntry) (ok : IsGathered g) (reads : ReadsRecord b p q e) (tells : TellsRecord b e (opt_record g)) where
   -- the entry with the octets that it is read from
-  abbrev standing : StandingRecord
-  standing = record { octets = b; entry = e }
+  abbrev encoded : EncodedRecord
+  encoded = record { octets = b; entry = e }
 
   -- its RDATA is within the octets
-  data_within : HasSpan standing
+  data_within : HasSpan encoded
   data_within =
       let filled = tells.parts.1 in
       let end = reads.data_end in
@@ -89,23 +89,23 @@ module _ (g : Gathered) (b : List ℕ) (p q : ℕ) (e : RecordEntry) (ok : IsGat
       record { start = omega arith; end = omega arith }
 
   -- its RDATA is the options, by the layout of OPT
-  data_stands : HasData b e opt_layout (Octets (put_options g.options) ∷ [])
-  data_stands =
+  data_at : HasData b e opt_layout (Octets (put_options g.options) ∷ [])
+  data_at =
       let filled = data_filled b e.data_start e.data_end (put_options g.options) tells.parts in
       let within = data_within.end in
       let end : e.data_end ≡ length (take e.data_end b) = grind (arith, common_steps) in
       (end, ap (λ (octets : List ℕ). Octets octets ∷ []) (sym filled), rw filled (gathered_accepted g ok))
 
   -- so `Opt` reads it as the record that was pushed
-  opt_answered : answer_to (only 41 opt_layout) standing ≡ Some (Ok (opt_record g))
+  opt_answered : answer_to (only 41 opt_layout) encoded ≡ Some (Ok (opt_record g))
   opt_answered =
       let parts : List Part = Octets (put_options g.options) ∷ [] in
-      ap (λ (rtype : ℕ). option_map (laid_out standing) (only 41 opt_layout rtype)) tells.rtype
-      ∙ ap (λ (r : Result (List Part) Fault). Some (with_parts e r)) (data_is_answered.only standing opt_layout (Ok parts) (whole data_within data_stands))
+      ap (λ (rtype : ℕ). option_map (laid_out encoded) (only 41 opt_layout rtype)) tells.rtype
+      ∙ ap (λ (r : Result (List Part) Fault). Some (with_parts e r)) (data_is_answered.only encoded opt_layout (Ok parts) (whole data_within data_at))
       ∙ ap (λ (x : RecordItem). let r : Result RecordItem Fault = Ok x in Some r) (same_item (item_of e parts) g tells.owner tells.rtype tells.class tells.ttl refl)
 
 -- `Opt` skips a record of another type
-others_unanswered : (x : StandingRecord) → (x.entry.rtype ≡ 41 → ⊥) → answer_to (only 41 opt_layout) x ≡ None
+others_unanswered : (x : EncodedRecord) → (x.entry.rtype ≡ 41 → ⊥) → answer_to (only 41 opt_layout) x ≡ None
 others_unanswered x other =
     let e : (x.entry.rtype == 41) ≡ false = search (rules, tests) in
     ap (λ (t : Bool). option_map (laid_out x) (if t then Some opt_layout else None)) e
@@ -159,7 +159,7 @@ opt_read : (g : Gathered) (s : State) (b : List ℕ) (xs ys : List RecordItem) �
 opt_read g s b xs ys is ok none h =
     let list = h.additionals in
     let tell = subst (λ (items : List RecordItem). AllTell b list.entries items) is list.tell in
-    ap (λ (items : List (Result StandingRecord Fault)). option_and_then opt_said (first_opt_in items)) (additionals_read s b h)
+    ap (λ (items : List (Result EncodedRecord Fault)). option_and_then opt_said (first_opt_in items)) (additionals_read s b h)
     ∙ ap (option_and_then opt_said) (first_told g b (additional_count b) h.additionals_start xs ys list.entries ok none list.reading tell)
     ∙ said_gathered g ok
 

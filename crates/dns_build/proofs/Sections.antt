@@ -8,7 +8,7 @@ use Rattle.dns_question.specs.Questions.{QuestionItem, IsQuestion, put_question}
 use Rattle.dns_item.specs.Items.{RecordItem, IsRecord, put_record}
 use Rattle.dns_question.proofs.theory.QuestionItemLemmas.{questions_grow}
 use Rattle.dns_item.proofs.theory.ItemLemmas.{records_grow}
-use Rattle.dns_build.specs.Standing.{count_at, counted, emptied_from}
+use Rattle.dns_build.specs.BuilderStates.{count_at, counted, emptied_from}
 use Rattle.dns_section.specs.declared.section.Section.{Section}
 use Rattle.dns_section.specs.declared.section.Section.TheVariants.{Answer, Authority, Additional}
 use Rattle.dns_build.specs.State.{fold, stage_of, Stage, InBuilder, InQuestion, InAnswer, InAuthority, State, Every, with_question, with_record, records_at, up_to}

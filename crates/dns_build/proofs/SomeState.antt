@@ -4,21 +4,21 @@ use Rattle.std.proofs.Math.Logic.{∥∥₁_map, ∥∥₁_elim}
 use Rattle.std.specs.Coded.{coded_ℕ}
 use base.Stored.{Coded-set}
 use Rattle.dns_wire.specs.Pieces.{Rule}
-use Rattle.dns_build.specs.Standing.{Built, MovesState, StandsForSome, starts_of}
+use Rattle.dns_build.specs.BuilderStates.{Built, MovesState, RepresentsSome, starts_of}
 use Rattle.dns_build.specs.State.{Stage, InBuilder, InQuestion, InAnswer, InAuthority, InAdditional, State}
 use Rattle.dns_build.specs.declared.push_error.PushError.{PushError}
 use Rattle.dns_build.proofs.Moves.{AnswersPush}
 use Rattle.dns_build.proofs.Steps.{record_depth}
 
 -- after a move
-pub some_moved : (from to : Stage) (rule : Rule) (after : State → State) (old new : Built) → MovesState from to rule after old new → StandsForSome from rule old → StandsForSome to rule new
+pub some_moved : (from to : Stage) (rule : Rule) (after : State → State) (old new : Built) → MovesState from to rule after old new → RepresentsSome from rule old → RepresentsSome to rule new
 some_moved from to rule after old new moves some = ∥∥₁_map some (λ p. (after p.0, moves p.0 p.1))
 
 -- after a push
 pub some_pushed : (stage : Stage) (room : Option ℕ) (grows : Bool) (rule : Rule) (after : State → State) (count : State → ℕ) (old new : Built) (result : Result (Unit {0}) PushError)
-    → AnswersPush stage room grows rule after count old new result → StandsForSome stage rule old → StandsForSome stage rule new
+    → AnswersPush stage room grows rule after count old new result → RepresentsSome stage rule old → RepresentsSome stage rule new
 some_pushed stage room grows rule after count old new (Ok u) push some = some_moved stage stage rule after old new push.accepted some
-some_pushed stage room grows rule after count old new (Err e) push some = subst (StandsForSome stage rule) (sym push.refused) some
+some_pushed stage room grows rule after count old new (Err e) push some = subst (RepresentsSome stage rule) (sym push.refused) some
 
 -- a builder has the starts of the record sections up to its stage
 starts_count : (stage : Stage) (rule : Rule) (s : State) → length (starts_of stage rule s) ≡ record_depth stage
@@ -28,6 +28,6 @@ starts_count InAnswer rule s = refl
 starts_count InAuthority rule s = refl
 starts_count InAdditional rule s = refl
 
-pub some_starts : (stage : Stage) (rule : Rule) (b : Built) → StandsForSome stage rule b → length b.starts ≡ record_depth stage
+pub some_starts : (stage : Stage) (rule : Rule) (b : Built) → RepresentsSome stage rule b → length b.starts ≡ record_depth stage
 some_starts stage rule b some =
     ∥∥₁_elim some (Coded-set coded_ℕ _ _) (λ p. ap (λ (ns : List ℕ). length ns) p.1.starts ∙ starts_count stage rule p.0)

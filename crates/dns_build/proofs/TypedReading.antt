@@ -10,12 +10,12 @@ use Rattle.dns_name.specs.Names.{Fault}
 use Rattle.dns_name.specs.ParsedName.{labels}
 use Rattle.dns_name.specs.declared.parsed_name.ParsedName.{ParsedName}
 use Rattle.dns_data.specs.Layout.{Layout, IsLaidOut}
-use Rattle.dns_data.proofs.theory.StandingParts.{standing_parts_read}
+use Rattle.dns_data.proofs.theory.EncodedParts.{encoded_parts_read}
 use Rattle.dns_wire.specs.Parts.{Part}
 use Rattle.dns_item.specs.Items.{RecordItem, RecordEntry, ReadsRecord, TellsRecord}
 use Rattle.dns_item.specs.DataAnswer.{HasSpan}
 use Rattle.dns_item.specs.DataAnswer.IsDataAnswer.{whole}
-use Rattle.dns_item.specs.ParsedRecord.{StandingRecord}
+use Rattle.dns_item.specs.ParsedRecord.{EncodedRecord}
 use Rattle.dns_item.specs.Record.{record_item}
 use Rattle.dns_item.specs.RecordReading.{item_of}
 use Rattle.dns_item.specs.declared.record.Record.{Record}
@@ -31,7 +31,7 @@ use Rattle.dns_read.specs.SectionStarts.{records_of}
 use Rattle.dns_read.proofs.theory.SectionStartLemmas.{start_found}
 use Rattle.dns_build.specs.MessageOf.{AllTell, GivesRecords, ReadsBack}
 use Rattle.dns_build.specs.State.{State}
-use Rattle.dns_build.specs.TypedReading.{pushed, IsLaidOutBy, IsTakenBy, taken, TypedRecordsReadBack, AnyRecordsReadBack, StandsAs, AllStandAs, PushedRecordsStand, of_class_in, TypedRecordsInReadBack, ToRecordReadsBack, ToAnyRecordReadsBack}
+use Rattle.dns_build.specs.TypedReading.{pushed, IsLaidOutBy, IsTakenBy, taken, TypedRecordsReadBack, AnyRecordsReadBack, EncodedAs, AllEncodedAs, PushedRecordsAreEncoded, of_class_in, TypedRecordsInReadBack, ToRecordReadsBack, ToAnyRecordReadsBack}
 use Rattle.dns_build.proofs.OptReading.{items_of, records_in-entries, first_read}
 
 -- the start of a section, and its records from there
@@ -64,38 +64,38 @@ module _ (x : RecordItem) (b : List ℕ) (p q : ℕ) (e : RecordEntry) (reads : 
   -- each layout that accepts the parts reads `x`
   told : (layout : Layout) → IsLaidOut layout x.parts → laid_out (record { octets = b; entry = e }) layout ≡ Ok x
   told layout laid =
-      let stands = standing_parts_read b e.data_end e.data_start layout x.parts data_within.end tells.parts laid in
-      ap (with_parts e) (data_is_answered.only (record { octets = b; entry = e }) layout (Ok x.parts) (whole data_within stands))
+      let represents = encoded_parts_read b e.data_end e.data_start layout x.parts data_within.end tells.parts laid in
+      ap (with_parts e) (data_is_answered.only (record { octets = b; entry = e }) layout (Ok x.parts) (whole data_within represents))
       ∙ ap (λ (y : RecordItem). let r : Result RecordItem Fault = Ok y in r) (same_record e x tells.owner tells.rtype tells.class tells.ttl)
 
-  stands_as : StandsAs b x (record { octets = b; entry = e })
-  stands_as = record { octets = refl; there = data_within; parts = tells.parts; item = same_record e x tells.owner tells.rtype tells.class tells.ttl; answer = told }
+  encoded_as : EncodedAs b x (record { octets = b; entry = e })
+  encoded_as = record { octets = refl; there = data_within; parts = tells.parts; item = same_record e x tells.owner tells.rtype tells.class tells.ttl; answer = told }
 
 -- the same for all records
-all_stand_as : (xs : List RecordItem) (b : List ℕ) (n p : ℕ) (entries : List RecordEntry) → ReadingRecords b n p (map Ok entries) → AllTell b entries xs
-    → AllStandAs b xs (items_of b entries)
-all_stand_as [] b n p [] reading tell = tt
-all_stand_as [] b n p (e ∷ entries) reading tell = absurd tell
-all_stand_as (x ∷ xs) b n p [] reading tell = absurd tell
-all_stand_as (x ∷ xs) b n p (e ∷ entries) reading tell =
+all_encoded_as : (xs : List RecordItem) (b : List ℕ) (n p : ℕ) (entries : List RecordEntry) → ReadingRecords b n p (map Ok entries) → AllTell b entries xs
+    → AllEncodedAs b xs (items_of b entries)
+all_encoded_as [] b n p [] reading tell = tt
+all_encoded_as [] b n p (e ∷ entries) reading tell = absurd tell
+all_encoded_as (x ∷ xs) b n p [] reading tell = absurd tell
+all_encoded_as (x ∷ xs) b n p (e ∷ entries) reading tell =
     let r = first_read reading in
-    (stands_as x b p r.1 e r.2 tell.0, all_stand_as xs b r.0 r.1 entries r.3 tell.1)
+    (encoded_as x b p r.1 e r.2 tell.0, all_encoded_as xs b r.0 r.1 entries r.3 tell.1)
 
-pub pushed_records_stand : PushedRecordsStand
-pushed_records_stand s b h which =
+pub pushed_records_are_encoded : PushedRecordsAreEncoded
+pushed_records_are_encoded s b h which =
     let found = section_read s b which h in
-    subst (AllStandAs b (pushed which s)) (sym (section_is b which found.0 (pushed which s) found.1 found.2))
-    (all_stand_as (pushed which s) b (record_count which b) found.0 found.2.entries found.2.reading found.2.tell)
+    subst (AllEncodedAs b (pushed which s)) (sym (section_is b which found.0 (pushed which s) found.1 found.2))
+    (all_encoded_as (pushed which s) b (record_count which b) found.0 found.2.entries found.2.reading found.2.tell)
 
 module _ (layouts : ℕ → Option Layout) (b : List ℕ) where
   -- what a data type yields of such a record
-  answered : (x : RecordItem) (standing : StandingRecord) → StandsAs b x standing → IsLaidOutBy layouts x
-      → answer_to layouts standing ≡ option_map (λ (layout : Layout). let r : Result RecordItem Fault = Ok x in r) (layouts x.rtype)
-  answered x standing h laid =
-      ap (λ (y : RecordItem). option_map (laid_out standing) (layouts y.rtype)) h.item ∙ by (layouts x.rtype) laid
+  answered : (x : RecordItem) (encoded : EncodedRecord) → EncodedAs b x encoded → IsLaidOutBy layouts x
+      → answer_to layouts encoded ≡ option_map (λ (layout : Layout). let r : Result RecordItem Fault = Ok x in r) (layouts x.rtype)
+  answered x encoded h laid =
+      ap (λ (y : RecordItem). option_map (laid_out encoded) (layouts y.rtype)) h.item ∙ by (layouts x.rtype) laid
     where
       by : (o : Option Layout) → IfSome o (λ layout. IsLaidOut layout x.parts)
-          → option_map (laid_out standing) o ≡ option_map (λ (layout : Layout). let r : Result RecordItem Fault = Ok x in r) o
+          → option_map (laid_out encoded) o ≡ option_map (λ (layout : Layout). let r : Result RecordItem Fault = Ok x in r) o
       by None laid = refl
       by (Some layout) laid = ap (λ (r : Result RecordItem Fault). Some r) (h.answer layout laid)
 
@@ -106,20 +106,20 @@ module _ (layouts : ℕ → Option Layout) (b : List ℕ) where
   first_taken x xs (Some layout) = refl
 
   -- what it yields of all records
-  all_answered : (xs : List RecordItem) (items : List (Result StandingRecord Fault)) → AllStandAs b xs items → All (IsLaidOutBy layouts) xs
+  all_answered : (xs : List RecordItem) (items : List (Result EncodedRecord Fault)) → AllEncodedAs b xs items → All (IsLaidOutBy layouts) xs
       → limited layouts items ≡ map Ok (taken layouts xs)
   all_answered [] [] h laid = refl
   all_answered [] (item ∷ items) h laid = absurd h
   all_answered (x ∷ xs) [] h laid = absurd h
   all_answered (x ∷ xs) (Err f ∷ items) h laid = absurd h.0
-  all_answered (x ∷ xs) (Ok standing ∷ items) h laid =
-      let here = answered x standing h.0 (All-head (IsLaidOutBy layouts) x xs laid) in
+  all_answered (x ∷ xs) (Ok encoded ∷ items) h laid =
+      let here = answered x encoded h.0 (All-head (IsLaidOutBy layouts) x xs laid) in
       let others = all_answered xs items h.1 (All-tail (IsLaidOutBy layouts) x xs laid) in
       (λ i. cons_option (here i) (others i)) ∙ first_taken x (taken layouts xs) (layouts x.rtype)
 
 pub typed_records_read_back : TypedRecordsReadBack
 typed_records_read_back s b h which layouts laid =
-    all_answered layouts b (pushed which s) (records_of which b) (pushed_records_stand s b h which) laid
+    all_answered layouts b (pushed which s) (records_of which b) (pushed_records_are_encoded s b h which) laid
 
 -- a data type that accepts every type accepts all records
 all_taken : (layouts : ℕ → Layout) (xs : List RecordItem) → taken (every layouts) xs ≡ xs
@@ -131,25 +131,25 @@ any_records_read_back s b h which layouts laid =
     typed_records_read_back s b h which (every layouts) laid ∙ ap (λ (xs : List RecordItem). map Ok xs) (all_taken layouts (pushed which s))
 
 -- the records of class IN are there as they were pushed
-in_class_stand : (b : List ℕ) (xs : List RecordItem) (items : List (Result StandingRecord Fault)) → AllStandAs b xs items → AllStandAs b (of_class_in xs) (in_class_in items)
-in_class_stand b [] [] h = tt
-in_class_stand b [] (item ∷ items) h = absurd h
-in_class_stand b (x ∷ xs) [] h = absurd h
-in_class_stand b (x ∷ xs) (Err f ∷ items) h = absurd h.0
-in_class_stand b (x ∷ xs) (Ok standing ∷ items) h =
-    let class : standing.entry.class ≡ x.class = ap (λ (y : RecordItem). y.class) h.0.item in
-    let others = in_class_stand b xs items h.1 in
-    let item : Result StandingRecord Fault = Ok standing in
-    subst (λ (n : ℕ). AllStandAs b (of_class_in (x ∷ xs)) (if n == 1 then item ∷ in_class_in items else in_class_in items)) (sym class) (by (x.class == 1) others)
+in_class_encoded : (b : List ℕ) (xs : List RecordItem) (items : List (Result EncodedRecord Fault)) → AllEncodedAs b xs items → AllEncodedAs b (of_class_in xs) (in_class_in items)
+in_class_encoded b [] [] h = tt
+in_class_encoded b [] (item ∷ items) h = absurd h
+in_class_encoded b (x ∷ xs) [] h = absurd h
+in_class_encoded b (x ∷ xs) (Err f ∷ items) h = absurd h.0
+in_class_encoded b (x ∷ xs) (Ok encoded ∷ items) h =
+    let class : encoded.entry.class ≡ x.class = ap (λ (y : RecordItem). y.class) h.0.item in
+    let others = in_class_encoded b xs items h.1 in
+    let item : Result EncodedRecord Fault = Ok encoded in
+    subst (λ (n : ℕ). AllEncodedAs b (of_class_in (x ∷ xs)) (if n == 1 then item ∷ in_class_in items else in_class_in items)) (sym class) (by (x.class == 1) others)
   where
-    by : (t : Bool) → AllStandAs b (of_class_in xs) (in_class_in items)
-        → (let item : Result StandingRecord Fault = Ok standing in AllStandAs b (if t then x ∷ of_class_in xs else of_class_in xs) (if t then item ∷ in_class_in items else in_class_in items))
+    by : (t : Bool) → AllEncodedAs b (of_class_in xs) (in_class_in items)
+        → (let item : Result EncodedRecord Fault = Ok encoded in AllEncodedAs b (if t then x ∷ of_class_in xs else of_class_in xs) (if t then item ∷ in_class_in items else in_class_in items))
     by true others = (h.0, others)
     by false others = others
 
 pub typed_records_in_read_back : TypedRecordsInReadBack
 typed_records_in_read_back s b h which layouts laid =
-    all_answered layouts b (of_class_in (pushed which s)) (in_class_in (records_of which b)) (in_class_stand b (pushed which s) (records_of which b) (pushed_records_stand s b h which)) laid
+    all_answered layouts b (of_class_in (pushed which s)) (in_class_in (records_of which b)) (in_class_encoded b (pushed which s) (records_of which b) (pushed_records_are_encoded s b h which)) laid
 
 module _ {D : Type 0} (rtype_of : D → ℕ) (parts_of : D → List Part) where
   -- a result that says the record `x` is a record that says it
@@ -165,20 +165,20 @@ module _ {D : Type 0} (rtype_of : D → ℕ) (parts_of : D → List Part) where
   is_taken x (Err e) is = absurd (cc)
 
   -- what the layout of a record's type reads
-  one_taken : (layouts : ℕ → Option Layout) (b : List ℕ) (x : RecordItem) (standing : StandingRecord) → StandsAs b x standing → IsTakenBy layouts x
-      → answer_to layouts standing ≡ Some (Ok x)
-  one_taken layouts b x standing h laid = ap (λ (y : RecordItem). option_map (laid_out standing) (layouts y.rtype)) h.item ∙ by (layouts x.rtype) laid
+  one_taken : (layouts : ℕ → Option Layout) (b : List ℕ) (x : RecordItem) (encoded : EncodedRecord) → EncodedAs b x encoded → IsTakenBy layouts x
+      → answer_to layouts encoded ≡ Some (Ok x)
+  one_taken layouts b x encoded h laid = ap (λ (y : RecordItem). option_map (laid_out encoded) (layouts y.rtype)) h.item ∙ by (layouts x.rtype) laid
     where
-      by : (o : Option Layout) → IsSomeAnd o (λ layout. IsLaidOut layout x.parts) → option_map (laid_out standing) o ≡ Some (Ok x)
+      by : (o : Option Layout) → IsSomeAnd o (λ layout. IsLaidOut layout x.parts) → option_map (laid_out encoded) o ≡ Some (Ok x)
       by None laid = absurd laid
       by (Some layout) laid = ap (λ (r : Result RecordItem Fault). Some r) (h.answer layout laid)
 
   pub to_record_reads_back : (layouts : ℕ → Option Layout) → ToRecordReadsBack rtype_of parts_of layouts
-  to_record_reads_back layouts b x standing result h laid answers =
-      is_taken x result (answer_to-answered rtype_of parts_of standing h.there (layouts standing.entry.rtype) result answers ∙ one_taken layouts b x standing h laid)
+  to_record_reads_back layouts b x encoded result h laid answers =
+      is_taken x result (answer_to-answered rtype_of parts_of encoded h.there (layouts encoded.entry.rtype) result answers ∙ one_taken layouts b x encoded h laid)
 
   pub to_any_record_reads_back : (layouts : ℕ → Layout) → ToAnyRecordReadsBack rtype_of parts_of layouts
-  to_any_record_reads_back layouts b x standing result h laid answers =
+  to_any_record_reads_back layouts b x encoded result h laid answers =
       is_record x result
-      (laid_out-answered rtype_of parts_of standing h.there (layouts standing.entry.rtype) result answers
-      ∙ ap (λ (y : RecordItem). laid_out standing (layouts y.rtype)) h.item ∙ h.answer (layouts x.rtype) laid)
+      (laid_out-answered rtype_of parts_of encoded h.there (layouts encoded.entry.rtype) result answers
+      ∙ ap (λ (y : RecordItem). laid_out encoded (layouts y.rtype)) h.item ∙ h.answer (layouts x.rtype) laid)

@@ -10,7 +10,7 @@ use Rattle.dns_question.specs.Questions.{QuestionItem}
 use Rattle.dns_section.specs.QuestionsFrom.{questions_from}
 use Rattle.dns_section.specs.Sections.{question_count}
 use Rattle.dns_build.specs.Opt.{with_rcode}
-use Rattle.dns_build.specs.Standing.{Built, PushAnswers, StandsFor, size_after}
+use Rattle.dns_build.specs.BuilderStates.{Built, PushAnswers, Represents, size_after}
 use Rattle.dns_build.specs.State.{State, InQuestion, InAnswer, move_to, with_header, with_question, with_questions}
 use Rattle.dns_build.specs.declared.push_error.PushError.{PushError}
 
@@ -40,7 +40,7 @@ AnswersQuestion room grows rule x s = PushAnswers room grows s.limit (size_after
 
 -- a builder at the answer section represents the state, moved there
 abbrev pub IsAnswer : Rule → State → Built → Type 0
-IsAnswer rule s b = StandsFor InAnswer rule (move_to InAnswer s) b
+IsAnswer rule s b = Represents InAnswer rule (move_to InAnswer s) b
 
 -- the same, with the rcode SERVFAIL, which is 2
 abbrev pub IsFailure : Rule → State → Built → Type 0
@@ -63,8 +63,8 @@ module _ (room : Option ℕ) (grows : Bool) (rule : Rule) (s : State) where
 
   -- a question builder with all questions, or with those before the one that fails
   abbrev pub Asks : List QuestionItem → Result (Unit {0}) PushError → Built → Type 0
-  Asks xs (Ok _) b = AreAccepted xs × StandsFor InQuestion rule (with_questions xs s) b
-  Asks xs (Err e) b = (first : List QuestionItem) × RefusesAfter xs first e × StandsFor InQuestion rule (with_questions first s) b
+  Asks xs (Ok _) b = AreAccepted xs × Represents InQuestion rule (with_questions xs s) b
+  Asks xs (Err e) b = (first : List QuestionItem) × RefusesAfter xs first e × Represents InQuestion rule (with_questions first s) b
 
   -- an answer builder with all questions, or the error of the one that fails
   abbrev pub GivesAnswer : List QuestionItem → Result Built PushError → Type 0

@@ -4,14 +4,14 @@ use Rattle.dns_octets.specs.declared.error.ParseError.{ParseError}
 use Rattle.dns_name.specs.Names.{Fault, fault_of}
 use Rattle.dns_wire.specs.Pieces.{Rule}
 use Rattle.dns_item.specs.Items.{RecordItem}
-use Rattle.dns_item.specs.ParsedRecord.{StandingRecord, standing_record}
+use Rattle.dns_item.specs.ParsedRecord.{EncodedRecord, encoded_record}
 use Rattle.dns_item.specs.declared.parsed_record.ParsedRecord.{ParsedRecord}
 use Rattle.dns_section.specs.RecordsFrom.{records_in}
 use Rattle.dns_section.specs.Sections.{StartFault, StartsAt, record_count}
 use Rattle.dns_section.specs.declared.section.Section.{Section}
 use Rattle.dns_section.specs.declared.section.Section.TheVariants.{Answer, Authority, Additional}
 use Rattle.dns_build.specs.State.{Stage, InAdditional, stage_of, State, with_record, records_at, move_to}
-use Rattle.dns_build.specs.Standing.{Built, StandsFor, PushAnswers, size_after}
+use Rattle.dns_build.specs.BuilderStates.{Built, Represents, PushAnswers, size_after}
 use Rattle.dns_build.specs.declared.push_error.PushError.{PushError}
 use Rattle.dns_build.specs.declared.copy_records_error.CopyRecordsError.{CopyRecordsError}
 use Rattle.dns_build.specs.declared.copy_records_error.CopyRecordsError.TheVariants.{Parse, Push}
@@ -35,21 +35,21 @@ record_sections = Answer ∷ Authority ∷ Additional ∷ []
 -- `call f x r g` says that the closure in state `f`, called on the record `x`, returns `r` and is then in state `g`. `item r` is the record to push for `r`. The target has capacity `room`, allocates if `grows`, and compresses by `rule`.
 module _ {F R : Type 0} (call : F → ParsedRecord → Option R → F → Type 0) (item : R → RecordItem) (room : Option ℕ) (grows : Bool) (rule : Rule) where
   -- The closure is called on the record `x`. The record that it returns, if any, is pushed.
-  pub record CopiesRecord (stage : Stage) (x : StandingRecord) (f : F) (s : State) (result : Result (Unit {0}) PushError) (f' : F) (s' : State) : Type 0 where
+  pub record CopiesRecord (stage : Stage) (x : EncodedRecord) (f : F) (s : State) (result : Result (Unit {0}) PushError) (f' : F) (s' : State) : Type 0 where
     pub shown : ParsedRecord
-    pub stands : standing_record shown ≡ x
+    pub represents : encoded_record shown ≡ x
     pub kept : Option R
     pub called : call f shown kept f'
     pub pushed : PushesKept room grows rule stage (option_map item kept) s result s'
 
   -- The records of a reading are copied in order, up to the first push that fails or the fault that ends the reading.
-  pub data CopiesList (stage : Stage) : List (Result StandingRecord Fault) → F → State → Result (Unit {0}) CopyRecordsError → F → State → Type 0 where
+  pub data CopiesList (stage : Stage) : List (Result EncodedRecord Fault) → F → State → Result (Unit {0}) CopyRecordsError → F → State → Type 0 where
     none : {f : F} {s : State} → CopiesList stage [] f s (Ok tt) f s
-    copied : {x : StandingRecord} {xs : List (Result StandingRecord Fault)} {f g h : F} {s t u : State} {result : Result (Unit {0}) CopyRecordsError}
+    copied : {x : EncodedRecord} {xs : List (Result EncodedRecord Fault)} {f g h : F} {s t u : State} {result : Result (Unit {0}) CopyRecordsError}
         → CopiesRecord stage x f s (Ok tt) g t → CopiesList stage xs g t result h u → CopiesList stage (Ok x ∷ xs) f s result h u
-    refused : {x : StandingRecord} {xs : List (Result StandingRecord Fault)} {f g : F} {s t : State} {e : PushError}
+    refused : {x : EncodedRecord} {xs : List (Result EncodedRecord Fault)} {f g : F} {s t : State} {e : PushError}
         → CopiesRecord stage x f s (Err e) g t → CopiesList stage (Ok x ∷ xs) f s (Err (Push e)) g t
-    fault : {xs : List (Result StandingRecord Fault)} {f : F} {s : State} {e : ParseError}
+    fault : {xs : List (Result EncodedRecord Fault)} {f : F} {s : State} {e : ParseError}
         → CopiesList stage (Err (fault_of e) ∷ xs) f s (Err (Parse e)) f s
 
   -- A section of the message is copied into the same section of the builder. If the section has no start, the result is the fault that says why.
@@ -67,14 +67,14 @@ module _ {F R : Type 0} (call : F → ParsedRecord → Option R → F → Type 0
         → CopiesSection b section f (move_to (stage_of section) s) (Err e) g t → CopiesSections b (section ∷ sections) f s (Err e) g t
 
   -- one record is copied, and the builder represents the state that is left
-  abbrev pub CopiesRecordTo : Stage → StandingRecord → F → State → Result (Unit {0}) PushError → F → Built → Type 0
-  CopiesRecordTo stage x f s result g new = (left : State) × CopiesRecord stage x f s result g left × StandsFor stage rule left new
+  abbrev pub CopiesRecordTo : Stage → EncodedRecord → F → State → Result (Unit {0}) PushError → F → Built → Type 0
+  CopiesRecordTo stage x f s result g new = (left : State) × CopiesRecord stage x f s result g left × Represents stage rule left new
 
   -- a reading is copied, and the builder represents the state that is left
-  abbrev pub CopiesListTo : Stage → List (Result StandingRecord Fault) → F → State → Result (Unit {0}) CopyRecordsError → F → Built → Type 0
-  CopiesListTo stage xs f s result g new = (left : State) × CopiesList stage xs f s result g left × StandsFor stage rule left new
+  abbrev pub CopiesListTo : Stage → List (Result EncodedRecord Fault) → F → State → Result (Unit {0}) CopyRecordsError → F → Built → Type 0
+  CopiesListTo stage xs f s result g new = (left : State) × CopiesList stage xs f s result g left × Represents stage rule left new
 
   -- The three record sections of a message are copied, and the builder represents the state that is left; or the result is the first error.
   abbrev pub CopiesMessage : List ℕ → F → State → Result Built CopyRecordsError → Type 0
-  CopiesMessage b f s (Ok new) = (g : F) × (left : State) × CopiesSections b record_sections f s (Ok tt) g left × StandsFor InAdditional rule left new
+  CopiesMessage b f s (Ok new) = (g : F) × (left : State) × CopiesSections b record_sections f s (Ok tt) g left × Represents InAdditional rule left new
   CopiesMessage b f s (Err e) = (g : F) × (left : State) × CopiesSections b record_sections f s (Err e) g left

@@ -3,14 +3,14 @@ use Rattle.std.specs.Prelude.{ℕ, List, [], ◌∷◌, ◌++◌, Option, Some, 
 use Rattle.dns_name.specs.Names.{Fault}
 use Rattle.dns_wire.specs.Pieces.{Rule}
 use Rattle.dns_item.specs.Items.{RecordItem}
-use Rattle.dns_item.specs.ParsedRecord.{StandingRecord, standing_record}
+use Rattle.dns_item.specs.ParsedRecord.{EncodedRecord, encoded_record}
 use Rattle.dns_item.specs.declared.parsed_record.ParsedRecord.{ParsedRecord}
 use Rattle.dns_section.specs.RecordsFrom.{records_in}
 use Rattle.dns_section.specs.Sections.{StartsAt, record_count}
 use Rattle.dns_section.specs.declared.section.Section.{Section}
 use Rattle.dns_section.specs.declared.section.Section.TheVariants.{Answer, Authority, Additional}
 use Rattle.dns_build.specs.State.{InAdditional, State}
-use Rattle.dns_build.specs.Standing.{Built, StandsFor}
+use Rattle.dns_build.specs.BuilderStates.{Built, Represents}
 
 -- the state at the additional section, with `xs` after its answers, and with the authority records `ys` and the additional records `zs`
 abbrev pub with_copies : List RecordItem → List RecordItem → List RecordItem → State → State
@@ -19,12 +19,12 @@ with_copies xs ys zs s = record s { stage = InAdditional; answers = s.answers ++
 -- `call f x r g` says that the closure in state `f`, called on the record `x`, returns `r` and is then in state `g`. `item r` is the record to push for `r`.
 module _ {F R : Type 0} (call : F → ParsedRecord → Option R → F → Type 0) (item : R → RecordItem) where
   -- The reading has no fault. The closure is called on each of its records in order, and the items are the records that it returns.
-  pub data Keeps : List (Result StandingRecord Fault) → F → List RecordItem → F → Type 0 where
+  pub data Keeps : List (Result EncodedRecord Fault) → F → List RecordItem → F → Type 0 where
     none : {f : F} → Keeps [] f [] f
-    dropped : {xs : List (Result StandingRecord Fault)} {items : List RecordItem} {f g h : F} (shown : ParsedRecord)
-        → call f shown None g → Keeps xs g items h → Keeps (Ok (standing_record shown) ∷ xs) f items h
-    kept : {xs : List (Result StandingRecord Fault)} {items : List RecordItem} {f g h : F} (shown : ParsedRecord) (answer : R)
-        → call f shown (Some answer) g → Keeps xs g items h → Keeps (Ok (standing_record shown) ∷ xs) f (item answer ∷ items) h
+    dropped : {xs : List (Result EncodedRecord Fault)} {items : List RecordItem} {f g h : F} (shown : ParsedRecord)
+        → call f shown None g → Keeps xs g items h → Keeps (Ok (encoded_record shown) ∷ xs) f items h
+    kept : {xs : List (Result EncodedRecord Fault)} {items : List RecordItem} {f g h : F} (shown : ParsedRecord) (answer : R)
+        → call f shown (Some answer) g → Keeps xs g items h → Keeps (Ok (encoded_record shown) ∷ xs) f (item answer ∷ items) h
 
   -- the same for a section of the message, read from its start
   pub record KeepsSection (b : List ℕ) (section : Section) (f : F) (items : List RecordItem) (g : F) : Type 0 where
@@ -43,4 +43,4 @@ module _ {F R : Type 0} (call : F → ParsedRecord → Option R → F → Type 0
     pub of_answers : KeepsSection b Answer f answers after_answers
     pub of_authorities : KeepsSection b Authority after_answers authorities after_authorities
     pub of_additionals : KeepsSection b Additional after_authorities additionals last
-    pub stands : StandsFor InAdditional rule (with_copies answers authorities additionals s) new
+    pub represents : Represents InAdditional rule (with_copies answers authorities additionals s) new

@@ -10,7 +10,7 @@ use Rattle.dns_opt_builder.specs.Gathered.{Gathered, IsGathered, gathered, nothi
 use Rattle.dns_opt_builder.specs.declared.builder.OptBuilder.{OptBuilder}
 use Rattle.dns_item.specs.Items.{RecordItem}
 use Rattle.dns_build.specs.State.{State, InAdditional, with_record, with_header}
-use Rattle.dns_build.specs.Standing.{Built, StandsFor, PushAnswers, push_error, size_after}
+use Rattle.dns_build.specs.BuilderStates.{Built, Represents, PushAnswers, push_error, size_after}
 use Rattle.dns_build.specs.declared.push_error.PushError.{PushError}
 
 -- The OPT record with the gathered fields and options: owned by the root, type 41, the UDP payload size as class, the other fields as TTL, and the options in order as RDATA.
@@ -51,4 +51,4 @@ pub record PushesOpt (room : Option ℕ) (grows : Bool) (rule : Rule) (call : Op
   pub gathers : Gathers call s.header answer g
   pub answers : OptAnswers room grows s.limit (size_after rule (with_record InAdditional (opt_record g)) s) (length s.additionals) answer result
   pub is_gathered : OnOk result (IsGathered g)
-  pub accepted : OnOk result (StandsFor InAdditional rule (with_opt g s) new)
+  pub accepted : OnOk result (Represents InAdditional rule (with_opt g s) new)

@@ -5,11 +5,11 @@ use Rattle.dns_octets.specs.declared.error.ParseError.{ParseError}
 use Rattle.dns_name.specs.Names.{Fault}
 use Rattle.dns_name.specs.ParsedName.{labels}
 use Rattle.dns_name.specs.declared.parsed_name.ParsedName.{ParsedName}
-use Rattle.dns_wire.specs.Parts.{Part, PartsStand}
+use Rattle.dns_wire.specs.Parts.{Part, PartsAt}
 use Rattle.dns_data.specs.Layout.{Layout, IsLaidOut}
 use Rattle.dns_item.specs.DataAnswer.{HasSpan}
 use Rattle.dns_item.specs.Items.{RecordItem}
-use Rattle.dns_item.specs.ParsedRecord.{StandingRecord}
+use Rattle.dns_item.specs.ParsedRecord.{EncodedRecord}
 use Rattle.dns_item.specs.Record.{record_item}
 use Rattle.dns_item.specs.RecordReading.{item_of, AnswersLaidOut, AnswersTaken}
 use Rattle.dns_item.specs.TypedRecords.{laid_out}
@@ -42,25 +42,25 @@ abbrev pub of_class_in : List RecordItem → List RecordItem
 of_class_in = filter (λ x. x.class == 1)
 
 -- a record is in the octets as it was pushed: its fields are those of `x`, the parts of `x` fill its RDATA, and each layout that accepts these parts reads `x`
-pub record StandsAs (b : List ℕ) (x : RecordItem) (standing : StandingRecord) : Type 0 where
-  pub octets : standing.octets ≡ b
-  pub there : HasSpan standing
-  pub parts : PartsStand standing.octets standing.entry.data_end standing.entry.data_start x.parts
-  pub item : item_of standing.entry x.parts ≡ x
-  pub answer : (layout : Layout) → IsLaidOut layout x.parts → laid_out standing layout ≡ Ok x
+pub record EncodedAs (b : List ℕ) (x : RecordItem) (encoded : EncodedRecord) : Type 0 where
+  pub octets : encoded.octets ≡ b
+  pub there : HasSpan encoded
+  pub parts : PartsAt encoded.octets encoded.entry.data_end encoded.entry.data_start x.parts
+  pub item : item_of encoded.entry x.parts ≡ x
+  pub answer : (layout : Layout) → IsLaidOut layout x.parts → laid_out encoded layout ≡ Ok x
 
 -- the items of a reading are the pushed records, one for one, without a fault
-abbrev pub AllStandAs : List ℕ → List RecordItem → List (Result StandingRecord Fault) → Type 0
-AllStandAs b [] [] = Unit {0}
-AllStandAs b [] (item ∷ items) = ⊥
-AllStandAs b (x ∷ xs) [] = ⊥
-AllStandAs b (x ∷ xs) (item ∷ items) = IsOkAnd item (StandsAs b x) × AllStandAs b xs items
+abbrev pub AllEncodedAs : List ℕ → List RecordItem → List (Result EncodedRecord Fault) → Type 0
+AllEncodedAs b [] [] = Unit {0}
+AllEncodedAs b [] (item ∷ items) = ⊥
+AllEncodedAs b (x ∷ xs) [] = ⊥
+AllEncodedAs b (x ∷ xs) (item ∷ items) = IsOkAnd item (EncodedAs b x) × AllEncodedAs b xs items
 
 -- Theorems over all octets that read back as a state. RFC 1035 section 4.1.3.
 
 -- each pushed record reads back in its section
-abbrev pub PushedRecordsStand : Type 0
-PushedRecordsStand = (s : State) (b : List ℕ) → ReadsBack s b → (which : Section) → AllStandAs b (pushed which s) (records_of which b)
+abbrev pub PushedRecordsAreEncoded : Type 0
+PushedRecordsAreEncoded = (s : State) (b : List ℕ) → ReadsBack s b → (which : Section) → AllEncodedAs b (pushed which s) (records_of which b)
 
 -- If a data type lays out the parts of each pushed record whose type it accepts, it yields exactly these records of the section, in order and without a fault.
 abbrev pub TypedRecordsReadBack : Type 0
@@ -81,14 +81,14 @@ TypedRecordsInReadBack = (s : State) (b : List ℕ) → ReadsBack s b → (which
 module _ {D : Type 0} (rtype_of : D → ℕ) (parts_of : D → List Part) where
   -- If the data type accepts the type of the record and lays out its parts, a record with the same owner, type, class, TTL and parts is read.
   abbrev pub ToRecordReadsBack : (ℕ → Option Layout) → Type 0
-  ToRecordReadsBack layouts = (b : List ℕ) (x : RecordItem) (standing : StandingRecord) (result : Result (Option (Record ParsedName D)) ParseError)
-      → StandsAs b x standing → IsTakenBy layouts x
-      → AnswersTaken rtype_of parts_of standing.octets standing.entry (layouts standing.entry.rtype) result
+  ToRecordReadsBack layouts = (b : List ℕ) (x : RecordItem) (encoded : EncodedRecord) (result : Result (Option (Record ParsedName D)) ParseError)
+      → EncodedAs b x encoded → IsTakenBy layouts x
+      → AnswersTaken rtype_of parts_of encoded.octets encoded.entry (layouts encoded.entry.rtype) result
       → IsOkAnd result (λ o. IsSomeAnd o (λ r. record_item labels rtype_of parts_of r ≡ x))
 
   -- the same for a data type that accepts every type
   abbrev pub ToAnyRecordReadsBack : (ℕ → Layout) → Type 0
-  ToAnyRecordReadsBack layouts = (b : List ℕ) (x : RecordItem) (standing : StandingRecord) (result : Result (Record ParsedName D) ParseError)
-      → StandsAs b x standing → IsLaidOut (layouts x.rtype) x.parts
-      → AnswersLaidOut rtype_of parts_of standing.octets standing.entry (layouts standing.entry.rtype) result
+  ToAnyRecordReadsBack layouts = (b : List ℕ) (x : RecordItem) (encoded : EncodedRecord) (result : Result (Record ParsedName D) ParseError)
+      → EncodedAs b x encoded → IsLaidOut (layouts x.rtype) x.parts
+      → AnswersLaidOut rtype_of parts_of encoded.octets encoded.entry (layouts encoded.entry.rtype) result
       → IsOkAnd result (λ r. record_item labels rtype_of parts_of r ≡ x)

@@ -2,7 +2,7 @@
 ghost use Rattle.std.specs.Prelude.{◌≡◌};
 ghost use Rattle.dns_read.specs.Message.{message_octets};
 ghost use Rattle.dns_build.specs.State.{InBuilder, InQuestion};
-ghost use Rattle.dns_build.specs.Standing.{InEach, MovesState};
+ghost use Rattle.dns_build.specs.BuilderStates.{InEach, MovesState};
 ghost use Rattle.dns_build.specs.Answers.{answer_header, answering, readable_questions, Asks, GivesAnswer, GivesEither, IsEither};
 
 use crate::builder::{AnswerBuilder, Builder, QuestionBuilder};

@@ -1,10 +1,10 @@
 //! Copying records from one message into another.
 ghost use Rattle.std.specs.Prelude.{ℕ, List, IfOk};
-ghost use Rattle.dns_item.specs.ParsedRecord.{standing_record};
+ghost use Rattle.dns_item.specs.ParsedRecord.{encoded_record};
 ghost use Rattle.dns_read.specs.Message.{message_octets};
 ghost use Rattle.dns_section.specs.RecordSection.{records_left};
 ghost use Rattle.dns_build.specs.State.{InAnswer};
-ghost use Rattle.dns_build.specs.Standing.{InEach};
+ghost use Rattle.dns_build.specs.BuilderStates.{InEach};
 ghost use Rattle.dns_build.specs.CopyRecords.{CopiesRecordTo, CopiesListTo, CopiesMessage};
 ghost use Rattle.dns_build.specs.KeptRecords.{KeepsAll};
 
@@ -128,7 +128,7 @@ fn copy_record<
     requires { F.IsAlwaysCallable op.old }
     ensures callable { F.IsAlwaysCallable op.new }
     ensures copies { InEach S.stage T.rule target.old (λ s. CopiesRecordTo F.step R.item T.room
-        T.grows T.rule S.stage (standing_record shown.entry) op.old s result op.new
+        T.grows T.rule S.stage (encoded_record shown.entry) op.old s result op.new
         target.new) }
 {
     match op(shown) {

@@ -8,7 +8,7 @@ ghost use Rattle.dns_data.specs.Opt.{opt_octets};
 ghost use Rattle.dns_opt_builder.specs.Gathered.{IsGathered, gathered};
 ghost use Rattle.dns_item.specs.Record.{owner_of, class_of, ttl_of, data_of};
 ghost use Rattle.dns_build.specs.State.{InAdditional};
-ghost use Rattle.dns_build.specs.Standing.{InEach};
+ghost use Rattle.dns_build.specs.BuilderStates.{InEach};
 ghost use Rattle.dns_build.specs.Opt.{with_rcode, PushesOpt};
 
 use crate::builder::Builder;

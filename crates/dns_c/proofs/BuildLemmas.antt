@@ -15,7 +15,7 @@ use Rattle.dns_item.specs.Items.{RecordItem}
 use Rattle.dns_section.specs.declared.section.Section.{Section}
 use Rattle.dns_section.specs.declared.section.Section.TheVariants.{Answer, Authority, Additional}
 use Rattle.dns_build.specs.State.{State, Stage, InBuilder, InQuestion, InAnswer, InAuthority, InAdditional, stage_of, depth_of, with_question, with_questions, with_record, with_records, most_entries}
-use Rattle.dns_build.specs.Standing.{Built, StandsFor, MovesState, InEach, PushAnswers}
+use Rattle.dns_build.specs.BuilderStates.{Built, Represents, MovesState, InEach, PushAnswers}
 use Rattle.dns_build.specs.Answers.{AnswersQuestion}
 use Rattle.dns_build.specs.declared.push_error.PushError.{PushError}
 use Rattle.dns_build.specs.declared.push_error.PushError.TheVariants as pushing
@@ -90,35 +90,35 @@ pub record Asking (rule : Rule) (left : List NewItem) (xs : List NewEntry) (s : 
   pub rest : List NewEntry
   pub mean : AllMean left rest
   pub all : questions_among xs ≡ first ++ questions_among rest
-  pub stands : StandsFor InQuestion rule (with_questions first s) now
+  pub represents : Represents InQuestion rule (with_questions first s) now
 
-pub asking_begins : (rule : Rule) (items left : List NewItem) (xs : List NewEntry) (s : State) (now : Built) → left ≡ items → AllMean items xs → StandsFor InQuestion rule s now → Asking rule left xs s now
-asking_begins rule items left xs s now is mean stands =
+pub asking_begins : (rule : Rule) (items left : List NewItem) (xs : List NewEntry) (s : State) (now : Built) → left ≡ items → AllMean items xs → Represents InQuestion rule s now → Asking rule left xs s now
+asking_begins rule items left xs s now is mean represents =
     let none : s ≡ with_questions [] s = ap (λ (qs : List QuestionItem). record s { questions = qs }) (sym (append-nil s.questions)) in
-    record { first = []; rest = xs; mean = subst (λ (is : List NewItem). AllMean is xs) (sym is) mean; all = refl; stands = subst (λ (t : State). StandsFor InQuestion rule t now) none stands }
+    record { first = []; rest = xs; mean = subst (λ (is : List NewItem). AllMean is xs) (sym is) mean; all = refl; represents = subst (λ (t : State). Represents InQuestion rule t now) none represents }
 
 module _ (rule : Rule) (rest : List NewItem) (item : NewItem) (xs : List NewEntry) (s : State) (now : Built) where
   asking_passes_by : (es : List NewEntry) (first : List QuestionItem) → (item.section ≡ 0 → ⊥) → AllMean (item ∷ rest) es → questions_among xs ≡ first ++ questions_among es
-      → StandsFor InQuestion rule (with_questions first s) now → Asking rule rest xs s now
-  asking_passes_by [] first other mean all stands = absurd mean
-  asking_passes_by (Question x ∷ es) first other mean all stands = absurd (other mean.0.0)
-  asking_passes_by (Record which x ∷ es) first other mean all stands = record { first = first; rest = es; mean = mean.1; all = all; stands = stands }
+      → Represents InQuestion rule (with_questions first s) now → Asking rule rest xs s now
+  asking_passes_by [] first other mean all represents = absurd mean
+  asking_passes_by (Question x ∷ es) first other mean all represents = absurd (other mean.0.0)
+  asking_passes_by (Record which x ∷ es) first other mean all represents = record { first = first; rest = es; mean = mean.1; all = all; represents = represents }
 
   asking_takes_by : (es : List NewEntry) (first : List QuestionItem) (y : QuestionItem) (new : Built) → item.section ≡ 0 → IsQuestionOf item y → AllMean (item ∷ rest) es
-      → questions_among xs ≡ first ++ questions_among es → StandsFor InQuestion rule (with_question y (with_questions first s)) new → Asking rule rest xs s new
-  asking_takes_by [] first y new here is mean all stands = absurd mean
-  asking_takes_by (Question x ∷ es) first y new here is mean all stands = record {
+      → questions_among xs ≡ first ++ questions_among es → Represents InQuestion rule (with_question y (with_questions first s)) new → Asking rule rest xs s new
+  asking_takes_by [] first y new here is mean all represents = absurd mean
+  asking_takes_by (Question x ∷ es) first y new here is mean all represents = record {
     first = first ++ y ∷ [];
     rest = es;
     mean = mean.1;
     all =
         all ∙ ap (λ (z : QuestionItem). first ++ z ∷ questions_among es) (same_question item x y mean.0.1 is)
         ∙ sym (append_assoc first (y ∷ []) (questions_among es));
-    stands =
+    represents =
         let same : with_question y (with_questions first s) ≡ with_questions (first ++ y ∷ []) s = ap (λ (qs : List QuestionItem). record s { questions = qs }) (append_assoc s.questions first (y ∷ [])) in
-        subst (λ (t : State). StandsFor InQuestion rule t new) same stands;
+        subst (λ (t : State). Represents InQuestion rule t new) same represents;
   }
-  asking_takes_by (Record which x ∷ es) first y new here is mean all stands = absurd (let some = mean.0.0 in omega arith)
+  asking_takes_by (Record which x ∷ es) first y new here is mean all represents = absurd (let some = mean.0.0 in omega arith)
 
   -- pushing a question fails
   asking_refused_by : (room : Option ℕ) (grows : Bool) (es : List NewEntry) (first : List QuestionItem) (y : QuestionItem) (e : PushError) → item.section ≡ 0 → IsQuestionOf item y → AllMean (item ∷ rest) es
@@ -147,11 +147,11 @@ module _ (rule : Rule) (left rest : List NewItem) (item : NewItem) (is : left �
 
   -- an item of another section is skipped
   pub asking_passes : (item.section ≡ 0 → ⊥) → Asking rule rest xs s now
-  asking_passes other = asking_passes_by rule rest item xs s now h.rest h.first other here_means h.all h.stands
+  asking_passes other = asking_passes_by rule rest item xs s now h.rest h.first other here_means h.all h.represents
 
   -- a question is pushed
   pub asking_takes : (y : QuestionItem) (new : Built) → item.section ≡ 0 → IsQuestionOf item y → MovesState InQuestion InQuestion rule (with_question y) now new → Asking rule rest xs s new
-  asking_takes y new here is_question moves = asking_takes_by rule rest item xs s now h.rest h.first y new here is_question here_means h.all (moves (with_questions h.first s) h.stands)
+  asking_takes y new here is_question moves = asking_takes_by rule rest item xs s now h.rest h.first y new here is_question here_means h.all (moves (with_questions h.first s) h.represents)
 
   -- no text is refused
   pub asking_named : SpellsNoName item.name.now → ⊥
@@ -160,18 +160,18 @@ module _ (rule : Rule) (left rest : List NewItem) (item : NewItem) (is : left �
   -- a push fails
   pub asking_refused : (room : Option ℕ) (grows : Bool) (y : QuestionItem) (e : PushError) → item.section ≡ 0 → IsQuestionOf item y → InEach InQuestion rule now (λ t. AnswersQuestion room grows rule y t (Err e))
       → RefusesQuestion room grows rule (questions_among xs) s (number_of (push_fault e))
-  asking_refused room grows y e here is_question refused = asking_refused_by rule rest item xs s now room grows h.rest h.first y e here is_question here_means h.all (refused (with_questions h.first s) h.stands)
+  asking_refused room grows y e here is_question refused = asking_refused_by rule rest item xs s now room grows h.rest h.first y e here is_question here_means h.all (refused (with_questions h.first s) h.represents)
 
 asking_ends_by : (rule : Rule) (rest xs : List NewEntry) (first : List QuestionItem) (s : State) (now : Built) → AllMean [] rest → questions_among xs ≡ first ++ questions_among rest
-    → StandsFor InQuestion rule (with_questions first s) now → StandsFor InQuestion rule (with_questions (questions_among xs) s) now
-asking_ends_by rule [] xs first s now mean all stands =
+    → Represents InQuestion rule (with_questions first s) now → Represents InQuestion rule (with_questions (questions_among xs) s) now
+asking_ends_by rule [] xs first s now mean all represents =
     let whole : first ≡ questions_among xs = sym (append-nil first) ∙ sym all in
-    subst (λ (qs : List QuestionItem). StandsFor InQuestion rule (with_questions qs s) now) whole stands
-asking_ends_by rule (x ∷ rest) xs first s now mean all stands = absurd mean
+    subst (λ (qs : List QuestionItem). Represents InQuestion rule (with_questions qs s) now) whole represents
+asking_ends_by rule (x ∷ rest) xs first s now mean all represents = absurd mean
 
 -- all are pushed
-pub asking_ends : (rule : Rule) (left : List NewItem) (xs : List NewEntry) (s : State) (now : Built) → left ≡ [] → Asking rule left xs s now → StandsFor InQuestion rule (with_questions (questions_among xs) s) now
-asking_ends rule left xs s now is h = asking_ends_by rule h.rest xs h.first s now (subst (λ (items : List NewItem). AllMean items h.rest) is h.mean) h.all h.stands
+pub asking_ends : (rule : Rule) (left : List NewItem) (xs : List NewEntry) (s : State) (now : Built) → left ≡ [] → Asking rule left xs s now → Represents InQuestion rule (with_questions (questions_among xs) s) now
+asking_ends rule left xs s now is h = asking_ends_by rule h.rest xs h.first s now (subst (λ (items : List NewItem). AllMean items h.rest) is h.mean) h.all h.represents
 
 -- Records are pushed onto the list of a stage.
 
@@ -237,16 +237,16 @@ pub record Stating (rule : Rule) (stage : Stage) (which : Section) (left : List 
   pub rest : List NewEntry
   pub mean : AllMean left rest
   pub all : records_among which xs ≡ first ++ records_among which rest
-  pub stands : StandsFor stage rule (with_records stage first s) now
+  pub represents : Represents stage rule (with_records stage first s) now
 
-pub stating_begins : (rule : Rule) (stage : Stage) (which : Section) (items left : List NewItem) (xs : List NewEntry) (s : State) (now : Built) → left ≡ items → AllMean items xs → StandsFor stage rule s now
+pub stating_begins : (rule : Rule) (stage : Stage) (which : Section) (items left : List NewItem) (xs : List NewEntry) (s : State) (now : Built) → left ≡ items → AllMean items xs → Represents stage rule s now
     → Stating rule stage which left xs s now
-stating_begins rule stage which items left xs s now is mean stands = record {
+stating_begins rule stage which items left xs s now is mean represents = record {
   first = [];
   rest = xs;
   mean = subst (λ (is : List NewItem). AllMean is xs) (sym is) mean;
   all = refl;
-  stands = subst (λ (t : State). StandsFor stage rule t now) (sym (records_none stage s)) stands;
+  represents = subst (λ (t : State). Represents stage rule t now) (sym (records_none stage s)) represents;
 }
 
 module _ (rule : Rule) (stage : Stage) (which : Section) (rest : List NewItem) (item : NewItem) (xs : List NewEntry) (s : State) (now : Built) where
@@ -255,13 +255,13 @@ module _ (rule : Rule) (stage : Stage) (which : Section) (rest : List NewItem) (
   alike us vs first is all = all ∙ ap (λ (rs : List RecordItem). first ++ rs) is
 
   stating_passes_by : (es : List NewEntry) (first : List RecordItem) → (item.section + 1 ≡ depth_of (stage_of which) → ⊥) → AllMean (item ∷ rest) es → records_among which xs ≡ first ++ records_among which es
-      → StandsFor stage rule (with_records stage first s) now → Stating rule stage which rest xs s now
-  stating_passes_by [] first other mean all stands = absurd mean
-  stating_passes_by (Question x ∷ es) first other mean all stands =
-      record { first = first; rest = es; mean = mean.1; all = alike _ _ first (other_question which x es) all; stands = stands }
-  stating_passes_by (Record w x ∷ es) first other mean all stands =
+      → Represents stage rule (with_records stage first s) now → Stating rule stage which rest xs s now
+  stating_passes_by [] first other mean all represents = absurd mean
+  stating_passes_by (Question x ∷ es) first other mean all represents =
+      record { first = first; rest = es; mean = mean.1; all = alike _ _ first (other_question which x es) all; represents = represents }
+  stating_passes_by (Record w x ∷ es) first other mean all represents =
       let is_other : w ≡ which → ⊥ = λ is. other (depth_here item.section which mean.0.0 mean.0.1 (mean.0.2 ∙ is)) in
-      record { first = first; rest = es; mean = mean.1; all = alike _ _ first (other_record which w x es is_other) all; stands = stands }
+      record { first = first; rest = es; mean = mean.1; all = alike _ _ first (other_record which w x es is_other) all; represents = represents }
 
   -- the record that an item describes comes before the remaining records
   next_record : (w : Section) (x y : RecordItem) (es : List NewEntry) (first : List RecordItem) → item.section + 1 ≡ depth_of (stage_of which) → section_at item.section ≡ w → IsRecordOf item x → IsRecordOf item y
@@ -271,15 +271,15 @@ module _ (rule : Rule) (stage : Stage) (which : Section) (rest : List NewItem) (
       alike _ _ first (kept ∙ ap (λ (z : RecordItem). z ∷ records_among which es) (same_record item x y means is)) all
 
   stating_takes_by : (es : List NewEntry) (first : List RecordItem) (y : RecordItem) (new : Built) → item.section + 1 ≡ depth_of (stage_of which) → IsRecordOf item y → AllMean (item ∷ rest) es
-      → records_among which xs ≡ first ++ records_among which es → StandsFor stage rule (with_record stage y (with_records stage first s)) new → Stating rule stage which rest xs s new
-  stating_takes_by [] first y new at is mean all stands = absurd mean
-  stating_takes_by (Question x ∷ es) first y new at is mean all stands = absurd (not_first item.section which mean.0.0 at)
-  stating_takes_by (Record w x ∷ es) first y new at is mean all stands = record {
+      → records_among which xs ≡ first ++ records_among which es → Represents stage rule (with_record stage y (with_records stage first s)) new → Stating rule stage which rest xs s new
+  stating_takes_by [] first y new at is mean all represents = absurd mean
+  stating_takes_by (Question x ∷ es) first y new at is mean all represents = absurd (not_first item.section which mean.0.0 at)
+  stating_takes_by (Record w x ∷ es) first y new at is mean all represents = record {
     first = first ++ y ∷ [];
     rest = es;
     mean = mean.1;
     all = next_record w x y es first at mean.0.2 mean.0.3 is all ∙ sym (append_assoc first (y ∷ []) (records_among which es));
-    stands = subst (λ (t : State). StandsFor stage rule t new) (record_more stage y first s) stands;
+    represents = subst (λ (t : State). Represents stage rule t new) (record_more stage y first s) represents;
   }
 
   -- pushing a record fails
@@ -311,11 +311,11 @@ module _ (rule : Rule) (stage : Stage) (which : Section) (left rest : List NewIt
 
   -- an item of another section is skipped
   pub stating_passes : (item.section + 1 ≡ depth_of (stage_of which) → ⊥) → Stating rule stage which rest xs s now
-  stating_passes other = stating_passes_by rule stage which rest item xs s now h.rest h.first other these_mean h.all h.stands
+  stating_passes other = stating_passes_by rule stage which rest item xs s now h.rest h.first other these_mean h.all h.represents
 
   -- a record is pushed
   pub stating_takes : (y : RecordItem) (new : Built) → item.section + 1 ≡ depth_of (stage_of which) → IsRecordOf item y → MovesState stage stage rule (with_record stage y) now new → Stating rule stage which rest xs s new
-  stating_takes y new at is_record moves = stating_takes_by rule stage which rest item xs s now h.rest h.first y new at is_record these_mean h.all (moves (with_records stage h.first s) h.stands)
+  stating_takes y new at is_record moves = stating_takes_by rule stage which rest item xs s now h.rest h.first y new at is_record these_mean h.all (moves (with_records stage h.first s) h.represents)
 
   -- no item is refused
   pub stating_named : (n : ℕ) → item.section + 1 ≡ depth_of (stage_of which) → LacksFields item n → ⊥
@@ -325,19 +325,19 @@ module _ (rule : Rule) (stage : Stage) (which : Section) (left rest : List NewIt
   pub stating_refused : (room : Option ℕ) (grows : Bool) (y : RecordItem) (e : PushError) → item.section + 1 ≡ depth_of (stage_of which) → IsRecordOf item y
       → InEach stage rule now (λ t. AnswersRecordPush room grows rule stage y t (Err e)) → RefusesRecord room grows rule stage (records_among which xs) s (number_of (push_fault e))
   stating_refused room grows y e at is_record refused =
-      stating_refused_by rule stage which rest item xs s now room grows h.rest h.first y e at is_record these_mean h.all (refused (with_records stage h.first s) h.stands)
+      stating_refused_by rule stage which rest item xs s now room grows h.rest h.first y e at is_record these_mean h.all (refused (with_records stage h.first s) h.represents)
 
 stating_ends_by : (rule : Rule) (stage : Stage) (which : Section) (rest xs : List NewEntry) (first : List RecordItem) (s : State) (now : Built) → AllMean [] rest
-    → records_among which xs ≡ first ++ records_among which rest → StandsFor stage rule (with_records stage first s) now → StandsFor stage rule (with_records stage (records_among which xs) s) now
-stating_ends_by rule stage which [] xs first s now mean all stands =
+    → records_among which xs ≡ first ++ records_among which rest → Represents stage rule (with_records stage first s) now → Represents stage rule (with_records stage (records_among which xs) s) now
+stating_ends_by rule stage which [] xs first s now mean all represents =
     let whole : first ≡ records_among which xs = sym (append-nil first) ∙ sym all in
-    subst (λ (rs : List RecordItem). StandsFor stage rule (with_records stage rs s) now) whole stands
-stating_ends_by rule stage which (x ∷ rest) xs first s now mean all stands = absurd mean
+    subst (λ (rs : List RecordItem). Represents stage rule (with_records stage rs s) now) whole represents
+stating_ends_by rule stage which (x ∷ rest) xs first s now mean all represents = absurd mean
 
 -- all are pushed
 pub stating_ends : (rule : Rule) (stage : Stage) (which : Section) (left : List NewItem) (xs : List NewEntry) (s : State) (now : Built) → left ≡ [] → Stating rule stage which left xs s now
-    → StandsFor stage rule (with_records stage (records_among which xs) s) now
-stating_ends rule stage which left xs s now is h = stating_ends_by rule stage which h.rest xs h.first s now (subst (λ (items : List NewItem). AllMean items h.rest) is h.mean) h.all h.stands
+    → Represents stage rule (with_records stage (records_among which xs) s) now
+stating_ends rule stage which left xs s now is h = stating_ends_by rule stage which h.rest xs h.first s now (subst (λ (items : List NewItem). AllMean items h.rest) is h.mean) h.all h.represents
 
 -- The first item that is no entry is reported by one of three numbers.
 

@@ -17,7 +17,7 @@ use Rattle.dns_data.specs.Soa.{serial_of, refresh_of, retry_of, expire_of, minim
 use Rattle.dns_data.specs.declared.soa.Soa.{Soa}
 use Rattle.dns_item.specs.DataAnswer.{HasSpan}
 use Rattle.dns_item.specs.DataAnswer.IsDataAnswer.{whole, fault}
-use Rattle.dns_item.specs.ParsedRecord.{StandingRecord}
+use Rattle.dns_item.specs.ParsedRecord.{EncodedRecord}
 use Rattle.dns_item.specs.Record.{data_of}
 use Rattle.dns_item.specs.RecordReading.{GivesTaken}
 use Rattle.dns_item.specs.declared.record.Record.{Record}
@@ -25,7 +25,7 @@ use Rattle.dns_item.proofs.theory.TypedLemmas.{data_is_answered}
 use Rattle.dns_show.specs.Show.{IsRead, data_parts, zone_numbers_text}
 use Rattle.dns_c.specs.Texts.{absolute_name, hex_octets}
 
-module _ (x : StandingRecord) (read : IsRead x) where
+module _ (x : EncodedRecord) (read : IsRead x) where
   span : HasSpan x
   span = record {
     start = let e = read.2.data_end in let s = read.2.data_start in let w = read.2.skips.end in omega arith;

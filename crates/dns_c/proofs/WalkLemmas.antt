@@ -23,7 +23,7 @@ use Rattle.dns_section.specs.declared.section.Section.TheVariants.{Answer, Autho
 use Rattle.dns_section.proofs.theory.QuestionsFromLemmas.{questions_from_are_read}
 use Rattle.dns_section.proofs.theory.RecordsFromLemmas.{records_from_are_read}
 use Rattle.dns_section.proofs.theory.StartLemmas.{questions_pass_or_stop}
-use Rattle.dns_item.specs.ParsedRecord.{StandingRecord}
+use Rattle.dns_item.specs.ParsedRecord.{EncodedRecord}
 use Rattle.dns_section.specs.Sections.{section_after, record_count, StartsAt, AnswersStart, AnswersFault}
 use Rattle.dns_read.specs.MessageIter.{records_end, HasNoFault}
 use Rattle.dns_read.specs.Searches.{questions_of}
@@ -246,7 +246,7 @@ next_start which next b p follows_it start faultless =
     starts_after which next b p (records_end p (records_in b n p)) follows_it start (passed_all b ((records_from_are_read b).reading n p) faultless)
 
 -- what follows a reading matters only if it has no error
-ends_alike : (which : Section) (xs : List (Result StandingRecord Fault)) (us vs : List Given) → (HasNoFault xs → us ≡ vs) → stated_then which xs us ≡ stated_then which xs vs
+ends_alike : (which : Section) (xs : List (Result EncodedRecord Fault)) (us vs : List Given) → (HasNoFault xs → us ≡ vs) → stated_then which xs us ≡ stated_then which xs vs
 ends_alike which [] us vs same = same tt
 ends_alike which (Ok x ∷ xs) us vs same = ap (λ (ys : List Given). Ok (Stated which x.entry) ∷ ys) (ends_alike which xs us vs (λ h. same (refl, h)))
 ends_alike which (Err f ∷ xs) us vs same = refl

@@ -15,7 +15,7 @@ use Rattle.dns_item.specs.Items.{RecordItem}
 use Rattle.dns_section.specs.declared.section.Section.{Section}
 use Rattle.dns_section.specs.declared.section.Section.TheVariants.{Answer, Authority, Additional}
 use Rattle.dns_build.specs.State.{State, Stage, InQuestion, InAdditional, stage_of, move_to, rewound, with_questions, with_record, with_records, records_at, most_entries}
-use Rattle.dns_build.specs.Standing.{PushAnswers, fresh, size_after}
+use Rattle.dns_build.specs.BuilderStates.{PushAnswers, fresh, size_after}
 use Rattle.dns_build.specs.Answers.{AnswersQuestion}
 use Rattle.dns_build.specs.MessageOf.{IsMessageOf}
 use Rattle.dns_build.specs.declared.push_error.PushError.{PushError}

@@ -11,7 +11,7 @@ use Rattle.dns_question.specs.Questions.{QuestionItem, ReadsQuestion, QuestionFa
 use Rattle.dns_item.specs.Items.{RecordItem}
 use Rattle.dns_section.specs.Sections.{question_count}
 use Rattle.dns_build.specs.State.{State, InQuestion, InAnswer}
-use Rattle.dns_build.specs.Standing.{fresh}
+use Rattle.dns_build.specs.BuilderStates.{fresh}
 use Rattle.dns_build.specs.MessageOf.{IsMessageOf}
 use Rattle.dns_c.specs.Codes.{number_of}
 use Rattle.dns_c.specs.NameFaults.{TellsAt}

@@ -3,7 +3,7 @@
 -- `b` are the octets of the message.
 use Rattle.std.specs.Prelude.{◌≡◌, ℕ, suc, ◌+◌, ◌≤◌, List, [], ◌∷◌, length, take, Bool, true, false, Result, Ok, Err}
 use Rattle.dns_octets.specs.declared.error.ParseError.{ParseError}
-use Rattle.dns_name.specs.Names.{Fault, Stands, fault_of}
+use Rattle.dns_name.specs.Names.{Fault, NameAt, fault_of}
 use Rattle.dns_code.specs.Bits.{number_in}
 use Rattle.dns_code.specs.Header.{fields_in}
 use Rattle.dns_code.specs.HeaderSection.{header_size}
@@ -48,7 +48,7 @@ pub record Opens (b : List ℕ) (header : Header) (cursor : Cursor) : Type 0 whe
 -- the item that C gets describes this question
 pub record TellsQuestion (b : List ℕ) (item : Item) (x : QuestionItem) : Type 0 where
   pub section : item.section ≡ 0
-  pub name : Stands b item.place x.name
+  pub name : NameAt b item.place x.name
   pub rtype : item.rtype ≡ x.rtype
   pub class : item.class ≡ x.class
   pub ttl : item.ttl ≡ 0
@@ -57,7 +57,7 @@ pub record TellsQuestion (b : List ℕ) (item : Item) (x : QuestionItem) : Type 
 
 -- the item describes this record
 pub record TellsRecord (b : List ℕ) (item : Item) (x : RecordEntry) : Type 0 where
-  pub name : Stands b item.place x.owner
+  pub name : NameAt b item.place x.owner
   pub rtype : item.rtype ≡ x.rtype
   pub class : item.class ≡ x.class
   pub ttl : item.ttl ≡ x.ttl

@@ -5,7 +5,7 @@ use Rattle.dns_name.specs.Names.{Fault, Labels}
 use Rattle.dns_name.specs.NameTexts.{dot, name_text}
 use Rattle.dns_data.specs.Printing.{hex_octet}
 use Rattle.dns_item.specs.Items.{RecordEntry, ReadsRecord, RecordFaultAt}
-use Rattle.dns_item.specs.ParsedRecord.{StandingRecord}
+use Rattle.dns_item.specs.ParsedRecord.{EncodedRecord}
 use Rattle.dns_item.specs.RecordReading.{up_to_data_end}
 use Rattle.dns_show.specs.Show.{shown_data, typed_parts}
 use Rattle.dns_c.specs.NameFaults.{TellsAt}
@@ -37,4 +37,4 @@ data_octets b x = drop x.data_start (up_to_data_end b x)
 
 -- the text of RDATA, as `dnsmsg show` prints it: by its fields if it is well-formed data of a type with known fields, otherwise as octets
 abbrev pub data_text : List ℕ → RecordEntry → List ℕ
-data_text b x = let r : StandingRecord = record { octets = b; entry = x } in shown_data r (typed_parts r)
+data_text b x = let r : EncodedRecord = record { octets = b; entry = x } in shown_data r (typed_parts r)

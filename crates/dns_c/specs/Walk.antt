@@ -6,7 +6,7 @@ use Rattle.std.specs.Option.{option_map_or}
 use Rattle.dns_name.specs.Names.{Fault}
 use Rattle.dns_question.specs.Questions.{QuestionItem}
 use Rattle.dns_item.specs.Items.{RecordEntry}
-use Rattle.dns_item.specs.ParsedRecord.{StandingRecord}
+use Rattle.dns_item.specs.ParsedRecord.{EncodedRecord}
 use Rattle.dns_section.specs.QuestionsFrom.{questions_from}
 use Rattle.dns_section.specs.RecordsFrom.{records_in}
 use Rattle.dns_section.specs.Sections.{question_count, answer_count, authority_count, additional_count, record_count}
@@ -33,7 +33,7 @@ asked_then (Ok x ∷ xs) after = Ok (Asked x) ∷ asked_then xs after
 asked_then (Err f ∷ xs) after = Err f ∷ []
 
 -- the records of a section, followed by `after`; an error ends the list
-abbrev pub stated_then : Section → List (Result StandingRecord Fault) → List Given → List Given
+abbrev pub stated_then : Section → List (Result EncodedRecord Fault) → List Given → List Given
 stated_then which [] after = after
 stated_then which (Ok x ∷ xs) after = Ok (Stated which x.entry) ∷ stated_then which xs after
 stated_then which (Err f ∷ xs) after = Err f ∷ []

@@ -5,7 +5,7 @@ ghost use Rattle.dns_wire.specs.Parts.{Octets};
 ghost use Rattle.dns_wire.specs.Pieces.{Tree};
 ghost use Rattle.dns_data.specs.UnknownData.{unknown_rtype_of, unknown_octets};
 ghost use Rattle.dns_build.specs.State.{InQuestion, with_questions, with_records};
-ghost use Rattle.dns_build.specs.Standing.{InEach, MovesState};
+ghost use Rattle.dns_build.specs.BuilderStates.{InEach, MovesState};
 ghost use Rattle.dns_c.specs.Codes.{number_of};
 ghost use Rattle.dns_c.specs.Made.{SpellsNoName};
 ghost use Rattle.dns_c.specs.Built.{NewEntry, Means, AllMean, IsQuestionOf, IsRecordOf, IsBuilt, LacksFields, IsRefused, FirstRefused, RefusesQuestion, RefusesRecord, IsUnbuilt, questions_among, records_among, header_of};

@@ -7,7 +7,7 @@ ghost use Rattle.dns_data.specs.A.{address_of};
 ghost use Rattle.dns_data.specs.Printing.{opaque_text};
 ghost use Rattle.dns_data.specs.Soa.{soa_parts};
 ghost use Rattle.dns_item.specs.Items.{RecordEntry, RecordFaultAt};
-ghost use Rattle.dns_item.specs.ParsedRecord.{octets_of, parsed_entry, standing_record};
+ghost use Rattle.dns_item.specs.ParsedRecord.{octets_of, parsed_entry, encoded_record};
 ghost use Rattle.dns_show.specs.Show.{IsRead, data_parts, address_octets_text, parts_text};
 ghost use Rattle.dns_c.specs.Codes.{number_of};
 ghost use Rattle.dns_c.specs.Texts.{Holds, NoRecordAt, RecordAt, data_octets, data_text};
@@ -38,8 +38,8 @@ fn record_at(octets: &[u8], place: usize) -> Result<(ParsedRecord<'_>, &[u8]), P
 /// Parses the RDATA as `D`. Returns `None` if the record has another type or the RDATA is
 /// malformed.
 fn data_as<'a, D: ParseRecordData<'a> + Drop>(found: &ParsedRecord<'a>) -> Option<D>
-    requires { IsRead (standing_record found.now) }
-    ensures { option_map D.parts result ≡ option_and_then (data_parts (standing_record found.now))
+    requires { IsRead (encoded_record found.now) }
+    ensures { option_map D.parts result ≡ option_and_then (data_parts (encoded_record found.now))
         (D.layout (parsed_entry found.now).rtype) }
 {
     match found.to_record::<D>() {
@@ -91,7 +91,7 @@ fn put_opaque(octets: &[u8], out: &mut [u8]) -> End
 /// Writes RDATA by its fields if it is well-formed A, NS, CNAME or SOA data, otherwise as opaque
 /// octets.
 fn put_data(found: &ParsedRecord<'_>, opaque: &[u8], out: &mut [u8]) -> End
-    requires read { IsRead (standing_record found.now) }
+    requires read { IsRead (encoded_record found.now) }
     requires opaque { opaque.now ≡ data_octets (octets_of found.now) (parsed_entry found.now) }
     ensures { Holds out.new (data_text (octets_of found.now) (parsed_entry found.now)) result }
 {

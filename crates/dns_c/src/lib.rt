@@ -16,7 +16,7 @@ mod words;
 
 ghost use Rattle.std.specs.Prelude.{◌≡◌, ◌≢◌, ◌<◌, ◌≤◌, ◌+◌, ◌++◌, ◌∷◌, [], length, take, get_or, None, true};
 ghost use Rattle.dns_name.specs.NameTexts.{name_text};
-ghost use Rattle.dns_name.specs.Names.{Labels, Stands, uncompressed};
+ghost use Rattle.dns_name.specs.Names.{Labels, NameAt, uncompressed};
 ghost use Rattle.dns_wire.specs.Pieces.{Tree};
 ghost use Rattle.dns_code.specs.Header.{fields_in};
 ghost use Rattle.dns_code.specs.HeaderSection.{header_size};
@@ -76,10 +76,10 @@ pub extern "C" fn dns_name_text(message: &[u8], place: usize, out: &mut [u8], le
     ensures length { length out.new ≡ length out.old }
     ensures within { result ≡ 0 → len.new < length out.new }
     ensures empty { result ≢ 0 → len.new ≡ 0 }
-    ensures text { result ≡ 0 → (name : Labels) × Stands message.now place name
+    ensures text { result ≡ 0 → (name : Labels) × NameAt message.now place name
         × (take (len.new + 1) out.new ≡ name_text name ++ 46 ∷ 0 ∷ []) }
     ensures no_room { result ≡ number_of Fault.NoRoom → (name : Labels)
-        × Stands message.now place name × (length out.old < length (name_text name) + 2) }
+        × NameAt message.now place name × (length out.old < length (name_text name) + 2) }
     ensures short { result ≡ number_of Fault.NoRoom → length out.old < 1005 }
     ensures no_name { result ≢ 0 → result ≢ number_of Fault.NoRoom
         → LacksName message.now place result }
@@ -101,10 +101,10 @@ pub extern "C" fn dns_name_octets(
     ensures length { length out.new ≡ length out.old }
     ensures within { len.new ≤ length out.new }
     ensures empty { result ≢ 0 → len.new ≡ 0 }
-    ensures name { result ≡ 0 → (name : Labels) × Stands message.now place name
+    ensures name { result ≡ 0 → (name : Labels) × NameAt message.now place name
         × (take len.new out.new ≡ uncompressed name) }
     ensures no_room { result ≡ number_of Fault.NoRoom → (name : Labels)
-        × Stands message.now place name × (length out.old < length (uncompressed name)) }
+        × NameAt message.now place name × (length out.old < length (uncompressed name)) }
     ensures no_name { result ≢ 0 → result ≢ number_of Fault.NoRoom
         → LacksName message.now place result }
 {

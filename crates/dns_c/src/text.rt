@@ -1,6 +1,6 @@
 //! Text that is returned to the caller.
 ghost use Rattle.std.specs.Prelude.{◌≡◌, ◌≢◌, ◌<◌, ◌+◌, ◌++◌, ◌∷◌, ℕ, List, [], length, get_or, take, IfOk, IfErr};
-ghost use Rattle.dns_name.specs.Names.{Labels, Stands};
+ghost use Rattle.dns_name.specs.Names.{Labels, NameAt};
 ghost use Rattle.dns_c.specs.Codes.{number_of};
 ghost use Rattle.dns_c.specs.Made.{LacksName};
 ghost use Rattle.dns_c.specs.Texts.{Holds, absolute_name};
@@ -12,7 +12,7 @@ use crate::walk::name_at;
 
 /// Writes the name at offset `place`, with a dot after each label.
 pub(crate) fn name(octets: &[u8], place: usize, out: &mut [u8]) -> Result<End, Fault>
-    ensures text { IfOk result (λ end. (name : Labels) × Stands octets.now place name
+    ensures text { IfOk result (λ end. (name : Labels) × NameAt octets.now place name
         × Holds out.new (absolute_name name) end) }
     ensures none { IfErr result (λ fault. LacksName octets.now place (number_of fault)) }
 {

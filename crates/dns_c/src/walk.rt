@@ -1,6 +1,6 @@
 //! Iterates over a message with a cursor that the caller owns.
 ghost use Rattle.std.specs.Prelude.{◌≡◌, ◌≢◌, ◌+◌, ◌<◌, ◌≤◌, length, true, Ok, Err, IfOk, IfErr};
-ghost use Rattle.dns_name.specs.Names.{FaultAt, Stands, fault_of};
+ghost use Rattle.dns_name.specs.Names.{FaultAt, NameAt, fault_of};
 ghost use Rattle.dns_name.specs.Names.Fault.{Form};
 ghost use Rattle.dns_name.specs.ParsedName.{labels};
 ghost use Rattle.dns_name.specs.Parsers as Parsers;
@@ -250,7 +250,7 @@ pub(crate) fn next(octets: &[u8], cursor: &mut Cursor, item: &mut Item) -> Resul
 
 /// Parses the name at offset `place`.
 fn parse_name(octets: &[u8], place: usize) -> Result<ParsedName<'_>, ParseError>
-    ensures name { IfOk result (λ name. Stands octets.now place (labels name)) }
+    ensures name { IfOk result (λ name. NameAt octets.now place (labels name)) }
     ensures none { IfErr result (λ error. FaultAt octets.now place (fault_of error)) }
 {
     let mut parser = parser_at(octets, place)?;
@@ -259,7 +259,7 @@ fn parse_name(octets: &[u8], place: usize) -> Result<ParsedName<'_>, ParseError>
 
 /// The name at offset `place`.
 pub(crate) fn name_at(octets: &[u8], place: usize) -> Result<ParsedName<'_>, Fault>
-    ensures name { IfOk result (λ name. Stands octets.now place (labels name)) }
+    ensures name { IfOk result (λ name. NameAt octets.now place (labels name)) }
     ensures none { IfErr result (λ fault. LacksName octets.now place (number_of fault)) }
 {
     match parse_name(octets, place) {

@@ -1,11 +1,11 @@
 -- Theorems over all parts that are composed and all RDATA in all octets. RFC 1035 sections 3.3 and 4.1.4.
 use Rattle.std.specs.Prelude.{◌≡◌, ◌⊎◌, ℕ, ◌≤◌, List, [], ◌∷◌, length, take, Bool, Option, Result, Ok, Err}
 use Rattle.dns_name.specs.Names.{Fault, Labels, IsName, uncompressed}
-use Rattle.dns_wire.specs.Parts.{Part, PartsStand, put_part, put_parts}
+use Rattle.dns_wire.specs.Parts.{Part, PartsAt, put_part, put_parts}
 use Rattle.dns_wire.specs.Pieces.{Rule}
 use Rattle.dns_wire.specs.Targets.{Written, Fits, lay, Appends, Composes}
 use Rattle.dns_octets.specs.declared.error.AppendError.{AppendError}
-use Rattle.dns_data.specs.Layout.{Layout, IsLaidOut, DataStands, DataFaultAt}
+use Rattle.dns_data.specs.Layout.{Layout, IsLaidOut, DataAt, DataFaultAt}
 
 -- composing no parts changes nothing
 abbrev pub NoPartComposes : Type 0
@@ -33,9 +33,9 @@ NamesAreBounded = (name : Labels) → IsName name → length (uncompressed name)
 
 -- at offset p, either exactly one list of parts has the layout, with one end, or there is exactly one fault, never both
 pub record DatumOrFault (b : List ℕ) (layout : Layout) (p : ℕ) : Type 0 where
-  pub some : ((q : ℕ) × (parts : List Part) × DataStands b layout p q parts) ⊎ ((f : Fault) × DataFaultAt b layout p f)
-  pub one : (q r : ℕ) (xs ys : List Part) → DataStands b layout p q xs → DataStands b layout p r ys → (q ≡ r) × (xs ≡ ys)
-  pub not_both : (q : ℕ) (parts : List Part) (f : Fault) → DataStands b layout p q parts → DataFaultAt b layout p f → ⊥
+  pub some : ((q : ℕ) × (parts : List Part) × DataAt b layout p q parts) ⊎ ((f : Fault) × DataFaultAt b layout p f)
+  pub one : (q r : ℕ) (xs ys : List Part) → DataAt b layout p q xs → DataAt b layout p r ys → (q ≡ r) × (xs ≡ ys)
+  pub not_both : (q : ℕ) (parts : List Part) (f : Fault) → DataAt b layout p q parts → DataFaultAt b layout p f → ⊥
   pub one_fault : (f g : Fault) → DataFaultAt b layout p f → DataFaultAt b layout p g → f ≡ g
 
 -- `DatumOrFault` holds at each offset in all octets, and at their end
@@ -43,6 +43,6 @@ abbrev pub OneDatumOrFault : Type 0
 OneDatumOrFault = (b : List ℕ) (layout : Layout) (p : ℕ) → p ≤ length b → DatumOrFault b layout p
 
 -- parts that fill the octets from p to an end are there in each layout that they have, if only the octets up to that end are seen
-abbrev pub StandingPartsRead : Type 0
-StandingPartsRead = (b : List ℕ) (end p : ℕ) (layout : Layout) (parts : List Part)
-    → end ≤ length b → PartsStand b end p parts → IsLaidOut layout parts → DataStands (take end b) layout p end parts
+abbrev pub EncodedPartsRead : Type 0
+EncodedPartsRead = (b : List ℕ) (end p : ℕ) (layout : Layout) (parts : List Part)
+    → end ≤ length b → PartsAt b end p parts → IsLaidOut layout parts → DataAt (take end b) layout p end parts

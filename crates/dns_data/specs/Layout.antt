@@ -2,7 +2,7 @@
 --
 -- `b` is the octets that are seen: those of the message up to the end of the RDATA.
 use Rattle.std.specs.Prelude.{◌≡◌, ◌⊎◌, ℕ, ◌+◌, ◌<◌, ◌≤◌, Bool, IsTrue, List, [], ◌∷◌, length, drop, slice_index, slice_range}
-use Rattle.dns_name.specs.Names.{Fault, Labels, Stands, FaultAt, Walked}
+use Rattle.dns_name.specs.Names.{Fault, Labels, NameAt, FaultAt, Walked}
 use Rattle.dns_name.specs.Names.Fault.{ShortInput}
 use Rattle.dns_wire.specs.Parts.{Part}
 use Rattle.dns_wire.specs.Parts.Part.{Octets, CompressibleName}
@@ -39,21 +39,21 @@ IsLaidOut (DomainName layout) (Octets octets ∷ parts) = ⊥
 IsLaidOut (DomainName layout) (CompressibleName name ∷ parts) = IsLaidOut layout parts
 
 -- the fields are at offset p and end before q, with these parts
-abbrev pub DataStands : List ℕ → Layout → ℕ → ℕ → List Part → Type 0
-DataStands b End p q parts = (q ≡ p) × (parts ≡ [])
-DataStands b (Rest accepts) p q parts = (q ≡ length b) × (parts ≡ Octets (drop p b) ∷ []) × IsTrue (accepts (drop p b))
-DataStands b (Fixed n layout) p q [] = ⊥
-DataStands b (Fixed n layout) p q (Octets octets ∷ parts) =
-    (length octets ≡ n) × (slice_range b p (p + n) ≡ octets) × DataStands b layout (p + n) q parts
-DataStands b (Fixed n layout) p q (CompressibleName name ∷ parts) = ⊥
-DataStands b (CharacterString layout) p q [] = ⊥
-DataStands b (CharacterString layout) p q (Octets octets ∷ parts) =
-    let n = string_size b p in (length octets ≡ n) × (slice_range b p (p + n) ≡ octets) × DataStands b layout (p + n) q parts
-DataStands b (CharacterString layout) p q (CompressibleName name ∷ parts) = ⊥
-DataStands b (DomainName layout) p q [] = ⊥
-DataStands b (DomainName layout) p q (Octets octets ∷ parts) = ⊥
-DataStands b (DomainName layout) p q (CompressibleName name ∷ parts) =
-    (r : ℕ) × Stands b p name × Walked b p r × DataStands b layout r q parts
+abbrev pub DataAt : List ℕ → Layout → ℕ → ℕ → List Part → Type 0
+DataAt b End p q parts = (q ≡ p) × (parts ≡ [])
+DataAt b (Rest accepts) p q parts = (q ≡ length b) × (parts ≡ Octets (drop p b) ∷ []) × IsTrue (accepts (drop p b))
+DataAt b (Fixed n layout) p q [] = ⊥
+DataAt b (Fixed n layout) p q (Octets octets ∷ parts) =
+    (length octets ≡ n) × (slice_range b p (p + n) ≡ octets) × DataAt b layout (p + n) q parts
+DataAt b (Fixed n layout) p q (CompressibleName name ∷ parts) = ⊥
+DataAt b (CharacterString layout) p q [] = ⊥
+DataAt b (CharacterString layout) p q (Octets octets ∷ parts) =
+    let n = string_size b p in (length octets ≡ n) × (slice_range b p (p + n) ≡ octets) × DataAt b layout (p + n) q parts
+DataAt b (CharacterString layout) p q (CompressibleName name ∷ parts) = ⊥
+DataAt b (DomainName layout) p q [] = ⊥
+DataAt b (DomainName layout) p q (Octets octets ∷ parts) = ⊥
+DataAt b (DomainName layout) p q (CompressibleName name ∷ parts) =
+    (r : ℕ) × NameAt b p name × Walked b p r × DataAt b layout r q parts
 
 -- why the fields aren't at offset p: the first field that isn't there lacks octets, or its name has a fault
 abbrev pub DataFaultAt : List ℕ → Layout → ℕ → Fault → Type 0
@@ -63,4 +63,4 @@ DataFaultAt b (Fixed n layout) p f = ((f ≡ ShortInput) × (length b < p + n)) 
 DataFaultAt b (CharacterString layout) p f =
     let n = string_size b p in ((f ≡ ShortInput) × (length b < p + n)) ⊎ ((p + n ≤ length b) × DataFaultAt b layout (p + n) f)
 DataFaultAt b (DomainName layout) p f =
-    FaultAt b p f ⊎ ((name : Labels) × (q : ℕ) × Stands b p name × Walked b p q × DataFaultAt b layout q f)
+    FaultAt b p f ⊎ ((name : Labels) × (q : ℕ) × NameAt b p name × Walked b p q × DataFaultAt b layout q f)

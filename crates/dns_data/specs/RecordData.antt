@@ -6,7 +6,7 @@ use Rattle.dns_wire.specs.Parts.{Part, AreParts, parts_size}
 use Rattle.dns_wire.specs.Parts.Part.{Octets, CompressibleName}
 use Rattle.dns_octets.specs.declared.error.ParseError.{ParseError}
 use Rattle.dns_name.specs.declared.parser.Parser.{Parser}
-use Rattle.dns_data.specs.Layout.{Layout, DataStands, DataFaultAt}
+use Rattle.dns_data.specs.Layout.{Layout, DataAt, DataFaultAt}
 
 -- parts that RDATA can have: their names are names, and uncompressed they take at most 65,535 octets
 pub record IsData (parts : List Part) : Type 0 where
@@ -30,7 +30,7 @@ module _ {D : Type 0} (rtype_of : D → ℕ) (parts_of : D → List Part) where
   -- What reading RDATA of a layout returns: the value whose parts are at the parser's offset, with the parser moved past them; or the first fault there, and the parser doesn't move.
   abbrev pub ParsesLaidOut : Layout → ℕ → Parser → Parser → Result D ParseError → Type 0
   ParsesLaidOut layout rtype old new (Ok value) =
-      (rtype_of value ≡ rtype) × DataStands (seen old) layout (offset old) (offset new) (parts_of value) × MovesTo old new (offset new)
+      (rtype_of value ≡ rtype) × DataAt (seen old) layout (offset old) (offset new) (parts_of value) × MovesTo old new (offset new)
   ParsesLaidOut layout rtype old new (Err e) = DataFaultAt (seen old) layout (offset old) (fault_of e) × (new ≡ old)
 
   -- As `ParsesLaidOut`, for a type that may have no layout: then it returns `None`, and the parser doesn't move.

@@ -3,7 +3,7 @@
 ghost use Rattle.std.specs.Prelude.{◌≡◌};
 ghost use Rattle.std.specs.Ordering.{as_partial_cmp};
 ghost use Rattle.dns_data.specs.DataOrders.{zones_equal, zone_order, zone_hash_input};
-ghost use Rattle.dns_data.specs.Laws.{NoPartComposes, OnePartComposes, PartsComposeAfter, RefusedPartComposes, NamesAreBounded, OneDatumOrFault, StandingPartsRead};
+ghost use Rattle.dns_data.specs.Laws.{NoPartComposes, OnePartComposes, PartsComposeAfter, RefusedPartComposes, NamesAreBounded, OneDatumOrFault, EncodedPartsRead};
 
 use crate::soa::Soa;
 use std::hash::Hash;
@@ -32,7 +32,7 @@ pub fn one_datum_or_fault()
 /// Parts that fill a range of octets, as written parts do, are read back by every layout that they
 /// have.
 pub fn parts_read_back()
-    ensures { StandingPartsRead }
+    ensures { EncodedPartsRead }
 {}
 
 /// Two values of SOA data are equal if and only if all their fields are.

@@ -3,7 +3,7 @@ use Rattle.std.proofs.Common.{◌≡◌, ℕ, ◌+◌, ◌<◌, ◌≤◌, Ok, L
 use Rattle.std.specs.Int.{w16}
 use Rattle.dns_octets.specs.declared.error.ParseError.{ParseError}
 use Rattle.dns_octets.specs.declared.error.ParseError.TheVariants.{ShortInput}
-use Rattle.dns_name.specs.Names.{Fault, fault_of, Labels, Stands}
+use Rattle.dns_name.specs.Names.{Fault, fault_of, Labels, NameAt}
 use Rattle.dns_name.specs.ParsedName.{MovesPastName}
 use Rattle.dns_name.specs.Parsers.{seen, offset, MovesTo, number_at}
 use Rattle.dns_name.specs.declared.parsed_name.ParsedName.{ParsedName}
@@ -19,11 +19,11 @@ use Rattle.dns_item.proofs.theory.EntryLemmas.{record_or_fault}
 -- What parsing a record header returns, and when a header and its RDATA are a record.
 
 -- too few octets follow a parsed owner
-pub short : (old mid : Parser) (owner : Labels) (e : ParseError) → Stands (seen old) (offset old) owner → MovesPastName old mid → length (seen mid) < offset mid + 10 → e ≡ ShortInput
+pub short : (old mid : Parser) (owner : Labels) (e : ParseError) → NameAt (seen old) (offset old) owner → MovesPastName old mid → length (seen mid) < offset mid + 10 → e ≡ ShortInput
     → HeaderFaultAt (seen old) (offset old) (fault_of e)
-short old mid owner e stands moves l is =
+short old mid owner e encoded moves l is =
     let n : length (seen mid) ≡ length (seen old) = ap length moves.1.seen in
-    subst (λ e. HeaderFaultAt (seen old) (offset old) (fault_of e)) (sym is) (short_fields stands moves.0 (omega arith))
+    subst (λ e. HeaderFaultAt (seen old) (offset old) (fault_of e)) (sym is) (short_fields encoded moves.0 (omega arith))
 
 -- if no header can be read, no record can
 pub without_header : (b : List ℕ) (p : ℕ) (f : Fault) → HeaderFaultAt b p f → RecordFaultAt b p f

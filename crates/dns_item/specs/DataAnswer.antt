@@ -6,45 +6,45 @@ use Rattle.std.specs.Prelude.{Result, Ok, Err}
 use Rattle.dns_name.specs.Names.{Fault}
 use Rattle.dns_name.specs.Names.Fault.{Form, ShortInput}
 use Rattle.dns_wire.specs.Parts.{Part}
-use Rattle.dns_data.specs.Layout.{Layout, DataStands}
+use Rattle.dns_data.specs.Layout.{Layout, DataAt}
 use Rattle.dns_data.proofs.theory.DataAnswers.{one_datum_or_fault, data_within}
-use Rattle.dns_item.specs.ParsedRecord.{StandingRecord}
+use Rattle.dns_item.specs.ParsedRecord.{EncodedRecord}
 use Rattle.dns_item.specs.RecordReading.{WholeDataFaultAt, IsThere, up_to_data_end, HasData, HasDataFault}
 use Rattle.dns_item.specs.RecordReading.WholeDataFaultAt.{first, left_over}
 
 -- the RDATA of a record lies within the octets that it is read from
-pub record HasSpan (x : StandingRecord) : Type 0 where
+pub record HasSpan (x : EncodedRecord) : Type 0 where
   pub start : x.entry.data_start ≤ x.entry.data_end
   pub end : IsThere x.octets x.entry
 
 -- The result of reading the RDATA by a layout: the parts that fill it, or its fault; `ShortInput` if the RDATA isn't all there.
-pub data IsDataAnswer (x : StandingRecord) (layout : Layout) : Result (List Part) Fault → Type 0 where
+pub data IsDataAnswer (x : EncodedRecord) (layout : Layout) : Result (List Part) Fault → Type 0 where
   whole : {parts : List Part} → HasSpan x → HasData x.octets x.entry layout parts → IsDataAnswer x layout (Ok parts)
   fault : {f : Fault} → HasSpan x → HasDataFault x.octets x.entry layout f → IsDataAnswer x layout (Err f)
   missing : (HasSpan x → ⊥) → IsDataAnswer x layout (Err ShortInput)
 
 -- there is a result, and no other
-pub record OneDataAnswer (x : StandingRecord) (layout : Layout) : Type 0 where
+pub record OneDataAnswer (x : EncodedRecord) (layout : Layout) : Type 0 where
   pub some : (r : Result (List Part) Fault) × IsDataAnswer x layout r
   pub one : (r s : Result (List Part) Fault) → IsDataAnswer x layout r → IsDataAnswer x layout s → r ≡ s
 
 -- RDATA of a layout that takes all octets from p on, or the fault of octets that aren't such RDATA
 module _ (b : List ℕ) (layout : Layout) (p : ℕ) (within : p ≤ length b) where
-  some_whole : ((parts : List Part) × DataStands b layout p (length b) parts) ⊎ ((f : Fault) × WholeDataFaultAt b layout p f)
+  some_whole : ((parts : List Part) × DataAt b layout p (length b) parts) ⊎ ((f : Fault) × WholeDataFaultAt b layout p f)
   some_whole =
       elim (one_datum_or_fault b layout p within).some [
         | inl d ↦ elim (leb_tells (length b) d.0) [
           | inl l ↦
               let end = data_within b layout p d.0 d.1 within d.2 in
               let all : d.0 ≡ length b = omega (arith, l.1, end) in
-              inl (d.1, subst (λ q. DataStands b layout p q d.1) all d.2)
+              inl (d.1, subst (λ q. DataAt b layout p q d.1) all d.2)
           | inr l ↦ inr (Form, left_over d.0 d.1 d.2 l.1)
         ]
         | inr f ↦ inr (f.0, first f.1)
       ]
 
   -- if RDATA takes all octets, there is no fault
-  pub no_fault : (parts : List Part) (f : Fault) → DataStands b layout p (length b) parts → WholeDataFaultAt b layout p f → ⊥
+  pub no_fault : (parts : List Part) (f : Fault) → DataAt b layout p (length b) parts → WholeDataFaultAt b layout p f → ⊥
   no_fault parts f h (first g) = (one_datum_or_fault b layout p within).not_both (length b) parts f h g
   no_fault parts f h (left_over q others k short) =
       let e = (one_datum_or_fault b layout p within).one (length b) q parts others h k in
@@ -56,7 +56,7 @@ module _ (b : List ℕ) (layout : Layout) (p : ℕ) (within : p ≤ length b) wh
   one_whole_fault {f} {g} (left_over q parts k short) (first h) = absurd ((one_datum_or_fault b layout p within).not_both q parts g k h)
   one_whole_fault (left_over q parts h short) (left_over r others k less) = refl
 
-module _ (x : StandingRecord) (layout : Layout) where
+module _ (x : EncodedRecord) (layout : Layout) where
   -- the number of octets up to the end of the RDATA, if that is all there
   pub ends_there : HasSpan x → length (up_to_data_end x.octets x.entry) ≡ x.entry.data_end
   ends_there span = let there = span.end in grind (arith, common_steps)
@@ -76,16 +76,16 @@ module _ (x : StandingRecord) (layout : Layout) where
 
   -- RDATA up to its end, which is the end of the octets that are seen
   to_end : HasSpan x → (parts : List Part) → HasData x.octets x.entry layout parts
-      → DataStands (up_to_data_end x.octets x.entry) layout x.entry.data_start (length (up_to_data_end x.octets x.entry)) parts
+      → DataAt (up_to_data_end x.octets x.entry) layout x.entry.data_start (length (up_to_data_end x.octets x.entry)) parts
   to_end span parts h =
-      subst (λ q. DataStands (up_to_data_end x.octets x.entry) layout x.entry.data_start q parts) (sym (ends_there span)) h
+      subst (λ q. DataAt (up_to_data_end x.octets x.entry) layout x.entry.data_start q parts) (sym (ends_there span)) h
 
   some_answer : (r : Result (List Part) Fault) × IsDataAnswer x layout r
   some_answer =
       elim span_or_not [
         | inl span ↦ elim (some_whole (up_to_data_end x.octets x.entry) layout x.entry.data_start (starts_within span)) [
           | inl d ↦
-              let there = subst (λ q. DataStands (up_to_data_end x.octets x.entry) layout x.entry.data_start q d.0) (ends_there span) d.1 in
+              let there = subst (λ q. DataAt (up_to_data_end x.octets x.entry) layout x.entry.data_start q d.0) (ends_there span) d.1 in
               (Ok d.0, whole span there)
           | inr f ↦ (Err f.0, fault span f.1)
         ]

@@ -1,9 +1,9 @@
 -- A record as a value, and its encoding. RFC 1035 section 4.1.3.
 use Rattle.std.specs.Prelude.{ℕ, ◌<◌, ◌≤◌, ◌^◌, List, ◌++◌, ◌≡◌, ◌+◌, length}
 use Rattle.std.specs.Int.{to_be_bytes, w16, w32}
-use Rattle.dns_name.specs.Names.{Labels, IsName, Fault, Stands, Walked, ReadsOrFaults, EndsOrFaults}
+use Rattle.dns_name.specs.Names.{Labels, IsName, Fault, NameAt, Walked, ReadsOrFaults, EndsOrFaults}
 use Rattle.dns_name.specs.Parsers.{number_at}
-use Rattle.dns_wire.specs.Parts.{Part, AreParts, put_parts, parts_size, PartsStand}
+use Rattle.dns_wire.specs.Parts.{Part, AreParts, put_parts, parts_size, PartsAt}
 use Rattle.dns_wire.specs.Pieces.{Rule, Piece, put_octets, both, with_length, put_name, IsGrowing}
 use Rattle.dns_wire.specs.Targets.{Written, IsTarget, lay}
 use Rattle.dns_question.specs.AfterNames.{SkipsFields, FieldsFaultAt, FieldsSkipFaultAt}
@@ -53,7 +53,7 @@ pub record ReadsHeader (b : List ℕ) (p q : ℕ) (x : HeaderEntry) : Type 0 whe
   pub walked : Walked b p name_end
   pub end : q ≡ name_end + 10
   pub within : q ≤ length b
-  pub owner : Stands b p x.owner
+  pub owner : NameAt b p x.owner
   pub rtype : x.rtype ≡ number_at w16 b name_end
   pub class : x.class ≡ number_at w16 b (name_end + 2)
   pub ttl : x.ttl ≡ number_at w32 b (name_end + 4)
@@ -71,7 +71,7 @@ pub record RecordEntry : Type 0 where
 -- a record is encoded from p to q, and `x` is what is read of it
 pub record ReadsRecord (b : List ℕ) (p q : ℕ) (x : RecordEntry) : Type 0 where
   pub skips : SkipsRecord b p q
-  pub owner : Stands b p x.owner
+  pub owner : NameAt b p x.owner
   pub rtype : x.rtype ≡ number_at w16 b skips.name_end
   pub class : x.class ≡ number_at w16 b (skips.name_end + 2)
   pub ttl : x.ttl ≡ number_at w32 b (skips.name_end + 4)
@@ -101,7 +101,7 @@ pub record TellsRecord (b : List ℕ) (x : RecordEntry) (item : RecordItem) : Ty
   pub rtype : x.rtype ≡ item.rtype
   pub class : x.class ≡ item.class
   pub ttl : x.ttl ≡ item.ttl
-  pub parts : PartsStand b x.data_end x.data_start item.parts
+  pub parts : PartsAt b x.data_end x.data_start item.parts
 
 -- a record with these fields and parts is encoded from p to q
 pub record ReadsRecordItem (b : List ℕ) (p q : ℕ) (item : RecordItem) : Type 0 where

@@ -27,13 +27,13 @@ abbrev pub parsed_entry : ParsedRecord → RecordEntry
 parsed_entry r = record_at (header_of r) (offset (data_parser r))
 
 -- a record in octets: the octets that it is read from, and what is read of it
-pub record StandingRecord : Type 0 where
+pub record EncodedRecord : Type 0 where
   pub octets : List ℕ
   pub entry : RecordEntry
 
 -- a parsed record in its octets
-abbrev pub standing_record : ParsedRecord → StandingRecord
-standing_record r = record { octets = octets_of r; entry = parsed_entry r }
+abbrev pub encoded_record : ParsedRecord → EncodedRecord
+encoded_record r = record { octets = octets_of r; entry = parsed_entry r }
 
 -- What parsing returns: the record at the parser's offset, with the parser moved past it, and a parser for the RDATA that sees the same octets; or the fault there, and the parser doesn't move.
 abbrev pub ParsesRecord : Parser → Parser → Result ParsedRecord ParseError → Type 0

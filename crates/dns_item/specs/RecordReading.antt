@@ -4,12 +4,12 @@ use Rattle.dns_name.specs.Names.{Fault, fault_of}
 use Rattle.dns_name.specs.Names.Fault.{Form}
 use Rattle.dns_name.specs.ParsedName.{labels}
 use Rattle.dns_name.specs.Parsers.{seen, MovesTo}
-use Rattle.dns_wire.specs.Parts.{Part, PartsStand}
+use Rattle.dns_wire.specs.Parts.{Part, PartsAt}
 use Rattle.dns_octets.specs.declared.error.ParseError.{ParseError}
 use Rattle.dns_octets.specs.declared.error.ParseError.TheVariants.{ShortInput}
 use Rattle.dns_name.specs.declared.parsed_name.ParsedName.{ParsedName}
 use Rattle.dns_name.specs.declared.parser.Parser.{Parser}
-use Rattle.dns_data.specs.Layout.{Layout, IsLaidOut, DataStands, DataFaultAt}
+use Rattle.dns_data.specs.Layout.{Layout, IsLaidOut, DataAt, DataFaultAt}
 use Rattle.dns_item.specs.Items.{RecordEntry, RecordItem}
 use Rattle.dns_item.specs.Record.{data_of, record_item}
 use Rattle.dns_item.specs.declared.record.Record.{Record}
@@ -17,7 +17,7 @@ use Rattle.dns_item.specs.declared.record.Record.{Record}
 -- Why the octets from p to the end aren't RDATA of a layout: the first fault, or octets are left over.
 pub data WholeDataFaultAt (b : List ℕ) (layout : Layout) (p : ℕ) : Fault → Type 0 where
   first : {f : Fault} → DataFaultAt b layout p f → WholeDataFaultAt b layout p f
-  left_over : (q : ℕ) (parts : List Part) → DataStands b layout p q parts → q < length b → WholeDataFaultAt b layout p Form
+  left_over : (q : ℕ) (parts : List Part) → DataAt b layout p q parts → q < length b → WholeDataFaultAt b layout p Form
 
 -- the record of what was read of it and of the parts of its RDATA
 abbrev pub item_of : RecordEntry → List Part → RecordItem
@@ -38,7 +38,7 @@ up_to_data_end b x = take x.data_end b
 
 -- RDATA of the layout fills the record's RDATA, and these are its parts.
 abbrev pub HasData : List ℕ → RecordEntry → Layout → List Part → Type 0
-HasData b x layout parts = DataStands (up_to_data_end b x) layout x.data_start x.data_end parts
+HasData b x layout parts = DataAt (up_to_data_end b x) layout x.data_start x.data_end parts
 
 -- the fault of a record whose RDATA isn't of the layout
 abbrev pub HasDataFault : List ℕ → RecordEntry → Layout → Fault → Type 0
@@ -76,30 +76,30 @@ module _ {D : Type 0} (rtype_of : D → ℕ) (parts_of : D → List Part) (b : L
   -- If parts of the layout fill the RDATA, the result is the record with these parts.
   abbrev pub GivesBack : Layout → Result (Record ParsedName D) ParseError → Type 0
   GivesBack layout result =
-      (parts : List Part) → IsThere b x → IsLaidOut layout parts → PartsStand b x.data_end x.data_start parts → IsOkAnd result (IsRecordOf parts)
+      (parts : List Part) → IsThere b x → IsLaidOut layout parts → PartsAt b x.data_end x.data_start parts → IsOkAnd result (IsRecordOf parts)
 
   -- as `GivesBack`, for a type that may have no layout
   abbrev pub GivesBackTaken : Option Layout → Result (Option (Record ParsedName D)) ParseError → Type 0
   GivesBackTaken taken result =
-      (layout : Layout) (parts : List Part) → taken ≡ Some layout → IsThere b x → IsLaidOut layout parts → PartsStand b x.data_end x.data_start parts
+      (layout : Layout) (parts : List Part) → taken ≡ Some layout → IsThere b x → IsLaidOut layout parts → PartsAt b x.data_end x.data_start parts
       → IsOkAnd result (λ o. IsSomeAnd o (IsRecordOf parts))
 
   -- If the parts of a value of the record's type fill the RDATA, the result is a record with these parts.
   abbrev pub GivesValueBack : Result (Record ParsedName D) ParseError → Type 0
   GivesValueBack result =
-      (value : D) → rtype_of value ≡ x.rtype → IsThere b x → PartsStand b x.data_end x.data_start (parts_of value)
+      (value : D) → rtype_of value ≡ x.rtype → IsThere b x → PartsAt b x.data_end x.data_start (parts_of value)
       → IsOkAnd result (IsRecordOf (parts_of value))
 
   -- as `GivesValueBack`, for a type that may not be accepted
   abbrev pub GivesValueBackTaken : Result (Option (Record ParsedName D)) ParseError → Type 0
   GivesValueBackTaken result =
-      (value : D) → rtype_of value ≡ x.rtype → IsThere b x → PartsStand b x.data_end x.data_start (parts_of value)
+      (value : D) → rtype_of value ≡ x.rtype → IsThere b x → PartsAt b x.data_end x.data_start (parts_of value)
       → IsOkAnd result (λ o. IsSomeAnd o (IsRecordOf (parts_of value)))
 
 module _ {D : Type 0} (rtype_of : D → ℕ) (parts_of : D → List Part) (b : List ℕ) (p : ℕ) where
   -- What reading RDATA from p to the end returns: a value whose parts take all these octets, or the fault.
   abbrev pub IsWhole : ℕ → Layout → Result D ParseError → Type 0
-  IsWhole rtype layout (Ok value) = (rtype_of value ≡ rtype) × DataStands b layout p (length b) (parts_of value)
+  IsWhole rtype layout (Ok value) = (rtype_of value ≡ rtype) × DataAt b layout p (length b) (parts_of value)
   IsWhole rtype layout (Err e) = WholeDataFaultAt b layout p (fault_of e)
 
   -- as `IsWhole`, or `None` for a type that isn't accepted

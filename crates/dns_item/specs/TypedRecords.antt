@@ -8,19 +8,19 @@ use Rattle.dns_wire.specs.Parts.{Part}
 use Rattle.dns_data.specs.Layout.{Layout}
 use Rattle.dns_item.specs.DataAnswer.{IsDataAnswer, one_data_answer}
 use Rattle.dns_item.specs.Items.{RecordItem, RecordEntry}
-use Rattle.dns_item.specs.ParsedRecord.{StandingRecord}
+use Rattle.dns_item.specs.ParsedRecord.{EncodedRecord}
 use Rattle.dns_item.specs.Record.{record_item}
 use Rattle.dns_item.specs.RecordReading.{item_of}
 use Rattle.dns_item.specs.declared.record.Record.{Record}
 
 -- the one result of reading a record's RDATA by a layout: its parts, or the fault; `ShortInput` if the RDATA isn't all there
-unfoldable pub data_in : StandingRecord → Layout → Result (List Part) Fault
+unfoldable pub data_in : EncodedRecord → Layout → Result (List Part) Fault
 data_in x layout = (one_data_answer x layout).some.0
 
 -- `data_in` is the result of reading by the layout, and there is no other
 pub record DataIsAnswered : Type 0 where
-  pub answer : (x : StandingRecord) (layout : Layout) → IsDataAnswer x layout (data_in x layout)
-  pub only : (x : StandingRecord) (layout : Layout) (r : Result (List Part) Fault) → IsDataAnswer x layout r → data_in x layout ≡ r
+  pub answer : (x : EncodedRecord) (layout : Layout) → IsDataAnswer x layout (data_in x layout)
+  pub only : (x : EncodedRecord) (layout : Layout) (r : Result (List Part) Fault) → IsDataAnswer x layout r → data_in x layout ≡ r
 
 -- a record with the parts of its RDATA, or the fault of the RDATA
 abbrev pub with_parts : RecordEntry → Result (List Part) Fault → Result RecordItem Fault
@@ -28,11 +28,11 @@ with_parts x (Ok parts) = Ok (item_of x parts)
 with_parts x (Err f) = Err f
 
 -- the result of reading a record by a layout: the record with the parts of its RDATA, or the fault of the RDATA
-abbrev pub laid_out : StandingRecord → Layout → Result RecordItem Fault
+abbrev pub laid_out : EncodedRecord → Layout → Result RecordItem Fault
 laid_out x layout = with_parts x.entry (data_in x layout)
 
 -- the result of reading a record by an RDATA type, given its layouts: `None` if it doesn't accept the record type
-abbrev pub answer_to : (ℕ → Option Layout) → StandingRecord → Option (Result RecordItem Fault)
+abbrev pub answer_to : (ℕ → Option Layout) → EncodedRecord → Option (Result RecordItem Fault)
 answer_to layouts x = option_map (laid_out x) (layouts x.entry.rtype)
 
 -- a record that was read with its RDATA as a value, or the fault

@@ -12,12 +12,12 @@ use Rattle.dns_message.specs.declared.script.Stage.{Stage}
 use Rattle.dns_message.specs.declared.script.Stage.TheVariants.{Builder, Question, Answer, Authority, Additional}
 use Rattle.dns_message.specs.declared.script.Call.{Call}
 use Rattle.dns_message.specs.declared.script.Reply.{Reply}
-use Rattle.dns_message.specs.Script.{StageStandsFor, after, after_all, IsReply, AreReplies, Steps, RunsAll, octets_of}
+use Rattle.dns_message.specs.Script.{StageRepresents, after, after_all, IsReply, AreReplies, Steps, RunsAll, octets_of}
 
 module _ {Q R : Type 0} (room : Option ℕ) (grows : Bool) (question : Q → QuestionItem) (item : R → RecordItem) (rule : Rule) where
   -- through these calls, for each state that the stage represents: one reply for each, and a stage that represents the state after them
   abbrev pub Goes : {T : Type 0} → Stage T → List (Call Q R) → List Reply → Stage T → Type 0
-  Goes old calls replies new = (s : State) → StageStandsFor rule s old → AreReplies room grows question item rule s calls replies × StageStandsFor rule (after_all question item s calls replies) new
+  Goes old calls replies new = (s : State) → StageRepresents rule s old → AreReplies room grows question item rule s calls replies × StageRepresents rule (after_all question item s calls replies) new
 
   -- the state after one call more
   after_more : (s : State) (calls : List (Call Q R)) (replies : List Reply) (call : Call Q R) (reply : Reply) → AreReplies room grows question item rule s calls replies → after_all question item s (calls ++ call ∷ []) (replies ++ reply ∷ []) ≡ after question item (after_all question item s calls replies) call reply
@@ -33,11 +33,11 @@ module _ {Q R : Type 0} (room : Option ℕ) (grows : Bool) (question : Q → Que
   replied_more s (c ∷ calls) [] call reply h k = absurd h
 
   pub runs_more : {T : Type 0} → (old mid new : Stage T) (calls : List (Call Q R)) (replies : List Reply) (call : Call Q R) (reply : Reply) → Goes old calls replies mid → Steps room grows question item rule mid call reply new → Goes old (calls ++ call ∷ []) (replies ++ reply ∷ []) new
-  runs_more old mid new calls replies call reply h step s stands =
-      let ran = h s stands in
+  runs_more old mid new calls replies call reply h step s represents =
+      let ran = h s represents in
       let next = step (after_all question item s calls replies) ran.1 in (
         replied_more s calls replies call reply ran.0 next.0,
-        subst (λ (t : State). StageStandsFor rule t new) (sym (after_more s calls replies call reply ran.0)) next.1,
+        subst (λ (t : State). StageRepresents rule t new) (sym (after_more s calls replies call reply ran.0)) next.1,
       )
 
   -- the calls so far, one reply for each appended to the replies before, and the stage that they lead to
@@ -62,12 +62,12 @@ module _ {Q R : Type 0} (room : Option ℕ) (grows : Bool) (question : Q → Que
       subst (λ (xs : List (Call Q R)). GoesOn old xs before items' new) (sym e) one_more
 
   -- the octets of a stage are a message if the stage represents a state
-  stands_message : {T : Type 0} → (s : State) (stage : Stage T) → FoldsAreMessages → StageStandsFor rule s stage → IsMessageOf rule s (octets_of stage)
-  stands_message s (Builder b) folds h = subst (λ (w : Written). IsMessageOf rule s w.octets) (sym h.written) (folds rule s h.state)
-  stands_message s (Question b) folds h = subst (λ (w : Written). IsMessageOf rule s w.octets) (sym h.written) (folds rule s h.state)
-  stands_message s (Answer b) folds h = subst (λ (w : Written). IsMessageOf rule s w.octets) (sym h.written) (folds rule s h.state)
-  stands_message s (Authority b) folds h = subst (λ (w : Written). IsMessageOf rule s w.octets) (sym h.written) (folds rule s h.state)
-  stands_message s (Additional b) folds h = subst (λ (w : Written). IsMessageOf rule s w.octets) (sym h.written) (folds rule s h.state)
+  represents_message : {T : Type 0} → (s : State) (stage : Stage T) → FoldsAreMessages → StageRepresents rule s stage → IsMessageOf rule s (octets_of stage)
+  represents_message s (Builder b) folds h = subst (λ (w : Written). IsMessageOf rule s w.octets) (sym h.written) (folds rule s h.state)
+  represents_message s (Question b) folds h = subst (λ (w : Written). IsMessageOf rule s w.octets) (sym h.written) (folds rule s h.state)
+  represents_message s (Answer b) folds h = subst (λ (w : Written). IsMessageOf rule s w.octets) (sym h.written) (folds rule s h.state)
+  represents_message s (Authority b) folds h = subst (λ (w : Written). IsMessageOf rule s w.octets) (sym h.written) (folds rule s h.state)
+  represents_message s (Additional b) folds h = subst (λ (w : Written). IsMessageOf rule s w.octets) (sym h.written) (folds rule s h.state)
 
   -- once all calls are made, this is a run
   pub runs_all : {T : Type 0} → (old new : Stage T) (calls : List (Call Q R)) (index : ℕ) (before items : List Reply) → index ≤ length calls → length calls ≤ index → FoldsAreMessages
@@ -79,5 +79,5 @@ module _ {Q R : Type 0} (room : Option ℕ) (grows : Bool) (question : Q → Que
         told = all.told;
         appended = all.appended;
         one_each = all.one_each;
-        runs = λ s h. let went = all.goes s h in record { replied = went.0; stands = went.1; message = stands_message _ new folds went.1 };
+        runs = λ s h. let went = all.goes s h in record { replied = went.0; represents = went.1; message = represents_message _ new folds went.1 };
       }

@@ -12,7 +12,7 @@ use Rattle.dns_opt_builder.specs.Gathered.{Gathered, IsGathered, gathered, nothi
 use Rattle.dns_opt_builder.specs.declared.builder.OptBuilder.{OptBuilder}
 use Rattle.dns_item.specs.Items.{RecordItem}
 use Rattle.dns_build.specs.Opt.{opt_record, with_opt, OptAnswers, PushesOpt}
-use Rattle.dns_build.specs.Standing.{Built, StandsFor, InEach, size_after}
+use Rattle.dns_build.specs.BuilderStates.{Built, Represents, InEach, size_after}
 use Rattle.dns_build.specs.State.{State, InAdditional, with_record}
 use Rattle.dns_build.specs.declared.push_error.PushError.{PushError}
 use Rattle.dns_message.specs.OptPlans.{with_any_rcode, planned, planned_options, planned_beside, gathered_size, AddsAll, CarriesOut}
@@ -97,7 +97,7 @@ module _ (room : Option ℕ) (grows : Bool) {Q R : Type 0} (question : Q → Que
           answers = answers_asked room grows rule plan s p.g p.answer (Ok v) done p.answers;
           is_gathered = λ _. subst IsGathered all p.is_gathered;
         },
-        subst (λ (g : Gathered). StandsFor InAdditional rule (with_opt g s) new) all p.accepted,
+        subst (λ (g : Gathered). Represents InAdditional rule (with_opt g s) new) all p.accepted,
       )
   opt_stays gathers call (Err e) reply is m carries same pushes s h =
       let has : lacks {Q = Q} {R = R} s.stage (PushOpt plan) ≡ false = ap (λ here. lacks {Q = Q} {R = R} here (PushOpt plan)) h.here in
@@ -110,5 +110,5 @@ module _ (room : Option ℕ) (grows : Bool) {Q R : Type 0} (question : Q → Que
           answers = answers_asked room grows rule plan s p.g p.answer (Err e) done p.answers;
           is_gathered = λ told. absurd (cc);
         },
-        subst (λ b. StandsFor InAdditional rule s b) (sym same) h,
+        subst (λ b. Represents InAdditional rule s b) (sym same) h,
       )

@@ -5,7 +5,7 @@ use Rattle.dns_wire.specs.Pieces.{Rule}
 use Rattle.dns_wire.specs.Targets.{Fits, Passes}
 use Rattle.dns_question.specs.Questions.{QuestionItem}
 use Rattle.dns_item.specs.Items.{RecordItem}
-use Rattle.dns_build.specs.Standing.{Built, PushAnswers, StandsFor, MovesState, InEach, size_after}
+use Rattle.dns_build.specs.BuilderStates.{Built, PushAnswers, Represents, MovesState, InEach, size_after}
 use Rattle.dns_build.specs.State as state
 use Rattle.dns_section.specs.declared.section.Section.{Section}
 use Rattle.dns_section.specs.declared.section.Section.TheVariants.{Answer, Authority, Additional}
@@ -27,7 +27,7 @@ has_push Q R Additional x = refl
 module _ (room : Option ℕ) (grows : Bool) (rule : Rule) (stage : state.Stage) (old : Built) (pushed : RecordItem) where
   -- the result of a push, for each state that the builder represents
   abbrev pub Answered : Result (Unit {0}) PushError → Type 0
-  Answered r = (s : State) → StandsFor stage rule s old → PushAnswers room grows s.limit (size_after rule (with_record stage pushed) s) (length (records_at stage s)) r
+  Answered r = (s : State) → Represents stage rule s old → PushAnswers room grows s.limit (size_after rule (with_record stage pushed) s) (length (records_at stage s)) r
 
   -- the result follows from one clause for success and one for each reason to fail
   pub answered : (r : Result (Unit {0}) PushError)
@@ -44,7 +44,7 @@ module _ (room : Option ℕ) (grows : Bool) (rule : Rule) (stage : state.Stage) 
   answered (Err CountOverflow) fits short memory limit count s h = count refl s h
 
   -- the same for the stage of the state itself
-  answered_here : (r : Result (Unit {0}) PushError) → Answered r → (s : State) → StandsFor stage rule s old
+  answered_here : (r : Result (Unit {0}) PushError) → Answered r → (s : State) → Represents stage rule s old
       → PushAnswers room grows s.limit (size_after rule (with_record s.stage pushed) s) (length (records_at s.stage s)) r
   answered_here r a s h =
       subst (λ at. PushAnswers room grows s.limit (size_after rule (with_record at pushed) s) (length (records_at at s)) r) (sym h.here) (a s h)
@@ -59,11 +59,11 @@ module _ (room : Option ℕ) (grows : Bool) {Q R : Type 0} (question : Q → Que
       let has : lacks {Q = Q} s.stage (PushRecord x) ≡ false = ap (λ here. lacks {Q = Q} here (PushRecord x)) (h.here ∙ at) ∙ has_push Q R section x in
       rw (is, m, has) (
         answered_here room grows rule stage old (item x) (Ok v) answer s h,
-        subst (λ here. StandsFor stage rule (with_record here (item x) s) new) (sym h.here) (moved s h),
+        subst (λ here. Represents stage rule (with_record here (item x) s) new) (sym h.here) (moved s h),
       )
   push_stays section call (Err e) reply at is m moved same answer s h =
       let has : lacks {Q = Q} s.stage (PushRecord x) ≡ false = ap (λ here. lacks {Q = Q} here (PushRecord x)) (h.here ∙ at) ∙ has_push Q R section x in
       rw (is, m, has) (
         answered_here room grows rule stage old (item x) (Err e) answer s h,
-        subst (λ b. StandsFor stage rule s b) (sym same) h,
+        subst (λ b. Represents stage rule s b) (sym same) h,
       )

@@ -5,7 +5,7 @@ use Rattle.dns_wire.specs.Pieces.{Rule}
 use Rattle.dns_opt_builder.specs.Gathered.{Gathered, IsGathered}
 use Rattle.dns_question.specs.Questions.{QuestionItem}
 use Rattle.dns_item.specs.Items.{RecordItem}
-use Rattle.dns_build.specs.Standing.{Built, PushAnswers, StandsFor}
+use Rattle.dns_build.specs.BuilderStates.{Built, PushAnswers, Represents}
 use Rattle.dns_build.specs.State.{fold, State, InBuilder, InQuestion, InAnswer, InAuthority, InAdditional, with_question, with_record, records_at, with_header, with_limit, no_limit, rewound, tc_rewound, move_to}
 use Rattle.dns_build.specs.MessageOf.{IsMessageOf}
 use Rattle.dns_build.specs.Opt.{opt_record, with_opt, OptAnswers}
@@ -20,12 +20,12 @@ use Rattle.dns_message.specs.declared.script.Reply.{Reply}
 use Rattle.dns_message.specs.declared.script.Reply.TheVariants.{Done, Refused, Misplaced}
 
 -- a stage represents a state
-abbrev pub StageStandsFor : {T : Type 0} → Rule → State → Stage T → Type 0
-StageStandsFor rule s (Builder b) = StandsFor InBuilder rule s b
-StageStandsFor rule s (Question b) = StandsFor InQuestion rule s b
-StageStandsFor rule s (Answer b) = StandsFor InAnswer rule s b
-StageStandsFor rule s (Authority b) = StandsFor InAuthority rule s b
-StageStandsFor rule s (Additional b) = StandsFor InAdditional rule s b
+abbrev pub StageRepresents : {T : Type 0} → Rule → State → Stage T → Type 0
+StageRepresents rule s (Builder b) = Represents InBuilder rule s b
+StageRepresents rule s (Question b) = Represents InQuestion rule s b
+StageRepresents rule s (Answer b) = Represents InAnswer rule s b
+StageRepresents rule s (Authority b) = Represents InAuthority rule s b
+StageRepresents rule s (Additional b) = Represents InAdditional rule s b
 
 -- what a contract sees of the builder at a stage
 abbrev pub built_of : {T : Type 0} → Stage T → Built
@@ -148,20 +148,20 @@ module _ (room : Option ℕ) (grows : Bool) where
 
     -- a call takes one stage to another, for each state that the first represents
     abbrev pub Steps : {T : Type 0} → Stage T → Call Q R → Reply → Stage T → Type 0
-    Steps old call reply new = (s : State) → StageStandsFor rule s old → IsReply s call reply × StageStandsFor rule (after question item s call reply) new
+    Steps old call reply new = (s : State) → StageRepresents rule s old → IsReply s call reply × StageRepresents rule (after question item s call reply) new
 
     -- a call takes a builder at stage `from` to a new stage, for each state that the builder represents
     abbrev pub StepsFrom : {T : Type 0} → state.Stage → Built → Call Q R → Reply → Stage T → Type 0
-    StepsFrom from old call reply new = (s : State) → StandsFor from rule s old → IsReply s call reply × StageStandsFor rule (after question item s call reply) new
+    StepsFrom from old call reply new = (s : State) → Represents from rule s old → IsReply s call reply × StageRepresents rule (after question item s call reply) new
 
     -- a call keeps a builder at its stage, for each state that the builder represents
     abbrev pub Stays : state.Stage → Built → Call Q R → Reply → Built → Type 0
-    Stays at old call reply new = (s : State) → StandsFor at rule s old → IsReply s call reply × StandsFor at rule (after question item s call reply) new
+    Stays at old call reply new = (s : State) → Represents at rule s old → IsReply s call reply × Represents at rule (after question item s call reply) new
 
     -- The headline. From a state, through a list of calls: each call has its reply, the new stage represents the state after them, and its octets are those of a message with that state's header and items.
     pub record Runs {T : Type 0} (s : State) (calls : List (Call Q R)) (replies : List Reply) (new : Stage T) : Type 0 where
       pub replied : AreReplies s calls replies
-      pub stands : StageStandsFor rule (after_all question item s calls replies) new
+      pub represents : StageRepresents rule (after_all question item s calls replies) new
       pub message : IsMessageOf rule (after_all question item s calls replies) (octets_of new)
 
     -- The calls are made in order on a stage, and one reply for each is appended to the replies before. This is a run from each state that the stage represents.
@@ -169,4 +169,4 @@ module _ (room : Option ℕ) (grows : Bool) where
       pub told : List Reply
       pub appended : replies ≡ before ++ told
       pub one_each : length told ≡ length calls
-      pub runs : (s : State) → StageStandsFor rule s old → Runs s calls told new
+      pub runs : (s : State) → StageRepresents rule s old → Runs s calls told new

@@ -1,7 +1,7 @@
 //! The header of a stage, and its finished target.
 ghost use Rattle.std.specs.Prelude.{◌≡◌};
 ghost use Rattle.dns_build.specs.State.{State};
-ghost use Rattle.dns_message.specs.Script.{StageStandsFor, built_of};
+ghost use Rattle.dns_message.specs.Script.{StageRepresents, built_of};
 
 use crate::script::Stage;
 use dns_code::Header;
@@ -10,7 +10,7 @@ use dns_wire::Composer;
 impl<T: Composer> Stage<T> {
     /// The current header.
     pub fn header(&self) -> Header
-        ensures { (s : State) → StageStandsFor T.rule s self.now → result ≡ s.header }
+        ensures { (s : State) → StageRepresents T.rule s self.now → result ≡ s.header }
     {
         match self {
             Stage::Builder(builder) => builder.header(),

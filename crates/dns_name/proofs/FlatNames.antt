@@ -3,9 +3,9 @@ use Rattle.std.proofs.Common.{◌≡◌, ℕ, ◌+◌, ◌-◌, ◌≤◌, List,
 use Rattle.std.specs.Prelude.{Ok}
 use Rattle.std.proofs.lemmas.List.Elements.{All-head}
 use Rattle.std.proofs.Math.Seq.{drop-append_seam, take-append_seam}
-use Rattle.dns_name.specs.Names.{Labels, IsLabel, uncompressed, head_at, Stands, label_at}
+use Rattle.dns_name.specs.Names.{Labels, IsLabel, uncompressed, head_at, NameAt, label_at}
 use Rattle.dns_name.specs.declared.head.Head.TheVariants.{Root, Label, Pointer}
-use Rattle.dns_name.specs.Unique.{length_label, standing_name}
+use Rattle.dns_name.specs.Unique.{length_label, encoded_name}
 use Rattle.dns_name.proofs.theory.HeadLemmas.{root_begins, label_begins, at_root, at_label}
 use Rattle.dns_name.proofs.theory.LabelsLemmas.{length-uncompressed}
 use Rattle.dns_name.proofs.theory.Spelling.{drop_label, drop_root, get_drop}
@@ -13,12 +13,12 @@ use Rattle.dns_name.proofs.theory.Spelling.{drop_label, drop_root, get_drop}
 -- A walk from `start` has only met labels up to `at`, where the name's remaining labels are encoded. So the octets from `start` on are the uncompressed name exactly if those from `at` on are the uncompressed remaining labels.
 pub record Flat (b : List ℕ) (start at : ℕ) (whole : Labels) : Type 0 where
   pub rest : Labels
-  pub stands : Stands b at rest
+  pub encoded : NameAt b at rest
   pub whole_if : (after : List ℕ) → drop at b ≡ uncompressed rest ++ after → drop start b ≡ uncompressed whole ++ after
   pub rest_if : (after : List ℕ) → drop start b ≡ uncompressed whole ++ after → drop at b ≡ uncompressed rest ++ after
 
-pub flat_none : (b : List ℕ) (p : ℕ) (name : Labels) → Stands b p name → Flat b p p name
-flat_none b p name s = record { rest = name; stands = s; whole_if = λ after e. e; rest_if = λ after e. e }
+pub flat_none : (b : List ℕ) (p : ℕ) (name : Labels) → NameAt b p name → Flat b p p name
+flat_none b p name s = record { rest = name; encoded = s; whole_if = λ after e. e; rest_if = λ after e. e }
 
 -- The uncompressed octets of a label and a name after it.
 label_octets : (b : List ℕ) (at n : ℕ) (name : Labels) (after : List ℕ) → at + 1 + n ≤ length b
@@ -30,11 +30,11 @@ label_octets b at n name after fits =
 -- The walk continues after a label.
 pub flat_label : (b : List ℕ) (start at n at' : ℕ) (whole : Labels) → Flat b start at whole → head_at b at ≡ Ok (Label n) → at' ≡ at + 1 + n → Flat b start at' whole
 flat_label b start at n at' whole f h e =
-    let l = at_label b f.stands h in
+    let l = at_label b f.encoded h in
     let whole_rest : uncompressed f.rest ≡ uncompressed (label_at b at n ∷ l.others) = ap uncompressed l.whole in
     subst (λ k. Flat b start k whole) (sym e) (record {
       rest = l.others;
-      stands = l.stand;
+      encoded = l.is_encoded;
       whole_if = λ after d.
           f.whole_if after (drop_label b at n h ∙ ap (λ (c : List ℕ). n ∷ (label_at b at n ++ c)) d ∙ sym (label_octets b at n l.others after l.fits)
           ∙ ap (λ (c : List ℕ). c ++ after) (sym whole_rest));
@@ -48,16 +48,16 @@ flat_label b start at n at' whole f h e =
 -- At the root label, the octets from `start` on are the uncompressed name.
 pub flat_root : (b : List ℕ) (start at : ℕ) (whole : Labels) → Flat b start at whole → head_at b at ≡ Ok Root → drop start b ≡ uncompressed whole ++ drop (at + 1) b
 flat_root b start at whole f h =
-    f.whole_if (drop (at + 1) b) (drop_root b at h ∙ ap (λ (name : Labels). uncompressed name ++ drop (at + 1) b) (sym (at_root b f.stands h)))
+    f.whole_if (drop (at + 1) b) (drop_root b at h ∙ ap (λ (name : Labels). uncompressed name ++ drop (at + 1) b) (sym (at_root b f.encoded h)))
 
 -- At a pointer they aren't.
 pub flat_pointer : (b : List ℕ) (start at t : ℕ) (whole : Labels) → Flat b start at whole → head_at b at ≡ Ok (Pointer t) → (after : List ℕ) → drop start b ≡ uncompressed whole ++ after → ⊥
-flat_pointer b start at t whole f h after e = go f.rest f.stands (f.rest_if after e)
+flat_pointer b start at t whole f h after e = go f.rest f.encoded (f.rest_if after e)
   where
-    go : (rest : Labels) → Stands b at rest → drop at b ≡ uncompressed rest ++ after → ⊥
+    go : (rest : Labels) → NameAt b at rest → drop at b ≡ uncompressed rest ++ after → ⊥
     go [] s d = let r = root_begins b at (get_drop b at 0 after d) in cc (r, h)
     go (label ∷ rest) s d =
-        let l = All-head IsLabel label rest (standing_name s).labels in
+        let l = All-head IsLabel label rest (encoded_name s).labels in
         let r = label_begins b at (length label) l.some l.short (get_drop b at (length label) ((label ++ uncompressed rest) ++ after) d) in
         cc (r, h)
 

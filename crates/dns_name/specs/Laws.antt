@@ -2,7 +2,7 @@
 use Rattle.std.specs.Prelude.{◌≡◌, ◌↔◌, ℕ, ◌⊎◌, List, Result, Ok, Err, IsOk, IsErrAnd}
 use Rattle.std.specs.Cmp.{IsTotalOrder}
 use Rattle.std.specs.declared.cmp.Ordering.TheVariants.{Equal}
-use Rattle.dns_name.specs.Names.{Fault, fault_of, Labels, IsName, lowered, Stands, FaultAt, Walked, SkipFaultAt}
+use Rattle.dns_name.specs.Names.{Fault, fault_of, Labels, IsName, lowered, NameAt, FaultAt, Walked, SkipFaultAt}
 use Rattle.dns_name.specs.NameOrders.{name_order, composed_order, name_hash_input}
 use Rattle.dns_name.specs.Parsers.{offset}
 use Rattle.dns_name.specs.ParsedName.{ParsesName, SkipsName}
@@ -12,23 +12,23 @@ use Rattle.dns_name.specs.declared.parsed_name.ParsedName.{ParsedName}
 
 -- At each offset a name is encoded, or reading fails.
 abbrev pub NameOrFault : Type 0
-NameOrFault = (b : List ℕ) (p : ℕ) → ((name : Labels) × Stands b p name) ⊎ ((f : Fault) × FaultAt b p f)
+NameOrFault = (b : List ℕ) (p : ℕ) → ((name : Labels) × NameAt b p name) ⊎ ((f : Fault) × FaultAt b p f)
 
 -- Never both.
 abbrev pub NameOrFaultNotBoth : Type 0
-NameOrFaultNotBoth = (b : List ℕ) (p : ℕ) (name : Labels) (f : Fault) → Stands b p name → FaultAt b p f → ⊥
+NameOrFaultNotBoth = (b : List ℕ) (p : ℕ) (name : Labels) (f : Fault) → NameAt b p name → FaultAt b p f → ⊥
 
 -- At most one name is encoded at an offset.
 abbrev pub OneName : Type 0
-OneName = (b : List ℕ) (p : ℕ) (m n : Labels) → Stands b p m → Stands b p n → m ≡ n
+OneName = (b : List ℕ) (p : ℕ) (m n : Labels) → NameAt b p m → NameAt b p n → m ≡ n
 
 -- At most one fault is that of reading at an offset.
 abbrev pub OneFault : Type 0
 OneFault = (b : List ℕ) (p : ℕ) (f g : Fault) → FaultAt b p f → FaultAt b p g → f ≡ g
 
 -- An encoded name satisfies `IsName`: its labels have 1 to 63 octets, and take at most 254 octets, each with its length octet.
-abbrev pub StandingNames : Type 0
-StandingNames = (b : List ℕ) (p : ℕ) (name : Labels) → Stands b p name → IsName name
+abbrev pub EncodedNamesAreNames : Type 0
+EncodedNamesAreNames = (b : List ℕ) (p : ℕ) (name : Labels) → NameAt b p name → IsName name
 
 -- At each offset the encoding of a name has an end, or skipping fails.
 abbrev pub EndOrSkipFault : Type 0
@@ -43,8 +43,8 @@ abbrev pub OneEnd : Type 0
 OneEnd = (b : List ℕ) (p q r : ℕ) → Walked b p q → Walked b p r → q ≡ r
 
 -- The encoding of a name has an end.
-abbrev pub StandingNamesEnd : Type 0
-StandingNamesEnd = (b : List ℕ) (p : ℕ) (name : Labels) → Stands b p name → (q : ℕ) × Walked b p q
+abbrev pub EncodedNamesEnd : Type 0
+EncodedNamesEnd = (b : List ℕ) (p : ℕ) (name : Labels) → NameAt b p name → (q : ℕ) × Walked b p q
 
 -- If skipping fails, reading fails with the same fault.
 abbrev pub SkipFaultsAreFaults : Type 0

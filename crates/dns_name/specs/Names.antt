@@ -97,15 +97,15 @@ module _ (b : List ℕ) where
   label_at p n = slice_range b (p + 1) (p + 1 + n)
 
 -- A name is encoded at an offset.
-pub data Stands (b : List ℕ) : ℕ → Labels → Type 0 where
+pub data NameAt (b : List ℕ) : ℕ → Labels → Type 0 where
   -- A zero octet is the root.
-  root : {p : ℕ} → head_at b p ≡ Ok Root → Stands b p []
+  root : {p : ℕ} → head_at b p ≡ Ok Root → NameAt b p []
   -- A label followed by a name is a name, if it is short enough.
   label : {p n : ℕ} {name : Labels} → head_at b p ≡ Ok (Label n) → p + 1 + n ≤ length b
-      → Stands b (p + 1 + n) name → n + 1 + name_size name ≤ max_size → Stands b p (label_at b p n ∷ name)
+      → NameAt b (p + 1 + n) name → n + 1 + name_size name ≤ max_size → NameAt b p (label_at b p n ∷ name)
   -- A pointer represents the name at an earlier offset.
   pointer : {p t : ℕ} {name : Labels} → head_at b p ≡ Ok (Pointer t) → t < p
-      → Stands b t name → Stands b p name
+      → NameAt b t name → NameAt b p name
 
 -- In a name whose labels so far take s octets, reading on at offset p fails with this fault, the leftmost one.
 pub data Faulty (b : List ℕ) : ℕ → ℕ → Fault → Type 0 where

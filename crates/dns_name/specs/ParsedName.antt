@@ -1,7 +1,7 @@
 -- What parsing and skipping a name return. RFC 1035 section 4.1.4.
 use Rattle.std.specs.Prelude.{◌≡◌, ℕ, List, ◌++◌, drop, Result, Ok, Err, IsOkAnd, [], ◌∷◌, take}
 use Rattle.dns_octets.specs.declared.error.ParseError.{ParseError}
-use Rattle.dns_name.specs.Names.{fault_of, Labels, uncompressed, Stands, FaultAt, Walked, SkipFaultAt, with_root}
+use Rattle.dns_name.specs.Names.{fault_of, Labels, uncompressed, NameAt, FaultAt, Walked, SkipFaultAt, with_root}
 use Rattle.dns_name.specs.Parsers.{seen, offset, MovesTo}
 use Rattle.dns_name.specs.declared.parser.Parser.{Parser}
 use Rattle.dns_name.specs.declared.parsed_name.ParsedName.{ParsedName}
@@ -22,7 +22,7 @@ MovesPastName old new = Walked (seen old) (offset old) (offset new) × MovesTo o
 
 -- The result is the name encoded at the parser's offset, and the parser moved past its encoding; or it is the fault there, and the parser is unchanged.
 abbrev pub ParsesName : Parser → Parser → Result ParsedName ParseError → Type 0
-ParsesName old new (Ok name) = Stands (seen old) (offset old) (labels name) × MovesPastName old new
+ParsesName old new (Ok name) = NameAt (seen old) (offset old) (labels name) × MovesPastName old new
 ParsesName old new (Err e) = FaultAt (seen old) (offset old) (fault_of e) × (new ≡ old)
 
 -- The parser moved past the encoding of a name; or the result is the fault of skipping, and the parser is unchanged.
@@ -31,8 +31,8 @@ SkipsName old new (Ok _) = MovesPastName old new
 SkipsName old new (Err e) = SkipFaultAt (seen old) (offset old) (fault_of e) × (new ≡ old)
 
 -- If a name is encoded at offset p, the result is that name.
-abbrev pub ReadsStanding : List ℕ → ℕ → Result ParsedName ParseError → Type 0
-ReadsStanding b p result = (name : Labels) → Stands b p name → IsOkAnd result (λ r. labels r ≡ name)
+abbrev pub ReadsEncoded : List ℕ → ℕ → Result ParsedName ParseError → Type 0
+ReadsEncoded b p result = (name : Labels) → NameAt b p name → IsOkAnd result (λ r. labels r ≡ name)
 
 -- The octets of a label, without its length octet.
 abbrev pub label_octets : Label → List ℕ
@@ -40,8 +40,8 @@ label_octets label = label.octets.now
 
 -- The first label of a name, and the offset of the remaining labels.
 abbrev pub IsFirst : List ℕ → Labels → Label → ℕ → Type 0
-IsFirst b [] label after = (label_octets label ≡ []) × Stands b after []
-IsFirst b (first ∷ others) label after = (label_octets label ≡ first) × Stands b after others
+IsFirst b [] label after = (label_octets label ≡ []) × NameAt b after []
+IsFirst b (first ∷ others) label after = (label_octets label ≡ first) × NameAt b after others
 
 -- The remaining labels of an iterator, the root label last.
 abbrev pub labels_left : LabelIter → Labels

@@ -3,7 +3,7 @@ use Rattle.std.specs.Prelude.{◌≡◌, ℕ, List}
 use Rattle.std.proofs.Props.{props}
 use Rattle.dns_name.specs.Names.{Fault, Labels, IsName, uncompressed, Walked, SkipFaultAt}
 use Rattle.dns_name.specs.Names.Fault.{Form}
-use Rattle.dns_name.specs.Unique.{NameAt, NameAt-prop}
+use Rattle.dns_name.specs.Unique.{EncodedName, EncodedName-prop}
 
 -- The octets are the uncompressed octets of a name.
 abbrev pub IsUncompressed : List ℕ → Type 0
@@ -16,7 +16,7 @@ pub data NotUncompressed (b : List ℕ) : Fault → Type 0 where
 
 -- The name that is encoded at offset 0 without pointers and takes all of the octets.
 abbrev pub WholeName : List ℕ → Type 0
-WholeName b = (name : NameAt b 0) × (uncompressed name.0 ≡ b)
+WholeName b = (name : EncodedName b 0) × (uncompressed name.0 ≡ b)
 
 pub WholeName-prop : (b : List ℕ) → IsProp (WholeName b)
-WholeName-prop b = hlevel (props, NameAt-prop b {p = 0})
+WholeName-prop b = hlevel (props, EncodedName-prop b {p = 0})

@@ -6,14 +6,14 @@ use Rattle.std.proofs.lemmas.Option.{slice_get_within}
 use Rattle.std.proofs.lemmas.Bool.Decides.{nat_tests}
 use Rattle.std.proofs.lemmas.Grind.{common_steps}
 use Rattle.std.proofs.lemmas.List.Elements.{All-cons}
-use Rattle.dns_name.specs.Names.{Fault, Labels, IsLabel, IsName, name_size, max_size, head_of, head_at, Stands, label_at, with_root}
-use Rattle.dns_name.specs.Names.Stands.{root, label, pointer}
+use Rattle.dns_name.specs.Names.{Fault, Labels, IsLabel, IsName, name_size, max_size, head_of, head_at, NameAt, label_at, with_root}
+use Rattle.dns_name.specs.Names.NameAt.{root, label, pointer}
 use Rattle.dns_name.specs.declared.head.Head.{Head}
 use Rattle.dns_name.specs.declared.head.Head.TheVariants.{Root, Label, Pointer}
 
 -- A name that is encoded at offset p.
-abbrev pub NameAt : List ℕ → ℕ → Type 0
-NameAt b p = (name : Labels) × Stands b p name
+abbrev pub EncodedName : List ℕ → ℕ → Type 0
+EncodedName b p = (name : Labels) × NameAt b p name
 
 head_prop : {r : Result Head Fault} {h : Head} → IsProp (r ≡ Ok h)
 head_prop = hlevel props
@@ -21,76 +21,76 @@ head_prop = hlevel props
 module _ (b : List ℕ) where
   -- What a name with a label at offset p consists of.
   abbrev LabelParts : ℕ → ℕ → Type 0
-  LabelParts p n = (head_at b p ≡ Ok (Label n)) × (p + 1 + n ≤ length b) × (x : NameAt b (p + 1 + n)) × (n + 1 + name_size x.0 ≤ max_size)
+  LabelParts p n = (head_at b p ≡ Ok (Label n)) × (p + 1 + n ≤ length b) × (x : EncodedName b (p + 1 + n)) × (n + 1 + name_size x.0 ≤ max_size)
 
   abbrev PointerParts : ℕ → ℕ → Type 0
-  PointerParts p t = (head_at b p ≡ Ok (Pointer t)) × (t < p) × NameAt b t
+  PointerParts p t = (head_at b p ≡ Ok (Pointer t)) × (t < p) × EncodedName b t
 
-  abbrev labelled : {p n : ℕ} → LabelParts p n → NameAt b p
+  abbrev labelled : {p n : ℕ} → LabelParts p n → EncodedName b p
   labelled {p} {n} parts = (label_at b p n ∷ parts.2.0, label parts.0 parts.1 parts.2.1 parts.3)
 
-  abbrev pointed : {p t : ℕ} → PointerParts p t → NameAt b p
+  abbrev pointed : {p t : ℕ} → PointerParts p t → EncodedName b p
   pointed parts = (parts.2.0, pointer parts.0 parts.1 parts.2.1)
 
   -- Two decompositions into a label and a name are the same.
-  same_label : {p n : ℕ} (mine : LabelParts p n) → ((y : NameAt b (p + 1 + n)) → mine.2 ≡ y)
+  same_label : {p n : ℕ} (mine : LabelParts p n) → ((y : EncodedName b (p + 1 + n)) → mine.2 ≡ y)
       → (k : ℕ) → n ≡ k → (parts : LabelParts p k) → labelled {p = p} {n = n} mine ≡ labelled {p = p} {n = k} parts
   same_label {p = p} {n = n} mine same k e =
       let P : ℕ → Type 0 = λ k. (parts : LabelParts p k) → labelled {p = p} {n = n} mine ≡ labelled {p = p} {n = k} parts in
-      let names : IsProp (NameAt b (p + 1 + n)) = λ y z. sym (same y) ∙ same z in
+      let names : IsProp (EncodedName b (p + 1 + n)) = λ y z. sym (same y) ∙ same z in
       let all : IsProp (LabelParts p n) = hlevel (props, names) in
       subst P e (λ parts. ap (λ (z : LabelParts p n). labelled {p = p} {n = n} z) (all mine parts))
 
-  same_pointer : {p t : ℕ} (h : head_at b p ≡ Ok (Pointer t)) (w : t < p) (x : NameAt b t) → ((y : NameAt b t) → x ≡ y)
+  same_pointer : {p t : ℕ} (h : head_at b p ≡ Ok (Pointer t)) (w : t < p) (x : EncodedName b t) → ((y : EncodedName b t) → x ≡ y)
       → (k : ℕ) → t ≡ k → (parts : PointerParts p k) → pointed {p = p} {t = t} (h, w, x) ≡ pointed {p = p} {t = k} parts
   same_pointer {p = p} {t = t} h w x same k e =
       let P : ℕ → Type 0 = λ k. (parts : PointerParts p k) → pointed {p = p} {t = t} (h, w, x) ≡ pointed {p = p} {t = k} parts in
-      let names : IsProp (NameAt b t) = λ y z. sym (same y) ∙ same z in
+      let names : IsProp (EncodedName b t) = λ y z. sym (same y) ∙ same z in
       let all : IsProp (PointerParts p t) = hlevel (props, names) in
       subst P e (λ parts. ap (λ (z : PointerParts p t). pointed {p = p} {t = t} z) (all (h, w, x) parts))
 
-  one_root : {p : ℕ} (h : head_at b p ≡ Ok Root) {name : Labels} (y : Stands b p name) → let x : NameAt b p = ([], root h) in x ≡ (name, y)
-  one_root h (root h') = ap (λ (e : head_at b _ ≡ Ok Root). let x : NameAt b _ = ([], root e) in x) (head_prop h h')
+  one_root : {p : ℕ} (h : head_at b p ≡ Ok Root) {name : Labels} (y : NameAt b p name) → let x : EncodedName b p = ([], root h) in x ≡ (name, y)
+  one_root h (root h') = ap (λ (e : head_at b _ ≡ Ok Root). let x : EncodedName b _ = ([], root e) in x) (head_prop h h')
   one_root h (label h' w' x' z') = cc
   one_root h (pointer h' l' x') = cc
 
-  one_label : {p n : ℕ} (mine : LabelParts p n) → ((y : NameAt b (p + 1 + n)) → mine.2 ≡ y)
-      → {name : Labels} (y : Stands b p name) → labelled mine ≡ (name, y)
+  one_label : {p n : ℕ} (mine : LabelParts p n) → ((y : EncodedName b (p + 1 + n)) → mine.2 ≡ y)
+      → {name : Labels} (y : NameAt b p name) → labelled mine ≡ (name, y)
   one_label mine same (root h') = cc mine.0
   one_label mine same (label {name = m} h' w' x' z') = same_label mine same _ (cc mine.0) (h', w', (m, x'), z')
   one_label mine same (pointer h' l' x') = cc mine.0
 
-  one_pointer : {p t : ℕ} (h : head_at b p ≡ Ok (Pointer t)) (w : t < p) (x : NameAt b t) → ((y : NameAt b t) → x ≡ y)
-      → {name : Labels} (y : Stands b p name) → pointed (h, w, x) ≡ (name, y)
+  one_pointer : {p t : ℕ} (h : head_at b p ≡ Ok (Pointer t)) (w : t < p) (x : EncodedName b t) → ((y : EncodedName b t) → x ≡ y)
+      → {name : Labels} (y : NameAt b p name) → pointed (h, w, x) ≡ (name, y)
   one_pointer h w x same (root h') = cc
   one_pointer h w x same (label h' w' x' z') = cc
   one_pointer h w x same (pointer {name = m} h' w' x') = same_pointer h w x same _ (cc) (h', w', (m, x'))
 
-  one_name : {p : ℕ} {name : Labels} (x : Stands b p name) (y : NameAt b p) → let z : NameAt b p = (name, x) in z ≡ y
+  one_name : {p : ℕ} {name : Labels} (x : NameAt b p name) (y : EncodedName b p) → let z : EncodedName b p = (name, x) in z ≡ y
   one_name (root h) y = one_root h y.1
   one_name (label {name = m} h w x z) y = one_label (h, w, (m, x), z) (λ y. one_name x y) y.1
   one_name (pointer {name = m} h w x) y = one_pointer h w (m, x) (λ z. one_name x z) y.1
 
-  pub NameAt-prop : {p : ℕ} → IsProp (NameAt b p)
-  NameAt-prop x y = one_name x.1 y
+  pub EncodedName-prop : {p : ℕ} → IsProp (EncodedName b p)
+  EncodedName-prop x y = one_name x.1 y
 
   -- Names encoded at one offset are the same.
-  pub same_name : {p : ℕ} {m n : Labels} → Stands b p m → Stands b p n → m ≡ n
-  same_name {p = p} {m = m} {n = n} x y = let e : (let z : NameAt b p = (m, x) in z ≡ (n, y)) = one_name x (n, y) in ap (λ (z : NameAt b p). z.0) e
+  pub same_name : {p : ℕ} {m n : Labels} → NameAt b p m → NameAt b p n → m ≡ n
+  same_name {p = p} {m = m} {n = n} x y = let e : (let z : EncodedName b p = (m, x) in z ≡ (n, y)) = one_name x (n, y) in ap (λ (z : EncodedName b p). z.0) e
 
 -- A name of this size is encoded at offset p.
 abbrev pub NameOfSize : List ℕ → ℕ → ℕ → Type 0
-NameOfSize b p size = (name : NameAt b p) × (name_size name.0 ≡ size)
+NameOfSize b p size = (name : EncodedName b p) × (name_size name.0 ≡ size)
 
 pub NameOfSize-prop : (b : List ℕ) (p size : ℕ) → IsProp (NameOfSize b p size)
-NameOfSize-prop b p size = hlevel (props, NameAt-prop b {p = p})
+NameOfSize-prop b p size = hlevel (props, EncodedName-prop b {p = p})
 
 -- A name of this size, with `count` labels besides the root label, is encoded at offset p.
 abbrev pub NameOfSizeAndCount : List ℕ → ℕ → ℕ → ℕ → Type 0
-NameOfSizeAndCount b p size count = (name : NameAt b p) × (name_size name.0 ≡ size) × (length name.0 ≡ count)
+NameOfSizeAndCount b p size count = (name : EncodedName b p) × (name_size name.0 ≡ size) × (length name.0 ≡ count)
 
 pub NameOfSizeAndCount-prop : (b : List ℕ) (p size count : ℕ) → IsProp (NameOfSizeAndCount b p size count)
-NameOfSizeAndCount-prop b p size count = hlevel (props, NameAt-prop b {p = p})
+NameOfSizeAndCount-prop b p size count = hlevel (props, EncodedName-prop b {p = p})
 
 -- The first labels of an encoded name, by the octets that they take.
 
@@ -104,7 +104,7 @@ FrontOfSize name left = (count : ℕ) × LabelsTake (with_root name) left count
 
 -- A name is encoded at offset p, and some first labels of it take `left` octets.
 abbrev pub LabelsAt : List ℕ → ℕ → ℕ → Type 0
-LabelsAt b p left = (name : NameAt b p) × FrontOfSize name.0 left
+LabelsAt b p left = (name : EncodedName b p) × FrontOfSize name.0 left
 
 -- At most one number of first labels takes `left` octets, as each takes at least one.
 pub one_count : (labels : Labels) (left j k : ℕ) → LabelsTake labels left j → LabelsTake labels left k → j ≡ k
@@ -126,8 +126,8 @@ FrontOfSize-prop name left x y =
 
 pub LabelsAt-prop : (b : List ℕ) (p left : ℕ) → IsProp (LabelsAt b p left)
 LabelsAt-prop b p left x y =
-    let P : NameAt b p → Type 0 = λ name. (z : FrontOfSize name.0 left) → x ≡ (name, z) in
-    subst P (NameAt-prop b x.0 y.0) (λ z. ap (λ (w : FrontOfSize x.0.0 left). let labels : LabelsAt b p left = (x.0, w) in labels) (FrontOfSize-prop x.0.0 left x.1 z)) y.1
+    let P : EncodedName b p → Type 0 = λ name. (z : FrontOfSize name.0 left) → x ≡ (name, z) in
+    subst P (EncodedName-prop b x.0 y.0) (λ z. ap (λ (w : FrontOfSize x.0.0 left). let labels : LabelsAt b p left = (x.0, w) in labels) (FrontOfSize-prop x.0.0 left x.1 z)) y.1
 
 -- An encoded name satisfies `IsName`. `ToName` promises this of each of its values.
 
@@ -154,19 +154,19 @@ pub name_size-label_at : (b : List ℕ) (p n : ℕ) (name : Labels) → p + 1 + 
 name_size-label_at b p n name h = ap (λ k. k + 1 + name_size name) (length_label b p n h)
 
 -- An encoded name takes at most 254 octets without the root label.
-pub standing_short : {b : List ℕ} {p : ℕ} {name : Labels} → Stands b p name → name_size name ≤ max_size
-standing_short (root h) = omega arith
-standing_short {b = b} (label {p = p} {n = n} {name = name} h w x z) = let e = name_size-label_at b p n name w in omega (arith, e)
-standing_short (pointer h back x) = standing_short x
+pub encoded_short : {b : List ℕ} {p : ℕ} {name : Labels} → NameAt b p name → name_size name ≤ max_size
+encoded_short (root h) = omega arith
+encoded_short {b = b} (label {p = p} {n = n} {name = name} h w x z) = let e = name_size-label_at b p n name w in omega (arith, e)
+encoded_short (pointer h back x) = encoded_short x
 
 -- Its labels have 1 to 63 octets.
-standing_labels : {b : List ℕ} {p : ℕ} {name : Labels} → Stands b p name → All IsLabel name
-standing_labels (root h) = λ k d l. absurd (omega arith)
-standing_labels {b = b} (label {p = p} {n = n} {name = name} h w x z) =
+encoded_labels : {b : List ℕ} {p : ℕ} {name : Labels} → NameAt b p name → All IsLabel name
+encoded_labels (root h) = λ k d l. absurd (omega arith)
+encoded_labels {b = b} (label {p = p} {n = n} {name = name} h w x z) =
     let l = label_head b p n h in
     let e = length_label b p n w in
-    All-cons IsLabel (label_at b p n) name (record { some = omega (arith, l.some); short = omega (arith, l.short) }) (standing_labels x)
-standing_labels (pointer h back x) = standing_labels x
+    All-cons IsLabel (label_at b p n) name (record { some = omega (arith, l.some); short = omega (arith, l.short) }) (encoded_labels x)
+encoded_labels (pointer h back x) = encoded_labels x
 
-pub standing_name : {b : List ℕ} {p : ℕ} {name : Labels} → Stands b p name → IsName name
-standing_name x = record { labels = standing_labels x; short = standing_short x }
+pub encoded_name : {b : List ℕ} {p : ℕ} {name : Labels} → NameAt b p name → IsName name
+encoded_name x = record { labels = encoded_labels x; short = encoded_short x }

@@ -14,10 +14,10 @@ pub struct Label<'a> {
 }
 
 impl<'a> Label<'a> {
-    ghost use Rattle.dns_name.specs.Names.{Labels, lowered_label, Stands};
+    ghost use Rattle.dns_name.specs.Names.{Labels, lowered_label, NameAt};
     ghost use Rattle.dns_name.specs.ParsedName.{label_octets, IsFirst};
     ghost use Rattle.dns_name.specs.NameOrders.{framed_order};
-    ghost use Rattle.dns_name.specs.Unique.{NameAt};
+    ghost use Rattle.dns_name.specs.Unique.{EncodedName};
 
     pub(crate) fn new(octets: &'a [u8]) -> Self
         requires { length octets.now < 64 }
@@ -65,8 +65,8 @@ impl<'a> Label<'a> {
     /// Returns the first label of the name at offset `pos`, and the offset of the remaining labels.
     /// For the root label this is the offset of its own zero octet.
     pub(crate) fn first_at(octets: &'a [u8], pos: usize) -> (Label<'a>, usize)
-        requires { NameAt octets.now pos }
-        ensures { (name : Labels) → Stands octets.now pos name
+        requires { EncodedName octets.now pos }
+        ensures { (name : Labels) → NameAt octets.now pos name
             → IsFirst octets.now name result.0 result.1 }
     {
         let mut at = pos;

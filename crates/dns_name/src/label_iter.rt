@@ -15,14 +15,14 @@ pub struct LabelIter<'a> {
 }
 
 impl<'a> LabelIter<'a> {
-    ghost use Rattle.dns_name.specs.Names.{Labels, with_root, Stands};
+    ghost use Rattle.dns_name.specs.Names.{Labels, with_root, NameAt};
     ghost use Rattle.dns_name.specs.ParsedName.{labels_left};
     ghost use Rattle.dns_name.specs.Unique.{NameOfSize};
 
     /// Creates an iterator over the labels of the name at offset `pos`, which take `size` octets.
     pub(crate) fn new(octets: &'a [u8], pos: usize, size: usize) -> Self
         requires { NameOfSize octets.now pos size }
-        ensures { (name : Labels) → Stands octets.now pos name → labels_left result
+        ensures { (name : Labels) → NameAt octets.now pos name → labels_left result
             ≡ with_root name }
     {
         LabelIter {

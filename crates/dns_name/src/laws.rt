@@ -1,6 +1,6 @@
 //! Theorems on names in octets and as texts. The functions do nothing: each contract is a theorem
 //! over all octets and offsets, or over all texts.
-ghost use Rattle.dns_name.specs.Laws.{NameOrFault, NameOrFaultNotBoth, OneName, OneFault, StandingNames, EndOrSkipFault, EndOrSkipFaultNotBoth, OneEnd, StandingNamesEnd, SkipFaultsAreFaults, SkippingEndsAlike, SkippingFailsAlike};
+ghost use Rattle.dns_name.specs.Laws.{NameOrFault, NameOrFaultNotBoth, OneName, OneFault, EncodedNamesAreNames, EndOrSkipFault, EndOrSkipFaultNotBoth, OneEnd, EncodedNamesEnd, SkipFaultsAreFaults, SkippingEndsAlike, SkippingFailsAlike};
 ghost use Rattle.dns_name.specs.Laws.{NameOrderIsTotal, ComposedOrderIsTotal, NameOrderAgrees, ComposedOrderAgrees, EqualNamesHashAlike};
 ghost use Rattle.dns_name.specs.NameTexts.{OneTextFault, OneTextName, PrintedNamesSpell, TextNameOrFault, TextNameOrFaultNotBoth};
 
@@ -14,8 +14,8 @@ pub fn one_name_or_fault()
 {}
 
 /// An encoded name has labels of 1 to 63 octets, and at most 255 octets in all.
-pub fn standing_names()
-    ensures { StandingNames }
+pub fn encoded_names()
+    ensures { EncodedNamesAreNames }
 {}
 
 /// At each offset either the encoding of a name has exactly one end, or skipping fails with exactly
@@ -29,7 +29,7 @@ pub fn one_end_or_fault()
 /// If a name parses, skipping it ends at the same offset. If skipping fails, parsing fails with the
 /// same fault.
 pub fn skipping_agrees()
-    ensures names_end { StandingNamesEnd }
+    ensures names_end { EncodedNamesEnd }
     ensures faults { SkipFaultsAreFaults }
     ensures ends_alike { SkippingEndsAlike }
     ensures fails_alike { SkippingFailsAlike }

@@ -90,11 +90,11 @@ impl<Octs: Octets> ToName for Name<Octs> {
     ghost use Rattle.std.specs.Prelude.{IsSome, IfSome};
     ghost use Rattle.dns_name.specs.Names.{uncompressed};
     ghost use Rattle.dns_name.specs.NameReading.{name_labels};
-    ghost use Rattle.dns_name.specs.Unique.{standing_name};
+    ghost use Rattle.dns_name.specs.Unique.{encoded_name};
 
     ghost name = { λ n. name_labels n };
 
-    ghost is_name = { λ n. standing_name n.whole.0.1 };
+    ghost is_name = { λ n. encoded_name n.whole.0.1 };
 
     fn as_parsed(&self) -> ParsedName<'_> {
         ParsedName::of_whole(self.octets.octets())

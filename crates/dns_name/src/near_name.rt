@@ -36,7 +36,7 @@ impl NearName {
 
     /// Caches the name at offset `pos`, whose `count` labels take `size` octets.
     pub(crate) fn at(octets: &[u8], pos: u16, size: usize, count: usize) -> NearName
-        requires stands { NameOfSizeAndCount octets.now pos size count }
+        requires encoded { NameOfSizeAndCount octets.now pos size count }
         requires short { size ≤ max_size }
         requires reachable { pos < pointer_end }
         ensures { IsNear octets.now result }

@@ -1,8 +1,8 @@
 //! Parsing of names that may point to a cached name.
 ghost use Rattle.std.specs.Prelude.{ℕ, List};
-ghost use Rattle.dns_name.specs.Names.{Stands};
+ghost use Rattle.dns_name.specs.Names.{NameAt};
 ghost use Rattle.dns_name.specs.NearNames.{IsNear};
-ghost use Rattle.dns_name.specs.ParsedName.{labels, ParsesName, ReadsStanding};
+ghost use Rattle.dns_name.specs.ParsedName.{labels, ParsesName, ReadsEncoded};
 ghost use Rattle.dns_name.specs.Parsers.{seen, offset};
 
 use crate::near_name::NearName;
@@ -22,7 +22,7 @@ pub fn parse_near<'a>(
 ) -> Result<ParsedName<'a>, ParseError>
     requires near { IsNear (seen parser.old) near.old }
     ensures reads { ParsesName parser.old parser.new result }
-    ensures name { ReadsStanding (seen parser.old) (offset parser.old) result }
+    ensures name { ReadsEncoded (seen parser.old) (offset parser.old) result }
     ensures near { IsNear (seen parser.old) near.new }
 {
     let octets = &parser.octets[..parser.end];
@@ -40,7 +40,7 @@ pub fn parse_near<'a>(
 /// Caches `name` for [`parse_near`], as the name encoded at offset `pos`. Caches none if `pos` is
 /// beyond the range of pointers.
 pub fn near_at(name: &ParsedName<'_>, pos: usize) -> NearName
-    ensures { (b : List ℕ) → Stands b pos (labels name.now) → IsNear b result }
+    ensures { (b : List ℕ) → NameAt b pos (labels name.now) → IsNear b result }
 {
     if pos >= NearName::POINTER_END {
         return NearName::new();

@@ -32,10 +32,10 @@ pub(crate) struct NameExtent {
 }
 
 impl<'a> ParsedName<'a> {
-    ghost use Rattle.dns_name.specs.Names.{Labels, uncompressed, with_root, Stands};
+    ghost use Rattle.dns_name.specs.Names.{Labels, uncompressed, with_root, NameAt};
     ghost use Rattle.dns_name.specs.Parsers.{seen, offset};
     ghost use Rattle.dns_name.specs.NearNames.{IsNear, ArrivesOrFails, MeasuresOrFails};
-    ghost use Rattle.dns_name.specs.ParsedName.{labels, ParsesName, SkipsName, ReadsStanding, IsFlat, labels_left};
+    ghost use Rattle.dns_name.specs.ParsedName.{labels, ParsesName, SkipsName, ReadsEncoded, IsFlat, labels_left};
     ghost use Rattle.dns_name.specs.Uncompressed.{WholeName};
 
     /// Reads the name at the parser's offset and moves past its encoding.
@@ -48,7 +48,7 @@ impl<'a> ParsedName<'a> {
     #[inline(always)]
     pub fn parse(parser: &mut Parser<'a>) -> Result<ParsedName<'a>, ParseError>
         ensures reads { ParsesName parser.old parser.new result }
-        ensures name { ReadsStanding (seen parser.old) (offset parser.old) result }
+        ensures name { ReadsEncoded (seen parser.old) (offset parser.old) result }
     {
         parse_near(parser, &mut NearName::new())
     }
@@ -155,7 +155,7 @@ impl<'a> ParsedName<'a> {
     /// Returns the name in `octets`, which are known to be exactly one uncompressed name.
     pub(crate) fn of_whole(octets: &'a [u8]) -> ParsedName<'a>
         requires { WholeName octets.now }
-        ensures { (name : Labels) → Stands octets.now 0 name → labels result ≡ name }
+        ensures { (name : Labels) → NameAt octets.now 0 name → labels result ≡ name }
     {
         ParsedName {
             octets,
@@ -169,7 +169,7 @@ impl<'a> ParsedName<'a> {
     /// name. The root label isn't counted.
     fn count_whole(octets: &[u8]) -> usize
         requires { WholeName octets.now }
-        ensures { (name : Labels) → Stands octets.now 0 name → result ≡ length name }
+        ensures { (name : Labels) → NameAt octets.now 0 name → result ≡ length name }
     {
         let mut pos = 0;
         let mut count = 0;

@@ -28,11 +28,11 @@ pub trait ToName {
 
 impl ToName for ParsedName<'_> {
     ghost use Rattle.dns_name.specs.ParsedName.{labels};
-    ghost use Rattle.dns_name.specs.Unique.{standing_name};
+    ghost use Rattle.dns_name.specs.Unique.{encoded_name};
 
     ghost name = { labels };
 
-    ghost is_name = { λ n. standing_name n.name_at.0.1 };
+    ghost is_name = { λ n. encoded_name n.name_at.0.1 };
 
     fn as_parsed(&self) -> ParsedName<'_> {
         *self

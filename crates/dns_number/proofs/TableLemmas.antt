@@ -41,8 +41,8 @@ module _ (names : List Entry) (i : ℕ) where
       ap (option_map (λ (name : Entry). name.1.now)) (sym none ∙ from) ∙ sym (named n)
 
   -- the number of a mnemonic, by the entries as stored
-  stands_for : (text : List ℕ) → option_map (λ entry. entry.0) (find (is_text text) (table names)) ≡ option_map (λ name. name.0) (find (λ name. str_eq_ignore_ascii_case name.1.now text) names)
-  stands_for text = find_mapped (λ (name : Entry). let entry : ℕ × List ℕ = (name.0, name.1.now) in entry) (λ entry. entry.0) (is_text text) names
+  meaning_of : (text : List ℕ) → option_map (λ entry. entry.0) (find (is_text text) (table names)) ≡ option_map (λ name. name.0) (find (λ name. str_eq_ignore_ascii_case name.1.now text) names)
+  meaning_of text = find_mapped (λ (name : Entry). let entry : ℕ × List ℕ = (name.0, name.1.now) in entry) (λ entry. entry.0) (is_text text) names
 
   -- the mnemonic at the index is the text
   pub text_here : (text : List ℕ) (d : Entry) → is_distinct (table names) ≡ true → TextFrom text → i < length names
@@ -50,14 +50,14 @@ module _ (names : List Entry) (i : ℕ) where
       → (n : ℕ) → IsMnemonic (table names) text n ↔ (Some (get_or names i d).0 ≡ Some n)
   text_here text d distinct from h e =
       let here = find_here (λ name. str_eq_ignore_ascii_case name.1.now text) names i d h ((bytes_eq-Decides _ _).1 e) in
-      one_number text (table names) _ distinct (stands_for text ∙ ap (option_map (λ (name : Entry). name.0)) (sym from ∙ here))
+      one_number text (table names) _ distinct (meaning_of text ∙ ap (option_map (λ (name : Entry). name.0)) (sym from ∙ here))
 
   -- no mnemonic is the text
   pub text_nowhere : (text : List ℕ) → is_distinct (table names) ≡ true → TextFrom text → length names ≤ i
       → (n : ℕ) → IsMnemonic (table names) text n ↔ (None ≡ Some n)
   text_nowhere text distinct from h =
       let none = at_drop_all (find (λ (name : Entry). str_eq_ignore_ascii_case name.1.now text)) names i h in
-      one_number text (table names) None distinct (stands_for text ∙ ap (option_map (λ (name : Entry). name.0)) (sym from ∙ none))
+      one_number text (table names) None distinct (meaning_of text ∙ ap (option_map (λ (name : Entry). name.0)) (sym from ∙ none))
 
   -- the mnemonic at the index isn't the text either
   pub text_later : (text : List ℕ) (d : Entry) → TextFrom text → i < length names

@@ -2,7 +2,7 @@
 --
 -- `b` is the octets that are seen. `size` is the number of octets of the fields after a name that ends at a given offset, and `Lacks` says that they aren't all there.
 use Rattle.std.specs.Prelude.{◌≡◌, ℕ, ◌+◌, ◌≤◌, List, length}
-use Rattle.dns_name.specs.Names.{Fault, Labels, Stands, FaultAt, Walked, SkipFaultAt}
+use Rattle.dns_name.specs.Names.{Fault, Labels, NameAt, FaultAt, Walked, SkipFaultAt}
 use Rattle.dns_name.specs.Names.Fault.{ShortInput}
 
 -- the encoded name and the fields after it take the octets from p to q
@@ -15,7 +15,7 @@ pub record SkipsFields (b : List ℕ) (size : ℕ → ℕ) (p q : ℕ) : Type 0 
 -- Why a name and its fields can't be read at p: the name has a fault, or the octets after the name aren't all there.
 pub data FieldsFaultAt (b : List ℕ) (Lacks : ℕ → Type 0) (p : ℕ) : Fault → Type 0 where
   name : {f : Fault} → FaultAt b p f → FieldsFaultAt b Lacks p f
-  short : {name : Labels} {r : ℕ} → Stands b p name → Walked b p r → Lacks r → FieldsFaultAt b Lacks p ShortInput
+  short : {name : Labels} {r : ℕ} → NameAt b p name → Walked b p r → Lacks r → FieldsFaultAt b Lacks p ShortInput
 
 -- why they can't be skipped at p; pointers are not followed
 pub data FieldsSkipFaultAt (b : List ℕ) (Lacks : ℕ → Type 0) (p : ℕ) : Fault → Type 0 where

@@ -1,7 +1,7 @@
 -- A question as a value, and its encoding. RFC 1035 section 4.1.2.
 use Rattle.std.specs.Prelude.{ℕ, ◌<◌, ◌^◌, List, ◌++◌, ◌≡◌, ◌+◌, length}
 use Rattle.std.specs.Int.{to_be_bytes, w16}
-use Rattle.dns_name.specs.Names.{Labels, IsName, Fault, Stands, ReadsOrFaults, EndsOrFaults}
+use Rattle.dns_name.specs.Names.{Labels, IsName, Fault, NameAt, ReadsOrFaults, EndsOrFaults}
 use Rattle.dns_name.specs.Parsers.{number_at}
 use Rattle.dns_wire.specs.Pieces.{Rule, Piece, put_octets, both, put_name, IsGrowing}
 use Rattle.dns_wire.specs.Targets.{Written, IsTarget, lay}
@@ -36,7 +36,7 @@ SkipsQuestion b = SkipsFields b (λ r. 4)
 -- the question `x` is encoded from p to q
 pub record ReadsQuestion (b : List ℕ) (p q : ℕ) (x : QuestionItem) : Type 0 where
   pub skips : SkipsQuestion b p q
-  pub name : Stands b p x.name
+  pub name : NameAt b p x.name
   pub rtype : x.rtype ≡ number_at w16 b skips.name_end
   pub class : x.class ≡ number_at w16 b (skips.name_end + 2)
 

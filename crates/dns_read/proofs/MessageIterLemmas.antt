@@ -6,7 +6,7 @@ use Rattle.std.specs.Option.{option_map_or}
 use Rattle.dns_name.specs.Names.{Fault, fault_of}
 use Rattle.dns_octets.specs.declared.error.ParseError.{ParseError}
 use Rattle.dns_item.specs.Items.{SkipsRecord, ReadsRecord, RecordEntry, RecordFaultAt, RecordSkipFaultAt}
-use Rattle.dns_item.specs.ParsedRecord.{StandingRecord}
+use Rattle.dns_item.specs.ParsedRecord.{EncodedRecord}
 use Rattle.dns_section.specs.Reading.{Passed, StopsPassing, Reading}
 use Rattle.dns_section.specs.Reading.Passed.{none as no_more, more}
 use Rattle.dns_section.specs.Reading.StopsPassing.{here, after as stops_after}
@@ -34,7 +34,7 @@ after_next Authority next b p e = let same : Additional ≡ next = cc in ap (λ 
 after_next Additional next b p e = absurd (cc)
 
 -- the items of a section and of those after it, by what is read of the section
-abbrev items_by : Section → List ℕ → ℕ → List (Result StandingRecord Fault) → List Item
+abbrev items_by : Section → List ℕ → ℕ → List (Result EncodedRecord Fault) → List Item
 items_by which b p xs = in_section which xs (items_after which b (records_end p xs))
 
 module _ (which : Section) (b : List ℕ) where
@@ -87,7 +87,7 @@ rest_end b (Ok n) p none = nothing_first Additional b n p none
 rest_end b (Err e) p none = refl
 
 -- how many items there are at most
-length-in_section : (which : Section) (xs : List (Result StandingRecord Fault)) (after : List Item) (m : ℕ) → 1 ≤ m → length after ≤ m → length (in_section which xs after) ≤ length xs + m
+length-in_section : (which : Section) (xs : List (Result EncodedRecord Fault)) (after : List Item) (m : ℕ) → 1 ≤ m → length after ≤ m → length (in_section which xs after) ≤ length xs + m
 length-in_section which [] after m one l = omega arith
 length-in_section which (Ok x ∷ xs) after m one l = let rest = length-in_section which xs after m one l in omega (arith, rest)
 length-in_section Answer (Err f ∷ xs) after m one l = omega arith

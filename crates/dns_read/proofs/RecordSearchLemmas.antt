@@ -10,7 +10,7 @@ use Rattle.dns_wire.specs.Parts.{Part}
 use Rattle.dns_data.specs.Layout.{Layout}
 use Rattle.dns_item.specs.Items.{RecordItem}
 use Rattle.dns_item.specs.DataAnswer.{HasSpan}
-use Rattle.dns_item.specs.ParsedRecord.{octets_of, parsed_entry, standing_record}
+use Rattle.dns_item.specs.ParsedRecord.{octets_of, parsed_entry, encoded_record}
 use Rattle.dns_item.specs.RecordReading.{AnswersTaken}
 use Rattle.dns_item.specs.declared.parsed_record.ParsedRecord.{ParsedRecord}
 use Rattle.dns_item.proofs.theory.TypedLemmas.{answer_to-answered}
@@ -52,11 +52,11 @@ value_given rtype_of parts_of (Err e) o h = ap (option_and_then result_ok) h
 
 -- the last record with its RDATA, by the result of parsing the RDATA
 pub last_given : {D : Type 0} (rtype_of : D → ℕ) (parts_of : D → List Part) (layouts : ℕ → Option Layout) (b : List ℕ) (last : ParsedRecord) (r : Result (Option (Record ParsedName D)) ParseError)
-    → Some (standing_record last) ≡ last_record (records_of Additional b) → HasSpan (standing_record last)
+    → Some (encoded_record last) ≡ last_record (records_of Additional b) → HasSpan (encoded_record last)
     → AnswersTaken rtype_of parts_of (octets_of last) (parsed_entry last) (layouts (parsed_entry last).rtype) r
     → option_and_then (option_map (record_item labels rtype_of parts_of)) (result_ok r) ≡ last_additional layouts b
 last_given rtype_of parts_of layouts b last r is span answers =
-    let x = standing_record last in
+    let x = encoded_record last in
     value_given rtype_of parts_of r (answer_to layouts x) (answer_to-answered rtype_of parts_of x span (layouts x.entry.rtype) r answers)
     ∙ ap (option_and_then (λ y. option_and_then result_ok (answer_to layouts y))) is
 

@@ -8,7 +8,7 @@ use Rattle.std.specs.List.{AllByRecursion}
 use Rattle.std.specs.Option.{option_map_or}
 use Rattle.dns_name.specs.Names.{Fault, fault_of}
 use Rattle.dns_octets.specs.declared.error.ParseError.{ParseError}
-use Rattle.dns_item.specs.ParsedRecord.{StandingRecord, standing_record}
+use Rattle.dns_item.specs.ParsedRecord.{EncodedRecord, encoded_record}
 use Rattle.dns_item.specs.declared.parsed_record.ParsedRecord.{ParsedRecord}
 use Rattle.dns_section.specs.RecordSection.{octets_of, position, section_of, to_come}
 use Rattle.dns_section.specs.RecordsFrom.{records_in}
@@ -21,11 +21,11 @@ use Rattle.dns_read.specs.declared.message_iter.MessageIter.{MessageIter}
 
 -- an item: a record with its section, or a fault
 abbrev pub Item : Type 0
-Item = Result (StandingRecord × Section) Fault
+Item = Result (EncodedRecord × Section) Fault
 
 -- what a result of the iterator says
 abbrev pub item_answer : Result (ParsedRecord × Section) ParseError → Item
-item_answer (Ok x) = Ok (standing_record x.0, x.1)
+item_answer (Ok x) = Ok (encoded_record x.0, x.1)
 item_answer (Err e) = Err (fault_of e)
 
 -- what follows the fault of a section: the same fault again, but nothing in the additional section
@@ -35,13 +35,13 @@ once_more Authority f = Err f ∷ []
 once_more Additional f = []
 
 -- the items of a section, each record with its section, then those of the sections after it; a fault ends them
-abbrev pub in_section : Section → List (Result StandingRecord Fault) → List Item → List Item
+abbrev pub in_section : Section → List (Result EncodedRecord Fault) → List Item → List Item
 in_section which [] after = after
 in_section which (Ok x ∷ xs) after = Ok (x, which) ∷ in_section which xs after
 in_section which (Err f ∷ xs) after = Err f ∷ once_more which f
 
 -- the offset where the last record of a reading from p ends
-abbrev pub records_end : ℕ → List (Result StandingRecord Fault) → ℕ
+abbrev pub records_end : ℕ → List (Result EncodedRecord Fault) → ℕ
 records_end p [] = p
 records_end p (Ok x ∷ xs) = records_end x.entry.data_end xs
 records_end p (Err f ∷ xs) = p
@@ -113,7 +113,7 @@ abbrev pub SecondErrorIsFirst : Type 0
 SecondErrorIsFirst = (old mid new : MessageIter) (first second : ParseError) → GivesNext old (Some (Err first)) mid → GivesNext mid (Some (Err second)) new → second ≡ first
 
 -- a reading has no fault
-abbrev pub HasNoFault : List (Result StandingRecord Fault) → Type 0
+abbrev pub HasNoFault : List (Result EncodedRecord Fault) → Type 0
 HasNoFault = AllByRecursion IsOk
 
 -- If the reading of a section has no fault, the next section starts where the last of its records ends, and the items of the sections after it begin there.

@@ -10,14 +10,14 @@ use Rattle.dns_data.specs.Opt.{opt_layout}
 use Rattle.dns_data.specs.RecordData.{only}
 use Rattle.dns_item.specs.Items.{RecordItem}
 use Rattle.dns_item.specs.OptRecord.{OptItem, opt_item_in}
-use Rattle.dns_item.specs.ParsedRecord.{StandingRecord}
+use Rattle.dns_item.specs.ParsedRecord.{EncodedRecord}
 use Rattle.dns_section.specs.Limited.{limited}
 use Rattle.dns_section.specs.declared.section.Section.TheVariants.{Additional}
 use Rattle.dns_read.specs.Searches.{first_value}
 use Rattle.dns_read.specs.SectionStarts.{records_of}
 
 -- the first OPT record of a reading; none if the reading's fault comes first, or if the RDATA of the record is malformed
-abbrev pub first_opt_in : List (Result StandingRecord Fault) → Option RecordItem
+abbrev pub first_opt_in : List (Result EncodedRecord Fault) → Option RecordItem
 first_opt_in xs = first_value (limited (only 41 opt_layout) xs)
 
 -- the first OPT record of the additional section

@@ -13,7 +13,7 @@ use Rattle.dns_data.specs.Layout.Layout.{DomainName, End}
 use Rattle.dns_data.specs.RecordData.{only}
 use Rattle.dns_question.specs.Questions.{QuestionItem}
 use Rattle.dns_item.specs.Items.{RecordItem}
-use Rattle.dns_item.specs.ParsedRecord.{StandingRecord}
+use Rattle.dns_item.specs.ParsedRecord.{EncodedRecord}
 use Rattle.dns_item.specs.TypedRecords.{answer_to}
 use Rattle.dns_section.specs.Limited.{limited}
 use Rattle.dns_section.specs.declared.section.Section.TheVariants.{Answer, Additional}
@@ -35,7 +35,7 @@ last_item [] = None
 last_item (x ∷ xs) = Some (last_from x xs)
 
 -- the last record of a reading that has no fault
-abbrev pub last_record : List (Result StandingRecord Fault) → Option StandingRecord
+abbrev pub last_record : List (Result EncodedRecord Fault) → Option EncodedRecord
 last_record xs = option_and_then result_ok (last_item xs)
 
 -- the last additional record with its RDATA parsed; none if the data type doesn't accept its type, or if its RDATA is malformed

@@ -5,7 +5,7 @@ use Rattle.std.proofs.Common.{inl, inr}
 use Rattle.std.specs.Prelude.{◌≡◌, ◌↔◌, ◌⊎◌, ℕ, List, [], Option, Some, None, Result}
 use Rattle.std.specs.Option.{option_map_or}
 use Rattle.dns_name.specs.Names.{Fault}
-use Rattle.dns_item.specs.ParsedRecord.{StandingRecord}
+use Rattle.dns_item.specs.ParsedRecord.{EncodedRecord}
 use Rattle.dns_section.specs.RecordsFrom.{records_in}
 use Rattle.dns_section.specs.Sections.{record_count, StartsAt}
 use Rattle.dns_section.specs.declared.section.Section.{Section}
@@ -24,7 +24,7 @@ start_of Authority b = found (start_or_fault.authorities b).some
 start_of Additional b = found (start_or_fault.additionals b).some
 
 -- the reading of a section of records; empty if it has no start
-abbrev pub records_of : Section → List ℕ → List (Result StandingRecord Fault)
+abbrev pub records_of : Section → List ℕ → List (Result EncodedRecord Fault)
 records_of which b = option_map_or (records_in b (record_count which b)) (start_of which b) []
 
 -- `start_of` finds an offset exactly if the section starts there

@@ -2,7 +2,7 @@
 ghost use Rattle.std.specs.Prelude.{◌≡◌, ◌↔◌, IfSome, IsTrue, option_map};
 ghost use Rattle.dns_name.specs.ParsedName.{labels};
 ghost use Rattle.dns_item.specs.DataAnswer.{HasSpan};
-ghost use Rattle.dns_item.specs.ParsedRecord.{standing_record};
+ghost use Rattle.dns_item.specs.ParsedRecord.{encoded_record};
 ghost use Rattle.dns_item.specs.Record.{record_item};
 ghost use Rattle.dns_section.specs.Limited.{limited};
 ghost use Rattle.dns_section.specs.RecordSection.{records_left};
@@ -68,9 +68,9 @@ impl<Octs: Octets> Message<Octs> {
 
 /// The last record of a section, if all of them can be read.
 fn last_of<'a>(mut section: RecordSection<'a>) -> Option<ParsedRecord<'a>>
-    ensures record { option_map standing_record result
+    ensures record { option_map encoded_record result
         ≡ last_record (records_left section.entry) }
-    ensures span { IfSome result (λ last. HasSpan (standing_record last)) }
+    ensures span { IfSome result (λ last. HasSpan (encoded_record last)) }
 {
     let mut last = None;
     while let Some(record) = section.next() {

@@ -20,7 +20,7 @@ fn compare_sections(first: Section, second: Section) -> Option<Ordering>
 }
 
 /// Whether a section precedes another one.
-fn stands_before(first: Section, second: Section) -> bool
+fn comes_before(first: Section, second: Section) -> bool
     ensures { IsTrue result ↔ (sections_before first < sections_before second) }
 {
     first < second

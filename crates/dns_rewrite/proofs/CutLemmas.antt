@@ -12,7 +12,7 @@ use Rattle.dns_item.proofs.theory.TypedLemmas.{data_is_answered, laid_out-answer
 use Rattle.dns_item.specs.DataAnswer.{HasSpan}
 use Rattle.dns_item.specs.DataAnswer.IsDataAnswer.{missing}
 use Rattle.dns_item.specs.Items.{RecordEntry, RecordItem}
-use Rattle.dns_item.specs.ParsedRecord.{StandingRecord}
+use Rattle.dns_item.specs.ParsedRecord.{EncodedRecord}
 use Rattle.dns_item.specs.Record.{HasFields, class_of, data_of, owner_of, record_item, ttl_of}
 use Rattle.dns_item.specs.RecordReading.{AnswersLaidOut, item_of}
 use Rattle.dns_item.specs.TypedRecords.{laid_out, typed_answer, with_parts}
@@ -20,7 +20,7 @@ use Rattle.dns_item.specs.declared.record.Record.{Record}
 use Rattle.dns_rewrite.specs.Rewriting.{cut_answer, with_ttl_cut}
 
 -- reading the RDATA of a record returns what its layout says, also if the RDATA is incomplete
-pub laid_out-read : {D : Type 0} (rtype_of : D → ℕ) (parts_of : D → List Part) (x : StandingRecord) (layout : Layout) (r : Result (Record ParsedName D) ParseError) → x.entry.data_start ≤ x.entry.data_end
+pub laid_out-read : {D : Type 0} (rtype_of : D → ℕ) (parts_of : D → List Part) (x : EncodedRecord) (layout : Layout) (r : Result (Record ParsedName D) ParseError) → x.entry.data_start ≤ x.entry.data_end
     → AnswersLaidOut rtype_of parts_of x.octets x.entry layout r → typed_answer rtype_of parts_of r ≡ laid_out x layout
 laid_out-read rtype_of parts_of x layout r start h =
     elim (leb_tells x.entry.data_end (length x.octets)) [

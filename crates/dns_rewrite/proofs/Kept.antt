@@ -4,7 +4,7 @@ use Rattle.std.specs.List.{cons_option, filter_map}
 use Rattle.std.specs.Prelude.{cond, if◌then◌else◌, filter, Option, Some, None, option_map, Result, Ok, Err}
 use Rattle.dns_name.specs.Names.{Fault}
 use Rattle.dns_item.specs.Items.{RecordItem}
-use Rattle.dns_item.specs.ParsedRecord.{StandingRecord, standing_record}
+use Rattle.dns_item.specs.ParsedRecord.{EncodedRecord, encoded_record}
 use Rattle.dns_item.specs.TypedRecords.{laid_out}
 use Rattle.dns_item.specs.declared.parsed_record.ParsedRecord.{ParsedRecord}
 use Rattle.dns_section.specs.AnyRecordIter.{every}
@@ -18,12 +18,12 @@ use Rattle.dns_any_data.specs.AnyLayout.{any_layout}
 use Rattle.dns_rewrite.specs.Rewriting.{CutsSection, cut_answer, is_cached, values, with_ttl_cut}
 
 -- what is written for a record in its message
-abbrev pub cut_standing : ℕ → StandingRecord → Option RecordItem
-cut_standing most x = cut_answer most (laid_out x (any_layout x.entry.rtype))
+abbrev pub cut_encoded : ℕ → EncodedRecord → Option RecordItem
+cut_encoded most x = cut_answer most (laid_out x (any_layout x.entry.rtype))
 
 -- what is written for an item of a reading
-abbrev cut_item : ℕ → Result StandingRecord Fault → Option RecordItem
-cut_item most (Ok x) = cut_standing most x
+abbrev cut_item : ℕ → Result EncodedRecord Fault → Option RecordItem
+cut_item most (Ok x) = cut_encoded most x
 cut_item most (Err f) = None
 
 chosen : (most : ℕ) (b : Bool) (x : RecordItem) (xs : List RecordItem)
@@ -37,16 +37,16 @@ one_more most (Ok x) rest = chosen most (is_cached x) x (filter is_cached (value
 one_more most (Err f) rest = refl
 
 -- what is written for a reading, by its records with their RDATA
-kept_of : (most : ℕ) (xs : List (Result StandingRecord Fault)) → filter_map (cut_item most) xs ≡ map (with_ttl_cut most) (filter is_cached (values (limited (every any_layout) xs)))
+kept_of : (most : ℕ) (xs : List (Result EncodedRecord Fault)) → filter_map (cut_item most) xs ≡ map (with_ttl_cut most) (filter is_cached (values (limited (every any_layout) xs)))
 kept_of most [] = refl
 kept_of most (Ok x ∷ xs) =
-    ap (cons_option (cut_standing most x)) (kept_of most xs) ∙ one_more most (laid_out x (any_layout x.entry.rtype)) (limited (every any_layout) xs)
+    ap (cons_option (cut_encoded most x)) (kept_of most xs) ∙ one_more most (laid_out x (any_layout x.entry.rtype)) (limited (every any_layout) xs)
 kept_of most (Err f ∷ xs) = kept_of most xs
 
 module _ {F R : Type 0} (call : F → ParsedRecord → Option R → F → Type 0) (item : R → RecordItem) (most : ℕ) (Holds : F → Type 0)
-    (cuts : (f : F) (shown : ParsedRecord) (answer : Option R) (g : F) → Holds f → call f shown answer g → (option_map item answer ≡ cut_standing most (standing_record shown)) × Holds g) where
-  -- each record is written as `cut_standing` says
-  keeps_cut : {xs : List (Result StandingRecord Fault)} {f g : F} {items : List RecordItem} → Keeps call item xs f items g → Holds f → (items ≡ filter_map (cut_item most) xs) × Holds g
+    (cuts : (f : F) (shown : ParsedRecord) (answer : Option R) (g : F) → Holds f → call f shown answer g → (option_map item answer ≡ cut_encoded most (encoded_record shown)) × Holds g) where
+  -- each record is written as `cut_encoded` says
+  keeps_cut : {xs : List (Result EncodedRecord Fault)} {f g : F} {items : List RecordItem} → Keeps call item xs f items g → Holds f → (items ≡ filter_map (cut_item most) xs) × Holds g
   keeps_cut none h = (refl, h)
   keeps_cut (dropped {xs = xs} shown called rest) h =
       let one = cuts _ shown None _ h called in

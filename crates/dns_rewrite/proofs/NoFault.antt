@@ -5,7 +5,7 @@ use Rattle.dns_octets.specs.declared.error.ParseError.{ParseError}
 use Rattle.dns_name.specs.Names.{Fault}
 use Rattle.dns_wire.specs.Pieces.{Rule}
 use Rattle.dns_item.specs.Items.{RecordItem}
-use Rattle.dns_item.specs.ParsedRecord.{StandingRecord}
+use Rattle.dns_item.specs.ParsedRecord.{EncodedRecord}
 use Rattle.dns_item.specs.TypedRecords.{laid_out}
 use Rattle.dns_item.specs.declared.parsed_record.ParsedRecord.{ParsedRecord}
 use Rattle.dns_section.specs.AnyRecordIter.{every}
@@ -47,7 +47,7 @@ section_reads b reads Authority = reads.authorities
 section_reads b reads Additional = reads.additionals
 
 module _ {F R : Type 0} (call : F → ParsedRecord → Option R → F → Type 0) (item : R → RecordItem) (room : Option ℕ) (grows : Bool) (rule : Rule) (e : ParseError) where
-  no_fault_in_list : (stage : Stage) {xs : List (Result StandingRecord Fault)} {f g : F} {s t : State} {result : Result (Unit {0}) CopyRecordsError}
+  no_fault_in_list : (stage : Stage) {xs : List (Result EncodedRecord Fault)} {f g : F} {s t : State} {result : Result (Unit {0}) CopyRecordsError}
       → CopiesList call item room grows rule stage xs f s result g t → result ≡ Err (Parse e) → first_fault (limited (every any_layout) xs) ≡ None → ⊥
   no_fault_in_list stage no_record is whole = absurd (cc)
   no_fault_in_list stage (record_copied {x = x} {xs = xs} one rest) is whole =

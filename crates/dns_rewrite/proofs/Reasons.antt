@@ -20,7 +20,7 @@ use Rattle.dns_section.specs.Sections.{question_count}
 use Rattle.dns_section.proofs.theory.QuestionsFromLemmas.{questions_from_are_read}
 use Rattle.dns_build.specs.Answers.{GivesAnswer, answering, readable_questions}
 use Rattle.dns_build.specs.CopyRecords.{CopiesMessage, record_sections}
-use Rattle.dns_build.specs.Standing.{Built, StandsFor, fresh}
+use Rattle.dns_build.specs.BuilderStates.{Built, Represents, fresh}
 use Rattle.dns_build.specs.State.{Every, InAnswer, most_entries}
 use Rattle.dns_build.specs.declared.copy_records_error.CopyRecordsError.{CopyRecordsError}
 use Rattle.dns_build.specs.declared.copy_records_error.CopyRecordsError.TheVariants.{Parse, Push}
@@ -31,14 +31,14 @@ use Rattle.dns_any_data.specs.declared.any_data.AnyData.{AnyData}
 use Rattle.dns_any_data.specs.declared.any_data.Names.{Names}
 use Rattle.dns_any_data.specs.declared.any_data.Names.TheVariants as names
 use Rattle.dns_rewrite.specs.Rewriting.{IsReason, MessageReads, begun}
-use Rattle.dns_name.specs.Unique.{standing_name}
+use Rattle.dns_name.specs.Unique.{encoded_name}
 use Rattle.dns_rewrite.proofs.NoFault.{no_fault, section_reads}
 use Rattle.dns_rewrite.proofs.Refusing.{AreFew, IsOpen, asking_refused, copying_refused}
 use Rattle.dns_rewrite.proofs.Sizes.{IsNamed, IsShort}
 
 -- a bound for the RDATA of any type
 name_octets : (name : ParsedName) → parts_size (parts_with (names.One name) []) ≤ 255
-name_octets name = let a = length-uncompressed (labels name) in let b = (standing_name name.name_at.0.1).short in omega (arith, a, b)
+name_octets name = let a = length-uncompressed (labels name) in let b = (encoded_name name.name_at.0.1).short in omega (arith, a, b)
 
 parts_short : (few : Names) (octets : List ℕ) → length octets ≤ 65535 → parts_size (parts_with few octets) ≤ 66045
 parts_short names.None octets short = omega (arith, short)
@@ -47,13 +47,13 @@ parts_short (names.Two first second) octets short = let a = name_octets first in
 
 -- and for a record with it
 short_record : (r : Record ParsedName AnyData) → IsShort (record_item labels rtype_of parts_of r)
-short_record r = record { owner = standing_name r.owner.name_at.0.1; parts = parts_short r.data.names r.data.octets.now r.data.short }
+short_record r = record { owner = encoded_name r.owner.name_at.0.1; parts = parts_short r.data.names r.data.octets.now r.data.short }
 
 module _ (b : List ℕ) where
   -- readable questions have valid names, and are at most as many as the count says
   readable_named : {n p : ℕ} {xs : List (Result QuestionItem Fault)} → Reading (ReadsQuestion b) (QuestionFaultAt b) n p xs → Every IsNamed (filter_map result_ok xs)
   readable_named none = tt
-  readable_named (entry reads rest) = (standing_name reads.name, readable_named rest)
+  readable_named (entry reads rest) = (encoded_name reads.name, readable_named rest)
   readable_named (stop faulty) = tt
 
   readable_few : {n p : ℕ} {xs : List (Result QuestionItem Fault)} → Reading (ReadsQuestion b) (QuestionFaultAt b) n p xs → length (filter_map result_ok xs) ≤ n
@@ -79,13 +79,13 @@ module _ (b : List ℕ) where
       asking_refused grows s (readable_questions b) gives.0 e s_is_open (readable_named reading) (omega (arith, few, l)) gives.1
 
   -- a builder with the questions of a message is open
-  begun_open : (new : Built) → question_count b ≤ most_entries → StandsFor InAnswer Static (begun b) new → IsOpen (begun b)
-  begun_open new few stands =
+  begun_open : (new : Built) → question_count b ≤ most_entries → Represents InAnswer Static (begun b) new → IsOpen (begun b)
+  begun_open new few represents =
       let reading = (questions_from_are_read b).reading (question_count b) header_size in
       let l = readable_few reading in
       record {
         limit = refl;
-        short = record { header = stands.state.header; questions = readable_named reading; answers = tt; authorities = tt; additionals = tt };
+        short = record { header = represents.state.header; questions = readable_named reading; answers = tt; authorities = tt; additionals = tt };
         questions = omega (arith, few, l);
         answers = omega arith;
         authorities = omega arith;
@@ -94,9 +94,9 @@ module _ (b : List ℕ) where
 
   -- why copying a readable message fails
   pub reason : (grows : Bool) {F : Type 0} (call : F → ParsedRecord → Option (Record ParsedName AnyData) → F → Type 0) (f : F) (new : Built) (e : CopyRecordsError)
-      → question_count b ≤ most_entries → AreFew b → StandsFor InAnswer Static (begun b) new
+      → question_count b ≤ most_entries → AreFew b → Represents InAnswer Static (begun b) new
       → CopiesMessage call (record_item labels rtype_of parts_of) None grows Static b f (begun b) (Err e) → MessageReads b → IsReason b e
-  reason grows call f new (Parse e) asked few stands copies reads =
+  reason grows call f new (Parse e) asked few represents copies reads =
       absurd (no_fault call (record_item labels rtype_of parts_of) None grows Static e b record_sections copies.2 refl (section_reads b reads))
-  reason grows call f new (Push e) asked few stands copies reads =
-      (reads, copying_refused grows (record_item labels rtype_of parts_of) short_record call b e copies.2 refl few (begun_open new asked stands) refl)
+  reason grows call f new (Push e) asked few represents copies reads =
+      (reads, copying_refused grows (record_item labels rtype_of parts_of) short_record call b e copies.2 refl few (begun_open new asked represents) refl)

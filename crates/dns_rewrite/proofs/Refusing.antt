@@ -6,7 +6,7 @@ use Rattle.dns_name.specs.Names.{Fault}
 use Rattle.dns_wire.specs.Pieces.{Static}
 use Rattle.dns_question.specs.Questions.{QuestionItem}
 use Rattle.dns_item.specs.Items.{RecordItem}
-use Rattle.dns_item.specs.ParsedRecord.{StandingRecord}
+use Rattle.dns_item.specs.ParsedRecord.{EncodedRecord}
 use Rattle.dns_item.specs.declared.parsed_record.ParsedRecord.{ParsedRecord}
 use Rattle.dns_section.proofs.theory.ReadingLemmas.{readings_of_records_end}
 use Rattle.dns_section.proofs.theory.RecordsFromLemmas.{records_from_are_read}
@@ -19,7 +19,7 @@ use Rattle.dns_build.specs.CopyRecords.{CopiesList, CopiesSection, CopiesSection
 use Rattle.dns_build.specs.CopyRecords.CopiesList.{none as no_record, copied as record_copied, refused, fault}
 use Rattle.dns_build.specs.CopyRecords.CopiesSection.{started, unstarted}
 use Rattle.dns_build.specs.CopyRecords.CopiesSections.{none as no_section, copied as section_copied, stopped}
-use Rattle.dns_build.specs.Standing.{PushAnswers, size_after}
+use Rattle.dns_build.specs.BuilderStates.{PushAnswers, size_after}
 use Rattle.dns_build.specs.State.{Every, InAdditional, InAnswer, InAuthority, InBuilder, InQuestion, Stage, State, most_entries, move_to, no_limit, records_at, stage_of, up_to, with_question, with_questions, with_record}
 use Rattle.dns_build.specs.declared.copy_records_error.CopyRecordsError.{CopyRecordsError}
 use Rattle.dns_build.specs.declared.copy_records_error.CopyRecordsError.TheVariants.{Push}
@@ -236,7 +236,7 @@ module _ (grows : Bool) where
         })
 
     module _ {F : Type 0} (call : F → ParsedRecord → Option R → F → Type 0) where
-      list_refused : (stage : Stage) (e : PushError) {xs : List (Result StandingRecord Fault)} {f g : F} {s t : State} {result : Result (Unit {0}) CopyRecordsError}
+      list_refused : (stage : Stage) (e : PushError) {xs : List (Result EncodedRecord Fault)} {f g : F} {s t : State} {result : Result (Unit {0}) CopyRecordsError}
           → CopiesList call item None grows Static stage xs f s result g t → result ≡ Err (Push e) → CanTake stage (length xs) s → e ≡ OutOfMemory
       list_refused stage e no_record is can = absurd (cc)
       list_refused stage e (record_copied {xs = xs} one rest) is can =
@@ -248,7 +248,7 @@ module _ (grows : Bool) where
           sym same ∙ kept_refused stage _ _ one.kept (length xs) e' more one.pushed
       list_refused stage e fault is can = absurd (cc)
 
-      list_copied : (stage : Stage) {xs : List (Result StandingRecord Fault)} {f g : F} {s t : State} {result : Result (Unit {0}) CopyRecordsError}
+      list_copied : (stage : Stage) {xs : List (Result EncodedRecord Fault)} {f g : F} {s t : State} {result : Result (Unit {0}) CopyRecordsError}
           → CopiesList call item None grows Static stage xs f s result g t → result ≡ Ok tt → CanTake stage (length xs) s → CanTake stage 0 t
       list_copied stage no_record is can = can
       list_copied stage (record_copied {xs = xs} one rest) is can =

@@ -4,7 +4,7 @@ ghost use Rattle.std.specs.Prelude.{◌≡◌, ◌≤◌, IfErr, IfOk, MatchResu
 ghost use Rattle.dns_name.specs.Names.{fault_of};
 ghost use Rattle.dns_name.specs.ParsedName.{labels};
 ghost use Rattle.dns_wire.specs.Pieces.{Static};
-ghost use Rattle.dns_item.specs.ParsedRecord.{standing_record};
+ghost use Rattle.dns_item.specs.ParsedRecord.{encoded_record};
 ghost use Rattle.dns_item.specs.Record.{record_item};
 ghost use Rattle.dns_item.specs.TypedRecords.{laid_out};
 ghost use Rattle.dns_read.specs.Message.{message_octets};
@@ -13,7 +13,7 @@ ghost use Rattle.dns_section.specs.Limited.{limited};
 ghost use Rattle.dns_section.specs.QuestionSection.{questions_left};
 ghost use Rattle.dns_section.specs.RecordSection.{records_left};
 ghost use Rattle.dns_section.specs.Sections.{question_count, answer_count, authority_count, additional_count};
-ghost use Rattle.dns_build.specs.Standing.{StandsFor};
+ghost use Rattle.dns_build.specs.BuilderStates.{Represents};
 ghost use Rattle.dns_build.specs.State.{InAnswer, most_entries};
 ghost use Rattle.dns_any_data.specs.AnyData.{rtype_of, parts_of};
 ghost use Rattle.dns_any_data.specs.AnyLayout.{any_layout};
@@ -111,7 +111,7 @@ fn begun<Octs: Octets>(
     alloc: Global,
     message: &Message<Octs>,
 ) -> Result<AnswerBuilder<Target>, PushError>
-    ensures begun { IfOk result (λ builder. StandsFor InAnswer Static
+    ensures begun { IfOk result (λ builder. Represents InAnswer Static
         (begun (message_octets message.now)) builder) }
     ensures memory { IfErr result (λ e. e ≡ PushError.OutOfMemory) }
 {
@@ -124,7 +124,7 @@ fn begun<Octs: Octets>(
 
 /// The record with its TTL capped. `None` for an OPT record, or if the RDATA is malformed.
 fn cut<'a>(shown: ParsedRecord<'a>, most: Ttl) -> Option<Record<ParsedName<'a>, AnyData<'a>>>
-    ensures { let x = standing_record shown.entry in
+    ensures { let x = encoded_record shown.entry in
         option_map (record_item labels rtype_of parts_of) result
         ≡ cut_answer most (laid_out x (any_layout x.entry.rtype)) }
 {

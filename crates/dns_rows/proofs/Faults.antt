@@ -3,7 +3,7 @@ use Rattle.std.proofs.Common.{◌≡◌, ℕ, zero, suc, ◌+◌, ◌-◌, ◌*�
 use Rattle.std.proofs.lemmas.Bool.Decides.{nat_tests}
 use Rattle.std.proofs.lemmas.Grind.{common_steps}
 use Rattle.std.proofs.lemmas.Option.{slice_get_cases, slice_get_past}
-use Rattle.dns_name.specs.Names.{head_at, head_of, max_size, Fault, Faulty, Labels, Stands}
+use Rattle.dns_name.specs.Names.{head_at, head_of, max_size, Fault, Faulty, Labels, NameAt}
 use Rattle.dns_name.specs.Names.Fault.{ShortInput, Form}
 use Rattle.dns_name.specs.Names.Faulty.{head, long, cut, ahead, label, pointer}
 use Rattle.dns_name.specs.declared.head.Head.TheVariants.{Root, Label, Pointer}
@@ -18,19 +18,19 @@ use Rattle.dns_rows.specs.Rows.{target_in}
 use Rattle.dns_rows.specs.Walks.{IsLabelAt}
 
 -- where a name can be read, a label, pointer or root begins
-no_head : (b : List ℕ) (p : ℕ) (f : Fault) (name : Labels) → Stands b p name → head_at b p ≡ Err f → f ≡ Form
-no_head b p f name (Stands.root h) k = cc (h, k)
-no_head b p f name (Stands.label h w x z) k = cc (h, k)
-no_head b p f name (Stands.pointer h w x) k = cc (h, k)
+no_head : (b : List ℕ) (p : ℕ) (f : Fault) (name : Labels) → NameAt b p name → head_at b p ≡ Err f → f ≡ Form
+no_head b p f name (NameAt.root h) k = cc (h, k)
+no_head b p f name (NameAt.label h w x z) k = cc (h, k)
+no_head b p f name (NameAt.pointer h w x) k = cc (h, k)
 
 -- a name that can be read has a fault only for its size
-form_of_standing : (b : List ℕ) (p s : ℕ) (f : Fault) (name : Labels) → Stands b p name → Faulty b p s f → f ≡ Form
-form_of_standing b p s f name x (head k) = no_head b p f name x k
-form_of_standing b p s f name x (long k w) = refl
-form_of_standing b p s f name x (cut k w short) = let l = at_label b x k in absurd (omega (arith, l.fits, short))
-form_of_standing b p s f name x (ahead k w) = refl
-form_of_standing b p s f name x (label {n = n} k short fits w) = let l = at_label b x k in form_of_standing b (p + 1 + n) (s + n + 1) f l.others l.stand w
-form_of_standing b p s f name x (pointer {t = t} k back w) = form_of_standing b t s f name (at_pointer b x k).1 w
+form_of_encoded : (b : List ℕ) (p s : ℕ) (f : Fault) (name : Labels) → NameAt b p name → Faulty b p s f → f ≡ Form
+form_of_encoded b p s f name x (head k) = no_head b p f name x k
+form_of_encoded b p s f name x (long k w) = refl
+form_of_encoded b p s f name x (cut k w short) = let l = at_label b x k in absurd (omega (arith, l.fits, short))
+form_of_encoded b p s f name x (ahead k w) = refl
+form_of_encoded b p s f name x (label {n = n} k short fits w) = let l = at_label b x k in form_of_encoded b (p + 1 + n) (s + n + 1) f l.others l.is_encoded w
+form_of_encoded b p s f name x (pointer {t = t} k back w) = form_of_encoded b t s f name (at_pointer b x k).1 w
 
 -- no root label begins where a name can't be read
 pub no_root : (b : List ℕ) (p s : ℕ) (f : Fault) → Faulty b p s f → head_at b p ≡ Ok Root → ⊥
@@ -134,4 +134,4 @@ tells_name b of start p _ f (no_label h) w = fault_of_none b p (p - start) f For
 tells_name b of start p _ f (long_name {n = n} h far) w = fault_of_long b p (p - start) n f h far w
 tells_name b of start p _ f (ahead_pointer {t = t} h far) w = fault_of_ahead b p (p - start) t f h far w
 tells_name b of start p _ f (after_pointer h back no_name) w = tt
-tells_name b of start p _ f (pointed {name = name} h back there) w = form_of_standing b p (p - start) f name (Stands.pointer h back there) w
+tells_name b of start p _ f (pointed {name = name} h back there) w = form_of_encoded b p (p - start) f name (NameAt.pointer h back there) w

@@ -2,7 +2,7 @@
 --
 -- `b` is the octets that are seen, and `of` says which name it is.
 use Rattle.std.specs.Prelude.{◌≡◌, ℕ, ◌+◌, ◌-◌, ◌<◌, ◌≤◌, ⊤, List, length, Ok, Err}
-use Rattle.dns_name.specs.Names.{Fault, FaultAt, Labels, Stands, head_at, max_size}
+use Rattle.dns_name.specs.Names.{Fault, FaultAt, Labels, NameAt, head_at, max_size}
 use Rattle.dns_name.specs.Names.Fault.{ShortInput, Form}
 use Rattle.dns_name.specs.declared.head.Head.TheVariants as heads
 use Rattle.dns_rows.specs.Named.{LabelRows}
@@ -29,7 +29,7 @@ pub data StopsName (b : List ℕ) (of : NameOf) (start p : ℕ) : rows.Fault →
   -- the pointer leads to octets from which no name can be read
   after : {t : ℕ} {f : Fault} → head_at b p ≡ Ok (heads.Pointer t) → t < p → FaultAt b t f → StopsName b of start p After
   -- the pointer leads to a name
-  pointed : {t : ℕ} {name : Labels} → head_at b p ≡ Ok (heads.Pointer t) → t < p → Stands b t name → StopsName b of start p LongPointer
+  pointed : {t : ℕ} {name : Labels} → head_at b p ≡ Ok (heads.Pointer t) → t < p → NameAt b t name → StopsName b of start p LongPointer
 
 -- The fault of the reading that belongs to a row's fault. For an incomplete field it is `ShortInput`, for a malformed name `Form`. For a pointer to a name that can't be read it is either. Octets after the last field of RDATA are no fault of the reading.
 abbrev pub TellsFault : rows.Fault → Fault → Type 0

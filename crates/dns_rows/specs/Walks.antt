@@ -3,7 +3,7 @@ use Rattle.dns_rows.specs.Data.{option_rows, shape_of, Shape, ShowsData, TextRow
 use Rattle.dns_rows.specs.Named.{LabelRows, NameRows}
 use Rattle.std.specs.Prelude.{◌<◌, ◌≡◌, suc, Bool, true, false, ℕ, ◌+◌, ◌-◌, ◌≤◌, List, ◌++◌, ◌∷◌, length, ⊤, Option, Some, None, Result, Ok, Err, take}
 use Rattle.std.specs.Int.{w16}
-use Rattle.dns_name.specs.Names.{head_at, max_size, Fault, FaultAt, Faulty, Labels, Stands, Walked, NameContinues}
+use Rattle.dns_name.specs.Names.{head_at, max_size, Fault, FaultAt, Faulty, Labels, NameAt, Walked, NameContinues}
 use Rattle.dns_name.specs.Parsers.{input, offset, number_at, seen}
 use Rattle.dns_name.specs.declared.head.Head.TheVariants.{Root, Label, Pointer}
 use Rattle.dns_code.specs.HeaderSection.{header_size}
@@ -98,7 +98,7 @@ pub record IsLabelAt (b : List ℕ) (p size n : ℕ) : Type 0 where
 
 -- whether a name can be read at p
 abbrev pub HasName : List ℕ → ℕ → Bool → Type 0
-HasName b p true = (labels : Labels) × Stands b p labels
+HasName b p true = (labels : Labels) × NameAt b p labels
 HasName b p false = (f : Fault) × FaultAt b p f
 
 -- these are rows of labels from p to q: before the rows of the remaining name they are rows of the name
@@ -136,7 +136,7 @@ pub record PassesName (of : NameOf) (old new : Walk) : Type 0 where
   pub rows : List Row
   pub adds : Adds rows (at new) old new
   pub labels : Labels
-  pub stands : Stands (octets old) (at old) labels
+  pub encoded : NameAt (octets old) (at old) labels
   pub walked : Walked (octets old) (at old) (at new)
   pub shows : NameRows (octets old) of (at old) (at old) (at new) rows
 
@@ -152,7 +152,7 @@ pub record PassesItemName (of : NameOf) (row : Row) (old new : Walk) : Type 0 wh
   pub rows : List Row
   pub adds : Adds (row ∷ rows) (at new) old new
   pub labels : Labels
-  pub stands : Stands (octets old) (at old) labels
+  pub encoded : NameAt (octets old) (at old) labels
   pub walked : Walked (octets old) (at old) (at new)
   pub shows : NameRows (octets old) of (at old) (at old) (at new) rows
 

@@ -9,7 +9,7 @@ use Rattle.dns_octets.specs.declared.error.ParseError.{ParseError}
 use Rattle.dns_data.specs.Layout.{Layout}
 use Rattle.dns_item.specs.Items.{RecordItem}
 use Rattle.dns_item.specs.DataAnswer.{HasSpan}
-use Rattle.dns_item.specs.ParsedRecord.{StandingRecord, standing_record}
+use Rattle.dns_item.specs.ParsedRecord.{EncodedRecord, encoded_record}
 use Rattle.dns_item.specs.TypedRecords.{answer_to}
 use Rattle.dns_item.specs.declared.parsed_record.ParsedRecord.{ParsedRecord}
 use Rattle.dns_section.specs.Given.{Given, PassesToAnswer, PassesToEnd, YieldsAnswer}
@@ -18,10 +18,10 @@ use Rattle.dns_section.specs.Limited.{answer_to_item, limited, is_in_class_in, l
 use Rattle.dns_section.specs.RecordSection.{records_left, record_answer, GivesNext}
 use Rattle.dns_section.specs.declared.record_section.RecordSection.{RecordSection}
 
-pub limited-append : (layouts : ℕ → Option Layout) (xs ys : List (Result StandingRecord Fault)) → limited layouts (xs ++ ys) ≡ limited layouts xs ++ limited layouts ys
+pub limited-append : (layouts : ℕ → Option Layout) (xs ys : List (Result EncodedRecord Fault)) → limited layouts (xs ++ ys) ≡ limited layouts xs ++ limited layouts ys
 limited-append layouts xs ys = filter_map-append (answer_to_item layouts) xs ys
 
-pub limited_by-append : (layouts : ℕ → Option Layout) (in_only : Bool) (xs ys : List (Result StandingRecord Fault))
+pub limited_by-append : (layouts : ℕ → Option Layout) (in_only : Bool) (xs ys : List (Result EncodedRecord Fault))
     → limited_by layouts in_only (xs ++ ys) ≡ limited_by layouts in_only xs ++ limited_by layouts in_only ys
 limited_by-append layouts true xs ys = ap (limited layouts) (filter-append is_in_class_in xs ys) ∙ limited-append layouts _ _
 limited_by-append layouts false xs ys = limited-append layouts xs ys
@@ -31,15 +31,15 @@ cons_option-nil None = refl
 cons_option-nil (Some x) = refl
 
 -- what a data type yields for one record, which is of class IN if only such records are yielded
-pub limited_by-one : (layouts : ℕ → Option Layout) (in_only : Bool) (x : StandingRecord) → (in_only ≡ true → (x.entry.class == 1) ≡ true)
+pub limited_by-one : (layouts : ℕ → Option Layout) (in_only : Bool) (x : EncodedRecord) → (in_only ≡ true → (x.entry.class == 1) ≡ true)
     → limited_by layouts in_only (Ok x ∷ []) ≡ option_to_list (answer_to layouts x)
 limited_by-one layouts true x class =
-    let one : List (Result StandingRecord Fault) = Ok x ∷ [] in
+    let one : List (Result EncodedRecord Fault) = Ok x ∷ [] in
     ap (λ (b : Bool). limited layouts (if b then one else [])) (class refl) ∙ cons_option-nil (answer_to layouts x)
 limited_by-one layouts false x class = cons_option-nil (answer_to layouts x)
 
 -- the RDATA of a record that a cursor yielded lies within the octets
-pub given_span : (old new : RecordSection) (r : ParsedRecord) → GivesNext old (Some (Ok r)) new → HasSpan (standing_record r)
+pub given_span : (old new : RecordSection) (r : ParsedRecord) → GivesNext old (Some (Ok r)) new → HasSpan (encoded_record r)
 given_span old new r calls =
     let end = calls.passes.0.data_end in
     let within = calls.passes.0.skips.within in
@@ -51,18 +51,18 @@ limited_by-none layouts true = refl
 limited_by-none layouts false = refl
 
 -- the items of one more call
-given_last : {old mid new : RecordSection} {items : List (Result StandingRecord Fault)} (answer : Result ParsedRecord ParseError) → Given old items mid → GivesNext mid (Some answer) new
+given_last : {old mid new : RecordSection} {items : List (Result EncodedRecord Fault)} (answer : Result ParsedRecord ParseError) → Given old items mid → GivesNext mid (Some answer) new
     → Given old (items ++ record_answer answer ∷ []) new
 given_last answer none calls = more answer calls refl none
 given_last answer (more first call is rest) calls = more first call is (given_last answer rest calls)
 
 -- what was left is the items that were yielded, then what is left now
-given_left : {old new : RecordSection} {items : List (Result StandingRecord Fault)} → Given old items new → records_left old ≡ items ++ records_left new
+given_left : {old new : RecordSection} {items : List (Result EncodedRecord Fault)} → Given old items new → records_left old ≡ items ++ records_left new
 given_left none = refl
 given_left (more answer calls is rest) = calls.steps ∙ (λ i. is i ∷ given_left rest i)
 
 -- the item that is yielded is the first of what was left that the data type accepts
-pub passed_yields : {answers : List (Result StandingRecord Fault) → List (Result RecordItem Fault)} {old new : RecordSection} {x : Result RecordItem Fault} → PassesToAnswer answers old new x
+pub passed_yields : {answers : List (Result EncodedRecord Fault) → List (Result RecordItem Fault)} {old new : RecordSection} {x : Result RecordItem Fault} → PassesToAnswer answers old new x
     → YieldsAnswer answers (records_left old) (records_left new) x
 passed_yields {new = new} p = record {
   skipped = p.passed;
@@ -73,21 +73,21 @@ passed_yields {new = new} p = record {
 }
 
 -- the data type accepts nothing of what was left
-pub ended_yields : {answers : List (Result StandingRecord Fault) → List (Result RecordItem Fault)} {old new : RecordSection} → PassesToEnd answers old new
+pub ended_yields : {answers : List (Result EncodedRecord Fault) → List (Result RecordItem Fault)} {old new : RecordSection} → PassesToEnd answers old new
     → (answers (records_left old) ≡ []) × (records_left new ≡ [])
 ended_yields {answers = answers} p = (
-  ap answers (given_left p.given ∙ ap (λ (ys : List (Result StandingRecord Fault)). p.passed ++ ys) p.ended.steps.0 ∙ append-nil p.passed) ∙ p.unanswered,
+  ap answers (given_left p.given ∙ ap (λ (ys : List (Result EncodedRecord Fault)). p.passed ++ ys) p.ended.steps.0 ∙ append-nil p.passed) ∙ p.unanswered,
   p.ended.steps.1,
 )
 
 -- the cursor yielded items that the data type doesn't accept
-pub record Passing (answers : List (Result StandingRecord Fault) → List (Result RecordItem Fault)) (old now : RecordSection) : Type 0 where
-  pub passed : List (Result StandingRecord Fault)
+pub record Passing (answers : List (Result EncodedRecord Fault) → List (Result RecordItem Fault)) (old now : RecordSection) : Type 0 where
+  pub passed : List (Result EncodedRecord Fault)
   pub given : Given old passed now
   pub unanswered : answers passed ≡ []
   pub left : answers (records_left old) ≡ answers (records_left now)
 
-module _ (answers : List (Result StandingRecord Fault) → List (Result RecordItem Fault)) (nothing : answers [] ≡ []) (append : (xs ys : List (Result StandingRecord Fault)) → answers (xs ++ ys) ≡ answers xs ++ answers ys) where
+module _ (answers : List (Result EncodedRecord Fault) → List (Result RecordItem Fault)) (nothing : answers [] ≡ []) (append : (xs ys : List (Result EncodedRecord Fault)) → answers (xs ++ ys) ≡ answers xs ++ answers ys) where
   pub passing_none : (cursor : RecordSection) → Passing answers cursor cursor
   passing_none cursor = record { passed = []; given = none; unanswered = nothing; left = refl }
 

@@ -6,7 +6,7 @@ use Rattle.dns_name.specs.Parsers.{seen, offset}
 use Rattle.dns_octets.specs.declared.error.ParseError.{ParseError}
 use Rattle.dns_question.specs.Questions.{SkipsQuestion, QuestionSkipFaultAt}
 use Rattle.dns_item.specs.Items.{SkipsRecord, ReadsRecord, RecordFaultAt, RecordSkipFaultAt}
-use Rattle.dns_item.specs.ParsedRecord.{octets_of as record_octets, parsed_entry, StandingRecord, standing_record}
+use Rattle.dns_item.specs.ParsedRecord.{octets_of as record_octets, parsed_entry, EncodedRecord, encoded_record}
 use Rattle.dns_item.specs.declared.parsed_record.ParsedRecord.{ParsedRecord}
 use Rattle.dns_section.specs.QuestionSection as questions
 use Rattle.dns_section.specs.RecordsFrom.{records_in}
@@ -34,12 +34,12 @@ abbrev pub to_come : RecordSection → Result ℕ ParseError
 to_come cursor = cursor.left
 
 -- what is left to yield
-abbrev pub records_left : RecordSection → List (Result StandingRecord Fault)
+abbrev pub records_left : RecordSection → List (Result EncodedRecord Fault)
 records_left cursor = items_left (λ n. records_in (octets_of cursor) n (position cursor)) (to_come cursor)
 
 -- what a result of the cursor says: a record with the octets that it is read from, or a fault
-abbrev pub record_answer : Result ParsedRecord ParseError → Result StandingRecord Fault
-record_answer (Ok r) = Ok (standing_record r)
+abbrev pub record_answer : Result ParsedRecord ParseError → Result EncodedRecord Fault
+record_answer (Ok r) = Ok (encoded_record r)
 record_answer (Err e) = Err (fault_of e)
 
 -- The cursor moves past a record that it yielded, which is read from the message's octets. It doesn't move at a record that can't be read, nor at the end.

@@ -2,7 +2,7 @@ ghost use Rattle.std.specs.Prelude.{◌≡◌, true, false, ◌∷◌, [], Some,
 ghost use Rattle.std.specs.Iterator.{YieldsFirstBy, item_count};
 ghost use Rattle.std.specs.Result.{ForOk};
 ghost use Rattle.dns_item.specs.DataAnswer.{HasSpan};
-ghost use Rattle.dns_item.specs.ParsedRecord.{standing_record};
+ghost use Rattle.dns_item.specs.ParsedRecord.{encoded_record};
 ghost use Rattle.dns_item.specs.TypedRecords.{typed_answer};
 ghost use Rattle.dns_section.specs.Given.{PassesTo, YieldsNext};
 ghost use Rattle.dns_section.specs.Limited.{limited, in_class_in, limited_by};
@@ -111,7 +111,7 @@ fn typed<'a, D: ParseRecordData<'a> + Drop>(
     item: Result<ParsedRecord<'a>, ParseError>,
     in_only: bool,
 ) -> Option<Result<Record<ParsedName<'a>, D>, ParseError>>
-    requires { ForOk item (λ parsed. HasSpan (standing_record parsed)) }
+    requires { ForOk item (λ parsed. HasSpan (encoded_record parsed)) }
     ensures answer { limited_by D.layout in_only (record_answer item.entry ∷ [])
         ≡ option_to_list (option_map (typed_answer D.rtype_of D.parts) result) }
     ensures error { IfErr item.entry (λ e. result ≡ Some (Err e)) }

@@ -19,7 +19,7 @@ use Rattle.dns_item.specs.DataAnswer.{HasSpan}
 use Rattle.dns_item.specs.DataAnswer.IsDataAnswer.{whole, fault}
 use Rattle.dns_item.proofs.theory.TypedLemmas.{data_is_answered}
 use Rattle.dns_read.specs.SectionStarts.{start_of}
-use Rattle.dns_item.specs.ParsedRecord.{StandingRecord, standing_record, parsed_entry}
+use Rattle.dns_item.specs.ParsedRecord.{EncodedRecord, encoded_record, parsed_entry}
 use Rattle.dns_item.specs.declared.parsed_record.ParsedRecord.{ParsedRecord}
 use Rattle.dns_section.specs.RecordSection.{BeginsSection, PassesRecord, position, records_left}
 use Rattle.dns_section.specs.declared.record_section.RecordSection.{RecordSection}
@@ -57,7 +57,7 @@ module _ (b : List ℕ) (section : Section) (cursor : RecordSection) (begins : B
       → OnOk r (Appends old new (section_lines b section (Some (position cursor)) []))
   last_printed old new r h = subst (λ (l : List ℕ). OnOk r (Appends old new l)) (lines_are ∙ sym (append-nil _)) h
 
-module _ (x : StandingRecord) (read : IsRead x) where
+module _ (x : EncodedRecord) (read : IsRead x) where
   pub there : x.entry.data_end ≤ length x.octets
   there = let w = read.2.skips.within in let e = read.2.data_end in omega arith
 
@@ -82,7 +82,7 @@ module _ (x : StandingRecord) (read : IsRead x) where
   -- opaque RDATA of at most 65,535 octets is well-formed
   pub no_fault : HasShortData x → (f : Fault) → HasDataFault x.octets x.entry opaque_layout f → ⊥
   no_fault short f (first h) = h.1 (le-leb _ _ (let l = length-drop x.entry.data_start (up_to_data_end x.octets x.entry) in let s = seen_length in omega arith))
-  no_fault short f (left_over q parts stands l) = let e = stands.0 in omega arith
+  no_fault short f (left_over q parts encoded l) = let e = encoded.0 in omega arith
 
 -- the sections of records are printed, by where they start
 pub sections_printed : {E X : Type 0} (b : List ℕ) (old new : Option (List ℕ)) (r : Result X E) (answers authorities additionals : Option ℕ)
@@ -92,7 +92,7 @@ pub sections_printed : {E X : Type 0} (b : List ℕ) (old new : Option (List ℕ
 sections_printed b old new r answers authorities additionals a c d h =
     subst (λ (text : List ℕ). OnOk r (Appends old new text)) (sym (λ i. section_lines b Answer (a i) (section_lines b Authority (c i) (section_lines b Additional (d i) [])))) h
 
-module _ {D : Type 0} (rtype_of : D → ℕ) (parts_of : D → List Part) (x : StandingRecord) (read : IsRead x) where
+module _ {D : Type 0} (rtype_of : D → ℕ) (parts_of : D → List Part) (x : EncodedRecord) (read : IsRead x) where
   pub opaque_is_ok : HasShortData x → (r : Result (Record ParsedName D) ParseError) → AnswersLaidOut rtype_of parts_of x.octets x.entry opaque_layout r → IsOk r
   opaque_is_ok short (Ok r) h = refl
   opaque_is_ok short (Err e) h = absurd (no_fault x read short (fault_of e) (h.gives (there x read)))
@@ -103,7 +103,7 @@ pub printed_made : (word : List ℕ) (make : List ℕ → List ℕ) (value : Opt
 printed_made word make value text is =
     ap (λ (v : Option (List ℕ)). Some word ++? (Some (codes " ") ++? (option_map make v ++? Some (10 ∷ [])))) is ∙ printed_item word (make text)
 
-module _ {D : Type 0} (rtype_of : D → ℕ) (parts_of : D → List Part) (x : StandingRecord) where
+module _ {D : Type 0} (rtype_of : D → ℕ) (parts_of : D → List Part) (x : EncodedRecord) where
   -- the text of a record, by the fields that were read
   pub same_text : (r : Record ParsedName D) (parts : List Part) → IsRecordOf rtype_of parts_of x.octets x.entry parts r → (text : List ℕ)
       → record_fields_text (name_text (labels (owner_of r))) (ttl_of r) (class_of r) (rtype_of (data_of r)) text ≡ record_fields_text (name_text x.entry.owner) x.entry.ttl x.entry.class x.entry.rtype text
@@ -127,11 +127,11 @@ module _ {D : Type 0} (rtype_of : D → ℕ) (parts_of : D → List Part) (x : S
     fault_taken e (Some layout) h = parts_missing x read layout (fault_of e) h
 
 -- a record that a cursor yields can be read
-pub given_read : (old new : RecordSection) (r : Result ParsedRecord ParseError) → PassesRecord old new (Some r) → IfOk r (λ p. IsRead (standing_record p))
+pub given_read : (old new : RecordSection) (r : Result ParsedRecord ParseError) → PassesRecord old new (Some r) → IfOk r (λ p. IsRead (encoded_record p))
 given_read old new (Ok r) h = (position old, position new, subst (λ (b : List ℕ). ReadsRecord b (position old) (position new) (parsed_entry r)) (sym h.1) h.0)
 given_read old new (Err e) h = tt
 
 -- what holds of each record that is yielded
-pub given_short : (r : Result ParsedRecord ParseError) → ((p : ParsedRecord) → r ≡ Ok p → HasShortData (standing_record p)) → IfOk r (λ p. HasShortData (standing_record p))
+pub given_short : (r : Result ParsedRecord ParseError) → ((p : ParsedRecord) → r ≡ Ok p → HasShortData (encoded_record p)) → IfOk r (λ p. HasShortData (encoded_record p))
 given_short (Ok r) h = h r refl
 given_short (Err e) h = tt

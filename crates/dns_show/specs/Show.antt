@@ -19,7 +19,7 @@ use Rattle.dns_data.specs.Printing.{opaque_text}
 use Rattle.dns_question.specs.Question.{fields_text}
 use Rattle.dns_question.specs.Questions.{QuestionItem}
 use Rattle.dns_item.specs.Items.{ReadsRecord}
-use Rattle.dns_item.specs.ParsedRecord.{StandingRecord}
+use Rattle.dns_item.specs.ParsedRecord.{EncodedRecord}
 use Rattle.dns_item.specs.RecordPrinting.{record_fields_text}
 use Rattle.dns_item.specs.RecordReading.{up_to_data_end}
 use Rattle.dns_item.specs.TypedRecords.{data_in}
@@ -54,7 +54,7 @@ question_line (Ok q) = line (codes "question " ++ fields_text (name_text q.name)
 question_line (Err f) = line (codes "question error")
 
 -- the parts of a record's RDATA by this layout; none if the RDATA is malformed
-abbrev pub data_parts : StandingRecord → Layout → Option (List Part)
+abbrev pub data_parts : EncodedRecord → Layout → Option (List Part)
 data_parts x layout = result_ok (data_in x layout)
 
 -- four octets as an IPv4 address
@@ -77,20 +77,20 @@ parts_text (CompressibleName mname ∷ CompressibleName rname ∷ Octets octets 
 parts_text _ = []
 
 -- the text of a record's RDATA: that of its parts if they are given, else that of its octets
-abbrev pub shown_data : StandingRecord → Option (List Part) → List ℕ
+abbrev pub shown_data : EncodedRecord → Option (List Part) → List ℕ
 shown_data x (Some parts) = parts_text parts
 shown_data x None = opaque_text (drop x.entry.data_start (up_to_data_end x.octets x.entry))
 
 -- the parts of a record's RDATA; none if its type has no layout, or if the RDATA is malformed
-abbrev pub typed_parts : StandingRecord → Option (List Part)
+abbrev pub typed_parts : EncodedRecord → Option (List Part)
 typed_parts x = option_and_then (data_parts x) (typed_layout x.entry.rtype)
 
 -- the text of a record with the given parts of its RDATA, or with its RDATA as octets
-abbrev pub text_with : StandingRecord → Option (List Part) → List ℕ
+abbrev pub text_with : EncodedRecord → Option (List Part) → List ℕ
 text_with x parts = record_fields_text (name_text x.entry.owner) x.entry.ttl x.entry.class x.entry.rtype (shown_data x parts)
 
 -- the text of a record: its RDATA by its fields if its type has a layout and the RDATA is well-formed, else as octets
-abbrev pub record_text : StandingRecord → List ℕ
+abbrev pub record_text : EncodedRecord → List ℕ
 record_text x = text_with x (typed_parts x)
 
 -- the word that begins each line of a section of records
@@ -100,15 +100,15 @@ section_word Authority = codes "authority"
 section_word Additional = codes "additional"
 
 -- the record can be read from its octets
-abbrev pub IsRead : StandingRecord → Type 0
+abbrev pub IsRead : EncodedRecord → Type 0
 IsRead x = (p : ℕ) × (q : ℕ) × ReadsRecord x.octets p q x.entry
 
 -- its RDATA has at most 65,535 octets
-abbrev pub HasShortData : StandingRecord → Type 0
+abbrev pub HasShortData : EncodedRecord → Type 0
 HasShortData x = x.entry.data_end ≤ x.entry.data_start + 65535
 
 -- the line of an item of a section of records, after the section's word: a record, or an error
-abbrev pub record_line : List ℕ → Result StandingRecord Fault → List ℕ
+abbrev pub record_line : List ℕ → Result EncodedRecord Fault → List ℕ
 record_line word (Ok x) = line (word ++ codes " " ++ record_text x)
 record_line word (Err f) = line (word ++ codes " error")
 

@@ -4,7 +4,7 @@ ghost use Rattle.std.specs.Io.KnownBytes.{Appends};
 ghost use Rattle.std.specs.List.{flat_map};
 ghost use Rattle.dns_code.specs.Header.{fields};
 ghost use Rattle.dns_code.specs.HeaderCounts.{counts as count_fields};
-ghost use Rattle.dns_item.specs.ParsedRecord.{standing_record};
+ghost use Rattle.dns_item.specs.ParsedRecord.{encoded_record};
 ghost use Rattle.dns_read.specs.Message.{message_octets};
 ghost use Rattle.dns_section.specs.QuestionSection.{question_answer, questions_left};
 ghost use Rattle.dns_section.specs.RecordSection.{record_answer, records_left};
@@ -150,8 +150,8 @@ fn print_record<W: Write>(
     word: &str,
     record: Result<ParsedRecord<'_>, ParseError>,
 ) -> io::Result<()>
-    requires read { IfOk «record» (λ r. IsRead (standing_record r)) }
-    requires short { IfOk «record» (λ r. HasShortData (standing_record r)) }
+    requires read { IfOk «record» (λ r. IsRead (encoded_record r)) }
+    requires short { IfOk «record» (λ r. HasShortData (encoded_record r)) }
     ensures { OnOk result (Appends (W.contents writer.old) (W.contents writer.new)
         (record_line word.now (record_answer «record».entry))) }
 {
@@ -164,10 +164,10 @@ fn print_record<W: Write>(
 /// Prints a record: its RDATA by its fields if `TypedData` accepts its type and the RDATA is
 /// well-formed, else as octets.
 fn print_parsed<W: Write>(writer: &mut W, word: &str, record: &ParsedRecord<'_>) -> io::Result<()>
-    requires read { IsRead (standing_record «record».now) }
-    requires short { HasShortData (standing_record «record».now) }
+    requires read { IsRead (encoded_record «record».now) }
+    requires short { HasShortData (encoded_record «record».now) }
     ensures { OnOk result (Appends (W.contents writer.old) (W.contents writer.new)
-        (record_line word.now (Ok (standing_record «record».now)))) }
+        (record_line word.now (Ok (encoded_record «record».now)))) }
 {
     match record.to_record::<TypedData<'_>>() {
         Ok(Some(record)) => writeln!(writer, "{word} {record}"),
@@ -178,10 +178,10 @@ fn print_parsed<W: Write>(writer: &mut W, word: &str, record: &ParsedRecord<'_>)
 
 /// Prints a record with its RDATA as octets.
 fn print_opaque<W: Write>(writer: &mut W, word: &str, record: &ParsedRecord<'_>) -> io::Result<()>
-    requires read { IsRead (standing_record «record».now) }
-    requires short { HasShortData (standing_record «record».now) }
+    requires read { IsRead (encoded_record «record».now) }
+    requires short { HasShortData (encoded_record «record».now) }
     ensures { OnOk result (Appends (W.contents writer.old) (W.contents writer.new)
-        (line (word.now ++ codes " " ++ text_with (standing_record «record».now) None))) }
+        (line (word.now ++ codes " " ++ text_with (encoded_record «record».now) None))) }
 {
     let record = record.to_any_record::<UnknownRecordData<&[u8]>>().unwrap();
     writeln!(writer, "{word} {record}")

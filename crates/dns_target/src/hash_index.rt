@@ -7,7 +7,7 @@ ghost use Rattle.dns_target.specs.Table.{IsRest, RestIsName, spots_in, near_coun
 
 use crate::index::{Plan, SuffixIndex};
 use crate::label_starts::LabelStarts;
-use crate::standing::stands_flat;
+use crate::names_at::stands_flat;
 use crate::suffixes::{Key, Suffixes};
 use crate::texts::{Found, reaches};
 use std::alloc::{AllocError, Global};

@@ -14,7 +14,7 @@ use Rattle.dns_wire.specs.Pieces.{Rule}
 use Rattle.dns_data.specs.Layout.{Layout, DomainName, Fixed, End}
 use Rattle.dns_data.specs.RecordData.{only}
 use Rattle.dns_item.specs.Items.{RecordItem}
-use Rattle.dns_item.specs.ParsedRecord.{standing_record}
+use Rattle.dns_item.specs.ParsedRecord.{encoded_record}
 use Rattle.dns_item.specs.declared.parsed_record.ParsedRecord.{ParsedRecord}
 use Rattle.dns_item.specs.Record.{record_item}
 use Rattle.dns_item.specs.TypedRecords.{typed_answer}
@@ -30,10 +30,10 @@ use Rattle.dns_section.specs.declared.section.Section.TheVariants.{Answer}
 use Rattle.dns_read.specs.SectionStarts.{records_of, StartsAreFound}
 use Rattle.dns_build.specs.KnownByState.{RewindsLeaveNothing}
 use Rattle.dns_build.specs.MessageOf.{ReadsBack}
-use Rattle.dns_build.specs.Standing.{Built, MovesState, StandsFor, fresh}
+use Rattle.dns_build.specs.BuilderStates.{Built, MovesState, Represents, fresh}
 use Rattle.dns_build.specs.State.{State, InAnswer, move_to, rewound, up_to, with_record, with_records}
 use Rattle.dns_build.specs.declared.push_error.PushError.{PushError}
-use Rattle.dns_build.specs.TypedReading.{AllStandAs, IsLaidOutBy, PushedRecordsStand, StandsAs, taken, TypedRecordsReadBack}
+use Rattle.dns_build.specs.TypedReading.{AllEncodedAs, IsLaidOutBy, PushedRecordsAreEncoded, EncodedAs, taken, TypedRecordsReadBack}
 use Rattle.dns_tests.specs.Typed.{HasOneAnswer, WasPushedFirst, server_record, address_record}
 
 -- an answer section that has a start can be opened
@@ -53,34 +53,34 @@ pub one_left : (found : StartsAreFound) (b : List ℕ) (layouts : ℕ → Option
 one_left found b layouts x cursor begins one = ap (limited layouts) (all_left found b cursor begins) ∙ one.only
 
 -- if the remaining records are as they were pushed, the next call yields the first of them
-pub first_stands : (b : List ℕ) (x : RecordItem) (xs : List RecordItem) (old new : RecordSection) (result : Option (Result ParsedRecord ParseError))
-    → YieldsFirstBy record_answer records_left old result new → AllStandAs b (x ∷ xs) (records_left old) → IsSomeAnd result (λ answer. IsOkAnd answer (λ r. StandsAs b x (standing_record r)))
-first_stands b x xs old new None steps all = subst (AllStandAs b (x ∷ xs)) steps.0 all
-first_stands b x xs old new (Some (Ok r)) steps all = (subst (AllStandAs b (x ∷ xs)) steps all).0
-first_stands b x xs old new (Some (Err e)) steps all = (subst (AllStandAs b (x ∷ xs)) steps all).0
+pub encoded_first : (b : List ℕ) (x : RecordItem) (xs : List RecordItem) (old new : RecordSection) (result : Option (Result ParsedRecord ParseError))
+    → YieldsFirstBy record_answer records_left old result new → AllEncodedAs b (x ∷ xs) (records_left old) → IsSomeAnd result (λ answer. IsOkAnd answer (λ r. EncodedAs b x (encoded_record r)))
+encoded_first b x xs old new None steps all = subst (AllEncodedAs b (x ∷ xs)) steps.0 all
+encoded_first b x xs old new (Some (Ok r)) steps all = (subst (AllEncodedAs b (x ∷ xs)) steps all).0
+encoded_first b x xs old new (Some (Err e)) steps all = (subst (AllEncodedAs b (x ∷ xs)) steps all).0
 
 -- a record that was pushed first is the first that a cursor at the start of the answers yields
-pub pushed_first : (stand : PushedRecordsStand) (found : StartsAreFound) (layouts : ℕ → Option Layout) (b : List ℕ) (x : RecordItem) (old new : RecordSection)
+pub pushed_first : (encoded : PushedRecordsAreEncoded) (found : StartsAreFound) (layouts : ℕ → Option Layout) (b : List ℕ) (x : RecordItem) (old new : RecordSection)
     (result : Option (Result ParsedRecord ParseError)) → WasPushedFirst layouts b x → BeginsSection Answer b old → YieldsFirstBy record_answer records_left old result new
-    → IsSomeAnd result (λ answer. IsOkAnd answer (λ r. StandsAs b x (standing_record r)))
-pushed_first stand found layouts b x old new result was begins steps =
-    let all = subst (λ (xs : List RecordItem). AllStandAs b xs (records_of Answer b)) was.first (stand was.s b was.reads_back Answer) in
-    first_stands b x was.after old new result steps (subst (AllStandAs b (x ∷ was.after)) (sym (all_left found b old begins)) all)
+    → IsSomeAnd result (λ answer. IsOkAnd answer (λ r. EncodedAs b x (encoded_record r)))
+pushed_first encoded found layouts b x old new result was begins steps =
+    let all = subst (λ (xs : List RecordItem). AllEncodedAs b xs (records_of Answer b)) was.first (encoded was.s b was.reads_back Answer) in
+    encoded_first b x was.after old new result steps (subst (AllEncodedAs b (x ∷ was.after)) (sym (all_left found b old begins)) all)
 
 -- pushing onto empty answers and rewinding leaves nothing
 pub in_vain : (law : RewindsLeaveNothing) (rule : Rule) (x : RecordItem) (old full new : Built) (result : Result (Unit {0}) PushError) → OnErr result (full ≡ old)
     → OnOk result (MovesState InAnswer InAnswer rule (with_record InAnswer x) old full) → MovesState InAnswer InAnswer rule (rewound InAnswer) full new
-    → (s : State) → StandsFor InAnswer rule s old → s.answers ≡ [] → new ≡ old
-in_vain law rule x old full new result refused accepted rewinds s stands none = by result refused accepted
+    → (s : State) → Represents InAnswer rule s old → s.answers ≡ [] → new ≡ old
+in_vain law rule x old full new result refused accepted rewinds s represents none = by result refused accepted
   where
-    emptied : StandsFor InAnswer rule (rewound InAnswer s) old
-    emptied = subst (λ (t : State). StandsFor InAnswer rule t old) (stands.last ∙ (λ i. record (up_to InAnswer s) { answers = none i })) stands
+    emptied : Represents InAnswer rule (rewound InAnswer s) old
+    emptied = subst (λ (t : State). Represents InAnswer rule t old) (represents.last ∙ (λ i. record (up_to InAnswer s) { answers = none i })) represents
 
     by : (result : Result (Unit {0}) PushError) → OnErr result (full ≡ old) → OnOk result (MovesState InAnswer InAnswer rule (with_record InAnswer x) old full) → new ≡ old
-    by (Ok u) refused accepted = law.records InAnswer rule s (x ∷ []) old full new emptied (accepted s stands) rewinds
+    by (Ok u) refused accepted = law.records InAnswer rule s (x ∷ []) old full new emptied (accepted s represents) rewinds
     by (Err e) refused accepted =
         let same : s ≡ with_records InAnswer [] s = λ i. record s { answers = sym (append-nil s.answers) i } in
-        law.records InAnswer rule s [] old full new emptied (subst (λ (q : State × Built). StandsFor InAnswer rule q.0 q.1) (λ i. (same i, sym refused i)) stands) rewinds
+        law.records InAnswer rule s [] old full new emptied (subst (λ (q : State × Built). Represents InAnswer rule q.0 q.1) (λ i. (same i, sym refused i)) represents) rewinds
 
 module _ {D : Type 0} (rtype_of : D → ℕ) (parts_of : D → List Part) where
   -- if one record remains, the next call yields it

@@ -19,7 +19,7 @@ use Rattle.dns_read.specs.MessageIter.{Item}
 use Rattle.dns_read.specs.OptSearches.{opt_of, opt_rcode_of}
 use Rattle.dns_build.specs.Opt.{Gathers}
 use Rattle.dns_build.specs.OptReading.{said}
-use Rattle.dns_build.specs.Standing.{fresh}
+use Rattle.dns_build.specs.BuilderStates.{fresh}
 use Rattle.dns_build.specs.MessageOf.{ReadsBack, PointsToLabels, IsShortestOf}
 use Rattle.dns_build.specs.State.{State}
 
@@ -30,7 +30,7 @@ pub record IsShortMessage (s : State) (b : List ℕ) : Type 0 where
   pub shortest : length b ≤ 16384 → IsShortestOf s b
 
 -- the first record of the answer section can be read with RDATA of this type, and this is it
-pub record StandsFirst {D : Type 0} (rtype_of : D → ℕ) (parts_of : D → List Part) (layout : ℕ → Option Layout) (b : List ℕ) (r : Record ParsedName D) : Type 0 where
+pub record EncodedFirst {D : Type 0} (rtype_of : D → ℕ) (parts_of : D → List Part) (layout : ℕ → Option Layout) (b : List ℕ) (r : Record ParsedName D) : Type 0 where
   pub start : ℕ
   pub starts : AnswersStart b start
   pub end : ℕ

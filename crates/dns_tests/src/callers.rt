@@ -5,7 +5,7 @@ ghost use Rattle.dns_code.specs.Header.{fields};
 ghost use Rattle.dns_data.specs.Layout.{End, Fixed};
 ghost use Rattle.dns_data.specs.RecordData.{only};
 ghost use Rattle.dns_item.specs.Ttl.{cap_seconds};
-ghost use Rattle.dns_build.specs.Standing.{fresh};
+ghost use Rattle.dns_build.specs.BuilderStates.{fresh};
 ghost use Rattle.dns_message.specs.Script.{after_all, octets_of};
 ghost use Rattle.dns_message.specs.declared.script.Reply.{Reply};
 ghost use Rattle.dns_read.specs.Message.{message_octets};
@@ -13,7 +13,7 @@ ghost use Rattle.dns_read.specs.MessageIter.{message_items};
 ghost use Rattle.dns_read.specs.RecordSearches.{HasAnswer};
 ghost use Rattle.dns_section.specs.RecordIter.{typed_left};
 ghost use Rattle.dns_section.specs.Sections.{AnswersStart};
-ghost use Rattle.dns_tests.specs.Callers.{IsShortMessage, StandsFirst, AreAnswers, data_among, sections_among, SaysWhatIsGathered};
+ghost use Rattle.dns_tests.specs.Callers.{IsShortMessage, EncodedFirst, AreAnswers, data_among, sections_among, SaysWhatIsGathered};
 
 use dns_message::builder::laws::{opts_read_back, rcode_is_set};
 use dns_message::builder::{MessageBuilder, OptBuilder, PushError};
@@ -103,7 +103,7 @@ fn finds_the_answers(rt: HostRuntime) -> Result<(), Fail> {
 fn first_answer<'a, Octs: Octets, D: ParseRecordData<'a> + Drop>(
     message: &'a Message<Octs>,
 ) -> Option<Record<ParsedName<'a>, D>>
-    ensures { IfSome result (StandsFirst D.rtype_of D.parts D.layout (message_octets message.now)) }
+    ensures { IfSome result (EncodedFirst D.rtype_of D.parts D.layout (message_octets message.now)) }
 {
     let mut answers = message.answer().ok()?;
     let record = answers.next()?.ok()?;

@@ -1,6 +1,6 @@
 //! The examples of README.md.
 ghost use Rattle.std.specs.Prelude.{◌≡◌, ◌↔◌, IsTrue, IfOk, ◌∷◌, []};
-ghost use Rattle.dns_name.specs.Names.{Labels, lowered, Stands};
+ghost use Rattle.dns_name.specs.Names.{Labels, lowered, NameAt};
 ghost use Rattle.dns_read.specs.Message.{message_octets};
 ghost use Rattle.dns_tests.specs.Tour.{HasQuestions};
 
@@ -14,7 +14,7 @@ use std::test::Fail;
 
 /// Whether the name at the start of the octets equals this one, ignoring ASCII case.
 fn begins_with<N: ToName>(octets: &[u8], name: &N) -> bool
-    ensures { (found : Labels) → Stands octets.now 0 found → IsTrue result
+    ensures { (found : Labels) → NameAt octets.now 0 found → IsTrue result
         ↔ (lowered found ≡ lowered (N.name name.now)) }
 {
     match ParsedName::parse(&mut Parser::new(octets)) {

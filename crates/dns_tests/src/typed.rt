@@ -6,7 +6,7 @@ ghost use Rattle.dns_name.specs.ParsedName.{labels};
 ghost use Rattle.dns_item.specs.Items.{RecordItem};
 ghost use Rattle.dns_item.specs.Record.{record_item};
 ghost use Rattle.dns_read.specs.Message.{message_octets};
-ghost use Rattle.dns_build.specs.Standing.{StandsFor};
+ghost use Rattle.dns_build.specs.BuilderStates.{Represents};
 ghost use Rattle.dns_build.specs.State.{InAnswer, State};
 ghost use Rattle.dns_tests.specs.Typed.{HasOneAnswer, WasPushedFirst};
 
@@ -64,7 +64,7 @@ fn push_in_vain<T: Composer, R: ComposeRecord + Drop>(
     builder: &mut AnswerBuilder<T>,
     pushed: R,
 ) -> Result<(), PushError>
-    ensures { (s : State) → StandsFor InAnswer T.rule s builder.old → s.answers ≡ []
+    ensures { (s : State) → Represents InAnswer T.rule s builder.old → s.answers ≡ []
         → builder.new ≡ builder.old }
 {
     builders_are_known_by_states();

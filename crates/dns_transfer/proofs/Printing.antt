@@ -14,7 +14,7 @@ use Rattle.dns_name.specs.declared.parsed_name.ParsedName.{ParsedName}
 use Rattle.dns_wire.specs.Parts.{Part}
 use Rattle.dns_data.specs.Layout.{Layout}
 use Rattle.dns_data.specs.UnknownData.{opaque_layout}
-use Rattle.dns_item.specs.ParsedRecord.{StandingRecord}
+use Rattle.dns_item.specs.ParsedRecord.{EncodedRecord}
 use Rattle.dns_item.specs.Record.{owner_of, class_of, ttl_of, data_of}
 use Rattle.dns_item.specs.RecordPrinting.{record_fields_text}
 use Rattle.dns_item.specs.RecordReading.{AnswersTaken, AnswersLaidOut, GivesTaken, IsRecordOf}
@@ -105,7 +105,7 @@ pub on_printed : {X E : Type 0} (r : Result X E) (a b : Option (List ℕ)) (IsTe
 on_printed (Ok x) a b IsText text is h = (text, is, h)
 on_printed (Err e) a b IsText text is h = h
 
-module _ {D : Type 0} (rtype_of : D → ℕ) (parts_of : D → List Part) (x : StandingRecord) where
+module _ {D : Type 0} (rtype_of : D → ℕ) (parts_of : D → List Part) (x : EncodedRecord) where
   -- the line of a record, by the fields that were read
   same_line : (r : Record ParsedName D) (parts : List Part) → IsRecordOf rtype_of parts_of x.octets x.entry parts r → (value : List ℕ)
       → IsRecordLine x (record_fields_text (name_text (labels (owner_of r))) (ttl_of r) (class_of r) (rtype_of (data_of r)) value ++ codes "\n")

@@ -5,18 +5,18 @@ use Rattle.std.specs.List.{concat, AllZip}
 use Rattle.dns_name.specs.Names.{Fault}
 use Rattle.dns_name.specs.NameTexts.{name_text}
 use Rattle.dns_data.specs.UnknownData.{opaque_layout}
-use Rattle.dns_item.specs.ParsedRecord.{StandingRecord}
+use Rattle.dns_item.specs.ParsedRecord.{EncodedRecord}
 use Rattle.dns_item.specs.RecordPrinting.{record_fields_text}
 use Rattle.dns_item.specs.RecordReading.{IsThere, HasDataFault}
 use Rattle.dns_transfer.specs.Transfer.{AreMessagesOf, AreTransferred, Taken, is_whole}
 
 -- the line of a record: its owner, TTL, class and type, and some text of its RDATA
-abbrev pub IsRecordLine : StandingRecord → List ℕ → Type 0
+abbrev pub IsRecordLine : EncodedRecord → List ℕ → Type 0
 IsRecordLine x text =
     (value : List ℕ) × (text ≡ record_fields_text (name_text x.entry.owner) x.entry.ttl x.entry.class x.entry.rtype value ++ codes "\n")
 
 -- the RDATA of a record can't be read even as octets: it is incomplete, or it has a fault
-abbrev pub HasNoOctets : StandingRecord → Type 0
+abbrev pub HasNoOctets : EncodedRecord → Type 0
 HasNoOctets x = IsThere x.octets x.entry → (f : Fault) × HasDataFault x.octets x.entry opaque_layout f
 
 -- the line of an item

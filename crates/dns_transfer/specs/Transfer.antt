@@ -3,7 +3,7 @@ use Rattle.std.specs.Prelude.{◌≡◌, ◌≢◌, ◌≤◌, ℕ, Bool, true, 
 use Rattle.std.specs.List.{flat_map, list_all}
 use Rattle.dns_name.specs.Names.{Fault}
 use Rattle.dns_code.specs.HeaderSection.{header_size}
-use Rattle.dns_item.specs.ParsedRecord.{StandingRecord}
+use Rattle.dns_item.specs.ParsedRecord.{EncodedRecord}
 use Rattle.dns_section.specs.RecordsFrom.{records_in}
 use Rattle.dns_section.specs.Sections.{answer_count, AnswersStart, AnswersFault}
 use Rattle.dns_stream.specs.Stream.{most_octets, with_prefix}
@@ -24,7 +24,7 @@ pub record AreMessagesOf (stream : List ℕ) (messages : List (List ℕ)) (rest 
 
 -- an item: a record with the octets that it is read from, or a fault
 abbrev pub Taken : Type 0
-Taken = Result StandingRecord Fault
+Taken = Result EncodedRecord Fault
 
 -- What the answer section of a message gives. If it has a start: its records, or those before the first that can't be read and the fault of that one. If it has no start: the fault of the first question that can't be skipped.
 pub data AreAnswersOf (b : List ℕ) : List Taken → Type 0 where

@@ -2,7 +2,7 @@
 ghost use Rattle.std.specs.Prelude.{◌≡◌, map, is_ok, Ok, OnOk};
 ghost use Rattle.std.specs.Io.KnownBytes.{Appends};
 ghost use Rattle.std.specs.List.{list_all};
-ghost use Rattle.dns_item.specs.ParsedRecord.{standing_record};
+ghost use Rattle.dns_item.specs.ParsedRecord.{encoded_record};
 ghost use Rattle.dns_section.specs.RecordSection.{record_answer};
 ghost use Rattle.dns_transfer.specs.Printed.{ending, IsItemText, IsItemsText, IsTransferText, Prints};
 
@@ -54,7 +54,7 @@ fn print_item<W: Write>(writer: &mut W, item: &Item<'_>) -> io::Result<()>
 /// Prints a record. Its RDATA is printed by its fields if it is well-formed data of one of these
 /// types, otherwise as opaque octets.
 fn print_record<W: Write>(writer: &mut W, record: &ParsedRecord<'_>) -> io::Result<()>
-    ensures { OnOk result (Prints (IsItemText (Ok (standing_record «record».now)))
+    ensures { OnOk result (Prints (IsItemText (Ok (encoded_record «record».now)))
         (W.contents writer.old) (W.contents writer.new)) }
 {
     if let Ok(Some(record)) = record.to_record::<A>() {

@@ -2,21 +2,21 @@
 use Rattle.std.specs.Prelude.{◌≡◌, ℕ, ◌+◌, ◌<◌, ◌≤◌, List, [], ◌∷◌, length, Ok, slice_get, Some, ◌++◌, take, ◌⊎◌, Bool, Option, Result, Err}
 use Rattle.std.specs.FinMap.{get}
 use Rattle.dns_octets.specs.declared.error.AppendError.{AppendError}
-use Rattle.dns_name.specs.Names.{Labels, name_size, max_size, head_at, label_at, IsName, uncompressed, pointer_end, Stands, Walked}
+use Rattle.dns_name.specs.Names.{Labels, name_size, max_size, head_at, label_at, IsName, uncompressed, pointer_end, NameAt, Walked}
 use Rattle.dns_name.specs.declared.head.Head.TheVariants.{Root, Label, Pointer}
-use Rattle.dns_wire.specs.Parts.{WellPointed, Part, PartsStand, AreParts, put_parts}
+use Rattle.dns_wire.specs.Parts.{WellPointed, Part, PartsAt, AreParts, put_parts}
 use Rattle.dns_wire.specs.Pieces.{Memory, Spot, nothing, IsAtOrAfter, IsClear, Rule, Piece, IsGrowing, put_octets, both, put_name}
 use Rattle.dns_wire.specs.Targets.{Remembers, Written, IsTarget, lay, cut_to, overwrite, Appends, Composes}
 
 -- Names encoded between two offsets, and octets that agree there. RFC 1035 section 4.1.4.
 
 -- A name is encoded at offset p, and every octet that it uses, through pointers too, is at an offset in lo..hi.
-pub data StandsIn (b : List ℕ) (lo hi : ℕ) : ℕ → Labels → Type 0 where
-  root : {p : ℕ} → lo ≤ p → p + 1 ≤ hi → head_at b p ≡ Ok Root → StandsIn b lo hi p []
+pub data NameAtWithin (b : List ℕ) (lo hi : ℕ) : ℕ → Labels → Type 0 where
+  root : {p : ℕ} → lo ≤ p → p + 1 ≤ hi → head_at b p ≡ Ok Root → NameAtWithin b lo hi p []
   label : {p n : ℕ} {name : Labels} → lo ≤ p → p + 1 + n ≤ hi → head_at b p ≡ Ok (Label n)
-      → StandsIn b lo hi (p + 1 + n) name → n + 1 + name_size name ≤ max_size → StandsIn b lo hi p (label_at b p n ∷ name)
+      → NameAtWithin b lo hi (p + 1 + n) name → n + 1 + name_size name ≤ max_size → NameAtWithin b lo hi p (label_at b p n ∷ name)
   pointer : {p t : ℕ} {name : Labels} → lo ≤ p → p + 2 ≤ hi → head_at b p ≡ Ok (Pointer t) → t < p
-      → StandsIn b lo hi t name → StandsIn b lo hi p name
+      → NameAtWithin b lo hi t name → NameAtWithin b lo hi p name
 
 -- Both have the same octets at the offsets in lo..hi.
 pub record Agree (b c : List ℕ) (lo hi : ℕ) : Type 0 where
@@ -24,26 +24,26 @@ pub record Agree (b c : List ℕ) (lo hi : ℕ) : Type 0 where
   pub same : (k : ℕ) → lo ≤ k → k < hi → slice_get b k ≡ slice_get c k
 
 -- A name that uses only octets in lo..hi is encoded in all octets that agree there.
-abbrev pub StandsWhereAgreed : Type 0
-StandsWhereAgreed = (b c : List ℕ) (lo hi p : ℕ) (name : Labels) → Agree b c lo hi → StandsIn b lo hi p name → StandsIn c lo hi p name
+abbrev pub NamesAreWhereAgreed : Type 0
+NamesAreWhereAgreed = (b c : List ℕ) (lo hi p : ℕ) (name : Labels) → Agree b c lo hi → NameAtWithin b lo hi p name → NameAtWithin c lo hi p name
 
 -- An encoded name is encoded in every longer content too.
-abbrev pub StandsWithMore : Type 0
-StandsWithMore = (b c : List ℕ) (p : ℕ) (name : Labels) → Stands b p name → Stands (b ++ c) p name
+abbrev pub NamesStayWithMore : Type 0
+NamesStayWithMore = (b c : List ℕ) (p : ℕ) (name : Labels) → NameAt b p name → NameAt (b ++ c) p name
 
 -- An encoded name uses only octets of its content.
-abbrev pub StandsInAll : Type 0
-StandsInAll = (b : List ℕ) (p : ℕ) (name : Labels) → Stands b p name → StandsIn b 0 (length b) p name
+abbrev pub NamesAreWithinAll : Type 0
+NamesAreWithinAll = (b : List ℕ) (p : ℕ) (name : Labels) → NameAt b p name → NameAtWithin b 0 (length b) p name
 
 -- A name that uses only octets in lo..hi is encoded at its offset.
-abbrev pub StandsOfIn : Type 0
-StandsOfIn = (b : List ℕ) (lo hi p : ℕ) (name : Labels) → hi ≤ length b → StandsIn b lo hi p name → Stands b p name
+abbrev pub NamesOfWithin : Type 0
+NamesOfWithin = (b : List ℕ) (lo hi p : ℕ) (name : Labels) → hi ≤ length b → NameAtWithin b lo hi p name → NameAt b p name
 
 -- A name is still encoded after octets are overwritten before or after those that it uses.
-abbrev pub StandsWhenOverwritten : Type 0
-StandsWhenOverwritten = (t : Written) (offset : ℕ) (octets : List ℕ) (lo hi p : ℕ) (name : Labels)
+abbrev pub NamesStayWhenOverwritten : Type 0
+NamesStayWhenOverwritten = (t : Written) (offset : ℕ) (octets : List ℕ) (lo hi p : ℕ) (name : Labels)
     → offset + length octets ≤ length t.octets → hi ≤ length t.octets → (offset + length octets ≤ lo) ⊎ (hi ≤ offset)
-    → StandsIn t.octets lo hi p name → StandsIn (overwrite offset octets t).octets lo hi p name
+    → NameAtWithin t.octets lo hi p name → NameAtWithin (overwrite offset octets t).octets lo hi p name
 
 -- What holds of a table entry: a pointer can lead to it, a label begins there, and the suffix is encoded there within the octets before its name's end.
 pub record Recalled (b : List ℕ) (s : Labels) (x : Spot) : Type 0 where
@@ -51,16 +51,16 @@ pub record Recalled (b : List ℕ) (s : Labels) (x : Spot) : Type 0 where
   pub ordered : x.offset < x.end
   pub within : x.end ≤ length b
   pub labelled : (n : ℕ) × (head_at b x.offset ≡ Ok (Label n))
-  pub stands : Stands b x.offset s
-  pub stands_within : Stands (take x.end b) x.offset s
+  pub encoded : NameAt b x.offset s
+  pub name_at_up_to : NameAt (take x.end b) x.offset s
 
 -- `Recalled` holds of every entry of a sound table.
-abbrev pub RemembersWhatStands : Type 0
-RemembersWhatStands = (b : List ℕ) (m : Memory) (s : Labels) (x : Spot) → Remembers b m → get m s ≡ Some x → Recalled b s x
+abbrev pub EntriesAreNames : Type 0
+EntriesAreNames = (b : List ℕ) (m : Memory) (s : Labels) (x : Spot) → Remembers b m → get m s ≡ Some x → Recalled b s x
 
 -- If all entries are at or after offset lo, their suffixes use no octet before lo.
 abbrev pub NamesAreAtOrAfter : Type 0
-NamesAreAtOrAfter = (b : List ℕ) (m : Memory) (lo : ℕ) (s : Labels) (x : Spot) → Remembers b m → IsAtOrAfter m lo → get m s ≡ Some x → StandsIn b lo x.end x.offset s
+NamesAreAtOrAfter = (b : List ℕ) (m : Memory) (lo : ℕ) (s : Labels) (x : Spot) → Remembers b m → IsAtOrAfter m lo → get m s ≡ Some x → NameAtWithin b lo x.end x.offset s
 
 -- An empty table is sound for all octets.
 abbrev pub NothingIsTarget : Type 0
@@ -112,7 +112,7 @@ NamesStayAtOrAfter = (rule : Rule) (t : Written) (name : Labels) (offset : ℕ) 
 
 -- A name is encoded at offset p, its encoding takes the octets p..q, and a pointer there leads to an earlier label below offset 16,384.
 pub record ReadsName (b : List ℕ) (p q : ℕ) (name : Labels) : Type 0 where
-  pub stands : Stands b p name
+  pub encoded : NameAt b p name
   pub walked : Walked b p q
   pub pointed : WellPointed b q p
 
@@ -124,7 +124,7 @@ NamesReadBack = (rule : Rule) (t : Written) (name : Labels) → IsName name → 
 -- Written parts are encoded where they were written, up to the end of the content.
 abbrev pub PartsReadBack : Type 0
 PartsReadBack = (rule : Rule) (t : Written) (parts : List Part) → AreParts parts → IsTarget t
-    → let u = lay (put_parts rule parts) t in PartsStand u.octets (length u.octets) (length t.octets) parts × IsTarget u
+    → let u = lay (put_parts rule parts) t in PartsAt u.octets (length u.octets) (length t.octets) parts × IsTarget u
 
 -- A written name takes at most as many octets as it does uncompressed.
 abbrev pub NamesAreShort : Type 0

@@ -2,25 +2,25 @@
 //! theorem over all contents, names and parts.
 ghost use Rattle.dns_wire.specs.Choice.{NamesByChoice};
 ghost use Rattle.dns_wire.specs.Spelling.{PartsAreShortest, PartsPointToLabels, ShortPartsAreNear};
-ghost use Rattle.dns_wire.specs.TargetLaws.{StandsWhereAgreed, StandsWithMore, StandsInAll, StandsOfIn, StandsWhenOverwritten};
-ghost use Rattle.dns_wire.specs.TargetLaws.{RemembersWhatStands, NamesAreAtOrAfter, NothingIsTarget, NameKeeps, OctetsKeep, CutKeeps, OverwriteKeeps};
+ghost use Rattle.dns_wire.specs.TargetLaws.{NamesAreWhereAgreed, NamesStayWithMore, NamesAreWithinAll, NamesOfWithin, NamesStayWhenOverwritten};
+ghost use Rattle.dns_wire.specs.TargetLaws.{EntriesAreNames, NamesAreAtOrAfter, NothingIsTarget, NameKeeps, OctetsKeep, CutKeeps, OverwriteKeeps};
 ghost use Rattle.dns_wire.specs.TargetLaws.{CutUndoes, NamesGrow, OctetsGrow, PartsGrow, BothGrow, EncodersStayAtOrAfter, NamesStayAtOrAfter};
 ghost use Rattle.dns_wire.specs.TargetLaws.{NamesReadBack, PartsReadBack, NamesAreShort, AppendsCompose, ComposesBoth, ComposesFirst};
 
 /// A name encoded in a content is encoded in every longer one, and in one with octets overwritten
 /// that the name doesn't use.
-pub fn standing_is_stable()
-    ensures agreed { StandsWhereAgreed }
-    ensures more { StandsWithMore }
-    ensures all { StandsInAll }
-    ensures back { StandsOfIn }
-    ensures overwritten { StandsWhenOverwritten }
+pub fn encoded_names_are_stable()
+    ensures agreed { NamesAreWhereAgreed }
+    ensures more { NamesStayWithMore }
+    ensures all { NamesAreWithinAll }
+    ensures back { NamesOfWithin }
+    ensures overwritten { NamesStayWhenOverwritten }
 {}
 
 /// Each suffix in the compression table is encoded where the table says. Appends, truncations and
 /// overwrites preserve this. Truncating to the old length undoes an append.
 pub fn memory_is_sound()
-    ensures stands { RemembersWhatStands }
+    ensures encoded { EntriesAreNames }
     ensures names_are_at_or_after { NamesAreAtOrAfter }
     ensures nothing { NothingIsTarget }
     ensures name { NameKeeps }

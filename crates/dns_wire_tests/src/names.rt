@@ -301,7 +301,7 @@ fn assert_is_ab<N: ToName>(rt: &impl Abort, name: &N, lent: Option<&[u8]>) {
 }
 
 #[test]
-fn stands_for_a_name(rt: HostRuntime) {
+fn represents_a_name(rt: HostRuntime) {
     let octets = b"\x02Ab\x00\xC0\x00".as_slice();
     let ab = Some(b"\x02Ab\x00".as_slice());
     let name = name_of(&rt, b"\x02Ab\x00");
@@ -329,7 +329,7 @@ impl<N: ToName> ToName for Alias<N> {
 }
 
 #[test]
-fn another_type_stands_for_a_name(rt: HostRuntime) {
+fn another_type_represents_a_name(rt: HostRuntime) {
     let alias = Alias {
         target: name_of(&rt, b"\x01A\x00"),
     };

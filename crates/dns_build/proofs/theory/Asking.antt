@@ -3,7 +3,7 @@ use Rattle.std.proofs.Common.{◌≡◌, ◌≤◌, ℕ, Bool, Option, List, [],
 use Rattle.dns_wire.specs.Pieces.{Rule}
 use Rattle.dns_question.specs.Questions.{QuestionItem}
 use Rattle.dns_build.specs.Answers.{AreAccepted}
-use Rattle.dns_build.specs.Standing.{size_after}
+use Rattle.dns_build.specs.BuilderStates.{size_after}
 use Rattle.dns_build.specs.State.{State, with_question, with_questions}
 
 module _ (room : Option ℕ) (grows : Bool) (rule : Rule) (s : State) where

@@ -1,5 +1,5 @@
 use Rattle.std.proofs.Common.{◌∙◌, ◌∷◌, [], append_assoc, arith, length-append, sym}
-use Rattle.dns_name.specs.Unique.{standing_name}
+use Rattle.dns_name.specs.Unique.{encoded_name}
 use Rattle.dns_name.specs.NameTexts.{name_text}
 use Rattle.dns_c.proofs.TextSizes.{name_text_short}
 use Rattle.dns_c.proofs.dns_name_text.Goals as goal
@@ -14,6 +14,6 @@ pub returns-in-Ok-clause-short : goal.returns-in-Ok-clause-short
 returns-in-Ok-clause-short c =
     λ room.
     let name = c.in-Ok.ensures.text in
-    let short = name_text_short name.0 (standing_name name.1) in
+    let short = name_text_short name.0 (encoded_name name.1) in
     let both = length-append (name_text name.0) (46 ∷ []) in
     omega (arith, c.finish.ensures.room _ name.2 (λ written. let none = sym written ∙ room in omega arith))

@@ -2,22 +2,22 @@
 use Rattle.std.proofs.Common.{◌≡◌, ℕ, ◌+◌, ◌-◌, ◌≤◌, ◌⊎◌, inl, inr, List, [], ◌∷◌, length, drop, slice_range, length-take, length-drop, ap, sym, ◌∙◌, refl, subst, arith}
 use Rattle.std.proofs.lemmas.Bool.{cases_Bool}
 use Rattle.std.proofs.lemmas.Bool.Decides.{leb_tells}
-use Rattle.dns_name.specs.Names.{Fault, Labels, Stands, FaultAt}
+use Rattle.dns_name.specs.Names.{Fault, Labels, NameAt, FaultAt}
 use Rattle.dns_name.specs.Names.Fault.{ShortInput}
 use Rattle.dns_wire.specs.Parts.{Part}
 use Rattle.dns_wire.specs.Parts.Part.{Octets, CompressibleName}
-use Rattle.dns_name.specs.Unique.{same_name, standing_short}
+use Rattle.dns_name.specs.Unique.{same_name, encoded_short}
 use Rattle.dns_name.proofs.theory.AnswerLaws.{one_answer}
 use Rattle.dns_name.proofs.theory.AnswerLaws as names
-use Rattle.dns_name.proofs.theory.WalkLaws.{one_end, standing_end, walked_in_octets}
-use Rattle.dns_data.specs.Layout.{Layout, string_size, DataStands, DataFaultAt}
+use Rattle.dns_name.proofs.theory.WalkLaws.{one_end, encoded_end, walked_in_octets}
+use Rattle.dns_data.specs.Layout.{Layout, string_size, DataAt, DataFaultAt}
 use Rattle.dns_data.specs.Layout.Layout.{End, Rest, Fixed, CharacterString, DomainName}
 use Rattle.dns_data.specs.Laws.{OneDatumOrFault}
 
 module _ (b : List ℕ) where
   -- no offset has both a name and a fault
-  name_or_fault : {p : ℕ} {name : Labels} {f : Fault} → Stands b p name → FaultAt b p f → ⊥
-  name_or_fault {name = name} x f = names.not_both b f name x (let short = standing_short x in omega arith)
+  name_or_fault : {p : ℕ} {name : Labels} {f : Fault} → NameAt b p name → FaultAt b p f → ⊥
+  name_or_fault {name = name} x f = names.not_both b f name x (let short = encoded_short x in omega arith)
 
   length-range : (p n : ℕ) → p + n ≤ length b → length (slice_range b p (p + n)) ≡ n
   length-range p n l = simp (length-take, length-drop) (omega arith)
@@ -31,7 +31,7 @@ module _ (b : List ℕ) where
       omega arith
 
   -- RDATA ends within the octets
-  pub data_within : (layout : Layout) (p q : ℕ) (parts : List Part) → p ≤ length b → DataStands b layout p q parts → q ≤ length b
+  pub data_within : (layout : Layout) (p q : ℕ) (parts : List Part) → p ≤ length b → DataAt b layout p q parts → q ≤ length b
   data_within End p q parts l h = let end = h.0 in omega arith
   data_within (Rest accepts) p q parts l h = let end = h.0 in omega arith
   data_within (Fixed n layout) p q [] l h = absurd h
@@ -45,7 +45,7 @@ module _ (b : List ℕ) where
   data_within (DomainName layout) p q (Octets x ∷ parts) l h = absurd h
   data_within (DomainName layout) p q (CompressibleName x ∷ parts) l h = data_within layout h.0 q parts (walked_in_octets h.2) h.3
 
-  datum_or_fault : (layout : Layout) (p : ℕ) → ((q : ℕ) × (parts : List Part) × DataStands b layout p q parts) ⊎ ((f : Fault) × DataFaultAt b layout p f)
+  datum_or_fault : (layout : Layout) (p : ℕ) → ((q : ℕ) × (parts : List Part) × DataAt b layout p q parts) ⊎ ((f : Fault) × DataFaultAt b layout p f)
   datum_or_fault End p = inl (p, [], (refl, refl))
   datum_or_fault (Rest accepts) p = elim (cases_Bool (accepts (drop p b))) [
     | inl good ↦ inl (length b, Octets (drop p b) ∷ [], (refl, refl, good))
@@ -69,7 +69,7 @@ module _ (b : List ℕ) where
       ]
   datum_or_fault (DomainName layout) p = elim (one_answer b p) [
     | inl x ↦
-        let w = standing_end 0 x.1 x.2 in
+        let w = encoded_end 0 x.1 x.2 in
         elim (datum_or_fault layout w.0) [
           | inl d ↦ inl (d.0, CompressibleName x.0 ∷ d.1, (w.0, x.1, w.1, d.2))
           | inr f ↦ inr (f.0, inr (x.0, w.0, x.1, w.1, f.1))
@@ -77,7 +77,7 @@ module _ (b : List ℕ) where
     | inr f ↦ inr (f.0, inl f.1)
   ]
 
-  one_datum : (layout : Layout) (p q r : ℕ) (xs ys : List Part) → DataStands b layout p q xs → DataStands b layout p r ys → (q ≡ r) × (xs ≡ ys)
+  one_datum : (layout : Layout) (p q r : ℕ) (xs ys : List Part) → DataAt b layout p q xs → DataAt b layout p r ys → (q ≡ r) × (xs ≡ ys)
   one_datum End p q r xs ys h k = (h.0 ∙ sym k.0, h.1 ∙ sym k.1)
   one_datum (Rest accepts) p q r xs ys h k = (h.0 ∙ sym k.0, h.1 ∙ sym k.1)
   one_datum (Fixed n layout) p q r [] ys h k = absurd h
@@ -102,11 +102,11 @@ module _ (b : List ℕ) where
   one_datum (DomainName layout) p q r (CompressibleName x ∷ xs) (Octets y ∷ ys) h k = absurd k
   one_datum (DomainName layout) p q r (CompressibleName x ∷ xs) (CompressibleName y ∷ ys) h k =
       let end : k.0 ≡ h.0 = one_end b k.2 h.2 in
-      let after = one_datum layout h.0 q r xs ys h.3 (subst (λ e. DataStands b layout e r ys) end k.3) in
+      let after = one_datum layout h.0 q r xs ys h.3 (subst (λ e. DataAt b layout e r ys) end k.3) in
       let same : x ≡ y = same_name b h.1 k.1 in
       (after.0, cc (same, after.1))
 
-  not_both : (layout : Layout) (p q : ℕ) (parts : List Part) (f : Fault) → p ≤ length b → DataStands b layout p q parts → DataFaultAt b layout p f → ⊥
+  not_both : (layout : Layout) (p q : ℕ) (parts : List Part) (f : Fault) → p ≤ length b → DataAt b layout p q parts → DataFaultAt b layout p f → ⊥
   not_both End p q parts f l h k = k
   not_both (Rest accepts) p q parts f l h k = k.1 h.2
   not_both (Fixed n layout) p q [] f l h k = h

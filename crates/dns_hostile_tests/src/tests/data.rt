@@ -1,7 +1,7 @@
 //! RDATA that is read at an offset, beside plain RDATA.
 use crate::tests::buffer::Buffer;
 use crate::tests::given::{Given, Opaque, assert_read, assert_same, expanded, fault_of};
-use crate::tests::plain::{Entry, Fault, Standing, entry_at};
+use crate::tests::plain::{Entry, Fault, Located, entry_at};
 use crate::tests::plain_data::{data_at, has_options, typed_of};
 use dns_code::Rtype;
 use dns_data::{A, Cname, ComposeRecordData, Ns, Opt, ParseRecordData, Soa};
@@ -27,17 +27,17 @@ fn assert_typed<'a, D: ParseRecordData<'a> + ComposeRecordData + Drop>(
     octets: &'a [u8],
     parser: Parser<'a>,
     rtype: Rtype,
-    standing: Standing<Entry>,
+    located: Located<Entry>,
 ) {
     let offset = parser.pos();
     let mut after = parser;
     let data = data_of::<D>(D::parse_rdata(rtype, &mut after));
     let expected = data_at(octets, offset, rtype.to_int());
     assert_read(rt, "data", offset, (data, after.pos()), expected);
-    let expected = typed_of(octets, standing, rtype.to_int());
+    let expected = typed_of(octets, located, rtype.to_int());
     let mut after = parser;
     let record = Record::<ParsedName<'a>, D>::parse(&mut after).plain();
-    let end = match standing {
+    let end = match located {
         Ok((_, end)) => end,
         Err(_) => offset,
     };
@@ -58,8 +58,8 @@ fn assert_typed<'a, D: ParseRecordData<'a> + ComposeRecordData + Drop>(
 }
 
 /// Checks the record that is encoded at this offset, with opaque RDATA.
-fn assert_opaque<'a>(rt: &impl Abort, parser: Parser<'a>, standing: Standing<Entry>) {
-    let expected = match standing {
+fn assert_opaque<'a>(rt: &impl Abort, parser: Parser<'a>, located: Located<Entry>) {
+    let expected = match located {
         Ok((entry, _)) => Ok(entry),
         Err(fault) => Err(fault),
     };
@@ -89,13 +89,13 @@ fn len_of_options(octets: &[u8]) -> Option<usize> {
 
 /// Checks the RDATA of all types that is read at this offset.
 pub(crate) fn assert_data(rt: &impl Abort, octets: &[u8], parser: Parser<'_>) {
-    let standing = entry_at(octets, 1, parser.pos());
-    assert_typed::<A>(rt, octets, parser, Rtype::A, standing);
-    assert_typed::<Ns<ParsedName<'_>>>(rt, octets, parser, Rtype::NS, standing);
-    assert_typed::<Cname<ParsedName<'_>>>(rt, octets, parser, Rtype::CNAME, standing);
-    assert_typed::<Soa<ParsedName<'_>>>(rt, octets, parser, Rtype::SOA, standing);
-    assert_typed::<Opt<&[u8]>>(rt, octets, parser, Rtype::OPT, standing);
-    assert_opaque(rt, parser, standing);
+    let located = entry_at(octets, 1, parser.pos());
+    assert_typed::<A>(rt, octets, parser, Rtype::A, located);
+    assert_typed::<Ns<ParsedName<'_>>>(rt, octets, parser, Rtype::NS, located);
+    assert_typed::<Cname<ParsedName<'_>>>(rt, octets, parser, Rtype::CNAME, located);
+    assert_typed::<Soa<ParsedName<'_>>>(rt, octets, parser, Rtype::SOA, located);
+    assert_typed::<Opt<&[u8]>>(rt, octets, parser, Rtype::OPT, located);
+    assert_opaque(rt, parser, located);
     let rest = octets.get(parser.pos()..).unwrap_or(b"");
     let expected = has_options(rest).then_some(rest.len());
     assert_same(rt, "options", len_of_options(rest), expected);

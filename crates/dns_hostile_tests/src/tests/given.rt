@@ -1,6 +1,6 @@
 //! Converts what the library returns to plain values, which the plain reader returns too.
 use crate::tests::buffer::{Buffer, ROOM};
-use crate::tests::plain::{Entry, Fault, Header, Standing};
+use crate::tests::plain::{Entry, Fault, Header, Located};
 use arrayvec::ArrayVec;
 use dns_code::HeaderSection;
 use dns_data::{ComposeRecordData, UnknownRecordData};
@@ -201,10 +201,10 @@ pub(crate) fn assert_read<T: Copy + Debug + PartialEq>(
     what: &str,
     offset: usize,
     (found, here): (Result<T, Fault>, usize),
-    expected: Standing<T>,
+    expected: Located<T>,
 ) {
     let expected = match expected {
-        Ok((standing, end)) => (Ok(standing), end),
+        Ok((located, end)) => (Ok(located), end),
         Err(fault) => (Err(fault), offset),
     };
     assert_same(rt, what, (found, here), expected);

@@ -14,7 +14,7 @@ pub(crate) enum Fault {
 }
 
 /// What is encoded at an offset and the offset after it, or why it can't be read.
-pub(crate) type Standing<T> = Result<(T, usize), Fault>;
+pub(crate) type Located<T> = Result<(T, usize), Fault>;
 
 /// Appends the labels of the name at this offset, each after its length, to the labels before it,
 /// which take `size` octets (RFC 1035 section 4.1.4).
@@ -93,7 +93,7 @@ pub(crate) fn name_end(octets: &[u8], offset: usize) -> Result<usize, Fault> {
 }
 
 /// The uncompressed name that is encoded at this offset, or its leftmost error.
-pub(crate) fn name_at(octets: &[u8], offset: usize) -> Standing<Buffer> {
+pub(crate) fn name_at(octets: &[u8], offset: usize) -> Located<Buffer> {
     let name = add_labels(octets, offset, 0, Buffer::new())?;
     Ok((name, name_end(octets, offset)?))
 }
@@ -190,13 +190,13 @@ pub(crate) fn skip_entry(octets: &[u8], section: u8, offset: usize) -> Result<us
 }
 
 /// The entry of a section at this offset.
-pub(crate) fn entry_at(octets: &[u8], section: u8, offset: usize) -> Standing<Entry> {
+pub(crate) fn entry_at(octets: &[u8], section: u8, offset: usize) -> Located<Entry> {
     let (name, after) = name_at(octets, offset)?;
     entry_of(name, octets, section, after)
 }
 
 /// The record header at this offset.
-pub(crate) fn header_at(octets: &[u8], offset: usize) -> Standing<Header> {
+pub(crate) fn header_at(octets: &[u8], offset: usize) -> Located<Header> {
     let (owner, after) = name_at(octets, offset)?;
     header_of(owner, octets, after).ok_or(Fault::Short)
 }

@@ -1,7 +1,7 @@
 //! Plain RDATA, as in RFC 1035 sections 3.3 and 3.4 and RFC 6891 section 6.1.2.
 use crate::tests::buffer::Buffer;
 use crate::tests::plain::{
-    Entry, Fault, Header, Standing, check_name, entry_at, header_at, name_at,
+    Entry, Fault, Header, Located, check_name, entry_at, header_at, name_at,
 };
 
 /// Whether the octets are a list of options, each with a code, a length and that many octets
@@ -17,7 +17,7 @@ pub(crate) fn has_options(octets: &[u8]) -> bool {
 }
 
 /// `len` octets from this offset on.
-pub(crate) fn octets_at(octets: &[u8], offset: usize, len: usize) -> Standing<Buffer> {
+pub(crate) fn octets_at(octets: &[u8], offset: usize, len: usize) -> Located<Buffer> {
     match octets.get(offset..).and_then(|after| after.get(..len)) {
         Some(octets) => Ok((Buffer::of(octets), offset.saturating_add(len))),
         None => Err(Fault::Short),
@@ -25,7 +25,7 @@ pub(crate) fn octets_at(octets: &[u8], offset: usize, len: usize) -> Standing<Bu
 }
 
 /// The names of SOA, and its five numbers.
-fn soa_at(seen: &[u8], offset: usize) -> Standing<Buffer> {
+fn soa_at(seen: &[u8], offset: usize) -> Located<Buffer> {
     let (mname, offset) = name_at(seen, offset)?;
     let (rname, offset) = name_at(seen, offset)?;
     let (numbers, end) = octets_at(seen, offset, 20)?;
@@ -34,7 +34,7 @@ fn soa_at(seen: &[u8], offset: usize) -> Standing<Buffer> {
 }
 
 /// All octets from this offset on, which have to be options.
-fn options_at(seen: &[u8], offset: usize) -> Standing<Buffer> {
+fn options_at(seen: &[u8], offset: usize) -> Located<Buffer> {
     match seen.get(offset..) {
         Some(options) if has_options(options) => Ok((Buffer::of(options), seen.len())),
         _ => Err(Fault::Short),
@@ -43,7 +43,7 @@ fn options_at(seen: &[u8], offset: usize) -> Standing<Buffer> {
 
 /// The RDATA of this record type from this offset on, its names uncompressed, or its leftmost
 /// error. The types are A, NS, CNAME, SOA and OPT.
-pub(crate) fn data_at(seen: &[u8], offset: usize, rtype: u16) -> Standing<Buffer> {
+pub(crate) fn data_at(seen: &[u8], offset: usize, rtype: u16) -> Located<Buffer> {
     match rtype {
         1 => octets_at(seen, offset, 4),
         2 | 5 => name_at(seen, offset),
@@ -56,7 +56,7 @@ pub(crate) fn data_at(seen: &[u8], offset: usize, rtype: u16) -> Standing<Buffer
 /// value has to take all of the RDATA, and its names end within it.
 pub(crate) fn typed_of(
     octets: &[u8],
-    record: Standing<Entry>,
+    record: Located<Entry>,
     rtype: u16,
 ) -> Result<Option<Entry>, Fault> {
     let (entry, end) = record?;
@@ -75,7 +75,7 @@ pub(crate) fn typed_of(
 
 /// The record header at this offset, whose RDATA has to be complete, and the offset after the
 /// RDATA.
-pub(crate) fn header_passed(octets: &[u8], offset: usize) -> Standing<Header> {
+pub(crate) fn header_passed(octets: &[u8], offset: usize) -> Located<Header> {
     let (header, _) = header_at(octets, offset)?;
     let (_, end) = entry_at(octets, 1, offset)?;
     Ok((header, end))

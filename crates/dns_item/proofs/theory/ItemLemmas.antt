@@ -4,10 +4,10 @@ use Rattle.std.specs.Int.{to_be_bytes, w16, w32}
 use Rattle.dns_wire.specs.Pieces.{Memory, Rule, put_octets, both, with_length, put_name}
 use Rattle.dns_name.specs.Names.{name_size, max_size}
 use Rattle.dns_name.specs.Parsers.{number_at}
-use Rattle.dns_wire.specs.Parts.{PartsStand, put_parts}
+use Rattle.dns_wire.specs.Parts.{PartsAt, put_parts}
 use Rattle.dns_wire.specs.Targets.{Written, IsTarget, lay}
 use Rattle.dns_wire.proofs.theory.PutNames.{put_name_grows, put_octets_grows, put_parts_grows, both_grows, with_length_grows}
-use Rattle.dns_wire.proofs.theory.PieceLaws.{number_16, number_32, HasLength, stable_length, puts_with_length, Puts, IsStable, Consecutive, stable_after, puts_both, HasOctets, stable_octets, puts_octets, HasName, stable_name, puts_put_name, HasParts, stable_parts, puts_parts, parts_rise, parts_within, parts_stand}
+use Rattle.dns_wire.proofs.theory.PieceLaws.{number_16, number_32, HasLength, stable_length, puts_with_length, Puts, IsStable, Consecutive, stable_after, puts_both, HasOctets, stable_octets, puts_octets, HasName, stable_name, puts_put_name, HasParts, stable_parts, puts_parts, parts_rise, parts_within, parts_at}
 use Rattle.dns_wire.proofs.theory.NameSizes.{parts_are_short}
 use Rattle.dns_wire.proofs.theory.SpelledNames.{at_first, at_second, at_offset, spelled_stands, spelled_walked}
 use Rattle.dns_item.specs.Items.{RecordEntry, ReadsRecordItem, RecordItem, IsRecord, record_fields, put_record, RecordsGrow, RecordsReadBack}
@@ -73,7 +73,7 @@ reads_record x t p q is good h =
         rtype = refl;
         class = refl;
         ttl = refl;
-        parts = let e : s + 2 ≡ r + 10 = omega arith in subst (λ k. PartsStand t.octets q k x.parts) e (parts_stand x.parts t (s + 2) q is.parts good h.2.2.1);
+        parts = let e : s + 2 ≡ r + 10 = omega arith in subst (λ k. PartsAt t.octets q k x.parts) e (parts_at x.parts t (s + 2) q is.parts good h.2.2.1);
       };
     }
 

@@ -10,7 +10,7 @@ use Rattle.dns_data.specs.Layout.{Layout}
 use Rattle.dns_item.specs.DataAnswer.{HasSpan, one_data_answer}
 use Rattle.dns_item.specs.DataAnswer.IsDataAnswer.{whole, fault}
 use Rattle.dns_item.specs.Items.{RecordItem}
-use Rattle.dns_item.specs.ParsedRecord.{StandingRecord}
+use Rattle.dns_item.specs.ParsedRecord.{EncodedRecord}
 use Rattle.dns_item.specs.Record.{data_of}
 use Rattle.dns_item.specs.RecordReading.{GivesLaidOut, GivesTaken, AnswersLaidOut, AnswersTaken}
 use Rattle.dns_item.specs.TypedRecords.{data_in, DataIsAnswered, with_parts, laid_out, typed_answer}
@@ -23,7 +23,7 @@ data_is_answered = record {
   only = λ x layout r h. (one_data_answer x layout).one _ r (one_data_answer x layout).some.1 h;
 }
 
-module _ {D : Type 0} (rtype_of : D → ℕ) (parts_of : D → List Part) (x : StandingRecord) (span : HasSpan x) where
+module _ {D : Type 0} (rtype_of : D → ℕ) (parts_of : D → List Part) (x : EncodedRecord) (span : HasSpan x) where
   -- reading RDATA of the layout returns the record, or the fault
   pub laid_out-given : (layout : Layout) (r : Result (Record ParsedName D) ParseError) → GivesLaidOut rtype_of parts_of x.octets x.entry layout r
       → typed_answer rtype_of parts_of r ≡ laid_out x layout

@@ -2,7 +2,7 @@
 use Rattle.std.proofs.Common.{◌≡◌, ℕ, zero, suc, ◌+◌, ◌-◌, ◌*◌, ◌<◌, ◌≤◌, ◌⊎◌, inl, inr, List, [], ◌∷◌, length, arith, ap, sym, ◌∙◌, refl, subst}
 use Rattle.std.specs.Prelude.{Result, Ok, Err}
 use Rattle.std.proofs.lemmas.Bool.Decides.{leb_tells}
-use Rattle.dns_name.specs.Names.{Fault, Labels, name_size, max_size, head_at, Stands, Faulty, label_at}
+use Rattle.dns_name.specs.Names.{Fault, Labels, name_size, max_size, head_at, NameAt, Faulty, label_at}
 use Rattle.dns_name.specs.Names.Fault.{ShortInput, Form}
 use Rattle.dns_name.specs.Names.Faulty.{head, long, cut, ahead, label, pointer}
 use Rattle.dns_name.specs.declared.head.Head.{Head}
@@ -11,13 +11,13 @@ use Rattle.dns_name.specs.Unique.{name_size-label_at, label_head}
 use Rattle.dns_name.proofs.theory.HeadLemmas.{at_label, at_pointer}
 
 module _ (b : List ℕ) where
-  no_head : {p : ℕ} {name : Labels} {f : Fault} → Stands b p name → head_at b p ≡ Err f → ⊥
-  no_head (Stands.root h) e = cc
-  no_head (Stands.label h w x z) e = cc
-  no_head (Stands.pointer h w x) e = cc
+  no_head : {p : ℕ} {name : Labels} {f : Fault} → NameAt b p name → head_at b p ≡ Err f → ⊥
+  no_head (NameAt.root h) e = cc
+  no_head (NameAt.label h w x z) e = cc
+  no_head (NameAt.pointer h w x) e = cc
 
   -- If a name is encoded and short enough, reading doesn't fail.
-  pub not_both : {p s : ℕ} {f : Fault} → Faulty b p s f → (name : Labels) → Stands b p name → s + name_size name ≤ max_size → ⊥
+  pub not_both : {p s : ℕ} {f : Fault} → Faulty b p s f → (name : Labels) → NameAt b p name → s + name_size name ≤ max_size → ⊥
   not_both (head h) name x small = no_head x h
   not_both (long {p = p} {n = n} h big) name x small =
       let w = at_label b x h in
@@ -27,7 +27,7 @@ module _ (b : List ℕ) where
   not_both (label {p = p} {n = n} h small' fits f) name x small =
       let w = at_label b x h in
       let e = ap name_size w.whole ∙ name_size-label_at b p n w.others w.fits in
-      not_both f w.others w.stand (omega (arith, e))
+      not_both f w.others w.is_encoded (omega (arith, e))
   not_both (pointer h back f) name x small = not_both f name (at_pointer b x h).1 small
 
   -- How a fault arises at a label: the name is too long, the label runs past the end, or the fault is after it.
@@ -72,7 +72,7 @@ module _ (b : List ℕ) where
 
   -- A name that is short enough is encoded at offset p, or reading fails.
   abbrev Answer : ℕ → ℕ → Type 0
-  Answer p s = ((name : Labels) × Stands b p name × (s + name_size name ≤ max_size)) ⊎ ((f : Fault) × Faulty b p s f)
+  Answer p s = ((name : Labels) × NameAt b p name × (s + name_size name ≤ max_size)) ⊎ ((f : Fault) × Faulty b p s f)
 
   -- A bound on how far a walk can still go. Each step lowers it.
   abbrev left : ℕ → ℕ → ℕ
@@ -83,16 +83,16 @@ module _ (b : List ℕ) where
 
   after : (p s n : ℕ) → head_at b p ≡ Ok (Label n) → s + n + 1 ≤ max_size → p + 1 + n ≤ length b → Answer (p + 1 + n) (s + n + 1) → Answer p s
   after p s n e small fits (inl a) =
-      inl (label_at b p n ∷ a.0, Stands.label e fits a.1 (omega (arith, a.2)), (let w = name_size-label_at b p n a.0 fits in omega (arith, w, a.2)))
+      inl (label_at b p n ∷ a.0, NameAt.label e fits a.1 (omega (arith, a.2)), (let w = name_size-label_at b p n a.0 fits in omega (arith, w, a.2)))
   after p s n e small fits (inr a) = inr (a.0, label e small fits a.1)
 
   at : (p s t : ℕ) → head_at b p ≡ Ok (Pointer t) → t < p → Answer t s → Answer p s
-  at p s t e back (inl a) = inl (a.0, Stands.pointer e back a.1, a.2)
+  at p s t e back (inl a) = inl (a.0, NameAt.pointer e back a.1, a.2)
   at p s t e back (inr a) = inr (a.0, pointer e back a.1)
 
   go : (p s : ℕ) → s ≤ max_size → ((p' s' : ℕ) → s' ≤ max_size → left p' s' < left p s → Answer p' s') → (r : Result Head Fault) → head_at b p ≡ r → Answer p s
   go p s small rec (Err f) e = inr (f, head e)
-  go p s small rec (Ok Root) e = inl ([], Stands.root e, omega arith)
+  go p s small rec (Ok Root) e = inl ([], NameAt.root e, omega arith)
   go p s small rec (Ok (Label n)) e =
       elim (leb_tells (s + n + 1) max_size) [
         | inl w ↦ elim (leb_tells (p + 1 + n) (length b)) [
@@ -108,5 +108,5 @@ module _ (b : List ℕ) where
   answer zero p s small h = absurd (omega arith)
   answer (suc k) p s small h = go p s small (λ p' s' small' less. answer k p' s' small' (omega arith)) (head_at b p) refl
 
-  pub one_answer : (p : ℕ) → ((name : Labels) × Stands b p name × (0 + name_size name ≤ max_size)) ⊎ ((f : Fault) × Faulty b p 0 f)
+  pub one_answer : (p : ℕ) → ((name : Labels) × NameAt b p name × (0 + name_size name ≤ max_size)) ⊎ ((f : Fault) × Faulty b p 0 f)
   one_answer p = answer (left p 0 + 1) p 0 (omega arith) (omega arith)

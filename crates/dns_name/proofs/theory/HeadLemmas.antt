@@ -4,10 +4,10 @@ use Rattle.std.specs.Prelude.{Option, Some, None, Ok, IsOk, slice_get}
 use Rattle.std.proofs.lemmas.Option.{slice_get_within}
 use Rattle.std.proofs.lemmas.Bool.Decides.{nat_tests}
 use Rattle.std.proofs.lemmas.Grind.{common_steps}
-use Rattle.dns_name.specs.Names.{head_of, head_at, Fault, Labels, name_size, max_size, Begins, Stands, label_at, NameContinues, Walked, SkipFaulty, SkipFaultAt}
+use Rattle.dns_name.specs.Names.{head_of, head_at, Fault, Labels, name_size, max_size, Begins, NameAt, label_at, NameContinues, Walked, SkipFaulty, SkipFaultAt}
 use Rattle.dns_name.specs.declared.head.Head.TheVariants.{Root, Label, Pointer}
-use Rattle.dns_name.specs.Unique.{NameAt, label_of, label_head}
-use Rattle.dns_name.specs.Names.Stands.{root, label, pointer}
+use Rattle.dns_name.specs.Unique.{EncodedName, label_of, label_head}
+use Rattle.dns_name.specs.Names.NameAt.{root, label, pointer}
 use Rattle.dns_name.specs.ParsedName.{IsFirst, label_octets}
 use Rattle.dns_name.specs.declared.label.Label.{Label as LabelOf}
 
@@ -113,31 +113,31 @@ module _ (b : List ℕ) where
     pub others : Labels
     pub whole : name ≡ label_at b p n ∷ others
     pub fits : p + 1 + n ≤ length b
-    pub stand : Stands b (p + 1 + n) others
+    pub is_encoded : NameAt b (p + 1 + n) others
     pub short : n + 1 + name_size others ≤ max_size
 
-  pub at_root : {p : ℕ} {name : Labels} → Stands b p name → head_at b p ≡ Ok Root → name ≡ []
+  pub at_root : {p : ℕ} {name : Labels} → NameAt b p name → head_at b p ≡ Ok Root → name ≡ []
   at_root (root h) e = refl
   at_root (label h w x z) e = cc
   at_root (pointer h w x) e = cc
 
-  pub at_label : {p n : ℕ} {name : Labels} → Stands b p name → head_at b p ≡ Ok (Label n) → BeginsWith p n name
+  pub at_label : {p n : ℕ} {name : Labels} → NameAt b p name → head_at b p ≡ Ok (Label n) → BeginsWith p n name
   at_label (root h) e = cc
   at_label {p = p} (label {n = k} {name = m} h w x z) e =
       let P : ℕ → Type 0 = λ n. BeginsWith p n (label_at b p k ∷ m) in
-      subst P (cc) (record { others = m; whole = refl; fits = w; stand = x; short = z })
+      subst P (cc) (record { others = m; whole = refl; fits = w; is_encoded = x; short = z })
   at_label (pointer h w x) e = cc
 
-  pub at_pointer : {p t : ℕ} {name : Labels} → Stands b p name → head_at b p ≡ Ok (Pointer t) → (t < p) × Stands b t name
+  pub at_pointer : {p t : ℕ} {name : Labels} → NameAt b p name → head_at b p ≡ Ok (Pointer t) → (t < p) × NameAt b t name
   at_pointer (root h) e = cc
   at_pointer (label h w x z) e = cc
   at_pointer {p = p} (pointer {t = k} {name = m} h w x) e =
-      let P : ℕ → Type 0 = λ t. (t < p) × Stands b t m in subst P (cc) (w, x)
+      let P : ℕ → Type 0 = λ t. (t < p) × NameAt b t m in subst P (cc) (w, x)
 
   -- The name encoded at `from` is encoded at `at` too.
   pub record Follows (from at : ℕ) : Type 0 where
-    pub name : NameAt b at
-    pub same : (name : Labels) → Stands b from name → Stands b at name
+    pub name : EncodedName b at
+    pub same : (name : Labels) → NameAt b from name → NameAt b at name
 
   pub follows_pointer : {from at t : ℕ} → Follows from at → head_at b at ≡ Ok (Pointer t) → Follows from t
   follows_pointer f h = record {
@@ -146,29 +146,29 @@ module _ (b : List ℕ) where
   }
 
   pub first_root : {from at : ℕ} (l : LabelOf) → Follows from at → head_at b at ≡ Ok Root → label_octets l ≡ []
-      → (name : Labels) → Stands b from name → IsFirst b name l at
+      → (name : Labels) → NameAt b from name → IsFirst b name l at
   first_root {at = at} l f h e name s =
       let P : Labels → Type 0 = λ name. IsFirst b name l at in
       subst P (sym (at_root (f.same name s) h)) (e, root h)
 
   pub first_label : {from at n after : ℕ} (l : LabelOf) → Follows from at → head_at b at ≡ Ok (Label n) → label_octets l ≡ label_at b at n → after ≡ at + 1 + n
-      → (name : Labels) → Stands b from name → IsFirst b name l after
+      → (name : Labels) → NameAt b from name → IsFirst b name l after
   first_label {at = at} {n = n} {after = after} l f h e eb name s =
       let w = at_label (f.same name s) h in
       let P : Labels → Type 0 = λ name. IsFirst b name l after in
-      let Q : ℕ → Type 0 = λ after. Stands b after w.others in
-      subst P (sym w.whole) (e, subst Q (sym eb) w.stand)
+      let Q : ℕ → Type 0 = λ after. NameAt b after w.others in
+      subst P (sym w.whole) (e, subst Q (sym eb) w.is_encoded)
 
   -- A root label, a label or a pointer begins where a name is encoded.
-  begins_there : {at : ℕ} {name : Labels} → Stands b at name → IsOk (head_at b at)
+  begins_there : {at : ℕ} {name : Labels} → NameAt b at name → IsOk (head_at b at)
   begins_there (root h) = rw h refl
   begins_there (label h w x z) = rw h refl
   begins_there (pointer h w x) = rw h refl
 
-  pub name_begins : {at : ℕ} → NameAt b at → IsOk (head_at b at)
+  pub name_begins : {at : ℕ} → EncodedName b at → IsOk (head_at b at)
   name_begins name = begins_there name.1
 
-  pub length_label_at : {at n : ℕ} (name : NameAt b at) → head_at b at ≡ Ok (Label n) → length (label_at b at n) < 64
+  pub length_label_at : {at n : ℕ} (name : EncodedName b at) → head_at b at ≡ Ok (Label n) → length (label_at b at n) < 64
   length_label_at {at = at} {n = n} name h =
       let w = at_label name.1 h in
       let fits : at + 1 + n ≤ length b = w.fits in
@@ -180,12 +180,12 @@ module _ (b : List ℕ) where
   label_at-none at = let none : at + 1 + 0 - (at + 1) ≡ 0 = omega arith in rw none refl
 
   -- The same by the first octet, which is the length of a label, and 0 for the root label.
-  pub length_first : {at n : ℕ} (name : NameAt b at) → (0 < n → head_at b at ≡ Ok (Label n)) → length (label_at b at n) < 64
+  pub length_first : {at n : ℕ} (name : EncodedName b at) → (0 < n → head_at b at ≡ Ok (Label n)) → length (label_at b at n) < 64
   length_first {at = at} {n = zero} name h = rw (label_at-none at) (omega arith)
   length_first {n = suc n} name h = length_label_at name (h (omega arith))
 
   pub first_octet : {from at n after : ℕ} (l : LabelOf) → Follows from at → (n ≡ 0 → head_at b at ≡ Ok Root) → (0 < n → head_at b at ≡ Ok (Label n))
-      → label_octets l ≡ label_at b at n → (n ≡ 0 → after ≡ at) → (0 < n → after ≡ at + 1 + n) → (name : Labels) → Stands b from name → IsFirst b name l after
+      → label_octets l ≡ label_at b at n → (n ≡ 0 → after ≡ at) → (0 < n → after ≡ at + 1 + n) → (name : Labels) → NameAt b from name → IsFirst b name l after
   first_octet {at = at} {n = zero} l f none some e here on name s =
       subst (λ p. IsFirst b name l p) (sym (here refl)) (first_root l f (none refl) (e ∙ label_at-none at) name s)
   first_octet {n = suc n} l f none some e here on name s = first_label l f (some (omega arith)) e (on (omega arith)) name s

@@ -1,15 +1,15 @@
 -- The number and size of a name's labels.
 use Rattle.std.proofs.Common.{◌≡◌, ℕ, ◌+◌, ◌≤◌, List, [], ◌∷◌, length, length-append, arith, refl}
-use Rattle.dns_name.specs.Names.{Labels, name_size, max_size, uncompressed, with_root, Stands}
-use Rattle.dns_name.specs.Unique.{NameOfSize, NameOfSizeAndCount, standing_short}
+use Rattle.dns_name.specs.Names.{Labels, name_size, max_size, uncompressed, with_root, NameAt}
+use Rattle.dns_name.specs.Unique.{NameOfSize, NameOfSizeAndCount, encoded_short}
 use Rattle.dns_name.specs.ParsedName.{labels}
 use Rattle.dns_name.specs.declared.parsed_name.ParsedName.{ParsedName}
 
-pub labels_stand : (name : ParsedName) → Stands name.octets.now name.pos (labels name)
-labels_stand name = name.name_at.0.1
+pub labels_encoded : (name : ParsedName) → NameAt name.octets.now name.pos (labels name)
+labels_encoded name = name.name_at.0.1
 
-pub name_stands : (b : List ℕ) (p size count : ℕ) (name : NameOfSizeAndCount b p size count) → Stands b p name.0.0
-name_stands b p size count name = name.0.1
+pub name_encoded : (b : List ℕ) (p size count : ℕ) (name : NameOfSizeAndCount b p size count) → NameAt b p name.0.0
+name_encoded b p size count name = name.0.1
 
 -- The size without the number of labels.
 pub name_of_size : (b : List ℕ) (p size count : ℕ) → NameOfSizeAndCount b p size count → NameOfSize b p size
@@ -22,7 +22,7 @@ few_labels (label ∷ name) = omega (arith, few_labels name)
 
 -- An encoded name has a size of at most 254, and at most as many labels.
 pub short_and_few : (b : List ℕ) (p size count : ℕ) → NameOfSizeAndCount b p size count → (size ≤ max_size) × (count ≤ size)
-short_and_few b p size count name = (omega (arith, name.1, standing_short name.0.1), omega (arith, name.1, name.2, few_labels name.0.0))
+short_and_few b p size count name = (omega (arith, name.1, encoded_short name.0.1), omega (arith, name.1, name.2, few_labels name.0.0))
 
 -- Only the root has size 0.
 pub empty_name : (name : Labels) → name_size name ≡ 0 → name ≡ []

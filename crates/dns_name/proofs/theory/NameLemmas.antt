@@ -6,33 +6,33 @@ use Rattle.std.proofs.lemmas.Bool.Decides.{nat_tests}
 use Rattle.std.proofs.lemmas.Grind.{common_steps}
 use Rattle.std.proofs.lemmas.List.{map-append, length-map}
 use Rattle.std.proofs.lemmas.List.Elements.{All-head, All-tail}
-use Rattle.dns_name.specs.Names.{Labels, IsLabel, IsName, framed, lowered_label, lowered, uncompressed, Stands}
+use Rattle.dns_name.specs.Names.{Labels, IsLabel, IsName, framed, lowered_label, lowered, uncompressed, NameAt}
 use Rattle.dns_name.specs.Uncompressed.{WholeName}
 use Rattle.dns_name.specs.NameReading.{name_labels}
 use Rattle.dns_name.specs.ParsedName.{labels}
 use Rattle.dns_octets.specs.declared.octets.Octets.{Ghosts}
 use Rattle.dns_name.specs.declared.name.Name.{Name}
 use Rattle.dns_name.specs.declared.parsed_name.ParsedName.{ParsedName}
-use Rattle.dns_name.specs.Unique.{standing_name}
+use Rattle.dns_name.specs.Unique.{encoded_name}
 use Rattle.dns_name.proofs.theory.LabelsLemmas.{length-uncompressed}
 use Rattle.dns_name.proofs.NameOrderLemmas.{uncompressed-injective}
-use Rattle.dns_name.proofs.theory.Spelling.{stands_spelled}
+use Rattle.dns_name.proofs.theory.Spelling.{name_at_uncompressed}
 
 -- A name is encoded at the start of its uncompressed octets.
-stands_in_own : (name : Labels) → IsName name → Stands (uncompressed name) 0 name
-stands_in_own name n = stands_spelled (uncompressed name) 0 name n refl
+name_at_in_own : (name : Labels) → IsName name → NameAt (uncompressed name) 0 name
+name_at_in_own name n = name_at_uncompressed (uncompressed name) 0 name n refl
 
 -- The labels of a `Name` are those of a name.
 pub name_is : {X : Type 0} {holder : Ghosts X} (name : Name X holder) → IsName (name_labels name)
-name_is name = standing_name name.whole.0.1
+name_is name = encoded_name name.whole.0.1
 
 -- The labels of a `ParsedName` are those of a name.
 pub parsed_is : (name : ParsedName) → IsName (labels name)
-parsed_is name = standing_name name.name_at.0.1
+parsed_is name = encoded_name name.name_at.0.1
 
 -- The uncompressed octets of a name are one whole name.
 pub octets_whole : (name : Labels) (b : List ℕ) → IsName name → uncompressed name ≡ b → WholeName b
-octets_whole name b n e = subst WholeName e ((name, stands_in_own name n), refl)
+octets_whole name b n e = subst WholeName e ((name, name_at_in_own name n), refl)
 
 -- A `Name` whose octets are those of `own` has the labels `own`.
 pub labels_of_octets : {X : Type 0} {holder : Ghosts X} (name : Name X holder) (own : Labels) (b : List ℕ) → uncompressed (name_labels name) ≡ b → uncompressed own ≡ b → own ≡ name_labels name
@@ -40,11 +40,11 @@ labels_of_octets name own b e same = uncompressed-injective _ _ (same ∙ sym e)
 
 -- The octets of a `Name` are one whole name.
 pub name_whole : {X : Type 0} {holder : Ghosts X} (name : Name X holder) → WholeName (uncompressed (name_labels name))
-name_whole name = ((name_labels name, stands_in_own _ (name_is name)), refl)
+name_whole name = ((name_labels name, name_at_in_own _ (name_is name)), refl)
 
 -- The uncompressed octets of a `ParsedName` are one whole name.
 pub parsed_whole : (name : ParsedName) → WholeName (uncompressed (labels name))
-parsed_whole name = ((labels name, stands_in_own _ (parsed_is name)), refl)
+parsed_whole name = ((labels name, name_at_in_own _ (parsed_is name)), refl)
 
 -- The labels of a `ParsedName` fit in 255 octets uncompressed, each after those before it.
 pub label_room : (name : ParsedName) (before label after : List ℕ) → before ++ (framed label ++ after) ≡ uncompressed (labels name)

@@ -1,8 +1,8 @@
 -- At each offset: one name or one fault, and one end of an encoding or one skip fault.
 use Rattle.std.proofs.Common.{arith, inl, inr, refl, Ok, Err}
-use Rattle.dns_name.specs.Laws.{NameOrFault, NameOrFaultNotBoth, OneName, OneFault, EndOrSkipFault, EndOrSkipFaultNotBoth, OneEnd, StandingNamesEnd, SkipFaultsAreFaults, SkippingEndsAlike, SkippingFailsAlike}
+use Rattle.dns_name.specs.Laws.{NameOrFault, NameOrFaultNotBoth, OneName, OneFault, EndOrSkipFault, EndOrSkipFaultNotBoth, OneEnd, EncodedNamesEnd, SkipFaultsAreFaults, SkippingEndsAlike, SkippingFailsAlike}
 use Rattle.dns_name.specs.Parsers.{seen}
-use Rattle.dns_name.specs.Unique.{same_name as same, standing_short}
+use Rattle.dns_name.specs.Unique.{same_name as same, encoded_short}
 use Rattle.dns_name.proofs.theory.AnswerLaws as answers
 use Rattle.dns_name.proofs.theory.WalkLaws as walks
 
@@ -10,7 +10,7 @@ pub name_or_fault : NameOrFault
 name_or_fault b p = elim (answers.one_answer b p) [ inl a ↦ inl (a.0, a.1) | inr a ↦ inr a ]
 
 pub not_both : NameOrFaultNotBoth
-not_both b p name f x y = answers.not_both b y name x (omega (arith, standing_short x))
+not_both b p name f x y = answers.not_both b y name x (omega (arith, encoded_short x))
 
 pub one_name : OneName
 one_name b p m n x y = same b x y
@@ -27,8 +27,8 @@ end_not_both b p q f x y = walks.end_or_fault b x y
 pub one_end : OneEnd
 one_end b p q r x y = walks.one_end b x y
 
-pub names_end : StandingNamesEnd
-names_end b p name x = walks.standing_end 0 x (omega (arith, standing_short x))
+pub names_end : EncodedNamesEnd
+names_end b p name x = walks.encoded_end 0 x (omega (arith, encoded_short x))
 
 pub skip_faults : SkipFaultsAreFaults
 skip_faults b p f x = walks.skip_fault b x

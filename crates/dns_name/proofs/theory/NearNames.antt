@@ -5,7 +5,7 @@ use Rattle.std.proofs.lemmas.Option.{slice_get_past, slice_get-get_or}
 use Rattle.std.proofs.lemmas.Nat.{or_comm, or_shifted}
 use Rattle.std.specs.Prelude.{bit_or}
 use Rattle.std.proofs.lemmas.Bool.Decides.{leb_tells}
-use Rattle.dns_name.specs.Names.{Fault, Labels, name_size, max_size, head_of, head_at, label_at, Stands, Faulty, FaultAt, NameContinues}
+use Rattle.dns_name.specs.Names.{Fault, Labels, name_size, max_size, head_of, head_at, label_at, NameAt, Faulty, FaultAt, NameContinues}
 use Rattle.dns_name.specs.Names.Fault.{ShortInput, Form}
 use Rattle.dns_name.specs.NearNames.{IsNear, LabelsTo, row_count, PassesLabels, Measures, Arrives, LeadsBackTo}
 use Rattle.dns_name.specs.NearNames.LabelsTo.{none, label}
@@ -84,15 +84,15 @@ passing_row b p s q r k l within = let w = l.rows (omega arith) q r LabelsTo.non
 
 -- The name at p that ends with the one at q. s and r are the sizes of the labels before p and before q, and `more` labels are between them.
 abbrev pub Longer : List ℕ → ℕ → ℕ → ℕ → ℕ → Labels → Type 0
-Longer b p s r more name = (whole : Labels) × Stands b p whole × (s + name_size whole ≡ r + name_size name) × (length whole ≡ more + length name)
+Longer b p s r more name = (whole : Labels) × NameAt b p whole × (s + name_size whole ≡ r + name_size name) × (length whole ≡ more + length name)
 
-pub row_names : (b : List ℕ) {p s q r : ℕ} (x : LabelsTo b p s q r) (name : Labels) → Stands b q name → r + name_size name ≤ max_size
+pub row_names : (b : List ℕ) {p s q r : ℕ} (x : LabelsTo b p s q r) (name : Labels) → NameAt b q name → r + name_size name ≤ max_size
     → Longer b p s r (row_count x) name
 row_names b none name m short = (name, m, refl, omega arith)
 row_names b (label {p = p} {n = n} {s = s} h small fits x) name m short =
     let w = row_names b x name m short in
     let e : name_size (label_at b p n ∷ w.0) ≡ n + 1 + name_size w.0 = name_size-label_at b p n w.0 fits in
-    (label_at b p n ∷ w.0, Stands.label h fits w.1 (omega (arith, w.2)), omega (arith, w.2, e), omega (arith, w.3))
+    (label_at b p n ∷ w.0, NameAt.label h fits w.1 (omega (arith, w.2)), omega (arith, w.2, e), omega (arith, w.3))
 
 pub row_faults : (b : List ℕ) {p s q r : ℕ} → LabelsTo b p s q r → (f : Fault) → Faulty b q r f → Faulty b p s f
 row_faults b none f m = m
@@ -107,7 +107,7 @@ pub record Leading (b : List ℕ) (p s q r k : ℕ) : Type 0 where
   pub within : q ≤ length b
   pub short : r ≤ max_size
   pub few : s + k ≤ r
-  pub names : (name : Labels) → Stands b q name → r + name_size name ≤ max_size → Longer b p s r k name
+  pub names : (name : Labels) → NameAt b q name → r + name_size name ≤ max_size → Longer b p s r k name
   pub faults : (f : Fault) → Faulty b q r f → Faulty b p s f
 
 pub leading_none : (b : List ℕ) (p s : ℕ) → p ≤ length b → s ≤ max_size → Leading b p s p s 0
@@ -137,13 +137,13 @@ leading_pointer b p s q r k t l h back = record {
   within = omega (arith, l.within);
   short = l.short;
   few = l.few;
-  names = λ name m. l.names name (Stands.pointer h back m);
+  names = λ name m. l.names name (NameAt.pointer h back m);
   faults = λ f m. l.faults f (Faulty.pointer h back m);
 }
 
 pub leading_root : (b : List ℕ) (p s q r k : ℕ) → Leading b p s q r k → head_at b q ≡ Ok Root → Measures b p s (r - s) k
 leading_root b p s q r k l h =
-    let w = l.names [] (Stands.root h) (omega (arith, l.short)) in
+    let w = l.names [] (NameAt.root h) (omega (arith, l.short)) in
     record {
       short = omega (arith, l.short, l.few);
       few = omega (arith, l.few);
@@ -154,7 +154,7 @@ leading_root b p s q r k l h =
 
 pub arrives_root : (b : List ℕ) (p q n : ℕ) → PassesLabels b p 0 q n None → Arrives b p (q + 1) (q - p) n
 arrives_root b p q n x =
-    let w = row_names b x.row [] (Stands.root x.there) (omega (arith, x.short)) in
+    let w = row_names b x.row [] (NameAt.root x.there) (omega (arith, x.short)) in
     record {
       name = ((w.0, w.1), omega (arith, w.2), omega (arith, w.3, x.counted));
       walked = row_ends b x.row (q + 1) (NameContinues.root x.there);
@@ -164,7 +164,7 @@ arrives_root b p q n x =
 pub arrives_pointer : (b : List ℕ) (p q n t size count all number : ℕ) → PassesLabels b p 0 q n (Some t) → t < q → NameOfSizeAndCount b t size count
     → (q - p) + size ≤ max_size → all ≡ (q - p) + size → number ≡ n + count → Arrives b p (q + 2) all number
 arrives_pointer b p q n t size count all number x back name short size_is count_is =
-    let w = row_names b x.row name.0.0 (Stands.pointer x.there back name.0.1) (omega (arith, name.1)) in
+    let w = row_names b x.row name.0.0 (NameAt.pointer x.there back name.0.1) (omega (arith, name.1)) in
     let inside : q + 1 < length b = pointer_within b q t x.there in
     record {
       name = ((w.0, w.1), omega (arith, w.2, name.1), omega (arith, w.3, name.2, x.counted));
@@ -196,4 +196,4 @@ pub arrives_back : (b : List ℕ) (p : ℕ) (near : NearName) → LeadsBackTo b 
 arrives_back b p near x is =
     let n = is x.known in
     let inside : p + 1 < length b = pointer_within b p near.pos x.there in
-    record { name = ((n.0.0, Stands.pointer x.there x.back n.0.1), n.1, n.2); walked = NameContinues.pointer x.there; within = omega arith }
+    record { name = ((n.0.0, NameAt.pointer x.there x.back n.0.1), n.1, n.2); walked = NameContinues.pointer x.there; within = omega arith }

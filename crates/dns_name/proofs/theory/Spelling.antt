@@ -5,10 +5,10 @@ use Rattle.std.proofs.lemmas.List.{take-append-drop, drop-drop}
 use Rattle.std.proofs.lemmas.List.Elements.{All-head, All-tail}
 use Rattle.std.proofs.lemmas.Option.{get_or_from_slice_get, slice_get_within}
 use Rattle.std.proofs.Math.Seq.{drop-cons, drop-append_seam, take-append_seam}
-use Rattle.dns_name.specs.Names.{Fault, Labels, IsLabel, IsName, name_size, max_size, uncompressed, head_at, Begins, Stands, label_at, SkipFaulty}
+use Rattle.dns_name.specs.Names.{Fault, Labels, IsLabel, IsName, name_size, max_size, uncompressed, head_at, Begins, NameAt, label_at, SkipFaulty}
 use Rattle.dns_name.specs.Uncompressed.{IsUncompressed, WholeName, WholeName-prop}
 use Rattle.dns_name.specs.declared.head.Head.TheVariants.{Root, Label, Pointer}
-use Rattle.dns_name.specs.Unique.{NameAt, same_name, name_size-label_at, length_label, standing_name}
+use Rattle.dns_name.specs.Unique.{EncodedName, same_name, name_size-label_at, length_label, encoded_name}
 use Rattle.dns_name.proofs.theory.HeadLemmas.{label_there, root_there, root_begins, label_begins, name_begins, Passes, passes_none, passes_label}
 use Rattle.dns_name.proofs.theory.AnswerLaws.{not_both}
 use Rattle.dns_name.proofs.theory.WalkLaws.{skip_fault}
@@ -77,13 +77,13 @@ name_tail label name h =
     (All-head IsLabel label name h.labels, record { labels = All-tail IsLabel label name h.labels; short = omega (arith, h.short) })
 
 -- A name is encoded where the remaining octets are its uncompressed octets.
-pub stands_spelled : (b : List ℕ) (p : ℕ) (name : Labels) → IsName name → uncompressed name ≡ drop p b → Stands b p name
-stands_spelled b p [] n e = Stands.root (rooted b p e).0
-stands_spelled b p (label ∷ name) n e =
+pub name_at_uncompressed : (b : List ℕ) (p : ℕ) (name : Labels) → IsName name → uncompressed name ≡ drop p b → NameAt b p name
+name_at_uncompressed b p [] n e = NameAt.root (rooted b p e).0
+name_at_uncompressed b p (label ∷ name) n e =
     let t = name_tail label name n in
     let l = labelled b p label name t.0 e in
-    let P : List ℕ → Type 0 = λ octets. Stands b p (octets ∷ name) in
-    subst P l.octets (Stands.label l.begins l.fits (stands_spelled b (p + 1 + length label) name t.1 l.after) (omega (arith, n.short)))
+    let P : List ℕ → Type 0 = λ octets. NameAt b p (octets ∷ name) in
+    subst P l.octets (NameAt.label l.begins l.fits (name_at_uncompressed b (p + 1 + length label) name t.1 l.after) (omega (arith, n.short)))
 
 -- The octets from `at` on are an uncompressed name, which is short enough after labels that take all octets before it.
 pub record Rest (b : List ℕ) (at : ℕ) : Type 0 where
@@ -95,7 +95,7 @@ pub record Rest (b : List ℕ) (at : ℕ) : Type 0 where
 -- The progress of a test whether the octets are one whole name: labels take all octets before `at`.
 pub record Spells (b : List ℕ) (at : ℕ) : Type 0 where
   pub passes : Passes b 0 at at
-  pub whole : (name : Labels) → Stands b at name → at + name_size name ≤ max_size → uncompressed name ≡ drop at b → WholeName b
+  pub whole : (name : Labels) → NameAt b at name → at + name_size name ≤ max_size → uncompressed name ≡ drop at b → WholeName b
   pub rest : IsUncompressed b → Rest b at
 
 pub spells_none : (b : List ℕ) → Spells b 0
@@ -126,9 +126,9 @@ spells_label b at n at' s h e =
     record {
       passes = passes_label b 0 at at n at' at' s.passes h (omega arith) e;
       whole = λ name m small octets.
-          let after : Stands b (at + 1 + n) name = subst (λ k. Stands b k name) e m in
+          let after : NameAt b (at + 1 + n) name = subst (λ k. NameAt b k name) e m in
           let size : name_size (label_at b at n ∷ name) ≡ n + 1 + name_size name = name_size-label_at b at n name fits in
-          s.whole (label_at b at n ∷ name) (Stands.label h.there fits after (omega arith)) (omega arith)
+          s.whole (label_at b at n ∷ name) (NameAt.label h.there fits after (omega arith)) (omega arith)
           (ap (λ k. k ∷ (label_at b at n ++ uncompressed name)) same ∙ ap (λ (c : List ℕ). n ∷ (label_at b at n ++ c)) (octets ∙ ap (λ k. drop k b) e) ∙ sym (drop_label b at n h.there));
       rest = λ u. rest_label b at n at' (s.rest u) h.there e;
     }
@@ -138,7 +138,7 @@ pub spells_root : (b : List ℕ) (at : ℕ) → Spells b at → head_at b at ≡
 spells_root b at s h e =
     let none : length (drop (at + 1) b) ≡ 0 = length-drop (at + 1) b ∙ omega arith in
     let small = s.passes.within in
-    s.whole [] (Stands.root h) (omega arith) (sym (drop_at b at 0 (root_there b at h) ∙ ap (λ (c : List ℕ). 0 ∷ c) (empty (drop (at + 1) b) none)))
+    s.whole [] (NameAt.root h) (omega arith) (sym (drop_at b at 0 (root_there b at h) ∙ ap (λ (c : List ℕ). 0 ∷ c) (empty (drop (at + 1) b) none)))
   where
     empty : (xs : List ℕ) → length xs ≡ 0 → xs ≡ []
     empty [] h = refl
@@ -164,11 +164,11 @@ spells_pointer b at t s h u = go (s.rest u).name (s.rest u).is_name (s.rest u).o
 pub spells_fault : (b : List ℕ) (at : ℕ) (f : Fault) → Spells b at → SkipFaulty b at at f → IsUncompressed b → ⊥
 spells_fault b at f s h u =
     let r = s.rest u in
-    not_both b (skip_fault b h) r.name (stands_spelled b at r.name r.is_name r.octets) r.short
+    not_both b (skip_fault b h) r.name (name_at_uncompressed b at r.name r.is_name r.octets) r.short
 
 -- A zero octet is the root name.
 pub root_whole : WholeName (0 ∷ [])
-root_whole = let e : head_at (0 ∷ []) 0 ≡ Ok Root = root_begins (0 ∷ []) 0 refl in (([], Stands.root e), refl)
+root_whole = let e : head_at (0 ∷ []) 0 ≡ Ok Root = root_begins (0 ∷ []) 0 refl in (([], NameAt.root e), refl)
 
 pub whole_is_root : (name : WholeName (0 ∷ [])) → name.0.0 ≡ []
 unfolding root_whole
@@ -180,12 +180,12 @@ pub record Counted (b : List ℕ) (at count : ℕ) : Type 0 where
   pub is_name : IsName others
   pub octets : uncompressed others ≡ drop at b
   pub few : count ≤ at
-  pub all : (name : Labels) → Stands b 0 name → length name ≡ count + length others
+  pub all : (name : Labels) → NameAt b 0 name → length name ≡ count + length others
 
 pub counted_none : (b : List ℕ) → WholeName b → Counted b 0 0
 counted_none b whole = record {
   others = whole.0.0;
-  is_name = standing_name whole.0.1;
+  is_name = encoded_name whole.0.1;
   octets = whole.1;
   few = omega arith;
   all = λ name s. let e = ap length (same_name b s whole.0.1) in omega (arith, e);
@@ -194,13 +194,13 @@ counted_none b whole = record {
 -- The root label or a label begins at `at`.
 pub counted_begins : (b : List ℕ) (at count : ℕ) → Counted b at count → IsOk (head_at b at)
 counted_begins b at count c =
-    let there : NameAt b at = (c.others, stands_spelled b at c.others c.is_name c.octets) in name_begins b there
+    let there : EncodedName b at = (c.others, name_at_uncompressed b at c.others c.is_name c.octets) in name_begins b there
 
 first_octet : (b : List ℕ) (p x : ℕ) (xs : List ℕ) → x ∷ xs ≡ drop p b → get_or b p 0 ≡ x
 first_octet b p x xs e = get_or_from_slice_get b p x 0 (get_drop b p x xs (sym e))
 
 -- At the root label, all labels are counted.
-pub counted_root : (b : List ℕ) (at count n : ℕ) → Counted b at count → n ≡ get_or b at 0 → n ≡ 0 → (name : Labels) → Stands b 0 name → count ≡ length name
+pub counted_root : (b : List ℕ) (at count n : ℕ) → Counted b at count → n ≡ get_or b at 0 → n ≡ 0 → (name : Labels) → NameAt b 0 name → count ≡ length name
 counted_root b at count n c read none name s = go c.others c.is_name c.octets (c.all name s)
   where
     go : (others : Labels) → IsName others → uncompressed others ≡ drop at b → length name ≡ count + length others → count ≡ length name
@@ -214,7 +214,7 @@ counted_root b at count n c read none name s = go c.others c.is_name c.octets (c
 pub counted_label : (b : List ℕ) (at count n at' : ℕ) → Counted b at count → n ≡ get_or b at 0 → n ≢ 0 → at' ≡ at + 1 + n → Counted b at' (count + 1)
 counted_label b at count n at' c read some offset = go c.others c.is_name c.octets c.all
   where
-    go : (others : Labels) → IsName others → uncompressed others ≡ drop at b → ((name : Labels) → Stands b 0 name → length name ≡ count + length others)
+    go : (others : Labels) → IsName others → uncompressed others ≡ drop at b → ((name : Labels) → NameAt b 0 name → length name ≡ count + length others)
         → Counted b at' (count + 1)
     go [] is o all = absurd (some (read ∙ first_octet b at 0 [] o))
     go (label ∷ others) is o all =

@@ -1,7 +1,7 @@
 -- One step of an iterator over labels, from the front and from the back.
 use Rattle.std.proofs.Common.{◌≡◌, ℕ, zero, suc, ◌+◌, ◌-◌, ◌<◌, ◌≤◌, ◌≢◌, List, [], ◌∷◌, ◌++◌, length, length-append, take, drop, arith, ap, sym, ◌∙◌, refl, subst}
-use Rattle.dns_name.specs.Names.{Labels, name_size, with_root, Stands}
-use Rattle.dns_name.specs.Unique.{same_name, NameOfSize, LabelsTake, LabelsAt, LabelsAt-prop, one_count, standing_short}
+use Rattle.dns_name.specs.Names.{Labels, name_size, with_root, NameAt}
+use Rattle.dns_name.specs.Unique.{same_name, NameOfSize, LabelsTake, LabelsAt, LabelsAt-prop, one_count, encoded_short}
 use Rattle.dns_name.specs.ParsedName.{IsFirst, label_octets}
 use Rattle.dns_name.specs.declared.label.Label.{Label}
 use Rattle.dns_name.proofs.theory.LabelsLemmas.{length-with_root, name_size-with_root}
@@ -21,7 +21,7 @@ module _ (b : List ℕ) where
   all_labels p size n =
       (n.0, (length (with_root n.0.0), (omega arith, ap name_size (take_all (with_root n.0.0)) ∙ name_size-with_root n.0.0 ∙ ap (λ k. k + 1) n.1)))
 
-  pub all_left : (p size : ℕ) (m : LabelsAt b p (size + 1)) (n : NameOfSize b p size) (name : Labels) → Stands b p name → take m.1.0 (with_root m.0.0) ≡ with_root name
+  pub all_left : (p size : ℕ) (m : LabelsAt b p (size + 1)) (n : NameOfSize b p size) (name : Labels) → NameAt b p name → take m.1.0 (with_root m.0.0) ≡ with_root name
   unfolding all_labels
   all_left p size m n name s =
       let w : LabelsAt b p (size + 1) = all_labels p size n in
@@ -33,7 +33,7 @@ module _ (b : List ℕ) where
   left_small p left n =
       let e = n.1.1.1 in
       let f : name_size (take n.1.0 (with_root n.0.0)) ≤ name_size (with_root n.0.0) = name_size-take n.1.0 (with_root n.0.0) in
-      omega (arith, name_size-with_root n.0.0, standing_short n.0.1)
+      omega (arith, name_size-with_root n.0.0, encoded_short n.0.1)
     where
       name_size-take : (k : ℕ) (xs : Labels) → name_size (take k xs) ≤ name_size xs
       name_size-take zero xs = omega arith
@@ -66,7 +66,7 @@ module _ (b : List ℕ) where
       }
 
   module _ (p left next_offset taken : ℕ) (l : Label) (t : taken ≡ length (label_octets l) + 1) (n : LabelsAt b p left) (some : left ≢ 0)
-      (f : (name : Labels) → Stands b p name → IsFirst b name l next_offset) where
+      (f : (name : Labels) → NameAt b p name → IsFirst b name l next_offset) where
     next : After next_offset left (take n.1.0 (with_root n.0.0)) l
     next = after next_offset left n.1.0 n.0.0 l some (f n.0.0 n.0.1) n.1.1
 
@@ -88,17 +88,17 @@ module _ (b : List ℕ) where
   pub record Passed (name : Labels) (count pos passed : ℕ) : Type 0 where
     pub number : ℕ
     pub before : number < count
-    pub stands : Stands b pos (drop number name)
+    pub encoded : NameAt b pos (drop number name)
     pub size : name_size (take number (with_root name)) ≡ passed
 
   pub passed_none : (p left : ℕ) (n : LabelsAt b p left) → left ≢ 0 → Passed n.0.0 n.1.0 p 0
-  passed_none p left n some = record { number = 0; before = first n.1.0 n.1.1; stands = n.0.1; size = refl }
+  passed_none p left n some = record { number = 0; before = first n.1.0 n.1.1; encoded = n.0.1; size = refl }
     where
       first : (count : ℕ) → LabelsTake (with_root n.0.0) left count → 0 < count
       first zero c = absurd (some (sym c.1))
       first (suc k) c = omega arith
 
-  after_number : (next_offset k : ℕ) (l : Label) (name : Labels) → k < length name → IsFirst b (drop k name) l next_offset → Stands b next_offset (drop (suc k) name)
+  after_number : (next_offset k : ℕ) (l : Label) (name : Labels) → k < length name → IsFirst b (drop k name) l next_offset → NameAt b next_offset (drop (suc k) name)
   after_number next_offset k l [] h f = absurd (omega arith)
   after_number next_offset zero l (x ∷ name) h f = f.1
   after_number next_offset (suc k) l (x ∷ name) h f = after_number next_offset k l name (omega arith) f
@@ -111,7 +111,7 @@ module _ (b : List ℕ) where
   take_last next_offset (suc k) l (x ∷ name) h f = ap (λ xs. x ∷ xs) (take_last next_offset k l name (omega arith) f)
 
   module _ (p left pos passed next_offset taken : ℕ) (l : Label) (n : LabelsAt b p left) (s : Passed n.0.0 n.1.0 pos passed)
-      (f : (name : Labels) → Stands b pos name → IsFirst b name l next_offset) (t : taken ≡ length (label_octets l) + 1) where
+      (f : (name : Labels) → NameAt b pos name → IsFirst b name l next_offset) (t : taken ≡ length (label_octets l) + 1) where
     abbrev name : Labels
     name = n.0.0
 
@@ -119,7 +119,7 @@ module _ (b : List ℕ) where
     within = let e = length-with_root name in let c = n.1.1.0 in omega (arith, s.before)
 
     last : take (suc s.number) (with_root name) ≡ take s.number (with_root name) ++ label_octets l ∷ []
-    last = take_last next_offset s.number l name within (f (drop s.number name) s.stands)
+    last = take_last next_offset s.number l name within (f (drop s.number name) s.encoded)
 
     sizes : LabelsTake (with_root name) (passed + taken) (suc s.number)
     sizes =
@@ -135,7 +135,7 @@ module _ (b : List ℕ) where
     step_on other =
         let m = more other in
         let e = length-with_root name in let c = n.1.1.0 in
-        record { number = suc s.number; before = m; stands = after_number next_offset s.number l name (omega arith) (f (drop s.number name) s.stands); size = sizes.1 }
+        record { number = suc s.number; before = m; encoded = after_number next_offset s.number l name (omega arith) (f (drop s.number name) s.encoded); size = sizes.1 }
 
     pub back_has : passed + taken ≡ left → LabelsAt b p passed
     back_has all = let e = length-with_root name in let w = within in (n.0, (s.number, (omega arith, s.size)))

@@ -2,7 +2,7 @@
 use Rattle.std.proofs.Common.{◌≡◌, ℕ, zero, suc, ◌+◌, ◌-◌, ◌<◌, ◌≤◌, ◌⊎◌, inl, inr, List, length, arith, sym, refl, subst}
 use Rattle.std.specs.Prelude.{Result, Ok, Err}
 use Rattle.std.proofs.lemmas.Bool.Decides.{leb_tells}
-use Rattle.dns_name.specs.Names.{Fault, Labels, name_size, max_size, head_at, Stands, Faulty, NameContinues, SkipFaulty}
+use Rattle.dns_name.specs.Names.{Fault, Labels, name_size, max_size, head_at, NameAt, Faulty, NameContinues, SkipFaulty}
 use Rattle.dns_name.specs.Names.Fault.{ShortInput, Form}
 use Rattle.dns_name.specs.Names.SkipFaulty.{head, long, cut, label}
 use Rattle.dns_name.specs.declared.head.Head.{Head}
@@ -97,10 +97,10 @@ walked_in_octets {b = b} (NameContinues.pointer {p = p} {t = t} h) = let l = poi
 walked_in_octets (NameContinues.label h small fits x) = walked_in_octets x
 
 -- The encoding of a name has an end.
-pub standing_end : {b : List ℕ} {p : ℕ} {name : Labels} (s : ℕ) → Stands b p name → s + name_size name ≤ max_size → (q : ℕ) × NameContinues b p s q
-standing_end s (Stands.root {p = p} h) small = (p + 1, NameContinues.root h)
-standing_end {b = b} s (Stands.label {p = p} {n = n} {name = name} h w x z) small =
+pub encoded_end : {b : List ℕ} {p : ℕ} {name : Labels} (s : ℕ) → NameAt b p name → s + name_size name ≤ max_size → (q : ℕ) × NameContinues b p s q
+encoded_end s (NameAt.root {p = p} h) small = (p + 1, NameContinues.root h)
+encoded_end {b = b} s (NameAt.label {p = p} {n = n} {name = name} h w x z) small =
     let e = name_size-label_at b p n name w in
-    let r = standing_end (s + n + 1) x (omega (arith, e)) in
+    let r = encoded_end (s + n + 1) x (omega (arith, e)) in
     (r.0, NameContinues.label h (omega (arith, e)) w r.1)
-standing_end s (Stands.pointer {p = p} h back x) small = (p + 2, NameContinues.pointer h)
+encoded_end s (NameAt.pointer {p = p} h back x) small = (p + 2, NameContinues.pointer h)

@@ -1,7 +1,7 @@
 -- At each offset a name and the fields after it are read, or there is one fault.
 use Rattle.std.proofs.Common.{◌≡◌, ℕ, ◌+◌, ◌<◌, ◌≤◌, ◌⊎◌, inl, inr, List, length, arith, ap, sym, ◌∙◌, refl}
 use Rattle.std.proofs.lemmas.Bool.Decides.{leb_tells}
-use Rattle.dns_name.specs.Names.{Labels, Fault, Stands, Walked, ReadsOrFaults, EndsOrFaults}
+use Rattle.dns_name.specs.Names.{Labels, Fault, NameAt, Walked, ReadsOrFaults, EndsOrFaults}
 use Rattle.dns_name.specs.Names.Fault.{ShortInput}
 use Rattle.dns_name.proofs.theory.Names.{name_or_fault, not_both, one_fault, end_or_skip_fault, end_not_both, one_end, names_end, skip_faults}
 use Rattle.dns_question.specs.AfterNames.{SkipsFields, FieldsFaultAt, FieldsSkipFaultAt}
@@ -60,8 +60,8 @@ module _ (b : List ℕ) (size : ℕ → ℕ) where
 
     -- entries that are a name and the fields after it
     module _ {X : Type 0} (Reads : ℕ → ℕ → X → Type 0) (labels : X → Labels)
-        (skips : (p q : ℕ) (x : X) → Reads p q x → SkipsFields b size p q × Stands b p (labels x))
-        (read : (p r : ℕ) (name : Labels) → Stands b p name → Walked b p r → r + size r ≤ length b → (x : X) × Reads p (r + size r) x)
+        (skips : (p q : ℕ) (x : X) → Reads p q x → SkipsFields b size p q × NameAt b p (labels x))
+        (read : (p r : ℕ) (name : Labels) → NameAt b p name → Walked b p r → r + size r ≤ length b → (x : X) × Reads p (r + size r) x)
         (one : (p q r : ℕ) (x y : X) → Reads p q x → Reads p r y → x ≡ y)
       where
         only_read : (p q : ℕ) (x : X) (f : Fault) → Reads p q x → FieldsFaultAt b Lacks p f → ⊥

@@ -14,16 +14,16 @@ pub(crate) type Array = ArrayVec<u8, 128>;
 /// The visible state of a builder: its limit, and its octets, which begin with the header and the
 /// counts.
 #[derive(Drop)]
-pub(crate) struct Standing {
+pub(crate) struct BuilderState {
     limit: Option<usize>,
     octets: Array,
 }
 
 /// The visible state of the builder now.
-pub(crate) fn standing_of<T: Composer, S: BuilderStage>(
+pub(crate) fn state_before<T: Composer, S: BuilderStage>(
     builder: &Builder<T, S>,
-) -> Result<Standing, Fail> {
-    Ok(Standing {
+) -> Result<BuilderState, Fail> {
+    Ok(BuilderState {
         limit: builder.push_limit(),
         octets: Array::try_from(builder.as_slice())?,
     })
@@ -33,7 +33,7 @@ pub(crate) fn standing_of<T: Composer, S: BuilderStage>(
 pub(crate) fn assert_unchanged<R: Abort, T: Composer, S: BuilderStage>(
     rt: &R,
     builder: &Builder<T, S>,
-    before: &Standing,
+    before: &BuilderState,
 ) {
     assert!(rt; builder.push_limit() == before.limit, "refused call: limit");
     assert_octets(rt, builder.as_slice(), &before.octets, "refused call");
@@ -63,7 +63,7 @@ pub(crate) fn push_question<R: Abort + Print, T: Composer, Q: ComposeQuestion>(
     builder: &mut QuestionBuilder<T>,
     question: &Q,
 ) -> Result<(), Fail> {
-    let before = standing_of(builder)?;
+    let before = state_before(builder)?;
     if is_refused(rt, builder.push(question), "question")? {
         assert_unchanged(rt, builder, &before);
         builder.push(question)?;
@@ -77,7 +77,7 @@ pub(crate) fn push_record<R: Abort + Print, T: Composer, S: RecordStage, D: Comp
     builder: &mut Builder<T, S>,
     record: &D,
 ) -> Result<(), Fail> {
-    let before = standing_of(builder)?;
+    let before = state_before(builder)?;
     if is_refused(rt, builder.push(record), "record")? {
         assert_unchanged(rt, builder, &before);
         builder.push(record)?;

@@ -1,5 +1,5 @@
 //! OPT records whose closure pushes an option, or returns an error.
-use crate::memory::again::{assert_unchanged, is_refused, standing_of};
+use crate::memory::again::{assert_unchanged, is_refused, state_before};
 use crate::memory::fresh::{Fresh, started};
 use crate::memory::written::assert_octets;
 use dns_message::builder::{AdditionalBuilder, PushError};
@@ -27,7 +27,7 @@ fn push_option<T: Composer>(
 /// Fails unless the message with this option is `ONE_OPTION`.
 pub(crate) fn assert_option<R: Abort + Print, T: Fresh>(rt: &R, alloc: Global) -> Result<(), Fail> {
     let mut builder: AdditionalBuilder<T> = started(rt, alloc)?.additional();
-    let before = standing_of(&builder)?;
+    let before = state_before(&builder)?;
     if is_refused(rt, push_option(alloc, &mut builder), "option")? {
         assert_unchanged(rt, &builder, &before);
         push_option(alloc, &mut builder)?;
@@ -39,7 +39,7 @@ pub(crate) fn assert_option<R: Abort + Print, T: Fresh>(rt: &R, alloc: Global) -
 /// Checks that nothing changes if the closure returns an error, and that this error is returned.
 pub(crate) fn assert_error<R: Abort + Print, T: Fresh>(rt: &R, alloc: Global) -> Result<(), Fail> {
     let mut builder: AdditionalBuilder<T> = started(rt, alloc)?.additional();
-    let before = standing_of(&builder)?;
+    let before = state_before(&builder)?;
     let answer = builder.opt(alloc, |opt| {
         opt.set_rcode(OptRcode::from(Rcode::NXDOMAIN));
         Err(AppendError::ShortBuf)

@@ -11,12 +11,12 @@ use Rattle.dns_octets.specs.declared.error.AppendError.TheVariants.{ShortBuf, Ou
 use Rattle.dns_name.specs.Names.{Labels, IsName}
 use Rattle.dns_name.specs.Parsers.{number_at}
 use Rattle.dns_wire.specs.Pieces.{Rule, Piece, IsGrowing, put_octets, both, put_name, Memory, with_length, Spot, cut, ends_within}
-use Rattle.dns_wire.specs.Parts.{Part, Octets, CompressibleName, PartsStand, AreParts, put_parts}
+use Rattle.dns_wire.specs.Parts.{Part, Octets, CompressibleName, PartsAt, AreParts, put_parts}
 use Rattle.dns_wire.specs.Targets.{At, Spelled, Written, IsTarget, lay, cut_to, Fits, Passes, AnswersInSteps, Composes}
 use Rattle.dns_wire.specs.TargetLaws.{CutUndoes, AppendsCompose, ComposesBoth, ComposesFirst}
 use Rattle.dns_wire.proofs.theory.Memories.{cut-extends, cut-within, gets, get-cut, same_memory}
 use Rattle.dns_wire.proofs.theory.PutNames.{put_name_grows, put_octets_grows, both_grows, with_length_grows, ends_within_content, puts_name}
-use Rattle.dns_wire.proofs.theory.SpelledNames.{at_append, at_end, spelled_long, spelled_more, kept_more, stands_within, walked_within}
+use Rattle.dns_wire.proofs.theory.SpelledNames.{at_append, at_end, spelled_long, spelled_more, kept_more, name_at_up_to, walked_within}
 
 -- Targets with the same octets and the same table are the same.
 pub same_written : (t u : Written) → t.octets ≡ u.octets → t.memory ≡ u.memory → t ≡ u
@@ -140,14 +140,14 @@ parts_within [] t p q l h = omega arith
 parts_within (Octets xs ∷ parts) t p q l h = let w = h.1.0.within in let e = h.1.1 in parts_within parts t h.0 q (omega arith) h.2
 parts_within (CompressibleName name ∷ parts) t p q l h = let w = spelled_long h.1 in parts_within parts t h.0 q w.1 h.2
 
--- Parts encoded in a target satisfy `PartsStand`.
-pub parts_stand : (parts : List Part) (t : Written) (p q : ℕ) → AreParts parts → IsTarget t → HasParts parts t p q → PartsStand t.octets q p parts
-parts_stand [] t p q is good h = h
-parts_stand (Octets xs ∷ parts) t p q is good h =
-    (h.1.0.same, subst (λ r. PartsStand t.octets q r parts) h.1.1 (parts_stand parts t h.0 q is good h.2))
-parts_stand (CompressibleName name ∷ parts) t p q is good h =
+-- Parts encoded in a target satisfy `PartsAt`.
+pub parts_at : (parts : List Part) (t : Written) (p q : ℕ) → AreParts parts → IsTarget t → HasParts parts t p q → PartsAt t.octets q p parts
+parts_at [] t p q is good h = h
+parts_at (Octets xs ∷ parts) t p q is good h =
+    (h.1.0.same, subst (λ r. PartsAt t.octets q r parts) h.1.1 (parts_at parts t h.0 q is good h.2))
+parts_at (CompressibleName name ∷ parts) t p q is good h =
     let l = parts_rise parts t h.0 q h.2 in
-    (h.0, stands_within q good l is.0.short h.1, walked_within q good l is.0.short h.1, parts_stand parts t h.0 q is.1 good h.2)
+    (h.0, name_at_up_to q good l is.0.short h.1, walked_within q good l is.0.short h.1, parts_at parts t h.0 q is.1 good h.2)
 
 -- Numbers at offsets, and encodings preceded by their length.
 

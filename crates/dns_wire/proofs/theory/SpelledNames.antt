@@ -5,7 +5,7 @@ use Rattle.std.proofs.lemmas.List.{drop-append-le, take-append-drop, nil_from_le
 use Rattle.std.proofs.Math.Seq.{take-append_seam, drop-append_seam, take-append-add}
 use Rattle.std.specs.FinMap.{get}
 use Rattle.dns_octets.specs.Octets.{overwritten}
-use Rattle.dns_name.specs.Names.{IsLabel, framed, head_at, label_at, Labels, name_size, max_size, Stands, NameContinues, Walked}
+use Rattle.dns_name.specs.Names.{IsLabel, framed, head_at, label_at, Labels, name_size, max_size, NameAt, NameContinues, Walked}
 use Rattle.dns_name.specs.declared.head.Head.TheVariants.{Root, Label, Pointer}
 use Rattle.dns_name.proofs.theory.Spelling.{get_drop}
 use Rattle.dns_wire.specs.Pieces.{pointer as pointer_octets, Memory, Spot, cut, IsClear}
@@ -198,28 +198,28 @@ pub kept_more : {m : Memory} {b : List ℕ} (n : Memory) (c : List ℕ) (s : Lab
     → ((s : Labels) (x : Spot) → get m s ≡ Some x → get n s ≡ Some x) → IsRemembered b m s x → IsRemembered (b ++ c) n s x
 kept_more {m = m} {b = b} n c s x g k = kept_moved m n b (b ++ c) s x (λ p xs low fits h. at_append c h) (λ t y e less. g t y e) k
 
--- A written name (`Spelled`) is encoded in the sense of `Stands`, if so is each entry of the table whose name ends before q.
-stands_if : {m : Memory} {b : List ℕ} {q : ℕ} → Remembers b m → ((s : Labels) (x : Spot) → get m s ≡ Some x → x.end < q → Stands b x.offset s)
-    → {p : ℕ} {name : Labels} → name_size name ≤ max_size → Spelled m b q p name → Stands b p name
-stands_if r ih short (root h e) = Stands.root (root_at h)
-stands_if {b = b} {q = q} r ih short (label {p = p} {first = first} {rest = rest} l h x) =
+-- A written name (`Spelled`) is encoded in the sense of `NameAt`, if so is each entry of the table whose name ends before q.
+name_at_if : {m : Memory} {b : List ℕ} {q : ℕ} → Remembers b m → ((s : Labels) (x : Spot) → get m s ≡ Some x → x.end < q → NameAt b x.offset s)
+    → {p : ℕ} {name : Labels} → name_size name ≤ max_size → Spelled m b q p name → NameAt b p name
+name_at_if r ih short (root h e) = NameAt.root (root_at h)
+name_at_if {b = b} {q = q} r ih short (label {p = p} {first = first} {rest = rest} l h x) =
     let w = spelled_long x in
-    let P : List ℕ → Type 0 = λ first. Stands b p (first ∷ rest) in
-    subst P (label_octets h) (Stands.label (label_begins l h) (omega arith) (stands_if r ih (omega arith) x) (omega arith))
-stands_if r ih short (pointer {p = p} {name = name} {x = x} e before h is) =
+    let P : List ℕ → Type 0 = λ first. NameAt b p (first ∷ rest) in
+    subst P (label_octets h) (NameAt.label (label_begins l h) (omega arith) (name_at_if r ih (omega arith) x) (omega arith))
+name_at_if r ih short (pointer {p = p} {name = name} {x = x} e before h is) =
     let k = r.each name x e in
     let w = spelled_long (kept_spelled name x k) in
-    Stands.pointer (pointer_at x.offset k.near h) (omega (arith, w.0)) (ih name x e (omega arith))
+    NameAt.pointer (pointer_at x.offset k.near h) (omega (arith, w.0)) (ih name x e (omega arith))
 
 -- By induction on the end.
-stands_below : {m : Memory} {b : List ℕ} → Remembers b m → (k q p : ℕ) (name : Labels) → q < k → name_size name ≤ max_size → Spelled m b q p name → Stands b p name
-stands_below r zero q p name h short s = absurd (omega arith)
-stands_below r (suc k) q p name h short s =
-    stands_if r (λ t x e less. let kept = r.each t x e in stands_below r k x.end x.offset t (omega arith) kept.short (kept_spelled t x kept)) short s
+name_at_below : {m : Memory} {b : List ℕ} → Remembers b m → (k q p : ℕ) (name : Labels) → q < k → name_size name ≤ max_size → Spelled m b q p name → NameAt b p name
+name_at_below r zero q p name h short s = absurd (omega arith)
+name_at_below r (suc k) q p name h short s =
+    name_at_if r (λ t x e less. let kept = r.each t x e in name_at_below r k x.end x.offset t (omega arith) kept.short (kept_spelled t x kept)) short s
 
--- A written name that is short enough is encoded in the sense of `Stands`.
-pub spelled_stands : {m : Memory} {b : List ℕ} {q p : ℕ} {name : Labels} → Remembers b m → name_size name ≤ max_size → Spelled m b q p name → Stands b p name
-spelled_stands {q = q} {p = p} {name = name} r short s = stands_below r (q + 1) q p name (omega arith) short s
+-- A written name that is short enough is encoded in the sense of `NameAt`.
+pub spelled_stands : {m : Memory} {b : List ℕ} {q p : ℕ} {name : Labels} → Remembers b m → name_size name ≤ max_size → Spelled m b q p name → NameAt b p name
+spelled_stands {q = q} {p = p} {name = name} r short s = name_at_below r (q + 1) q p name (omega arith) short s
 
 -- Its encoding ends at q.
 pub spelled_walked : {m : Memory} {b : List ℕ} {q p : ℕ} {name : Labels} (s : ℕ) → Remembers b m → s + name_size name ≤ max_size → Spelled m b q p name → NameContinues b p s q
@@ -261,10 +261,10 @@ remembers_over {m = m} {b = b} offset over clear r = record {
       ];
 }
 
--- A written name is encoded in the sense of `Stands` in the octets up to any later end.
-pub stands_within : {m : Memory} {b : List ℕ} {q p : ℕ} {name : Labels} (end : ℕ) → Remembers b m → q ≤ end → name_size name ≤ max_size
-    → Spelled m b q p name → Stands (take end b) p name
-stands_within end r l short s = spelled_stands (remembers_cut end r) short (spelled_cut end l s)
+-- A written name is encoded in the sense of `NameAt` in the octets up to any later end.
+pub name_at_up_to : {m : Memory} {b : List ℕ} {q p : ℕ} {name : Labels} (end : ℕ) → Remembers b m → q ≤ end → name_size name ≤ max_size
+    → Spelled m b q p name → NameAt (take end b) p name
+name_at_up_to end r l short s = spelled_stands (remembers_cut end r) short (spelled_cut end l s)
 
 -- Its encoding ends at the same offset there.
 pub walked_within : {m : Memory} {b : List ℕ} {q p : ℕ} {name : Labels} (end : ℕ) → Remembers b m → q ≤ end → name_size name ≤ max_size

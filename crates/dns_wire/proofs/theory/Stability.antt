@@ -2,10 +2,10 @@
 use Rattle.std.proofs.Common.{◌≡◌, ℕ, zero, suc, ◌+◌, ◌-◌, ◌<◌, ◌≤◌, ◌⊎◌, inl, inr, List, [], ◌∷◌, ◌++◌, take, drop, length, length-append, length-take, length-drop, append_assoc, arith, ap, sym, ◌∙◌, refl, subst}
 use Rattle.std.specs.Prelude.{Option, Some, None, Ok, slice_get}
 use Rattle.std.specs.FinMap.{get}
-use Rattle.dns_name.specs.Names.{Labels, name_size, max_size, head_at, Stands, label_at}
+use Rattle.dns_name.specs.Names.{Labels, name_size, max_size, head_at, NameAt, label_at}
 use Rattle.dns_wire.specs.Pieces.{Memory, Spot, IsAtOrAfter}
-use Rattle.dns_wire.specs.TargetLaws.{StandsIn, Agree, StandsWhenOverwritten, NamesAreAtOrAfter}
-use Rattle.dns_wire.specs.TargetLaws.StandsIn.{root, label, pointer}
+use Rattle.dns_wire.specs.TargetLaws.{NameAtWithin, Agree, NamesStayWhenOverwritten, NamesAreAtOrAfter}
+use Rattle.dns_wire.specs.TargetLaws.NameAtWithin.{root, label, pointer}
 use Rattle.dns_octets.specs.Octets.{overwritten}
 use Rattle.dns_wire.specs.Targets.{Spelled, Remembers}
 use Rattle.dns_name.specs.declared.head.Head.TheVariants.{Root, Label, Pointer}
@@ -15,18 +15,18 @@ use Rattle.dns_wire.proofs.theory.SpelledNames as octets_at
 use Rattle.dns_wire.proofs.theory.SpelledNames.{spelled_long, kept_spelled}
 
 -- An encoded name uses only octets of its content.
-pub stands_in : {b : List ℕ} {p : ℕ} {name : Labels} → Stands b p name → StandsIn b 0 (length b) p name
-stands_in {b = b} (Stands.root {p = p} h) = let w = root_within b p h in root (omega arith) (omega arith) h
-stands_in (Stands.label h w x z) = label (omega arith) w h (stands_in x) z
-stands_in {b = b} (Stands.pointer {p = p} {t = t} h back x) =
+pub name_at_within : {b : List ℕ} {p : ℕ} {name : Labels} → NameAt b p name → NameAtWithin b 0 (length b) p name
+name_at_within {b = b} (NameAt.root {p = p} h) = let w = root_within b p h in root (omega arith) (omega arith) h
+name_at_within (NameAt.label h w x z) = label (omega arith) w h (name_at_within x) z
+name_at_within {b = b} (NameAt.pointer {p = p} {t = t} h back x) =
     let w = pointer_within b p t h in
-    pointer (omega arith) (omega arith) h back (stands_in x)
+    pointer (omega arith) (omega arith) h back (name_at_within x)
 
 -- A name that uses only octets in lo..hi is encoded at its offset.
-pub in_stands : {b : List ℕ} {lo hi p : ℕ} {name : Labels} → hi ≤ length b → StandsIn b lo hi p name → Stands b p name
-in_stands l (root low high h) = Stands.root h
-in_stands l (label {p = p} {n = n} low high h x z) = Stands.label h (omega arith) (in_stands l x) z
-in_stands l (pointer low high h back x) = Stands.pointer h back (in_stands l x)
+pub name_of_within : {b : List ℕ} {lo hi p : ℕ} {name : Labels} → hi ≤ length b → NameAtWithin b lo hi p name → NameAt b p name
+name_of_within l (root low high h) = NameAt.root h
+name_of_within l (label {p = p} {n = n} low high h x z) = NameAt.label h (omega arith) (name_of_within l x) z
+name_of_within l (pointer low high h back x) = NameAt.pointer h back (name_of_within l x)
 
 -- An optional octet before other octets.
 abbrev before_others : Option ℕ → List ℕ → List ℕ
@@ -69,10 +69,10 @@ agree_pointer : {b c : List ℕ} {lo hi p t : ℕ} → Agree b c lo hi → lo �
 agree_pointer {b = b} {c = c} {p = p} {t = t} a low high h = sym (same_head b c p (a.same p low (omega arith)) (a.same (p + 1) (omega arith) (omega arith))) ∙ h
 
 -- A name is encoded in all octets that agree on those that it uses.
-pub agreed : {b c : List ℕ} {lo hi p : ℕ} {name : Labels} → Agree b c lo hi → StandsIn b lo hi p name → StandsIn c lo hi p name
+pub agreed : {b c : List ℕ} {lo hi p : ℕ} {name : Labels} → Agree b c lo hi → NameAtWithin b lo hi p name → NameAtWithin c lo hi p name
 agreed a (root low high h) = root low high (agree_root a low high h)
 agreed {b = b} {c = c} {lo = lo} {hi = hi} a (label {p = p} {n = n} {name = name} low high h x z) =
-    let P : List ℕ → Type 0 = λ first. StandsIn c lo hi p (first ∷ name) in
+    let P : List ℕ → Type 0 = λ first. NameAtWithin c lo hi p (first ∷ name) in
     subst P (sym (same_label b c lo hi p n a low high)) (label low high (agree_label a low (omega arith) h) (agreed a x) z)
 agreed a (pointer low high h back x) = pointer low high (agree_pointer a low high h) back (agreed a x)
 
@@ -103,8 +103,8 @@ agree_append : (b c : List ℕ) → Agree b (b ++ c) 0 (length b)
 agree_append b c = record { long = omega (arith, length-append b c); same = λ k l h. get_append b c k h }
 
 -- An encoded name is encoded in every longer content.
-pub stands_append : {b : List ℕ} {p : ℕ} {name : Labels} (c : List ℕ) → Stands b p name → Stands (b ++ c) p name
-stands_append {b = b} c s = in_stands (omega (arith, length-append b c)) (agreed (agree_append b c) (stands_in s))
+pub name_at_append : {b : List ℕ} {p : ℕ} {name : Labels} (c : List ℕ) → NameAt b p name → NameAt (b ++ c) p name
+name_at_append {b = b} c s = name_of_within (omega (arith, length-append b c)) (agreed (agree_append b c) (name_at_within s))
 
 -- Octets agree before overwritten ones.
 agree_front : (b over : List ℕ) (offset lo hi : ℕ) → offset + length over ≤ length b → hi ≤ offset → Agree b (take offset b ++ (over ++ drop (offset + length over) b)) lo hi
@@ -142,25 +142,25 @@ agree_overwritten b over offset lo hi fits l (inl w) = agree_back b over offset 
 agree_overwritten b over offset lo hi fits l (inr w) = agree_front b over offset lo hi fits w
 
 -- A name is still encoded after octets that it doesn't use are overwritten.
-pub stands_when_overwritten : StandsWhenOverwritten
-stands_when_overwritten t offset over lo hi p name fits l w s =
+pub names_stay_when_overwritten : NamesStayWhenOverwritten
+names_stay_when_overwritten t offset over lo hi p name fits l w s =
     let b = t.octets in
     let e : take offset b ++ (over ++ drop (offset + length over) b) ≡ overwritten b offset over = sym (append_assoc (take offset b) over (drop (offset + length over) b)) in
-    subst (λ (c : List ℕ). StandsIn c lo hi p name) e (agreed (agree_overwritten b over offset lo hi fits l w) s)
+    subst (λ (c : List ℕ). NameAtWithin c lo hi p name) e (agreed (agree_overwritten b over offset lo hi fits l w) s)
 
 -- A name that uses octets in lo..hi uses octets in lo..top, if hi ≤ top.
-wider_in : {b : List ℕ} {lo hi top p : ℕ} {name : Labels} → hi ≤ top → StandsIn b lo hi p name → StandsIn b lo top p name
+wider_in : {b : List ℕ} {lo hi top p : ℕ} {name : Labels} → hi ≤ top → NameAtWithin b lo hi p name → NameAtWithin b lo top p name
 wider_in l (root low high h) = root low (omega arith) h
 wider_in l (label {p = p} {n = n} low high h x z) = label low (omega arith) h (wider_in l x) z
 wider_in l (pointer low high h back x) = pointer low (omega arith) h back (wider_in l x)
 
 -- A name encoded up to q uses no octet before lo, if the same holds for each entry of the table whose name ends before q.
-in_if : {m : Memory} {b : List ℕ} {lo q : ℕ} → Remembers b m → ((s : Labels) (x : Spot) → get m s ≡ Some x → x.end < q → StandsIn b lo x.end x.offset s)
-    → {p : ℕ} {name : Labels} → lo ≤ p → name_size name ≤ max_size → Spelled m b q p name → StandsIn b lo q p name
+in_if : {m : Memory} {b : List ℕ} {lo q : ℕ} → Remembers b m → ((s : Labels) (x : Spot) → get m s ≡ Some x → x.end < q → NameAtWithin b lo x.end x.offset s)
+    → {p : ℕ} {name : Labels} → lo ≤ p → name_size name ≤ max_size → Spelled m b q p name → NameAtWithin b lo q p name
 in_if r ih low short (Spelled.root h e) = root low (omega arith) (octets_at.root_at h)
 in_if {b = b} {lo = lo} {q = q} r ih low short (Spelled.label {p = p} {first = first} {rest = rest} l h x) =
     let w = spelled_long x in
-    let P : List ℕ → Type 0 = λ first. StandsIn b lo q p (first ∷ rest) in
+    let P : List ℕ → Type 0 = λ first. NameAtWithin b lo q p (first ∷ rest) in
     subst P (octets_at.label_octets h) (label low (omega arith) (octets_at.label_begins l h) (in_if r ih (omega arith) (omega arith) x) (omega arith))
 in_if r ih low short (Spelled.pointer {p = p} {name = name} {x = x} e before h is) =
     let k = r.each name x e in
@@ -169,7 +169,7 @@ in_if r ih low short (Spelled.pointer {p = p} {name = name} {x = x} e before h i
 
 -- By induction on the end.
 in_below : {m : Memory} {b : List ℕ} {lo : ℕ} → Remembers b m → IsAtOrAfter m lo → (k q p : ℕ) (name : Labels) → q < k → lo ≤ p → name_size name ≤ max_size
-    → Spelled m b q p name → StandsIn b lo q p name
+    → Spelled m b q p name → NameAtWithin b lo q p name
 in_below r all zero q p name h low short s = absurd (omega arith)
 in_below r all (suc k) q p name h low short s =
     in_if r (λ t x e less. let kept = r.each t x e in in_below r all k x.end x.offset t (omega arith) (all.each t x e) kept.short (kept_spelled t x kept)) low short s

@@ -7,12 +7,12 @@ use Rattle.dns_wire.specs.Pieces.{Memory, Rule}
 use Rattle.dns_wire.specs.Parts.{put_parts, WellPointed, Part, Octets, CompressibleName, AreParts, PartsFill, LabelsNear}
 use Rattle.dns_wire.specs.Targets.{Spelled, Labelled, Remembers, lay, Written, IsTarget}
 use Rattle.dns_wire.specs.Targets.Spelled.{root, label, pointer}
-use Rattle.dns_wire.specs.TargetLaws.{RemembersWhatStands, NothingIsTarget, EncodersStayAtOrAfter, NamesStayAtOrAfter, NamesReadBack, PartsReadBack}
+use Rattle.dns_wire.specs.TargetLaws.{EntriesAreNames, NothingIsTarget, EncodersStayAtOrAfter, NamesStayAtOrAfter, NamesReadBack, PartsReadBack}
 use Rattle.dns_wire.specs.Spelling.{PartsPointToLabels, ShortPartsAreNear}
 use Rattle.dns_wire.proofs.theory.Memories.{at_or_after_more, nothing_is_kept}
 use Rattle.dns_wire.proofs.theory.PutNames.{put_name_grows}
-use Rattle.dns_wire.proofs.theory.SpelledNames.{root_at, label_begins, pointer_at, spelled_long, kept_spelled, spelled_stands, spelled_walked, stands_within}
-use Rattle.dns_wire.proofs.theory.PieceLaws.{puts_put_name, puts_parts, parts_stand, HasName, HasParts}
+use Rattle.dns_wire.proofs.theory.SpelledNames.{root_at, label_begins, pointer_at, spelled_long, kept_spelled, spelled_stands, spelled_walked, name_at_up_to}
+use Rattle.dns_wire.proofs.theory.PieceLaws.{puts_put_name, puts_parts, parts_at, HasName, HasParts}
 
 -- A label begins where an encoded name begins with one.
 begins : (m : Memory) (b : List ℕ) (q p : ℕ) (name : Labels) → Labelled m b q p name → (n : ℕ) × (head_at b p ≡ Ok (Label n))
@@ -29,8 +29,8 @@ pointed {m = m} {b = b} r (pointer {name = name} {x = x} e before h is) =
     WellPointed.pointer (pointer_at x.offset k.near h) (omega (arith, w.0)) k.near (begins m b x.end x.offset name k.spelled).1 is
 
 -- Suffixes in the table are encoded where it says.
-pub remembers_what_stands : RemembersWhatStands
-remembers_what_stands b m s x r e =
+pub entries_are_names : EntriesAreNames
+entries_are_names b m s x r e =
     let k = r.each s x e in
     let h = kept_spelled s x k in
     let w = spelled_long h in
@@ -39,8 +39,8 @@ remembers_what_stands b m s x r e =
       ordered = w.0;
       within = w.1;
       labelled = begins m b x.end x.offset s k.spelled;
-      stands = spelled_stands r k.short h;
-      stands_within = stands_within x.end r (omega arith) k.short h;
+      encoded = spelled_stands r k.short h;
+      name_at_up_to = name_at_up_to x.end r (omega arith) k.short h;
     }
 
 -- An empty table is sound for all octets.
@@ -61,14 +61,14 @@ names_read_back rule t name is h =
     let p = puts_put_name rule name is in
     let u = p.keeps t h in
     let s = p.puts t h in
-    record { stands = spelled_stands u is.short s; walked = spelled_walked 0 u (omega (arith, is.short)) s; pointed = pointed u s }
+    record { encoded = spelled_stands u is.short s; walked = spelled_walked 0 u (omega (arith, is.short)) s; pointed = pointed u s }
 
 -- Written parts read back.
 pub parts_read_back : PartsReadBack
 parts_read_back rule t parts is h =
     let p = puts_parts rule parts is in
     let u = lay (put_parts rule parts) t in
-    (parts_stand parts u (length t.octets) (length u.octets) is (p.keeps t h) (p.puts t h), p.keeps t h)
+    (parts_at parts u (length t.octets) (length u.octets) is (p.keeps t h) (p.puts t h), p.keeps t h)
 
 -- The labels and the pointers of written parts.
 

@@ -1,7 +1,7 @@
 use Rattle.std.proofs.Common.{Err, [], ◌∷◌, ap, ◌∙◌}
 use Rattle.std.proofs.lemmas.Result.{err_from_is_err_and}
 use Rattle.dns_name.specs.ParsedName.{labels}
-use Rattle.dns_name.specs.Unique.{standing_name}
+use Rattle.dns_name.specs.Unique.{encoded_name}
 use Rattle.dns_wire.specs.Parts.{Octets, CompressibleName}
 use Rattle.dns_any_data.proofs.any_data.append_name.Goals as goal
 
@@ -19,7 +19,7 @@ returns-clause-composes g c =
     (c.parts_compose.ensures.one _ _ g.T.Composer.rule (CompressibleName (labels c.args.name.now)) _ _ _ c.append_compressed_name.ensures)
 
 pub returns-in_err-append_slice-clause-is_name : goal.returns-in_err-append_slice-clause-is_name
-returns-in_err-append_slice-clause-is_name g c = standing_name c.args.name.now.name_at.0.1
+returns-in_err-append_slice-clause-is_name g c = encoded_name c.args.name.now.name_at.0.1
 
 pub returns-clause-is_name : goal.returns-clause-is_name
-returns-clause-is_name g c = standing_name c.args.name.now.name_at.0.1
+returns-clause-is_name g c = encoded_name c.args.name.now.name_at.0.1

@@ -1,7 +1,7 @@
 use Rattle.std.proofs.Common.{Err, [], ◌∷◌, ap, ◌∙◌}
 use Rattle.std.proofs.lemmas.Result.{err_from_is_err_and}
 use Rattle.dns_name.specs.ParsedName.{labels}
-use Rattle.dns_name.specs.Unique.{standing_name}
+use Rattle.dns_name.specs.Unique.{encoded_name}
 use Rattle.dns_wire.specs.Parts.{Octets, CompressibleName}
 use Rattle.dns_any_data.proofs.any_data.append_names.Goals as goal
 
@@ -30,19 +30,19 @@ returns-clause-composes g c =
     (c.parts_compose.ensures.one _ _ g.T.Composer.rule (Octets c.args.octets.now) _ _ _ c.append_slice.ensures))
 
 pub returns-in_err-append_compressed_name-clause-first : goal.returns-in_err-append_compressed_name-clause-first
-returns-in_err-append_compressed_name-clause-first g c = standing_name c.args.first.now.name_at.0.1
+returns-in_err-append_compressed_name-clause-first g c = encoded_name c.args.first.now.name_at.0.1
 
 pub returns-in_err-append_compressed_name-clause-second : goal.returns-in_err-append_compressed_name-clause-second
-returns-in_err-append_compressed_name-clause-second g c = standing_name c.args.second.now.name_at.0.1
+returns-in_err-append_compressed_name-clause-second g c = encoded_name c.args.second.now.name_at.0.1
 
 pub returns-in_err-append_compressed_name-2-clause-first : goal.returns-in_err-append_compressed_name-2-clause-first
-returns-in_err-append_compressed_name-2-clause-first g c = standing_name c.args.first.now.name_at.0.1
+returns-in_err-append_compressed_name-2-clause-first g c = encoded_name c.args.first.now.name_at.0.1
 
 pub returns-in_err-append_compressed_name-2-clause-second : goal.returns-in_err-append_compressed_name-2-clause-second
-returns-in_err-append_compressed_name-2-clause-second g c = standing_name c.args.second.now.name_at.0.1
+returns-in_err-append_compressed_name-2-clause-second g c = encoded_name c.args.second.now.name_at.0.1
 
 pub returns-clause-first : goal.returns-clause-first
-returns-clause-first g c = standing_name c.args.first.now.name_at.0.1
+returns-clause-first g c = encoded_name c.args.first.now.name_at.0.1
 
 pub returns-clause-second : goal.returns-clause-second
-returns-clause-second g c = standing_name c.args.second.now.name_at.0.1
+returns-clause-second g c = encoded_name c.args.second.now.name_at.0.1

@@ -4,7 +4,7 @@ use Rattle.std.specs.Result.{result_ok}
 use Rattle.dns_read.specs.Message.{message_octets}
 use Rattle.dns_section.specs.QuestionSection.{questions_left}
 use Rattle.dns_build.specs.Answers.{readable_questions}
-use Rattle.dns_build.specs.Standing.{InEach}
+use Rattle.dns_build.specs.BuilderStates.{InEach}
 use Rattle.dns_build.specs.State.{InQuestion}
 use Rattle.dns_build.proofs.AnswerLemmas.{Pushing}
 use Rattle.dns_build.proofs.answer.push_questions.Given as goal

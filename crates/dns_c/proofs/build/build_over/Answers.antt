@@ -58,12 +58,12 @@ returns-clause-made g c =
     let asked = c.in_ok-push_questions.ensures.pushed m.0 m.1 _ (c.question-questions.ensures _ set) in
     let answered = c.in_ok-push_records.ensures.pushed m.0 m.1 _ (c.answer-answers.ensures _ asked) in
     let authorized = c.in_ok-push_records-2.ensures.pushed m.0 m.1 _ (c.authority-authorities.ensures _ answered) in
-    let stands = c.in_ok-push_records-3.ensures.pushed m.0 m.1 _ (c.additional-additionals.ensures _ authorized) in
+    let represents = c.in_ok-push_records-3.ensures.pushed m.0 m.1 _ (c.additional-additionals.ensures _ authorized) in
     let octets = (t.written c.finish.result).octets in
     record {
       entries = m.0;
       mean = m.1;
       message =
           subst (λ (h : Header). IsMessageOf t.rule (holding h m.0) octets) c.header_of.ensures
-          (is_message t.rule _ octets stands.state (ap (λ (w : Written). w.octets) (c.finish.ensures.fold _ stands)));
+          (is_message t.rule _ octets represents.state (ap (λ (w : Written). w.octets) (c.finish.ensures.fold _ represents)));
     }

@@ -1,7 +1,7 @@
 use Rattle.std.proofs.Common.{◌+◌, ap, drop, refl, subst, sym}
 use Rattle.std.specs.Prelude.{Err}
 use Rattle.std.proofs.lemmas.Result.{err_from_is_err_and}
-use Rattle.dns_build.specs.Standing.{Built}
+use Rattle.dns_build.specs.BuilderStates.{Built}
 use Rattle.dns_c.proofs.BuildLemmas.{Asking, asking_begins, asking_ends, asking_named, asking_passes, asking_refused, asking_takes, next_item, no_items, refused_answers}
 use Rattle.dns_c.proofs.build.push_questions.Goals as goal
 use Rattle.dns_c.proofs.build.push_questions.Goals.{then-item-eq-QUESTION+in_ok-question_of+in_ok-push, else-item-eq-QUESTION}
@@ -10,7 +10,7 @@ pub returns-in_err-question_of-clause-stopped : goal.returns-in_err-question_of-
 returns-in_err-question_of-clause-stopped g c =
     let p = err_from_is_err_and c.from_residual.result c.from_residual.ensures.1 in
     let next = next_item c.args.items.now c.loop-item.item-index _ c.loop-item-test.true in
-    rw p.1 (λ xs mean s stands. absurd (asking_named _ _ _ _ next xs s _ (c.loop-item.invariant xs mean s stands) c.in_err-question_of.ensures.none.1))
+    rw p.1 (λ xs mean s represents. absurd (asking_named _ _ _ _ next xs s _ (c.loop-item.invariant xs mean s represents) c.in_err-question_of.ensures.none.1))
 
 pub returns-in_err-push-clause-stopped : goal.returns-in_err-push-clause-stopped
 returns-in_err-push-clause-stopped g c =
@@ -19,17 +19,17 @@ returns-in_err-push-clause-stopped g c =
     let h = c.in_err-push.ensures in
     let e = c.in_err-push.field-0.0 in
     rw (p.1, p.2)
-    (λ xs mean s stands.
-    asking_refused _ _ _ _ next xs s _ (c.loop-item.invariant xs mean s stands) _ _ _ e c.if-item-eq-QUESTION.true c.in_ok-question_of.ensures.question
+    (λ xs mean s represents.
+    asking_refused _ _ _ _ next xs s _ (c.loop-item.invariant xs mean s represents) _ _ _ e c.if-item-eq-QUESTION.true c.in_ok-question_of.ensures.question
     (λ t there. refused_answers _ _ _ _ _ e (λ is. h.short (ap Err is) t there) (λ is. h.memory (ap Err is)) (λ is. h.limit (ap Err is) t there) (λ is. h.count (ap Err is) t there)))
 
 pub loop-item-init : goal.loop-item-init
-loop-item-init g c = λ xs mean s stands. asking_begins _ _ _ xs s _ refl mean stands
+loop-item-init g c = λ xs mean s represents. asking_begins _ _ _ xs s _ refl mean represents
 
 pub loop-item-preserved : goal.loop-item-preserved
 loop-item-preserved g c =
-    λ xs mean s stands.
-    let h = c.loop-item.invariant xs mean s stands in
+    λ xs mean s represents.
+    let h = c.loop-item.invariant xs mean s represents in
     let next = next_item c.args.items.now c.loop-item.item-index _ c.loop-item-test.true in
     let left = drop (c.loop-item.item-index + 1) c.args.items.now in
     elim c.if-item-eq-QUESTION.branch [
@@ -42,4 +42,4 @@ loop-item-preserved g c =
     ]
 
 pub returns-clause-pushed : goal.returns-clause-pushed
-returns-clause-pushed g c = λ xs mean s stands. asking_ends _ _ xs s _ (no_items c.args.items.now c.loop-item.item-index c.loop-item-test.false) (c.loop-item.invariant xs mean s stands)
+returns-clause-pushed g c = λ xs mean s represents. asking_ends _ _ xs s _ (no_items c.args.items.now c.loop-item.item-index c.loop-item-test.false) (c.loop-item.invariant xs mean s represents)

@@ -1,7 +1,7 @@
 use Rattle.std.proofs.Common.{◌∙◌, ◌+◌, ap, drop, refl, subst, sym}
 use Rattle.std.specs.Prelude.{Err}
 use Rattle.std.proofs.lemmas.Result.{err_from_is_err_and}
-use Rattle.dns_build.specs.Standing.{Built}
+use Rattle.dns_build.specs.BuilderStates.{Built}
 use Rattle.dns_c.proofs.BuildLemmas.{Stating, at_depth, next_item, no_items, not_at_depth, refused_answers, stating_begins, stating_ends, stating_named, stating_passes, stating_refused, stating_takes}
 use Rattle.dns_c.proofs.build.push_records.Goals as goal
 use Rattle.dns_c.proofs.build.push_records.Goals.{then-from-DEPTH+in_ok-record_of+in_ok-push, else-from-DEPTH}
@@ -11,9 +11,9 @@ returns-in_err-record_of-clause-stopped g c =
     let p = err_from_is_err_and c.from_residual.result c.from_residual.ensures.1 in
     let next = next_item c.args.items.now c.loop-item.item-index _ c.loop-item-test.true in
     rw p.1
-    (λ xs mean s stands.
+    (λ xs mean s represents.
     absurd
-    (stating_named _ _ _ _ _ _ next xs s _ (c.loop-item.invariant xs mean s stands) _ (at_depth _ _ g.S.BuilderStage.DEPTH c.from.result _ g.met.S.RecordStage.at g.S.BuilderStage.depth (c.if-from-DEPTH.true ∙ c.DEPTH.ensures) c.from.ensures)
+    (stating_named _ _ _ _ _ _ next xs s _ (c.loop-item.invariant xs mean s represents) _ (at_depth _ _ g.S.BuilderStage.DEPTH c.from.result _ g.met.S.RecordStage.at g.S.BuilderStage.depth (c.if-from-DEPTH.true ∙ c.DEPTH.ensures) c.from.ensures)
     c.in_err-record_of.ensures.none))
 
 pub returns-in_err-push-clause-stopped : goal.returns-in_err-push-clause-stopped
@@ -23,18 +23,18 @@ returns-in_err-push-clause-stopped g c =
     let h = c.in_err-push.ensures in
     let e = c.in_err-push.field-0.0 in
     rw (p.1, p.2)
-    (λ xs mean s stands.
-    stating_refused _ _ _ _ _ _ next xs s _ (c.loop-item.invariant xs mean s stands) _ _ _ e (at_depth _ _ g.S.BuilderStage.DEPTH c.from.result _ g.met.S.RecordStage.at g.S.BuilderStage.depth (c.if-from-DEPTH.true ∙ c.DEPTH.ensures) c.from.ensures)
+    (λ xs mean s represents.
+    stating_refused _ _ _ _ _ _ next xs s _ (c.loop-item.invariant xs mean s represents) _ _ _ e (at_depth _ _ g.S.BuilderStage.DEPTH c.from.result _ g.met.S.RecordStage.at g.S.BuilderStage.depth (c.if-from-DEPTH.true ∙ c.DEPTH.ensures) c.from.ensures)
     c.in_ok-record_of.ensures.made
     (λ t there. refused_answers _ _ _ _ _ e (λ is. h.short (ap Err is) t there) (λ is. h.memory (ap Err is)) (λ is. h.limit (ap Err is) t there) (λ is. h.count (ap Err is) t there)))
 
 pub loop-item-init : goal.loop-item-init
-loop-item-init g c = λ xs mean s stands. stating_begins _ _ _ _ _ xs s _ refl mean stands
+loop-item-init g c = λ xs mean s represents. stating_begins _ _ _ _ _ xs s _ refl mean represents
 
 pub loop-item-preserved : goal.loop-item-preserved
 loop-item-preserved g c =
-    λ xs mean s stands.
-    let h = c.loop-item.invariant xs mean s stands in
+    λ xs mean s represents.
+    let h = c.loop-item.invariant xs mean s represents in
     let next = next_item c.args.items.now c.loop-item.item-index _ c.loop-item-test.true in
     let left = drop (c.loop-item.item-index + 1) c.args.items.now in
     elim c.if-from-DEPTH.branch [
@@ -47,4 +47,4 @@ loop-item-preserved g c =
     ]
 
 pub returns-clause-pushed : goal.returns-clause-pushed
-returns-clause-pushed g c = λ xs mean s stands. stating_ends _ _ _ _ xs s _ (no_items c.args.items.now c.loop-item.item-index c.loop-item-test.false) (c.loop-item.invariant xs mean s stands)
+returns-clause-pushed g c = λ xs mean s represents. stating_ends _ _ _ _ xs s _ (no_items c.args.items.now c.loop-item.item-index c.loop-item-test.false) (c.loop-item.invariant xs mean s represents)

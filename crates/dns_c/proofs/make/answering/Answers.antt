@@ -39,11 +39,11 @@ returns c =
     let second = c.question-builder.ensures _ first in
     let third = c.in_ok-push.ensures.accepted _ second in
     let fourth = c.answer-builder.ensures _ third in
-    let stands = c.in_ok-push-2.ensures.accepted _ fourth in
+    let represents = c.in_ok-push-2.ensures.accepted _ fourth in
     let item = address_item x _ c.args.ttl _ c.args.address.now (ap labels c.qname.ensures) refl c.qclass.ensures c.from_secs.ensures refl c.address_of.ensures.value in
-    let folded = ap (λ (w : Written). w.octets) (c.finish.ensures.fold _ stands) in
+    let folded = ap (λ (w : Written). w.octets) (c.finish.ensures.fold _ represents) in
     let sized = answered_short c.args.header x c.args.ttl c.args.address.now first.state.header c.address_of.ensures.four (parsed_is c.args.question.qname) in
     let size = subst (λ (y : RecordItem). length (fold Static (answering c.args.header x y)).octets ≤ 512) (sym item) sized in (
-      subst (λ (y : RecordItem). IsMessageOf Static (answering c.args.header x y) c.finish.result.octets) item (is_message Static _ c.finish.result.octets stands.state folded),
+      subst (λ (y : RecordItem). IsMessageOf Static (answering c.args.header x y) c.finish.result.octets) item (is_message Static _ c.finish.result.octets represents.state folded),
       subst (λ (octets : List ℕ). length octets ≤ 512) (sym folded) size,
     )

@@ -10,4 +10,4 @@ pub overflow_cast-result-3 : goal.overflow_cast-result-3
 overflow_cast-result-3 c = let n = short_and_few _ _ _ _ c.args.name.now.name_at in omega (arith, n.0, n.1)
 
 pub returns : goal.returns
-returns c = λ b stands known. let n = c.args.name.now.name_at in ((labels c.args.name.now, stands), n.1, n.2)
+returns c = λ b encoded known. let n = c.args.name.now.name_at in ((labels c.args.name.now, encoded), n.1, n.2)

@@ -1,5 +1,5 @@
 use Rattle.std.proofs.Common.{rules, arith}
-use Rattle.dns_name.proofs.theory.LabelsLemmas.{name_stands, short_and_few}
+use Rattle.dns_name.proofs.theory.LabelsLemmas.{name_encoded, short_and_few}
 use Rattle.dns_name.proofs.theory.Names.{one_name, not_both}
 use Rattle.dns_name.proofs.near_reading.parse_near.Goals as goal
 
@@ -13,4 +13,4 @@ pub overflow_cast-result-2 : goal.overflow_cast-result-2
 overflow_cast-result-2 c = let n = short_and_few _ _ _ _ c.in_ok-extent.ensures.arrives.name in omega (arith, n.0, n.1)
 
 pub returns-clause-name : goal.returns-clause-name
-returns-clause-name c other x = one_name _ _ _ other (search (rules, name_stands)) x
+returns-clause-name c other x = one_name _ _ _ other (search (rules, name_encoded)) x

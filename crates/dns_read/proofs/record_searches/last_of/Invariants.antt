@@ -1,7 +1,7 @@
 use Rattle.std.proofs.Common.{◌≡◌, length}
 use Rattle.std.specs.Prelude.{Ok, IfSome, option_map}
 use Rattle.dns_item.specs.DataAnswer.{HasSpan}
-use Rattle.dns_item.specs.ParsedRecord.{standing_record}
+use Rattle.dns_item.specs.ParsedRecord.{encoded_record}
 use Rattle.dns_section.specs.RecordSection.{records_left, record_answer}
 use Rattle.dns_read.specs.RecordSearches.{last_item}
 use Rattle.dns_read.proofs.RecordSearchLemmas.{last_after}
@@ -10,7 +10,7 @@ use Rattle.dns_read.proofs.record_searches.last_of.Given as goal
 abbrev pub invariant-loop-record : goal.invariant-loop-record
 invariant-loop-record l =
     (last_after (option_map (λ r. record_answer (Ok r)) l.last) (records_left l.section) ≡ last_item (records_left l.fn.section))
-    × IfSome l.last (λ r. HasSpan (standing_record r))
+    × IfSome l.last (λ r. HasSpan (encoded_record r))
 
 abbrev pub decreases-loop-record : goal.decreases-loop-record
 decreases-loop-record l = length (records_left l.section)

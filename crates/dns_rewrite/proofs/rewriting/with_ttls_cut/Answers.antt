@@ -27,8 +27,8 @@ returns-clause-cut g c =
     record {
       readable = c.in_ok-check.ensures;
       state = with_copies all.answers all.authorities all.additionals (begun _);
-      octets = c.into_message.ensures.octets ∙ ap (λ (w : Written). w.octets) all.stands.written;
-      reads_back = c.into_message.ensures.reads_back _ all.stands;
+      octets = c.into_message.ensures.octets ∙ ap (λ (w : Written). w.octets) all.represents.written;
+      reads_back = c.into_message.ensures.reads_back _ all.represents;
       header = refl;
       questions = refl;
       answers = answers.0;

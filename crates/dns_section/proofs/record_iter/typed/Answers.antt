@@ -7,7 +7,7 @@ use Rattle.dns_wire.specs.Parts.{Part}
 use Rattle.dns_data.specs.Layout.{Layout}
 use Rattle.dns_item.specs.DataAnswer.{HasSpan}
 use Rattle.dns_item.specs.Items.{RecordItem}
-use Rattle.dns_item.specs.ParsedRecord.{octets_of, parsed_entry, standing_record}
+use Rattle.dns_item.specs.ParsedRecord.{octets_of, parsed_entry, encoded_record}
 use Rattle.dns_item.specs.RecordReading.{AnswersTaken}
 use Rattle.dns_item.specs.TypedRecords.{typed_answer}
 use Rattle.dns_item.specs.declared.parsed_record.ParsedRecord.{ParsedRecord}
@@ -22,14 +22,14 @@ use Rattle.dns_section.proofs.record_iter.typed.Goals.{else-in_only-via-then-in_
 
 -- a record that isn't left out for its class
 record_taken : {D : Type 0} (rtype_of : D → ℕ) (parts_of : D → List Part) (layouts : ℕ → Option Layout) (in_only : Bool) (item : Result ParsedRecord ParseError) (r : ParsedRecord)
-    (read : Result (Option (Record ParsedName D)) ParseError) (result : Option (Result (Record ParsedName D) ParseError)) → item ≡ Ok r → HasSpan (standing_record r)
+    (read : Result (Option (Record ParsedName D)) ParseError) (result : Option (Result (Record ParsedName D) ParseError)) → item ≡ Ok r → HasSpan (encoded_record r)
     → AnswersTaken rtype_of parts_of (octets_of r) (parsed_entry r) (layouts (parsed_entry r).rtype) read → result ≡ result_transpose read
     → (in_only ≡ true → ((parsed_entry r).class == 1) ≡ true)
     → limited_by layouts in_only (record_answer item ∷ []) ≡ option_to_list (option_map (typed_answer rtype_of parts_of) result)
 record_taken {D = D} rtype_of parts_of layouts in_only item r read result is span answers transposed class =
     ap (λ (x : Result ParsedRecord ParseError). limited_by layouts in_only (record_answer x ∷ [])) is
-    ∙ limited_by-one layouts in_only (standing_record r) class
-    ∙ ap (λ (o : Option (Result RecordItem Fault)). option_to_list o) (sym (answer_to-answered rtype_of parts_of (standing_record r) span (layouts (parsed_entry r).rtype) read answers))
+    ∙ limited_by-one layouts in_only (encoded_record r) class
+    ∙ ap (λ (o : Option (Result RecordItem Fault)). option_to_list o) (sym (answer_to-answered rtype_of parts_of (encoded_record r) span (layouts (parsed_entry r).rtype) read answers))
     ∙ ap (λ (o : Option (Result (Record ParsedName D) ParseError)). option_to_list (option_map (typed_answer rtype_of parts_of) o)) (sym transposed)
 
 not_false : (b : Bool) → false ≡ not b → b ≡ true

@@ -5,7 +5,7 @@ use Rattle.dns_item.specs.RecordReading.{up_to_data_end}
 use Rattle.dns_data.specs.Printing.{opaque_text}
 use Rattle.dns_data.specs.UnknownData.{unknown_rtype_of, unknown_octets}
 use Rattle.dns_wire.specs.Parts.Part.{Octets}
-use Rattle.dns_item.specs.ParsedRecord.{standing_record}
+use Rattle.dns_item.specs.ParsedRecord.{encoded_record}
 use Rattle.dns_item.specs.Record.{data_of}
 use Rattle.dns_show.specs.Show.{line}
 use Rattle.dns_show.proofs.Lines.{printed_as}
@@ -13,11 +13,11 @@ use Rattle.dns_show.proofs.ShownRecords.{there, opaque_is_ok, same_text, printed
 use Rattle.dns_show.proofs.print.print_opaque.Goals as goal
 
 pub unwrap-record-requires : goal.unwrap-record-requires
-unwrap-record-requires g c = opaque_is_ok _ _ (standing_record c.args.record.now) c.requires.read c.requires.short c.to_any_record.result c.to_any_record.ensures.answers
+unwrap-record-requires g c = opaque_is_ok _ _ (encoded_record c.args.record.now) c.requires.read c.requires.short c.to_any_record.result c.to_any_record.ensures.answers
 
 pub returns : goal.returns
 returns g c =
-    let x = standing_record c.args.record.now in
+    let x = encoded_record c.args.record.now in
     let r = c.unwrap-record.result in
     let answers = rw c.unwrap-record.ensures at c.to_any_record.ensures.answers in
     let given = answers.gives (there x c.requires.read) in

@@ -5,7 +5,7 @@ use Rattle.std.specs.Prelude.{Option}
 use Rattle.dns_name.specs.NameTexts.{name_text}
 use Rattle.dns_name.specs.ParsedName.{labels}
 use Rattle.dns_wire.specs.Parts.{Part}
-use Rattle.dns_item.specs.ParsedRecord.{standing_record}
+use Rattle.dns_item.specs.ParsedRecord.{encoded_record}
 use Rattle.dns_item.specs.Record.{owner_of, class_of, ttl_of, data_of}
 use Rattle.dns_item.specs.RecordPrinting.{record_fields_text}
 use Rattle.dns_show.specs.Show.{line, text_with, typed_parts, data_parts, parts_text}
@@ -17,7 +17,7 @@ use Rattle.dns_show.proofs.print.print_parsed.Goals as goal
 
 pub returns-in-Ok-Some : goal.returns-in-Ok-Some
 returns-in-Ok-Some g c =
-    let x = standing_record c.args.record.now in
+    let x = encoded_record c.args.record.now in
     let r = c.in-Ok-Some.record in
     let answers = rw c.in-Ok-Some.field-0-is at c.in-Ok-Some.ensures.answers in
     let given = taken_data rtype_of parts_of x r (typed_layout x.entry.rtype) (answers.gives (there x c.requires.read)) in
@@ -31,14 +31,14 @@ returns-in-Ok-Some g c =
 
 pub returns-in-Ok-None : goal.returns-in-Ok-None
 returns-in-Ok-None g c =
-    let x = standing_record c.args.record.now in
+    let x = encoded_record c.args.record.now in
     let answers = rw (c.in-Ok-None.is, c.in-Ok-None.field-0-is) at c.to_record.ensures.answers in
     let parts = none_taken rtype_of parts_of x c.requires.read (typed_layout x.entry.rtype) (answers.gives (there x c.requires.read)) in
     subst (λ (o : Option (List Part)). OnOk c.print_opaque.result (Appends (g.W.Write.contents c.args.writer.now) (g.W.Write.contents c.print_opaque.new.writer) (line (c.args.word.now ++ codes " " ++ text_with x o)))) (sym parts) c.print_opaque.ensures
 
 pub returns-in-Err : goal.returns-in-Err
 returns-in-Err g c =
-    let x = standing_record c.args.record.now in
+    let x = encoded_record c.args.record.now in
     let answers = rw c.in-Err.is at c.to_record.ensures.answers in
     let parts = fault_taken rtype_of parts_of x c.requires.read c.in-Err.field-0 (typed_layout x.entry.rtype) (answers.gives (there x c.requires.read)) in
     subst (λ (o : Option (List Part)). OnOk c.print_opaque-in-Err.result (Appends (g.W.Write.contents c.args.writer.now) (g.W.Write.contents c.print_opaque-in-Err.new.writer) (line (c.args.word.now ++ codes " " ++ text_with x o)))) (sym parts) c.print_opaque-in-Err.ensures

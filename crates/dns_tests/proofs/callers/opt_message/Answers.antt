@@ -5,7 +5,7 @@ use Rattle.dns_octets.specs.declared.error.AppendError.{AppendError}
 use Rattle.dns_wire.specs.Pieces.{Rule}
 use Rattle.dns_opt_builder.specs.declared.builder.OptBuilder.{OptBuilder}
 use Rattle.dns_build.specs.Opt.{Gathers, OptAnswers, PushesOpt, opt_record, with_opt}
-use Rattle.dns_build.specs.Standing.{Built, fresh, size_after}
+use Rattle.dns_build.specs.BuilderStates.{Built, fresh, size_after}
 use Rattle.dns_build.specs.State.{State, InAdditional, move_to, with_record}
 use Rattle.dns_tests.proofs.callers.opt_message.Goals as goal
 
@@ -22,8 +22,8 @@ was_done room grows rule call s new v p = without_error room grows s.limit (size
 pub returns : goal.returns
 returns g c =
     let s : State = move_to InAdditional fresh in
-    let stands = c.additional-builder.ensures fresh c.in_ok-new_vec.ensures.fresh in
-    let p = c.in_ok-opt.ensures.pushes s stands in
+    let represents = c.additional-builder.ensures fresh c.in_ok-new_vec.ensures.fresh in
+    let p = c.in_ok-opt.ensures.pushes s represents in
     let done = was_done _ _ _ _ _ _ _ p in
     let read = c.opts_read_back.ensures p.g (with_opt p.g s) _ [] [] refl p.is_gathered (λ k d below is. omega (arith, below)) (c.into_message.ensures.reads_back (with_opt p.g s) p.accepted) in
     let rcode = ap (λ f. f.rcode) (c.rcode_is_set.ensures s.header p.g.header.rcode refl p.is_gathered.rcode) in

@@ -6,7 +6,7 @@ use Rattle.dns_data.specs.NameData.{nsdname_of}
 use Rattle.dns_item.specs.Items.{RecordItem}
 use Rattle.dns_item.specs.Record.{owner_of, class_of, ttl_of, data_of}
 use Rattle.dns_read.specs.Message.{message_octets}
-use Rattle.dns_build.specs.Standing.{fresh}
+use Rattle.dns_build.specs.BuilderStates.{fresh}
 use Rattle.dns_build.specs.State.{InAnswer, move_to, with_record}
 use Rattle.dns_tests.specs.Typed.{server_record, address_record}
 use Rattle.dns_tests.proofs.TypedReading.{state, one_server, one_address, name_first, octets_first}

@@ -2,12 +2,12 @@ use Rattle.dns_wire.proofs.theory.PutNames.{put_name_grows, put_octets_grows, pu
 use Rattle.dns_wire.proofs.theory.PieceLaws.{puts_put_name, puts_octets, cut_undoes}
 use Rattle.dns_wire.proofs.theory.SpelledNames.{remembers_cut, remembers_over}
 use Rattle.dns_wire.proofs.theory.Stability.{names_are_at_or_after}
-use Rattle.dns_wire.proofs.theory.TargetTheorems.{remembers_what_stands, nothing_is_target, encoders_stay_at_or_after, names_stay_at_or_after}
+use Rattle.dns_wire.proofs.theory.TargetTheorems.{entries_are_names, nothing_is_target, encoders_stay_at_or_after, names_stay_at_or_after}
 use Rattle.dns_wire.proofs.target_laws.memory_is_sound.Goals as goal
 
 pub returns : goal.returns
 returns c = record {
-  stands = remembers_what_stands;
+  encoded = entries_are_names;
   names_are_at_or_after = names_are_at_or_after;
   nothing = nothing_is_target;
   name = λ rule t name is h. (puts_put_name rule name is).keeps t h;

@@ -7,13 +7,13 @@ use Rattle.dns_build.specs.State.{State, with_header, with_questions}
 use Rattle.dns_build.proofs.answer.Builder+T+AtBuilder.try_start_answer.Goals as goal
 
 pub returns-in-Ok : goal.returns-in-Ok
-returns-in-Ok g c s stands =
-    let asks = rw c.in-Ok.is at c.push_questions.ensures _ (c.answering-builder.ensures s stands) in
+returns-in-Ok g c s represents =
+    let asks = rw c.in-Ok.is at c.push_questions.ensures _ (c.answering-builder.ensures s represents) in
     (asks.0, c.answer.ensures _ asks.1)
 
 pub returns-in-Err : goal.returns-in-Err
-returns-in-Err g c s stands =
-    let asks = rw c.in-Err.is at c.push_questions.ensures _ (c.answering-builder.ensures s stands) in
+returns-in-Err g c s represents =
+    let asks = rw c.in-Err.is at c.push_questions.ensures _ (c.answering-builder.ensures s represents) in
     let left : State = with_questions asks.0 (answering c.args.rcode (message_octets c.args.msg.now) s) in
     let header : c.with_rcode.result ≡ with_rcode 2 left.header = c.with_rcode.ensures ∙ ap (with_rcode 2) (c.header.ensures left asks.2) in (
       _,

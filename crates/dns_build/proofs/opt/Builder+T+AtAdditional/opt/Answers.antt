@@ -8,12 +8,12 @@ use Rattle.dns_wire.specs.Targets.{Fits, Passes}
 use Rattle.dns_code.specs.declared.header.Header.{Header}
 use Rattle.dns_build.specs.Opt.{opt_record, with_rcode}
 use Rattle.dns_build.specs.State.{State, InAdditional, with_record, with_header, most_entries}
-use Rattle.dns_build.specs.Standing.{size_after, StandsFor}
+use Rattle.dns_build.specs.BuilderStates.{size_after, Represents}
 use Rattle.dns_build.proofs.OptLemmas.{same_item, refused_answers, closure_refused, closure_done}
 use Rattle.dns_build.proofs.opt.Builder+T+AtAdditional.opt.Goals as goal
 
 pub returns-in_err-gather-clause-pushes : goal.returns-in_err-gather-clause-pushes
-returns-in_err-gather-clause-pushes g c = λ s stands.
+returns-in_err-gather-clause-pushes g c = λ s represents.
     let p = err_from_is_err_and c.from_residual.result c.from_residual.ensures.1 in
     let e = c.in_err-gather.field-0.0 in
     rw (p.1, p.2) (record {
@@ -22,7 +22,7 @@ returns-in_err-gather-clause-pushes g c = λ s stands.
       gathers = record {
         before = c.new-gathered.result;
         after = _;
-        fresh = c.new-gathered.ensures ∙ ap nothing_gathered (c.header.ensures s stands);
+        fresh = c.new-gathered.ensures ∙ ap nothing_gathered (c.header.ensures s represents);
         called = record { shown = _; shows = refl; left = _; met = c.gather.ensures; leaves = refl };
         left = refl;
       };
@@ -32,7 +32,7 @@ returns-in_err-gather-clause-pushes g c = λ s stands.
     })
 
 pub returns-in_err-push-clause-pushes : goal.returns-in_err-push-clause-pushes
-returns-in_err-push-clause-pushes g c = λ s stands.
+returns-in_err-push-clause-pushes g c = λ s represents.
     let p = err_from_is_err_and c.from_residual-in_err-push.result c.from_residual-in_err-push.ensures.1 in
     let e = c.in_err-push.field-0.0 in
     let h = c.in_err-push.ensures in
@@ -45,26 +45,26 @@ returns-in_err-push-clause-pushes g c = λ s stands.
       gathers = record {
         before = c.new-gathered.result;
         after = _;
-        fresh = c.new-gathered.ensures ∙ ap nothing_gathered (c.header.ensures s stands);
+        fresh = c.new-gathered.ensures ∙ ap nothing_gathered (c.header.ensures s represents);
         called = record { shown = _; shows = refl; left = _; met = c.gather.ensures; leaves = refl };
         left = refl;
       };
       answers = closure_done _ _ _ _ _ _ _ c.in_ok-gather.was (refused_answers _ _ _ _ _ e
-          (λ is. subst (λ x. Passes g.T.Composer.room (size x)) same (h.short (ap Err is) s stands))
+          (λ is. subst (λ x. Passes g.T.Composer.room (size x)) same (h.short (ap Err is) s represents))
           (λ is. h.memory (ap Err is))
-          (λ is. subst (λ x. Fits g.T.Composer.room (size x) × (s.limit < size x)) same (h.limit (ap Err is) s stands))
-          (λ is. subst (λ x. Fits g.T.Composer.room (size x) × (size x ≤ s.limit) × (length s.additionals ≡ most_entries)) same (h.count (ap Err is) s stands)));
+          (λ is. subst (λ x. Fits g.T.Composer.room (size x) × (s.limit < size x)) same (h.limit (ap Err is) s represents))
+          (λ is. subst (λ x. Fits g.T.Composer.room (size x) × (size x ≤ s.limit) × (length s.additionals ≡ most_entries)) same (h.count (ap Err is) s represents)));
       is_gathered = tt;
       accepted = tt;
     })
 
 pub returns-clause-pushes : goal.returns-clause-pushes
-returns-clause-pushes g c = λ s stands.
+returns-clause-pushes g c = λ s represents.
     let made = c.record_of.ensures in
     let same = same_item _ (gathered c.gather.new.arg2) made.owner refl made.class made.ttl (ap (λ os. Octets os ∷ []) made.options) in
     let size : RecordItem → ℕ = λ x. size_after g.T.Composer.rule (with_record InAdditional x) s in
     let pushed : State = with_record InAdditional (opt_record (gathered c.gather.new.arg2)) s in
-    let there = subst (λ x. StandsFor InAdditional g.T.Composer.rule (with_record InAdditional x s) c.push.new.self) same (c.in_ok-push.ensures.accepted s stands) in
+    let there = subst (λ x. Represents InAdditional g.T.Composer.rule (with_record InAdditional x s) c.push.new.self) same (c.in_ok-push.ensures.accepted s represents) in
     let rcode : c.rcode.result ≡ (gathered c.gather.new.arg2).header.rcode = c.rcode.ensures ∙ ap (λ f. f.rcode) c.header-3.ensures in
     let header : c.with_rcode.result ≡ with_rcode (gathered c.gather.new.arg2).header.rcode s.header = c.with_rcode.ensures ∙ (λ i. with_rcode (rcode i) (c.header-2.ensures pushed there i)) in
     record {
@@ -73,12 +73,12 @@ returns-clause-pushes g c = λ s stands.
       gathers = record {
         before = c.new-gathered.result;
         after = _;
-        fresh = c.new-gathered.ensures ∙ ap nothing_gathered (c.header.ensures s stands);
+        fresh = c.new-gathered.ensures ∙ ap nothing_gathered (c.header.ensures s represents);
         called = record { shown = _; shows = refl; left = _; met = c.gather.ensures; leaves = refl };
         left = refl;
       };
       answers = closure_done _ _ _ _ _ _ _ c.in_ok-gather.was
-          (subst (λ x. Fits g.T.Composer.room (size x) × (size x ≤ s.limit) × (length s.additionals < most_entries)) same (c.in_ok-push.ensures.room s stands));
+          (subst (λ x. Fits g.T.Composer.room (size x) × (size x ≤ s.limit) × (length s.additionals < most_entries)) same (c.in_ok-push.ensures.room s represents));
       is_gathered = made.is_gathered;
-      accepted = subst (λ (header : Header). StandsFor InAdditional g.T.Composer.rule (with_header header pushed) c.set_header.new.self) header (c.set_header.ensures pushed there);
+      accepted = subst (λ (header : Header). Represents InAdditional g.T.Composer.rule (with_header header pushed) c.set_header.new.self) header (c.set_header.ensures pushed there);
     }

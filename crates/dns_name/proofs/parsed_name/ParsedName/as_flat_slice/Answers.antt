@@ -2,11 +2,11 @@ use Rattle.std.proofs.Common.{◌+◌, ◌≤◌, arith, length, refl}
 use Rattle.dns_name.specs.Names.{uncompressed}
 use Rattle.dns_name.specs.ParsedName.{labels}
 use Rattle.dns_name.proofs.FlatNames.{flat_none, flat_label, flat_root, flat_pointer, flat_within, flat_octets}
-use Rattle.dns_name.proofs.theory.LabelsLemmas.{labels_stand}
+use Rattle.dns_name.proofs.theory.LabelsLemmas.{labels_encoded}
 use Rattle.dns_name.proofs.parsed_name.ParsedName.as_flat_slice.Goals as goal
 
 pub walk-init : goal.walk-init
-walk-init c = flat_none _ _ _ (labels_stand c.args.self.now)
+walk-init c = flat_none _ _ _ (labels_encoded c.args.self.now)
 
 pub overflow_add-end : goal.overflow_add-end
 overflow_add-end c =

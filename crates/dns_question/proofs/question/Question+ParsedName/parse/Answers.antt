@@ -3,7 +3,7 @@ use Rattle.std.proofs.lemmas.Result.{err_from_is_err_and}
 use Rattle.dns_question.specs.AfterNames.FieldsFaultAt.{name}
 use Rattle.dns_question.proofs.QuestionLemmas.{short, reads_fields}
 use Rattle.dns_question.specs.Question.{qname_of, parsed_question}
-use Rattle.dns_name.specs.Names.{Labels, Stands}
+use Rattle.dns_name.specs.Names.{Labels, NameAt}
 use Rattle.dns_name.specs.ParsedName.{labels}
 use Rattle.dns_name.specs.Parsers.{seen, offset}
 use Rattle.dns_question.proofs.question.Question+ParsedName.parse.Goals as goal
@@ -34,6 +34,6 @@ returns c =
     let q = c.new.ensures in
     let n : labels (qname_of c.new.result) ≡ labels c.in_ok-qname.qname = ap labels q.qname in
     reads_fields c.args.parser.now c.parse.new.parser c.parse_u16_be.new.self c.parse_u16_be-2.new.self (parsed_question c.new.result)
-    (subst (λ (name : Labels). Stands (seen c.args.parser.now) (offset c.args.parser.now) name) (sym n) c.in_ok-qname.ensures.reads.0)
+    (subst (λ (name : Labels). NameAt (seen c.args.parser.now) (offset c.args.parser.now) name) (sym n) c.in_ok-qname.ensures.reads.0)
     c.in_ok-qname.ensures.reads.1
     first.1 (q.qtype ∙ c.from_int-qtype.ensures ∙ first.2) second.0 second.1 (q.qclass ∙ c.from_int-qclass.ensures ∙ second.2)

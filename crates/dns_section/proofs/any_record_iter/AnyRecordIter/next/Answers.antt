@@ -6,7 +6,7 @@ use Rattle.dns_octets.specs.declared.error.ParseError.{ParseError}
 use Rattle.dns_wire.specs.Parts.{Part}
 use Rattle.dns_data.specs.Layout.{Layout}
 use Rattle.dns_item.specs.Items.{RecordItem}
-use Rattle.dns_item.specs.ParsedRecord.{octets_of, parsed_entry, standing_record}
+use Rattle.dns_item.specs.ParsedRecord.{octets_of, parsed_entry, encoded_record}
 use Rattle.dns_item.specs.RecordReading.{AnswersLaidOut}
 use Rattle.dns_item.specs.TypedRecords.{typed_answer}
 use Rattle.dns_item.specs.declared.parsed_record.ParsedRecord.{ParsedRecord}
@@ -28,7 +28,7 @@ record_answered : {D : Type 0} (rtype_of : D → ℕ) (parts_of : D → List Par
 record_answered rtype_of parts_of layouts old new r answer calls h =
     passing_answered (limited (every layouts)) refl (limited-append (every layouts)) old old new (Ok r) (typed_answer rtype_of parts_of answer)
     (passing_none (limited (every layouts)) refl (limited-append (every layouts)) old) calls
-    (ap (λ (x : Result RecordItem Fault). x ∷ []) (sym (laid_out-answered rtype_of parts_of (standing_record r) (given_span old new r calls) (layouts (parsed_entry r).rtype) answer h)))
+    (ap (λ (x : Result RecordItem Fault). x ∷ []) (sym (laid_out-answered rtype_of parts_of (encoded_record r) (given_span old new r calls) (layouts (parsed_entry r).rtype) answer h)))
 
 pub returns-in-Some-Ok-clause-steps : goal.returns-in-Some-Ok-clause-steps
 returns-in-Some-Ok-clause-steps g c =

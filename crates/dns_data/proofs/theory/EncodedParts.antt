@@ -2,15 +2,15 @@
 use Rattle.std.proofs.Common.{◌≡◌, ℕ, ◌+◌, ◌-◌, ◌<◌, ◌≤◌, List, [], ◌∷◌, length, take, drop, slice_index, slice_range, ap, sym, ◌∙◌, refl, subst, arith}
 use Rattle.std.specs.Prelude.{IsTrue}
 use Rattle.std.proofs.lemmas.List.{drop-take, take-take, length-take-le, get_or-take, get_or-drop}
-use Rattle.dns_wire.specs.Parts.{Part, PartsStand}
+use Rattle.dns_wire.specs.Parts.{Part, PartsAt}
 use Rattle.dns_wire.specs.Parts.Part.{Octets, CompressibleName}
 use Rattle.dns_name.proofs.theory.WalkLaws.{walked_rises}
-use Rattle.dns_data.specs.Layout.{string_size, DataStands}
+use Rattle.dns_data.specs.Layout.{string_size, DataAt}
 use Rattle.dns_data.specs.Layout.Layout.{End, Rest, Fixed, CharacterString, DomainName}
-use Rattle.dns_data.specs.Laws.{StandingPartsRead}
+use Rattle.dns_data.specs.Laws.{EncodedPartsRead}
 
 -- parts end at or after their offset
-parts_rise : (b : List ℕ) (end p : ℕ) (parts : List Part) → PartsStand b end p parts → p ≤ end
+parts_rise : (b : List ℕ) (end p : ℕ) (parts : List Part) → PartsAt b end p parts → p ≤ end
 parts_rise b end p [] h = omega arith
 parts_rise b end p (Octets octets ∷ parts) h = let l = parts_rise b end (p + length octets) parts h.1 in omega arith
 parts_rise b end p (CompressibleName name ∷ parts) h = let l = parts_rise b end h.0 parts h.3 in let w = walked_rises h.2 in omega arith
@@ -30,31 +30,31 @@ string_size-range b p n octets l is =
     let first : slice_index (slice_range b p (p + n)) 0 ≡ slice_index b p = ap (λ k. slice_index (take k (drop p b)) 0) size ∙ get_or-take n (drop p b) 0 0 l ∙ get_or-drop p b 0 0 ∙ ap (slice_index b) start in
     ap (λ (xs : List ℕ). string_size xs 0) (sym is) ∙ ap (λ k. 1 + k) first
 
-pub standing_parts_read : StandingPartsRead
-standing_parts_read b end p End parts l h is = by parts h is
+pub encoded_parts_read : EncodedPartsRead
+encoded_parts_read b end p End parts l h is = by parts h is
   where
-    by : (parts : List Part) → PartsStand b end p parts → parts ≡ [] → (end ≡ p) × (parts ≡ [])
+    by : (parts : List Part) → PartsAt b end p parts → parts ≡ [] → (end ≡ p) × (parts ≡ [])
     by [] h is = (sym h, refl)
     by (part ∷ parts) h is = cc
-standing_parts_read b end p (Rest accepts) parts l h (octets, is, good) =
-    let stands : PartsStand b end p (Octets octets ∷ []) = subst (λ (xs : List Part). PartsStand b end p xs) is h in
+encoded_parts_read b end p (Rest accepts) parts l h (octets, is, good) =
+    let encoded : PartsAt b end p (Octets octets ∷ []) = subst (λ (xs : List Part). PartsAt b end p xs) is h in
     let rest : drop p (take end b) ≡ octets =
-    ap (λ e. drop p (take e b)) (sym stands.1) ∙ drop-take p (length octets) b
-    ∙ ap (λ n. take n (drop p b)) (let n : length octets ≡ p + length octets - p = omega arith in n) ∙ stands.0 in
+    ap (λ e. drop p (take e b)) (sym encoded.1) ∙ drop-take p (length octets) b
+    ∙ ap (λ n. take n (drop p b)) (let n : length octets ≡ p + length octets - p = omega arith in n) ∙ encoded.0 in
     (sym (length-take-le end b l), is ∙ ap (λ (xs : List ℕ). Octets xs ∷ []) (sym rest), subst (λ (xs : List ℕ). IsTrue (accepts xs)) (sym rest) good)
-standing_parts_read b end p (Fixed n layout) [] l h is = absurd is
-standing_parts_read b end p (Fixed n layout) (CompressibleName name ∷ parts) l h is = absurd is
-standing_parts_read b end p (Fixed n layout) (Octets octets ∷ parts) l h is =
-    let after : PartsStand b end (p + n) parts = subst (λ k. PartsStand b end (p + k) parts) is.0 h.1 in
+encoded_parts_read b end p (Fixed n layout) [] l h is = absurd is
+encoded_parts_read b end p (Fixed n layout) (CompressibleName name ∷ parts) l h is = absurd is
+encoded_parts_read b end p (Fixed n layout) (Octets octets ∷ parts) l h is =
+    let after : PartsAt b end (p + n) parts = subst (λ k. PartsAt b end (p + k) parts) is.0 h.1 in
     let here : slice_range b p (p + n) ≡ octets = subst (λ k. slice_range b p (p + k) ≡ octets) is.0 h.0 in
-    (is.0, range_before b end p n (parts_rise b end (p + n) parts after) ∙ here, standing_parts_read b end (p + n) layout parts l after is.1)
-standing_parts_read b end p (CharacterString layout) [] l h is = absurd is
-standing_parts_read b end p (CharacterString layout) (CompressibleName name ∷ parts) l h is = absurd is
-standing_parts_read b end p (CharacterString layout) (Octets octets ∷ parts) l h is =
+    (is.0, range_before b end p n (parts_rise b end (p + n) parts after) ∙ here, encoded_parts_read b end (p + n) layout parts l after is.1)
+encoded_parts_read b end p (CharacterString layout) [] l h is = absurd is
+encoded_parts_read b end p (CharacterString layout) (CompressibleName name ∷ parts) l h is = absurd is
+encoded_parts_read b end p (CharacterString layout) (Octets octets ∷ parts) l h is =
     let next = p + length octets in
     let here : slice_range (take end b) p next ≡ octets = range_before b end p (length octets) (parts_rise b end next parts h.1) ∙ h.0 in
     let size : length octets ≡ string_size (take end b) p = is.0 ∙ string_size-range (take end b) p (length octets) octets (omega (arith, is.0)) here in
-    (size, subst (λ k. slice_range (take end b) p (p + k) ≡ octets) size here, subst (λ k. DataStands (take end b) layout (p + k) end parts) size (standing_parts_read b end next layout parts l h.1 is.1))
-standing_parts_read b end p (DomainName layout) [] l h is = absurd is
-standing_parts_read b end p (DomainName layout) (Octets octets ∷ parts) l h is = absurd is
-standing_parts_read b end p (DomainName layout) (CompressibleName name ∷ parts) l h is = (h.0, h.1, h.2, standing_parts_read b end h.0 layout parts l h.3 is)
+    (size, subst (λ k. slice_range (take end b) p (p + k) ≡ octets) size here, subst (λ k. DataAt (take end b) layout (p + k) end parts) size (encoded_parts_read b end next layout parts l h.1 is.1))
+encoded_parts_read b end p (DomainName layout) [] l h is = absurd is
+encoded_parts_read b end p (DomainName layout) (Octets octets ∷ parts) l h is = absurd is
+encoded_parts_read b end p (DomainName layout) (CompressibleName name ∷ parts) l h is = (h.0, h.1, h.2, encoded_parts_read b end h.0 layout parts l h.3 is)
