@@ -2,7 +2,7 @@
 use Rattle.std.proofs.Common.{◌≡◌, ◌∙◌, ℕ, ◌+◌, ◌≤◌, List, [], ◌∷◌, ◌++◌, length, length-append, append_assoc, ap, sym, refl, arith}
 use Rattle.std.proofs.lemmas.List.{append-nil, map-append, length-map}
 use Rattle.std.specs.Prelude.{map}
-use Rattle.dns_wire.specs.Pieces.{Memory, Piece, Plain, nothing}
+use Rattle.dns_wire.specs.Pieces.{CompressionTable, Piece, Plain, nothing}
 use Rattle.dns_code.specs.Header.{header_octets}
 use Rattle.dns_question.specs.Questions.{QuestionItem, put_question}
 use Rattle.dns_item.specs.Items.{RecordItem, put_record}
@@ -10,10 +10,10 @@ use Rattle.dns_build.specs.State.{InAnswer, InQuestion, State, Every, all_of, pi
 use Rattle.dns_answer.specs.Answering.{size, with_answers}
 
 -- further encodings don't shorten the octets
-longer : (ps qs : List Piece) (m : Memory) (w : ℕ) → length (all_of ps m w).octets ≤ length (all_of (ps ++ qs) m w).octets
+longer : (ps qs : List Piece) (m : CompressionTable) (w : ℕ) → length (all_of ps m w).octets ≤ length (all_of (ps ++ qs) m w).octets
 longer [] qs m w = omega arith
 longer (p ∷ ps) qs m w =
-    let rest = longer ps qs (p m w).memory (w + length (p m w).octets) in
+    let rest = longer ps qs (p m w).table (w + length (p m w).octets) in
     simp length-append (omega (arith, rest))
 
 -- the header and the counts take 12 octets
@@ -72,7 +72,7 @@ longer_answers s xs ys four =
 
 -- an encoding has at least one octet, for any compression table and at any offset
 abbrev HasOctets : Piece → Type 0
-HasOctets p = (m : Memory) (w : ℕ) → 1 ≤ length (p m w).octets
+HasOctets p = (m : CompressionTable) (w : ℕ) → 1 ≤ length (p m w).octets
 
 question_octets : (x : QuestionItem) → HasOctets (put_question Plain x)
 unfolding put_question
@@ -95,11 +95,11 @@ every_both [] qs all others = others
 every_both (p ∷ ps) qs all others = (all.0, every_both ps qs all.1 others)
 
 -- so there are at least as many octets as encodings
-pieces_within : (ps : List Piece) (m : Memory) (w : ℕ) → Every HasOctets ps → length ps ≤ length (all_of ps m w).octets
+pieces_within : (ps : List Piece) (m : CompressionTable) (w : ℕ) → Every HasOctets ps → length ps ≤ length (all_of ps m w).octets
 pieces_within [] m w all = omega arith
 pieces_within (p ∷ ps) m w all =
     let first = all.0 m w in
-    let rest = pieces_within ps (p m w).memory (w + length (p m w).octets) all.1 in
+    let rest = pieces_within ps (p m w).table (w + length (p m w).octets) all.1 in
     simp length-append (omega (arith, first, rest))
 
 -- questions and answers together are at most as many as the octets after the header section

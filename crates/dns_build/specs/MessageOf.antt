@@ -87,7 +87,7 @@ pub record IsMessageOf (rule : Rule) (s : State) (b : List ℕ) : Type 0 where
   pub octets : b ≡ (fold rule s).octets
   pub reads_back : ReadsBack s b
   pub pointers : PointsToLabels s b
-  pub shortest : SharesAll rule (len (fold rule s).memory) → HasLabelsNear s b → IsShortestOf s b
+  pub shortest : SharesAll rule (len (fold rule s).table) → HasLabelsNear s b → IsShortestOf s b
   pub near : length b ≤ pointer_end → HasLabelsNear s b
 
 -- Theorems over all states, rules and headers. RFC 1035 section 4.1.
@@ -98,7 +98,7 @@ FoldsReadBack = (rule : Rule) (s : State) → IsState s → ReadsBack s (fold ru
 
 -- each suffix in its compression table is encoded at its offset, after the header section
 abbrev pub FoldsRemember : Type 0
-FoldsRemember = (rule : Rule) (s : State) → IsState s → IsTarget (fold rule s) × IsAtOrAfter (fold rule s).memory header_size
+FoldsRemember = (rule : Rule) (s : State) → IsState s → IsTarget (fold rule s) × IsAtOrAfter (fold rule s).table header_size
 
 -- setting TC changes no other field of a header
 abbrev pub TcIsSet : Type 0

@@ -2,11 +2,11 @@
 use Rattle.std.proofs.Common.{◌≡◌, ◌∙◌, ℕ, ◌+◌, ◌<◌, ◌≤◌, Some, None, true, false, Bool, List, [], ◌∷◌, ◌++◌, length, length-append, ap, sym, subst, refl, arith}
 use Rattle.std.specs.Prelude.{Option, IsTrue}
 use Rattle.std.specs.FinMap.{get, len, get-empty, len-empty}
-use Rattle.dns_wire.proofs.theory.Memories.{get-insert_same}
+use Rattle.dns_wire.proofs.theory.CompressionTables.{get-insert_same}
 use Rattle.dns_name.specs.Names.{Labels, IsName, framed}
 use Rattle.dns_name.proofs.theory.LabelsLemmas.{length-uncompressed}
 use Rattle.dns_wire.specs.Parts.{Part, Octets, put_parts}
-use Rattle.dns_wire.specs.Pieces.{Memory, Rule, Static, Spot, nothing, put_name, remember, spell, spell_label, is_kept, suffix_cmp}
+use Rattle.dns_wire.specs.Pieces.{CompressionTable, Rule, Static, TableEntry, nothing, put_name, add_suffixes, spell, spell_label, is_kept, suffix_cmp}
 use Rattle.dns_wire.specs.Targets.{Fits, Passes}
 use Rattle.dns_wire.proofs.theory.NameSizes.{names_are_short}
 use Rattle.dns_code.specs.Header.{header_octets}
@@ -37,7 +37,7 @@ never_refused pushing.CountOverflow n limit count small none few short memory ov
 
 -- How long they are.
 
-name_short : (rule : Rule) (name : Labels) (m : Memory) (w : ℕ) → IsName name → length (put_name rule name m w).octets ≤ 255
+name_short : (rule : Rule) (name : Labels) (m : CompressionTable) (w : ℕ) → IsName name → length (put_name rule name m w).octets ≤ 255
 name_short rule name m w is = let short = is.short in omega (arith, names_are_short rule name m w, length-uncompressed name)
 
 -- a header section and a question
@@ -48,38 +48,38 @@ asked_short rule header x four is =
     simp length-append (omega (arith, name, four))
 
 -- if its first label isn't in the table, the name is written uncompressed and enters the table
-first_spelled : (label : List ℕ) (rest : Labels) (p : ℕ) (after : List ℕ × List (Labels × ℕ)) (o : Option Spot) (k : Bool) → o ≡ None → k ≡ true
+first_spelled : (label : List ℕ) (rest : Labels) (p : ℕ) (after : List ℕ × List (Labels × ℕ)) (o : Option TableEntry) (k : Bool) → o ≡ None → k ≡ true
     → spell_label o k label rest p after ≡ (framed label ++ after.0, (label ∷ rest, p) ∷ after.1)
 first_spelled label rest p after o k none kept = λ i. spell_label (none i) (kept i) label rest p after
 
 -- a name in the table takes 2 octets at most
-known_short : (label : List ℕ) (rest : Labels) (p : ℕ) (after : List ℕ × List (Labels × ℕ)) (o : Option Spot) (k : Bool) (x : Spot) → o ≡ Some x
+entry_short : (label : List ℕ) (rest : Labels) (p : ℕ) (after : List ℕ × List (Labels × ℕ)) (o : Option TableEntry) (k : Bool) (x : TableEntry) → o ≡ Some x
     → length (spell_label o k label rest p after).0 ≤ 2
-known_short label rest p after o k x known =
+entry_short label rest p after o k x known =
     let two : length (spell_label o k label rest p after).0 ≡ 2 = λ i. length (spell_label (known i) k label rest p after).0 in omega arith
 
 -- the table entry of a name that was written uncompressed
-listed_first : (name : Labels) (p end : ℕ) (ss rest : List (Labels × ℕ)) → ss ≡ (name, p) ∷ rest → get (remember nothing ss end) name ≡ Some (record { offset = p; end = end })
+listed_first : (name : Labels) (p end : ℕ) (ss rest : List (Labels × ℕ)) → ss ≡ (name, p) ∷ rest → get (add_suffixes nothing ss end) name ≡ Some (record { offset = p; end = end })
 listed_first name p end ss rest is =
-    ap (λ (xs : List (Labels × ℕ)). get (remember nothing xs end) name) is ∙ get-insert_same (remember nothing rest end) name (record { offset = p; end = end })
+    ap (λ (xs : List (Labels × ℕ)). get (add_suffixes nothing xs end) name) is ∙ get-insert_same (add_suffixes nothing rest end) name (record { offset = p; end = end })
 
 -- the first name of a message takes 2 octets at most when it is written again
-again_at : (name : Labels) (v : ℕ) → length (put_name Static name (put_name Static name nothing 12).memory v).octets ≤ 2
+again_at : (name : Labels) (v : ℕ) → length (put_name Static name (put_name Static name nothing 12).table v).octets ≤ 2
 unfolding put_name
 again_at [] v = omega arith
 again_at (label ∷ rest) v =
-    let held = len nothing in
-    let after = spell Static nothing (12 + 1 + length label) (held + 1) rest in
-    let spelled = spell Static nothing 12 held (label ∷ rest) in
-    let kept : is_kept Static 12 held ≡ true = ap (is_kept Static 12) (len-empty suffix_cmp Spot) in
-    let first = first_spelled label rest 12 after (get nothing (label ∷ rest)) (is_kept Static 12 held) (get-empty suffix_cmp (label ∷ rest)) kept in
+    let entry_count = len nothing in
+    let after = spell Static nothing (12 + 1 + length label) (entry_count + 1) rest in
+    let spelled = spell Static nothing 12 entry_count (label ∷ rest) in
+    let kept : is_kept Static 12 entry_count ≡ true = ap (is_kept Static 12) (len-empty suffix_cmp TableEntry) in
+    let first = first_spelled label rest 12 after (get nothing (label ∷ rest)) (is_kept Static 12 entry_count) (get-empty suffix_cmp (label ∷ rest)) kept in
     let end = 12 + length spelled.0 in
-    let memory = remember nothing spelled.1 end in
-    known_short label rest v (spell Static memory (v + 1 + length label) (len memory + 1) rest) (get memory (label ∷ rest)) (is_kept Static v (len memory))
+    let table = add_suffixes nothing spelled.1 end in
+    entry_short label rest v (spell Static table (v + 1 + length label) (len table + 1) rest) (get table (label ∷ rest)) (is_kept Static v (len table))
     (record { offset = 12; end = end }) (listed_first (label ∷ rest) 12 end spelled.1 after.1 (ap (λ (s : List ℕ × List (Labels × ℕ)). s.1) first))
 
-again_short : (name : Labels) (w v : ℕ) → w ≡ 12 → length (put_name Static name (put_name Static name nothing w).memory v).octets ≤ 2
-again_short name w v first = subst (λ k. length (put_name Static name (put_name Static name nothing k).memory v).octets ≤ 2) (sym first) (again_at name v)
+again_short : (name : Labels) (w v : ℕ) → w ≡ 12 → length (put_name Static name (put_name Static name nothing w).table v).octets ≤ 2
+again_short name w v first = subst (λ k. length (put_name Static name (put_name Static name nothing k).table v).octets ≤ 2) (sym first) (again_at name v)
 
 -- a message with a question and an A record
 pub answered_short : (header : Header) (x : QuestionItem) (ttl : ℕ) (address : List ℕ) → length (header_octets header) ≡ 4 → length address ≡ 4 → IsName x.name

@@ -1,7 +1,7 @@
 -- Encodings after two octets into which their length is written.
 use Rattle.std.proofs.Common.{◌≡◌, ℕ, ◌+◌, ◌≤◌, ◌⊎◌, inl, inr, Bool, Option, Some, Result, Err, List, [], ◌∷◌, length, length-append, ap, sym, ◌∙◌, subst}
 use Rattle.std.specs.FinMap.{get}
-use Rattle.dns_wire.specs.Pieces.{Spot, IsClear, IsOldOrWithin, Extends, Piece, IsGrowing, put_octets, both, with_length}
+use Rattle.dns_wire.specs.Pieces.{TableEntry, IsClear, IsOldOrWithin, Extends, Piece, IsGrowing, put_octets, both, with_length}
 use Rattle.dns_wire.specs.Targets.{Written, IsTarget, AnswersInSteps, lay, Composes}
 use Rattle.dns_octets.specs.declared.error.AppendError.{AppendError}
 use Rattle.dns_wire.proofs.theory.PieceLaws.{composes_both}
@@ -11,23 +11,23 @@ use Rattle.dns_wire.proofs.theory.PutNames.{put_octets_grows, ends_within_conten
 abbrev blank : List ℕ
 blank = 0 ∷ 0 ∷ []
 
-one_clear : (before after : Option Spot) (w v : ℕ) → IsOldOrWithin before after (w + 2) v → ((x : Spot) → before ≡ Some x → x.end ≤ w)
-    → (y : Spot) → after ≡ Some y → (y.end ≤ w) ⊎ (w + 2 ≤ y.offset)
+one_clear : (before after : Option TableEntry) (w v : ℕ) → IsOldOrWithin before after (w + 2) v → ((x : TableEntry) → before ≡ Some x → x.end ≤ w)
+    → (y : TableEntry) → after ≡ Some y → (y.end ≤ w) ⊎ (w + 2 ≤ y.offset)
 one_clear before after w v (inl same) h y e = inl (h y (sym same ∙ e))
 one_clear before after w v (inr new) h y e =
     let both : Some new.1.0 ≡ Some y = sym new.1.1 ∙ e in
     let is : new.1.0 ≡ y = cc in
-    inr (subst (λ (z : Spot). w + 2 ≤ z.offset) is new.1.2)
+    inr (subst (λ (z : TableEntry). w + 2 ≤ z.offset) is new.1.2)
 
 -- no suffix in the table has one of the two octets
-pub clear_length : (a : Piece) (t v u : Written) → IsGrowing a → IsTarget t → v ≡ lay (put_octets blank) t → u ≡ lay a v → IsClear u.memory (length t.octets) 2
+pub clear_length : (a : Piece) (t v u : Written) → IsGrowing a → IsTarget t → v ≡ lay (put_octets blank) t → u ≡ lay a v → IsClear u.table (length t.octets) 2
 clear_length a t v u grows is first second s x e =
     let start = length t.octets + 2 in
-    let extends : Extends t.memory (a t.memory start).memory start _ = grows.grows t.memory start in
-    let found : get (a t.memory start).memory s ≡ Some x =
-    ap (λ n. get (a t.memory n).memory s) (sym (length-append t.octets blank))
-    ∙ ap (λ (w : Written). get w.memory s) (sym (second ∙ ap (lay a) first)) ∙ e in
-    inr (one_clear (get t.memory s) _ (length t.octets) _ (extends.each s) (ends_within_content is s) x found)
+    let extends : Extends t.table (a t.table start).table start _ = grows.grows t.table start in
+    let found : get (a t.table start).table s ≡ Some x =
+    ap (λ n. get (a t.table n).table s) (sym (length-append t.octets blank))
+    ∙ ap (λ (w : Written). get w.table s) (sym (second ∙ ap (lay a) first)) ∙ e in
+    inr (one_clear (get t.table s) _ (length t.octets) _ (extends.each s) (ends_within_content is s) x found)
 
 refused : (room : Option ℕ) (may_grow : Bool) (a : Piece) (t u : Written) (e : AppendError)
     → Composes room may_grow (both (put_octets blank) a) t u {X = Unit} (Err e) → Composes room may_grow (with_length a) t u {X = Unit} (Err e)

@@ -50,7 +50,7 @@ pub fn compose_canonical_len_rdata<D: ComposeRecordData, T: Composer>(
 /// RDATA has at most 65,535 octets, so the other octets of `len` are zero.
 fn write_length<T: Composer>(target: &mut T, offset: usize)
     requires within { offset + 2 ≤ length (T.written target.old).octets }
-    requires clear { IsClear (T.written target.old).memory offset 2 }
+    requires clear { IsClear (T.written target.old).table offset 2 }
     ensures { T.written target.new ≡ overwrite offset
         (to_be_bytes w16 (length (T.written target.old).octets - (offset + 2)))
         (T.written target.old) }

@@ -18,7 +18,7 @@ pub at_once : (rule : Rule) (fields octets : List ℕ)
 unfolding put_parts
 at_once rule fields octets = λ i m w. record {
   octets = fields ++ (to_be_bytes w16 (length (sym (append-nil octets) i)) ++ sym (append-nil octets) i);
-  memory = m;
+  table = m;
 }
 
 -- one append composes them

@@ -5,7 +5,7 @@ use Rattle.std.specs.Prelude.{map}
 use Rattle.dns_name.specs.Names.{Labels, IsName}
 use Rattle.dns_name.proofs.theory.LabelsLemmas.{length-uncompressed}
 use Rattle.dns_wire.specs.Parts.{parts_size, put_parts}
-use Rattle.dns_wire.specs.Pieces.{Memory, Piece, Static, both, nothing, put_name, put_octets, with_length}
+use Rattle.dns_wire.specs.Pieces.{CompressionTable, Piece, Static, both, nothing, put_name, put_octets, with_length}
 use Rattle.dns_wire.proofs.theory.NameSizes.{names_are_short, parts_are_short}
 use Rattle.dns_code.specs.Header.{header_octets}
 use Rattle.dns_question.specs.Questions.{QuestionItem, put_question, question_fields}
@@ -14,14 +14,14 @@ use Rattle.dns_build.specs.State.{State, Every, all_of, fold, head_of, pieces_of
 
 -- an encoding has at most n octets, for any compression table and at any offset
 abbrev pub AtMost : ℕ → Piece → Type 0
-AtMost n p = (m : Memory) (w : ℕ) → length (p m w).octets ≤ n
+AtMost n p = (m : CompressionTable) (w : ℕ) → length (p m w).octets ≤ n
 
 both_most : (a b : Piece) (i j : ℕ) → AtMost i a → AtMost j b → AtMost (i + j) (both a b)
 both_most a b i j x y m w =
     let first = a m w in
-    let second = b first.memory (w + length first.octets) in
+    let second = b first.table (w + length first.octets) in
     let p = x m w in
-    let q = y first.memory (w + length first.octets) in
+    let q = y first.table (w + length first.octets) in
     let n = length-append first.octets second.octets in
     omega (arith, n, p, q)
 
@@ -80,13 +80,13 @@ few_both : (ps qs : List Piece) → Few ps → Few qs → Few (ps ++ qs)
 few_both [] qs all others = others
 few_both (p ∷ ps) qs all others = (all.0, few_both ps qs all.1 others)
 
-few_octets : (ps : List Piece) (m : Memory) (w : ℕ) → Few ps → length (all_of ps m w).octets ≤ length ps * most_octets
+few_octets : (ps : List Piece) (m : CompressionTable) (w : ℕ) → Few ps → length (all_of ps m w).octets ≤ length ps * most_octets
 few_octets [] m w all = omega arith
 few_octets (p ∷ ps) m w all =
     let laid = p m w in
     let first = all.0 m w in
-    let rest = few_octets ps laid.memory (w + length laid.octets) all.1 in
-    let n = length-append laid.octets (all_of ps laid.memory (w + length laid.octets)).octets in
+    let rest = few_octets ps laid.table (w + length laid.octets) all.1 in
+    let n = length-append laid.octets (all_of ps laid.table (w + length laid.octets)).octets in
     omega (arith, n, first, rest)
 
 -- how many items a state has

@@ -1,7 +1,7 @@
 //! A target for messages over a stream.
 ghost use Rattle.std.specs.Prelude.{◌≡◌, [], refl, IfOk, IfErr, OnErr, IsTrue};
 ghost use Rattle.dns_wire.specs.Pieces.{Plain};
-ghost use Rattle.dns_wire.specs.Targets.{Answers, unremembered};
+ghost use Rattle.dns_wire.specs.Targets.{Answers, with_empty_table};
 ghost use Rattle.dns_stream.specs.Stream.{stream_room, with_prefix};
 
 use dns_wire::{AppendError, CloneTarget, Composer, ToName};
@@ -66,14 +66,14 @@ impl<T: Composer> StreamTarget<T> {
 
     /// Returns the wrapped target, whose content is the length of the message and the message.
     pub fn as_target(&self) -> &T
-        ensures { T.written result.now ≡ unremembered (with_prefix self.now) }
+        ensures { T.written result.now ≡ with_empty_table (with_prefix self.now) }
     {
         &self.target
     }
 
     /// Returns the wrapped target, whose content is the length of the message and the message.
     pub fn into_target(self) -> T
-        ensures { T.written result ≡ unremembered (with_prefix self) }
+        ensures { T.written result ≡ with_empty_table (with_prefix self) }
     {
         self.target
     }
@@ -119,7 +119,7 @@ impl<T: Composer> Composer for StreamTarget<T> {
 
     ghost grows = { T.grows };
 
-    ghost written = { unremembered };
+    ghost written = { with_empty_table };
 
     ghost plain_forgets = { λ _ _. refl };
 

@@ -4,7 +4,7 @@ use Rattle.std.specs.Prelude.{slice_get}
 use Rattle.std.proofs.lemmas.Bool.Decides.{nat_tests}
 use Rattle.std.proofs.lemmas.List.{reverse-append, map_push, take_more, get_or_push}
 use Rattle.std.proofs.lemmas.Option.{get_or_from_slice_get}
-use Rattle.dns_target.specs.Held.{cut_by}
+use Rattle.dns_target.specs.TableEntries.{cut_by}
 
 -- the entry that was added last comes first
 pub pushed : {A B : Type 0} (f : A → B) (xs : List A) (x : A) → reverse (map f (xs ++ x ∷ [])) ≡ f x ∷ reverse (map f xs)

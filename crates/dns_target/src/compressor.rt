@@ -50,15 +50,15 @@ pub type IndexCompressor<Target> = Compressor<Target, Hashes>;
 
 impl<Target: Composer, Index: SuffixIndex> Model for Compressor<Target, Index> {
     ghost use Rattle.dns_wire.specs.Targets.{Written, written_code};
-    ghost use Rattle.dns_target.specs.Held.{with_spots, IsHeld};
+    ghost use Rattle.dns_target.specs.TableEntries.{with_table_entries, HasTableEntries};
 
     ghost Value = { Written };
 
     ghost coded = { written_code };
 
-    ghost view = { λ s. with_spots (Target.written s.target) (Index.spots s.index) };
+    ghost view = { λ s. with_table_entries (Target.written s.target) (Index.table_entries s.index) };
 
-    ghost invariant = { λ s. IsHeld Target.rule (Target.written s.target) (Index.spots s.index)
+    ghost invariant = { λ s. HasTableEntries Target.rule (Target.written s.target) (Index.table_entries s.index)
         × Index.is_of (Target.written s.target).octets s.index };
 }
 
@@ -67,7 +67,7 @@ impl<Target: Composer> Compressor<Target, Offsets> {
     /// is empty.
     pub fn new(target: Target) -> Self
         requires { Target.rule ≡ Plain }
-        ensures { result ≡ record { octets = (Target.written target).octets; memory = nothing } }
+        ensures { result ≡ record { octets = (Target.written target).octets; table = nothing } }
     {
         Compressor::over(target, Offsets::new())
     }
@@ -80,7 +80,7 @@ impl<Target: Composer> Compressor<Target, Tree> {
     /// The table allocates from `alloc`.
     pub fn new(alloc: Global, target: Target) -> Self
         requires { Target.rule ≡ Plain }
-        ensures { result ≡ record { octets = (Target.written target).octets; memory = nothing } }
+        ensures { result ≡ record { octets = (Target.written target).octets; table = nothing } }
     {
         Compressor::over(target, Tree::new(alloc))
     }
@@ -93,7 +93,7 @@ impl<Target: Composer> Compressor<Target, HashIndex> {
     /// The table allocates from `alloc`.
     pub fn new(alloc: Global, target: Target) -> Self
         requires { Target.rule ≡ Plain }
-        ensures { result ≡ record { octets = (Target.written target).octets; memory = nothing } }
+        ensures { result ≡ record { octets = (Target.written target).octets; table = nothing } }
     {
         Compressor::over(target, HashIndex::new(alloc))
     }
@@ -106,7 +106,7 @@ impl<Target: Composer> Compressor<Target, Hashes> {
     /// The table allocates from `alloc`.
     pub fn new(alloc: Global, target: Target) -> Self
         requires { Target.rule ≡ Plain }
-        ensures { result ≡ record { octets = (Target.written target).octets; memory = nothing } }
+        ensures { result ≡ record { octets = (Target.written target).octets; table = nothing } }
     {
         Compressor::over(target, Hashes::new(alloc))
     }
@@ -115,9 +115,9 @@ impl<Target: Composer> Compressor<Target, Hashes> {
 impl<Target: Composer, Index: SuffixIndex> Compressor<Target, Index> {
     fn over(target: Target, index: Index) -> Self
         requires plain { Target.rule ≡ Plain }
-        requires empty { Index.spots index ≡ [] }
+        requires empty { Index.table_entries index ≡ [] }
         requires is_of { (content : List ℕ) → Index.is_of content index }
-        ensures { result ≡ record { octets = (Target.written target).octets; memory = nothing } }
+        ensures { result ≡ record { octets = (Target.written target).octets; table = nothing } }
     {
         Compressor { target, index }
     }
@@ -125,14 +125,14 @@ impl<Target: Composer, Index: SuffixIndex> Compressor<Target, Index> {
     /// Returns the target, which holds the octets.
     pub fn as_target(&self) -> &Target
         ensures { Target.written result.now
-            ≡ record { octets = self.now.octets; memory = nothing } }
+            ≡ record { octets = self.now.octets; table = nothing } }
     {
         &self.target
     }
 
     /// Returns the target, which holds the octets. The table is dropped.
     pub fn into_target(self) -> Target
-        ensures { Target.written result ≡ record { octets = self.octets; memory = nothing } }
+        ensures { Target.written result ≡ record { octets = self.octets; table = nothing } }
     {
         self.target
     }
@@ -161,7 +161,7 @@ impl<Target: Composer, Index: SuffixIndex> Compressor<Target, Index> {
         let written = self.target.as_slice();
         match self
             .index
-            .remember(written, &labels, offset, found, hint, plan.count)
+            .add_suffixes(written, &labels, offset, found, hint, plan.count)
         {
             Ok(()) => Ok(()),
             Err(_) => {

@@ -1,9 +1,9 @@
 //! The index of a hash compressor. It finds a suffix by its first label and the offset of its
 //! parent.
 ghost use Rattle.std.specs.Prelude.{◌≡◌, ◌≤◌, [], None, length, drop};
-ghost use Rattle.dns_target.specs.Held.{memory_in};
-ghost use Rattle.dns_target.specs.Indexes.{AreHeld};
-ghost use Rattle.dns_target.specs.Table.{IsRest, RestIsName, spots_in, near_count as near_count_of};
+ghost use Rattle.dns_target.specs.TableEntries.{table_in};
+ghost use Rattle.dns_target.specs.Indexes.{AreTableEntries};
+ghost use Rattle.dns_target.specs.Table.{IsRest, RestIsName, table_entries_in, near_count as near_count_of};
 
 use crate::index::{Plan, SuffixIndex};
 use crate::label_starts::LabelStarts;
@@ -38,10 +38,10 @@ impl HashIndex {
     /// Finds the recent suffix if the name ends with it, and else nothing.
     #[inline(always)]
     fn recent_in(&self, content: &[u8], labels: &LabelStarts<'_>) -> Found
-        requires held { AreHeld content.now (spots_in self.now.suffixes.suffixes) }
+        requires entries { AreTableEntries content.now (table_entries_in self.now.suffixes.suffixes) }
         requires recent { IsRest content.now self.now.suffixes.suffixes self.now.recent }
         ensures within { result.from ≤ length labels.now }
-        ensures there { RestIsName (memory_in content.now (spots_in self.now.suffixes.suffixes))
+        ensures there { RestIsName (table_in content.now (table_entries_in self.now.suffixes.suffixes))
             result.offset (drop result.from labels.now) }
     {
         let Some(offset) = self.recent else {
@@ -93,13 +93,13 @@ impl SuffixIndex for HashIndex {
     ghost use Rattle.dns_name.specs.Names.{pointer_end};
     ghost use Rattle.dns_wire.specs.Choice.{label_offset};
     ghost use Rattle.dns_wire.specs.Pieces.{Hash};
-    ghost use Rattle.dns_target.specs.Table.{spots_in, AreKeyed, IsRest, keyed_again, rest_again};
+    ghost use Rattle.dns_target.specs.Table.{table_entries_in, AreKeyed, IsRest, keyed_again, rest_again};
 
     ghost rule = { Hash };
 
     ghost takes_memory = { true };
 
-    ghost spots = { λ s. spots_in s.suffixes.suffixes };
+    ghost table_entries = { λ s. table_entries_in s.suffixes.suffixes };
 
     ghost is_of = { λ b s. AreKeyed b s.suffixes.suffixes × IsRest b s.suffixes.suffixes s.recent };
 
@@ -140,7 +140,7 @@ impl SuffixIndex for HashIndex {
         }
     }
 
-    fn remember(
+    fn add_suffixes(
         &mut self,
         content: &[u8],
         labels: &LabelStarts<'_>,

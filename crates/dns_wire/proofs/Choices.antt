@@ -6,96 +6,96 @@ use Rattle.std.proofs.lemmas.Bool.{and_parts}
 use Rattle.std.proofs.lemmas.Grind.{common_steps}
 use Rattle.std.specs.FinMap.{get, len}
 use Rattle.dns_name.specs.Names.{Labels, framed}
-use Rattle.dns_wire.specs.Pieces.{Memory, Spot, remember, Rule, Plain, Static, Tree, Hash, spell, is_kept, put_name, pointer}
-use Rattle.dns_wire.specs.Choice.{label_offset, first_suffixes, IsFirstKnown, IsFar, Chooses, IsAmong, NamesByChoice}
+use Rattle.dns_wire.specs.Pieces.{CompressionTable, TableEntry, add_suffixes, Rule, Plain, Static, Tree, Hash, spell, is_kept, put_name, pointer}
+use Rattle.dns_wire.specs.Choice.{label_offset, first_suffixes, IsFirstInTable, IsFar, Chooses, IsAmong, NamesByChoice}
 use Rattle.dns_wire.specs.Choice.Chooses.{shared, written_out}
 use Rattle.dns_wire.proofs.theory.PutNames.{SpellsAs, spells_as}
-use Rattle.dns_wire.proofs.theory.PutNames.SpellsAs.{at_root, at_known, at_kept, at_far}
+use Rattle.dns_wire.proofs.theory.PutNames.SpellsAs.{at_root, at_entry, at_kept, at_far}
 
 -- A suffix that may enter the table isn't too far.
-far_not : (rule : Rule) (held offset : ℕ) → is_kept rule offset held ≡ true → IsFar rule held offset → ⊥
-far_not Plain held offset e h = cc
-far_not Static held offset e (inl h) = grind (arith, common_steps)
-far_not Static held offset e (inr h) = grind (arith, common_steps)
-far_not Tree held offset e h = grind (arith, common_steps)
-far_not Hash held offset e h = h
+far_not : (rule : Rule) (entry_count offset : ℕ) → is_kept rule offset entry_count ≡ true → IsFar rule entry_count offset → ⊥
+far_not Plain entry_count offset e h = cc
+far_not Static entry_count offset e (inl h) = grind (arith, common_steps)
+far_not Static entry_count offset e (inr h) = grind (arith, common_steps)
+far_not Tree entry_count offset e h = grind (arith, common_steps)
+far_not Hash entry_count offset e h = h
 
-far_static : (offset held : ℕ) (b : Bool) → nat_lt offset 16384 ≡ b → b && nat_lt held 24 ≡ false → (16384 ≤ offset) ⊎ (24 ≤ held)
-far_static offset held true t e = inr (grind (arith, common_steps))
-far_static offset held false t e = inl (grind (arith, common_steps))
+far_static : (offset entry_count : ℕ) (b : Bool) → nat_lt offset 16384 ≡ b → b && nat_lt entry_count 24 ≡ false → (16384 ≤ offset) ⊎ (24 ≤ entry_count)
+far_static offset entry_count true t e = inr (grind (arith, common_steps))
+far_static offset entry_count false t e = inl (grind (arith, common_steps))
 
 -- Any other suffix is.
-far_is : (rule : Rule) (held offset : ℕ) → is_kept rule offset held ≡ false → IsFar rule held offset
-far_is Plain held offset e = tt
-far_is Static held offset e = far_static offset held (nat_lt offset 16384) refl e
-far_is Tree held offset e = grind (arith, common_steps)
-far_is Hash held offset e = cc
+far_is : (rule : Rule) (entry_count offset : ℕ) → is_kept rule offset entry_count ≡ false → IsFar rule entry_count offset
+far_is Plain entry_count offset e = tt
+far_is Static entry_count offset e = far_static offset entry_count (nat_lt offset 16384) refl e
+far_is Tree entry_count offset e = grind (arith, common_steps)
+far_is Hash entry_count offset e = cc
 
 -- The same for equal numbers.
-far_same : (rule : Rule) (held held' offset offset' : ℕ) → held ≡ held' → offset ≡ offset' → IsFar rule held offset → IsFar rule held' offset'
-far_same rule held held' offset offset' e f far = subst (λ x. IsFar rule x offset') e (subst (λ x. IsFar rule held x) f far)
+far_same : (rule : Rule) (entry_count entry_count' offset offset' : ℕ) → entry_count ≡ entry_count' → offset ≡ offset' → IsFar rule entry_count offset → IsFar rule entry_count' offset'
+far_same rule entry_count entry_count' offset offset' e f far = subst (λ x. IsFar rule x offset') e (subst (λ x. IsFar rule entry_count x) f far)
 
 -- If the first suffix can enter the table and so can the next k, the first k + 1 can.
-not_far_step : (rule : Rule) (w held : ℕ) (label : List ℕ) (rest : Labels) (k : ℕ) → (IsFar rule held w → ⊥)
-    → ((i : ℕ) → i < k → IsFar rule (held + 1 + i) (label_offset (w + 1 + length label) rest i) → ⊥)
-    → (i : ℕ) → i < suc k → IsFar rule (held + i) (label_offset w (label ∷ rest) i) → ⊥
-not_far_step rule w held label rest k here h zero l far = here (far_same rule (held + 0) held (w + 0) w (omega arith) (omega arith) far)
-not_far_step rule w held label rest k here h (suc i) l far = h i (omega arith) (far_same rule _ _ _ _ (omega arith) (omega arith) far)
+not_far_step : (rule : Rule) (w entry_count : ℕ) (label : List ℕ) (rest : Labels) (k : ℕ) → (IsFar rule entry_count w → ⊥)
+    → ((i : ℕ) → i < k → IsFar rule (entry_count + 1 + i) (label_offset (w + 1 + length label) rest i) → ⊥)
+    → (i : ℕ) → i < suc k → IsFar rule (entry_count + i) (label_offset w (label ∷ rest) i) → ⊥
+not_far_step rule w entry_count label rest k here h zero l far = here (far_same rule (entry_count + 0) entry_count (w + 0) w (omega arith) (omega arith) far)
+not_far_step rule w entry_count label rest k here h (suc i) l far = h i (omega arith) (far_same rule _ _ _ _ (omega arith) (omega arith) far)
 
 -- If the whole name isn't in the table and the next j suffixes aren't, the first j + 1 aren't.
-before_step : (m : Memory) (label : List ℕ) (rest : Labels) (j : ℕ) → get m (label ∷ rest) ≡ None
+before_step : (m : CompressionTable) (label : List ℕ) (rest : Labels) (j : ℕ) → get m (label ∷ rest) ≡ None
     → ((i : ℕ) → i < j → get m (drop i rest) ≡ None) → (i : ℕ) → i < suc j → get m (drop i (label ∷ rest)) ≡ None
 before_step m label rest j e h zero l = e
 before_step m label rest j e h (suc i) l = h i (omega arith)
 
 -- If the whole name isn't in the table, the first suffix in the table is one of its parent.
-known_step : (m : Memory) (label : List ℕ) (rest : Labels) (j : ℕ) → get m (label ∷ rest) ≡ None → IsFirstKnown m rest j → IsFirstKnown m (label ∷ rest) (suc j)
-known_step m label rest j e h = record {
+step_in_table : (m : CompressionTable) (label : List ℕ) (rest : Labels) (j : ℕ) → get m (label ∷ rest) ≡ None → IsFirstInTable m rest j → IsFirstInTable m (label ∷ rest) (suc j)
+step_in_table m label rest j e h = record {
   within = omega (arith, h.within);
   before = before_step m label rest j e (λ i l. h.before i l);
   there = h.there;
 }
 
 -- If the whole name is in the table, it is the first suffix there.
-known_here : (m : Memory) (label : List ℕ) (rest : Labels) (x : Spot) → get m (label ∷ rest) ≡ Some x → IsFirstKnown m (label ∷ rest) 0
-known_here m label rest x e = record { within = omega arith; before = λ i l. absurd (omega arith); there = inr (x, e) }
+here_in_table : (m : CompressionTable) (label : List ℕ) (rest : Labels) (x : TableEntry) → get m (label ∷ rest) ≡ Some x → IsFirstInTable m (label ∷ rest) 0
+here_in_table m label rest x e = record { within = omega arith; before = λ i l. absurd (omega arith); there = inr (x, e) }
 
 -- The root has no suffix.
-known_none : (m : Memory) → IsFirstKnown m [] 0
-known_none m = record { within = omega arith; before = λ i l. absurd (omega arith); there = inl refl }
+none_in_table : (m : CompressionTable) → IsFirstInTable m [] 0
+none_in_table m = record { within = omega arith; before = λ i l. absurd (omega arith); there = inl refl }
 
-known_one : (m : Memory) (label : List ℕ) (rest : Labels) (o : Option Spot) → get m (label ∷ rest) ≡ o
-    → (j : ℕ) × IsFirstKnown m rest j → (j : ℕ) × IsFirstKnown m (label ∷ rest) j
-known_one m label rest (Some x) e h = (0, known_here m label rest x e)
-known_one m label rest None e h = (suc h.0, known_step m label rest h.0 e h.1)
+one_in_table : (m : CompressionTable) (label : List ℕ) (rest : Labels) (o : Option TableEntry) → get m (label ∷ rest) ≡ o
+    → (j : ℕ) × IsFirstInTable m rest j → (j : ℕ) × IsFirstInTable m (label ∷ rest) j
+one_in_table m label rest (Some x) e h = (0, here_in_table m label rest x e)
+one_in_table m label rest None e h = (suc h.0, step_in_table m label rest h.0 e h.1)
 
 -- Each name has a first suffix in the table, or none is there.
-first_known : (m : Memory) (name : Labels) → (j : ℕ) × IsFirstKnown m name j
-first_known m [] = (0, known_none m)
-first_known m (label ∷ rest) = known_one m label rest (get m (label ∷ rest)) refl (first_known m rest)
+first_in_table : (m : CompressionTable) (name : Labels) → (j : ℕ) × IsFirstInTable m name j
+first_in_table m [] = (0, none_in_table m)
+first_in_table m (label ∷ rest) = one_in_table m label rest (get m (label ∷ rest)) refl (first_in_table m rest)
 
 -- A label that is written out before the choice for the remaining labels.
-chooses_step : (rule : Rule) (m : Memory) (w held : ℕ) (label : List ℕ) (rest : Labels) {text : List ℕ} {ss : List (Labels × ℕ)}
-    → get m (label ∷ rest) ≡ None → (IsFar rule held w → ⊥)
-    → Chooses rule m (w + 1 + length label) (held + 1) rest text ss → Chooses rule m w held (label ∷ rest) (framed label ++ text) ((label ∷ rest, w) ∷ ss)
-chooses_step rule m w held label rest e here (shared j end known ends near) =
-    let P : List ℕ → Type 0 = λ text. Chooses rule m w held (label ∷ rest) text (first_suffixes (suc j) (label ∷ rest) w) in
+chooses_step : (rule : Rule) (m : CompressionTable) (w entry_count : ℕ) (label : List ℕ) (rest : Labels) {text : List ℕ} {ss : List (Labels × ℕ)}
+    → get m (label ∷ rest) ≡ None → (IsFar rule entry_count w → ⊥)
+    → Chooses rule m (w + 1 + length label) (entry_count + 1) rest text ss → Chooses rule m w entry_count (label ∷ rest) (framed label ++ text) ((label ∷ rest, w) ∷ ss)
+chooses_step rule m w entry_count label rest e here (shared j end known ends near) =
+    let P : List ℕ → Type 0 = λ text. Chooses rule m w entry_count (label ∷ rest) text (first_suffixes (suc j) (label ∷ rest) w) in
     subst P (append_assoc (framed label) (flat_map framed (take j rest)) end)
-    (shared (suc j) end (known_step m label rest j e known) ends (not_far_step rule w held label rest j here near))
-chooses_step rule m w held label rest e here (written_out c j known less far near) =
-    written_out (suc c) (suc j) (known_step m label rest j e known) (omega arith)
-    (far_same rule (held + 1 + c) (held + suc c) (label_offset (w + 1 + length label) rest c) (label_offset w (label ∷ rest) (suc c)) (omega arith) (omega arith) far)
-    (not_far_step rule w held label rest c here near)
+    (shared (suc j) end (step_in_table m label rest j e known) ends (not_far_step rule w entry_count label rest j here near))
+chooses_step rule m w entry_count label rest e here (written_out c j known less far near) =
+    written_out (suc c) (suc j) (step_in_table m label rest j e known) (omega arith)
+    (far_same rule (entry_count + 1 + c) (entry_count + suc c) (label_offset (w + 1 + length label) rest c) (label_offset w (label ∷ rest) (suc c)) (omega arith) (omega arith) far)
+    (not_far_step rule w entry_count label rest c here near)
 
 -- The octets of a name and the suffixes written out are as chosen.
-chosen : {rule : Rule} {m : Memory} {p held : ℕ} {name : Labels} {text : List ℕ} {ss : List (Labels × ℕ)} → SpellsAs rule m p held name text ss → Chooses rule m p held name text ss
-chosen {m = m} at_root = shared 0 (0 ∷ []) (known_none m) (inl (refl, refl)) (λ i l far. omega arith)
-chosen {m = m} (at_known {first = first} {rest = rest} {x = x} e) = shared 0 (pointer x.offset) (known_here m first rest x e) (inr (x, e, refl)) (λ i l far. omega arith)
-chosen {rule = rule} {m = m} (at_kept {p = p} {held = held} {first = first} {rest = rest} e k s) = chooses_step rule m p held first rest e (far_not rule held p k) (chosen s)
-chosen {rule = rule} {m = m} (at_far {p = p} {held = held} {first = first} {rest = rest} e k) =
-    let known = first_known m rest in
-    written_out 0 (suc known.0) (known_step m first rest known.0 e known.1) (omega arith)
-    (far_same rule held (held + 0) p (p + 0) (omega arith) (omega arith) (far_is rule held p k)) (λ i l far. omega arith)
+chosen : {rule : Rule} {m : CompressionTable} {p entry_count : ℕ} {name : Labels} {text : List ℕ} {ss : List (Labels × ℕ)} → SpellsAs rule m p entry_count name text ss → Chooses rule m p entry_count name text ss
+chosen {m = m} at_root = shared 0 (0 ∷ []) (none_in_table m) (inl (refl, refl)) (λ i l far. omega arith)
+chosen {m = m} (at_entry {first = first} {rest = rest} {x = x} e) = shared 0 (pointer x.offset) (here_in_table m first rest x e) (inr (x, e, refl)) (λ i l far. omega arith)
+chosen {rule = rule} {m = m} (at_kept {p = p} {entry_count = entry_count} {first = first} {rest = rest} e k s) = chooses_step rule m p entry_count first rest e (far_not rule entry_count p k) (chosen s)
+chosen {rule = rule} {m = m} (at_far {p = p} {entry_count = entry_count} {first = first} {rest = rest} e k) =
+    let known = first_in_table m rest in
+    written_out 0 (suc known.0) (step_in_table m first rest known.0 e known.1) (omega arith)
+    (far_same rule entry_count (entry_count + 0) p (p + 0) (omega arith) (omega arith) (far_is rule entry_count p k)) (λ i l far. omega arith)
 
 -- Whether a suffix is within pointer range.
 abbrev near_test : Labels × ℕ → Bool
@@ -130,22 +130,22 @@ some_far [] e = cc
 some_far (t ∷ ss) e = some_far_one t ss (near_test t) refl e (some_far ss)
 
 -- All suffixes enter the table, or none does because one is past pointer range.
-hash_memory : (m : Memory) (ss : List (Labels × ℕ)) (q : ℕ) (b : Bool) → list_all (λ s. near_test s) ss ≡ b
-    → (AreNear ss × (remember m (cond b ss []) q ≡ remember m ss q)) ⊎ (OneIsFar ss × (remember m (cond b ss []) q ≡ m))
-hash_memory m ss q true e = inl (all_near ss e, refl)
-hash_memory m ss q false e = inr (some_far ss e, refl)
+hash_table : (m : CompressionTable) (ss : List (Labels × ℕ)) (q : ℕ) (b : Bool) → list_all (λ s. near_test s) ss ≡ b
+    → (AreNear ss × (add_suffixes m (cond b ss []) q ≡ add_suffixes m ss q)) ⊎ (OneIsFar ss × (add_suffixes m (cond b ss []) q ≡ m))
+hash_table m ss q true e = inl (all_near ss e, refl)
+hash_table m ss q false e = inr (some_far ss e, refl)
 
 -- The octets of a name and the table after it are as chosen, under each rule of compression.
 pub names_by_choice : NamesByChoice
 unfolding put_name
 names_by_choice = record {
-  static = λ m w name. record { suffixes = (spell Static m w (len m) name).1; chooses = chosen (spells_as Static m w (len m) name); memory = refl };
-  tree = λ m w name. record { suffixes = (spell Tree m w (len m) name).1; chooses = chosen (spells_as Tree m w (len m) name); memory = refl };
+  static = λ m w name. record { suffixes = (spell Static m w (len m) name).1; chooses = chosen (spells_as Static m w (len m) name); table = refl };
+  tree = λ m w name. record { suffixes = (spell Tree m w (len m) name).1; chooses = chosen (spells_as Tree m w (len m) name); table = refl };
   hash = λ m w name.
       let spelled = spell Hash m w (len m) name in
       record {
         suffixes = spelled.1;
         chooses = chosen (spells_as Hash m w (len m) name);
-        memory = hash_memory m spelled.1 (w + length spelled.0) (list_all (λ s. near_test s) spelled.1) refl;
+        table = hash_table m spelled.1 (w + length spelled.0) (list_all (λ s. near_test s) spelled.1) refl;
       };
 }

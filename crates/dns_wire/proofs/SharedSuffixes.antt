@@ -6,21 +6,21 @@ use Rattle.std.proofs.lemmas.Grind.{common_steps}
 use Rattle.std.specs.FinMap.{get, insert, len, get-insert, len-insert, contains_key}
 use Rattle.std.specs.Ordering.{eq_by_cmp}
 use Rattle.dns_name.specs.Names.{Labels, IsName, uncompressed, name_size}
-use Rattle.dns_wire.specs.Pieces.{Memory, Spot, remember, suffix_cmp, suffix_total, Rule, Plain, Static, Tree, Hash, spell, kept, is_kept}
+use Rattle.dns_wire.specs.Pieces.{CompressionTable, TableEntry, add_suffixes, suffix_cmp, suffix_total, Rule, Plain, Static, Tree, Hash, spell, kept, is_kept}
 use Rattle.dns_wire.specs.Targets.{At}
 use Rattle.dns_wire.specs.Spelling.{IsSuffix, IsShared, SharesAll}
 use Rattle.dns_wire.specs.Parts.{LabelsNear}
 use Rattle.dns_wire.proofs.theory.TargetTheorems.{near_label}
 use Rattle.dns_wire.proofs.theory.SpelledNames.{label_begins, label_part, after_label}
-use Rattle.dns_wire.proofs.theory.Memories.{get-insert_same}
+use Rattle.dns_wire.proofs.theory.CompressionTables.{get-insert_same}
 use Rattle.dns_wire.proofs.theory.PutNames.{Each, found, SpellsAs, spells_as}
-use Rattle.dns_wire.proofs.theory.PutNames.SpellsAs.{at_root, at_known, at_kept, at_far}
+use Rattle.dns_wire.proofs.theory.PutNames.SpellsAs.{at_root, at_entry, at_kept, at_far}
 use Rattle.dns_name.proofs.theory.Spelling.{name_tail}
 
 -- The table has exactly the suffixes of these names.
-pub record Knows (m : Memory) (names : List Labels) : Type 0 where
-  pub has : (s : Labels) → IsShared names s → (x : Spot) × (get m s ≡ Some x)
-  pub only : (s : Labels) (x : Spot) → get m s ≡ Some x → IsShared names s
+pub record Knows (m : CompressionTable) (names : List Labels) : Type 0 where
+  pub has : (s : Labels) → IsShared names s → (x : TableEntry) × (get m s ≡ Some x)
+  pub only : (s : Labels) (x : TableEntry) → get m s ≡ Some x → IsShared names s
 
 -- A suffix of a suffix is a suffix.
 pub suffix_suffix : {s t name : Labels} → IsSuffix s t → IsSuffix t name → IsSuffix s name
@@ -39,9 +39,9 @@ shared_some (name ∷ names) s (inl h) = h.some
 shared_some (name ∷ names) s (inr h) = shared_some names s h
 
 -- Each suffix before the one in the table can enter the table.
-abbrev pub AllKept : {rule : Rule} {m : Memory} {p held : ℕ} {name : Labels} {text : List ℕ} {ss : List (Labels × ℕ)} → SpellsAs rule m p held name text ss → Type 0
+abbrev pub AllKept : {rule : Rule} {m : CompressionTable} {p entry_count : ℕ} {name : Labels} {text : List ℕ} {ss : List (Labels × ℕ)} → SpellsAs rule m p entry_count name text ss → Type 0
 AllKept at_root = Unit {0}
-AllKept (at_known e) = Unit {0}
+AllKept (at_entry e) = Unit {0}
 AllKept (at_kept e k s) = AllKept s
 AllKept (at_far e k) = ⊥
 
@@ -80,9 +80,9 @@ best_label names label others n without (inr a) =
     )
 
 -- A name is written as short as possible.
-pub best : {rule : Rule} {m : Memory} {p held : ℕ} {name : Labels} {text : List ℕ} {ss : List (Labels × ℕ)} (names : List Labels) → Knows m names → (s : SpellsAs rule m p held name text ss) → AllKept s → Best names name (length text)
+pub best : {rule : Rule} {m : CompressionTable} {p entry_count : ℕ} {name : Labels} {text : List ℕ} {ss : List (Labels × ℕ)} (names : List Labels) → Knows m names → (s : SpellsAs rule m p entry_count name text ss) → AllKept s → Best names name (length text)
 best names knows at_root k = best_root names
-best names knows (at_known {first = first} {rest = rest} {x = x} e) k = inr ([], first ∷ rest, refl, knows.only (first ∷ rest) x e, refl, λ f r e s. omega arith)
+best names knows (at_entry {first = first} {rest = rest} {x = x} e) k = inr ([], first ∷ rest, refl, knows.only (first ∷ rest) x e, refl, λ f r e s. omega arith)
 best names knows (at_kept {first = first} {rest = rest} {text = text} e is s) k =
     let without : IsShared names (first ∷ rest) → ⊥ = λ s. let h = knows.has (first ∷ rest) s in let c : None ≡ Some h.0 = sym e ∙ h.1 in cc in
     let size : 1 + length first + length text ≡ suc (length (first ++ text)) = let l = length-append first text in omega arith in
@@ -103,9 +103,9 @@ each_others label others [] h = tt
 each_others label others (s ∷ ss) h = (suffix_others s.0 label others h.0, each_others label others ss h.1)
 
 -- The suffixes that are written out are suffixes of the name.
-spell_suffixes : {rule : Rule} {m : Memory} {p held : ℕ} {name : Labels} {text : List ℕ} {ss : List (Labels × ℕ)} → SpellsAs rule m p held name text ss → Each (λ s. IsSuffix s.0 name) ss
+spell_suffixes : {rule : Rule} {m : CompressionTable} {p entry_count : ℕ} {name : Labels} {text : List ℕ} {ss : List (Labels × ℕ)} → SpellsAs rule m p entry_count name text ss → Each (λ s. IsSuffix s.0 name) ss
 spell_suffixes at_root = tt
-spell_suffixes (at_known e) = tt
+spell_suffixes (at_entry e) = tt
 spell_suffixes (at_kept {first = first} {rest = rest} {ss = ss} e k s) = (suffix_whole first rest, each_others first rest ss (spell_suffixes s))
 spell_suffixes (at_far e k) = tt
 
@@ -124,9 +124,9 @@ no_suffix : (s : Labels) → IsSuffix s [] → ⊥
 no_suffix s h = let some = h.some in let l : 0 ≡ length h.first + length s = ap length h.whole ∙ length-append h.first s in omega arith
 
 -- Each suffix of the name was shared, or is written out.
-listed : {rule : Rule} {m : Memory} {p held : ℕ} {name : Labels} {text : List ℕ} {ss : List (Labels × ℕ)} (names : List Labels) (t : Labels) → Knows m names → (s : SpellsAs rule m p held name text ss) → AllKept s → IsSuffix t name → IsShared names t ⊎ Listed t ss
+listed : {rule : Rule} {m : CompressionTable} {p entry_count : ℕ} {name : Labels} {text : List ℕ} {ss : List (Labels × ℕ)} (names : List Labels) (t : Labels) → Knows m names → (s : SpellsAs rule m p entry_count name text ss) → AllKept s → IsSuffix t name → IsShared names t ⊎ Listed t ss
 listed names t knows at_root k h = absurd (no_suffix t h)
-listed names t knows (at_known {first = first} {rest = rest} {x = x} e) k h = inl (shared_suffix names t (first ∷ rest) h (knows.only (first ∷ rest) x e))
+listed names t knows (at_entry {first = first} {rest = rest} {x = x} e) k h = inl (shared_suffix names t (first ∷ rest) h (knows.only (first ∷ rest) x e))
 listed names t knows (at_kept {first = first} {rest = rest} e is s) k h =
     elim (suffix_cases t first rest h.first h.whole h.some) [
       | inl w ↦ inr (inl w)
@@ -135,41 +135,41 @@ listed names t knows (at_kept {first = first} {rest = rest} e is s) k h =
 listed names t knows (at_far e is) k h = absurd k
 
 -- The table has an inserted suffix.
-inserted_same : (m : Memory) (t k : Labels) (v : Spot) → t ≡ k → get (insert m k v) t ≡ Some v
+inserted_same : (m : CompressionTable) (t k : Labels) (v : TableEntry) → t ≡ k → get (insert m k v) t ≡ Some v
 inserted_same m t k v e = ap (λ (n : Labels). get (insert m k v) n) e ∙ get-insert_same m k v
 
 -- The table still has an earlier suffix, perhaps with another entry.
-inserted_other : (b : Bool) (v : Spot) (o : Option Spot) (x : Spot) → o ≡ Some x → (y : Spot) × (cond b (Some v) o ≡ Some y)
+inserted_other : (b : Bool) (v : TableEntry) (o : Option TableEntry) (x : TableEntry) → o ≡ Some x → (y : TableEntry) × (cond b (Some v) o ≡ Some y)
 inserted_other true v o x e = (v, refl)
 inserted_other false v o x e = (x, e)
 
 -- The table has each suffix of the list.
-listed_found : (m : Memory) (t : Labels) (q : ℕ) (ss : List (Labels × ℕ)) → Listed t ss → (x : Spot) × (get (remember m ss q) t ≡ Some x)
+listed_found : (m : CompressionTable) (t : Labels) (q : ℕ) (ss : List (Labels × ℕ)) → Listed t ss → (x : TableEntry) × (get (add_suffixes m ss q) t ≡ Some x)
 listed_found m t q [] h = absurd h
-listed_found m t q (s ∷ ss) (inl e) = (record { offset = s.1; end = q }, inserted_same (remember m ss q) t s.0 (record { offset = s.1; end = q }) e)
+listed_found m t q (s ∷ ss) (inl e) = (record { offset = s.1; end = q }, inserted_same (add_suffixes m ss q) t s.0 (record { offset = s.1; end = q }) e)
 listed_found m t q (s ∷ ss) (inr h) =
     let f = listed_found m t q ss h in
-    let v : Spot = record { offset = s.1; end = q } in
-    let o = inserted_other (eq_by_cmp suffix_cmp t s.0) v (get (remember m ss q) t) f.0 f.1 in
-    (o.0, get-insert suffix_total (remember m ss q) s.0 v t ∙ o.1)
+    let v : TableEntry = record { offset = s.1; end = q } in
+    let o = inserted_other (eq_by_cmp suffix_cmp t s.0) v (get (add_suffixes m ss q) t) f.0 f.1 in
+    (o.0, get-insert suffix_total (add_suffixes m ss q) s.0 v t ∙ o.1)
 
 -- After the name is written, the table has exactly the suffixes of this name and of the earlier ones.
-pub knows_more : (rule : Rule) (m n : Memory) (names : List Labels) (p held q : ℕ) (name : Labels) → Knows m names → AllKept (spells_as rule m p held name)
-    → n ≡ remember m (spell rule m p held name).1 q → ((s : Labels) (x : Spot) → get m s ≡ Some x → get n s ≡ Some x) → Knows n (name ∷ names)
-knows_more rule m n names p held q name knows k is g =
-    let ss = (spell rule m p held name).1 in
-    let old : (s : Labels) → IsShared names s → (x : Spot) × (get n s ≡ Some x) = λ s h. let f = knows.has s h in (f.0, g s f.0 f.1) in
+pub knows_more : (rule : Rule) (m n : CompressionTable) (names : List Labels) (p entry_count q : ℕ) (name : Labels) → Knows m names → AllKept (spells_as rule m p entry_count name)
+    → n ≡ add_suffixes m (spell rule m p entry_count name).1 q → ((s : Labels) (x : TableEntry) → get m s ≡ Some x → get n s ≡ Some x) → Knows n (name ∷ names)
+knows_more rule m n names p entry_count q name knows k is g =
+    let ss = (spell rule m p entry_count name).1 in
+    let old : (s : Labels) → IsShared names s → (x : TableEntry) × (get n s ≡ Some x) = λ s h. let f = knows.has s h in (f.0, g s f.0 f.1) in
     record {
       has = λ s h.
           elim h [
-            | inl a ↦ elim (listed names s knows (spells_as rule m p held name) k a) [
+            | inl a ↦ elim (listed names s knows (spells_as rule m p entry_count name) k a) [
               | inl b ↦ old s b
-              | inr b ↦ let f = listed_found m s q ss b in (f.0, ap (λ (r : Memory). get r s) is ∙ f.1)
+              | inr b ↦ let f = listed_found m s q ss b in (f.0, ap (λ (r : CompressionTable). get r s) is ∙ f.1)
             ]
             | inr a ↦ old s a
           ];
       only = λ s x e.
-          elim (found m ss q (λ t. IsSuffix t.0 name) s x (spell_suffixes (spells_as rule m p held name)) (ap (λ (r : Memory). get r s) (sym is) ∙ e)) [
+          elim (found m ss q (λ t. IsSuffix t.0 name) s x (spell_suffixes (spells_as rule m p entry_count name)) (ap (λ (r : CompressionTable). get r s) (sym is) ∙ e)) [
             | inl a ↦ inr (knows.only s x a)
             | inr a ↦ inl a.0
           ];
@@ -184,45 +184,45 @@ few_less Hash k n l h = tt
 
 -- A rule by which each suffix within pointer range enters the table, while `SharesAll` holds.
 pub record KeepsNear (rule : Rule) : Type 0 where
-  pub keeps : (p held : ℕ) → p < 16384 → SharesAll rule held → is_kept rule p held ≡ true
+  pub keeps : (p entry_count : ℕ) → p < 16384 → SharesAll rule entry_count → is_kept rule p entry_count ≡ true
   pub chosen : (ss : List (Labels × ℕ)) → list_all (λ s. nat_lt s.1 16384) ss ≡ true → kept rule ss ≡ ss
 
 -- The tree rule is one.
 pub tree_keeps_near : KeepsNear Tree
-tree_keeps_near = record { keeps = λ p held h few. grind (arith, common_steps); chosen = λ ss h. refl }
+tree_keeps_near = record { keeps = λ p entry_count h few. grind (arith, common_steps); chosen = λ ss h. refl }
 
 -- The test of the static rule: the offset is within pointer range, and the table has fewer than 24 entries.
-static_keeps : (p held : ℕ) → p < 16384 → held < 24 → nat_lt p 16384 && nat_lt held 24 ≡ true
-static_keeps p held l h =
+static_keeps : (p entry_count : ℕ) → p < 16384 → entry_count < 24 → nat_lt p 16384 && nat_lt entry_count 24 ≡ true
+static_keeps p entry_count l h =
     let a : nat_lt p 16384 ≡ true = grind (arith, common_steps) in
-    let b : nat_lt held 24 ≡ true = grind (arith, common_steps) in
+    let b : nat_lt entry_count 24 ≡ true = grind (arith, common_steps) in
     rw (a, b) refl
 
 -- The static rule is one.
 pub static_keeps_near : KeepsNear Static
-static_keeps_near = record { keeps = λ p held h few. static_keeps p held h few; chosen = λ ss h. refl }
+static_keeps_near = record { keeps = λ p entry_count h few. static_keeps p entry_count h few; chosen = λ ss h. refl }
 
 -- The hash rule is one.
 pub hash_keeps_near : KeepsNear Hash
-hash_keeps_near = record { keeps = λ p held h few. refl; chosen = λ ss h. ap (λ (b : Bool). cond b ss []) h }
+hash_keeps_near = record { keeps = λ p entry_count h few. refl; chosen = λ ss h. ap (λ (b : Bool). cond b ss []) h }
 
 -- If every written label is within pointer range, each suffix before the one in the table can enter the table.
-pub near_kept : {rule : Rule} {m : Memory} {p held : ℕ} {name : Labels} {text : List ℕ} {ss : List (Labels × ℕ)} (r : KeepsNear rule) (b : List ℕ) (q : ℕ) (s : SpellsAs rule m p held name text ss) → IsName name → LabelsNear b q p → At b p text → SharesAll rule (held + length ss) → AllKept s
+pub near_kept : {rule : Rule} {m : CompressionTable} {p entry_count : ℕ} {name : Labels} {text : List ℕ} {ss : List (Labels × ℕ)} (r : KeepsNear rule) (b : List ℕ) (q : ℕ) (s : SpellsAs rule m p entry_count name text ss) → IsName name → LabelsNear b q p → At b p text → SharesAll rule (entry_count + length ss) → AllKept s
 near_kept r b q at_root is near h few = tt
-near_kept r b q (at_known e) is near h few = tt
-near_kept {rule = rule} r b q (at_kept {held = held} {first = first} {rest = rest} {text = text} {ss = ss} e k s) is near h few =
+near_kept r b q (at_entry e) is near h few = tt
+near_kept {rule = rule} r b q (at_kept {entry_count = entry_count} {first = first} {rest = rest} {text = text} {ss = ss} e k s) is near h few =
     let tail = name_tail first rest is in
     let a = near_label near (label_begins tail.0 (label_part first text h)) in
-    near_kept r b q s tail.1 a.1 (after_label first text h) (few_less rule (held + 1 + length ss) (held + suc (length ss)) (omega arith) few)
-near_kept {rule = rule} r b q (at_far {p = p} {held = held} {first = first} {rest = rest} e k) is near h few =
+    near_kept r b q s tail.1 a.1 (after_label first text h) (few_less rule (entry_count + 1 + length ss) (entry_count + suc (length ss)) (omega arith) few)
+near_kept {rule = rule} r b q (at_far {p = p} {entry_count = entry_count} {first = first} {rest = rest} e k) is near h few =
     let a = near_label near (label_begins (name_tail first rest is).0 (label_part first (uncompressed rest) h)) in
-    let t : true ≡ false = sym (r.keeps p held a.0 (few_less rule held (held + 0) (omega arith) few)) ∙ k in
+    let t : true ≡ false = sym (r.keeps p entry_count a.0 (few_less rule entry_count (entry_count + 0) (omega arith) few)) ∙ k in
     absurd (cc)
 
 -- If every written label is within pointer range, so is each suffix that is written out.
-pub near_suffixes : {rule : Rule} {m : Memory} {p held : ℕ} {name : Labels} {text : List ℕ} {ss : List (Labels × ℕ)} (b : List ℕ) (q : ℕ) → SpellsAs rule m p held name text ss → IsName name → LabelsNear b q p → At b p text → list_all (λ s. nat_lt s.1 16384) ss ≡ true
+pub near_suffixes : {rule : Rule} {m : CompressionTable} {p entry_count : ℕ} {name : Labels} {text : List ℕ} {ss : List (Labels × ℕ)} (b : List ℕ) (q : ℕ) → SpellsAs rule m p entry_count name text ss → IsName name → LabelsNear b q p → At b p text → list_all (λ s. nat_lt s.1 16384) ss ≡ true
 near_suffixes b q at_root is near h = refl
-near_suffixes b q (at_known e) is near h = refl
+near_suffixes b q (at_entry e) is near h = refl
 near_suffixes b q (at_kept {p = p} {first = first} {rest = rest} {text = text} e k s) is near h =
     let tail = name_tail first rest is in
     let a = near_label near (label_begins tail.0 (label_part first text h)) in
@@ -232,22 +232,22 @@ near_suffixes b q (at_kept {p = p} {first = first} {rest = rest} {text = text} e
 near_suffixes b q (at_far e k) is near h = refl
 
 -- An insertion never removes an entry.
-len_more : (m : Memory) (k : Labels) (v : Spot) (b : Bool) → len (insert m k v) ≡ cond b (len m) (len m + 1) → len m ≤ len (insert m k v)
+len_more : (m : CompressionTable) (k : Labels) (v : TableEntry) (b : Bool) → len (insert m k v) ≡ cond b (len m) (len m + 1) → len m ≤ len (insert m k v)
 len_more m k v true e = omega (arith, e)
 len_more m k v false e = omega (arith, e)
 
 -- Adding suffixes never removes an entry.
-pub len_remember : (m : Memory) (ss : List (Labels × ℕ)) (q : ℕ) → len m ≤ len (remember m ss q)
-len_remember m [] q = omega arith
-len_remember m (s ∷ ss) q =
-    let r = remember m ss q in
-    let v : Spot = record { offset = s.1; end = q } in
-    let a = len_remember m ss q in
+pub len_add_suffixes : (m : CompressionTable) (ss : List (Labels × ℕ)) (q : ℕ) → len m ≤ len (add_suffixes m ss q)
+len_add_suffixes m [] q = omega arith
+len_add_suffixes m (s ∷ ss) q =
+    let r = add_suffixes m ss q in
+    let v : TableEntry = record { offset = s.1; end = q } in
+    let a = len_add_suffixes m ss q in
     let b : len r ≤ len (insert r s.0 v) = len_more r s.0 v (contains_key r s.0) (len-insert suffix_total r s.0 v) in
     omega arith
 
 -- An option without a value is `None`.
-none_of : (o : Option Spot) → ((x : Spot) → o ≡ Some x → ⊥) → o ≡ None
+none_of : (o : Option TableEntry) → ((x : TableEntry) → o ≡ Some x → ⊥) → o ≡ None
 none_of None h = refl
 none_of (Some x) h = absurd (h x refl)
 
@@ -256,15 +256,15 @@ longer : (label : List ℕ) (others : Labels) → IsSuffix (label ∷ others) ot
 longer label others h = let e : length others ≡ length h.first + suc (length others) = ap length h.whole ∙ length-append h.first (label ∷ others) in omega arith
 
 -- A suffix that isn't in the table adds one entry.
-len_new : (r : Memory) (k : Labels) (v : Spot) → get r k ≡ None → len (insert r k v) ≡ len r + 1
-len_new r k v e = len-insert suffix_total r k v ∙ ap (λ (o : Option Spot). cond (is_some o) (len r) (len r + 1)) e
+len_new : (r : CompressionTable) (k : Labels) (v : TableEntry) → get r k ≡ None → len (insert r k v) ≡ len r + 1
+len_new r k v e = len-insert suffix_total r k v ∙ ap (λ (o : Option TableEntry). cond (is_some o) (len r) (len r + 1)) e
 
 -- Each suffix that is written out adds one entry.
-pub len_spell : {rule : Rule} {m : Memory} {p held : ℕ} {name : Labels} {text : List ℕ} {ss : List (Labels × ℕ)} (q : ℕ) → SpellsAs rule m p held name text ss → len (remember m ss q) ≡ len m + length ss
+pub len_spell : {rule : Rule} {m : CompressionTable} {p entry_count : ℕ} {name : Labels} {text : List ℕ} {ss : List (Labels × ℕ)} (q : ℕ) → SpellsAs rule m p entry_count name text ss → len (add_suffixes m ss q) ≡ len m + length ss
 len_spell q at_root = omega arith
-len_spell q (at_known e) = omega arith
+len_spell q (at_entry e) = omega arith
 len_spell {m = m} q (at_kept {p = p} {first = first} {rest = rest} {ss = ss} e k s) =
-    let r = remember m ss q in
+    let r = add_suffixes m ss q in
     let rec = len_spell q s in
     let new : get r (first ∷ rest) ≡ None = none_of (get r (first ∷ rest)) (λ x f.
     elim (found m ss q (λ t. IsSuffix t.0 rest) (first ∷ rest) x (spell_suffixes s) f) [

@@ -1,6 +1,6 @@
 -- Lemmas that other crates cite, so a change here affects them too.
 pub mod NameSizes
-pub mod Memories
+pub mod CompressionTables
 pub mod SpelledNames
 pub mod PutNames
 pub mod PieceLaws

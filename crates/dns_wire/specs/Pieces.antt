@@ -24,50 +24,50 @@ pub suffix_exact : IsAntisymmetric suffix_cmp
 suffix_exact = slice_cmp-IsAntisymmetric (slice_cmp-IsAntisymmetric nat_cmp-IsAntisymmetric)
 
 -- An entry of the table: the offset of a suffix, and the end of the name that it was written in.
-pub record Spot : Type 0 where
+pub record TableEntry : Type 0 where
   pub offset : ℕ
   pub end : ℕ
 
 -- The compression table: a finite map from suffixes to their entries.
-abbrev pub Memory : Type 0
-Memory = FinMap suffix_cmp Spot
+abbrev pub CompressionTable : Type 0
+CompressionTable = FinMap suffix_cmp TableEntry
 
 -- The empty table.
-abbrev pub nothing : Memory
+abbrev pub nothing : CompressionTable
 nothing = empty
 
 -- An entry exists, and its name ends within the first `len` octets.
-abbrev pub ends_within : ℕ → Option Spot → Bool
+abbrev pub ends_within : ℕ → Option TableEntry → Bool
 ends_within len None = false
-ends_within len (Some spot) = nat_le spot.end len
+ends_within len (Some table_entry) = nat_le table_entry.end len
 
 -- The table after the content is truncated to `len` octets: the entries whose names end within them.
-unfoldable pub cut : Memory → ℕ → Memory
+unfoldable pub cut : CompressionTable → ℕ → CompressionTable
 cut m len = retain_keys m (λ suffix. ends_within len (get m suffix))
 
 -- The table with entries for these suffixes at their offsets, from a name that ends at `end`.
-abbrev pub remember : Memory → List (Labels × ℕ) → ℕ → Memory
-remember m [] end = m
-remember m (s ∷ ss) end = insert (remember m ss end) s.0 (record { offset = s.1; end = end })
+abbrev pub add_suffixes : CompressionTable → List (Labels × ℕ) → ℕ → CompressionTable
+add_suffixes m [] end = m
+add_suffixes m (s ∷ ss) end = insert (add_suffixes m ss end) s.0 (record { offset = s.1; end = end })
 
 -- Each name in the table ends within the first w octets.
-abbrev pub IsWithin : Memory → ℕ → Type 0
-IsWithin m w = (s : Labels) (x : Spot) → get m s ≡ Some x → x.end ≤ w
+abbrev pub IsWithin : CompressionTable → ℕ → Type 0
+IsWithin m w = (s : Labels) (x : TableEntry) → get m s ≡ Some x → x.end ≤ w
 
 -- Each suffix in the table is at or after offset a.
-pub record IsAtOrAfter (m : Memory) (a : ℕ) : Type 0 where
-  pub each : (s : Labels) (x : Spot) → get m s ≡ Some x → a ≤ x.offset
+pub record IsAtOrAfter (m : CompressionTable) (a : ℕ) : Type 0 where
+  pub each : (s : Labels) (x : TableEntry) → get m s ≡ Some x → a ≤ x.offset
 
 -- No name in the table uses any of the n octets from offset a on.
-abbrev pub IsClear : Memory → ℕ → ℕ → Type 0
-IsClear m a n = (s : Labels) (x : Spot) → get m s ≡ Some x → (n ≡ 0) ⊎ (x.end ≤ a) ⊎ (a + n ≤ x.offset)
+abbrev pub IsClear : CompressionTable → ℕ → ℕ → Type 0
+IsClear m a n = (s : Labels) (x : TableEntry) → get m s ≡ Some x → (n ≡ 0) ⊎ (x.end ≤ a) ⊎ (a + n ≤ x.offset)
 
 -- An entry is unchanged, or it is new and its name was written between offsets w and v.
-abbrev pub IsOldOrWithin : Option Spot → Option Spot → ℕ → ℕ → Type 0
-IsOldOrWithin before after w v = (after ≡ before) ⊎ ((before ≡ None) × ((x : Spot) × (after ≡ Some x) × (w ≤ x.offset) × (w < x.end) × (x.end ≤ v)))
+abbrev pub IsOldOrWithin : Option TableEntry → Option TableEntry → ℕ → ℕ → Type 0
+IsOldOrWithin before after w v = (after ≡ before) ⊎ ((before ≡ None) × ((x : TableEntry) × (after ≡ Some x) × (w ≤ x.offset) × (w < x.end) × (x.end ≤ v)))
 
 -- Table n is table m with entries added for names written between offsets w and v.
-pub record Extends (m n : Memory) (w v : ℕ) : Type 0 where
+pub record Extends (m n : CompressionTable) (w v : ℕ) : Type 0 where
   pub each : (s : Labels) → IsOldOrWithin (get m s) (get n s) w v
 
 -- The rule by which a target compresses names. `Plain` doesn't compress.
@@ -87,32 +87,32 @@ compresses Hash = true
 -- Encoded octets, and the compression table after them.
 pub record Laid : Type 0 where
   pub octets : List ℕ
-  pub memory : Memory
+  pub table : CompressionTable
 
 -- An encoding: what is appended, given the compression table and the offset.
 abbrev pub Piece : Type 0
-Piece = Memory → ℕ → Laid
+Piece = CompressionTable → ℕ → Laid
 
 -- The encoding of octets as they are, which leaves the table unchanged.
 abbrev pub put_octets : List ℕ → Piece
-put_octets octets m w = record { octets = octets; memory = m }
+put_octets octets m w = record { octets = octets; table = m }
 
 -- Two encodings, in order.
 abbrev pub both : Piece → Piece → Piece
 both a b m w =
     let first = a m w in
-    let second = b first.memory (w + length first.octets) in
-    record { octets = first.octets ++ second.octets; memory = second.memory }
+    let second = b first.table (w + length first.octets) in
+    record { octets = first.octets ++ second.octets; table = second.table }
 
 -- An encoding preceded by its length, a big-endian number of 16 bits.
 abbrev pub with_length : Piece → Piece
 with_length piece m w =
     let laid = piece m (w + 2) in
-    record { octets = to_be_bytes w16 (length laid.octets) ++ laid.octets; memory = laid.memory }
+    record { octets = to_be_bytes w16 (length laid.octets) ++ laid.octets; table = laid.table }
 
 -- An encoding is growing if it only adds table entries, and only for suffixes within its own octets.
 pub record IsGrowing (piece : Piece) : Type 0 where
-  pub grows : (m : Memory) (w : ℕ) → Extends m (piece m w).memory w (w + length (piece m w).octets)
+  pub grows : (m : CompressionTable) (w : ℕ) → Extends m (piece m w).table w (w + length (piece m w).octets)
 
 -- How a name is compressed under each rule. RFC 1035 section 4.1.4; a pointer has 14 bits, and the table of the static rule holds 24 suffixes.
 
@@ -124,25 +124,25 @@ pointer offset = (192 + offset / 256) ∷ offset % 256 ∷ []
 abbrev pub static_entries : ℕ
 static_entries = 24
 
--- Whether a suffix at offset `offset` may enter the table, which has `held` entries. The hash rule decides later, in `kept`.
+-- Whether a suffix at offset `offset` may enter the table, which has `entry_count` entries. The hash rule decides later, in `kept`.
 abbrev pub is_kept : Rule → ℕ → ℕ → Bool
-is_kept Plain offset held = false
-is_kept Static offset held = nat_lt offset pointer_end && nat_lt held static_entries
-is_kept Tree offset held = nat_lt offset pointer_end
-is_kept Hash offset held = true
+is_kept Plain offset entry_count = false
+is_kept Static offset entry_count = nat_lt offset pointer_end && nat_lt entry_count static_entries
+is_kept Tree offset entry_count = nat_lt offset pointer_end
+is_kept Hash offset entry_count = true
 
 -- A suffix in the table: a pointer. Else, if the table may take it here: the label, then its parent encoded after it. Else: the whole name uncompressed.
 -- The second component lists the suffixes that are written as labels and may enter the table, each with its offset.
-abbrev pub spell_label : Option Spot → Bool → List ℕ → Labels → ℕ → List ℕ × List (Labels × ℕ) → List ℕ × List (Labels × ℕ)
-spell_label (Some spot) keep label rest offset after = (pointer spot.offset, [])
+abbrev pub spell_label : Option TableEntry → Bool → List ℕ → Labels → ℕ → List ℕ × List (Labels × ℕ) → List ℕ × List (Labels × ℕ)
+spell_label (Some table_entry) keep label rest offset after = (pointer table_entry.offset, [])
 spell_label None true label rest offset after = (framed label ++ after.0, (label ∷ rest, offset) ∷ after.1)
 spell_label None false label rest offset after = (uncompressed (label ∷ rest), [])
 
--- A name encoded at offset `offset`, with `held` entries in the table.
-abbrev pub spell : Rule → Memory → ℕ → ℕ → Labels → List ℕ × List (Labels × ℕ)
-spell rule m offset held [] = (0 ∷ [], [])
-spell rule m offset held (label ∷ rest) =
-    spell_label (get m (label ∷ rest)) (is_kept rule offset held) label rest offset (spell rule m (offset + 1 + length label) (held + 1) rest)
+-- A name encoded at offset `offset`, with `entry_count` entries in the table.
+abbrev pub spell : Rule → CompressionTable → ℕ → ℕ → Labels → List ℕ × List (Labels × ℕ)
+spell rule m offset entry_count [] = (0 ∷ [], [])
+spell rule m offset entry_count (label ∷ rest) =
+    spell_label (get m (label ∷ rest)) (is_kept rule offset entry_count) label rest offset (spell rule m (offset + 1 + length label) (entry_count + 1) rest)
 
 -- The suffixes that enter the table. Under the hash rule it is all or none: none if one of them is past pointer range.
 abbrev pub kept : Rule → List (Labels × ℕ) → List (Labels × ℕ)
@@ -153,7 +153,7 @@ kept Tree suffixes = suffixes
 
 -- The encoding of a name under a rule.
 unfoldable pub put_name : Rule → Labels → Piece
-put_name Plain name m w = record { octets = uncompressed name; memory = m }
+put_name Plain name m w = record { octets = uncompressed name; table = m }
 put_name rule name m w =
     let spelled = spell rule m w (len m) name in
-    record { octets = spelled.0; memory = remember m (kept rule spelled.1) (w + length spelled.0) }
+    record { octets = spelled.0; table = add_suffixes m (kept rule spelled.1) (w + length spelled.0) }

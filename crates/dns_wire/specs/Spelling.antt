@@ -34,12 +34,12 @@ pub record IsShortest (parts : List Part) (n : ℕ) : Type 0 where
 
 -- How parts are written: where their pointers lead, and how short they are if the table was empty. RFC 1035 section 4.1.4.
 
--- The rule can add every suffix to its table, which has `remembered` entries: tree and hash always, static below 24 entries. Then every suffix within pointer range is shared.
+-- The rule can add every suffix to its table, which has `entry_count` entries: tree and hash always, static below 24 entries. Then every suffix within pointer range is shared.
 abbrev pub SharesAll : Rule → ℕ → Type 0
-SharesAll Plain remembered = ⊥
-SharesAll Static remembered = remembered < static_entries
-SharesAll Tree remembered = Unit {0}
-SharesAll Hash remembered = Unit {0}
+SharesAll Plain entry_count = ⊥
+SharesAll Static entry_count = entry_count < static_entries
+SharesAll Tree entry_count = Unit {0}
+SharesAll Hash entry_count = Unit {0}
 
 -- Each pointer in written parts leads to a label at an earlier offset below 16,384.
 abbrev pub PartsPointToLabels : Type 0
@@ -58,6 +58,6 @@ AddsShortest parts before after = (n : ℕ) × (length after.octets ≡ length b
 -- Parts take the octets of a shortest compression, if the table was empty, all their labels are within pointer range, and `SharesAll` holds of the table after them.
 abbrev pub PartsAreShortest : Type 0
 PartsAreShortest = (rule : Rule) (b : List ℕ) (parts : List Part) → AreParts parts
-    → let t : Written = record { octets = b; memory = nothing } in
+    → let t : Written = record { octets = b; table = nothing } in
     let u = lay (put_parts rule parts) t in
-    SharesAll rule (len u.memory) → PartsNear u.octets (length u.octets) (length b) parts → AddsShortest parts t u
+    SharesAll rule (len u.table) → PartsNear u.octets (length u.octets) (length b) parts → AddsShortest parts t u

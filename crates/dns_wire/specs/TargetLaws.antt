@@ -5,8 +5,8 @@ use Rattle.dns_octets.specs.declared.error.AppendError.{AppendError}
 use Rattle.dns_name.specs.Names.{Labels, name_size, max_size, head_at, label_at, IsName, uncompressed, pointer_end, NameAt, Walked}
 use Rattle.dns_name.specs.declared.head.Head.TheVariants.{Root, Label, Pointer}
 use Rattle.dns_wire.specs.Parts.{WellPointed, Part, PartsAt, AreParts, put_parts}
-use Rattle.dns_wire.specs.Pieces.{Memory, Spot, nothing, IsAtOrAfter, IsClear, Rule, Piece, IsGrowing, put_octets, both, put_name}
-use Rattle.dns_wire.specs.Targets.{Remembers, Written, IsTarget, lay, cut_to, overwrite, Appends, Composes}
+use Rattle.dns_wire.specs.Pieces.{CompressionTable, TableEntry, nothing, IsAtOrAfter, IsClear, Rule, Piece, IsGrowing, put_octets, both, put_name}
+use Rattle.dns_wire.specs.Targets.{IsTableOf, Written, IsTarget, lay, cut_to, overwrite, Appends, Composes}
 
 -- Names encoded between two offsets, and octets that agree there. RFC 1035 section 4.1.4.
 
@@ -46,7 +46,7 @@ NamesStayWhenOverwritten = (t : Written) (offset : ℕ) (octets : List ℕ) (lo 
     → NameAtWithin t.octets lo hi p name → NameAtWithin (overwrite offset octets t).octets lo hi p name
 
 -- What holds of a table entry: a pointer can lead to it, a label begins there, and the suffix is encoded there within the octets before its name's end.
-pub record Recalled (b : List ℕ) (s : Labels) (x : Spot) : Type 0 where
+pub record Recalled (b : List ℕ) (s : Labels) (x : TableEntry) : Type 0 where
   pub near : x.offset < pointer_end
   pub ordered : x.offset < x.end
   pub within : x.end ≤ length b
@@ -56,15 +56,15 @@ pub record Recalled (b : List ℕ) (s : Labels) (x : Spot) : Type 0 where
 
 -- `Recalled` holds of every entry of a sound table.
 abbrev pub EntriesAreNames : Type 0
-EntriesAreNames = (b : List ℕ) (m : Memory) (s : Labels) (x : Spot) → Remembers b m → get m s ≡ Some x → Recalled b s x
+EntriesAreNames = (b : List ℕ) (m : CompressionTable) (s : Labels) (x : TableEntry) → IsTableOf b m → get m s ≡ Some x → Recalled b s x
 
 -- If all entries are at or after offset lo, their suffixes use no octet before lo.
 abbrev pub NamesAreAtOrAfter : Type 0
-NamesAreAtOrAfter = (b : List ℕ) (m : Memory) (lo : ℕ) (s : Labels) (x : Spot) → Remembers b m → IsAtOrAfter m lo → get m s ≡ Some x → NameAtWithin b lo x.end x.offset s
+NamesAreAtOrAfter = (b : List ℕ) (m : CompressionTable) (lo : ℕ) (s : Labels) (x : TableEntry) → IsTableOf b m → IsAtOrAfter m lo → get m s ≡ Some x → NameAtWithin b lo x.end x.offset s
 
 -- An empty table is sound for all octets.
 abbrev pub NothingIsTarget : Type 0
-NothingIsTarget = (b : List ℕ) → Remembers b nothing
+NothingIsTarget = (b : List ℕ) → IsTableOf b nothing
 
 -- Appending a name keeps the table sound, under each rule.
 abbrev pub NameKeeps : Type 0
@@ -80,7 +80,7 @@ CutKeeps = (t : Written) (len : ℕ) → IsTarget t → IsTarget (cut_to len t)
 
 -- So does overwriting octets that no name in the table uses.
 abbrev pub OverwriteKeeps : Type 0
-OverwriteKeeps = (t : Written) (offset : ℕ) (octets : List ℕ) → IsClear t.memory offset (length octets) → IsTarget t → IsTarget (overwrite offset octets t)
+OverwriteKeeps = (t : Written) (offset : ℕ) (octets : List ℕ) → IsClear t.table offset (length octets) → IsTarget t → IsTarget (overwrite offset octets t)
 
 -- Truncating to the old length undoes the append of a growing encoding.
 abbrev pub CutUndoes : Type 0
@@ -104,11 +104,11 @@ BothGrow = (a b : Piece) → IsGrowing a → IsGrowing b → IsGrowing (both a b
 
 -- If all entries are at or after an offset within the content, they still are after a growing encoding is appended.
 abbrev pub EncodersStayAtOrAfter : Type 0
-EncodersStayAtOrAfter = (piece : Piece) (t : Written) (offset : ℕ) → IsGrowing piece → offset ≤ length t.octets → IsAtOrAfter t.memory offset → IsAtOrAfter (lay piece t).memory offset
+EncodersStayAtOrAfter = (piece : Piece) (t : Written) (offset : ℕ) → IsGrowing piece → offset ≤ length t.octets → IsAtOrAfter t.table offset → IsAtOrAfter (lay piece t).table offset
 
 -- They still are after a name is appended.
 abbrev pub NamesStayAtOrAfter : Type 0
-NamesStayAtOrAfter = (rule : Rule) (t : Written) (name : Labels) (offset : ℕ) → offset ≤ length t.octets → IsAtOrAfter t.memory offset → IsAtOrAfter (lay (put_name rule name) t).memory offset
+NamesStayAtOrAfter = (rule : Rule) (t : Written) (name : Labels) (offset : ℕ) → offset ≤ length t.octets → IsAtOrAfter t.table offset → IsAtOrAfter (lay (put_name rule name) t).table offset
 
 -- A name is encoded at offset p, its encoding takes the octets p..q, and a pointer there leads to an earlier label below offset 16,384.
 pub record ReadsName (b : List ℕ) (p q : ℕ) (name : Labels) : Type 0 where
@@ -128,7 +128,7 @@ PartsReadBack = (rule : Rule) (t : Written) (parts : List Part) → AreParts par
 
 -- A written name takes at most as many octets as it does uncompressed.
 abbrev pub NamesAreShort : Type 0
-NamesAreShort = (rule : Rule) (name : Labels) (m : Memory) (w : ℕ) → length (put_name rule name m w).octets ≤ length (uncompressed name)
+NamesAreShort = (rule : Rule) (name : Labels) (m : CompressionTable) (w : ℕ) → length (put_name rule name m w).octets ≤ length (uncompressed name)
 
 -- One append of an encoding composes it.
 abbrev pub AppendsCompose : Type 0

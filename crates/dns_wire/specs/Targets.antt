@@ -6,7 +6,7 @@ use Rattle.dns_octets.specs.Octets.{overwritten}
 use Rattle.dns_octets.specs.declared.error.AppendError.{AppendError}
 use Rattle.dns_octets.specs.declared.error.AppendError.TheVariants.{ShortBuf, OutOfMemory}
 use Rattle.dns_name.specs.Names.{Labels, IsLabel, name_size, max_size, framed, pointer_end}
-use Rattle.dns_wire.specs.Pieces.{Memory, Spot, nothing, pointer as pointer_octets, cut, Piece}
+use Rattle.dns_wire.specs.Pieces.{CompressionTable, TableEntry, nothing, pointer as pointer_octets, cut, Piece}
 
 -- Names encoded in the content, and their entries in the compression table. RFC 1035 section 4.1.4.
 
@@ -16,50 +16,50 @@ pub record At (b : List ℕ) (p : ℕ) (xs : List ℕ) : Type 0 where
   pub same : slice_range b p (p + length xs) ≡ xs
 
 -- The octets from offset p to q encode a name: labels, then a zero octet or a pointer to the table's entry for the remaining labels.
-pub data Spelled (m : Memory) (b : List ℕ) (q : ℕ) : ℕ → Labels → Type 0 where
+pub data Spelled (m : CompressionTable) (b : List ℕ) (q : ℕ) : ℕ → Labels → Type 0 where
   root : {p : ℕ} → At b p (0 ∷ []) → q ≡ p + 1 → Spelled m b q p []
   label : {p : ℕ} {first : List ℕ} {rest : Labels} → IsLabel first → At b p (framed first) → Spelled m b q (p + 1 + length first) rest → Spelled m b q p (first ∷ rest)
-  pointer : {p : ℕ} {name : Labels} {x : Spot} → get m name ≡ Some x → x.end ≤ p → At b p (pointer_octets x.offset) → q ≡ p + 2 → Spelled m b q p name
+  pointer : {p : ℕ} {name : Labels} {x : TableEntry} → get m name ≡ Some x → x.end ≤ p → At b p (pointer_octets x.offset) → q ≡ p + 2 → Spelled m b q p name
 
 -- The octets encode a name, and begin with a label.
-abbrev pub Labelled : Memory → List ℕ → ℕ → ℕ → Labels → Type 0
+abbrev pub Labelled : CompressionTable → List ℕ → ℕ → ℕ → Labels → Type 0
 Labelled m b q p [] = ⊥
 Labelled m b q p (first ∷ rest) = IsLabel first × At b p (framed first) × Spelled m b q (p + 1 + length first) rest
 
 -- An entry of the table is sound: a pointer can lead to it, a label begins there, and the octets up to the name's end encode the suffix.
-pub record IsRemembered (b : List ℕ) (m : Memory) (s : Labels) (x : Spot) : Type 0 where
+pub record IsTableEntry (b : List ℕ) (m : CompressionTable) (s : Labels) (x : TableEntry) : Type 0 where
   pub near : x.offset < pointer_end
   pub short : name_size s ≤ max_size
   pub spelled : Labelled m b x.end x.offset s
 
 -- Every entry of the table is sound.
-pub record Remembers (b : List ℕ) (m : Memory) : Type 0 where
-  pub each : (s : Labels) (x : Spot) → get m s ≡ Some x → IsRemembered b m s x
+pub record IsTableOf (b : List ℕ) (m : CompressionTable) : Type 0 where
+  pub each : (s : Labels) (x : TableEntry) → get m s ≡ Some x → IsTableEntry b m s x
 
 -- What a target holds: its content, and the compression table.
 pub record Written : Type 0 where
   pub octets : List ℕ
-  pub memory : Memory
+  pub table : CompressionTable
 
 -- A content with an empty table.
-abbrev pub unremembered : List ℕ → Written
-unremembered octets = record { octets = octets; memory = nothing }
+abbrev pub with_empty_table : List ℕ → Written
+with_empty_table octets = record { octets = octets; table = nothing }
 
 -- What holds of every target: its table is sound.
 abbrev pub IsTarget : Written → Type 0
-IsTarget t = Remembers t.octets t.memory
+IsTarget t = IsTableOf t.octets t.table
 
 -- A target after an encoding is appended.
 abbrev pub lay : Piece → Written → Written
-lay piece t = let laid = piece t.memory (length t.octets) in record { octets = t.octets ++ laid.octets; memory = laid.memory }
+lay piece t = let laid = piece t.table (length t.octets) in record { octets = t.octets ++ laid.octets; table = laid.table }
 
 -- A target after its content is truncated to `len` octets.
 abbrev pub cut_to : ℕ → Written → Written
-cut_to len t = record { octets = take len t.octets; memory = cut t.memory len }
+cut_to len t = record { octets = take len t.octets; table = cut t.table len }
 
 -- A target after octets are overwritten, from offset `offset` on.
 abbrev pub overwrite : ℕ → List ℕ → Written → Written
-overwrite offset octets t = record { octets = overwritten t.octets offset octets; memory = t.memory }
+overwrite offset octets t = record { octets = overwritten t.octets offset octets; table = t.table }
 
 -- A length of n octets is within the capacity, if there is one.
 abbrev pub Fits : Option ℕ → ℕ → Type 0
@@ -98,9 +98,9 @@ pub record Composes (room : Option ℕ) (grows : Bool) (piece : Piece) (before a
 -- What a target holds, coded as plain data, so that it can be the value of a model.
 
 -- The code of a table entry: its offset and its end.
-abbrev pub spot_code : Coded Spot
-spot_code = code_by (ℕ × ℕ) (coded× coded_ℕ coded_ℕ) (λ s. (s.offset, s.end)) (λ p. record { offset = p.0; end = p.1 }) (λ _. refl)
+abbrev pub table_entry_code : Coded TableEntry
+table_entry_code = code_by (ℕ × ℕ) (coded× coded_ℕ coded_ℕ) (λ s. (s.offset, s.end)) (λ p. record { offset = p.0; end = p.1 }) (λ _. refl)
 
 -- The code of a target: its octets and its table.
 abbrev pub written_code : Coded Written
-written_code = code_by (List ℕ × Memory) (coded× (coded_list coded_ℕ) (code (coded_list (coded_list coded_ℕ)) spot_code)) (λ w. (w.octets, w.memory)) (λ p. record { octets = p.0; memory = p.1 }) (λ _. refl)
+written_code = code_by (List ℕ × CompressionTable) (coded× (coded_list coded_ℕ) (code (coded_list (coded_list coded_ℕ)) table_entry_code)) (λ w. (w.octets, w.table)) (λ p. record { octets = p.0; table = p.1 }) (λ _. refl)

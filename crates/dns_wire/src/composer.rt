@@ -1,7 +1,7 @@
 ghost use Rattle.std.specs.Prelude.{◌≡◌, ◌+◌, ◌<◌, ◌≤◌, ℕ, Bool, Option, Some, None, true, false, length, refl, IfOk, OnErr, IsTrue, vec_len, vec_capacity};
 ghost use Rattle.dns_name.specs.Names.{uncompressed};
 ghost use Rattle.dns_wire.specs.Pieces.{IsClear, nothing, Rule, Plain, compresses, put_octets, put_name};
-ghost use Rattle.dns_wire.specs.Targets.{Written, IsTarget, Fits, Appends, cut_to, overwrite, unremembered};
+ghost use Rattle.dns_wire.specs.Targets.{Written, IsTarget, Fits, Appends, cut_to, overwrite, with_empty_table};
 
 use arrayvec::ArrayVec;
 use dns_name::ToName;
@@ -55,11 +55,11 @@ pub trait Composer: Drop {
     /// Overwrites the octets from offset `offset` on, which no name in the table may use.
     fn write_at(&mut self, offset: usize, octets: &[u8])
         requires within { offset + length octets.now ≤ length (written self.old).octets }
-        requires clear { IsClear (written self.old).memory offset (length octets.now) }
+        requires clear { IsClear (written self.old).table offset (length octets.now) }
         ensures { written self.new ≡ overwrite offset octets.now (written self.old) };
 
     /// A target that doesn't compress has an empty table.
-    ghost plain_forgets: { rule ≡ Plain → (t : Self) → (written t).memory ≡ nothing };
+    ghost plain_forgets: { rule ≡ Plain → (t : Self) → (written t).table ≡ nothing };
 }
 
 /// A target that can be converted into the octets that it holds.
@@ -91,7 +91,7 @@ impl Composer for Vec<u8> {
 
     ghost grows = { true };
 
-    ghost written = { λ v. unremembered v.items };
+    ghost written = { λ v. with_empty_table v.items };
 
     ghost plain_forgets = { λ _ _. refl };
 
@@ -101,7 +101,7 @@ impl Composer for Vec<u8> {
 
     fn append_slice(&mut self, octets: &[u8]) -> Result<(), AppendError>
         ensures appends { Appends None true (put_octets octets.now)
-            (unremembered self.old.items) (unremembered self.new.items) result }
+            (with_empty_table self.old.items) (with_empty_table self.new.items) result }
         ensures full { result ≡ Err AppendError.OutOfMemory
             → vec_capacity self.old < vec_len self.old + length octets.now }
     {
@@ -116,7 +116,7 @@ impl Composer for Vec<u8> {
     #[tactic(auto, unfolding(crate::specs::Pieces::put_name))]
     fn append_compressed_name<N: ToName>(&mut self, name: &N) -> Result<(), AppendError>
         ensures appends { Appends None true (put_name Plain (N.name name.now))
-            (unremembered self.old.items) (unremembered self.new.items) result }
+            (with_empty_table self.old.items) (with_empty_table self.new.items) result }
         ensures full { result ≡ Err AppendError.OutOfMemory → vec_capacity self.old
             < vec_len self.old + length (uncompressed (N.name name.now)) }
     {
@@ -130,7 +130,7 @@ impl Composer for Vec<u8> {
         false
     }
 
-    #[tactic(auto, using(crate::proofs::theory::Memories::cut_nothing, crate::proofs::theory::Memories::nothing_is_kept))]
+    #[tactic(auto, using(crate::proofs::theory::CompressionTables::cut_nothing, crate::proofs::theory::CompressionTables::nothing_is_kept))]
     fn truncate(&mut self, len: usize) {
         self.truncate(len);
     }
@@ -161,7 +161,7 @@ impl<const N: usize> Composer for ArrayVec<u8, N> {
 
     ghost grows = { false };
 
-    ghost written = { λ v. unremembered v.items };
+    ghost written = { λ v. with_empty_table v.items };
 
     ghost plain_forgets = { λ _ _. refl };
 
@@ -186,7 +186,7 @@ impl<const N: usize> Composer for ArrayVec<u8, N> {
         false
     }
 
-    #[tactic(auto, using(crate::proofs::theory::Memories::cut_nothing, crate::proofs::theory::Memories::nothing_is_kept))]
+    #[tactic(auto, using(crate::proofs::theory::CompressionTables::cut_nothing, crate::proofs::theory::CompressionTables::nothing_is_kept))]
     fn truncate(&mut self, len: usize) {
         self.truncate(len)
     }

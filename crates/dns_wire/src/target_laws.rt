@@ -19,7 +19,7 @@ pub fn encoded_names_are_stable()
 
 /// Each suffix in the compression table is encoded where the table says. Appends, truncations and
 /// overwrites preserve this. Truncating to the old length undoes an append.
-pub fn memory_is_sound()
+pub fn table_is_sound()
     ensures encoded { EntriesAreNames }
     ensures names_are_at_or_after { NamesAreAtOrAfter }
     ensures nothing { NothingIsTarget }

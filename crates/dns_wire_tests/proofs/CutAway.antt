@@ -21,7 +21,7 @@ pub goes_on : (len : ℕ) (t u v : Written) (room : Option ℕ) (grows : Bool) (
 goes_on len t u v room grows piece (Ok x) growing on appends =
     let l = on.long in
     subst (GoesOn len t) (sym appends.ok) (record {
-      long = let n = length-append u.octets (piece u.memory (length u.octets)).octets in omega arith;
+      long = let n = length-append u.octets (piece u.table (length u.octets)).octets in omega arith;
       cut = cut_to-lay piece u len growing l ∙ on.cut;
     })
 goes_on len t u v room grows piece (Err e) growing on appends = subst (GoesOn len t) (sym appends.err) on

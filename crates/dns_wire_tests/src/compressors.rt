@@ -257,7 +257,7 @@ fn each_writes_these_rows(rt: HostRuntime) {
 
 /// Each growth of the target is refused.
 #[test]
-fn want_of_memory_is_told(rt: HostRuntime) {
+fn out_of_memory_is_reported(rt: HostRuntime) {
     let row = "no memory";
     let alloc = rt.alloc();
     assert_row(&rt, row, StaticCompressor::new(Refusing), WANT);

@@ -46,7 +46,7 @@ fn writes_to_a_vec_and_to_an_array_vec(rt: HostRuntime) {
 
 fn assert_written_over<T: Composer>(rt: &impl Abort, target: &mut T)
     requires within { 4 ≤ length (T.written target.old).octets }
-    requires clear { IsClear (T.written target.old).memory 1 2 }
+    requires clear { IsClear (T.written target.old).table 1 2 }
 {
     target.write_at(1, b"XY");
     let octets = b"aXYd".as_slice();
@@ -100,7 +100,7 @@ impl Composer for Refusing {
 
     ghost grows = { true };
 
-    ghost written = { λ _. record { octets = []; memory = nothing } };
+    ghost written = { λ _. record { octets = []; table = nothing } };
 
     ghost plain_forgets = { λ _ _. refl };
 
@@ -120,7 +120,7 @@ impl Composer for Refusing {
         false
     }
 
-    #[tactic(auto, using(dns_wire::proofs::theory::Memories::cut_nothing, dns_wire::proofs::theory::Memories::nothing_is_kept))]
+    #[tactic(auto, using(dns_wire::proofs::theory::CompressionTables::cut_nothing, dns_wire::proofs::theory::CompressionTables::nothing_is_kept))]
     fn truncate(&mut self, _len: usize) {}
 
     fn write_at(&mut self, _offset: usize, _octets: &[u8]) {}

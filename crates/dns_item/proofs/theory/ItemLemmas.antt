@@ -1,7 +1,7 @@
 -- Records that are written are at their offset, and are read there.
 use Rattle.std.proofs.Common.{◌≡◌, ℕ, ◌+◌, ◌-◌, ◌≤◌, ◌++◌, length, arith, sym, refl, subst}
 use Rattle.std.specs.Int.{to_be_bytes, w16, w32}
-use Rattle.dns_wire.specs.Pieces.{Memory, Rule, put_octets, both, with_length, put_name}
+use Rattle.dns_wire.specs.Pieces.{CompressionTable, Rule, put_octets, both, with_length, put_name}
 use Rattle.dns_name.specs.Names.{name_size, max_size}
 use Rattle.dns_name.specs.Parsers.{number_at}
 use Rattle.dns_wire.specs.Parts.{PartsAt, put_parts}
@@ -33,7 +33,7 @@ pub puts_record : (rule : Rule) (x : RecordItem) → IsRecord x → Puts (put_re
 unfolding put_record
 puts_record rule x is =
     let inner = put_parts rule x.parts in
-    let small : (m : Memory) (w : ℕ) → length (inner m w).octets ≤ 65535 = λ m w. let a = parts_are_short rule x.parts m w in let b = is.short in omega arith in
+    let small : (m : CompressionTable) (w : ℕ) → length (inner m w).octets ≤ 65535 = λ m w. let a = parts_are_short rule x.parts m w in let b = is.short in omega arith in
     let last = puts_with_length inner (HasParts x.parts) small (puts_parts rule x.parts is.parts) in
     let after = puts_both (put_octets (record_fields x)) (with_length inner) (HasOctets (record_fields x)) (HasLength (HasParts x.parts)) (stable_octets (record_fields x)) (puts_octets (record_fields x)) last in
     puts_both (put_name rule x.owner) (both (put_octets (record_fields x)) (with_length inner)) (HasName x.owner) (Consecutive (HasOctets (record_fields x)) (HasLength (HasParts x.parts)))

@@ -10,25 +10,25 @@ use Rattle.dns_octets.specs.declared.error.AppendError.{AppendError}
 use Rattle.dns_octets.specs.declared.error.AppendError.TheVariants.{ShortBuf, OutOfMemory}
 use Rattle.dns_name.specs.Names.{Labels, IsName}
 use Rattle.dns_name.specs.Parsers.{number_at}
-use Rattle.dns_wire.specs.Pieces.{Rule, Piece, IsGrowing, put_octets, both, put_name, Memory, with_length, Spot, cut, ends_within}
+use Rattle.dns_wire.specs.Pieces.{Rule, Piece, IsGrowing, put_octets, both, put_name, CompressionTable, with_length, TableEntry, cut, ends_within}
 use Rattle.dns_wire.specs.Parts.{Part, Octets, CompressibleName, PartsAt, AreParts, put_parts}
 use Rattle.dns_wire.specs.Targets.{At, Spelled, Written, IsTarget, lay, cut_to, Fits, Passes, AnswersInSteps, Composes}
 use Rattle.dns_wire.specs.TargetLaws.{CutUndoes, AppendsCompose, ComposesBoth, ComposesFirst}
-use Rattle.dns_wire.proofs.theory.Memories.{cut-extends, cut-within, gets, get-cut, same_memory}
+use Rattle.dns_wire.proofs.theory.CompressionTables.{cut-extends, cut-within, gets, get-cut, same_table}
 use Rattle.dns_wire.proofs.theory.PutNames.{put_name_grows, put_octets_grows, both_grows, with_length_grows, ends_within_content, puts_name}
 use Rattle.dns_wire.proofs.theory.SpelledNames.{at_append, at_end, spelled_long, spelled_more, kept_more, name_at_up_to, walked_within}
 
 -- Targets with the same octets and the same table are the same.
-pub same_written : (t u : Written) → t.octets ≡ u.octets → t.memory ≡ u.memory → t ≡ u
-same_written t u p q = λ i. record { octets = p i; memory = q i }
+pub same_written : (t u : Written) → t.octets ≡ u.octets → t.table ≡ u.table → t ≡ u
+same_written t u p q = λ i. record { octets = p i; table = q i }
 
 -- Truncating to the length before a growing encoding undoes it.
 pub cut_undoes : CutUndoes
 cut_undoes piece t grows is =
-    let laid = piece t.memory (length t.octets) in
+    let laid = piece t.table (length t.octets) in
     same_written _ _ (take-append_seam t.octets laid.octets)
-    (cut-extends t.memory laid.memory (length t.octets) (length t.octets + length laid.octets) (length t.octets) (omega arith) (grows.grows t.memory (length t.octets))
-    ∙ cut-within t.memory (length t.octets) (ends_within_content is))
+    (cut-extends t.table laid.table (length t.octets) (length t.octets + length laid.octets) (length t.octets) (omega arith) (grows.grows t.table (length t.octets))
+    ∙ cut-within t.table (length t.octets) (ends_within_content is))
 
 -- Appending two encodings in turn appends both.
 pub lay-both : (a b : Piece) (t : Written) → lay b (lay a t) ≡ lay (both a b) t
@@ -78,27 +78,27 @@ stable_octets xs = record { stays = λ piece t p q grows h. (at_append _ h.0, h.
 pub puts_octets : (xs : List ℕ) → Puts (put_octets xs) (HasOctets xs)
 puts_octets xs = record {
   grows = put_octets_grows xs;
-  keeps = λ t h. record { each = λ s x e. kept_more t.memory xs s x (λ s x e. e) (h.each s x e) };
+  keeps = λ t h. record { each = λ s x e. kept_more t.table xs s x (λ s x e. e) (h.each s x e) };
   puts = λ t h. (at_end t.octets xs, length-append t.octets xs);
 }
 
 -- The name is encoded between the offsets.
 abbrev pub HasName : Labels → Written → ℕ → ℕ → Type 0
-HasName name t p q = Spelled t.memory t.octets q p name
+HasName name t p q = Spelled t.table t.octets q p name
 
 -- Encoded names are stable.
 pub stable_name : (name : Labels) → IsStable (HasName name)
-stable_name name = record { stays = λ piece t p q grows h. spelled_more _ _ (gets (grows.grows t.memory (length t.octets))) h }
+stable_name name = record { stays = λ piece t p q grows h. spelled_more _ _ (gets (grows.grows t.table (length t.octets))) h }
 
 -- A name is encoded where it was written.
 pub puts_put_name : (rule : Rule) (name : Labels) → IsName name → Puts (put_name rule name) (HasName name)
 puts_put_name rule name is = record {
   grows = put_name_grows rule name;
-  keeps = λ t h. (puts_name rule t.memory t.octets name is h).remembers;
+  keeps = λ t h. (puts_name rule t.table t.octets name is h).is_table;
   puts = λ t h.
-      let laid = put_name rule name t.memory (length t.octets) in
+      let laid = put_name rule name t.table (length t.octets) in
       let e : length t.octets + length laid.octets ≡ length (t.octets ++ laid.octets) = sym (length-append t.octets laid.octets) in
-      subst (λ q. Spelled laid.memory (t.octets ++ laid.octets) q (length t.octets) name) e (puts_name rule t.memory t.octets name is h).spelled;
+      subst (λ q. Spelled laid.table (t.octets ++ laid.octets) q (length t.octets) name) e (puts_name rule t.table t.octets name is h).spelled;
 }
 
 -- The parts are encoded between the offsets, in order.
@@ -169,7 +169,7 @@ stable_length P f = record { stays = λ piece t p q grows h. (at_append _ h.0, f
 
 -- The octets that an encoding takes after its length.
 pub length_of : Piece → Written → ℕ
-length_of a t = length (a t.memory (length t.octets + 2)).octets
+length_of a t = length (a t.table (length t.octets + 2)).octets
 
 -- An encoding preceded by its length is two encodings.
 pub lay-with_length : (a : Piece) (t : Written) → lay (both (put_octets (to_be_bytes w16 (length_of a t))) a) t ≡ lay (with_length a) t
@@ -180,16 +180,16 @@ size-with_length : (a : Piece) (t : Written)
     → length (lay (both (put_octets (to_be_bytes w16 (length_of a t))) a) t).octets ≡ length t.octets + 2 + length_of a t
 unfolding length_of
 size-with_length a t =
-    let text = (a t.memory (length t.octets + 2)).octets in
+    let text = (a t.table (length t.octets + 2)).octets in
     let n = length-append t.octets (to_be_bytes w16 (length text) ++ text) in
     omega arith
 
-length_small : (a : Piece) (t : Written) → ((m : Memory) (w : ℕ) → length (a m w).octets ≤ 65535) → length_of a t ≤ 65535
+length_small : (a : Piece) (t : Written) → ((m : CompressionTable) (w : ℕ) → length (a m w).octets ≤ 65535) → length_of a t ≤ 65535
 unfolding length_of
-length_small a t small = small t.memory (length t.octets + 2)
+length_small a t small = small t.table (length t.octets + 2)
 
 -- An encoding of at most 65,535 octets is written after its length.
-pub puts_with_length : (a : Piece) (P : Written → ℕ → ℕ → Type 0) → ((m : Memory) (w : ℕ) → length (a m w).octets ≤ 65535) → Puts a P → Puts (with_length a) (HasLength P)
+pub puts_with_length : (a : Piece) (P : Written → ℕ → ℕ → Type 0) → ((m : CompressionTable) (w : ℕ) → length (a m w).octets ≤ 65535) → Puts a P → Puts (with_length a) (HasLength P)
 puts_with_length a P small x = record {
   grows = with_length_grows a x.grows;
   keeps = λ t h.
@@ -211,26 +211,26 @@ puts_with_length a P small x = record {
 -- Encodings that are appended in several steps.
 
 -- Of two truncations of an entry the shorter one counts.
-twice_at : (d e : ℕ) (x : Spot) (p : Option Spot) → d ≤ e → (b : Bool) → nat_le x.end e ≡ b → p ≡ cond b (Some x) None → cond (ends_within d p) p None ≡ cond (nat_le x.end d) (Some x) None
+twice_at : (d e : ℕ) (x : TableEntry) (p : Option TableEntry) → d ≤ e → (b : Bool) → nat_le x.end e ≡ b → p ≡ cond b (Some x) None → cond (ends_within d p) p None ≡ cond (nat_le x.end d) (Some x) None
 twice_at d e x p l true is h = rw h refl
 twice_at d e x p l false is h = rw h (let late : e < x.end = grind (arith, common_steps) in grind (arith, common_steps))
 
 -- The same if there is no entry.
-twice : (d e : ℕ) (o p : Option Spot) → d ≤ e → p ≡ cond (ends_within e o) o None → cond (ends_within d p) p None ≡ cond (ends_within d o) o None
+twice : (d e : ℕ) (o p : Option TableEntry) → d ≤ e → p ≡ cond (ends_within e o) o None → cond (ends_within d p) p None ≡ cond (ends_within d o) o None
 twice d e None p l h = rw h refl
 twice d e (Some x) p l h = twice_at d e x p l (nat_le x.end e) refl h
 
 -- Of two truncations of a table the shorter one counts.
-pub cut-cut : (m : Memory) (d e : ℕ) → d ≤ e → cut (cut m e) d ≡ cut m d
-cut-cut m d e l = same_memory _ _ (λ q. get-cut (cut m e) d q ∙ twice d e (get m q) (get (cut m e) q) l (get-cut m e q) ∙ sym (get-cut m d q))
+pub cut-cut : (m : CompressionTable) (d e : ℕ) → d ≤ e → cut (cut m e) d ≡ cut m d
+cut-cut m d e l = same_table _ _ (λ q. get-cut (cut m e) d q ∙ twice d e (get m q) (get (cut m e) q) l (get-cut m e q) ∙ sym (get-cut m d q))
 
 -- Of two truncations of a target the shorter one counts.
 cut_to-cut_to : (t : Written) (d e : ℕ) → d ≤ e → cut_to d (cut_to e t) ≡ cut_to d t
-cut_to-cut_to t d e l = same_written _ _ (grind (arith, common_steps)) (cut-cut t.memory d e l)
+cut_to-cut_to t d e l = same_written _ _ (grind (arith, common_steps)) (cut-cut t.table d e l)
 
 -- Truncating to or below the length before a growing encoding leaves nothing of it.
 pub cut_to-lay : (piece : Piece) (t : Written) (w : ℕ) → IsGrowing piece → w ≤ length t.octets → cut_to w (lay piece t) ≡ cut_to w t
-cut_to-lay piece t w g l = same_written _ _ (take-append-le w t.octets _ l) (cut-extends t.memory _ (length t.octets) _ w l (g.grows t.memory (length t.octets)))
+cut_to-lay piece t w g l = same_written _ _ (take-append-le w t.octets _ l) (cut-extends t.table _ (length t.octets) _ w l (g.grows t.table (length t.octets)))
 
 -- If n octets exceed the capacity, so do k ≥ n.
 passes_more : (room : Option ℕ) (n k : ℕ) → n ≤ k → Passes room n → Passes room k

@@ -8,77 +8,77 @@ use Rattle.std.proofs.lemmas.Grind.{common_steps}
 use Rattle.std.specs.Ordering.{eq_by_cmp}
 use Rattle.dns_name.specs.Names.{Labels, IsName, name_size, max_size, uncompressed, framed}
 use Rattle.dns_name.proofs.theory.Spelling.{name_tail}
-use Rattle.dns_wire.specs.Pieces.{Spot, Memory, remember, Extends, IsGrowing, Rule, Plain, Static, Tree, Hash, Piece, put_octets, both, with_length, spell_label, spell, kept, pointer as put_pointer, put_name, IsWithin, suffix_cmp, suffix_total, is_kept}
+use Rattle.dns_wire.specs.Pieces.{TableEntry, CompressionTable, add_suffixes, Extends, IsGrowing, Rule, Plain, Static, Tree, Hash, Piece, put_octets, both, with_length, spell_label, spell, kept, pointer as put_pointer, put_name, IsWithin, suffix_cmp, suffix_total, is_kept}
 use Rattle.dns_wire.specs.Parts.{Part, Octets, CompressibleName, put_part, put_parts}
-use Rattle.dns_wire.specs.Targets.{At, Spelled, Labelled, IsRemembered, Remembers}
+use Rattle.dns_wire.specs.Targets.{At, Spelled, Labelled, IsTableEntry, IsTableOf}
 use Rattle.dns_wire.specs.Targets.Spelled.{root, label, pointer}
-use Rattle.dns_wire.proofs.theory.Memories.{extends_refl, extends_wider, extends_join, inserted, gets, tied}
+use Rattle.dns_wire.proofs.theory.CompressionTables.{extends_refl, extends_wider, extends_join, inserted, gets, tied}
 use Rattle.dns_wire.proofs.theory.SpelledNames.{at_end, label_part, after_label, moved, kept_moved, kept_more, kept_spelled, spelled_long}
 
 -- The encodings of names, octets and parts add only suffixes of their own octets.
 
 -- The suffixes aren't in the table, and are at or after offset w.
-abbrev AreNew : Memory → ℕ → List (Labels × ℕ) → Type 0
+abbrev AreNew : CompressionTable → ℕ → List (Labels × ℕ) → Type 0
 AreNew m w [] = Unit {0}
 AreNew m w (s ∷ ss) = (get m s.0 ≡ None) × (w ≤ s.1) × AreNew m w ss
 
-newer : (m : Memory) (w w' : ℕ) (ss : List (Labels × ℕ)) → w' ≤ w → AreNew m w ss → AreNew m w' ss
+newer : (m : CompressionTable) (w w' : ℕ) (ss : List (Labels × ℕ)) → w' ≤ w → AreNew m w ss → AreNew m w' ss
 newer m w w' [] l h = tt
 newer m w w' (s ∷ ss) l h = (h.0, omega (arith, h.1), newer m w w' ss l h.2)
 
 -- How a name is encoded: its octets, and the suffixes that are written out.
-pub data SpellsAs (rule : Rule) (m : Memory) : ℕ → ℕ → Labels → List ℕ → List (Labels × ℕ) → Type 0 where
-  at_root : {p held : ℕ} → SpellsAs rule m p held [] (0 ∷ []) []
-  at_known : {p held : ℕ} {first : List ℕ} {rest : Labels} {x : Spot} → get m (first ∷ rest) ≡ Some x → SpellsAs rule m p held (first ∷ rest) (put_pointer x.offset) []
-  at_kept : {p held : ℕ} {first : List ℕ} {rest : Labels} {text : List ℕ} {ss : List (Labels × ℕ)} → get m (first ∷ rest) ≡ None → is_kept rule p held ≡ true
-      → SpellsAs rule m (p + 1 + length first) (held + 1) rest text ss → SpellsAs rule m p held (first ∷ rest) (framed first ++ text) ((first ∷ rest, p) ∷ ss)
-  at_far : {p held : ℕ} {first : List ℕ} {rest : Labels} → get m (first ∷ rest) ≡ None → is_kept rule p held ≡ false → SpellsAs rule m p held (first ∷ rest) (uncompressed (first ∷ rest)) []
+pub data SpellsAs (rule : Rule) (m : CompressionTable) : ℕ → ℕ → Labels → List ℕ → List (Labels × ℕ) → Type 0 where
+  at_root : {p entry_count : ℕ} → SpellsAs rule m p entry_count [] (0 ∷ []) []
+  at_entry : {p entry_count : ℕ} {first : List ℕ} {rest : Labels} {x : TableEntry} → get m (first ∷ rest) ≡ Some x → SpellsAs rule m p entry_count (first ∷ rest) (put_pointer x.offset) []
+  at_kept : {p entry_count : ℕ} {first : List ℕ} {rest : Labels} {text : List ℕ} {ss : List (Labels × ℕ)} → get m (first ∷ rest) ≡ None → is_kept rule p entry_count ≡ true
+      → SpellsAs rule m (p + 1 + length first) (entry_count + 1) rest text ss → SpellsAs rule m p entry_count (first ∷ rest) (framed first ++ text) ((first ∷ rest, p) ∷ ss)
+  at_far : {p entry_count : ℕ} {first : List ℕ} {rest : Labels} → get m (first ∷ rest) ≡ None → is_kept rule p entry_count ≡ false → SpellsAs rule m p entry_count (first ∷ rest) (uncompressed (first ∷ rest)) []
 
-label_as : (rule : Rule) (m : Memory) (p held : ℕ) (o : Option Spot) (keep : Bool) (first : List ℕ) (rest : Labels) (after : List ℕ × List (Labels × ℕ)) → get m (first ∷ rest) ≡ o → is_kept rule p held ≡ keep
-    → SpellsAs rule m (p + 1 + length first) (held + 1) rest after.0 after.1 → let spelled = spell_label o keep first rest p after in SpellsAs rule m p held (first ∷ rest) spelled.0 spelled.1
-label_as rule m p held (Some x) keep first rest after e k s = at_known e
-label_as rule m p held None true first rest after e k s = at_kept e k s
-label_as rule m p held None false first rest after e k s = at_far e k
+label_as : (rule : Rule) (m : CompressionTable) (p entry_count : ℕ) (o : Option TableEntry) (keep : Bool) (first : List ℕ) (rest : Labels) (after : List ℕ × List (Labels × ℕ)) → get m (first ∷ rest) ≡ o → is_kept rule p entry_count ≡ keep
+    → SpellsAs rule m (p + 1 + length first) (entry_count + 1) rest after.0 after.1 → let spelled = spell_label o keep first rest p after in SpellsAs rule m p entry_count (first ∷ rest) spelled.0 spelled.1
+label_as rule m p entry_count (Some x) keep first rest after e k s = at_entry e
+label_as rule m p entry_count None true first rest after e k s = at_kept e k s
+label_as rule m p entry_count None false first rest after e k s = at_far e k
 
-pub spells_as : (rule : Rule) (m : Memory) (p held : ℕ) (name : Labels) → let spelled = spell rule m p held name in SpellsAs rule m p held name spelled.0 spelled.1
-spells_as rule m p held [] = at_root
-spells_as rule m p held (first ∷ rest) = label_as rule m p held _ _ first rest _ refl refl (spells_as rule m (p + 1 + length first) (held + 1) rest)
+pub spells_as : (rule : Rule) (m : CompressionTable) (p entry_count : ℕ) (name : Labels) → let spelled = spell rule m p entry_count name in SpellsAs rule m p entry_count name spelled.0 spelled.1
+spells_as rule m p entry_count [] = at_root
+spells_as rule m p entry_count (first ∷ rest) = label_as rule m p entry_count _ _ first rest _ refl refl (spells_as rule m (p + 1 + length first) (entry_count + 1) rest)
 
 -- The suffixes that are written out are new.
-spell_new : {rule : Rule} {m : Memory} {p held : ℕ} {name : Labels} {text : List ℕ} {ss : List (Labels × ℕ)} → SpellsAs rule m p held name text ss → AreNew m p ss
+spell_new : {rule : Rule} {m : CompressionTable} {p entry_count : ℕ} {name : Labels} {text : List ℕ} {ss : List (Labels × ℕ)} → SpellsAs rule m p entry_count name text ss → AreNew m p ss
 spell_new at_root = tt
-spell_new (at_known e) = tt
+spell_new (at_entry e) = tt
 spell_new {m = m} (at_kept {p = p} {first = first} {ss = ss} e k s) = (e, omega arith, newer m (p + 1 + length first) p ss (omega arith) (spell_new s))
 spell_new (at_far e k) = tt
 
-chosen_new : (m : Memory) (w : ℕ) (b : Bool) (ss : List (Labels × ℕ)) → AreNew m w ss → AreNew m w (cond b ss [])
+chosen_new : (m : CompressionTable) (w : ℕ) (b : Bool) (ss : List (Labels × ℕ)) → AreNew m w ss → AreNew m w (cond b ss [])
 chosen_new m w true ss h = h
 chosen_new m w false ss h = tt
 
 -- Those of them that enter the table are new.
-kept_new : (rule : Rule) (m : Memory) (w : ℕ) (ss : List (Labels × ℕ)) → AreNew m w ss → AreNew m w (kept rule ss)
+kept_new : (rule : Rule) (m : CompressionTable) (w : ℕ) (ss : List (Labels × ℕ)) → AreNew m w ss → AreNew m w (kept rule ss)
 kept_new Plain m w ss h = tt
 kept_new Static m w ss h = h
 kept_new Tree m w ss h = h
 kept_new Hash m w ss h = chosen_new m w _ ss h
 
 -- Adding new suffixes extends the table.
-extends-remember : (m : Memory) (ss : List (Labels × ℕ)) (w end : ℕ) → w < end → AreNew m w ss → Extends m (remember m ss end) w end
-extends-remember m [] w end l h = extends_refl m w end
-extends-remember m (s ∷ ss) w end l h =
-    inserted m (remember m ss end) s.0 (record { offset = s.1; end = end }) w end (extends-remember m ss w end l h.2) h.0 h.1 l (omega arith)
+extends-add_suffixes : (m : CompressionTable) (ss : List (Labels × ℕ)) (w end : ℕ) → w < end → AreNew m w ss → Extends m (add_suffixes m ss end) w end
+extends-add_suffixes m [] w end l h = extends_refl m w end
+extends-add_suffixes m (s ∷ ss) w end l h =
+    inserted m (add_suffixes m ss end) s.0 (record { offset = s.1; end = end }) w end (extends-add_suffixes m ss w end l h.2) h.0 h.1 l (omega arith)
 
 -- A written name takes at least one octet.
-spell_long : {rule : Rule} {m : Memory} {p held : ℕ} {name : Labels} {text : List ℕ} {ss : List (Labels × ℕ)} → SpellsAs rule m p held name text ss → 0 < length text
+spell_long : {rule : Rule} {m : CompressionTable} {p entry_count : ℕ} {name : Labels} {text : List ℕ} {ss : List (Labels × ℕ)} → SpellsAs rule m p entry_count name text ss → 0 < length text
 spell_long at_root = omega arith
-spell_long (at_known e) = omega arith
+spell_long (at_entry e) = omega arith
 spell_long (at_kept e k s) = omega arith
 spell_long (at_far e k) = omega arith
 
 -- Adding the suffixes of a name extends the table.
-named : (rule : Rule) (name : Labels) (m : Memory) (w held : ℕ)
-    → let spelled = spell rule m w held name in Extends m (remember m (kept rule spelled.1) (w + length spelled.0)) w (w + length spelled.0)
-named rule name m w held = let long = spell_long (spells_as rule m w held name) in extends-remember m _ w _ (omega arith) (kept_new rule m w _ (spell_new (spells_as rule m w held name)))
+named : (rule : Rule) (name : Labels) (m : CompressionTable) (w entry_count : ℕ)
+    → let spelled = spell rule m w entry_count name in Extends m (add_suffixes m (kept rule spelled.1) (w + length spelled.0)) w (w + length spelled.0)
+named rule name m w entry_count = let long = spell_long (spells_as rule m w entry_count name) in extends-add_suffixes m _ w _ (omega arith) (kept_new rule m w _ (spell_new (spells_as rule m w entry_count name)))
 
 -- The encoding of a name is growing.
 pub put_name_grows : (rule : Rule) (name : Labels) → IsGrowing (put_name rule name)
@@ -98,12 +98,12 @@ both_grows a b g h = record {
   grows = λ m w.
       let first = a m w in
       let v = w + length first.octets in
-      let second = b first.memory v in
+      let second = b first.table v in
       let size : length (first.octets ++ second.octets) ≡ length first.octets + length second.octets = length-append _ _ in
       let end = w + length (first.octets ++ second.octets) in
-      extends_join m first.memory second.memory w end
-      (extends_wider m first.memory w v w end (omega arith) (omega arith) (g.grows m w))
-      (extends_wider first.memory second.memory v (v + length second.octets) w end (omega arith) (omega arith) (h.grows first.memory v));
+      extends_join m first.table second.table w end
+      (extends_wider m first.table w v w end (omega arith) (omega arith) (g.grows m w))
+      (extends_wider first.table second.table v (v + length second.octets) w end (omega arith) (omega arith) (h.grows first.table v));
 }
 
 -- A growing encoding preceded by its length is growing.
@@ -111,7 +111,7 @@ pub with_length_grows : (a : Piece) → IsGrowing a → IsGrowing (with_length a
 with_length_grows a g = record {
   grows = λ m w.
       let laid = a m (w + 2) in
-      extends_wider m laid.memory (w + 2) (w + 2 + length laid.octets) w _ (omega arith) (omega arith) (g.grows m (w + 2));
+      extends_wider m laid.table (w + 2) (w + 2 + length laid.octets) w _ (omega arith) (omega arith) (g.grows m (w + 2));
 }
 
 -- The encoding of a part is growing.
@@ -131,7 +131,7 @@ Each P [] = Unit {0}
 Each P (s ∷ ss) = P s × Each P ss
 
 -- The uncompressed octets of a name encode it.
-spelled_full : (m : Memory) (b : List ℕ) (q p : ℕ) (name : Labels) → IsName name → At b p (uncompressed name) → q ≡ p + length (uncompressed name) → Spelled m b q p name
+spelled_full : (m : CompressionTable) (b : List ℕ) (q p : ℕ) (name : Labels) → IsName name → At b p (uncompressed name) → q ≡ p + length (uncompressed name) → Spelled m b q p name
 spelled_full m b q p [] is h e = root h e
 spelled_full m b q p (first ∷ rest) is h e =
     let t = name_tail first rest is in
@@ -140,14 +140,14 @@ spelled_full m b q p (first ∷ rest) is h e =
     (spelled_full m b q (p + 1 + length first) rest t.1 (after_label first (uncompressed rest) h) (omega arith))
 
 -- Names that end within p octets end within q ≥ p octets.
-later : (m : Memory) (p q : ℕ) → p ≤ q → IsWithin m p → IsWithin m q
+later : (m : CompressionTable) (p q : ℕ) → p ≤ q → IsWithin m p → IsWithin m q
 later m p q l ends s x e = omega (arith, ends s x e)
 
 -- The written octets of a name encode it.
-spelled_by : {rule : Rule} {m : Memory} {p held : ℕ} {name : Labels} {text : List ℕ} {ss : List (Labels × ℕ)} (b : List ℕ) (q : ℕ) → SpellsAs rule m p held name text ss → IsName name → IsWithin m p
+spelled_by : {rule : Rule} {m : CompressionTable} {p entry_count : ℕ} {name : Labels} {text : List ℕ} {ss : List (Labels × ℕ)} (b : List ℕ) (q : ℕ) → SpellsAs rule m p entry_count name text ss → IsName name → IsWithin m p
     → At b p text → q ≡ p + length text → Spelled m b q p name
 spelled_by b q at_root is ends h e = root h e
-spelled_by b q (at_known {first = first} {rest = rest} {x = x} g) is ends h e = pointer g (ends (first ∷ rest) x g) h (omega arith)
+spelled_by b q (at_entry {first = first} {rest = rest} {x = x} g) is ends h e = pointer g (ends (first ∷ rest) x g) h (omega arith)
 spelled_by {m = m} b q (at_kept {p = p} {first = first} {rest = rest} {text = text} g k s) is ends h e =
     let n = length-append first text in
     let tail = name_tail first rest is in
@@ -166,101 +166,101 @@ NearFor Tree p = IsNear p
 NearFor Hash p = Unit {0}
 
 -- This holds of a suffix that may enter the table.
-near_for : (rule : Rule) (p held : ℕ) → is_kept rule p held ≡ true → NearFor rule p
-near_for Plain p held e = tt
-near_for Static p held e = grind (arith, common_steps)
-near_for Tree p held e = grind (arith, common_steps)
-near_for Hash p held e = tt
+near_for : (rule : Rule) (p entry_count : ℕ) → is_kept rule p entry_count ≡ true → NearFor rule p
+near_for Plain p entry_count e = tt
+near_for Static p entry_count e = grind (arith, common_steps)
+near_for Tree p entry_count e = grind (arith, common_steps)
+near_for Hash p entry_count e = tt
 
 -- A suffix that is written out is encoded at its offset, of which `Near` holds.
-record Out (Near : ℕ → Type 0) (m : Memory) (b : List ℕ) (q : ℕ) (s : Labels × ℕ) : Type 0 where
+record Out (Near : ℕ → Type 0) (m : CompressionTable) (b : List ℕ) (q : ℕ) (s : Labels × ℕ) : Type 0 where
   spelled : Labelled m b q s.1 s.0
   short : name_size s.0 ≤ max_size
   near : Near s.1
 
 -- Each suffix that is written out is encoded at its offset.
-all_out : {rule : Rule} {m : Memory} {p held : ℕ} {name : Labels} {text : List ℕ} {ss : List (Labels × ℕ)} (b : List ℕ) (q : ℕ) → SpellsAs rule m p held name text ss → IsName name → IsWithin m p
+all_out : {rule : Rule} {m : CompressionTable} {p entry_count : ℕ} {name : Labels} {text : List ℕ} {ss : List (Labels × ℕ)} (b : List ℕ) (q : ℕ) → SpellsAs rule m p entry_count name text ss → IsName name → IsWithin m p
     → At b p text → q ≡ p + length text → Each (Out (NearFor rule) m b q) ss
 all_out b q at_root is ends h e = tt
-all_out b q (at_known g) is ends h e = tt
-all_out {rule = rule} {m = m} b q (at_kept {p = p} {held = held} {first = first} {rest = rest} {text = text} g k s) is ends h e =
+all_out b q (at_entry g) is ends h e = tt
+all_out {rule = rule} {m = m} b q (at_kept {p = p} {entry_count = entry_count} {first = first} {rest = rest} {text = text} g k s) is ends h e =
     let n = length-append first text in
     let tail = name_tail first rest is in
     let ends' : IsWithin m (p + 1 + length first) = later m p (p + 1 + length first) (omega arith) ends in
     let after = after_label first text h in
     let end : q ≡ p + 1 + length first + length text = omega arith in
-    (record { spelled = (tail.0, label_part first text h, spelled_by b q s tail.1 ends' after end); short = is.short; near = near_for rule p held k }, all_out b q s tail.1 ends' after end)
+    (record { spelled = (tail.0, label_part first text h, spelled_by b q s tail.1 ends' after end); short = is.short; near = near_for rule p entry_count k }, all_out b q s tail.1 ends' after end)
 all_out b q (at_far g k) is ends h e = tt
 
-near_tested : (m : Memory) (b : List ℕ) (q : ℕ) (ss : List (Labels × ℕ)) → list_all (λ s. nat_lt s.1 16384) ss ≡ true
+near_tested : (m : CompressionTable) (b : List ℕ) (q : ℕ) (ss : List (Labels × ℕ)) → list_all (λ s. nat_lt s.1 16384) ss ≡ true
     → Each (Out (NearFor Hash) m b q) ss → Each (Out IsNear m b q) ss
 near_tested m b q [] t h = tt
 near_tested m b q (s ∷ ss) t h =
     let both = and_parts (nat_lt s.1 16384) (list_all (λ (s : Labels × ℕ). nat_lt s.1 16384) ss) t in
     (record { spelled = h.0.spelled; short = h.0.short; near = let small = both.0 in grind (arith, common_steps) }, near_tested m b q ss both.1 h.1)
 
-near_chosen : (m : Memory) (b : List ℕ) (q : ℕ) (ss : List (Labels × ℕ)) (test : Bool) → list_all (λ s. nat_lt s.1 16384) ss ≡ test
+near_chosen : (m : CompressionTable) (b : List ℕ) (q : ℕ) (ss : List (Labels × ℕ)) (test : Bool) → list_all (λ s. nat_lt s.1 16384) ss ≡ test
     → Each (Out (NearFor Hash) m b q) ss → Each (Out IsNear m b q) (cond test ss [])
 near_chosen m b q ss true t h = near_tested m b q ss t h
 near_chosen m b q ss false t h = tt
 
 -- Each suffix that enters the table is within pointer range.
-near_kept : (rule : Rule) (m : Memory) (b : List ℕ) (q : ℕ) (ss : List (Labels × ℕ)) → Each (Out (NearFor rule) m b q) ss → Each (Out IsNear m b q) (kept rule ss)
+near_kept : (rule : Rule) (m : CompressionTable) (b : List ℕ) (q : ℕ) (ss : List (Labels × ℕ)) → Each (Out (NearFor rule) m b q) ss → Each (Out IsNear m b q) (kept rule ss)
 near_kept Plain m b q ss h = tt
 near_kept Static m b q ss h = h
 near_kept Tree m b q ss h = h
 near_kept Hash m b q ss h = near_chosen m b q ss (list_all (λ s. nat_lt s.1 16384) ss) refl h
 
-found_one : (m r : Memory) (s : Labels × ℕ) (q : ℕ) (P : Labels × ℕ → Type 0) (k : Labels) (x : Spot) (same : Bool)
+found_one : (m r : CompressionTable) (s : Labels × ℕ) (q : ℕ) (P : Labels × ℕ → Type 0) (k : Labels) (x : TableEntry) (same : Bool)
     → (same ≡ true → k ≡ s.0) → P s
     → (get r k ≡ Some x → (get m k ≡ Some x) ⊎ (P (k, x.offset) × (x.end ≡ q)))
-    → cond same (Some (let y : Spot = record { offset = s.1; end = q } in y)) (get r k) ≡ Some x → (get m k ≡ Some x) ⊎ (P (k, x.offset) × (x.end ≡ q))
+    → cond same (Some (let y : TableEntry = record { offset = s.1; end = q } in y)) (get r k) ≡ Some x → (get m k ≡ Some x) ⊎ (P (k, x.offset) × (x.end ≡ q))
 found_one m r s q P k x true is p rec e =
-    let y : Spot = record { offset = s.1; end = q } in
+    let y : TableEntry = record { offset = s.1; end = q } in
     let same : y ≡ x = cc in
-    inr (subst (λ (z : Spot). P (k, z.offset) × (z.end ≡ q)) same (subst (λ (n : Labels). P (n, s.1)) (sym (is refl)) p, refl))
+    inr (subst (λ (z : TableEntry). P (k, z.offset) × (z.end ≡ q)) same (subst (λ (n : Labels). P (n, s.1)) (sym (is refl)) p, refl))
 found_one m r s q P k x false is p rec e = rec e
 
 -- A suffix in the table was there before, or is one of the added ones.
-pub found : (m : Memory) (ss : List (Labels × ℕ)) (q : ℕ) (P : Labels × ℕ → Type 0) (k : Labels) (x : Spot) → Each P ss
-    → get (remember m ss q) k ≡ Some x → (get m k ≡ Some x) ⊎ (P (k, x.offset) × (x.end ≡ q))
+pub found : (m : CompressionTable) (ss : List (Labels × ℕ)) (q : ℕ) (P : Labels × ℕ → Type 0) (k : Labels) (x : TableEntry) → Each P ss
+    → get (add_suffixes m ss q) k ≡ Some x → (get m k ≡ Some x) ⊎ (P (k, x.offset) × (x.end ≡ q))
 found m [] q P k x all e = inl e
 found m (s ∷ ss) q P k x all e =
-    found_one m (remember m ss q) s q P k x (eq_by_cmp suffix_cmp k s.0) (tied k s.0) all.0 (found m ss q P k x all.1)
-    (sym (get-insert suffix_total (remember m ss q) s.0 (record { offset = s.1; end = q }) k) ∙ e)
+    found_one m (add_suffixes m ss q) s q P k x (eq_by_cmp suffix_cmp k s.0) (tied k s.0) all.0 (found m ss q P k x all.1)
+    (sym (get-insert suffix_total (add_suffixes m ss q) s.0 (record { offset = s.1; end = q }) k) ∙ e)
 
 -- Each name in a sound table ends within the content.
-pub ends_within_content : {m : Memory} {b : List ℕ} → Remembers b m → IsWithin m (length b)
+pub ends_within_content : {m : CompressionTable} {b : List ℕ} → IsTableOf b m → IsWithin m (length b)
 ends_within_content r s x e = (spelled_long (kept_spelled s x (r.each s x e))).1
 
 -- The entry of a suffix that was written out within pointer range is sound.
-new_kept : (m n : Memory) (b : List ℕ) (s : Labels) (x : Spot) → ((s : Labels) (x : Spot) → get m s ≡ Some x → get n s ≡ Some x)
-    → Out IsNear m b x.end (s, x.offset) → IsRemembered b n s x
+new_kept : (m n : CompressionTable) (b : List ℕ) (s : Labels) (x : TableEntry) → ((s : Labels) (x : TableEntry) → get m s ≡ Some x → get n s ≡ Some x)
+    → Out IsNear m b x.end (s, x.offset) → IsTableEntry b n s x
 new_kept m n b s x g h =
     kept_moved m n b b s x (λ p xs l fits h. h) (λ t y e less. g t y e) (record { near = h.near; short = h.short; spelled = h.spelled })
 
 -- Octets after a content encode a name, and the table after them is sound.
-pub record PutsName (b : List ℕ) (name : Labels) (text : List ℕ) (n : Memory) : Type 0 where
+pub record PutsName (b : List ℕ) (name : Labels) (text : List ℕ) (n : CompressionTable) : Type 0 where
   pub spelled : Spelled n (b ++ text) (length b + length text) (length b) name
-  pub remembers : Remembers (b ++ text) n
+  pub is_table : IsTableOf (b ++ text) n
 
-by_rule : (rule : Rule) (m n : Memory) (b : List ℕ) (name : Labels) (held : ℕ) → IsName name → Remembers b m
-    → n ≡ remember m (kept rule (spell rule m (length b) held name).1) (length b + length (spell rule m (length b) held name).0)
-    → ((s : Labels) (x : Spot) → get m s ≡ Some x → get n s ≡ Some x)
-    → PutsName b name (spell rule m (length b) held name).0 n
-by_rule rule m n b name held l r is g =
+by_rule : (rule : Rule) (m n : CompressionTable) (b : List ℕ) (name : Labels) (entry_count : ℕ) → IsName name → IsTableOf b m
+    → n ≡ add_suffixes m (kept rule (spell rule m (length b) entry_count name).1) (length b + length (spell rule m (length b) entry_count name).0)
+    → ((s : Labels) (x : TableEntry) → get m s ≡ Some x → get n s ≡ Some x)
+    → PutsName b name (spell rule m (length b) entry_count name).0 n
+by_rule rule m n b name entry_count l r is g =
     let w = length b in
-    let written = spell rule m w held name in
+    let written = spell rule m w entry_count name in
     let text = written.0 in
     let q = w + length text in
     let h = at_end b text in
     let within = ends_within_content r in
-    let all = near_kept rule m (b ++ text) q written.1 (all_out (b ++ text) q (spells_as rule m w held name) l within h refl) in
+    let all = near_kept rule m (b ++ text) q written.1 (all_out (b ++ text) q (spells_as rule m w entry_count name) l within h refl) in
     record {
-      spelled = moved m n (b ++ text) (b ++ text) 0 q (λ p xs low fits h. h) (λ t x e less. g t x e) (omega arith) (spelled_by (b ++ text) q (spells_as rule m w held name) l within h refl);
-      remembers = record {
+      spelled = moved m n (b ++ text) (b ++ text) 0 q (λ p xs low fits h. h) (λ t x e less. g t x e) (omega arith) (spelled_by (b ++ text) q (spells_as rule m w entry_count name) l within h refl);
+      is_table = record {
         each = λ s x e.
-            elim (found m (kept rule written.1) q (Out IsNear m (b ++ text) q) s x all (ap (λ (n : Memory). get n s) (sym is) ∙ e)) [
+            elim (found m (kept rule written.1) q (Out IsNear m (b ++ text) q) s x all (ap (λ (n : CompressionTable). get n s) (sym is) ∙ e)) [
               | inl old ↦ kept_more n text s x g (r.each s x old)
               | inr new ↦ new_kept m n (b ++ text) s x g (subst (λ q. Out IsNear m (b ++ text) q (s, x.offset)) (sym new.1) new.0)
             ];
@@ -268,12 +268,12 @@ by_rule rule m n b name held l r is g =
     }
 
 -- This holds of the encoding of a name under each rule.
-pub puts_name : (rule : Rule) (m : Memory) (b : List ℕ) (name : Labels) → IsName name → Remembers b m
-    → PutsName b name (put_name rule name m (length b)).octets (put_name rule name m (length b)).memory
+pub puts_name : (rule : Rule) (m : CompressionTable) (b : List ℕ) (name : Labels) → IsName name → IsTableOf b m
+    → PutsName b name (put_name rule name m (length b)).octets (put_name rule name m (length b)).table
 unfolding put_name
 puts_name Plain m b name is r = record {
   spelled = spelled_full m (b ++ uncompressed name) (length b + length (uncompressed name)) (length b) name is (at_end b (uncompressed name)) refl;
-  remembers = record { each = λ s x e. kept_more m (uncompressed name) s x (λ s x e. e) (r.each s x e) };
+  is_table = record { each = λ s x e. kept_more m (uncompressed name) s x (λ s x e. e) (r.each s x e) };
 }
 puts_name Static m b name is r = by_rule Static m _ b name (len m) is r refl (gets ((put_name_grows Static name).grows m (length b)))
 puts_name Tree m b name is r = by_rule Tree m _ b name (len m) is r refl (gets ((put_name_grows Tree name).grows m (length b)))

@@ -4,17 +4,17 @@ use Rattle.std.specs.Prelude.{Some, None}
 use Rattle.std.specs.Int.{to_be_bytes, w16}
 use Rattle.std.specs.FinMap.{get, len, get-empty}
 use Rattle.dns_name.specs.Names.{Labels, IsName, name_size, max_size, Walked}
-use Rattle.dns_wire.specs.Pieces.{Memory, Spot, nothing, suffix_cmp, remember, Rule, Plain, Static, Tree, Hash, Piece, Laid, put_octets, both, with_length, spell, kept, put_name}
+use Rattle.dns_wire.specs.Pieces.{CompressionTable, TableEntry, nothing, suffix_cmp, add_suffixes, Rule, Plain, Static, Tree, Hash, Piece, Laid, put_octets, both, with_length, spell, kept, put_name}
 use Rattle.dns_wire.specs.Parts.{Part, Octets, CompressibleName, AreParts, put_parts, PartsNear}
-use Rattle.dns_wire.specs.Targets.{At, Remembers, Written, IsTarget, lay}
+use Rattle.dns_wire.specs.Targets.{At, IsTableOf, Written, IsTarget, lay}
 use Rattle.dns_wire.specs.Spelling.{IsShared, Spelling, SharesAll, AddsShortest, PartsAreShortest}
 use Rattle.dns_wire.specs.Spelling.Spelling.{none, octets, whole, shared}
 use Rattle.dns_wire.proofs.theory.TargetTheorems.{near_end}
 use Rattle.dns_wire.proofs.theory.PutNames.{put_name_grows, spells_as}
 use Rattle.dns_wire.proofs.theory.PieceLaws.{length_of, lay-with_length, lay-both, puts_put_name, puts_octets}
-use Rattle.dns_wire.proofs.theory.Memories.{gets, nothing_is_kept}
+use Rattle.dns_wire.proofs.theory.CompressionTables.{gets, nothing_is_kept}
 use Rattle.dns_wire.proofs.theory.SpelledNames.{at_append, at_end, spelled_walked, spelled_more, kept_more}
-use Rattle.dns_wire.proofs.SharedSuffixes.{Knows, Best, KeepsNear, tree_keeps_near, static_keeps_near, hash_keeps_near, best, knows_more, near_kept, near_suffixes, few_less, shared_some, len_spell, len_remember}
+use Rattle.dns_wire.proofs.SharedSuffixes.{Knows, Best, KeepsNear, tree_keeps_near, static_keeps_near, hash_keeps_near, best, knows_more, near_kept, near_suffixes, few_less, shared_some, len_spell, len_add_suffixes}
 use Rattle.dns_name.proofs.theory.Steps.{name_size-append}
 
 -- The names among these parts, before other names.
@@ -30,7 +30,7 @@ added-append (Octets xs ∷ ps) qs names = added-append ps qs names
 added-append (CompressibleName name ∷ ps) qs names = added-append ps qs (name ∷ names)
 
 -- After the earlier `names`, the parts are written from p to q as short as possible, whichever parts `rest` follow them up to `end`. The table has exactly the suffixes of all these names.
-pub record Short (names : List Labels) (parts rest : List Part) (b : List ℕ) (p q end : ℕ) (m : Memory) : Type 0 where
+pub record Short (names : List Labels) (parts rest : List Part) (b : List ℕ) (p q end : ℕ) (m : CompressionTable) : Type 0 where
   pub knows : Knows m (added parts names)
   pub near : PartsNear b end q rest
   pub rises : p ≤ q
@@ -39,11 +39,11 @@ pub record Short (names : List Labels) (parts rest : List Part) (b : List ℕ) (
 
 -- Parts are added to a target. They are as short as possible if the table had exactly the suffixes of earlier names, and every label is within pointer range, those of the following parts included.
 pub record AddsShort (rule : Rule) (parts : List Part) (t u : Written) : Type 0 where
-  pub longer : len t.memory ≤ len u.memory
+  pub longer : len t.table ≤ len u.table
   pub keeps : IsTarget t → IsTarget u
-  pub short : (c : List ℕ) (names : List Labels) (rest : List Part) (end : ℕ) → IsTarget t → Knows t.memory names
-      → PartsNear (u.octets ++ c) end (length t.octets) (parts ++ rest) → SharesAll rule (len u.memory)
-      → Short names parts rest (u.octets ++ c) (length t.octets) (length u.octets) end u.memory
+  pub short : (c : List ℕ) (names : List Labels) (rest : List Part) (end : ℕ) → IsTarget t → Knows t.table names
+      → PartsNear (u.octets ++ c) end (length t.octets) (parts ++ rest) → SharesAll rule (len u.table)
+      → Short names parts rest (u.octets ++ c) (length t.octets) (length u.octets) end u.table
 
 -- An encoding adds these parts so, to each target.
 abbrev pub Shortens : Rule → Piece → List Part → Type 0
@@ -119,8 +119,8 @@ least_name names name rest l n (inr a) (inr b) = let m = a.5 b.0 b.1 b.2 b.3 in 
 -- A rule that writes names as `spell` does, and by which each suffix within pointer range enters the table while `SharesAll` holds.
 pub record Spells (rule : Rule) : Type 0 where
   pub near : KeepsNear rule
-  pub few : (name : Labels) (m : Memory) (w : ℕ) → SharesAll rule (len (put_name rule name m w).memory) → SharesAll rule (len m + length (spell rule m w (len m) name).1)
-  pub writes : (name : Labels) (m : Memory) (w : ℕ) → let spelled = spell rule m w (len m) name in put_name rule name m w ≡ record { octets = spelled.0; memory = remember m (kept rule spelled.1) (w + length spelled.0) }
+  pub few : (name : Labels) (m : CompressionTable) (w : ℕ) → SharesAll rule (len (put_name rule name m w).table) → SharesAll rule (len m + length (spell rule m w (len m) name).1)
+  pub writes : (name : Labels) (m : CompressionTable) (w : ℕ) → let spelled = spell rule m w (len m) name in put_name rule name m w ≡ record { octets = spelled.0; table = add_suffixes m (kept rule spelled.1) (w + length spelled.0) }
 
 -- The tree rule is one.
 spells_tree : Spells Tree
@@ -149,15 +149,15 @@ spells Tree n few = spells_tree
 spells Hash n few = spells_hash
 
 -- A name written with the octets and the suffixes that `spell` gives is as short as possible.
-name_short : (rule : Rule) (name : Labels) (t : Written) (laid : Laid) (c : List ℕ) (names : List Labels) (rest : List Part) (end : ℕ) → KeepsNear rule → IsName name → Knows t.memory names
-    → let spelled = spell rule t.memory (length t.octets) (len t.memory) name in laid ≡ record { octets = spelled.0; memory = remember t.memory (kept rule spelled.1) (length t.octets + length spelled.0) }
-    → ((s : Labels) (x : Spot) → get t.memory s ≡ Some x → get laid.memory s ≡ Some x)
+name_short : (rule : Rule) (name : Labels) (t : Written) (laid : Laid) (c : List ℕ) (names : List Labels) (rest : List Part) (end : ℕ) → KeepsNear rule → IsName name → Knows t.table names
+    → let spelled = spell rule t.table (length t.octets) (len t.table) name in laid ≡ record { octets = spelled.0; table = add_suffixes t.table (kept rule spelled.1) (length t.octets + length spelled.0) }
+    → ((s : Labels) (x : TableEntry) → get t.table s ≡ Some x → get laid.table s ≡ Some x)
     → Walked ((t.octets ++ laid.octets) ++ c) (length t.octets) (length (t.octets ++ laid.octets))
     → PartsNear ((t.octets ++ laid.octets) ++ c) end (length t.octets) (CompressibleName name ∷ rest)
-    → SharesAll rule (len t.memory + length (spell rule t.memory (length t.octets) (len t.memory) name).1)
-    → Short names (CompressibleName name ∷ []) rest ((t.octets ++ laid.octets) ++ c) (length t.octets) (length (t.octets ++ laid.octets)) end laid.memory
+    → SharesAll rule (len t.table + length (spell rule t.table (length t.octets) (len t.table) name).1)
+    → Short names (CompressibleName name ∷ []) rest ((t.octets ++ laid.octets) ++ c) (length t.octets) (length (t.octets ++ laid.octets)) end laid.table
 name_short rule name t laid c names rest end r is knows e g walked near few =
-    let m = t.memory in
+    let m = t.table in
     let w = length t.octets in
     let spelled = spell rule m w (len m) name in
     let b = (t.octets ++ laid.octets) ++ c in
@@ -166,11 +166,11 @@ name_short rule name t laid c names rest end r is knows e g walked near few =
     let all = near_kept r b near.0 (spells_as rule m w (len m) name) is near.1 at few in
     let chosen = near_suffixes b near.0 (spells_as rule m w (len m) name) is near.1 at in
     let q = w + length spelled.0 in
-    let memory : laid.memory ≡ remember m spelled.1 q = ap (λ (x : Laid). x.memory) e ∙ ap (λ (ss : List (Labels × ℕ)). remember m ss q) (r.chosen spelled.1 chosen) in
+    let table : laid.table ≡ add_suffixes m spelled.1 q = ap (λ (x : Laid). x.table) e ∙ ap (λ (ss : List (Labels × ℕ)). add_suffixes m ss q) (r.chosen spelled.1 chosen) in
     let shortest : Best names name (length spelled.0) = best names knows (spells_as rule m w (len m) name) all in
     let long : length (t.octets ++ laid.octets) ≡ w + length spelled.0 = length-append t.octets laid.octets ∙ ap (λ (xs : List ℕ). w + length xs) text in
     record {
-      knows = knows_more rule m laid.memory names w (len m) q name knows all memory g;
+      knows = knows_more rule m laid.table names w (len m) q name knows all table g;
       near = subst (λ k. PartsNear b end k rest) (near_end walked near.1) near.2;
       rises = omega arith;
       attains = λ n s.
@@ -180,28 +180,28 @@ name_short rule name t laid c names rest end r is knows e g walked near few =
     }
 
 -- A sound table is sound for more octets.
-remembers_more : (m : Memory) (b c : List ℕ) → Remembers b m → Remembers (b ++ c) m
-remembers_more m b c r = record { each = λ s x e. kept_more m c s x (λ s x e. e) (r.each s x e) }
+is_table_more : (m : CompressionTable) (b c : List ℕ) → IsTableOf b m → IsTableOf (b ++ c) m
+is_table_more m b c r = record { each = λ s x e. kept_more m c s x (λ s x e. e) (r.each s x e) }
 
 -- The encoding of a name is as short as possible.
 pub shortens_name : (rule : Rule) (name : Labels) → Spells rule → IsName name → Shortens rule (put_name rule name) (CompressibleName name ∷ [])
 shortens_name rule name r is t =
     let w = length t.octets in
-    let laid = put_name rule name t.memory w in
-    let spelled = spell rule t.memory w (len t.memory) name in
+    let laid = put_name rule name t.table w in
+    let spelled = spell rule t.table w (len t.table) name in
     let p = puts_put_name rule name is in
     record {
-      longer = subst (λ (x : Laid). len t.memory ≤ len x.memory) (sym (r.writes name t.memory w)) (len_remember t.memory (kept rule spelled.1) (w + length spelled.0));
+      longer = subst (λ (x : Laid). len t.table ≤ len x.table) (sym (r.writes name t.table w)) (len_add_suffixes t.table (kept rule spelled.1) (w + length spelled.0));
       keeps = p.keeps t;
       short = λ c names rest end h knows near few.
-          let after = remembers_more laid.memory (t.octets ++ laid.octets) c (p.keeps t h) in
+          let after = is_table_more laid.table (t.octets ++ laid.octets) c (p.keeps t h) in
           let small : 0 + name_size name ≤ max_size = let k = is.short in omega arith in
-          name_short rule name t laid c names rest end r.near is knows (r.writes name t.memory w) (gets ((put_name_grows rule name).grows t.memory w))
-          (spelled_walked 0 after small (spelled_more laid.memory c (λ s x e. e) (p.puts t h))) near (r.few name t.memory w few);
+          name_short rule name t laid c names rest end r.near is knows (r.writes name t.table w) (gets ((put_name_grows rule name).grows t.table w))
+          (spelled_walked 0 after small (spelled_more laid.table c (λ s x e. e) (p.puts t h))) near (r.few name t.table w few);
     }
 
 -- Parts and those after them are as short as possible if both are.
-short_both : (names : List Labels) (ps qs rest : List Part) (b d : List ℕ) (p q r end : ℕ) (m n : Memory)
+short_both : (names : List Labels) (ps qs rest : List Part) (b d : List ℕ) (p q r end : ℕ) (m n : CompressionTable)
     → Short names ps (qs ++ rest) d p q end m → Short (added ps names) qs rest b q r end n → Short names (ps ++ qs) rest b p r end n
 short_both names ps qs rest b d p q r end m n x y =
     let all = append_assoc ps qs rest in
@@ -234,12 +234,12 @@ adds_both rule a b ps qs t x y =
       longer = omega arith;
       keeps = λ h. second.keeps (first.keeps h);
       short = λ c names rest end h knows near few.
-          let text = (b u.memory (length u.octets)).octets in
+          let text = (b u.table (length u.octets)).octets in
           let e : v.octets ++ c ≡ u.octets ++ (text ++ c) = append_assoc u.octets text c in
           let near' = subst (λ (l : List Part). PartsNear (v.octets ++ c) end (length t.octets) l) (append_assoc ps qs rest) near in
-          let one = first.short (text ++ c) names (qs ++ rest) end h knows (subst (λ (o : List ℕ). PartsNear o end (length t.octets) (ps ++ (qs ++ rest))) e near') (few_less rule (len u.memory) (len v.memory) on few) in
+          let one = first.short (text ++ c) names (qs ++ rest) end h knows (subst (λ (o : List ℕ). PartsNear o end (length t.octets) (ps ++ (qs ++ rest))) e near') (few_less rule (len u.table) (len v.table) on few) in
           let two = second.short c (added ps names) rest end (first.keeps h) one.knows (subst (λ (o : List ℕ). PartsNear o end (length u.octets) (qs ++ rest)) (sym e) one.near) few in
-          short_both names ps qs rest (v.octets ++ c) (u.octets ++ (text ++ c)) (length t.octets) (length u.octets) (length v.octets) end u.memory v.memory one two;
+          short_both names ps qs rest (v.octets ++ c) (u.octets ++ (text ++ c)) (length t.octets) (length u.octets) (length v.octets) end u.table v.table one two;
     }
 
 -- Two encodings in order.
@@ -268,7 +268,7 @@ knows_nothing = record {
 }
 
 -- Parts added to a target with an empty table take the octets of a shortest compression.
-pub laid_shortest : (rule : Rule) (parts : List Part) (t u : Written) → AddsShort rule parts t u → IsTarget t → Knows t.memory [] → PartsNear u.octets (length u.octets) (length t.octets) parts → SharesAll rule (len u.memory)
+pub laid_shortest : (rule : Rule) (parts : List Part) (t u : Written) → AddsShort rule parts t u → IsTarget t → Knows t.table [] → PartsNear u.octets (length u.octets) (length t.octets) parts → SharesAll rule (len u.table)
     → AddsShortest parts t u
 laid_shortest rule parts t u x h knows near few =
     let end = length u.octets in
@@ -289,6 +289,6 @@ laid_shortest rule parts t u x h knows near few =
 -- Parts written to a target with an empty table take the octets of a shortest compression.
 pub parts_are_shortest : PartsAreShortest
 parts_are_shortest rule b parts is few near =
-    let t : Written = record { octets = b; memory = nothing } in
+    let t : Written = record { octets = b; table = nothing } in
     let u = lay (put_parts rule parts) t in
-    laid_shortest rule parts t u (shortens_parts rule parts (spells rule (len u.memory) few) is t) (nothing_is_kept b) knows_nothing near few
+    laid_shortest rule parts t u (shortens_parts rule parts (spells rule (len u.table) few) is t) (nothing_is_kept b) knows_nothing near few

@@ -3,11 +3,11 @@ use Rattle.std.proofs.Common.{◌≡◌, ℕ, zero, suc, ◌+◌, ◌-◌, ◌<�
 use Rattle.std.specs.Prelude.{Option, Some, None, Ok, slice_get}
 use Rattle.std.specs.FinMap.{get}
 use Rattle.dns_name.specs.Names.{Labels, name_size, max_size, head_at, NameAt, label_at}
-use Rattle.dns_wire.specs.Pieces.{Memory, Spot, IsAtOrAfter}
+use Rattle.dns_wire.specs.Pieces.{CompressionTable, TableEntry, IsAtOrAfter}
 use Rattle.dns_wire.specs.TargetLaws.{NameAtWithin, Agree, NamesStayWhenOverwritten, NamesAreAtOrAfter}
 use Rattle.dns_wire.specs.TargetLaws.NameAtWithin.{root, label, pointer}
 use Rattle.dns_octets.specs.Octets.{overwritten}
-use Rattle.dns_wire.specs.Targets.{Spelled, Remembers}
+use Rattle.dns_wire.specs.Targets.{Spelled, IsTableOf}
 use Rattle.dns_name.specs.declared.head.Head.TheVariants.{Root, Label, Pointer}
 use Rattle.dns_name.specs.Unique.{label_head}
 use Rattle.dns_name.proofs.theory.HeadLemmas.{label_there, root_there, root_begins, label_begins, same_head, root_within, pointer_within}
@@ -155,7 +155,7 @@ wider_in l (label {p = p} {n = n} low high h x z) = label low (omega arith) h (w
 wider_in l (pointer low high h back x) = pointer low (omega arith) h back (wider_in l x)
 
 -- A name encoded up to q uses no octet before lo, if the same holds for each entry of the table whose name ends before q.
-in_if : {m : Memory} {b : List ℕ} {lo q : ℕ} → Remembers b m → ((s : Labels) (x : Spot) → get m s ≡ Some x → x.end < q → NameAtWithin b lo x.end x.offset s)
+in_if : {m : CompressionTable} {b : List ℕ} {lo q : ℕ} → IsTableOf b m → ((s : Labels) (x : TableEntry) → get m s ≡ Some x → x.end < q → NameAtWithin b lo x.end x.offset s)
     → {p : ℕ} {name : Labels} → lo ≤ p → name_size name ≤ max_size → Spelled m b q p name → NameAtWithin b lo q p name
 in_if r ih low short (Spelled.root h e) = root low (omega arith) (octets_at.root_at h)
 in_if {b = b} {lo = lo} {q = q} r ih low short (Spelled.label {p = p} {first = first} {rest = rest} l h x) =
@@ -168,7 +168,7 @@ in_if r ih low short (Spelled.pointer {p = p} {name = name} {x = x} e before h i
     pointer low (omega arith) (octets_at.pointer_at x.offset k.near h) (omega (arith, w.0)) (wider_in (omega arith) (ih name x e (omega arith)))
 
 -- By induction on the end.
-in_below : {m : Memory} {b : List ℕ} {lo : ℕ} → Remembers b m → IsAtOrAfter m lo → (k q p : ℕ) (name : Labels) → q < k → lo ≤ p → name_size name ≤ max_size
+in_below : {m : CompressionTable} {b : List ℕ} {lo : ℕ} → IsTableOf b m → IsAtOrAfter m lo → (k q p : ℕ) (name : Labels) → q < k → lo ≤ p → name_size name ≤ max_size
     → Spelled m b q p name → NameAtWithin b lo q p name
 in_below r all zero q p name h low short s = absurd (omega arith)
 in_below r all (suc k) q p name h low short s =

@@ -3,24 +3,24 @@ use Rattle.std.proofs.Common.{◌≡◌, ℕ, List, [], ◌∷◌, length, arith
 use Rattle.std.specs.Prelude.{Ok}
 use Rattle.dns_name.specs.Names.{Labels, head_at, NameContinues}
 use Rattle.dns_name.specs.declared.head.Head.TheVariants.{Label, Root, Pointer}
-use Rattle.dns_wire.specs.Pieces.{Memory, Rule}
+use Rattle.dns_wire.specs.Pieces.{CompressionTable, Rule}
 use Rattle.dns_wire.specs.Parts.{put_parts, WellPointed, Part, Octets, CompressibleName, AreParts, PartsFill, LabelsNear}
-use Rattle.dns_wire.specs.Targets.{Spelled, Labelled, Remembers, lay, Written, IsTarget}
+use Rattle.dns_wire.specs.Targets.{Spelled, Labelled, IsTableOf, lay, Written, IsTarget}
 use Rattle.dns_wire.specs.Targets.Spelled.{root, label, pointer}
 use Rattle.dns_wire.specs.TargetLaws.{EntriesAreNames, NothingIsTarget, EncodersStayAtOrAfter, NamesStayAtOrAfter, NamesReadBack, PartsReadBack}
 use Rattle.dns_wire.specs.Spelling.{PartsPointToLabels, ShortPartsAreNear}
-use Rattle.dns_wire.proofs.theory.Memories.{at_or_after_more, nothing_is_kept}
+use Rattle.dns_wire.proofs.theory.CompressionTables.{at_or_after_more, nothing_is_kept}
 use Rattle.dns_wire.proofs.theory.PutNames.{put_name_grows}
 use Rattle.dns_wire.proofs.theory.SpelledNames.{root_at, label_begins, pointer_at, spelled_long, kept_spelled, spelled_stands, spelled_walked, name_at_up_to}
 use Rattle.dns_wire.proofs.theory.PieceLaws.{puts_put_name, puts_parts, parts_at, HasName, HasParts}
 
 -- A label begins where an encoded name begins with one.
-begins : (m : Memory) (b : List ℕ) (q p : ℕ) (name : Labels) → Labelled m b q p name → (n : ℕ) × (head_at b p ≡ Ok (Label n))
+begins : (m : CompressionTable) (b : List ℕ) (q p : ℕ) (name : Labels) → Labelled m b q p name → (n : ℕ) × (head_at b p ≡ Ok (Label n))
 begins m b q p [] h = absurd h
 begins m b q p (first ∷ rest) h = (length first, label_begins h.0 h.1)
 
 -- The pointers of an encoded name lead to earlier labels.
-pub pointed : {m : Memory} {b : List ℕ} {q p : ℕ} {name : Labels} → Remembers b m → Spelled m b q p name → WellPointed b q p
+pub pointed : {m : CompressionTable} {b : List ℕ} {q p : ℕ} {name : Labels} → IsTableOf b m → Spelled m b q p name → WellPointed b q p
 pointed r (root h e) = WellPointed.root (root_at h) e
 pointed r (label l h x) = WellPointed.label (label_begins l h) (pointed r x)
 pointed {m = m} {b = b} r (pointer {name = name} {x = x} e before h is) =
@@ -49,7 +49,7 @@ nothing_is_target b = nothing_is_kept b
 
 -- A growing encoding keeps all entries at or after an offset.
 pub encoders_stay_at_or_after : EncodersStayAtOrAfter
-encoders_stay_at_or_after piece t offset grows l h = at_or_after_more offset l (grows.grows t.memory (length t.octets)) h
+encoders_stay_at_or_after piece t offset grows l h = at_or_after_more offset l (grows.grows t.table (length t.octets)) h
 
 -- So does a name.
 pub names_stay_at_or_after : NamesStayAtOrAfter
@@ -99,7 +99,7 @@ parts_point_to_labels rule t parts is good =
     let keeps = (puts_parts rule parts is).keeps t good in put_parts_fill rule t parts is good (λ p q name h. pointed keeps h)
 
 -- In at most 16,384 octets, the labels of a name are within pointer range.
-pub spelled_near : {m : Memory} {b : List ℕ} {q p : ℕ} {name : Labels} → length b ≤ 16384 → Remembers b m → Spelled m b q p name → LabelsNear b q p
+pub spelled_near : {m : CompressionTable} {b : List ℕ} {q p : ℕ} {name : Labels} → length b ≤ 16384 → IsTableOf b m → Spelled m b q p name → LabelsNear b q p
 spelled_near l r (root h e) = LabelsNear.root (root_at h) e
 spelled_near l r (label is h x) = let w = spelled_long x in LabelsNear.label (label_begins is h) (omega (arith, w)) (spelled_near l r x)
 spelled_near l r (pointer {name = name} {x = x} e before h is) = LabelsNear.pointer (pointer_at x.offset (r.each name x e).near h) is

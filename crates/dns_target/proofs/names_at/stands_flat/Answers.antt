@@ -1,4 +1,4 @@
-use Rattle.dns_target.proofs.HeldLists.{all_there, all_from}
+use Rattle.dns_target.proofs.EntryLists.{all_there, all_from}
 use Rattle.dns_target.proofs.names_at.stands_flat.Goals as goal
 
 pub returns : goal.returns

@@ -1,4 +1,4 @@
-use Rattle.dns_wire.proofs.theory.Memories.{clear_nothing}
+use Rattle.dns_wire.proofs.theory.CompressionTables.{clear_nothing}
 use Rattle.dns_wire_tests.proofs.targets.writes_over_octets.Goals as goal
 
 pub assert_written_over-requires-clause-clear : goal.assert_written_over-requires-clause-clear

@@ -1,6 +1,6 @@
 use Rattle.std.proofs.Common.{Err, ap, ◌∙◌, arith, length, ◌+◌, ◌≤◌}
 use Rattle.std.proofs.lemmas.Result.{err_from_is_err_and}
-use Rattle.dns_wire.proofs.theory.Memories.{clear_plain}
+use Rattle.dns_wire.proofs.theory.CompressionTables.{clear_plain}
 use Rattle.dns_stream.proofs.Streams.{message_length, refused}
 use Rattle.dns_stream.proofs.stream_target.StreamTargetComposer.append_slice.Goals as goal
 

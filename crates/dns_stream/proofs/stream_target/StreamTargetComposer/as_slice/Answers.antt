@@ -1,4 +1,4 @@
-use Rattle.dns_wire.proofs.theory.Memories.{nothing_is_kept}
+use Rattle.dns_wire.proofs.theory.CompressionTables.{nothing_is_kept}
 use Rattle.dns_stream.proofs.Streams.{fits}
 use Rattle.dns_stream.proofs.stream_target.StreamTargetComposer.as_slice.Goals as goal
 

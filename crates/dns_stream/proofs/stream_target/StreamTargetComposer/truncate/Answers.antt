@@ -1,5 +1,5 @@
 use Rattle.std.proofs.Common.{◌≡◌, ◌-◌, ℕ, List, ap, arith, length, length-drop, sym, ◌∙◌}
-use Rattle.dns_wire.proofs.theory.Memories.{clear_plain, nothing_is_kept}
+use Rattle.dns_wire.proofs.theory.CompressionTables.{clear_plain, nothing_is_kept}
 use Rattle.dns_stream.proofs.Streams.{shortened, kept_whole}
 use Rattle.dns_stream.proofs.stream_target.StreamTargetComposer.truncate.Goals as goal
 

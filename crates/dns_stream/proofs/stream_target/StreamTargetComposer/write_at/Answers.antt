@@ -1,4 +1,4 @@
-use Rattle.dns_wire.proofs.theory.Memories.{clear_plain}
+use Rattle.dns_wire.proofs.theory.CompressionTables.{clear_plain}
 use Rattle.dns_stream.proofs.Streams.{over}
 use Rattle.dns_stream.proofs.stream_target.StreamTargetComposer.write_at.Goals as goal
 

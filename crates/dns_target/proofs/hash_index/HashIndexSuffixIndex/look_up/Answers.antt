@@ -1,21 +1,21 @@
 use Rattle.std.proofs.Common.{◌≡◌, ◌+◌, ◌-◌, ◌∙◌, Option, ℕ, arith, ap, sym}
-use Rattle.dns_target.specs.Held.{memory_in}
-use Rattle.dns_target.specs.Table.{find, spots_in}
+use Rattle.dns_target.specs.TableEntries.{table_in}
+use Rattle.dns_target.specs.Table.{find, table_entries_in}
 use Rattle.dns_target.proofs.KeyedNames.{indexed, path_more, found_stop, found_whole}
 use Rattle.dns_target.proofs.hash_index.HashIndexSuffixIndex.look_up.Goals as goal
 
 pub returns-in_default-clause-found : goal.returns-in_default-clause-found
 returns-in_default-clause-found c =
     let k : c.loop-from.from ≡ c.loop-from.from - 1 + 1 = omega arith in
-    let m = memory_in c.args.content.now (spots_in c.args.self.now.suffixes.suffixes) in
-    let i = indexed _ _ c.requires.held.new c.requires.is_of.0 in
+    let m = table_in c.args.content.now (table_entries_in c.args.self.now.suffixes.suffixes) in
+    let i = indexed _ _ c.requires.entries.new c.requires.is_of.0 in
     let found = c.find.ensures ∙ ap (λ (rest : Option ℕ). find c.args.self.now.suffixes.suffixes c.set.new.self.label.items rest) c.set.ensures.rest in
     found_stop m _ _ _ c.loop-from.from (c.loop-from.from - 1) c.set.new.self.label.items i k c.loop-from.invariant.within c.loop-from.invariant.path (c.set.ensures.label ∙ c.label.ensures.label) (sym found ∙ c.in_default.is)
 
 pub loop-from-preserved : goal.loop-from-preserved
 loop-from-preserved c =
     let k : c.loop-from.from ≡ c.loop-from.from - 1 + 1 = omega arith in
-    let i = indexed _ _ c.requires.held.new c.requires.is_of.0 in
+    let i = indexed _ _ c.requires.entries.new c.requires.is_of.0 in
     let found = c.find.ensures ∙ ap (λ (rest : Option ℕ). find c.args.self.now.suffixes.suffixes c.set.new.self.label.items rest) c.set.ensures.rest in
     record {
       within = omega arith;
@@ -24,6 +24,6 @@ loop-from-preserved c =
 
 pub returns-clause-found : goal.returns-clause-found
 returns-clause-found c =
-    let m = memory_in c.args.content.now (spots_in c.args.self.now.suffixes.suffixes) in
-    let i = indexed _ _ c.requires.held.new c.requires.is_of.0 in
+    let m = table_in c.args.content.now (table_entries_in c.args.self.now.suffixes.suffixes) in
+    let i = indexed _ _ c.requires.entries.new c.requires.is_of.0 in
     found_whole m _ _ _ c.loop-from.from i (omega arith) c.loop-from.invariant.within c.loop-from.invariant.path

@@ -1,10 +1,10 @@
 use Rattle.std.proofs.Common.{◌∙◌, sym, refl, arith}
-use Rattle.dns_target.proofs.HeldLists.{new_more, found_at}
-use Rattle.dns_target.proofs.HeldSpots.{all_names_at}
+use Rattle.dns_target.proofs.EntryLists.{new_more, found_at}
+use Rattle.dns_target.proofs.EntryLemmas.{all_names_at}
 use Rattle.dns_target.proofs.offsets.OffsetsSuffixIndex.look_up.Goals as goal
 
 pub find-offset-requires-clause-names_at : goal.find-offset-requires-clause-names_at
-find-offset-requires-clause-names_at c = all_names_at _ _ c.requires.held.new c.requires.held.remembers
+find-offset-requires-clause-names_at c = all_names_at _ _ c.requires.entries.new c.requires.entries.is_table
 
 pub loop-from-preserved : goal.loop-from-preserved
 loop-from-preserved c = new_more _ c.args.labels.now _ c.loop-from.from c.find-offset.result c.loop-from.invariant refl c.find-offset.ensures (sym c.is_some.ensures ∙ c.if-is_some.false)

@@ -1,5 +1,5 @@
 use Rattle.std.proofs.Common.{◌∙◌, sym}
-use Rattle.dns_target.proofs.HeldStates.{static_put}
+use Rattle.dns_target.proofs.EntryStates.{static_put}
 use Rattle.dns_target.proofs.offsets.OffsetsSuffixIndex.plan.Goals as goal
 
 pub returns-clause-plans : goal.returns-clause-plans

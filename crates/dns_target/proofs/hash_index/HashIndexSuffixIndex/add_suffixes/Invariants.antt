@@ -1,18 +1,18 @@
 use Rattle.std.proofs.Common.{◌≡◌, ◌<◌, ◌≤◌, drop, length}
 use Rattle.dns_wire.specs.Choice.{first_suffixes}
-use Rattle.dns_target.specs.Held.{memory_in, with_suffixes}
-use Rattle.dns_target.specs.Table.{spots_in, RestIsName, IsRest, AreKeyed}
-use Rattle.dns_target.proofs.hash_index.HashIndexSuffixIndex.remember.Given as goal
+use Rattle.dns_target.specs.TableEntries.{table_in, with_suffixes}
+use Rattle.dns_target.specs.Table.{table_entries_in, RestIsName, IsRest, AreKeyed}
+use Rattle.dns_target.proofs.hash_index.HashIndexSuffixIndex.add_suffixes.Given as goal
 
 abbrev pub invariant-loop-index : goal.invariant-loop-index
 invariant-loop-index l = record {
   within : l.index ≤ l.count;
   room : l.index ≤ l.self.suffixes.room;
-  held : spots_in l.self.suffixes.suffixes ≡ with_suffixes (spots_in l.fn.self.suffixes.suffixes) (drop l.index (first_suffixes l.count l.labels l.offset)) (length l.content);
+  entries : table_entries_in l.self.suffixes.suffixes ≡ with_suffixes (table_entries_in l.fn.self.suffixes.suffixes) (drop l.index (first_suffixes l.count l.labels l.offset)) (length l.content);
   keyed : AreKeyed l.content l.self.suffixes.suffixes;
   found : IsRest l.content l.self.suffixes.suffixes l.found.offset;
   last : IsRest l.content l.self.suffixes.suffixes l.rest;
-  rest : 0 < l.count → RestIsName (memory_in l.content (spots_in l.self.suffixes.suffixes)) l.rest (drop l.index l.labels);
+  rest : 0 < l.count → RestIsName (table_in l.content (table_entries_in l.self.suffixes.suffixes)) l.rest (drop l.index l.labels);
 }
 
 abbrev pub decreases-loop-index : goal.decreases-loop-index

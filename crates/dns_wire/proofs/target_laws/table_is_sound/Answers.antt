@@ -1,9 +1,9 @@
 use Rattle.dns_wire.proofs.theory.PutNames.{put_name_grows, put_octets_grows, put_parts_grows, both_grows}
 use Rattle.dns_wire.proofs.theory.PieceLaws.{puts_put_name, puts_octets, cut_undoes}
-use Rattle.dns_wire.proofs.theory.SpelledNames.{remembers_cut, remembers_over}
+use Rattle.dns_wire.proofs.theory.SpelledNames.{is_table_cut, is_table_over}
 use Rattle.dns_wire.proofs.theory.Stability.{names_are_at_or_after}
 use Rattle.dns_wire.proofs.theory.TargetTheorems.{entries_are_names, nothing_is_target, encoders_stay_at_or_after, names_stay_at_or_after}
-use Rattle.dns_wire.proofs.target_laws.memory_is_sound.Goals as goal
+use Rattle.dns_wire.proofs.target_laws.table_is_sound.Goals as goal
 
 pub returns : goal.returns
 returns c = record {
@@ -12,8 +12,8 @@ returns c = record {
   nothing = nothing_is_target;
   name = λ rule t name is h. (puts_put_name rule name is).keeps t h;
   octets = λ t xs h. (puts_octets xs).keeps t h;
-  cut = λ t len h. remembers_cut len h;
-  overwritten = λ t offset over clear h. remembers_over offset over clear h;
+  cut = λ t len h. is_table_cut len h;
+  overwritten = λ t offset over clear h. is_table_over offset over clear h;
   undone = cut_undoes;
   names_grow = put_name_grows;
   octets_grow = put_octets_grows;
