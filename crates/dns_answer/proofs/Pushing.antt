@@ -24,8 +24,8 @@ none_more s b h =
     record { represents = subst (λ (t : State). Represents InAnswer Plain t b) e h; within = λ l. subst (λ (t : State). size t ≤ s.limit) e l }
 
 -- when pushing an answer succeeds, and the reasons for which it fails
-abbrev HasRoom : RecordItem → State → Type 0
-HasRoom x t = let n = size_after Plain (with_record InAnswer x) t in Fits None n × (n ≤ t.limit) × (length t.answers < most_entries)
+abbrev HasCapacity : RecordItem → State → Type 0
+HasCapacity x t = let n = size_after Plain (with_record InAnswer x) t in Fits None n × (n ≤ t.limit) × (length t.answers < most_entries)
 
 abbrev PassesLimit : RecordItem → State → Type 0
 PassesLimit x t = let n = size_after Plain (with_record InAnswer x) t in Fits None n × (t.limit < n)
@@ -35,12 +35,12 @@ PassesCount x t = let n = size_after Plain (with_record InAnswer x) t in Fits No
 
 -- one further answer after others
 one_more : (s : State) (xs : List RecordItem) (x : RecordItem) (mid new : Built) → MoreAnswers s mid xs
-    → MovesState InAnswer InAnswer Plain (with_record InAnswer x) mid new → InEach InAnswer Plain mid (HasRoom x) → MoreAnswers s new (xs ++ x ∷ [])
-one_more s xs x mid new h moves room =
+    → MovesState InAnswer InAnswer Plain (with_record InAnswer x) mid new → InEach InAnswer Plain mid (HasCapacity x) → MoreAnswers s new (xs ++ x ∷ [])
+one_more s xs x mid new h moves capacity =
     let e : with_record InAnswer x (with_answers xs s) ≡ with_answers (xs ++ x ∷ []) s = λ i. record s { answers = append_assoc s.answers xs (x ∷ []) i } in
     record {
       represents = subst (λ (t : State). Represents InAnswer Plain t new) e (moves (with_answers xs s) h.represents);
-      within = λ l. subst (λ (t : State). size t ≤ s.limit) e (room (with_answers xs s) h.represents).1;
+      within = λ l. subst (λ (t : State). size t ≤ s.limit) e (capacity (with_answers xs s) h.represents).1;
     }
 
 -- with the first of further answers, a message is no longer than with all
@@ -98,10 +98,10 @@ module _ {R : Type 0} (item : R → RecordItem) (asked : QuestionItem) (table : 
 
   -- a record that matches is pushed
   pub pushes_next : (i : ℕ) (x d : R) → i < length table → x ≡ get_or table i d → is_asked asked (item x) ≡ true → (old mid new : Built)
-      → MovesState InAnswer InAnswer Plain (with_record InAnswer (item x)) mid new → InEach InAnswer Plain mid (HasRoom (item x))
+      → MovesState InAnswer InAnswer Plain (with_record InAnswer (item x)) mid new → InEach InAnswer Plain mid (HasCapacity (item x))
       → InEach InAnswer Plain old (λ s. MoreAnswers s mid (first i)) → InEach InAnswer Plain old (λ s. MoreAnswers s new (first (i + 1)))
-  pushes_next i x d l is asks old mid new moves room so_far s h =
-      subst (MoreAnswers s new) (sym (next_taken i x d l is asks)) (one_more s (first i) (item x) mid new (so_far s h) moves room)
+  pushes_next i x d l is asks old mid new moves capacity so_far s h =
+      subst (MoreAnswers s new) (sym (next_taken i x d l is asks)) (one_more s (first i) (item x) mid new (so_far s h) moves capacity)
 
   -- a record that doesn't match is skipped
   pub passes_next : (i : ℕ) (x d : R) → i < length table → x ≡ get_or table i d → is_asked asked (item x) ≡ false → (old mid : Built)

@@ -111,7 +111,7 @@ fn append_name<T: Composer>(
     name: &ParsedName<'_>,
     target: &mut T,
 ) -> Result<(), AppendError>
-    ensures composes { Composes T.room T.grows
+    ensures composes { Composes T.capacity T.grows
         (put_parts T.rule (Octets octets.now ∷ CompressibleName (labels name.now) ∷ []))
         (T.written target.old) (T.written target.new) result }
     ensures is_name { IsName (labels name.now) }
@@ -128,7 +128,7 @@ fn append_names<T: Composer>(
     octets: &[u8],
     target: &mut T,
 ) -> Result<(), AppendError>
-    ensures composes { Composes T.room T.grows (put_parts T.rule
+    ensures composes { Composes T.capacity T.grows (put_parts T.rule
         (CompressibleName (labels first.now) ∷ CompressibleName (labels second.now)
         ∷ Octets octets.now ∷ []))
         (T.written target.old) (T.written target.new) result }
@@ -147,7 +147,7 @@ fn append_canonical_name<T: Composer>(
     name: &ParsedName<'_>,
     target: &mut T,
 ) -> Result<(), AppendError>
-    ensures { Composes T.room T.grows (put_parts T.rule
+    ensures { Composes T.capacity T.grows (put_parts T.rule
         (canonical (Octets octets.now ∷ CompressibleName (labels name.now) ∷ [])))
         (T.written target.old) (T.written target.new) result }
 {
@@ -163,7 +163,7 @@ fn append_canonical_names<T: Composer>(
     octets: &[u8],
     target: &mut T,
 ) -> Result<(), AppendError>
-    ensures { Composes T.room T.grows (put_parts T.rule
+    ensures { Composes T.capacity T.grows (put_parts T.rule
         (canonical (CompressibleName (labels first.now) ∷ CompressibleName (labels second.now)
         ∷ Octets octets.now ∷ [])))
         (T.written target.old) (T.written target.new) result }

@@ -11,5 +11,5 @@ with_name rule t name = lay (put_name rule (labels name)) t
 
 -- what a call leaves in the output buffer: its length stays, and the message fits in it
 pub record HandsOut (old new : List ℕ) (len : ℕ) : Type 0 where
-  pub room : length new ≡ length old
+  pub capacity : length new ≡ length old
   pub within : len ≤ length new

@@ -38,25 +38,25 @@ at_end_or_before {X} (w ∷ xs) (z ∷ before) after x y is =
     by (inl p) same = inl ((λ i. sym same i ∷ p.0 i), p.1)
     by (inr p) same = inr (p.0, (λ i. same i ∷ p.1 i))
 
-module _ (room : Option ℕ) (grows : Bool) (rule : Rule) (s : State) where
+module _ (capacity : Option ℕ) (grows : Bool) (rule : Rule) (s : State) where
   -- an empty list of questions can be pushed
-  pub none_accepted : AreAccepted room grows rule s []
+  pub none_accepted : AreAccepted capacity grows rule s []
   none_accepted before x after is = absurd (none_there before after x is)
 
   -- if one more question can be pushed, all of them can
-  one_accepted : (xs : List QuestionItem) (x : QuestionItem) → AreAccepted room grows rule s xs → AnswersQuestion room grows rule x (with_questions xs s) (Ok tt)
-      → AreAccepted room grows rule s (xs ++ x ∷ [])
+  one_accepted : (xs : List QuestionItem) (x : QuestionItem) → AreAccepted capacity grows rule s xs → AnswersQuestion capacity grows rule x (with_questions xs s) (Ok tt)
+      → AreAccepted capacity grows rule s (xs ++ x ∷ [])
   one_accepted xs x accepted more before y after is = by (at_end_or_before xs before after x y is)
     where
-      by : ((before ≡ xs) × (y ≡ x)) ⊎ ((less : List QuestionItem) × (xs ≡ before ++ y ∷ less)) → AnswersQuestion room grows rule y (with_questions before s) (Ok tt)
-      by (inl p) = subst (λ (q : QuestionItem × List QuestionItem). AnswersQuestion room grows rule q.0 (with_questions q.1 s) (Ok tt)) (λ i. (sym p.1 i, sym p.0 i)) more
+      by : ((before ≡ xs) × (y ≡ x)) ⊎ ((less : List QuestionItem) × (xs ≡ before ++ y ∷ less)) → AnswersQuestion capacity grows rule y (with_questions before s) (Ok tt)
+      by (inl p) = subst (λ (q : QuestionItem × List QuestionItem). AnswersQuestion capacity grows rule q.0 (with_questions q.1 s) (Ok tt)) (λ i. (sym p.1 i, sym p.0 i)) more
       by (inr p) = accepted before y p.0 p.1
 
   -- During a push of the questions `xs`: those before `rest` are pushed.
   pub record Pushing (xs rest : List QuestionItem) (now : Built) : Type 0 where
     pub first : List QuestionItem
     pub all : xs ≡ first ++ rest
-    pub accepted : AreAccepted room grows rule s first
+    pub accepted : AreAccepted capacity grows rule s first
     pub represents : Represents InQuestion rule (with_questions first s) now
 
   -- at first all questions remain
@@ -69,17 +69,17 @@ module _ (room : Option ℕ) (grows : Bool) (rule : Rule) (s : State) where
   }
 
   -- at the end none remains
-  pub ends : (xs rest : List QuestionItem) (now : Built) → rest ≡ [] → Pushing xs rest now → Asks room grows rule s xs (Ok tt) now
+  pub ends : (xs rest : List QuestionItem) (now : Built) → rest ≡ [] → Pushing xs rest now → Asks capacity grows rule s xs (Ok tt) now
   ends xs rest now is p =
       let all : p.first ≡ xs = sym (append-nil p.first) ∙ ap (λ (ys : List QuestionItem). p.first ++ ys) (sym is) ∙ sym p.all in
-      subst (λ (ys : List QuestionItem). AreAccepted room grows rule s ys × Represents InQuestion rule (with_questions ys s) now) all (p.accepted, p.represents)
+      subst (λ (ys : List QuestionItem). AreAccepted capacity grows rule s ys × Represents InQuestion rule (with_questions ys s) now) all (p.accepted, p.represents)
 
   module _ (xs rest : List QuestionItem) (x : QuestionItem) (less : List QuestionItem) (is : rest ≡ x ∷ less) (old new : Built) where
     after : (p : Pushing xs rest old) → xs ≡ p.first ++ x ∷ less
     after p = p.all ∙ ap (λ (ys : List QuestionItem). p.first ++ ys) is
 
     -- the next question is pushed
-    pub takes-next : InEach InQuestion rule old (λ t. AnswersQuestion room grows rule x t (Ok tt)) → MovesState InQuestion InQuestion rule (with_question x) old new
+    pub takes-next : InEach InQuestion rule old (λ t. AnswersQuestion capacity grows rule x t (Ok tt)) → MovesState InQuestion InQuestion rule (with_question x) old new
         → Pushing xs rest old → Pushing xs less new
     takes-next fits moves p = record {
       first = p.first ++ x ∷ [];
@@ -91,7 +91,7 @@ module _ (room : Option ℕ) (grows : Bool) (rule : Rule) (s : State) where
     }
 
     -- pushing the next question fails
-    pub refuses-next : (e : PushError) → InEach InQuestion rule old (λ t. AnswersQuestion room grows rule x t (Err e)) → new ≡ old → Pushing xs rest old → Asks room grows rule s xs (Err e) new
+    pub refuses-next : (e : PushError) → InEach InQuestion rule old (λ t. AnswersQuestion capacity grows rule x t (Err e)) → new ≡ old → Pushing xs rest old → Asks capacity grows rule s xs (Err e) new
     refuses-next e refused same p = (
       p.first,
       record { accepted = p.accepted; next = x; others = less; all = after p; refused = refused (with_questions p.first s) p.represents },
@@ -109,10 +109,10 @@ readable-fault rest new f e is faulted =
     ∙ ap (λ (left : Result ℕ ParseError). filter_map result_ok (items_left (λ n. questions_from (octets_of new) n (position new)) left)) faulted
 
 -- the builder is taken from `Ok` or from `Err`
-pub takes_either : (room : Option ℕ) (grows : Bool) (rule : Rule) (s : State) (xs : List QuestionItem) (result : Result Built Built) (b : Built)
-    → (result ≡ Ok b) ⊎ (result ≡ Err b) → GivesEither room grows rule s xs result → IsEither room grows rule s xs b
-takes_either room grows rule s xs result b (inl is) gives = inl (subst (GivesEither room grows rule s xs) is gives)
-takes_either room grows rule s xs result b (inr is) gives = inr (subst (GivesEither room grows rule s xs) is gives)
+pub takes_either : (capacity : Option ℕ) (grows : Bool) (rule : Rule) (s : State) (xs : List QuestionItem) (result : Result Built Built) (b : Built)
+    → (result ≡ Ok b) ⊎ (result ≡ Err b) → GivesEither capacity grows rule s xs result → IsEither capacity grows rule s xs b
+takes_either capacity grows rule s xs result b (inl is) gives = inl (subst (GivesEither capacity grows rule s xs) is gives)
+takes_either capacity grows rule s xs result b (inr is) gives = inr (subst (GivesEither capacity grows rule s xs) is gives)
 
 -- a bit of octet 2 of an answer's header
 second_bit : (own asked k : ℕ) → bits (bit_or (bit_or (bit_and own 6) (bit_and asked 121)) 128) k 1 ≡ max (max (min (bits own k 1) (bits 6 k 1)) (min (bits asked k 1) (bits 121 k 1))) (bits 128 k 1)

@@ -19,27 +19,27 @@ use Rattle.dns_build.specs.declared.copy_records_error.CopyRecordsError.TheVaria
 use Rattle.dns_build.proofs.OptLemmas.{refused_answers}
 
 -- the clauses of a push, for one state
-pub pushes_record : (room : Option ℕ) (grows : Bool) (rule : Rule) (stage : Stage) (x : RecordItem) (s : State) (old new : Built) (result : Result (Unit {0}) PushError)
+pub pushes_record : (capacity : Option ℕ) (grows : Bool) (rule : Rule) (stage : Stage) (x : RecordItem) (s : State) (old new : Built) (result : Result (Unit {0}) PushError)
     → Represents stage rule s old → OnOk result (MovesState stage stage rule (with_record stage x) old new) → OnErr result (new ≡ old)
-    → OnOk result (InEach stage rule old (λ t. Fits room (size_after rule (with_record stage x) t) × (size_after rule (with_record stage x) t ≤ t.limit) × (length (records_at stage t) < most_entries)))
-    → (result ≡ Err ShortBuf → InEach stage rule old (λ t. Passes room (size_after rule (with_record stage x) t)))
+    → OnOk result (InEach stage rule old (λ t. Fits capacity (size_after rule (with_record stage x) t) × (size_after rule (with_record stage x) t ≤ t.limit) × (length (records_at stage t) < most_entries)))
+    → (result ≡ Err ShortBuf → InEach stage rule old (λ t. Passes capacity (size_after rule (with_record stage x) t)))
     → (result ≡ Err OutOfMemory → IsTrue grows)
-    → (result ≡ Err LimitExceeded → InEach stage rule old (λ t. Fits room (size_after rule (with_record stage x) t) × (t.limit < size_after rule (with_record stage x) t)))
-    → (result ≡ Err CountOverflow → InEach stage rule old (λ t. Fits room (size_after rule (with_record stage x) t) × (size_after rule (with_record stage x) t ≤ t.limit) × (length (records_at stage t) ≡ most_entries)))
-    → (left : State) × PushesRecord room grows rule stage x s result left × Represents stage rule left new
-pushes_record room grows rule stage x s old new (Ok u) represents accepted same fits short memory limit count = (with_record stage x s, (fits s represents, refl), accepted s represents)
-pushes_record room grows rule stage x s old new (Err e) represents accepted same fits short memory limit count = (
+    → (result ≡ Err LimitExceeded → InEach stage rule old (λ t. Fits capacity (size_after rule (with_record stage x) t) × (t.limit < size_after rule (with_record stage x) t)))
+    → (result ≡ Err CountOverflow → InEach stage rule old (λ t. Fits capacity (size_after rule (with_record stage x) t) × (size_after rule (with_record stage x) t ≤ t.limit) × (length (records_at stage t) ≡ most_entries)))
+    → (left : State) × PushesRecord capacity grows rule stage x s result left × Represents stage rule left new
+pushes_record capacity grows rule stage x s old new (Ok u) represents accepted same fits short memory limit count = (with_record stage x s, (fits s represents, refl), accepted s represents)
+pushes_record capacity grows rule stage x s old new (Err e) represents accepted same fits short memory limit count = (
   s,
-  (refused_answers room grows s.limit (size_after rule (with_record stage x) s) (length (records_at stage s)) e (λ is. short (ap Err is) s represents) (λ is. memory (ap Err is)) (λ is. limit (ap Err is) s represents) (λ is. count (ap Err is) s represents), refl),
+  (refused_answers capacity grows s.limit (size_after rule (with_record stage x) s) (length (records_at stage s)) e (λ is. short (ap Err is) s represents) (λ is. memory (ap Err is)) (λ is. limit (ap Err is) s represents) (λ is. count (ap Err is) s represents), refl),
   subst (Represents stage rule s) (sym same) represents,
 )
 
-module _ {F R : Type 0} (call : F → ParsedRecord → Option R → F → Type 0) (item : R → RecordItem) (room : Option ℕ) (grows : Bool) (rule : Rule) (stage : Stage) where
+module _ {F R : Type 0} (call : F → ParsedRecord → Option R → F → Type 0) (item : R → RecordItem) (capacity : Option ℕ) (grows : Bool) (rule : Rule) (stage : Stage) where
   -- a reading is copied up to `ys`: whatever copying `ys` gives, copying all of `xs` gives
   pub record SoFar (xs : List (Result EncodedRecord Fault)) (f : F) (s : State) (ys : List (Result EncodedRecord Fault)) (g : F) (now : Built) : Type 0 where
     pub state : State
     pub represents : Represents stage rule state now
-    pub rest : (result : Result (Unit {0}) CopyRecordsError) (h : F) (u : State) → CopiesList call item room grows rule stage ys g state result h u → CopiesList call item room grows rule stage xs f s result h u
+    pub rest : (result : Result (Unit {0}) CopyRecordsError) (h : F) (u : State) → CopiesList call item capacity grows rule stage ys g state result h u → CopiesList call item capacity grows rule stage xs f s result h u
 
   -- nothing is copied yet
   pub so_far_none : (xs : List (Result EncodedRecord Fault)) (f : F) (s : State) (now : Built) → Represents stage rule s now → SoFar xs f s xs f now
@@ -47,31 +47,31 @@ module _ {F R : Type 0} (call : F → ParsedRecord → Option R → F → Type 0
 
   -- one more record is copied
   pub so_far_more : (xs : List (Result EncodedRecord Fault)) (f : F) (s : State) (ys : List (Result EncodedRecord Fault)) (g : F) (now : Built) (x : EncodedRecord) (zs : List (Result EncodedRecord Fault)) (h : F) (new : Built)
-      → SoFar xs f s ys g now → ys ≡ Ok x ∷ zs → ((t : State) → Represents stage rule t now → CopiesRecordTo call item room grows rule stage x g t (Ok tt) h new) → SoFar xs f s zs h new
+      → SoFar xs f s ys g now → ys ≡ Ok x ∷ zs → ((t : State) → Represents stage rule t now → CopiesRecordTo call item capacity grows rule stage x g t (Ok tt) h new) → SoFar xs f s zs h new
   so_far_more xs f s ys g now x zs h new p is step =
       let made = step p.state p.represents in
       record {
         state = made.0;
         represents = made.2;
-        rest = λ result k u c. p.rest result k u (subst (λ (l : List (Result EncodedRecord Fault)). CopiesList call item room grows rule stage l g p.state result k u) (sym is) (copied made.1 c));
+        rest = λ result k u c. p.rest result k u (subst (λ (l : List (Result EncodedRecord Fault)). CopiesList call item capacity grows rule stage l g p.state result k u) (sym is) (copied made.1 c));
       }
 
   -- all records are copied
   pub so_far_all : (xs : List (Result EncodedRecord Fault)) (f : F) (s : State) (ys : List (Result EncodedRecord Fault)) (g : F) (now : Built) → SoFar xs f s ys g now → ys ≡ []
-      → CopiesListTo call item room grows rule stage xs f s (Ok tt) g now
+      → CopiesListTo call item capacity grows rule stage xs f s (Ok tt) g now
   so_far_all xs f s ys g now p is =
-      (p.state, p.rest (Ok tt) g p.state (subst (λ (l : List (Result EncodedRecord Fault)). CopiesList call item room grows rule stage l g p.state (Ok tt) g p.state) (sym is) none), p.represents)
+      (p.state, p.rest (Ok tt) g p.state (subst (λ (l : List (Result EncodedRecord Fault)). CopiesList call item capacity grows rule stage l g p.state (Ok tt) g p.state) (sym is) none), p.represents)
 
   -- the next item is a fault
   pub so_far_fault : (xs : List (Result EncodedRecord Fault)) (f : F) (s : State) (ys : List (Result EncodedRecord Fault)) (g : F) (now : Built) (e : ParseError) (zs : List (Result EncodedRecord Fault))
-      → SoFar xs f s ys g now → ys ≡ Err (fault_of e) ∷ zs → CopiesListTo call item room grows rule stage xs f s (Err (Parse e)) g now
+      → SoFar xs f s ys g now → ys ≡ Err (fault_of e) ∷ zs → CopiesListTo call item capacity grows rule stage xs f s (Err (Parse e)) g now
   so_far_fault xs f s ys g now e zs p is =
-      (p.state, p.rest (Err (Parse e)) g p.state (subst (λ (l : List (Result EncodedRecord Fault)). CopiesList call item room grows rule stage l g p.state (Err (Parse e)) g p.state) (sym is) fault), p.represents)
+      (p.state, p.rest (Err (Parse e)) g p.state (subst (λ (l : List (Result EncodedRecord Fault)). CopiesList call item capacity grows rule stage l g p.state (Err (Parse e)) g p.state) (sym is) fault), p.represents)
 
   -- pushing the next record fails
   pub so_far_refused : (xs : List (Result EncodedRecord Fault)) (f : F) (s : State) (ys : List (Result EncodedRecord Fault)) (g : F) (now : Built) (x : EncodedRecord) (zs : List (Result EncodedRecord Fault)) (e : PushError) (h : F) (new : Built)
-      → SoFar xs f s ys g now → ys ≡ Ok x ∷ zs → ((t : State) → Represents stage rule t now → CopiesRecordTo call item room grows rule stage x g t (Err e) h new)
-      → CopiesListTo call item room grows rule stage xs f s (Err (Push e)) h new
+      → SoFar xs f s ys g now → ys ≡ Ok x ∷ zs → ((t : State) → Represents stage rule t now → CopiesRecordTo call item capacity grows rule stage x g t (Err e) h new)
+      → CopiesListTo call item capacity grows rule stage xs f s (Err (Push e)) h new
   so_far_refused xs f s ys g now x zs e h new p is step =
       let made = step p.state p.represents in
-      (made.0, p.rest (Err (Push e)) h made.0 (subst (λ (l : List (Result EncodedRecord Fault)). CopiesList call item room grows rule stage l g p.state (Err (Push e)) h made.0) (sym is) (refused made.1)), made.2)
+      (made.0, p.rest (Err (Push e)) h made.0 (subst (λ (l : List (Result EncodedRecord Fault)). CopiesList call item capacity grows rule stage l g p.state (Err (Push e)) h made.0) (sym is) (refused made.1)), made.2)

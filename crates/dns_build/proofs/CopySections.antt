@@ -39,20 +39,20 @@ next_fault which next b cursor e after begins stops =
     let there = subst (λ (o : List ℕ). StopsInRest (SkipsRecord o) (RecordSkipFaultAt o) (Ok (record_count which b)) (position cursor) e) begins.fresh.octets counted in
     start_fault which next b (position cursor) (fault_of e) after begins.start there
 
-module _ {F R : Type 0} (call : F → ParsedRecord → Option R → F → Type 0) (item : R → RecordItem) (room : Option ℕ) (grows : Bool) (rule : Rule) (b : List ℕ) where
+module _ {F R : Type 0} (call : F → ParsedRecord → Option R → F → Type 0) (item : R → RecordItem) (capacity : Option ℕ) (grows : Bool) (rule : Rule) (b : List ℕ) where
   -- some sections are copied, `which` and `sections` remain, and the builder has moved to `which`
   pub record Entered (f : F) (s : State) (which : Section) (sections : List Section) (g : F) (now : Built) : Type 0 where
     pub state : State
     pub represents : Represents (stage_of which) rule (move_to (stage_of which) state) now
-    pub rest : (result : Result (Unit {0}) CopyRecordsError) (h : F) (u : State) → CopiesSections call item room grows rule b (which ∷ sections) g state result h u
-        → CopiesSections call item room grows rule b record_sections f s result h u
+    pub rest : (result : Result (Unit {0}) CopyRecordsError) (h : F) (u : State) → CopiesSections call item capacity grows rule b (which ∷ sections) g state result h u
+        → CopiesSections call item capacity grows rule b record_sections f s result h u
 
   -- some sections are copied, and `sections` remain
   pub record Left (f : F) (s : State) (stage : Stage) (sections : List Section) (g : F) (now : Built) : Type 0 where
     pub state : State
     pub represents : Represents stage rule state now
-    pub rest : (result : Result (Unit {0}) CopyRecordsError) (h : F) (u : State) → CopiesSections call item room grows rule b sections g state result h u
-        → CopiesSections call item room grows rule b record_sections f s result h u
+    pub rest : (result : Result (Unit {0}) CopyRecordsError) (h : F) (u : State) → CopiesSections call item capacity grows rule b sections g state result h u
+        → CopiesSections call item capacity grows rule b record_sections f s result h u
 
   -- nothing is copied yet
   pub enters_first : (f : F) (s : State) (now : Built) → Represents InAnswer rule s now → Entered f s Answer (Authority ∷ Additional ∷ []) f now
@@ -69,29 +69,29 @@ module _ {F R : Type 0} (call : F → ParsedRecord → Option R → F → Type 0
 
   -- copying the records of a section from its start copies the section
   from_start : (which : Section) (cursor : RecordSection) (f g : F) (s t : State) (result : Result (Unit {0}) CopyRecordsError) → BeginsSection which b cursor
-      → CopiesList call item room grows rule (stage_of which) (records_left cursor) f s result g t → CopiesSection call item room grows rule b which f s result g t
+      → CopiesList call item capacity grows rule (stage_of which) (records_left cursor) f s result g t → CopiesSection call item capacity grows rule b which f s result g t
   from_start which cursor f g s t result begins copies =
-      started (position cursor) begins.start (subst (λ (xs : List (Result EncodedRecord Fault)). CopiesList call item room grows rule (stage_of which) xs f s result g t) begins.fresh.records copies)
+      started (position cursor) begins.start (subst (λ (xs : List (Result EncodedRecord Fault)). CopiesList call item capacity grows rule (stage_of which) xs f s result g t) begins.fresh.records copies)
 
   -- a section is copied
   pub leaves : (f : F) (s : State) (which : Section) (sections : List Section) (g h : F) (now new : Built) (cursor : RecordSection) → Entered f s which sections g now → BeginsSection which b cursor
-      → InEach (stage_of which) rule now (λ t. CopiesListTo call item room grows rule (stage_of which) (records_left cursor) g t (Ok tt) h new) → Left f s (stage_of which) sections h new
+      → InEach (stage_of which) rule now (λ t. CopiesListTo call item capacity grows rule (stage_of which) (records_left cursor) g t (Ok tt) h new) → Left f s (stage_of which) sections h new
   leaves f s which sections g h now new cursor p begins copies =
       let made = copies (move_to (stage_of which) p.state) p.represents in
       record { state = made.0; represents = made.2; rest = λ result k u c. p.rest result k u (copied (from_start which cursor g h _ made.0 (Ok tt) begins made.1) c) }
 
   -- all sections are copied
-  pub leaves_last : (f : F) (s : State) (g : F) (now : Built) → Left f s InAdditional [] g now → CopiesMessage call item room grows rule b f s (Ok now)
+  pub leaves_last : (f : F) (s : State) (g : F) (now : Built) → Left f s InAdditional [] g now → CopiesMessage call item capacity grows rule b f s (Ok now)
   leaves_last f s g now p = (g, p.state, p.rest (Ok tt) g p.state none, p.represents)
 
   -- a section has no start
   pub stops_before : (f : F) (s : State) (which : Section) (sections : List Section) (g : F) (now : Built) (e : ParseError) → Entered f s which sections g now → StartFault which b (fault_of e)
-      → CopiesMessage call item room grows rule b f s (Err (Parse e))
+      → CopiesMessage call item capacity grows rule b f s (Err (Parse e))
   stops_before f s which sections g now e p faulty = (g, move_to (stage_of which) p.state, p.rest (Err (Parse e)) g _ (stopped (unstarted faulty)))
 
   -- the copy of a section stops at an error
   pub stops_within : (f : F) (s : State) (which : Section) (sections : List Section) (g h : F) (now new : Built) (cursor : RecordSection) (e : CopyRecordsError) → Entered f s which sections g now → BeginsSection which b cursor
-      → InEach (stage_of which) rule now (λ t. CopiesListTo call item room grows rule (stage_of which) (records_left cursor) g t (Err e) h new) → CopiesMessage call item room grows rule b f s (Err e)
+      → InEach (stage_of which) rule now (λ t. CopiesListTo call item capacity grows rule (stage_of which) (records_left cursor) g t (Err e) h new) → CopiesMessage call item capacity grows rule b f s (Err e)
   stops_within f s which sections g h now new cursor e p begins copies =
       let made = copies (move_to (stage_of which) p.state) p.represents in
       (h, made.0, p.rest (Err e) h made.0 (stopped (from_start which cursor g h _ made.0 (Err e) begins made.1)))

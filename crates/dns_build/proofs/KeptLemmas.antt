@@ -34,7 +34,7 @@ one_more InAnswer x xs s = λ i. record s { answers = append_assoc s.answers (x 
 one_more InAuthority x xs s = λ i. record s { authorities = append_assoc s.authorities (x ∷ []) xs i }
 one_more InAdditional x xs s = λ i. record s { additionals = append_assoc s.additionals (x ∷ []) xs i }
 
-module _ {F R : Type 0} (call : F → ParsedRecord → Option R → F → Type 0) (item : R → RecordItem) (room : Option ℕ) (grows : Bool) (rule : Rule) where
+module _ {F R : Type 0} (call : F → ParsedRecord → Option R → F → Type 0) (item : R → RecordItem) (capacity : Option ℕ) (grows : Bool) (rule : Rule) where
   -- the closure returns some records of a reading, and the state has them in its section
   record KeepsList (stage : Stage) (xs : List (Result EncodedRecord Fault)) (f : F) (s : State) (g : F) (t : State) : Type 0 where
     items : List RecordItem
@@ -42,7 +42,7 @@ module _ {F R : Type 0} (call : F → ParsedRecord → Option R → F → Type 0
     left : t ≡ with_records stage items s
 
   keeps_more : (stage : Stage) (shown : ParsedRecord) (answer : Option R) (xs : List (Result EncodedRecord Fault)) (f g h : F) (s t u : State)
-      → call f shown answer g → PushesKept room grows rule stage (option_map item answer) s (Ok tt) t → KeepsList stage xs g t h u → KeepsList stage (Ok (encoded_record shown) ∷ xs) f s h u
+      → call f shown answer g → PushesKept capacity grows rule stage (option_map item answer) s (Ok tt) t → KeepsList stage xs g t h u → KeepsList stage (Ok (encoded_record shown) ∷ xs) f s h u
   keeps_more stage shown None xs f g h s t u called pushed k = record {
     items = k.items;
     keeps = dropped shown called k.keeps;
@@ -54,7 +54,7 @@ module _ {F R : Type 0} (call : F → ParsedRecord → Option R → F → Type 0
     left = k.left ∙ ap (with_records stage k.items) pushed.1 ∙ one_more stage (item answer) k.items s;
   }
 
-  keeps_list : (stage : Stage) {xs : List (Result EncodedRecord Fault)} {f g : F} {s t : State} {result : Result (Unit {0}) CopyRecordsError} → CopiesList call item room grows rule stage xs f s result g t → result ≡ Ok tt
+  keeps_list : (stage : Stage) {xs : List (Result EncodedRecord Fault)} {f g : F} {s t : State} {result : Result (Unit {0}) CopyRecordsError} → CopiesList call item capacity grows rule stage xs f s result g t → result ≡ Ok tt
       → KeepsList stage xs f s g t
   keeps_list stage {s = s} no_record e = record { items = []; keeps = none; left = no_records stage s }
   keeps_list stage {f = f} {g = h} {s = s} {t = u} (record_copied {xs = xs} one rest) e =
@@ -69,7 +69,7 @@ module _ {F R : Type 0} (call : F → ParsedRecord → Option R → F → Type 0
     keeps : KeepsSection call item b section f items g
     left : t ≡ with_records (stage_of section) items s
 
-  keeps_section : (b : List ℕ) (section : Section) {f g : F} {s t : State} {result : Result (Unit {0}) CopyRecordsError} → CopiesSection call item room grows rule b section f s result g t → result ≡ Ok tt
+  keeps_section : (b : List ℕ) (section : Section) {f g : F} {s t : State} {result : Result (Unit {0}) CopyRecordsError} → CopiesSection call item capacity grows rule b section f s result g t → result ≡ Ok tt
       → KeepsOf b section f s g t
   keeps_section b section (started p starts copies) e =
       let k = keeps_list (stage_of section) copies e in
@@ -77,15 +77,15 @@ module _ {F R : Type 0} (call : F → ParsedRecord → Option R → F → Type 0
   keeps_section b section (unstarted faulty) e = absurd (cc)
 
   -- copying sections copies the first, and then the others
-  first_of : (b : List ℕ) (which : Section) (sections : List Section) {f h : F} {s u : State} {result : Result (Unit {0}) CopyRecordsError} → CopiesSections call item room grows rule b (which ∷ sections) f s result h u → result ≡ Ok tt
-      → (g : F) × (t : State) × KeepsOf b which f (move_to (stage_of which) s) g t × CopiesSections call item room grows rule b sections g t result h u
+  first_of : (b : List ℕ) (which : Section) (sections : List Section) {f h : F} {s u : State} {result : Result (Unit {0}) CopyRecordsError} → CopiesSections call item capacity grows rule b (which ∷ sections) f s result h u → result ≡ Ok tt
+      → (g : F) × (t : State) × KeepsOf b which f (move_to (stage_of which) s) g t × CopiesSections call item capacity grows rule b sections g t result h u
   first_of b which sections (section_copied {g = g} {t = t} one rest) e = (g, t, keeps_section b which one refl, rest)
   first_of b which sections (stopped one) e = absurd (cc)
 
-  none_left : (b : List ℕ) {f h : F} {s u : State} {result : Result (Unit {0}) CopyRecordsError} → CopiesSections call item room grows rule b [] f s result h u → s ≡ u
+  none_left : (b : List ℕ) {f h : F} {s u : State} {result : Result (Unit {0}) CopyRecordsError} → CopiesSections call item capacity grows rule b [] f s result h u → s ≡ u
   none_left b no_section = refl
 
-  pub keeps_all : (b : List ℕ) (f : F) (s : State) (new : Built) → CopiesMessage call item room grows rule b f s (Ok new) → KeepsAll call item rule b f s new
+  pub keeps_all : (b : List ℕ) (f : F) (s : State) (new : Built) → CopiesMessage call item capacity grows rule b f s (Ok new) → KeepsAll call item rule b f s new
   keeps_all b f s new m =
       let first = first_of b Answer (Authority ∷ Additional ∷ []) m.2 refl in
       let second = first_of b Authority (Additional ∷ []) first.3 refl in

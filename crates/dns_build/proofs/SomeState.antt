@@ -15,10 +15,10 @@ pub some_moved : (from to : Stage) (rule : Rule) (after : State → State) (old 
 some_moved from to rule after old new moves some = ∥∥₁_map some (λ p. (after p.0, moves p.0 p.1))
 
 -- after a push
-pub some_pushed : (stage : Stage) (room : Option ℕ) (grows : Bool) (rule : Rule) (after : State → State) (count : State → ℕ) (old new : Built) (result : Result (Unit {0}) PushError)
-    → AnswersPush stage room grows rule after count old new result → RepresentsSome stage rule old → RepresentsSome stage rule new
-some_pushed stage room grows rule after count old new (Ok u) push some = some_moved stage stage rule after old new push.accepted some
-some_pushed stage room grows rule after count old new (Err e) push some = subst (RepresentsSome stage rule) (sym push.refused) some
+pub some_pushed : (stage : Stage) (capacity : Option ℕ) (grows : Bool) (rule : Rule) (after : State → State) (count : State → ℕ) (old new : Built) (result : Result (Unit {0}) PushError)
+    → AnswersPush stage capacity grows rule after count old new result → RepresentsSome stage rule old → RepresentsSome stage rule new
+some_pushed stage capacity grows rule after count old new (Ok u) push some = some_moved stage stage rule after old new push.accepted some
+some_pushed stage capacity grows rule after count old new (Err e) push some = subst (RepresentsSome stage rule) (sym push.refused) some
 
 -- a builder has the starts of the record sections up to its stage
 starts_count : (stage : Stage) (rule : Rule) (s : State) → length (starts_of stage rule s) ≡ record_depth stage

@@ -36,7 +36,7 @@ answering rcode b s = move_to InQuestion (with_header (answer_header rcode (head
 
 -- the result of pushing a question onto a state
 abbrev pub AnswersQuestion : Option ℕ → Bool → Rule → QuestionItem → State → Result (Unit {0}) PushError → Type 0
-AnswersQuestion room grows rule x s = PushAnswers room grows s.limit (size_after rule (with_question x) s) (length s.questions)
+AnswersQuestion capacity grows rule x s = PushAnswers capacity grows s.limit (size_after rule (with_question x) s) (length s.questions)
 
 -- a builder at the answer section represents the state, moved there
 abbrev pub IsAnswer : Rule → State → Built → Type 0
@@ -46,12 +46,12 @@ IsAnswer rule s b = Represents InAnswer rule (move_to InAnswer s) b
 abbrev pub IsFailure : Rule → State → Built → Type 0
 IsFailure rule s b = IsAnswer rule (with_header (with_rcode 2 s.header) s) b
 
--- Pushing questions onto the state `s`, over a target with capacity `room`, which allocates if `grows`, under the compression rule `rule`.
-module _ (room : Option ℕ) (grows : Bool) (rule : Rule) (s : State) where
+-- Pushing questions onto the state `s`, over a target with capacity `capacity`, which allocates if `grows`, under the compression rule `rule`.
+module _ (capacity : Option ℕ) (grows : Bool) (rule : Rule) (s : State) where
   -- each of these questions can be pushed after those before it
   abbrev pub AreAccepted : List QuestionItem → Type 0
   AreAccepted xs = (before : List QuestionItem) (x : QuestionItem) (after : List QuestionItem) → xs ≡ before ++ x ∷ after
-      → AnswersQuestion room grows rule x (with_questions before s) (Ok tt)
+      → AnswersQuestion capacity grows rule x (with_questions before s) (Ok tt)
 
   -- the questions `first` can be pushed, and pushing the next one fails
   pub record RefusesAfter (xs first : List QuestionItem) (e : PushError) : Type 0 where
@@ -59,7 +59,7 @@ module _ (room : Option ℕ) (grows : Bool) (rule : Rule) (s : State) where
     pub next : QuestionItem
     pub others : List QuestionItem
     pub all : xs ≡ first ++ next ∷ others
-    pub refused : AnswersQuestion room grows rule next (with_questions first s) (Err e)
+    pub refused : AnswersQuestion capacity grows rule next (with_questions first s) (Err e)
 
   -- a question builder with all questions, or with those before the one that fails
   abbrev pub Asks : List QuestionItem → Result (Unit {0}) PushError → Built → Type 0

@@ -18,29 +18,29 @@ use Rattle.dns_build.specs.declared.copy_records_error.CopyRecordsError.TheVaria
 
 -- pushing a record into the section of a stage: it is appended, or it fails and nothing changes
 abbrev pub PushesRecord : Option ℕ → Bool → Rule → Stage → RecordItem → State → Result (Unit {0}) PushError → State → Type 0
-PushesRecord room grows rule stage x s (Ok _) after =
-    PushAnswers room grows s.limit (size_after rule (with_record stage x) s) (length (records_at stage s)) (Ok tt) × (after ≡ with_record stage x s)
-PushesRecord room grows rule stage x s (Err e) after =
-    PushAnswers room grows s.limit (size_after rule (with_record stage x) s) (length (records_at stage s)) (Err e) × (after ≡ s)
+PushesRecord capacity grows rule stage x s (Ok _) after =
+    PushAnswers capacity grows s.limit (size_after rule (with_record stage x) s) (length (records_at stage s)) (Ok tt) × (after ≡ with_record stage x s)
+PushesRecord capacity grows rule stage x s (Err e) after =
+    PushAnswers capacity grows s.limit (size_after rule (with_record stage x) s) (length (records_at stage s)) (Err e) × (after ≡ s)
 
 -- pushing the record that the closure returned; for `None` nothing changes
 abbrev pub PushesKept : Option ℕ → Bool → Rule → Stage → Option RecordItem → State → Result (Unit {0}) PushError → State → Type 0
-PushesKept room grows rule stage (Some x) s result after = PushesRecord room grows rule stage x s result after
-PushesKept room grows rule stage None s result after = (result ≡ Ok tt) × (after ≡ s)
+PushesKept capacity grows rule stage (Some x) s result after = PushesRecord capacity grows rule stage x s result after
+PushesKept capacity grows rule stage None s result after = (result ≡ Ok tt) × (after ≡ s)
 
 -- the record sections of a message, in order
 abbrev pub record_sections : List Section
 record_sections = Answer ∷ Authority ∷ Additional ∷ []
 
--- `call f x r g` says that the closure in state `f`, called on the record `x`, returns `r` and is then in state `g`. `item r` is the record to push for `r`. The target has capacity `room`, allocates if `grows`, and compresses by `rule`.
-module _ {F R : Type 0} (call : F → ParsedRecord → Option R → F → Type 0) (item : R → RecordItem) (room : Option ℕ) (grows : Bool) (rule : Rule) where
+-- `call f x r g` says that the closure in state `f`, called on the record `x`, returns `r` and is then in state `g`. `item r` is the record to push for `r`. The target has capacity `capacity`, allocates if `grows`, and compresses by `rule`.
+module _ {F R : Type 0} (call : F → ParsedRecord → Option R → F → Type 0) (item : R → RecordItem) (capacity : Option ℕ) (grows : Bool) (rule : Rule) where
   -- The closure is called on the record `x`. The record that it returns, if any, is pushed.
   pub record CopiesRecord (stage : Stage) (x : EncodedRecord) (f : F) (s : State) (result : Result (Unit {0}) PushError) (f' : F) (s' : State) : Type 0 where
     pub shown : ParsedRecord
     pub represents : encoded_record shown ≡ x
     pub kept : Option R
     pub called : call f shown kept f'
-    pub pushed : PushesKept room grows rule stage (option_map item kept) s result s'
+    pub pushed : PushesKept capacity grows rule stage (option_map item kept) s result s'
 
   -- The records of a reading are copied in order, up to the first push that fails or the fault that ends the reading.
   pub data CopiesList (stage : Stage) : List (Result EncodedRecord Fault) → F → State → Result (Unit {0}) CopyRecordsError → F → State → Type 0 where

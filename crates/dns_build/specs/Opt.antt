@@ -41,14 +41,14 @@ pub record Gathers (call : OptBuilder → Result (Unit {0}) AppendError → OptB
 
 -- the result of `opt`: the error of the closure, or else the result of the push
 abbrev pub OptAnswers : Option ℕ → Bool → ℕ → ℕ → ℕ → Result (Unit {0}) AppendError → Result (Unit {0}) PushError → Type 0
-OptAnswers room grows limit n count (Err e) result = result ≡ Err (push_error e)
-OptAnswers room grows limit n count (Ok _) result = PushAnswers room grows limit n count result
+OptAnswers capacity grows limit n count (Err e) result = result ≡ Err (push_error e)
+OptAnswers capacity grows limit n count (Ok _) result = PushAnswers capacity grows limit n count result
 
 -- The fields and options that a closure sets are pushed as an OPT record. On success the builder represents the state with the record and the rcode.
-pub record PushesOpt (room : Option ℕ) (grows : Bool) (rule : Rule) (call : OptBuilder → Result (Unit {0}) AppendError → OptBuilder → Type 0) (s : State) (new : Built) (result : Result (Unit {0}) PushError) : Type 0 where
+pub record PushesOpt (capacity : Option ℕ) (grows : Bool) (rule : Rule) (call : OptBuilder → Result (Unit {0}) AppendError → OptBuilder → Type 0) (s : State) (new : Built) (result : Result (Unit {0}) PushError) : Type 0 where
   pub g : Gathered
   pub answer : Result (Unit {0}) AppendError
   pub gathers : Gathers call s.header answer g
-  pub answers : OptAnswers room grows s.limit (size_after rule (with_record InAdditional (opt_record g)) s) (length s.additionals) answer result
+  pub answers : OptAnswers capacity grows s.limit (size_after rule (with_record InAdditional (opt_record g)) s) (length s.additionals) answer result
   pub is_gathered : OnOk result (IsGathered g)
   pub accepted : OnOk result (Represents InAdditional rule (with_opt g s) new)

@@ -30,7 +30,7 @@ pub trait CopyRecords {
         op: F,
     ) -> Result<AdditionalBuilder<T>, CopyRecordsError>
         requires { F.IsAlwaysCallable op }
-        ensures copies { InEach InAnswer T.rule target (λ s. CopiesMessage F.step R.item T.room
+        ensures copies { InEach InAnswer T.rule target (λ s. CopiesMessage F.step R.item T.capacity
             T.grows T.rule (octets self.now) op s result) }
         ensures kept { IfOk result (λ new. InEach InAnswer T.rule target (λ s.
             KeepsAll F.step R.item T.rule (octets self.now) op s new)) };
@@ -72,7 +72,7 @@ pub fn copy_records<
     op: F,
 ) -> Result<AdditionalBuilder<T>, CopyRecordsError>
     requires { F.IsAlwaysCallable op }
-    ensures copies { InEach InAnswer T.rule target (λ s. CopiesMessage F.step R.item T.room T.grows
+    ensures copies { InEach InAnswer T.rule target (λ s. CopiesMessage F.step R.item T.capacity T.grows
         T.rule (message_octets message.now) op s result) }
     ensures kept { IfOk result (λ new. InEach InAnswer T.rule target (λ s.
         KeepsAll F.step R.item T.rule (message_octets message.now) op s new)) }
@@ -104,7 +104,7 @@ fn copy_section<
 ) -> Result<(), CopyRecordsError>
     requires { F.IsAlwaysCallable op.old }
     ensures callable { F.IsAlwaysCallable op.new }
-    ensures copies { InEach S.stage T.rule target.old (λ s. CopiesListTo F.step R.item T.room
+    ensures copies { InEach S.stage T.rule target.old (λ s. CopiesListTo F.step R.item T.capacity
         T.grows T.rule S.stage (records_left section.entry) op.old s result op.new target.new) }
 {
     let mut section = section;
@@ -127,7 +127,7 @@ fn copy_record<
 >(shown: ParsedRecord<'a>, op: &mut F, target: &mut Builder<T, S>) -> Result<(), PushError>
     requires { F.IsAlwaysCallable op.old }
     ensures callable { F.IsAlwaysCallable op.new }
-    ensures copies { InEach S.stage T.rule target.old (λ s. CopiesRecordTo F.step R.item T.room
+    ensures copies { InEach S.stage T.rule target.old (λ s. CopiesRecordTo F.step R.item T.capacity
         T.grows T.rule S.stage (encoded_record shown.entry) op.old s result op.new
         target.new) }
 {

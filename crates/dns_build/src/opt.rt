@@ -34,7 +34,7 @@ impl<T: Composer> Builder<T, AtAdditional> {
     ) -> Result<(), PushError>
         requires { F.IsAlwaysCallable gather }
         ensures pushes { InEach InAdditional T.rule self.old (λ s.
-            PushesOpt T.room T.grows T.rule (FnOnceReturnsAtMut F.FnOnce gather) s self.new
+            PushesOpt T.capacity T.grows T.rule (FnOnceReturnsAtMut F.FnOnce gather) s self.new
             result) }
         ensures refused { OnErr result (self.new ≡ self.old) }
     {

@@ -66,27 +66,27 @@ fn answers_the_readable_questions(rt: HostRuntime) {
     assert_tries(&rt, Vec::new(alloc));
 }
 
-const NO_ROOM: &str = "Start an answer without room";
+const NO_CAPACITY: &str = "Start an answer without room";
 
 /// Checks `try_start_answer` and `start_answer` on targets that have the capacity for one question
 /// of `READABLE`, but not for two.
 fn assert_refuses<T: Composer>(rt: &impl Abort, first: T, second: T) {
-    let message = Message::from_slice(&READABLE).expect(rt, NO_ROOM);
+    let message = Message::from_slice(&READABLE).expect(rt, NO_CAPACITY);
     let given = over(rt, first).try_start_answer(&message, Rcode::NOERROR);
-    assert_builder(rt, NO_ROOM, given.err(), &SERVFAIL);
+    assert_builder(rt, NO_CAPACITY, given.err(), &SERVFAIL);
     let given = over(rt, second).start_answer(&message, Rcode::NOERROR);
     assert_holds(
         rt,
-        NO_ROOM,
+        NO_CAPACITY,
         matches!(given.err(), Some(PushError::ShortBuf)),
     );
 }
 
 /// Checks `start_error` on such a target.
 fn assert_tells<T: Composer>(rt: &impl Abort, target: T) {
-    let message = Message::from_slice(&READABLE).expect(rt, NO_ROOM);
+    let message = Message::from_slice(&READABLE).expect(rt, NO_CAPACITY);
     let given = over(rt, target).start_error(&message, Rcode::NOERROR);
-    assert_builder(rt, NO_ROOM, Some(given), &SERVFAIL);
+    assert_builder(rt, NO_CAPACITY, Some(given), &SERVFAIL);
 }
 
 #[test]

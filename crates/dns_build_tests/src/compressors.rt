@@ -83,12 +83,12 @@ fn compresses_responses(rt: HostRuntime) {
 /// Makes the calls of "Positive response" twice on one target.
 fn assert_kept<T: Composer>(rt: &impl Abort, alloc: Global, mut target: T) {
     for _ in 0..2 {
-        run(rt, alloc, &mut target, &ROOM_FOR_ALL);
+        run(rt, alloc, &mut target, &CAPACITY_FOR_ALL);
         assert_octets(
             rt,
             "a target that is kept",
             target.as_slice(),
-            ROOM_FOR_ALL.start,
+            CAPACITY_FOR_ALL.start,
         );
     }
 }
@@ -398,18 +398,23 @@ static REFUSED_RECORD: Row = Row {
 #[test]
 fn forgets_a_refused_record(rt: HostRuntime) {
     let alloc = rt.alloc();
-    let room = ArrayVec::<u8, 60>::new;
-    run(&rt, alloc, StaticCompressor::new(room()), &REFUSED_RECORD);
+    let capacity = ArrayVec::<u8, 60>::new;
     run(
         &rt,
         alloc,
-        TreeCompressor::new(alloc, room()),
+        StaticCompressor::new(capacity()),
         &REFUSED_RECORD,
     );
     run(
         &rt,
         alloc,
-        HashCompressor::new(alloc, room()),
+        TreeCompressor::new(alloc, capacity()),
+        &REFUSED_RECORD,
+    );
+    run(
+        &rt,
+        alloc,
+        HashCompressor::new(alloc, capacity()),
         &REFUSED_RECORD,
     );
 }
@@ -433,7 +438,7 @@ static NO_ANSWER: Row = Row {
 };
 
 /// The pushes of "Positive response" if all fit.
-static ROOM_FOR_ALL: Row = Row {
+static CAPACITY_FOR_ALL: Row = Row {
     name: "Room for all",
     ..POSITIVE_RESPONSE
 };
@@ -444,13 +449,13 @@ fn over_array<const N: usize>() -> StaticCompressor<ArrayVec<u8, N>> {
 }
 
 #[test]
-fn refuses_what_has_no_room(rt: HostRuntime) {
+fn refuses_what_exceeds_the_capacity(rt: HostRuntime) {
     let alloc = rt.alloc();
     run(&rt, alloc, over_array::<12>(), &NO_QUESTION);
     run(&rt, alloc, over_array::<28>(), &NO_QUESTION);
     run(&rt, alloc, over_array::<29>(), &NO_ANSWER);
     run(&rt, alloc, over_array::<44>(), &NO_ANSWER);
-    run(&rt, alloc, over_array::<45>(), &ROOM_FOR_ALL);
+    run(&rt, alloc, over_array::<45>(), &CAPACITY_FOR_ALL);
 }
 
 /// Fails unless the header exceeds the capacity of the target.
@@ -460,7 +465,7 @@ fn assert_no_header<T: Composer>(rt: &impl Abort, row: &str, target: T) {
 }
 
 #[test]
-fn has_no_room_for_the_header(rt: HostRuntime) {
+fn has_no_capacity_for_the_header(rt: HostRuntime) {
     assert_no_header(&rt, "No room for the header", over_array::<0>());
     assert_no_header(&rt, "No room for the header", over_array::<11>());
     let target = StreamTarget::new(ArrayVec::<u8, 13>::new()).expect(&rt, "room");

@@ -77,12 +77,12 @@ pub check_ends : (items left : List NewItem) → left ≡ [] → Checking items 
 check_ends items left is h = h.mean [] (subst (λ (xs : List NewItem). AllMean xs []) (sym is) tt)
 
 -- the reasons for which a push fails, one by one
-pub refused_answers : (room : Option ℕ) (grows : Bool) (limit n count : ℕ) (e : PushError) → (e ≡ pushing.ShortBuf → Passes room n) → (e ≡ pushing.OutOfMemory → IsTrue grows)
-    → (e ≡ pushing.LimitExceeded → Fits room n × (limit < n)) → (e ≡ pushing.CountOverflow → Fits room n × (n ≤ limit) × (count ≡ most_entries)) → PushAnswers room grows limit n count (Err e)
-refused_answers room grows limit n count pushing.ShortBuf short memory over full = short refl
-refused_answers room grows limit n count pushing.OutOfMemory short memory over full = memory refl
-refused_answers room grows limit n count pushing.LimitExceeded short memory over full = over refl
-refused_answers room grows limit n count pushing.CountOverflow short memory over full = full refl
+pub refused_answers : (capacity : Option ℕ) (grows : Bool) (limit n count : ℕ) (e : PushError) → (e ≡ pushing.ShortBuf → Passes capacity n) → (e ≡ pushing.OutOfMemory → IsTrue grows)
+    → (e ≡ pushing.LimitExceeded → Fits capacity n × (limit < n)) → (e ≡ pushing.CountOverflow → Fits capacity n × (n ≤ limit) × (count ≡ most_entries)) → PushAnswers capacity grows limit n count (Err e)
+refused_answers capacity grows limit n count pushing.ShortBuf short memory over full = short refl
+refused_answers capacity grows limit n count pushing.OutOfMemory short memory over full = memory refl
+refused_answers capacity grows limit n count pushing.LimitExceeded short memory over full = over refl
+refused_answers capacity grows limit n count pushing.CountOverflow short memory over full = full refl
 
 -- An invariant of pushing questions: the first questions are pushed, and the rest are those of the remaining items.
 pub record Asking (rule : Rule) (left : List NewItem) (xs : List NewEntry) (s : State) (now : Built) : Type 0 where
@@ -121,10 +121,10 @@ module _ (rule : Rule) (rest : List NewItem) (item : NewItem) (xs : List NewEntr
   asking_takes_by (Record which x ∷ es) first y new here is mean all represents = absurd (let some = mean.0.0 in omega arith)
 
   -- pushing a question fails
-  asking_refused_by : (room : Option ℕ) (grows : Bool) (es : List NewEntry) (first : List QuestionItem) (y : QuestionItem) (e : PushError) → item.section ≡ 0 → IsQuestionOf item y → AllMean (item ∷ rest) es
-      → questions_among xs ≡ first ++ questions_among es → AnswersQuestion room grows rule y (with_questions first s) (Err e) → RefusesQuestion room grows rule (questions_among xs) s (number_of (push_fault e))
-  asking_refused_by room grows [] first y e here is mean all refused = absurd mean
-  asking_refused_by room grows (Question x ∷ es) first y e here is mean all refused = record {
+  asking_refused_by : (capacity : Option ℕ) (grows : Bool) (es : List NewEntry) (first : List QuestionItem) (y : QuestionItem) (e : PushError) → item.section ≡ 0 → IsQuestionOf item y → AllMean (item ∷ rest) es
+      → questions_among xs ≡ first ++ questions_among es → AnswersQuestion capacity grows rule y (with_questions first s) (Err e) → RefusesQuestion capacity grows rule (questions_among xs) s (number_of (push_fault e))
+  asking_refused_by capacity grows [] first y e here is mean all refused = absurd mean
+  asking_refused_by capacity grows (Question x ∷ es) first y e here is mean all refused = record {
     first = first;
     next = y;
     others = questions_among es;
@@ -133,7 +133,7 @@ module _ (rule : Rule) (rest : List NewItem) (item : NewItem) (xs : List NewEntr
     refused = refused;
     number = refl;
   }
-  asking_refused_by room grows (Record which x ∷ es) first y e here is mean all refused = absurd (let some = mean.0.0 in omega arith)
+  asking_refused_by capacity grows (Record which x ∷ es) first y e here is mean all refused = absurd (let some = mean.0.0 in omega arith)
 
   -- the text of its item spells a name
   asking_named_by : (es : List NewEntry) → AllMean (item ∷ rest) es → SpellsNoName item.name.now → ⊥
@@ -158,9 +158,9 @@ module _ (rule : Rule) (left rest : List NewItem) (item : NewItem) (is : left �
   asking_named none = asking_named_by rule rest item xs s now h.rest here_means none
 
   -- a push fails
-  pub asking_refused : (room : Option ℕ) (grows : Bool) (y : QuestionItem) (e : PushError) → item.section ≡ 0 → IsQuestionOf item y → InEach InQuestion rule now (λ t. AnswersQuestion room grows rule y t (Err e))
-      → RefusesQuestion room grows rule (questions_among xs) s (number_of (push_fault e))
-  asking_refused room grows y e here is_question refused = asking_refused_by rule rest item xs s now room grows h.rest h.first y e here is_question here_means h.all (refused (with_questions h.first s) h.represents)
+  pub asking_refused : (capacity : Option ℕ) (grows : Bool) (y : QuestionItem) (e : PushError) → item.section ≡ 0 → IsQuestionOf item y → InEach InQuestion rule now (λ t. AnswersQuestion capacity grows rule y t (Err e))
+      → RefusesQuestion capacity grows rule (questions_among xs) s (number_of (push_fault e))
+  asking_refused capacity grows y e here is_question refused = asking_refused_by rule rest item xs s now capacity grows h.rest h.first y e here is_question here_means h.all (refused (with_questions h.first s) h.represents)
 
 asking_ends_by : (rule : Rule) (rest xs : List NewEntry) (first : List QuestionItem) (s : State) (now : Built) → AllMean [] rest → questions_among xs ≡ first ++ questions_among rest
     → Represents InQuestion rule (with_questions first s) now → Represents InQuestion rule (with_questions (questions_among xs) s) now
@@ -283,12 +283,12 @@ module _ (rule : Rule) (stage : Stage) (which : Section) (rest : List NewItem) (
   }
 
   -- pushing a record fails
-  stating_refused_by : (room : Option ℕ) (grows : Bool) (es : List NewEntry) (first : List RecordItem) (y : RecordItem) (e : PushError) → item.section + 1 ≡ depth_of (stage_of which) → IsRecordOf item y
-      → AllMean (item ∷ rest) es → records_among which xs ≡ first ++ records_among which es → AnswersRecordPush room grows rule stage y (with_records stage first s) (Err e)
-      → RefusesRecord room grows rule stage (records_among which xs) s (number_of (push_fault e))
-  stating_refused_by room grows [] first y e at is mean all refused = absurd mean
-  stating_refused_by room grows (Question x ∷ es) first y e at is mean all refused = absurd (not_first item.section which mean.0.0 at)
-  stating_refused_by room grows (Record w x ∷ es) first y e at is mean all refused = record {
+  stating_refused_by : (capacity : Option ℕ) (grows : Bool) (es : List NewEntry) (first : List RecordItem) (y : RecordItem) (e : PushError) → item.section + 1 ≡ depth_of (stage_of which) → IsRecordOf item y
+      → AllMean (item ∷ rest) es → records_among which xs ≡ first ++ records_among which es → AnswersRecordPush capacity grows rule stage y (with_records stage first s) (Err e)
+      → RefusesRecord capacity grows rule stage (records_among which xs) s (number_of (push_fault e))
+  stating_refused_by capacity grows [] first y e at is mean all refused = absurd mean
+  stating_refused_by capacity grows (Question x ∷ es) first y e at is mean all refused = absurd (not_first item.section which mean.0.0 at)
+  stating_refused_by capacity grows (Record w x ∷ es) first y e at is mean all refused = record {
     first = first;
     next = y;
     others = records_among which es;
@@ -322,10 +322,10 @@ module _ (rule : Rule) (stage : Stage) (which : Section) (left rest : List NewIt
   stating_named n at lacks = stating_named_by rule stage which rest item xs s now h.rest n at these_mean lacks
 
   -- a push fails
-  pub stating_refused : (room : Option ℕ) (grows : Bool) (y : RecordItem) (e : PushError) → item.section + 1 ≡ depth_of (stage_of which) → IsRecordOf item y
-      → InEach stage rule now (λ t. AnswersRecordPush room grows rule stage y t (Err e)) → RefusesRecord room grows rule stage (records_among which xs) s (number_of (push_fault e))
-  stating_refused room grows y e at is_record refused =
-      stating_refused_by rule stage which rest item xs s now room grows h.rest h.first y e at is_record these_mean h.all (refused (with_records stage h.first s) h.represents)
+  pub stating_refused : (capacity : Option ℕ) (grows : Bool) (y : RecordItem) (e : PushError) → item.section + 1 ≡ depth_of (stage_of which) → IsRecordOf item y
+      → InEach stage rule now (λ t. AnswersRecordPush capacity grows rule stage y t (Err e)) → RefusesRecord capacity grows rule stage (records_among which xs) s (number_of (push_fault e))
+  stating_refused capacity grows y e at is_record refused =
+      stating_refused_by rule stage which rest item xs s now capacity grows h.rest h.first y e at is_record these_mean h.all (refused (with_records stage h.first s) h.represents)
 
 stating_ends_by : (rule : Rule) (stage : Stage) (which : Section) (rest xs : List NewEntry) (first : List RecordItem) (s : State) (now : Built) → AllMean [] rest
     → records_among which xs ≡ first ++ records_among which rest → Represents stage rule (with_records stage first s) now → Represents stage rule (with_records stage (records_among which xs) s) now
@@ -360,26 +360,26 @@ module _ (n : ℕ) (section : n ≡ number_of BadSection → ⊥) (text : n ≡ 
 
 -- a target without a bound fails only if it is out of memory or a count is full
 answers_otherwise : (grows : Bool) (limit n count : ℕ) (e : PushError) → number_of (push_fault e) ≡ number_of NoRoom → PushAnswers None grows limit n count (Err e) → ⊥
-answers_otherwise grows limit n count pushing.ShortBuf room refused = refused
-answers_otherwise grows limit n count pushing.OutOfMemory room refused = omega arith
-answers_otherwise grows limit n count pushing.LimitExceeded room refused = omega arith
-answers_otherwise grows limit n count pushing.CountOverflow room refused = omega arith
+answers_otherwise grows limit n count pushing.ShortBuf capacity refused = refused
+answers_otherwise grows limit n count pushing.OutOfMemory capacity refused = omega arith
+answers_otherwise grows limit n count pushing.LimitExceeded capacity refused = omega arith
+answers_otherwise grows limit n count pushing.CountOverflow capacity refused = omega arith
 
 header_otherwise : (grows : Bool) (e : AppendError) → number_of (append_fault e) ≡ number_of NoRoom → Answers {X = Unit {0}} None grows header_size (Err e) → ⊥
-header_otherwise grows appending.ShortBuf room refused = refused
-header_otherwise grows appending.OutOfMemory room refused = omega arith
+header_otherwise grows appending.ShortBuf capacity refused = refused
+header_otherwise grows appending.OutOfMemory capacity refused = omega arith
 
 entry_otherwise : (grows : Bool) (rule : Rule) (header : Header) (xs : List NewEntry) (n : ℕ) → n ≡ number_of NoRoom → RefusesEntry None grows rule header xs n → ⊥
-entry_otherwise grows rule header xs n room (inl h) = answers_otherwise grows _ _ _ h.error (sym h.number ∙ room) h.refused
-entry_otherwise grows rule header xs n room (inr h) = answers_otherwise grows _ _ _ h.1.error (sym h.1.number ∙ room) h.1.refused
+entry_otherwise grows rule header xs n capacity (inl h) = answers_otherwise grows _ _ _ h.error (sym h.number ∙ capacity) h.refused
+entry_otherwise grows rule header xs n capacity (inr h) = answers_otherwise grows _ _ _ h.1.error (sym h.1.number ∙ capacity) h.1.refused
 
 made_otherwise : (grows : Bool) (rule : Rule) (header : Header) (xs : List NewEntry) (n : ℕ) → n ≡ number_of NoRoom → RefusesHeader None grows rule n ⊎ RefusesEntry None grows rule header xs n → ⊥
-made_otherwise grows rule header xs n room (inl h) = header_otherwise grows h.error (sym h.number ∙ room) h.refused
-made_otherwise grows rule header xs n room (inr h) = entry_otherwise grows rule header xs n room h
+made_otherwise grows rule header xs n capacity (inl h) = header_otherwise grows h.error (sym h.number ∙ capacity) h.refused
+made_otherwise grows rule header xs n capacity (inr h) = entry_otherwise grows rule header xs n capacity h
 
 pub unbuilt_otherwise : (grows : Bool) (rule : Rule) (header : Header) (items : List NewItem) (n : ℕ) → n ≡ number_of NoRoom → IsUnbuilt None grows rule header items n → ⊥
-unbuilt_otherwise grows rule header items n room (inl h) = first_otherwise n (λ is. omega arith) (λ is. omega arith) (λ is. omega arith) items h
-unbuilt_otherwise grows rule header items n room (inr h) = made_otherwise grows rule header h.0 n room h.2
+unbuilt_otherwise grows rule header items n capacity (inl h) = first_otherwise n (λ is. omega arith) (λ is. omega arith) (λ is. omega arith) items h
+unbuilt_otherwise grows rule header items n capacity (inr h) = made_otherwise grows rule header h.0 n capacity h.2
 
 -- A full count is reported only if a section has more entries than its count can hold.
 
@@ -387,8 +387,8 @@ header_others : (e : AppendError) → number_of (append_fault e) ≡ number_of T
 header_others appending.ShortBuf many = omega arith
 header_others appending.OutOfMemory many = omega arith
 
-module _ (room : Option ℕ) (grows : Bool) (rule : Rule) where
-  answers_full : (limit n count : ℕ) (e : PushError) → number_of (push_fault e) ≡ number_of TooMany → PushAnswers room grows limit n count (Err e) → count ≡ most_entries
+module _ (capacity : Option ℕ) (grows : Bool) (rule : Rule) where
+  answers_full : (limit n count : ℕ) (e : PushError) → number_of (push_fault e) ≡ number_of TooMany → PushAnswers capacity grows limit n count (Err e) → count ≡ most_entries
   answers_full limit n count pushing.ShortBuf many refused = absurd (omega arith)
   answers_full limit n count pushing.OutOfMemory many refused = absurd (omega arith)
   answers_full limit n count pushing.LimitExceeded many refused = absurd (omega arith)
@@ -401,49 +401,49 @@ module _ (room : Option ℕ) (grows : Bool) (rule : Rule) where
       let whole = ap length all in
       omega arith
 
-  questions_full : (header : Header) (xs : List NewEntry) (n : ℕ) → n ≡ number_of TooMany → RefusesQuestion room grows rule (questions_among xs) (beginning_of InQuestion header xs) n → most_entries < length (questions_among xs)
+  questions_full : (header : Header) (xs : List NewEntry) (n : ℕ) → n ≡ number_of TooMany → RefusesQuestion capacity grows rule (questions_among xs) (beginning_of InQuestion header xs) n → most_entries < length (questions_among xs)
   questions_full header xs n many h = more_than _ h.first h.others h.next h.all (answers_full _ _ (length h.first) h.error (sym h.number ∙ many) h.refused)
 
   records_full : (which : Section) (header : Header) (xs : List NewEntry) (n : ℕ) → n ≡ number_of TooMany
-      → RefusesRecord room grows rule (stage_of which) (records_among which xs) (beginning_of (stage_of which) header xs) n → most_entries < length (records_among which xs)
+      → RefusesRecord capacity grows rule (stage_of which) (records_among which xs) (beginning_of (stage_of which) header xs) n → most_entries < length (records_among which xs)
   records_full Answer header xs n many h = more_than _ h.first h.others h.next h.all (answers_full _ _ (length h.first) h.error (sym h.number ∙ many) h.refused)
   records_full Authority header xs n many h = more_than _ h.first h.others h.next h.all (answers_full _ _ (length h.first) h.error (sym h.number ∙ many) h.refused)
   records_full Additional header xs n many h = more_than _ h.first h.others h.next h.all (answers_full _ _ (length h.first) h.error (sym h.number ∙ many) h.refused)
 
-  entry_full : (header : Header) (xs : List NewEntry) (n : ℕ) → n ≡ number_of TooMany → RefusesEntry room grows rule header xs n
+  entry_full : (header : Header) (xs : List NewEntry) (n : ℕ) → n ≡ number_of TooMany → RefusesEntry capacity grows rule header xs n
       → (most_entries < length (questions_among xs)) ⊎ ((which : Section) × (most_entries < length (records_among which xs)))
   entry_full header xs n many (inl h) = inl (questions_full header xs n many h)
   entry_full header xs n many (inr h) = inr (h.0, records_full h.0 header xs n many h.1)
 
-  made_full : (header : Header) (xs : List NewEntry) (n : ℕ) → n ≡ number_of TooMany → RefusesHeader room grows rule n ⊎ RefusesEntry room grows rule header xs n
+  made_full : (header : Header) (xs : List NewEntry) (n : ℕ) → n ≡ number_of TooMany → RefusesHeader capacity grows rule n ⊎ RefusesEntry capacity grows rule header xs n
       → (most_entries < length (questions_among xs)) ⊎ ((which : Section) × (most_entries < length (records_among which xs)))
   made_full header xs n many (inl h) = absurd (header_others h.error (sym h.number ∙ many))
   made_full header xs n many (inr h) = entry_full header xs n many h
 
-  pub unbuilt_full : (header : Header) (items : List NewItem) (n : ℕ) → n ≡ number_of TooMany → IsUnbuilt room grows rule header items n → HasTooMany items
+  pub unbuilt_full : (header : Header) (items : List NewItem) (n : ℕ) → n ≡ number_of TooMany → IsUnbuilt capacity grows rule header items n → HasTooMany items
   unbuilt_full header items n many (inl h) = absurd (first_otherwise n (λ is. omega arith) (λ is. omega arith) (λ is. omega arith) items h)
   unbuilt_full header items n many (inr h) = (h.0, h.1, made_full header h.0 n many h.2)
 
 -- All items are entries, and writing them fails.
 
-module _ (room : Option ℕ) (grows : Bool) (rule : Rule) (header : Header) (items : List NewItem) (xs : List NewEntry) (mean : AllMean items xs) where
+module _ (capacity : Option ℕ) (grows : Bool) (rule : Rule) (header : Header) (items : List NewItem) (xs : List NewEntry) (mean : AllMean items xs) where
   -- at the header section
-  header_refused : {X : Type 0} (r : Result X AppendError) (e : AppendError) → r ≡ Err e → Answers room grows header_size r → Answers {X = Unit {0}} room grows header_size (Err e)
-  header_refused {X} r appending.ShortBuf is answer = subst (λ (q : Result X AppendError). Answers room grows header_size q) is answer
-  header_refused {X} r appending.OutOfMemory is answer = subst (λ (q : Result X AppendError). Answers room grows header_size q) is answer
+  header_refused : {X : Type 0} (r : Result X AppendError) (e : AppendError) → r ≡ Err e → Answers capacity grows header_size r → Answers {X = Unit {0}} capacity grows header_size (Err e)
+  header_refused {X} r appending.ShortBuf is answer = subst (λ (q : Result X AppendError). Answers capacity grows header_size q) is answer
+  header_refused {X} r appending.OutOfMemory is answer = subst (λ (q : Result X AppendError). Answers capacity grows header_size q) is answer
 
-  pub unbuilt_header : {X : Type 0} (r : Result X AppendError) (e : AppendError) → r ≡ Err e → Answers room grows header_size r → IsUnbuilt room grows rule header items (number_of (append_fault e))
+  pub unbuilt_header : {X : Type 0} (r : Result X AppendError) (e : AppendError) → r ≡ Err e → Answers capacity grows header_size r → IsUnbuilt capacity grows rule header items (number_of (append_fault e))
   unbuilt_header r e is answer = inr (xs, mean, inl (record { error = e; refused = header_refused r e is answer; number = refl }))
 
   -- at a question
-  pub unbuilt_question : (own : Header) (n : ℕ) → own ≡ header → RefusesQuestion room grows rule (questions_among xs) (beginning_of InQuestion own xs) n → IsUnbuilt room grows rule header items n
-  unbuilt_question own n is refuses = inr (xs, mean, inr (inl (subst (λ (h : Header). RefusesQuestion room grows rule (questions_among xs) (beginning_of InQuestion h xs) n) is refuses)))
+  pub unbuilt_question : (own : Header) (n : ℕ) → own ≡ header → RefusesQuestion capacity grows rule (questions_among xs) (beginning_of InQuestion own xs) n → IsUnbuilt capacity grows rule header items n
+  unbuilt_question own n is refuses = inr (xs, mean, inr (inl (subst (λ (h : Header). RefusesQuestion capacity grows rule (questions_among xs) (beginning_of InQuestion h xs) n) is refuses)))
 
   -- at a record
-  pub unbuilt_record : (which : Section) (own : Header) (n : ℕ) → own ≡ header → RefusesRecord room grows rule (stage_of which) (records_among which xs) (beginning_of (stage_of which) own xs) n
-      → IsUnbuilt room grows rule header items n
+  pub unbuilt_record : (which : Section) (own : Header) (n : ℕ) → own ≡ header → RefusesRecord capacity grows rule (stage_of which) (records_among which xs) (beginning_of (stage_of which) own xs) n
+      → IsUnbuilt capacity grows rule header items n
   unbuilt_record which own n is refuses =
-      inr (xs, mean, inr (inr (which, subst (λ (h : Header). RefusesRecord room grows rule (stage_of which) (records_among which xs) (beginning_of (stage_of which) h xs) n) is refuses)))
+      inr (xs, mean, inr (inr (which, subst (λ (h : Header). RefusesRecord capacity grows rule (stage_of which) (records_among which xs) (beginning_of (stage_of which) h xs) n) is refuses)))
 
 -- the number of a section plus one is the depth of its stage
 pub at_depth : (stage : Stage) (which : Section) (depth m n : ℕ) → stage ≡ stage_of which → depth ≡ depth_of stage → m + 1 ≡ depth → m ≡ n → n + 1 ≡ depth_of (stage_of which)

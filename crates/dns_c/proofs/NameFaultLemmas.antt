@@ -66,14 +66,14 @@ module _ (b : List ℕ) (p : ℕ) where
     short_other f is form (after_pointer h back rest) = cc
 
     label_on : (n : ℕ) (f : FaultThere) → head_at b p ≡ Ok (Label n) → s + n + 1 ≤ max_size → f ≡ Form → Faulty b p s f → (p + 1 + n ≤ length b) × Faulty b (p + 1 + n) (s + n + 1) Form
-    label_on n f is room form (no_head h) = absurd (cc)
-    label_on n f is room form (long_label {n = m} h past) = let same : m ≡ n = cc in absurd (omega arith)
-    label_on n f is room form (cut_label h fits past) = absurd (cc)
-    label_on n f is room form (ahead_pointer h back) = absurd (cc)
-    label_on n f is room form (after_label {n = m} h fits there rest) =
+    label_on n f is capacity form (no_head h) = absurd (cc)
+    label_on n f is capacity form (long_label {n = m} h past) = let same : m ≡ n = cc in absurd (omega arith)
+    label_on n f is capacity form (cut_label h fits past) = absurd (cc)
+    label_on n f is capacity form (ahead_pointer h back) = absurd (cc)
+    label_on n f is capacity form (after_label {n = m} h fits there rest) =
         let same : m ≡ n = cc in
         (omega arith, subst (λ (g : FaultThere). Faulty b (p + 1 + n) (s + n + 1) g) form (subst (λ (k : ℕ). Faulty b (p + 1 + k) (s + k + 1) f) same rest))
-    label_on n f is room form (after_pointer h back rest) = absurd (cc)
+    label_on n f is capacity form (after_pointer h back rest) = absurd (cc)
 
     pointer_on : (t : ℕ) (f : FaultThere) → head_at b p ≡ Ok (Pointer t) → t < p → f ≡ Form → Faulty b p s f → Faulty b t s Form
     pointer_on t f is back form (no_head h) = absurd (cc)
@@ -108,15 +108,15 @@ module _ (b : List ℕ) (p : ℕ) where
         too_long past = long begins past
 
         pub past_the_end : (fault : Fault) → s + x + 1 ≤ max_size → length b < p + 1 + x → Faulty b p s Form → Misformed b p s fault
-        past_the_end fault room past h = let on = label_on x Form begins room refl h in absurd (omega (arith, on.0))
+        past_the_end fault capacity past h = let on = label_on x Form begins capacity refl h in absurd (omega (arith, on.0))
 
         pub label_leads : (q t : ℕ) → q ≡ p + 1 + x → t ≡ s + x + 1 → s + x + 1 ≤ max_size → p + 1 + x ≤ length b → LeadsOn b p s q t
-        label_leads q t end size room there = record {
+        label_leads q t end size capacity there = record {
           within = omega arith;
           short = omega arith;
           falls = inl (omega arith);
-          faults = λ h. let on = (label_on x Form begins room refl h).1 in rw (end, size) on;
-          form = λ fault h. label begins room there (rw (end, size) at h);
+          faults = λ h. let on = (label_on x Form begins capacity refl h).1 in rw (end, size) on;
+          form = λ fault h. label begins capacity there (rw (end, size) at h);
         }
 
       module _ (high : 192 ≤ x) where
@@ -131,9 +131,9 @@ module _ (b : List ℕ) (p : ℕ) where
           leads_ahead past = ahead pointed past
 
           pub pointer_leads : t < p → s ≤ max_size → LeadsOn b p s t s
-          pointer_leads back room = record {
+          pointer_leads back capacity = record {
             within = omega arith;
-            short = room;
+            short = capacity;
             falls = inr (refl, back);
             faults = λ h. pointer_on t Form pointed back refl h;
             form = λ fault h. pointer pointed back h;

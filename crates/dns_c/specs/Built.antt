@@ -126,14 +126,14 @@ beginning_of stage header xs = rewound stage (move_to stage (holding header xs))
 
 -- what pushing a record onto a state returns
 abbrev pub AnswersRecordPush : Option ℕ → Bool → Rule → Stage → RecordItem → State → Result (Unit {0}) PushError → Type 0
-AnswersRecordPush room grows rule stage x s = PushAnswers room grows s.limit (size_after rule (with_record stage x) s) (length (records_at stage s))
+AnswersRecordPush capacity grows rule stage x s = PushAnswers capacity grows s.limit (size_after rule (with_record stage x) s) (length (records_at stage s))
 
--- Why a target refuses what is written, and the number that reports it. `room`, `grows` and `rule` are the target's capacity, whether it allocates, and how it writes names.
-module _ (room : Option ℕ) (grows : Bool) (rule : Rule) where
+-- Why a target refuses what is written, and the number that reports it. `capacity`, `grows` and `rule` are the target's capacity, whether it allocates, and how it writes names.
+module _ (capacity : Option ℕ) (grows : Bool) (rule : Rule) where
   -- the target refuses the header section. RFC 1035 section 4.1.1
   pub record RefusesHeader (n : ℕ) : Type 0 where
     pub error : AppendError
-    pub refused : Answers {X = Unit {0}} room grows header_size (Err error)
+    pub refused : Answers {X = Unit {0}} capacity grows header_size (Err error)
     pub number : n ≡ number_of (append_fault error)
 
   -- the first of these questions are pushed onto a state, and pushing the next one fails. RFC 1035 section 4.1.2
@@ -143,7 +143,7 @@ module _ (room : Option ℕ) (grows : Bool) (rule : Rule) where
     pub others : List QuestionItem
     pub all : xs ≡ first ++ next ∷ others
     pub error : PushError
-    pub refused : AnswersQuestion room grows rule next (with_questions first s) (Err error)
+    pub refused : AnswersQuestion capacity grows rule next (with_questions first s) (Err error)
     pub number : n ≡ number_of (push_fault error)
 
   -- the first of these records of a stage are pushed onto a state, and pushing the next one fails. RFC 1035 section 4.1.3
@@ -153,7 +153,7 @@ module _ (room : Option ℕ) (grows : Bool) (rule : Rule) where
     pub others : List RecordItem
     pub all : xs ≡ first ++ next ∷ others
     pub error : PushError
-    pub refused : AnswersRecordPush room grows rule stage next (with_records stage first s) (Err error)
+    pub refused : AnswersRecordPush capacity grows rule stage next (with_records stage first s) (Err error)
     pub number : n ≡ number_of (push_fault error)
 
   -- pushing an entry fails, after the header and the entries before it. RFC 1035 section 4.1

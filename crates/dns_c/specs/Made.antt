@@ -25,9 +25,9 @@ SpellsNoName text = (name : Labels) → SpellsName text name → ⊥
 abbrev pub LacksName : List ℕ → ℕ → ℕ → Type 0
 LacksName b p n = (f : Fault) × FaultAt b p f × TellsAt b p f n
 
--- some octets with this property are more than `room`
+-- some octets with this property are more than `capacity`
 abbrev pub IsLonger : (List ℕ → Type 0) → ℕ → Type 0
-IsLonger P room = (octets : List ℕ) × P octets × (room < length octets)
+IsLonger P capacity = (octets : List ℕ) × P octets × (capacity < length octets)
 
 -- the state with a header and one question
 abbrev pub asking : Header → QuestionItem → State

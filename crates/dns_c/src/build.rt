@@ -125,7 +125,7 @@ fn push_questions<T: Composer>(
         → MovesState InQuestion InQuestion T.rule (with_questions (questions_among xs))
         builder.old builder.new) }
     ensures stopped { IfErr result (λ fault. (xs : List NewEntry) → AllMean items.now xs
-        → InEach InQuestion T.rule builder.old (λ s. RefusesQuestion T.room T.grows T.rule
+        → InEach InQuestion T.rule builder.old (λ s. RefusesQuestion T.capacity T.grows T.rule
         (questions_among xs) s (number_of fault))) }
 {
     for item in items {
@@ -146,7 +146,7 @@ fn push_records<T: Composer, S: RecordStage>(
         → MovesState S.stage S.stage T.rule (with_records S.stage (records_among S.section xs))
         builder.old builder.new) }
     ensures stopped { IfErr result (λ fault. (xs : List NewEntry) → AllMean items.now xs
-        → InEach S.stage T.rule builder.old (λ s. RefusesRecord T.room T.grows T.rule S.stage
+        → InEach S.stage T.rule builder.old (λ s. RefusesRecord T.capacity T.grows T.rule S.stage
         (records_among S.section xs) s (number_of fault))) }
 {
     for item in items {
@@ -175,7 +175,7 @@ fn build_over<T: Composer>(
 ) -> Result<T, Fault>
     ensures made { IfOk result (λ made. IsBuilt T.rule id flags items.now
         (T.written made).octets) }
-    ensures none { IfErr result (λ fault. IsUnbuilt T.room T.grows T.rule (header_of id flags)
+    ensures none { IfErr result (λ fault. IsUnbuilt T.capacity T.grows T.rule (header_of id flags)
         items.now (number_of fault)) }
 {
     check_all(items)?;

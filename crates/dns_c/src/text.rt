@@ -28,7 +28,7 @@ pub(crate) fn finish(end: End, out: &mut [u8], len: &mut usize) -> u8
     ensures fault { result ≢ 0 → result ≡ number_of Fault.NoRoom }
     ensures text { (text : List ℕ) → Holds out.old text end → result ≡ 0
         → take (len.new + 1) out.new ≡ text ++ 0 ∷ [] }
-    ensures room { (text : List ℕ) → Holds out.old text end → result ≢ 0
+    ensures capacity { (text : List ℕ) → Holds out.old text end → result ≢ 0
         → length out.old < length text + 1 }
 {
     *len = 0;

@@ -60,7 +60,7 @@ impl HeaderSection {
 
     /// Appends the twelve octets. A failed append changes nothing.
     pub fn compose<T: Composer>(&self, target: &mut T) -> Result<(), AppendError>
-        ensures { Appends T.room T.grows (put_octets (section_octets self.now))
+        ensures { Appends T.capacity T.grows (put_octets (section_octets self.now))
             (T.written target.old) (T.written target.new) result }
     {
         target.append_slice(&self.octets)

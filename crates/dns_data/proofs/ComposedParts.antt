@@ -19,27 +19,27 @@ lay-nothing t = same_written _ _ (sym (append-nil t.octets)) refl
 -- composing no parts changes nothing
 pub no_part_composes : NoPartComposes
 unfolding put_parts
-no_part_composes room grows rule t fits =
-    record { ok = lay-nothing t; err = tt; answer = subst (λ (u : Written). Fits room (length u.octets)) (lay-nothing t) fits }
+no_part_composes capacity grows rule t fits =
+    record { ok = lay-nothing t; err = tt; answer = subst (λ (u : Written). Fits capacity (length u.octets)) (lay-nothing t) fits }
 
 -- parts composed after an appended part compose all
 pub parts_compose_after : PartsComposeAfter
 unfolding put_parts
-parts_compose_after room grows rule part parts t u v r is h =
-    composes_both room grows (put_part rule part) (put_parts rule parts) t u v r (put_part_grows rule part) is h
+parts_compose_after capacity grows rule part parts t u v r is h =
+    composes_both capacity grows (put_part rule part) (put_parts rule parts) t u v r (put_part_grows rule part) is h
 
 -- if the first part can't be appended, composing all parts fails
 pub refused_part_composes : RefusedPartComposes
 unfolding put_parts
-refused_part_composes room grows rule part parts t u r q e is out h =
-    composes_first room grows (put_part rule part) (put_parts rule parts) t u r q e is out (appends_compose room grows (put_part rule part) t u r h)
+refused_part_composes capacity grows rule part parts t u r q e is out h =
+    composes_first capacity grows (put_part rule part) (put_parts rule parts) t u r q e is out (appends_compose capacity grows (put_part rule part) t u r h)
 
 -- one append composes one part
 pub one_part_composes : OnePartComposes
-one_part_composes room grows rule part t u (Ok done) h =
-    parts_compose_after room grows rule part [] t u u (Ok done) h.ok
-    (no_part_composes room grows rule u (subst (λ (w : Written). Fits room (length w.octets)) (sym h.ok) h.answer))
-one_part_composes room grows rule part t u (Err e) h = refused_part_composes room grows rule part [] t u (Err e) (Err e) e refl refl h
+one_part_composes capacity grows rule part t u (Ok done) h =
+    parts_compose_after capacity grows rule part [] t u u (Ok done) h.ok
+    (no_part_composes capacity grows rule u (subst (λ (w : Written). Fits capacity (length w.octets)) (sym h.ok) h.answer))
+one_part_composes capacity grows rule part t u (Err e) h = refused_part_composes capacity grows rule part [] t u (Err e) (Err e) e refl refl h
 
 -- an uncompressed name has at most 255 octets
 pub names_are_short : NamesAreBounded

@@ -29,18 +29,18 @@ clear_length a t v u grows is first second s x e =
     ∙ ap (λ (w : Written). get w.table s) (sym (second ∙ ap (lay a) first)) ∙ e in
     inr (one_clear (get t.table s) _ (length t.octets) _ (extends.each s) (ends_within_content is s) x found)
 
-refused : (room : Option ℕ) (may_grow : Bool) (a : Piece) (t u : Written) (e : AppendError)
-    → Composes room may_grow (both (put_octets blank) a) t u {X = Unit} (Err e) → Composes room may_grow (with_length a) t u {X = Unit} (Err e)
-refused room may_grow a t u e h = record {
+refused : (capacity : Option ℕ) (may_grow : Bool) (a : Piece) (t u : Written) (e : AppendError)
+    → Composes capacity may_grow (both (put_octets blank) a) t u {X = Unit} (Err e) → Composes capacity may_grow (with_length a) t u {X = Unit} (Err e)
+refused capacity may_grow a t u e h = record {
   ok = tt;
   err = h.err;
   answer =
       let n : length (lay (both (put_octets blank) a) t).octets ≡ length (lay (with_length a) t).octets = length-append t.octets _ ∙ sym (length-append t.octets _) in
-      subst (λ n. AnswersInSteps {X = Unit} room may_grow n (Err e)) n h.answer;
+      subst (λ n. AnswersInSteps {X = Unit} capacity may_grow n (Err e)) n h.answer;
 }
 
 -- if composing after the two octets fails, composing with the length fails
-pub piece_refused : (room : Option ℕ) (may_grow : Bool) (a : Piece) (t v u : Written) (r q : Result Unit AppendError) (e : AppendError)
-    → r ≡ Err e → q ≡ Err e → v ≡ lay (put_octets blank) t → Composes room may_grow a v u r → Composes room may_grow (with_length a) t u q
-piece_refused room may_grow a t v u r q e is out first h =
-    rw out (refused room may_grow a t u e (composes_both room may_grow (put_octets blank) a t v u (Err e) (put_octets_grows blank) first (rw is at h)))
+pub piece_refused : (capacity : Option ℕ) (may_grow : Bool) (a : Piece) (t v u : Written) (r q : Result Unit AppendError) (e : AppendError)
+    → r ≡ Err e → q ≡ Err e → v ≡ lay (put_octets blank) t → Composes capacity may_grow a v u r → Composes capacity may_grow (with_length a) t u q
+piece_refused capacity may_grow a t v u r q e is out first h =
+    rw out (refused capacity may_grow a t u e (composes_both capacity may_grow (put_octets blank) a t v u (Err e) (put_octets_grows blank) first (rw is at h)))

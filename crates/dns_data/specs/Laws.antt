@@ -9,23 +9,23 @@ use Rattle.dns_data.specs.Layout.{Layout, IsLaidOut, DataAt, DataFaultAt}
 
 -- composing no parts changes nothing
 abbrev pub NoPartComposes : Type 0
-NoPartComposes = (room : Option ℕ) (grows : Bool) (rule : Rule) (t : Written)
-    → Fits room (length t.octets) → Composes room grows (put_parts rule []) t t {X = Unit} (Ok tt)
+NoPartComposes = (capacity : Option ℕ) (grows : Bool) (rule : Rule) (t : Written)
+    → Fits capacity (length t.octets) → Composes capacity grows (put_parts rule []) t t {X = Unit} (Ok tt)
 
 -- appending one part composes it
 abbrev pub OnePartComposes : Type 0
-OnePartComposes = (room : Option ℕ) (grows : Bool) (rule : Rule) (part : Part) (t u : Written) (r : Result Unit AppendError)
-    → Appends room grows (put_part rule part) t u r → Composes room grows (put_parts rule (part ∷ [])) t u r
+OnePartComposes = (capacity : Option ℕ) (grows : Bool) (rule : Rule) (part : Part) (t u : Written) (r : Result Unit AppendError)
+    → Appends capacity grows (put_part rule part) t u r → Composes capacity grows (put_parts rule (part ∷ [])) t u r
 
 -- after the first part is appended, composing the remaining parts composes all of them, whatever the result
 abbrev pub PartsComposeAfter : Type 0
-PartsComposeAfter = (room : Option ℕ) (grows : Bool) (rule : Rule) (part : Part) (parts : List Part) (t u v : Written) (r : Result Unit AppendError)
-    → u ≡ lay (put_part rule part) t → Composes room grows (put_parts rule parts) u v r → Composes room grows (put_parts rule (part ∷ parts)) t v r
+PartsComposeAfter = (capacity : Option ℕ) (grows : Bool) (rule : Rule) (part : Part) (parts : List Part) (t u v : Written) (r : Result Unit AppendError)
+    → u ≡ lay (put_part rule part) t → Composes capacity grows (put_parts rule parts) u v r → Composes capacity grows (put_parts rule (part ∷ parts)) t v r
 
 -- if the first part can't be appended, composing all parts fails with the same error
 abbrev pub RefusedPartComposes : Type 0
-RefusedPartComposes = (room : Option ℕ) (grows : Bool) (rule : Rule) (part : Part) (parts : List Part) (t u : Written) (r q : Result Unit AppendError) (e : AppendError)
-    → r ≡ Err e → q ≡ Err e → Appends room grows (put_part rule part) t u r → Composes room grows (put_parts rule (part ∷ parts)) t u q
+RefusedPartComposes = (capacity : Option ℕ) (grows : Bool) (rule : Rule) (part : Part) (parts : List Part) (t u : Written) (r q : Result Unit AppendError) (e : AppendError)
+    → r ≡ Err e → q ≡ Err e → Appends capacity grows (put_part rule part) t u r → Composes capacity grows (put_parts rule (part ∷ parts)) t u q
 
 -- an uncompressed name has at most 255 octets
 abbrev pub NamesAreBounded : Type 0

@@ -17,7 +17,7 @@ pub fn compose_len_rdata<D: ComposeRecordData, T: Composer>(
     data: &D,
     target: &mut T,
 ) -> Result<(), AppendError>
-    ensures composes { Composes T.room T.grows (with_length (put_parts T.rule (D.parts «data».now)))
+    ensures composes { Composes T.capacity T.grows (with_length (put_parts T.rule (D.parts «data».now)))
         (T.written target.old) (T.written target.new) result }
     ensures is_data { OnOk result (IsData (D.parts «data».now)) }
 {
@@ -34,7 +34,7 @@ pub fn compose_canonical_len_rdata<D: ComposeRecordData, T: Composer>(
     data: &D,
     target: &mut T,
 ) -> Result<(), AppendError>
-    ensures { Composes T.room T.grows (with_length
+    ensures { Composes T.capacity T.grows (with_length
         (put_parts T.rule (canonical (D.parts «data».now)))) (T.written target.old)
         (T.written target.new) result }
 {

@@ -12,7 +12,7 @@ use dns_code::Rtype;
 use dns_wire::{AppendError, Composer, ParseError, ParsedName, Parser, ToName, ToNameExt};
 
 fn compose_name<N: ToName, T: Composer>(name: &N, target: &mut T) -> Result<(), AppendError>
-    ensures composes { Composes T.room T.grows
+    ensures composes { Composes T.capacity T.grows
         (put_parts T.rule (CompressibleName (N.name name.now) ∷ [])) (T.written target.old)
         (T.written target.new) result }
     ensures is_data { IsData (CompressibleName (N.name name.now) ∷ []) }
@@ -24,7 +24,7 @@ fn compose_canonical_name<N: ToName, T: Composer>(
     name: &N,
     target: &mut T,
 ) -> Result<(), AppendError>
-    ensures { Composes T.room T.grows (put_parts T.rule
+    ensures { Composes T.capacity T.grows (put_parts T.rule
         (Octets (uncompressed (lowered (N.name name.now))) ∷ [])) (T.written target.old)
         (T.written target.new) result }
 {

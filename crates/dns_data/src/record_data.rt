@@ -39,14 +39,14 @@ pub trait ComposeRecordData: RecordData {
     /// On error the content still begins with the old content. A `truncate` to the old length
     /// restores the old target.
     fn compose_rdata<T: Composer>(&self, target: &mut T) -> Result<(), AppendError>
-        ensures composes { Composes T.room T.grows (put_parts T.rule (Self.parts self.now))
+        ensures composes { Composes T.capacity T.grows (put_parts T.rule (Self.parts self.now))
             (T.written target.old) (T.written target.new) result }
         ensures is_data { IsData (Self.parts self.now) };
 
     /// Appends the parts in canonical form: names lowercased and uncompressed (RFC 4034 section
     /// 6.2). Errors are as for `compose_rdata`.
     fn compose_canonical_rdata<T: Composer>(&self, target: &mut T) -> Result<(), AppendError>
-        ensures { Composes T.room T.grows (put_parts T.rule (canonical (Self.parts self.now)))
+        ensures { Composes T.capacity T.grows (put_parts T.rule (canonical (Self.parts self.now)))
             (T.written target.old) (T.written target.new) result };
 }
 

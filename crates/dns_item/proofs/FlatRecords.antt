@@ -22,11 +22,11 @@ at_once rule fields octets = λ i m w. record {
 }
 
 -- one append composes them
-pub composes_at_once : (room : Option ℕ) (grows : Bool) (rule : Rule) (fields octets : List ℕ) (parts : List Part) (t u : Written) (r : Result Unit AppendError)
-    → parts ≡ Octets octets ∷ [] → Appends room grows (put_octets (fields ++ (to_be_bytes w16 (length octets) ++ octets))) t u r
-    → Composes room grows (both (put_octets fields) (with_length (put_parts rule parts))) t u r
-composes_at_once room grows rule fields octets parts t u r is h =
-    rw is (subst (λ piece. Composes room grows piece t u r) (at_once rule fields octets) (appends_compose _ _ _ _ _ _ h))
+pub composes_at_once : (capacity : Option ℕ) (grows : Bool) (rule : Rule) (fields octets : List ℕ) (parts : List Part) (t u : Written) (r : Result Unit AppendError)
+    → parts ≡ Octets octets ∷ [] → Appends capacity grows (put_octets (fields ++ (to_be_bytes w16 (length octets) ++ octets))) t u r
+    → Composes capacity grows (both (put_octets fields) (with_length (put_parts rule parts))) t u r
+composes_at_once capacity grows rule fields octets parts t u r is h =
+    rw is (subst (λ piece. Composes capacity grows piece t u r) (at_once rule fields octets) (appends_compose _ _ _ _ _ _ h))
 
 -- fields, a length below 256 and octets, as they are copied into an array
 pub copied : (fields zeros octets f o : List ℕ) (k : ℕ) → length fields ≡ 8 → length octets ≤ 16 → f ≡ fields → o ≡ octets

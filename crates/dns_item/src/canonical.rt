@@ -16,7 +16,7 @@ impl<N: ToName, D: ComposeRecordData> Record<N, D> {
     /// On error the content still begins with the old content. A `truncate` to the old length
     /// restores the old target.
     pub fn compose_canonical<T: Composer>(&self, target: &mut T) -> Result<(), AppendError>
-        ensures { Composes T.room T.grows
+        ensures { Composes T.capacity T.grows
             (put_canonical_record T.rule (record_item N.name D.rtype_of D.parts self.now))
             (T.written target.old) (T.written target.new) result }
     {
@@ -34,7 +34,7 @@ impl<N: ToName> RecordHeader<N> {
     /// On error the content still begins with the old content. A `truncate` to the old length
     /// restores the old target.
     pub fn compose_canonical<T: Composer>(&self, target: &mut T) -> Result<(), AppendError>
-        ensures { Composes T.room T.grows
+        ensures { Composes T.capacity T.grows
             (put_canonical_header (header_item N.name self.now)) (T.written target.old)
             (T.written target.new) result }
     {

@@ -190,7 +190,7 @@ impl<N: ToName, D: ComposeRecordData> Record<N, D> {
     /// restores the old target.
     #[inline(always)]
     pub fn compose<T: Composer>(&self, target: &mut T) -> Result<(), AppendError>
-        ensures composes { Composes T.room T.grows
+        ensures composes { Composes T.capacity T.grows
             (put_record T.rule (record_item N.name D.rtype_of D.parts self.now))
             (T.written target.old) (T.written target.new) result }
         ensures is_record { OnOk result (IsRecord
@@ -216,7 +216,7 @@ fn append_at_once<T: Composer>(
     target: &mut T,
 ) -> Result<(), AppendError>
     requires { length octets.now ≤ MOST_AT_ONCE }
-    ensures { Appends T.room T.grows (put_octets (fields.now ++
+    ensures { Appends T.capacity T.grows (put_octets (fields.now ++
         (to_be_bytes w16 (length octets.now) ++ octets.now)))
         (T.written target.old) (T.written target.new) result }
 {
@@ -249,7 +249,7 @@ pub trait ComposeRecord {
     /// On error the content still begins with the old content. A `truncate` to the old length
     /// restores the old target.
     fn compose_record<T: Composer>(&self, target: &mut T) -> Result<(), AppendError>
-        ensures composes { Composes T.room T.grows (put_record T.rule (item self.now))
+        ensures composes { Composes T.capacity T.grows (put_record T.rule (item self.now))
             (T.written target.old) (T.written target.new) result }
         ensures is_record { OnOk result (IsRecord (item self.now)) };
 }

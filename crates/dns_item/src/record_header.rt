@@ -94,7 +94,7 @@ impl<N: ToName> RecordHeader<N> {
     /// On error the content still begins with the old content. A `truncate` to the old length
     /// restores the old target.
     pub fn compose<T: Composer>(&self, target: &mut T) -> Result<(), AppendError>
-        ensures { Composes T.room T.grows (put_header T.rule (header_item N.name self.now))
+        ensures { Composes T.capacity T.grows (put_header T.rule (header_item N.name self.now))
             (T.written target.old) (T.written target.new) result }
     {
         target.append_compressed_name(&self.owner)?;

@@ -14,25 +14,25 @@ use Rattle.dns_message.specs.declared.script.Call.{Call}
 use Rattle.dns_message.specs.declared.script.Reply.{Reply}
 use Rattle.dns_message.specs.Script.{StageRepresents, after, after_all, IsReply, AreReplies, Steps, RunsAll, octets_of}
 
-module _ {Q R : Type 0} (room : Option ℕ) (grows : Bool) (question : Q → QuestionItem) (item : R → RecordItem) (rule : Rule) where
+module _ {Q R : Type 0} (capacity : Option ℕ) (grows : Bool) (question : Q → QuestionItem) (item : R → RecordItem) (rule : Rule) where
   -- through these calls, for each state that the stage represents: one reply for each, and a stage that represents the state after them
   abbrev pub Goes : {T : Type 0} → Stage T → List (Call Q R) → List Reply → Stage T → Type 0
-  Goes old calls replies new = (s : State) → StageRepresents rule s old → AreReplies room grows question item rule s calls replies × StageRepresents rule (after_all question item s calls replies) new
+  Goes old calls replies new = (s : State) → StageRepresents rule s old → AreReplies capacity grows question item rule s calls replies × StageRepresents rule (after_all question item s calls replies) new
 
   -- the state after one call more
-  after_more : (s : State) (calls : List (Call Q R)) (replies : List Reply) (call : Call Q R) (reply : Reply) → AreReplies room grows question item rule s calls replies → after_all question item s (calls ++ call ∷ []) (replies ++ reply ∷ []) ≡ after question item (after_all question item s calls replies) call reply
+  after_more : (s : State) (calls : List (Call Q R)) (replies : List Reply) (call : Call Q R) (reply : Reply) → AreReplies capacity grows question item rule s calls replies → after_all question item s (calls ++ call ∷ []) (replies ++ reply ∷ []) ≡ after question item (after_all question item s calls replies) call reply
   after_more s [] [] call reply h = refl
   after_more s (c ∷ calls) (p ∷ replies) call reply h = after_more (after question item s c p) calls replies call reply h.1
   after_more s [] (p ∷ replies) call reply h = absurd h
   after_more s (c ∷ calls) [] call reply h = absurd h
 
-  replied_more : (s : State) (calls : List (Call Q R)) (replies : List Reply) (call : Call Q R) (reply : Reply) → AreReplies room grows question item rule s calls replies → IsReply room grows question item rule (after_all question item s calls replies) call reply → AreReplies room grows question item rule s (calls ++ call ∷ []) (replies ++ reply ∷ [])
+  replied_more : (s : State) (calls : List (Call Q R)) (replies : List Reply) (call : Call Q R) (reply : Reply) → AreReplies capacity grows question item rule s calls replies → IsReply capacity grows question item rule (after_all question item s calls replies) call reply → AreReplies capacity grows question item rule s (calls ++ call ∷ []) (replies ++ reply ∷ [])
   replied_more s [] [] call reply h k = (k, tt)
   replied_more s (c ∷ calls) (p ∷ replies) call reply h k = (h.0, replied_more (after question item s c p) calls replies call reply h.1 k)
   replied_more s [] (p ∷ replies) call reply h k = absurd h
   replied_more s (c ∷ calls) [] call reply h k = absurd h
 
-  pub runs_more : {T : Type 0} → (old mid new : Stage T) (calls : List (Call Q R)) (replies : List Reply) (call : Call Q R) (reply : Reply) → Goes old calls replies mid → Steps room grows question item rule mid call reply new → Goes old (calls ++ call ∷ []) (replies ++ reply ∷ []) new
+  pub runs_more : {T : Type 0} → (old mid new : Stage T) (calls : List (Call Q R)) (replies : List Reply) (call : Call Q R) (reply : Reply) → Goes old calls replies mid → Steps capacity grows question item rule mid call reply new → Goes old (calls ++ call ∷ []) (replies ++ reply ∷ []) new
   runs_more old mid new calls replies call reply h step s represents =
       let ran = h s represents in
       let next = step (after_all question item s calls replies) ran.1 in (
@@ -49,7 +49,7 @@ module _ {Q R : Type 0} (room : Option ℕ) (grows : Bool) (question : Q → Que
 
   -- one call more, with its reply
   pub goes_on : {T : Type 0} → (old mid new : Stage T) (calls : List (Call Q R)) (index : ℕ) (call : Call Q R) (before items items' : List Reply) (reply : Reply) → index < length calls → call ≡ get_or calls index call → items' ≡ items ++ reply ∷ []
-      → GoesOn old (take index calls) before items mid → Steps room grows question item rule mid call reply new → GoesOn old (take (index + 1) calls) before items' new
+      → GoesOn old (take index calls) before items mid → Steps capacity grows question item rule mid call reply new → GoesOn old (take (index + 1) calls) before items' new
   goes_on {T} old mid new calls index call before items items' reply l is more so_far step =
       let e : take (index + 1) calls ≡ take index calls ++ call ∷ [] = take_more calls index call l ∙ ap (λ (x : Call Q R). take index calls ++ x ∷ []) (sym is) in
       let each = so_far.one_each in
@@ -71,7 +71,7 @@ module _ {Q R : Type 0} (room : Option ℕ) (grows : Bool) (question : Q → Que
 
   -- once all calls are made, this is a run
   pub runs_all : {T : Type 0} → (old new : Stage T) (calls : List (Call Q R)) (index : ℕ) (before items : List Reply) → index ≤ length calls → length calls ≤ index → FoldsAreMessages
-      → GoesOn old (take index calls) before items new → RunsAll room grows question item rule old calls before items new
+      → GoesOn old (take index calls) before items new → RunsAll capacity grows question item rule old calls before items new
   runs_all old new calls index before items l k folds so_far =
       let e : take index calls ≡ calls = grind (arith, common_steps) in
       let all = subst (λ (xs : List (Call Q R)). GoesOn old xs before items new) e so_far in

@@ -43,7 +43,7 @@ options_stay : (rcode : Option ℕ) (g : Gathered) → (with_any_rcode rcode g).
 options_stay None g = refl
 options_stay (Some rcode) g = refl
 
-module _ (room : Option ℕ) (grows : Bool) (rule : Rule) (plan : OptPlan) (s : State) where
+module _ (capacity : Option ℕ) (grows : Bool) (rule : Rule) (plan : OptPlan) (s : State) where
   -- what a plan gathers for the state's header
   abbrev pub asked : Gathered
   asked = planned_beside s.header plan
@@ -54,18 +54,18 @@ module _ (room : Option ℕ) (grows : Bool) (rule : Rule) (plan : OptPlan) (s : 
 
   -- the result for what is gathered is the result for what was asked
   answers_asked : (g : Gathered) (a : Result (Unit {0}) AppendError) (r : Result (Unit {0}) PushError) → OnOk a (g ≡ asked)
-      → OptAnswers room grows s.limit (size g) (length s.additionals) a r → OptAnswers room grows s.limit (size asked) (length s.additionals) a r
-  answers_asked g (Ok u) r same h = subst (λ (x : Gathered). OptAnswers room grows s.limit (size x) (length s.additionals) (Ok u) r) same h
+      → OptAnswers capacity grows s.limit (size g) (length s.additionals) a r → OptAnswers capacity grows s.limit (size asked) (length s.additionals) a r
+  answers_asked g (Ok u) r same h = subst (λ (x : Gathered). OptAnswers capacity grows s.limit (size x) (length s.additionals) (Ok u) r) same h
   answers_asked g (Err e) r same h = h
 
   -- if the push succeeds, what was asked is gathered
-  accepted_asked : (g : Gathered) (n : ℕ) (a : Result (Unit {0}) AppendError) (v : Unit {0}) → OnOk a (g ≡ asked) → OptAnswers room grows s.limit n (length s.additionals) a (Ok v) → g ≡ asked
+  accepted_asked : (g : Gathered) (n : ℕ) (a : Result (Unit {0}) AppendError) (v : Unit {0}) → OnOk a (g ≡ asked) → OptAnswers capacity grows s.limit n (length s.additionals) a (Ok v) → g ≡ asked
   accepted_asked g n (Ok u) v same h = same
   accepted_asked g n (Err e) v same h = absurd (cc)
 
   -- a call of `opt`, for the state, carries out the plan
   module _ (call : OptBuilder → Result (Unit {0}) AppendError → OptBuilder → Type 0) (carries : (b : OptBuilder) (a : Result (Unit {0}) AppendError) (b' : OptBuilder) → call b a b' → CarriesOut plan b b' a)
-      (new : Built) (r : Result (Unit {0}) PushError) (p : PushesOpt room grows rule call s new r) where
+      (new : Built) (r : Result (Unit {0}) PushError) (p : PushesOpt capacity grows rule call s new r) where
     done_asked : (a : Result (Unit {0}) AppendError) → OnOk a (gathered p.gathers.after ≡ planned plan (gathered p.gathers.before)) → OnOk a (p.g ≡ asked)
     done_asked (Ok u) done = sym p.gathers.left ∙ done ∙ ap (planned plan) p.gathers.fresh
     done_asked (Err e) done = tt
@@ -78,23 +78,23 @@ module _ (room : Option ℕ) (grows : Bool) (rule : Rule) (plan : OptPlan) (s : 
         subst (λ (xs : List OptionItem). AddsAll 0 (xs ++ planned_options plan) p.answer) (sym (options_stay plan.rcode (nothing_gathered s.header)))
         (subst (λ (g : Gathered). AddsAll (gathered_size g) (planned_options plan) p.answer) p.gathers.fresh (carries _ _ _ p.gathers.called).adds)
 
-module _ (room : Option ℕ) (grows : Bool) {Q R : Type 0} (question : Q → QuestionItem) (item : R → RecordItem) (rule : Rule) (plan : OptPlan) (old new : Built) where
+module _ (capacity : Option ℕ) (grows : Bool) {Q R : Type 0} (question : Q → QuestionItem) (item : R → RecordItem) (rule : Rule) (plan : OptPlan) (old new : Built) where
   -- the push of an OPT record is a step that stays at the additional section
   pub opt_stays : (gathers : OptBuilder → Result (Unit {0}) AppendError → OptBuilder → Type 0) (call : Call Q R) (r : Result (Unit {0}) PushError) (reply : Reply)
       → call ≡ PushOpt plan → MatchResult r (λ _. reply ≡ Done) (λ error. reply ≡ Refused error)
       → ((b : OptBuilder) (a : Result (Unit {0}) AppendError) (b' : OptBuilder) → gathers b a b' → CarriesOut plan b b' a)
-      → OnErr r (new ≡ old) → InEach InAdditional rule old (λ s. PushesOpt room grows rule gathers s new r)
-      → Stays room grows question item rule InAdditional old call reply new
+      → OnErr r (new ≡ old) → InEach InAdditional rule old (λ s. PushesOpt capacity grows rule gathers s new r)
+      → Stays capacity grows question item rule InAdditional old call reply new
   opt_stays gathers call (Ok v) reply is m carries same pushes s h =
       let has : lacks {Q = Q} {R = R} s.stage (PushOpt plan) ≡ false = ap (λ here. lacks {Q = Q} {R = R} here (PushOpt plan)) h.here in
       let p = pushes s h in
-      let done = gathers_asked room grows rule plan s gathers carries new (Ok v) p in
-      let all = accepted_asked room grows rule plan s p.g _ p.answer v done p.answers in
+      let done = gathers_asked capacity grows rule plan s gathers carries new (Ok v) p in
+      let all = accepted_asked capacity grows rule plan s p.g _ p.answer v done p.answers in
       rw (is, m, has) (
         record {
           gathering = p.answer;
-          adds = adds_asked room grows rule plan s gathers carries new (Ok v) p;
-          answers = answers_asked room grows rule plan s p.g p.answer (Ok v) done p.answers;
+          adds = adds_asked capacity grows rule plan s gathers carries new (Ok v) p;
+          answers = answers_asked capacity grows rule plan s p.g p.answer (Ok v) done p.answers;
           is_gathered = λ _. subst IsGathered all p.is_gathered;
         },
         subst (λ (g : Gathered). Represents InAdditional rule (with_opt g s) new) all p.accepted,
@@ -102,12 +102,12 @@ module _ (room : Option ℕ) (grows : Bool) {Q R : Type 0} (question : Q → Que
   opt_stays gathers call (Err e) reply is m carries same pushes s h =
       let has : lacks {Q = Q} {R = R} s.stage (PushOpt plan) ≡ false = ap (λ here. lacks {Q = Q} {R = R} here (PushOpt plan)) h.here in
       let p = pushes s h in
-      let done = gathers_asked room grows rule plan s gathers carries new (Err e) p in
+      let done = gathers_asked capacity grows rule plan s gathers carries new (Err e) p in
       rw (is, m, has) (
         record {
           gathering = p.answer;
-          adds = adds_asked room grows rule plan s gathers carries new (Err e) p;
-          answers = answers_asked room grows rule plan s p.g p.answer (Err e) done p.answers;
+          adds = adds_asked capacity grows rule plan s gathers carries new (Err e) p;
+          answers = answers_asked capacity grows rule plan s p.g p.answer (Err e) done p.answers;
           is_gathered = λ told. absurd (cc);
         },
         subst (λ b. Represents InAdditional rule s b) (sym same) h,

@@ -24,18 +24,18 @@ has_push Q R Answer x = refl
 has_push Q R Authority x = refl
 has_push Q R Additional x = refl
 
-module _ (room : Option ℕ) (grows : Bool) (rule : Rule) (stage : state.Stage) (old : Built) (pushed : RecordItem) where
+module _ (capacity : Option ℕ) (grows : Bool) (rule : Rule) (stage : state.Stage) (old : Built) (pushed : RecordItem) where
   -- the result of a push, for each state that the builder represents
   abbrev pub Answered : Result (Unit {0}) PushError → Type 0
-  Answered r = (s : State) → Represents stage rule s old → PushAnswers room grows s.limit (size_after rule (with_record stage pushed) s) (length (records_at stage s)) r
+  Answered r = (s : State) → Represents stage rule s old → PushAnswers capacity grows s.limit (size_after rule (with_record stage pushed) s) (length (records_at stage s)) r
 
   -- the result follows from one clause for success and one for each reason to fail
   pub answered : (r : Result (Unit {0}) PushError)
-      → OnOk r (InEach stage rule old (λ s. let n = size_after rule (with_record stage pushed) s in Fits room n × (n ≤ s.limit) × (length (records_at stage s) < most_entries)))
-      → (r ≡ Err ShortBuf → InEach stage rule old (λ s. Passes room (size_after rule (with_record stage pushed) s)))
+      → OnOk r (InEach stage rule old (λ s. let n = size_after rule (with_record stage pushed) s in Fits capacity n × (n ≤ s.limit) × (length (records_at stage s) < most_entries)))
+      → (r ≡ Err ShortBuf → InEach stage rule old (λ s. Passes capacity (size_after rule (with_record stage pushed) s)))
       → (r ≡ Err OutOfMemory → IsTrue grows)
-      → (r ≡ Err LimitExceeded → InEach stage rule old (λ s. let n = size_after rule (with_record stage pushed) s in Fits room n × (s.limit < n)))
-      → (r ≡ Err CountOverflow → InEach stage rule old (λ s. let n = size_after rule (with_record stage pushed) s in Fits room n × (n ≤ s.limit) × (length (records_at stage s) ≡ most_entries)))
+      → (r ≡ Err LimitExceeded → InEach stage rule old (λ s. let n = size_after rule (with_record stage pushed) s in Fits capacity n × (s.limit < n)))
+      → (r ≡ Err CountOverflow → InEach stage rule old (λ s. let n = size_after rule (with_record stage pushed) s in Fits capacity n × (n ≤ s.limit) × (length (records_at stage s) ≡ most_entries)))
       → Answered r
   answered (Ok v) fits short memory limit count s h = fits s h
   answered (Err ShortBuf) fits short memory limit count s h = short refl s h
@@ -45,25 +45,25 @@ module _ (room : Option ℕ) (grows : Bool) (rule : Rule) (stage : state.Stage) 
 
   -- the same for the stage of the state itself
   answered_here : (r : Result (Unit {0}) PushError) → Answered r → (s : State) → Represents stage rule s old
-      → PushAnswers room grows s.limit (size_after rule (with_record s.stage pushed) s) (length (records_at s.stage s)) r
+      → PushAnswers capacity grows s.limit (size_after rule (with_record s.stage pushed) s) (length (records_at s.stage s)) r
   answered_here r a s h =
-      subst (λ at. PushAnswers room grows s.limit (size_after rule (with_record at pushed) s) (length (records_at at s)) r) (sym h.here) (a s h)
+      subst (λ at. PushAnswers capacity grows s.limit (size_after rule (with_record at pushed) s) (length (records_at at s)) r) (sym h.here) (a s h)
 
-module _ (room : Option ℕ) (grows : Bool) {Q R : Type 0} (question : Q → QuestionItem) (item : R → RecordItem) (rule : Rule) (stage : state.Stage) (old new : Built) (x : R) where
+module _ (capacity : Option ℕ) (grows : Bool) {Q R : Type 0} (question : Q → QuestionItem) (item : R → RecordItem) (rule : Rule) (stage : state.Stage) (old new : Built) (x : R) where
   -- the push of a record is a step that stays at its stage
   pub push_stays : (section : Section) (call : Call Q R) (r : Result (Unit {0}) PushError) (reply : Reply)
       → stage ≡ stage_of section → call ≡ PushRecord x → MatchResult r (λ _. reply ≡ Done) (λ error. reply ≡ Refused error)
-      → OnOk r (MovesState stage stage rule (with_record stage (item x)) old new) → OnErr r (new ≡ old) → Answered room grows rule stage old (item x) r
-      → Stays room grows question item rule stage old call reply new
+      → OnOk r (MovesState stage stage rule (with_record stage (item x)) old new) → OnErr r (new ≡ old) → Answered capacity grows rule stage old (item x) r
+      → Stays capacity grows question item rule stage old call reply new
   push_stays section call (Ok v) reply at is m moved same answer s h =
       let has : lacks {Q = Q} s.stage (PushRecord x) ≡ false = ap (λ here. lacks {Q = Q} here (PushRecord x)) (h.here ∙ at) ∙ has_push Q R section x in
       rw (is, m, has) (
-        answered_here room grows rule stage old (item x) (Ok v) answer s h,
+        answered_here capacity grows rule stage old (item x) (Ok v) answer s h,
         subst (λ here. Represents stage rule (with_record here (item x) s) new) (sym h.here) (moved s h),
       )
   push_stays section call (Err e) reply at is m moved same answer s h =
       let has : lacks {Q = Q} s.stage (PushRecord x) ≡ false = ap (λ here. lacks {Q = Q} here (PushRecord x)) (h.here ∙ at) ∙ has_push Q R section x in
       rw (is, m, has) (
-        answered_here room grows rule stage old (item x) (Err e) answer s h,
+        answered_here capacity grows rule stage old (item x) (Err e) answer s h,
         subst (λ b. Represents stage rule s b) (sym same) h,
       )

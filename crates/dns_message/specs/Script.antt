@@ -105,7 +105,7 @@ module _ {Q R : Type 0} (question : Q → QuestionItem) (item : R → RecordItem
   after_all s (call ∷ calls) [] = s
   after_all s (call ∷ calls) (reply ∷ replies) = after_all (after s call reply) calls replies
 
-module _ (room : Option ℕ) (grows : Bool) where
+module _ (capacity : Option ℕ) (grows : Bool) where
   -- the reply to a push whose result satisfies `Answers`
   abbrev pub IsReplyBy : (Result (Unit {0}) PushError → Type 0) → Reply → Type 0
   IsReplyBy Answers Done = Answers (Ok tt)
@@ -114,13 +114,13 @@ module _ (room : Option ℕ) (grows : Bool) where
 
   -- the reply to a push after which the message would have n octets, at a section that counts `count` entries
   abbrev pub IsPushReply : ℕ → ℕ → ℕ → Reply → Type 0
-  IsPushReply limit n count = IsReplyBy (PushAnswers room grows limit n count)
+  IsPushReply limit n count = IsReplyBy (PushAnswers capacity grows limit n count)
 
   -- the reply to the push of an OPT record: that of adding its options if this fails, else that of the push
   pub record IsOptReply (g : Gathered) (limit n count : ℕ) (reply : Reply) : Type 0 where
     pub gathering : Result (Unit {0}) AppendError
     pub adds : AddsAll 0 g.options gathering
-    pub answers : IsReplyBy (OptAnswers room grows limit n count gathering) reply
+    pub answers : IsReplyBy (OptAnswers capacity grows limit n count gathering) reply
     pub is_gathered : reply ≡ Done → IsGathered g
 
   module _ {Q R : Type 0} (question : Q → QuestionItem) (item : R → RecordItem) (rule : Rule) where

@@ -102,7 +102,7 @@ fn moved<T: Composer, S: BuilderStage, Q: ComposeQuestion, R: ComposeRecord>(
     builder: Builder<T, S>,
     call: &Call<Q, R>,
 ) -> Result<Stage<T>, Builder<T, S>>
-    ensures moved { IfOk result (λ new. StepsFrom T.room T.grows Q.question R.item T.rule
+    ensures moved { IfOk result (λ new. StepsFrom T.capacity T.grows Q.question R.item T.rule
         S.stage builder call.now Reply.Done new) }
     ensures same { IfErr result (λ same. same ≡ builder) }
     ensures stays { OnErr result (is_move call.now ≡ false) }
@@ -123,7 +123,7 @@ fn set<T: Composer, S: BuilderStage, Q: ComposeQuestion, R: ComposeRecord>(
     builder: &mut Builder<T, S>,
     call: &Call<Q, R>,
 ) -> Reply
-    ensures done { is_setting call.now ≡ true → Stays T.room T.grows Q.question R.item T.rule
+    ensures done { is_setting call.now ≡ true → Stays T.capacity T.grows Q.question R.item T.rule
         S.stage builder.old call.now result builder.new }
     ensures misplaced { is_setting call.now ≡ false → result ≡ Reply.Misplaced }
     ensures same { is_setting call.now ≡ false → builder.new ≡ builder.old }
@@ -142,7 +142,7 @@ fn stay_in_questions<T: Composer, Q: ComposeQuestion, R: ComposeRecord>(
     builder: &mut QuestionBuilder<T>,
     call: &Call<Q, R>,
 ) -> Reply
-    ensures { is_move call.now ≡ false → Stays T.room T.grows Q.question R.item T.rule
+    ensures { is_move call.now ≡ false → Stays T.capacity T.grows Q.question R.item T.rule
         InQuestion builder.old call.now result builder.new }
 {
     match call {
@@ -162,7 +162,7 @@ fn stay_in_records<T: Composer, S: RecordStage, Q: ComposeQuestion, R: ComposeRe
     call: &Call<Q, R>,
 ) -> (Builder<T, S>, Reply)
     ensures { is_move call.now ≡ false → has_opt S.stage call.now ≡ false
-        → Stays T.room T.grows Q.question R.item T.rule
+        → Stays T.capacity T.grows Q.question R.item T.rule
         S.stage builder call.now result.1 result.0 }
 {
     match call {
@@ -185,7 +185,7 @@ fn stay_in_additional<T: Composer, Q: ComposeQuestion, R: ComposeRecord>(
     mut builder: AdditionalBuilder<T>,
     call: &Call<Q, R>,
 ) -> (AdditionalBuilder<T>, Reply)
-    ensures { is_move call.now ≡ false → Stays T.room T.grows Q.question R.item T.rule
+    ensures { is_move call.now ≡ false → Stays T.capacity T.grows Q.question R.item T.rule
         InAdditional builder call.now result.1 result.0 }
 {
     match call {
@@ -202,7 +202,7 @@ fn go<T: Composer, Q: ComposeQuestion, R: ComposeRecord>(
     stage: Stage<T>,
     call: &Call<Q, R>,
 ) -> Result<Stage<T>, Stage<T>>
-    ensures moved { IfOk result (λ new. Steps T.room T.grows Q.question R.item T.rule
+    ensures moved { IfOk result (λ new. Steps T.capacity T.grows Q.question R.item T.rule
         stage call.now Reply.Done new) }
     ensures same { IfErr result (λ same. same ≡ stage) }
     ensures stays { OnErr result (is_move call.now ≡ false) }
@@ -222,7 +222,7 @@ fn stay<T: Composer, Q: ComposeQuestion, R: ComposeRecord>(
     stage: Stage<T>,
     call: &Call<Q, R>,
 ) -> (Stage<T>, Reply)
-    ensures { is_move call.now ≡ false → Steps T.room T.grows Q.question R.item T.rule
+    ensures { is_move call.now ≡ false → Steps T.capacity T.grows Q.question R.item T.rule
         stage call.now result.1 result.0 }
 {
     match stage {
@@ -255,7 +255,7 @@ fn step<T: Composer, Q: ComposeQuestion, R: ComposeRecord>(
     stage: Stage<T>,
     call: &Call<Q, R>,
 ) -> (Stage<T>, Reply)
-    ensures { Steps T.room T.grows Q.question R.item T.rule
+    ensures { Steps T.capacity T.grows Q.question R.item T.rule
         stage call.now result.1 result.0 }
 {
     match go(stage, call) {
@@ -279,7 +279,7 @@ pub fn run<T: Composer, Q: ComposeQuestion, R: ComposeRecord>(
     ensures full { OnErr result
         (vec_capacity replies.old < vec_len replies.old + length calls.now) }
     ensures ran { IfOk result (λ new.
-        RunsAll T.room T.grows Q.question R.item T.rule
+        RunsAll T.capacity T.grows Q.question R.item T.rule
         stage calls.now replies.old.items replies.new.items new) }
 {
     if replies.reserve(calls.len()).is_err() {

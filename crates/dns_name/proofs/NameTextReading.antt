@@ -16,7 +16,7 @@ pub record InLabel (text : List ℕ) (size : ℕ) (label left : List ℕ) : Type
   pub whole : text ≡ front ++ left
   pub spelled : SpellsLabel front label
   pub short : length label ≤ 63
-  pub room : 0 < length label → size + length label + 1 ≤ max_size
+  pub short_enough : 0 < length label → size + length label + 1 ≤ max_size
   pub some : 0 < length label + length left
   pub faults : (f : PresentationError) → NameTextFaulty left (length label) size f → NameTextFaulty text 0 size f
 
@@ -27,7 +27,7 @@ label_start text size some = record {
   whole = refl;
   spelled = SpellsLabel.none;
   short = omega arith;
-  room = λ h. omega (arith, h);
+  short_enough = λ h. omega (arith, h);
   some = omega (arith, some);
   faults = λ f h. h;
 }
@@ -40,16 +40,16 @@ spells_push {last = last} {o = o} (SpellsLabel.octet {front = a} {text = b} {lab
 -- One more octet is read.
 pub label_more : (text : List ℕ) (size : ℕ) (label left rest : List ℕ) (o : ℕ) → InLabel text size label left
     → SpellsFirst left o rest → length label < 63 → size + length label + 2 ≤ max_size → InLabel text size (label ++ o ∷ []) rest
-label_more text size label left rest o x s short room =
+label_more text size label left rest o x s short short_enough =
     let more : length (label ++ o ∷ []) ≡ length label + 1 = omega (arith, length-append label (o ∷ [])) in
     record {
       front = x.front ++ s.front;
       whole = x.whole ∙ ap (λ (t : List ℕ). x.front ++ t) s.whole ∙ sym (append_assoc x.front s.front rest);
       spelled = spells_push x.spelled s.spelled;
       short = omega (arith, more, short);
-      room = λ h. omega (arith, more, room);
+      short_enough = λ h. omega (arith, more, short_enough);
       some = omega (arith, more);
-      faults = λ f h. x.faults f (NameTextFaulty.octet s short room (subst (λ n. NameTextFaulty rest n size f) more h));
+      faults = λ f h. x.faults f (NameTextFaulty.octet s short short_enough (subst (λ n. NameTextFaulty rest n size f) more h));
     }
 
 -- The labels that are read so far have these octets. Labels that the remaining text represents follow them in what the whole text represents. A fault of the remaining text is a fault of the text.
@@ -57,7 +57,7 @@ pub record InLabels (text octets left : List ℕ) : Type 0 where
   pub name : Labels
   pub same : flat_map framed name ≡ octets
   pub labels : All IsLabel name
-  pub room : length octets ≤ max_size
+  pub short_enough : length octets ≤ max_size
   pub some : 0 < length left
   pub spelled : (rest : Labels) → SpellsLabels left rest → SpellsLabels text (name ++ rest)
   pub faults : (f : PresentationError) → NameTextFaulty left 0 (length octets) f → NameTextFaulty text 0 0 f
@@ -82,7 +82,7 @@ label_passed text octets left label (c ∷ after) x l long =
       name = x.name ++ label ∷ [];
       same = framed_more x.name label octets x.same;
       labels = All-append IsLabel x.name (label ∷ []) x.labels (one_label label l.is_label);
-      room = omega (arith, size, l.room);
+      short_enough = omega (arith, size, l.short_enough);
       some = omega (arith, long);
       spelled = λ rest h. subst (λ name. SpellsLabels text name) (sym (append_assoc x.name (label ∷ []) rest))
           (x.spelled (label ∷ rest) (subst (λ t. SpellsLabels t (label ∷ rest)) (sym whole) (SpellsLabels.more l.spelled h)));
@@ -113,12 +113,12 @@ pub labels_end : (text octets left label after : List ℕ) → InLabels text oct
 labels_end text octets left label after x l short =
     let same = framed_more x.name label octets x.same in
     let size = length-framed (x.name ++ label ∷ []) in
-    let room = ap length same in (
+    let short_enough = ap length same in (
       x.name ++ label ∷ [],
       x.spelled (label ∷ []) (last_label left label after (length octets) l short),
       record {
         labels = All-append IsLabel x.name (label ∷ []) x.labels (one_label label l.is_label);
-        short = omega (arith, size, room, l.room, length-append octets (framed label));
+        short = omega (arith, size, short_enough, l.short_enough, length-append octets (framed label));
       },
       framed_more (x.name ++ label ∷ []) [] (octets ++ framed label) same,
     )

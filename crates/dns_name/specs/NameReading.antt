@@ -39,7 +39,7 @@ pub record LabelFirst (text : List ℕ) (size : ℕ) (label rest : List ℕ) : T
   pub whole : text ≡ front ++ rest
   pub spelled : SpellsLabel front label
   pub is_label : IsLabel label
-  pub room : size + length label + 1 ≤ max_size
+  pub short_enough : size + length label + 1 ≤ max_size
   pub ends : EndsLabel rest
   pub faults : (f : PresentationError) → NameTextFaulty rest (length label) size f → NameTextFaulty text 0 size f
 

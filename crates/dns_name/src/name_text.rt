@@ -78,7 +78,7 @@ fn next_octet(
     size: usize,
 ) -> Result<Option<(u8, &[u8])>, PresentationError>
     requires short { len ≤ MAX_LABEL }
-    requires room { size ≤ max_size }
+    requires short_enough { size ≤ max_size }
     ensures { StepsLabel text.now len size result }
 {
     let Some((first, after)) = text.split_first() else {
@@ -104,7 +104,7 @@ fn next_octet(
 /// Reads a label, after labels of `size` octets. Returns the text after it too.
 fn read_label(text: &[u8], size: usize) -> Result<(ArrayVec<u8, 63>, &[u8]), PresentationError>
     requires some { 0 < length text.now }
-    requires room { size ≤ max_size }
+    requires short_enough { size ≤ max_size }
     ensures { MatchResult result (λ read. LabelFirst text.now size read.0.items read.1.now)
         (λ f. NameTextFaulty text.now 0 size f) }
 {

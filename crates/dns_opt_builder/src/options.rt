@@ -87,8 +87,8 @@ fn begin_option(list: &mut Vec<u8>, code: u16, len: usize) -> Result<(), AppendE
     ensures full { result ≡ Err AppendError.OutOfMemory
         → vec_capacity list.old < length list.old.items + 4 + len }
 {
-    let room = MOST_OCTETS - list.len();
-    if room < HEAD_LEN || len > room - HEAD_LEN {
+    let left = MOST_OCTETS - list.len();
+    if left < HEAD_LEN || len > left - HEAD_LEN {
         return Err(AppendError::ShortBuf);
     }
     list.reserve(HEAD_LEN + len)?;

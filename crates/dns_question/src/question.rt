@@ -127,7 +127,7 @@ impl<N: ToName> Question<N> {
     /// restores the old target.
     #[inline(always)]
     pub fn compose<T: Composer>(&self, target: &mut T) -> Result<(), AppendError>
-        ensures composes { Composes T.room T.grows
+        ensures composes { Composes T.capacity T.grows
             (put_question T.rule (question_item N.name self.now)) (T.written target.old)
             (T.written target.new) result }
         ensures item { IsQuestion (question_item N.name self.now) }
@@ -146,7 +146,7 @@ pub trait ComposeQuestion {
 
     /// Appends the question, as `Question::compose` does.
     fn compose_question<T: Composer>(&self, target: &mut T) -> Result<(), AppendError>
-        ensures composes { Composes T.room T.grows (put_question T.rule (question self.now))
+        ensures composes { Composes T.capacity T.grows (put_question T.rule (question self.now))
             (T.written target.old) (T.written target.new) result }
         ensures item { IsQuestion (question self.now) };
 }

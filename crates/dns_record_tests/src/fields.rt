@@ -13,7 +13,7 @@ pub fn compose_fields<T: Composer>(
     after: &[&[u8]],
     target: &mut T,
 ) -> Result<(), AppendError>
-    ensures { Composes T.room T.grows (put_parts T.rule (Octets first.now
+    ensures { Composes T.capacity T.grows (put_parts T.rule (Octets first.now
         ∷ map (λ field. Octets field.now) after.now)) (T.written target.old)
         (T.written target.new) result }
 {

@@ -46,9 +46,9 @@ section_reads b reads Answer = reads.answers
 section_reads b reads Authority = reads.authorities
 section_reads b reads Additional = reads.additionals
 
-module _ {F R : Type 0} (call : F → ParsedRecord → Option R → F → Type 0) (item : R → RecordItem) (room : Option ℕ) (grows : Bool) (rule : Rule) (e : ParseError) where
+module _ {F R : Type 0} (call : F → ParsedRecord → Option R → F → Type 0) (item : R → RecordItem) (capacity : Option ℕ) (grows : Bool) (rule : Rule) (e : ParseError) where
   no_fault_in_list : (stage : Stage) {xs : List (Result EncodedRecord Fault)} {f g : F} {s t : State} {result : Result (Unit {0}) CopyRecordsError}
-      → CopiesList call item room grows rule stage xs f s result g t → result ≡ Err (Parse e) → first_fault (limited (every any_layout) xs) ≡ None → ⊥
+      → CopiesList call item capacity grows rule stage xs f s result g t → result ≡ Err (Parse e) → first_fault (limited (every any_layout) xs) ≡ None → ⊥
   no_fault_in_list stage no_record is whole = absurd (cc)
   no_fault_in_list stage (record_copied {x = x} {xs = xs} one rest) is whole =
       no_fault_in_list stage rest is (after_first (laid_out x (any_layout x.entry.rtype)) (limited (every any_layout) xs) whole)
@@ -56,14 +56,14 @@ module _ {F R : Type 0} (call : F → ParsedRecord → Option R → F → Type 0
   no_fault_in_list stage fault is whole = absurd (cc)
 
   no_fault_in_section : (b : List ℕ) (section : Section) {f g : F} {s t : State} {result : Result (Unit {0}) CopyRecordsError}
-      → CopiesSection call item room grows rule b section f s result g t → result ≡ Err (Parse e) → SectionReads b section → ⊥
+      → CopiesSection call item capacity grows rule b section f s result g t → result ≡ Err (Parse e) → SectionReads b section → ⊥
   no_fault_in_section b section (started p starts copies) is reads =
       no_fault_in_list _ copies is
       (subst (λ p. first_fault (records_at section b p) ≡ None) (one_start section b reads.start p reads.starts starts) reads.records)
   no_fault_in_section b section (unstarted faulty) is reads = no_start_fault section b reads.start _ reads.starts faulty
 
   pub no_fault : (b : List ℕ) (sections : List Section) {f g : F} {s t : State} {result : Result (Unit {0}) CopyRecordsError}
-      → CopiesSections call item room grows rule b sections f s result g t → result ≡ Err (Parse e) → ((section : Section) → SectionReads b section) → ⊥
+      → CopiesSections call item capacity grows rule b sections f s result g t → result ≡ Err (Parse e) → ((section : Section) → SectionReads b section) → ⊥
   no_fault b [] no_section is reads = absurd (cc)
   no_fault b (section ∷ sections) (section_copied one rest) is reads = no_fault b sections rest is reads
   no_fault b (section ∷ sections) (stopped one) is reads = no_fault_in_section b section one is (reads section)

@@ -7,7 +7,7 @@ use Rattle.dns_octets.specs.declared.error.AppendError.{AppendError}
 use Rattle.dns_octets.specs.declared.error.AppendError.TheVariants.{ShortBuf, OutOfMemory}
 use Rattle.dns_wire.proofs.theory.PieceLaws.{same_written}
 use Rattle.dns_wire.proofs.theory.CompressionTables.{cut_nothing}
-use Rattle.dns_stream.specs.Stream.{stream_room}
+use Rattle.dns_stream.specs.Stream.{stream_capacity}
 
 take_two : (xs : List ℕ) (n : ℕ) → drop 2 (take (n + 2) xs) ≡ take n (drop 2 xs)
 take_two xs n = grind (arith, common_steps)
@@ -28,37 +28,37 @@ shortened t u v xs (a ∷ b ∷ c ∷ bytes) n two e f is = absurd (omega arith)
 pub kept_whole : (xs : List ℕ) (n : ℕ) → length xs ≤ n → plain xs ≡ cut_to n (plain xs)
 kept_whole xs n l = same_written _ _ (grind (arith, common_steps)) (sym (cut_nothing n))
 
-passes : (room : Option ℕ) (t : Written) (xs : List ℕ) → 2 ≤ length t.octets → Fits room (length t.octets) → Passes room (length (t.octets ++ xs)) → Passes (stream_room room) (length (drop 2 t.octets ++ xs))
+passes : (capacity : Option ℕ) (t : Written) (xs : List ℕ) → 2 ≤ length t.octets → Fits capacity (length t.octets) → Passes capacity (length (t.octets ++ xs)) → Passes (stream_capacity capacity) (length (drop 2 t.octets ++ xs))
 passes None t xs l f h = absurd h
-passes (Some room) t xs l f h =
+passes (Some capacity) t xs l f h =
     let a = length-append t.octets xs in
     let b = length-append (drop 2 t.octets) xs in
     let c = message_length t (drop 2 t.octets) l refl in
     omega arith
 
 -- A message within the capacity of the wrapped target and within the length is within the message's capacity.
-fits_stream : (room : Option ℕ) (t : Written) (xs : List ℕ) → 2 ≤ length t.octets → length (drop 2 t.octets ++ xs) ≤ 65535 → Fits room (length (t.octets ++ xs)) → Fits (stream_room room) (length (drop 2 t.octets ++ xs))
+fits_stream : (capacity : Option ℕ) (t : Written) (xs : List ℕ) → 2 ≤ length t.octets → length (drop 2 t.octets ++ xs) ≤ 65535 → Fits capacity (length (t.octets ++ xs)) → Fits (stream_capacity capacity) (length (drop 2 t.octets ++ xs))
 fits_stream None t xs l few f = few
-fits_stream (Some room) t xs l few f =
+fits_stream (Some capacity) t xs l few f =
     let a = length-append t.octets xs in
     let b = length-append (drop 2 t.octets) xs in
     let c = message_length t (drop 2 t.octets) l refl in
     omega arith
 
-answers : (room : Option ℕ) (grows : Bool) (t : Written) (xs : List ℕ) (e : AppendError) → 2 ≤ length t.octets → Fits room (length t.octets) → length (drop 2 t.octets ++ xs) ≤ 65535
-    → Answers {X = Unit {0}} room grows (length (t.octets ++ xs)) (Err e) → Answers {X = Unit {0}} (stream_room room) grows (length (drop 2 t.octets ++ xs)) (Err e)
-answers room grows t xs ShortBuf l f few h = passes room t xs l f h
-answers room grows t xs OutOfMemory l f few h = (fits_stream room t xs l few h.0, h.1)
+answers : (capacity : Option ℕ) (grows : Bool) (t : Written) (xs : List ℕ) (e : AppendError) → 2 ≤ length t.octets → Fits capacity (length t.octets) → length (drop 2 t.octets ++ xs) ≤ 65535
+    → Answers {X = Unit {0}} capacity grows (length (t.octets ++ xs)) (Err e) → Answers {X = Unit {0}} (stream_capacity capacity) grows (length (drop 2 t.octets ++ xs)) (Err e)
+answers capacity grows t xs ShortBuf l f few h = passes capacity t xs l f h
+answers capacity grows t xs OutOfMemory l f few h = (fits_stream capacity t xs l few h.0, h.1)
 
-refuses : (room : Option ℕ) (grows : Bool) (xs : List ℕ) (t u : Written) (e : AppendError) → 2 ≤ length t.octets → Fits room (length t.octets) → length (drop 2 t.octets ++ xs) ≤ 65535
-    → Appends room grows (put_octets xs) t u {X = Unit {0}} (Err e) → Appends (stream_room room) grows (put_octets xs) (plain (drop 2 t.octets)) (plain (drop 2 u.octets)) {X = Unit {0}} (Err e)
-refuses room grows xs t u e l f few h = record { ok = tt; err = ap (λ (w : Written). plain (drop 2 w.octets)) h.err; answer = answers room grows t xs e l f few h.answer }
+refuses : (capacity : Option ℕ) (grows : Bool) (xs : List ℕ) (t u : Written) (e : AppendError) → 2 ≤ length t.octets → Fits capacity (length t.octets) → length (drop 2 t.octets ++ xs) ≤ 65535
+    → Appends capacity grows (put_octets xs) t u {X = Unit {0}} (Err e) → Appends (stream_capacity capacity) grows (put_octets xs) (plain (drop 2 t.octets)) (plain (drop 2 u.octets)) {X = Unit {0}} (Err e)
+refuses capacity grows xs t u e l f few h = record { ok = tt; err = ap (λ (w : Written). plain (drop 2 w.octets)) h.err; answer = answers capacity grows t xs e l f few h.answer }
 
 -- An error in appending to the wrapped target is one in appending to the message.
-pub refused : (room : Option ℕ) (grows : Bool) (xs : List ℕ) (t u : Written) (v : List ℕ) (r : Result (Unit {0}) AppendError) (e : AppendError) → 2 ≤ length t.octets → Fits room (length t.octets) → drop 2 t.octets ≡ v → length v + length xs ≤ 65535 → r ≡ Err e
-    → Appends room grows (put_octets xs) t u {X = Unit {0}} (Err e) → Appends (stream_room room) grows (put_octets xs) (plain v) (plain (drop 2 u.octets)) r
-refused room grows xs t u v r e l f is few out h =
-    rw (out, ← is) (refuses room grows xs t u e l f (rw (length-append, is) few) h)
+pub refused : (capacity : Option ℕ) (grows : Bool) (xs : List ℕ) (t u : Written) (v : List ℕ) (r : Result (Unit {0}) AppendError) (e : AppendError) → 2 ≤ length t.octets → Fits capacity (length t.octets) → drop 2 t.octets ≡ v → length v + length xs ≤ 65535 → r ≡ Err e
+    → Appends capacity grows (put_octets xs) t u {X = Unit {0}} (Err e) → Appends (stream_capacity capacity) grows (put_octets xs) (plain v) (plain (drop 2 u.octets)) r
+refused capacity grows xs t u v r e l f is few out h =
+    rw (out, ← is) (refuses capacity grows xs t u e l f (rw (length-append, is) few) h)
 
 written_two_on : (ys bytes : List ℕ) (offset : ℕ) → 2 ≤ length ys → drop 2 (take (offset + 2) ys ++ bytes ++ drop (offset + 2 + length bytes) ys) ≡ take offset (drop 2 ys) ++ bytes ++ drop (offset + length bytes) (drop 2 ys)
 written_two_on [] bytes offset l = absurd (omega arith)
@@ -74,6 +74,6 @@ over t u xs bytes offset l e is =
     same_written _ _ (ap (λ (w : Written). drop 2 w.octets) e ∙ written_two_on t.octets bytes offset l ∙ ap (λ (ys : List ℕ). take offset ys ++ bytes ++ drop (offset + length bytes) ys) is) refl
 
 -- If the wrapped target is within its capacity, the message is within its own.
-pub fits : (room : Option ℕ) (t : Written) (xs : List ℕ) → 2 ≤ length t.octets → length t.octets ≤ 65537 → Fits room (length t.octets) → drop 2 t.octets ≡ xs → Fits (stream_room room) (length xs)
+pub fits : (capacity : Option ℕ) (t : Written) (xs : List ℕ) → 2 ≤ length t.octets → length t.octets ≤ 65537 → Fits capacity (length t.octets) → drop 2 t.octets ≡ xs → Fits (stream_capacity capacity) (length xs)
 fits None t xs l k f is = let c = message_length t xs l is in omega arith
-fits (Some room) t xs l k f is = let c = message_length t xs l is in omega arith
+fits (Some capacity) t xs l k f is = let c = message_length t xs l is in omega arith

@@ -2,7 +2,7 @@
 ghost use Rattle.std.specs.Prelude.{◌≡◌, [], refl, IfOk, IfErr, OnErr, IsTrue};
 ghost use Rattle.dns_wire.specs.Pieces.{Plain};
 ghost use Rattle.dns_wire.specs.Targets.{Answers, with_empty_table};
-ghost use Rattle.dns_stream.specs.Stream.{stream_room, with_prefix};
+ghost use Rattle.dns_stream.specs.Stream.{stream_capacity, with_prefix};
 
 use dns_wire::{AppendError, CloneTarget, Composer, ToName};
 use std::alloc::{AllocError, Global};
@@ -56,7 +56,7 @@ impl<T: Composer> StreamTarget<T> {
     pub fn new(target: T) -> Result<Self, AppendError>
         requires { T.rule ≡ Plain }
         ensures empty { IfOk result (λ stream. stream ≡ []) }
-        ensures answer { Answers T.room T.grows 2 result }
+        ensures answer { Answers T.capacity T.grows 2 result }
     {
         let mut target = target;
         target.truncate(0);
@@ -115,7 +115,7 @@ impl<T: CloneTarget> StreamTarget<T> {
 impl<T: Composer> Composer for StreamTarget<T> {
     ghost rule = { Plain };
 
-    ghost room = { stream_room T.room };
+    ghost capacity = { stream_capacity T.capacity };
 
     ghost grows = { T.grows };
 

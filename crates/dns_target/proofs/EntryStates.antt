@@ -56,36 +56,36 @@ pub grown_names : (rule : Rule) (w v : Written) (xs : List TableEntry) (ys : Lis
 grown_names rule w v xs ys h e = same_names rule w xs v.octets h (octets_kept rule w v xs ys h e)
 
 -- the same for an append with any result
-pub octets_names : (rule : Rule) (room : Option ℕ) (grows : Bool) (w v : Written) (xs : List TableEntry) (ys : List ℕ) (r : Result (Unit {0}) AppendError)
-    → HasTableEntries rule w xs → Appends room grows (put_octets ys) w v r → named v.octets xs ≡ named w.octets xs
-octets_names rule room grows w v xs ys (Ok x) h a = grown_names rule w v xs ys h a.ok
-octets_names rule room grows w v xs ys (Err e) h a = ap (λ (t : Written). named t.octets xs) a.err
+pub octets_names : (rule : Rule) (capacity : Option ℕ) (grows : Bool) (w v : Written) (xs : List TableEntry) (ys : List ℕ) (r : Result (Unit {0}) AppendError)
+    → HasTableEntries rule w xs → Appends capacity grows (put_octets ys) w v r → named v.octets xs ≡ named w.octets xs
+octets_names rule capacity grows w v xs ys (Ok x) h a = grown_names rule w v xs ys h a.ok
+octets_names rule capacity grows w v xs ys (Err e) h a = ap (λ (t : Written). named t.octets xs) a.err
 
 -- an append of octets keeps the invariant, whatever its result
-pub entries_appended : (rule : Rule) (room : Option ℕ) (grows : Bool) (w v : Written) (xs : List TableEntry) (ys : List ℕ) (r : Result (Unit {0}) AppendError)
-    → HasTableEntries rule w xs → Appends room grows (put_octets ys) w v r → HasTableEntries rule v xs
-entries_appended rule room grows w v xs ys (Ok x) h a = same_state rule w v xs h (octets_kept rule w v xs ys h a.ok)
-entries_appended rule room grows w v xs ys (Err e) h a = rw a.err h
+pub entries_appended : (rule : Rule) (capacity : Option ℕ) (grows : Bool) (w v : Written) (xs : List TableEntry) (ys : List ℕ) (r : Result (Unit {0}) AppendError)
+    → HasTableEntries rule w xs → Appends capacity grows (put_octets ys) w v r → HasTableEntries rule v xs
+entries_appended rule capacity grows w v xs ys (Ok x) h a = same_state rule w v xs h (octets_kept rule w v xs ys h a.ok)
+entries_appended rule capacity grows w v xs ys (Err e) h a = rw a.err h
 
 -- octets are appended, and the table stays
-pub octets_appended : (rule : Rule) (room : Option ℕ) (grows all_grow : Bool) (w v now : Written) (xs : List TableEntry) (ys : List ℕ) (r : Result (Unit {0}) AppendError)
-    → HasTableEntries rule w xs → (grows ≡ true → all_grow ≡ true) → with_table_entries w xs ≡ now → Appends room grows (put_octets ys) w v r
-    → Appends room all_grow (put_octets ys) now (with_table_entries v xs) r
-octets_appended rule room grows all_grow w v now xs ys (Ok x) h more s a =
-    subst (λ (t : Written). Appends room all_grow (put_octets ys) t (with_table_entries v xs) {X = Unit {0}} (Ok x)) s (record {
+pub octets_appended : (rule : Rule) (capacity : Option ℕ) (grows all_grow : Bool) (w v now : Written) (xs : List TableEntry) (ys : List ℕ) (r : Result (Unit {0}) AppendError)
+    → HasTableEntries rule w xs → (grows ≡ true → all_grow ≡ true) → with_table_entries w xs ≡ now → Appends capacity grows (put_octets ys) w v r
+    → Appends capacity all_grow (put_octets ys) now (with_table_entries v xs) r
+octets_appended rule capacity grows all_grow w v now xs ys (Ok x) h more s a =
+    subst (λ (t : Written). Appends capacity all_grow (put_octets ys) t (with_table_entries v xs) {X = Unit {0}} (Ok x)) s (record {
       ok = same_written _ _ (ap (λ (t : Written). t.octets) a.ok) (same_entries rule w v xs h (octets_kept rule w v xs ys h a.ok));
       err = tt;
       answer = a.answer;
     })
-octets_appended rule room grows all_grow w v now xs ys (Err e) h more s a =
-    subst (λ (t : Written). Appends room all_grow (put_octets ys) t (with_table_entries v xs) {X = Unit {0}} (Err e)) s (record {
+octets_appended rule capacity grows all_grow w v now xs ys (Err e) h more s a =
+    subst (λ (t : Written). Appends capacity all_grow (put_octets ys) t (with_table_entries v xs) {X = Unit {0}} (Err e)) s (record {
       ok = tt;
       err = ap (λ (t : Written). with_table_entries t xs) a.err;
       answer = answer_by e a.answer;
     })
   where
-    answer_by : (e : AppendError) → Answers {X = Unit {0}} room grows (length (lay (put_octets ys) w).octets) (Err e)
-        → Answers {X = Unit {0}} room all_grow (length (lay (put_octets ys) (with_table_entries w xs)).octets) (Err e)
+    answer_by : (e : AppendError) → Answers {X = Unit {0}} capacity grows (length (lay (put_octets ys) w).octets) (Err e)
+        → Answers {X = Unit {0}} capacity all_grow (length (lay (put_octets ys) (with_table_entries w xs)).octets) (Err e)
     answer_by ShortBuf k = k
     answer_by OutOfMemory k = (k.0, more k.1)
 
@@ -204,41 +204,41 @@ pub ending : (w v : Written) (text content : List ℕ) → content ≡ v.octets 
 ending w v text content e o = ap length e ∙ ap (λ (x : Written). length x.octets) o ∙ length-append w.octets text
 
 -- if the octets of a name are appended, the name fits the capacity
-pub name_fits : (compressing : Rule) (room : Option ℕ) (grows : Bool) (w v now : Written) (xs : List TableEntry) (name : Labels) (text : List ℕ) (ss : List (Labels × ℕ))
-    → Appends room grows (put_octets text) w v {X = Unit {0}} (Ok tt) → IsPut compressing name (table_in w.octets xs) (length w.octets) text ss → with_table_entries w xs ≡ now
-    → Fits room (length (lay (put_name compressing name) now).octets)
-name_fits compressing room grows w v now xs name text ss a put s =
-    subst (λ (t : Written). Fits room (length (lay (put_name compressing name) t).octets)) s
-    (subst (λ (ys : List ℕ). Fits room (length (w.octets ++ ys))) (sym put.octets) a.answer)
+pub name_fits : (compressing : Rule) (capacity : Option ℕ) (grows : Bool) (w v now : Written) (xs : List TableEntry) (name : Labels) (text : List ℕ) (ss : List (Labels × ℕ))
+    → Appends capacity grows (put_octets text) w v {X = Unit {0}} (Ok tt) → IsPut compressing name (table_in w.octets xs) (length w.octets) text ss → with_table_entries w xs ≡ now
+    → Fits capacity (length (lay (put_name compressing name) now).octets)
+name_fits compressing capacity grows w v now xs name text ss a put s =
+    subst (λ (t : Written). Fits capacity (length (lay (put_name compressing name) t).octets)) s
+    (subst (λ (ys : List ℕ). Fits capacity (length (w.octets ++ ys))) (sym put.octets) a.answer)
 
 -- a name is appended
-pub name_appended : (rule compressing : Rule) (room : Option ℕ) (grows all_grow : Bool) (w v now : Written) (xs us : List TableEntry) (name : Labels) (text : List ℕ) (ss : List (Labels × ℕ))
-    → IsName name → HasTableEntries rule w xs → Appends room grows (put_octets text) w v {X = Unit {0}} (Ok tt)
+pub name_appended : (rule compressing : Rule) (capacity : Option ℕ) (grows all_grow : Bool) (w v now : Written) (xs us : List TableEntry) (name : Labels) (text : List ℕ) (ss : List (Labels × ℕ))
+    → IsName name → HasTableEntries rule w xs → Appends capacity grows (put_octets text) w v {X = Unit {0}} (Ok tt)
     → IsPut compressing name (table_in w.octets xs) (length w.octets) text ss → us ≡ with_suffixes xs ss (length w.octets + length text) → with_table_entries w xs ≡ now
-    → Appends room all_grow (put_name compressing name) now (with_table_entries v us) {X = Unit {0}} (Ok tt)
-name_appended rule compressing room grows all_grow w v now xs us name text ss is h a put f s = record {
+    → Appends capacity all_grow (put_name compressing name) now (with_table_entries v us) {X = Unit {0}} (Ok tt)
+name_appended rule compressing capacity grows all_grow w v now xs us name text ss is h a put f s = record {
   ok = put_entries rule compressing w v now xs us name text ss is h a.ok put f s;
   err = tt;
-  answer = name_fits compressing room grows w v now xs name text ss a put s;
+  answer = name_fits compressing capacity grows w v now xs name text ss a put s;
 }
 
 -- an append of a name fails
-pub name_refused : (compressing : Rule) (room : Option ℕ) (grows all_grow : Bool) (w v now : Written) (xs us : List TableEntry) (name : Labels) (text : List ℕ) (ss : List (Labels × ℕ))
-    (r : Result (Unit {0}) AppendError) (e : AppendError) → r ≡ Err e → (grows ≡ true → all_grow ≡ true) → Appends room grows (put_octets text) w v {X = Unit {0}} (Err e)
+pub name_refused : (compressing : Rule) (capacity : Option ℕ) (grows all_grow : Bool) (w v now : Written) (xs us : List TableEntry) (name : Labels) (text : List ℕ) (ss : List (Labels × ℕ))
+    (r : Result (Unit {0}) AppendError) (e : AppendError) → r ≡ Err e → (grows ≡ true → all_grow ≡ true) → Appends capacity grows (put_octets text) w v {X = Unit {0}} (Err e)
     → IsPut compressing name (table_in w.octets xs) (length w.octets) text ss → us ≡ xs → with_table_entries w xs ≡ now
-    → Appends room all_grow (put_name compressing name) now (with_table_entries v us) r
-name_refused compressing room grows all_grow w v now xs us name text ss r e out more a put f s =
+    → Appends capacity all_grow (put_name compressing name) now (with_table_entries v us) r
+name_refused compressing capacity grows all_grow w v now xs us name text ss r e out more a put f s =
     rw (out, f)
-    (subst (λ (t : Written). Appends room all_grow (put_name compressing name) t (with_table_entries v xs) {X = Unit {0}} (Err e)) s (record {
+    (subst (λ (t : Written). Appends capacity all_grow (put_name compressing name) t (with_table_entries v xs) {X = Unit {0}} (Err e)) s (record {
       ok = tt;
       err = ap (λ (t : Written). with_table_entries t xs) a.err;
       answer = answer_by e a.answer;
     }))
   where
-    answer_by : (e : AppendError) → Answers {X = Unit {0}} room grows (length (lay (put_octets text) w).octets) (Err e)
-        → Answers {X = Unit {0}} room all_grow (length (lay (put_name compressing name) (with_table_entries w xs)).octets) (Err e)
-    answer_by ShortBuf k = subst (λ (ys : List ℕ). Passes room (length (w.octets ++ ys))) (sym put.octets) k
-    answer_by OutOfMemory k = (subst (λ (ys : List ℕ). Fits room (length (w.octets ++ ys))) (sym put.octets) k.0, more k.1)
+    answer_by : (e : AppendError) → Answers {X = Unit {0}} capacity grows (length (lay (put_octets text) w).octets) (Err e)
+        → Answers {X = Unit {0}} capacity all_grow (length (lay (put_name compressing name) (with_table_entries w xs)).octets) (Err e)
+    answer_by ShortBuf k = subst (λ (ys : List ℕ). Passes capacity (length (w.octets ++ ys))) (sym put.octets) k
+    answer_by OutOfMemory k = (subst (λ (ys : List ℕ). Fits capacity (length (w.octets ++ ys))) (sym put.octets) k.0, more k.1)
 
 -- if one of two may allocate, both together may
 pub or_first : (a b : Bool) → a ≡ true → (a || b) ≡ true
@@ -276,9 +276,9 @@ plan_table_entries w v xs us name labels content text after count l p e o f =
     f ∙ (λ i. with_suffixes xs (first_suffixes count (l i) (length (p i))) (end i))
 
 -- after the append the names of the entries are encoded in the octets
-pub still_entries : (rule : Rule) (room : Option ℕ) (grows : Bool) (w v : Written) (xs : List TableEntry) (text after : List ℕ) (r : Result (Unit {0}) AppendError) → HasTableEntries rule w xs → after ≡ v.octets
-    → Appends room grows (put_octets text) w v r → AreTableEntries after xs
-still_entries rule room grows w v xs text after r h e a = are_table_entries rule v xs after (entries_appended rule room grows w v xs text r h a) e
+pub still_entries : (rule : Rule) (capacity : Option ℕ) (grows : Bool) (w v : Written) (xs : List TableEntry) (text after : List ℕ) (r : Result (Unit {0}) AppendError) → HasTableEntries rule w xs → after ≡ v.octets
+    → Appends capacity grows (put_octets text) w v r → AreTableEntries after xs
+still_entries rule capacity grows w v xs text after r h e a = are_table_entries rule v xs after (entries_appended rule capacity grows w v xs text r h a) e
 
 -- the suffixes to add
 pub to_add : (rule compressing : Rule) (w v : Written) (xs : List TableEntry) (name labels : Labels) (content text after : List ℕ) (from count : ℕ) (offset : Option ℕ)
@@ -311,9 +311,9 @@ pub names_cut : (rule : Rule) (w v : Written) (xs us : List TableEntry) (n : ℕ
 names_cut rule w v xs us n h e f = ap (λ (b : List ℕ). named b us) (ap (λ (x : Written). x.octets) (sym e)) ∙ ap (named v.octets) f ∙ (cut_names rule w v xs n h e).1 ∙ ap (named w.octets) (sym f)
 
 -- an append makes the octets no shorter
-pub no_shorter : (room : Option ℕ) (grows : Bool) (w v : Written) (ys : List ℕ) (r : Result (Unit {0}) AppendError) → Appends room grows (put_octets ys) w v r → length w.octets ≤ length v.octets
-no_shorter room grows w v ys (Ok x) a = let z : length v.octets ≡ length (w.octets ++ ys) = ap (λ (x : Written). length x.octets) a.ok in omega (arith, length-append w.octets ys)
-no_shorter room grows w v ys (Err e) a = let z : length v.octets ≡ length w.octets = ap (λ (x : Written). length x.octets) a.err in omega arith
+pub no_shorter : (capacity : Option ℕ) (grows : Bool) (w v : Written) (ys : List ℕ) (r : Result (Unit {0}) AppendError) → Appends capacity grows (put_octets ys) w v r → length w.octets ≤ length v.octets
+no_shorter capacity grows w v ys (Ok x) a = let z : length v.octets ≡ length (w.octets ++ ys) = ap (λ (x : Written). length x.octets) a.ok in omega (arith, length-append w.octets ys)
+no_shorter capacity grows w v ys (Err e) a = let z : length v.octets ≡ length w.octets = ap (λ (x : Written). length x.octets) a.err in omega arith
 
 -- nor does overwriting octets
 pub over_shorter : (w v : Written) (xs : List TableEntry) (a : ℕ) (ys : List ℕ) (now : Written) → v ≡ overwrite a ys w → with_table_entries w xs ≡ now → a + length ys ≤ length now.octets → length w.octets ≤ length v.octets
@@ -361,9 +361,9 @@ entries_again rule w u xs us h o e = record {
     names = λ i. named (o i) (e i)
 
 -- a name whose suffixes can't be added because an allocation fails
-pub name_forgotten : (compressing : Rule) (room : Option ℕ) (all_grow : Bool) (w u now : Written) (xs us : List TableEntry) (name : Labels) → Fits room (length (lay (put_name compressing name) now).octets) → all_grow ≡ true
-    → u.octets ≡ w.octets → us ≡ xs → with_table_entries w xs ≡ now → Appends room all_grow (put_name compressing name) now (with_table_entries u us) {X = Unit {0}} (Err OutOfMemory)
-name_forgotten compressing room all_grow w u now xs us name fits more o e s = record {
+pub name_forgotten : (compressing : Rule) (capacity : Option ℕ) (all_grow : Bool) (w u now : Written) (xs us : List TableEntry) (name : Labels) → Fits capacity (length (lay (put_name compressing name) now).octets) → all_grow ≡ true
+    → u.octets ≡ w.octets → us ≡ xs → with_table_entries w xs ≡ now → Appends capacity all_grow (put_name compressing name) now (with_table_entries u us) {X = Unit {0}} (Err OutOfMemory)
+name_forgotten compressing capacity all_grow w u now xs us name fits more o e s = record {
   ok = tt;
   err = (λ i. record { octets = o i; table = table_in (o i) (e i) }) ∙ s;
   answer = (fits, more);

@@ -146,7 +146,7 @@ impl<Target: Composer, Index: SuffixIndex> Compressor<Target, Index> {
 
     /// Appends a name and adds its new suffixes to the table. Nothing changes on error.
     fn append_name(&mut self, name: FlatName<'_>) -> Result<(), AppendError>
-        ensures { Appends Target.room (Index.takes_memory || Target.grows)
+        ensures { Appends Target.capacity (Index.takes_memory || Target.grows)
             (put_name Index.rule (flat_labels name.entry)) self.old self.new result }
     {
         let octets = name.octets();
@@ -188,7 +188,7 @@ impl<Target: CloneTarget, Index: SuffixIndex> Compressor<Target, Index> {
 impl<Target: Composer, Index: SuffixIndex> Composer for Compressor<Target, Index> {
     ghost rule = { Index.rule };
 
-    ghost room = { Target.room };
+    ghost capacity = { Target.capacity };
 
     ghost grows = { Index.takes_memory || Target.grows };
 
@@ -201,7 +201,7 @@ impl<Target: Composer, Index: SuffixIndex> Composer for Compressor<Target, Index
     }
 
     fn append_slice(&mut self, octets: &[u8]) -> Result<(), AppendError>
-        ensures { Appends Target.room Target.grows (put_octets octets.now)
+        ensures { Appends Target.capacity Target.grows (put_octets octets.now)
             self.old self.new result }
     {
         self.target.append_slice(octets)

@@ -109,7 +109,7 @@ impl SuffixIndex for HashIndex {
         ((count ≡ 0) ⊎ (count ≡ from))
         × ((i : ℕ) → i < count → label_offset w name i < pointer_end) };
 
-    ghost lacks_room = { λ s from count. s.suffixes.room < count };
+    ghost lacks_capacity = { λ s from count. s.suffixes.capacity < count };
 
     ghost stays = { λ b c t l e h.
         (keyed_again b c t.suffixes.suffixes e h.0, rest_again b c t.suffixes.suffixes t.recent e h.1) };

@@ -220,7 +220,7 @@ impl Ttl {
     /// Appends the number of seconds as four octets, big-endian (RFC 1035 section 4.1.3). A failed
     /// append changes nothing.
     pub fn compose<T: Composer>(&self, target: &mut T) -> Result<(), AppendError>
-        ensures { Appends T.room T.grows (put_octets (to_be_bytes w32 self.now))
+        ensures { Appends T.capacity T.grows (put_octets (to_be_bytes w32 self.now))
             (T.written target.old) (T.written target.new) result }
     {
         target.append_slice(&self.0.to_be_bytes())

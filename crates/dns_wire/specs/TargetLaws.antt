@@ -132,15 +132,15 @@ NamesAreShort = (rule : Rule) (name : Labels) (m : CompressionTable) (w : ℕ) �
 
 -- One append of an encoding composes it.
 abbrev pub AppendsCompose : Type 0
-AppendsCompose = (room : Option ℕ) (grows : Bool) (piece : Piece) (t u : Written) (r : Result Unit AppendError)
-    → Appends room grows piece t u r → Composes room grows piece t u r
+AppendsCompose = (capacity : Option ℕ) (grows : Bool) (piece : Piece) (t u : Written) (r : Result Unit AppendError)
+    → Appends capacity grows piece t u r → Composes capacity grows piece t u r
 
 -- An encoding that is written, and another that is composed after it, with or without an error, compose both.
 abbrev pub ComposesBoth : Type 0
-ComposesBoth = (room : Option ℕ) (grows : Bool) (a b : Piece) (t u v : Written) (r : Result Unit AppendError)
-    → IsGrowing a → u ≡ lay a t → Composes room grows b u v r → Composes room grows (both a b) t v r
+ComposesBoth = (capacity : Option ℕ) (grows : Bool) (a b : Piece) (t u v : Written) (r : Result Unit AppendError)
+    → IsGrowing a → u ≡ lay a t → Composes capacity grows b u v r → Composes capacity grows (both a b) t v r
 
 -- If composing the first of two encodings fails, composing both fails with the same error.
 abbrev pub ComposesFirst : Type 0
-ComposesFirst = (room : Option ℕ) (grows : Bool) (a b : Piece) (t u : Written) (r q : Result Unit AppendError) (e : AppendError)
-    → r ≡ Err e → q ≡ Err e → Composes room grows a t u r → Composes room grows (both a b) t u q
+ComposesFirst = (capacity : Option ℕ) (grows : Bool) (a b : Piece) (t u : Written) (r q : Result Unit AppendError) (e : AppendError)
+    → r ≡ Err e → q ≡ Err e → Composes capacity grows a t u r → Composes capacity grows (both a b) t u q

@@ -64,36 +64,36 @@ overwrite offset octets t = record { octets = overwritten t.octets offset octets
 -- A length of n octets is within the capacity, if there is one.
 abbrev pub Fits : Option ℕ → ℕ → Type 0
 Fits None n = Unit {0}
-Fits (Some room) n = n ≤ room
+Fits (Some capacity) n = n ≤ capacity
 
 -- A length of n octets exceeds the capacity.
 abbrev pub Passes : Option ℕ → ℕ → Type 0
 Passes None n = ⊥
-Passes (Some room) n = room < n
+Passes (Some capacity) n = capacity < n
 
 -- The result of an append that would leave n octets: `ShortBuf` if they exceed the capacity, else success, or `OutOfMemory` if the target may allocate.
 abbrev pub Answers : {X : Type 0} → Option ℕ → Bool → ℕ → Result X AppendError → Type 0
-Answers room grows n (Ok x) = Fits room n
-Answers room grows n (Err ShortBuf) = Passes room n
-Answers room grows n (Err OutOfMemory) = Fits room n × IsTrue grows
+Answers capacity grows n (Ok x) = Fits capacity n
+Answers capacity grows n (Err ShortBuf) = Passes capacity n
+Answers capacity grows n (Err OutOfMemory) = Fits capacity n × IsTrue grows
 
 -- The result of several appends that would leave n octets: as `Answers`, but `OutOfMemory` may also come before the capacity is exceeded.
 abbrev pub AnswersInSteps : {X : Type 0} → Option ℕ → Bool → ℕ → Result X AppendError → Type 0
-AnswersInSteps room grows n (Ok x) = Fits room n
-AnswersInSteps room grows n (Err ShortBuf) = Passes room n
-AnswersInSteps room grows n (Err OutOfMemory) = IsTrue grows
+AnswersInSteps capacity grows n (Ok x) = Fits capacity n
+AnswersInSteps capacity grows n (Err ShortBuf) = Passes capacity n
+AnswersInSteps capacity grows n (Err OutOfMemory) = IsTrue grows
 
 -- One append of an encoding. On error nothing changes.
-pub record Appends (room : Option ℕ) (grows : Bool) (piece : Piece) (before after : Written) {X : Type 0} (result : Result X AppendError) : Type 0 where
+pub record Appends (capacity : Option ℕ) (grows : Bool) (piece : Piece) (before after : Written) {X : Type 0} (result : Result X AppendError) : Type 0 where
   pub ok : OnOk result (after ≡ lay piece before)
   pub err : OnErr result (after ≡ before)
-  pub answer : Answers room grows (length (lay piece before).octets) result
+  pub answer : Answers capacity grows (length (lay piece before).octets) result
 
 -- An encoding appended in several steps. On error, truncating to the old length undoes it.
-pub record Composes (room : Option ℕ) (grows : Bool) (piece : Piece) (before after : Written) {X : Type 0} (result : Result X AppendError) : Type 0 where
+pub record Composes (capacity : Option ℕ) (grows : Bool) (piece : Piece) (before after : Written) {X : Type 0} (result : Result X AppendError) : Type 0 where
   pub ok : OnOk result (after ≡ lay piece before)
   pub err : OnErr result (cut_to (length before.octets) after ≡ cut_to (length before.octets) before)
-  pub answer : AnswersInSteps room grows (length (lay piece before).octets) result
+  pub answer : AnswersInSteps capacity grows (length (lay piece before).octets) result
 
 -- What a target holds, coded as plain data, so that it can be the value of a model.
 

@@ -18,7 +18,7 @@ pub trait Composer: Drop {
     ghost rule: { Rule };
 
     /// The maximum length of the content in octets, if there is one.
-    ghost room: { Option ℕ };
+    ghost capacity: { Option ℕ };
 
     /// Whether an append may allocate.
     ghost grows: { Bool };
@@ -30,16 +30,16 @@ pub trait Composer: Drop {
     fn as_slice(&self) -> &[u8]
         ensures octets { result.now ≡ (written self.now).octets }
         ensures is_target { IsTarget (written self.now) }
-        ensures fits { Fits room (length (written self.now).octets) };
+        ensures fits { Fits capacity (length (written self.now).octets) };
 
     /// Appends octets as they are. The compression table doesn't change.
     fn append_slice(&mut self, octets: &[u8]) -> Result<(), AppendError>
-        ensures { Appends room grows (put_octets octets.now) (written self.old) (written self.new)
+        ensures { Appends capacity grows (put_octets octets.now) (written self.old) (written self.new)
             result };
 
     /// Appends a name, compressed by the target's rule (RFC 1035 section 4.1.4).
     fn append_compressed_name<N: ToName>(&mut self, name: &N) -> Result<(), AppendError>
-        ensures { Appends room grows (put_name rule (N.name name.now)) (written self.old)
+        ensures { Appends capacity grows (put_name rule (N.name name.now)) (written self.old)
             (written self.new) result };
 
     /// Returns whether names are compressed.
@@ -87,7 +87,7 @@ const FIRST_CAPACITY: usize = 512;
 impl Composer for Vec<u8> {
     ghost rule = { Plain };
 
-    ghost room = { None };
+    ghost capacity = { None };
 
     ghost grows = { true };
 
@@ -157,7 +157,7 @@ impl CloneTarget for Vec<u8> {
 impl<const N: usize> Composer for ArrayVec<u8, N> {
     ghost rule = { Plain };
 
-    ghost room = { Some N };
+    ghost capacity = { Some N };
 
     ghost grows = { false };
 
@@ -215,7 +215,7 @@ impl<const N: usize> CloneTarget for ArrayVec<u8, N> {
 impl<T: Composer> Composer for &mut T {
     ghost rule = { T.rule };
 
-    ghost room = { T.room };
+    ghost capacity = { T.capacity };
 
     ghost grows = { T.grows };
 

@@ -16,12 +16,12 @@ pub record GoesOn (len : ℕ) (t u : Written) : Type 0 where
   pub cut : cut_to len u ≡ t
 
 -- this holds after an append, whether or not it succeeds
-pub goes_on : (len : ℕ) (t u v : Written) (room : Option ℕ) (grows : Bool) (piece : Piece) (r : Result (Unit {0}) AppendError)
-    → IsGrowing piece → GoesOn len t u → Appends room grows piece u v r → GoesOn len t v
-goes_on len t u v room grows piece (Ok x) growing on appends =
+pub goes_on : (len : ℕ) (t u v : Written) (capacity : Option ℕ) (grows : Bool) (piece : Piece) (r : Result (Unit {0}) AppendError)
+    → IsGrowing piece → GoesOn len t u → Appends capacity grows piece u v r → GoesOn len t v
+goes_on len t u v capacity grows piece (Ok x) growing on appends =
     let l = on.long in
     subst (GoesOn len t) (sym appends.ok) (record {
       long = let n = length-append u.octets (piece u.table (length u.octets)).octets in omega arith;
       cut = cut_to-lay piece u len growing l ∙ on.cut;
     })
-goes_on len t u v room grows piece (Err e) growing on appends = subst (GoesOn len t) (sym appends.err) on
+goes_on len t u v capacity grows piece (Err e) growing on appends = subst (GoesOn len t) (sym appends.err) on

@@ -26,8 +26,8 @@ fn tells_what_is_wrong(rt: HostRuntime) {
         assert_prints(&rt, alloc, error, text);
     }
     assert_prints(&rt, alloc, &ShortBuf, "buffer size exceeded");
-    let room = AppendError::from(ShortBuf);
-    assert_prints(&rt, alloc, &room, "buffer size exceeded");
+    let capacity = AppendError::from(ShortBuf);
+    assert_prints(&rt, alloc, &capacity, "buffer size exceeded");
     let memory = AppendError::from(AllocError);
     assert_prints(&rt, alloc, &memory, "out of memory");
 }

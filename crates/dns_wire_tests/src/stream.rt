@@ -42,7 +42,7 @@ fn growing(rt: &impl Abort, alloc: Global) -> StreamTarget<Vec<u8>>
 }
 
 #[test]
-fn has_room_for_the_length(rt: HostRuntime) {
+fn has_capacity_for_the_length(rt: HostRuntime) {
     let refused = StreamTarget::new(ArrayVec::<u8, 1>::new()).err();
     let row = "No room for prefix or header";
     assert_same(&rt, row, refused, Some(SHORT));

@@ -60,7 +60,7 @@ fn writes_over_octets(rt: HostRuntime) {
 }
 
 /// Appends to an `ArrayVec` of five octets.
-const ROOM: &[Step] = &[
+const CAPACITY: &[Step] = &[
     Step::Octets(b"\x00\x01", Ok(b"\x00\x01")),
     Step::Name(AB, Err(SHORT)),
     Step::Canonical(AB, Err(SHORT)),
@@ -81,8 +81,13 @@ pub(crate) const WANT: &[Step] = &[
 ];
 
 #[test]
-fn refuses_what_passes_the_room_or_the_memory(rt: HostRuntime) {
-    assert_row(&rt, "room for five octets", ArrayVec::<u8, 5>::new(), ROOM);
+fn refuses_what_exceeds_the_capacity_or_the_memory(rt: HostRuntime) {
+    assert_row(
+        &rt,
+        "room for five octets",
+        ArrayVec::<u8, 5>::new(),
+        CAPACITY,
+    );
     assert_row(&rt, "no memory", Refusing, WANT);
 }
 
@@ -96,7 +101,7 @@ impl Composer for Refusing {
 
     ghost rule = { Plain };
 
-    ghost room = { None };
+    ghost capacity = { None };
 
     ghost grows = { true };
 

@@ -6,7 +6,7 @@ use Rattle.dns_c.proofs.dns_build.Goals as goal
 
 pub returns-in-Err-clause-no_room : goal.returns-in-Err-clause-no_room
 returns-in-Err-clause-no_room c =
-    λ room. absurd (unbuilt_otherwise true Tree (header_of c.args.id c.args.flags) c.args.items.now _ (sym c.refuse.ensures.code ∙ room) c.in-Err.ensures.none)
+    λ capacity. absurd (unbuilt_otherwise true Tree (header_of c.args.id c.args.flags) c.args.items.now _ (sym c.refuse.ensures.code ∙ capacity) c.in-Err.ensures.none)
 
 pub returns-in-Err-clause-unbuilt : goal.returns-in-Err-clause-unbuilt
 returns-in-Err-clause-unbuilt c =

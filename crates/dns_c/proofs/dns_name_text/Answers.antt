@@ -12,8 +12,8 @@ returns-in-Ok-clause-text c =
 
 pub returns-in-Ok-clause-short : goal.returns-in-Ok-clause-short
 returns-in-Ok-clause-short c =
-    λ room.
+    λ capacity.
     let name = c.in-Ok.ensures.text in
     let short = name_text_short name.0 (encoded_name name.1) in
     let both = length-append (name_text name.0) (46 ∷ []) in
-    omega (arith, c.finish.ensures.room _ name.2 (λ written. let none = sym written ∙ room in omega arith))
+    omega (arith, c.finish.ensures.capacity _ name.2 (λ written. let none = sym written ∙ capacity in omega arith))

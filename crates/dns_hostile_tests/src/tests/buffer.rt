@@ -3,12 +3,12 @@ use std::fmt;
 
 /// The capacity of a buffer in octets: more than a name can have, and more than the messages here
 /// have.
-pub(crate) const ROOM: usize = 320;
+pub(crate) const CAPACITY: usize = 320;
 
 /// A list of octets. Octets past the capacity are dropped.
 #[derive(Clone, Copy, PartialEq, Eq)]
 pub(crate) struct Buffer {
-    octets: [u8; ROOM],
+    octets: [u8; CAPACITY],
     len: usize,
 }
 
@@ -16,7 +16,7 @@ impl Buffer {
     /// No octets.
     pub(crate) fn new() -> Self {
         Buffer {
-            octets: [0; ROOM],
+            octets: [0; CAPACITY],
             len: 0,
         }
     }
@@ -29,7 +29,7 @@ impl Buffer {
     /// Appends octets.
     pub(crate) fn with(mut self, octets: &[u8]) -> Self {
         for octet in octets {
-            if self.len < ROOM {
+            if self.len < CAPACITY {
                 self.octets[self.len] = *octet;
                 self.len += 1;
             }

@@ -1,5 +1,5 @@
 //! Converts what the library returns to plain values, which the plain reader returns too.
-use crate::tests::buffer::{Buffer, ROOM};
+use crate::tests::buffer::{Buffer, CAPACITY};
 use crate::tests::plain::{Entry, Fault, Header, Located};
 use arrayvec::ArrayVec;
 use dns_code::HeaderSection;
@@ -104,7 +104,7 @@ impl Given for RecordHeader<ParsedName<'_>> {
 
 /// The RDATA, its names uncompressed. No RDATA of a message here is too long for a buffer.
 pub(crate) fn expanded<D: ComposeRecordData>(data: &D) -> Buffer {
-    let mut octets: ArrayVec<u8, ROOM> = ArrayVec::new();
+    let mut octets: ArrayVec<u8, CAPACITY> = ArrayVec::new();
     match data.compose_rdata(&mut octets) {
         Ok(()) => Buffer::of(octets.as_slice()),
         Err(_) => Buffer::of(b"too long"),

@@ -47,9 +47,9 @@ pub parsed_whole : (name : ParsedName) → WholeName (uncompressed (labels name)
 parsed_whole name = ((labels name, name_at_in_own _ (parsed_is name)), refl)
 
 -- The labels of a `ParsedName` fit in 255 octets uncompressed, each after those before it.
-pub label_room : (name : ParsedName) (before label after : List ℕ) → before ++ (framed label ++ after) ≡ uncompressed (labels name)
+pub label_fits : (name : ParsedName) (before label after : List ℕ) → before ++ (framed label ++ after) ≡ uncompressed (labels name)
     → length before + length (framed label) ≤ 255
-label_room name before label after e =
+label_fits name before label after e =
     let all = ap length e ∙ length-uncompressed (labels name) in
     let short = (parsed_is name).short in
     omega (arith, all, short, length-append before (framed label ++ after), length-append (framed label) after)

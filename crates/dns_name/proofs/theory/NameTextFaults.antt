@@ -50,8 +50,8 @@ fault_known (NameTextFaulty.long_name {n = n} {size = size} s short long) (suc k
     let x : nat_eq n 63 ≡ false = grind (arith, nat_tests) in
     let y : nat_lt max_size (size + n + 2) ≡ true = grind (arith, nat_tests) in
     rw (first_is s, x, y) refl
-fault_known (NameTextFaulty.octet s short room more) zero h = absurd (omega (arith, h, first_shorter s))
-fault_known (NameTextFaulty.octet {n = n} {size = size} s short room more) (suc k) h =
+fault_known (NameTextFaulty.octet s short short_enough more) zero h = absurd (omega (arith, h, first_shorter s))
+fault_known (NameTextFaulty.octet {n = n} {size = size} s short short_enough more) (suc k) h =
     let x : nat_eq n 63 ≡ false = grind (arith, nat_tests) in
     let y : nat_lt max_size (size + n + 2) ≡ false = grind (arith, nat_tests) in
     rw (first_is s, x, y) (fault_known more k (omega (arith, h, first_shorter s)))
@@ -77,8 +77,8 @@ one_text_fault text f g (inr x) (inr y) = one_faulty x.1 y.1
 -- If the text after an octet that fits has no fault, the text has none.
 octet_step : {text rest : List ℕ} {o : ℕ} → SpellsFirst text o rest → (n size : ℕ) → n < 63 → size + n + 2 ≤ max_size
     → ((j : ℕ) → length rest ≤ j → fault_of_text j rest (n + 1) size ≡ None) → (k : ℕ) → length text ≤ k → fault_of_text k text n size ≡ None
-octet_step s n size short room after zero h = refl
-octet_step s n size short room after (suc k) h =
+octet_step s n size short short_enough after zero h = refl
+octet_step s n size short short_enough after (suc k) h =
     let x : nat_eq n 63 ≡ false = grind (arith, nat_tests) in
     let y : nat_lt max_size (size + n + 2) ≡ false = grind (arith, nat_tests) in
     rw (first_is s, x, y) (after k (omega (arith, h, first_shorter s)))
@@ -98,30 +98,30 @@ nil_step n size (suc k) = refl
 -- The same for a label.
 label_step : {front label : List ℕ} → SpellsLabel front label → (rest : List ℕ) (n m size : ℕ) → n + length label ≡ m → m ≤ 63 → size + m + 1 ≤ max_size
     → ((j : ℕ) → length rest ≤ j → fault_of_text j rest m size ≡ None) → (k : ℕ) → length (front ++ rest) ≤ k → fault_of_text k (front ++ rest) n size ≡ None
-label_step SpellsLabel.none rest n m size e short room after k h =
+label_step SpellsLabel.none rest n m size e short short_enough after k h =
     let same : m ≡ n = omega (arith, e) in
     subst (λ i. fault_of_text k rest i size ≡ None) same (after k h)
-label_step (SpellsLabel.octet {front = a} {text = b} {label = label} s l) rest n m size e short room after k h =
-    octet_step (record { front = a; whole = append_assoc a b rest; spelled = s }) n size (omega (arith, e, short)) (omega (arith, e, room))
-    (λ j within. label_step l rest (n + 1) m size (omega (arith, e)) short room after j within) k h
+label_step (SpellsLabel.octet {front = a} {text = b} {label = label} s l) rest n m size e short short_enough after k h =
+    octet_step (record { front = a; whole = append_assoc a b rest; spelled = s }) n size (omega (arith, e, short)) (omega (arith, e, short_enough))
+    (λ j within. label_step l rest (n + 1) m size (omega (arith, e)) short short_enough after j within) k h
 
 -- A text that represents the labels of a name has no fault.
 labels_step : {text : List ℕ} {name : Labels} → SpellsLabels text name → All IsLabel name → (size : ℕ) → size + name_size name ≤ max_size
     → (k : ℕ) → length text ≤ k → fault_of_text k text 0 size ≡ None
-labels_step (SpellsLabels.last {text = text} {label = label} l) all size room k h =
+labels_step (SpellsLabels.last {text = text} {label = label} l) all size short_enough k h =
     let one = All-head IsLabel label [] all in
     let whole = append-nil text in
     subst (λ t. fault_of_text k t 0 size ≡ None) whole
-    (label_step l [] 0 (length label) size (omega arith) one.short (omega (arith, room)) (λ j within. nil_step (length label) size j) k (omega (arith, h, ap length whole)))
-labels_step (SpellsLabels.closed {text = text} {label = label} l) all size room k h =
+    (label_step l [] 0 (length label) size (omega arith) one.short (omega (arith, short_enough)) (λ j within. nil_step (length label) size j) k (omega (arith, h, ap length whole)))
+labels_step (SpellsLabels.closed {text = text} {label = label} l) all size short_enough k h =
     let one = All-head IsLabel label [] all in
-    label_step l (dot ∷ []) 0 (length label) size (omega arith) one.short (omega (arith, room))
+    label_step l (dot ∷ []) 0 (length label) size (omega arith) one.short (omega (arith, short_enough))
     (λ j within. dot_step [] (length label) size one.some (λ i fits. nil_step 0 (size + length label + 1) i) j within) k h
-labels_step (SpellsLabels.more {front = front} {text = text} {label = label} {rest = rest} l others) all size room k h =
+labels_step (SpellsLabels.more {front = front} {text = text} {label = label} {rest = rest} l others) all size short_enough k h =
     let one = All-head IsLabel label rest all in
-    label_step l (dot ∷ text) 0 (length label) size (omega arith) one.short (omega (arith, room))
+    label_step l (dot ∷ text) 0 (length label) size (omega arith) one.short (omega (arith, short_enough))
     (λ j within. dot_step text (length label) size one.some
-    (λ i fits. labels_step others (All-tail IsLabel label rest all) (size + length label + 1) (omega (arith, room)) i fits) j within) k h
+    (λ i fits. labels_step others (All-tail IsLabel label rest all) (size + length label + 1) (omega (arith, short_enough)) i fits) j within) k h
 
 label_long : {front label : List ℕ} → SpellsLabel front label → length label ≤ length front
 label_long SpellsLabel.none = omega arith
@@ -219,7 +219,7 @@ record Rest (text : List ℕ) (n size : ℕ) : Type 0 where
   some : 0 < n + length label
   short : n + length label ≤ 63
   labels : All IsLabel others
-  room : size + n + length label + 1 + name_size others ≤ max_size
+  short_enough : size + n + length label + 1 + name_size others ≤ max_size
 
 abbrev Faulty : List ℕ → ℕ → ℕ → Type 0
 Faulty text n size = (f : PresentationError) × NameTextFaulty text n size f
@@ -243,31 +243,31 @@ rest_octet {rest = rest} {o = o} n size s x = record {
   some = omega arith;
   short = let h = x.short in omega (arith, h);
   labels = x.labels;
-  room = let h = x.room in omega (arith, h);
+  short_enough = let h = x.short_enough in omega (arith, h);
 }
 
 -- The text is at its end.
 rest_end : (n size : ℕ) → 0 < n → n ≤ 63 → size + n + 1 ≤ max_size → Rest [] n size
-rest_end n size some short room = record {
+rest_end n size some short short_enough = record {
   label = [];
   others = [];
   spelled = SpellsLabels.last SpellsLabel.none;
   some = omega (arith, some);
   short = omega (arith, short);
   labels = no_labels;
-  room = omega (arith, room);
+  short_enough = omega (arith, short_enough);
 }
 
 -- The text is a final dot.
 rest_dot : (n size : ℕ) → 0 < n → n ≤ 63 → size + n + 1 ≤ max_size → Rest (dot ∷ []) n size
-rest_dot n size some short room = record {
+rest_dot n size some short short_enough = record {
   label = [];
   others = [];
   spelled = SpellsLabels.closed SpellsLabel.none;
   some = omega (arith, some);
   short = omega (arith, short);
   labels = no_labels;
-  room = omega (arith, room);
+  short_enough = omega (arith, short_enough);
 }
 
 cons_label : (label : List ℕ) (others : Labels) → IsLabel label → All IsLabel others → All IsLabel (label ∷ others)
@@ -279,7 +279,7 @@ rest_more : (text : List ℕ) (n size : ℕ) → 0 < n → n ≤ 63 → Rest tex
 rest_more text n size some short x =
     let a = x.some in
     let b = x.short in
-    let c = x.room in
+    let c = x.short_enough in
     record {
       label = [];
       others = x.label ∷ x.others;
@@ -287,7 +287,7 @@ rest_more text n size some short x =
       some = omega (arith, some);
       short = omega (arith, short);
       labels = cons_label x.label x.others (record { some = omega (arith, a); short = omega (arith, b) }) x.labels;
-      room = omega (arith, c);
+      short_enough = omega (arith, c);
     }
 
 abbrev Decided : List ℕ → ℕ → ℕ → Type 0
@@ -299,16 +299,16 @@ at_octet n size s short next =
     elim (cases_lt n 63) [
       | inl fits ↦ elim (cases_lt max_size (size + n + 2)) [
         | inl long ↦ inr (LongName, NameTextFaulty.long_name s fits long)
-        | inr room ↦ elim (next fits room) [ inl x ↦ inl (rest_octet n size s x) | inr f ↦ inr (f.0, NameTextFaulty.octet s fits room f.1) ]
+        | inr short_enough ↦ elim (next fits short_enough) [ inl x ↦ inl (rest_octet n size s x) | inr f ↦ inr (f.0, NameTextFaulty.octet s fits short_enough f.1) ]
       ]
       | inr long ↦ inr (LongLabel, (let is : n ≡ 63 = omega (arith, short, long) in NameTextFaulty.long_label s is))
     ]
 
 -- The next character is a dot.
 at_dot : (text : List ℕ) (n size : ℕ) → n ≤ 63 → (0 < n → size + n + 1 ≤ max_size) → (0 < n → 0 < length text → Decided text 0 (size + n + 1)) → Decided (dot ∷ text) n size
-at_dot text zero size short room next = inr (EmptyLabel, NameTextFaulty.empty)
-at_dot [] (suc n) size short room next = inl (rest_dot (suc n) size (omega arith) short (room (omega arith)))
-at_dot (c ∷ text) (suc n) size short room next =
+at_dot text zero size short short_enough next = inr (EmptyLabel, NameTextFaulty.empty)
+at_dot [] (suc n) size short short_enough next = inl (rest_dot (suc n) size (omega arith) short (short_enough (omega arith)))
+at_dot (c ∷ text) (suc n) size short short_enough next =
     elim (next (omega arith) (omega arith)) [
       | inl x ↦ inl (rest_more (c ∷ text) (suc n) size (omega arith) short x)
       | inr f ↦ inr (f.0, (let some : 0 < suc n = omega arith in NameTextFaulty.after_dot some f.1))
@@ -317,21 +317,21 @@ at_dot (c ∷ text) (suc n) size short room next =
 -- No octet can be read.
 at_none : (c : ℕ) (text : List ℕ) (n size : ℕ) (d b : Bool) → nat_eq c dot ≡ d → nat_eq c backslash ≡ b → octet_read (c ∷ text) ≡ None
     → n ≤ 63 → (0 < n → size + n + 1 ≤ max_size) → (0 < n → 0 < length text → Decided text 0 (size + n + 1)) → Decided (c ∷ text) n size
-at_none c text n size true b p q none short room next =
+at_none c text n size true b p q none short short_enough next =
     let is : c ≡ dot = grind (arith, nat_tests) in
-    subst (λ x. Decided (x ∷ text) n size) (sym is) (at_dot text n size short room next)
-at_none c text n size false true p q none short room next =
+    subst (λ x. Decided (x ∷ text) n size) (sym is) (at_dot text n size short short_enough next)
+at_none c text n size false true p q none short short_enough next =
     let is : c ≡ backslash = grind (arith, nat_tests) in
     let gone : octet_read (backslash ∷ text) ≡ None = subst (λ x. octet_read (x ∷ text) ≡ None) is none in
     subst (λ x. Decided (x ∷ text) n size) (sym is) (inr (BadEscape, NameTextFaulty.escape (none_spelled (backslash ∷ text) gone)))
-at_none c text n size false false p q none short room next = inr (BadSymbol, NameTextFaulty.symbol (symbol_of c text p q none))
+at_none c text n size false false p q none short short_enough next = inr (BadSymbol, NameTextFaulty.symbol (symbol_of c text p q none))
 
 decided : (k : ℕ) (text : List ℕ) (n size : ℕ) → length text ≤ k → 0 < n + length text → n ≤ 63 → (0 < n → size + n + 1 ≤ max_size) → Decided text n size
-decided k [] n size h some short room = inl (rest_end n size (omega (arith, some)) short (room (omega (arith, some))))
-decided zero (c ∷ text) n size h some short room = absurd (omega (arith, h))
-decided (suc k) (c ∷ text) n size h some short room =
+decided k [] n size h some short short_enough = inl (rest_end n size (omega (arith, some)) short (short_enough (omega (arith, some))))
+decided zero (c ∷ text) n size h some short short_enough = absurd (omega (arith, h))
+decided (suc k) (c ∷ text) n size h some short short_enough =
     elim (octet_view (c ∷ text)) [
-      | inl none ↦ at_none c text n size _ _ refl refl none short room (λ a b. decided k text 0 (size + n + 1) (omega (arith, h)) (omega (arith, b)) (omega arith) (λ z. omega (arith, z)))
+      | inl none ↦ at_none c text n size _ _ refl refl none short short_enough (λ a b. decided k text 0 (size + n + 1) (omega (arith, h)) (omega (arith, b)) (omega arith) (λ z. omega (arith, z)))
       | inr s ↦ at_octet n size s.2 short (λ fits more. decided k s.1 (n + 1) size (omega (arith, h, first_shorter s.2)) (omega arith) (omega (arith, fits)) (λ z. omega (arith, more)))
     ]
 
@@ -343,7 +343,7 @@ some_text c text other =
         x.label ∷ x.others,
         inr (
           x.spelled,
-          (let a = x.some in let b = x.short in let r = x.room in
+          (let a = x.some in let b = x.short in let r = x.short_enough in
               record { labels = cons_label x.label x.others (record { some = omega (arith, a); short = omega (arith, b) }) x.labels; short = omega (arith, r) }),
         ),
       )

@@ -233,42 +233,42 @@ pub cut_to-lay : (piece : Piece) (t : Written) (w : ℕ) → IsGrowing piece →
 cut_to-lay piece t w g l = same_written _ _ (take-append-le w t.octets _ l) (cut-extends t.table _ (length t.octets) _ w l (g.grows t.table (length t.octets)))
 
 -- If n octets exceed the capacity, so do k ≥ n.
-passes_more : (room : Option ℕ) (n k : ℕ) → n ≤ k → Passes room n → Passes room k
+passes_more : (capacity : Option ℕ) (n k : ℕ) → n ≤ k → Passes capacity n → Passes capacity k
 passes_more None n k l h = h
 passes_more (Some r) n k l h = omega arith
 
 -- One append of an encoding composes it.
 pub appends_compose : AppendsCompose
-appends_compose room grows a t u (Ok x) h = record { ok = h.ok; err = h.err; answer = h.answer }
-appends_compose room grows a t u (Err ShortBuf) h = record { ok = h.ok; err = ap (cut_to (length t.octets)) h.err; answer = h.answer }
-appends_compose room grows a t u (Err OutOfMemory) h = record { ok = h.ok; err = ap (cut_to (length t.octets)) h.err; answer = h.answer.1 }
+appends_compose capacity grows a t u (Ok x) h = record { ok = h.ok; err = h.err; answer = h.answer }
+appends_compose capacity grows a t u (Err ShortBuf) h = record { ok = h.ok; err = ap (cut_to (length t.octets)) h.err; answer = h.answer }
+appends_compose capacity grows a t u (Err OutOfMemory) h = record { ok = h.ok; err = ap (cut_to (length t.octets)) h.err; answer = h.answer.1 }
 
 -- An encoding that is composed after a written one composes both.
 pub composes_both : ComposesBoth
-composes_both room grows a b t u v (Ok x) g e h = record {
+composes_both capacity grows a b t u v (Ok x) g e h = record {
   ok = h.ok ∙ (ap (lay b) e ∙ lay-both a b t);
   err = tt;
-  answer = subst (λ w. Fits room (length w.octets)) (ap (lay b) e ∙ lay-both a b t) h.answer;
+  answer = subst (λ w. Fits capacity (length w.octets)) (ap (lay b) e ∙ lay-both a b t) h.answer;
 }
-composes_both room grows a b t u v (Err d) g e h = record {
+composes_both capacity grows a b t u v (Err d) g e h = record {
   ok = tt;
   err =
       let longer : length t.octets ≤ length u.octets = rw e (rw length-append (omega arith)) in
       sym (cut_to-cut_to v (length t.octets) (length u.octets) longer) ∙ ap (cut_to (length t.octets)) h.err
       ∙ cut_to-cut_to u _ _ longer ∙ ap (cut_to (length t.octets)) e ∙ cut_to-lay a t (length t.octets) g (omega arith);
-  answer = subst (λ w. AnswersInSteps {X = Unit} room grows (length w.octets) (Err d)) (ap (lay b) e ∙ lay-both a b t) h.answer;
+  answer = subst (λ w. AnswersInSteps {X = Unit} capacity grows (length w.octets) (Err d)) (ap (lay b) e ∙ lay-both a b t) h.answer;
 }
 
 -- An error in composing the first encoding is one in composing both.
-stopped : (room : Option ℕ) (grows : Bool) (a b : Piece) (t u : Written) (e : AppendError)
-    → Composes room grows a t u {X = Unit} (Err e) → Composes room grows (both a b) t u {X = Unit} (Err e)
-stopped room grows a b t u ShortBuf h = record {
+stopped : (capacity : Option ℕ) (grows : Bool) (a b : Piece) (t u : Written) (e : AppendError)
+    → Composes capacity grows a t u {X = Unit} (Err e) → Composes capacity grows (both a b) t u {X = Unit} (Err e)
+stopped capacity grows a b t u ShortBuf h = record {
   ok = tt;
   err = h.err;
-  answer = passes_more room (length (lay a t).octets) (length (lay (both a b) t).octets) (rw (length-append, length-append, length-append) (omega arith)) h.answer;
+  answer = passes_more capacity (length (lay a t).octets) (length (lay (both a b) t).octets) (rw (length-append, length-append, length-append) (omega arith)) h.answer;
 }
-stopped room grows a b t u OutOfMemory h = record { ok = tt; err = h.err; answer = h.answer }
+stopped capacity grows a b t u OutOfMemory h = record { ok = tt; err = h.err; answer = h.answer }
 
 -- If composing the first of two encodings fails, so does composing both.
 pub composes_first : ComposesFirst
-composes_first room grows a b t u r q e is out h = rw out (stopped room grows a b t u e (rw is at h))
+composes_first capacity grows a b t u r q e is out h = rw out (stopped capacity grows a b t u e (rw is at h))

@@ -18,7 +18,7 @@ loop-found-preserved g c =
       | then-is_asked+in_ok-push_ref w ↦
           rw w.builder-is (record {
             pushes = pushes_next item asked c.args.table.now c.loop-found.found-index c.found-item.result _ c.loop-found-test.true c.found-item.is (sym c.is_asked.ensures ∙ w.if-is_asked.true)
-                c.args.builder.now c.loop-found.builder _ w.in_ok-push_ref.ensures.accepted w.in_ok-push_ref.ensures.room c.loop-found.invariant.pushes;
+                c.args.builder.now c.loop-found.builder _ w.in_ok-push_ref.ensures.accepted w.in_ok-push_ref.ensures.capacity c.loop-found.invariant.pushes;
           })
       | else-is_asked w ↦
           rw w.builder-is (record {

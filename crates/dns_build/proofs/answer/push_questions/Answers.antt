@@ -14,7 +14,7 @@ loop-question-preserved g c = record {
   pushing = λ s represents.
       let steps = rw c.in-Ok.is at c.in-Some.ensures.steps in
       let pushed = c.in_default-push.ensures in
-      takes-next _ _ _ s _ _ _ _ (readable-next _ _ _ steps) _ _ pushed.room pushed.accepted (c.loop-question.invariant.pushing s represents);
+      takes-next _ _ _ s _ _ _ _ (readable-next _ _ _ steps) _ _ pushed.capacity pushed.accepted (c.loop-question.invariant.pushing s represents);
 }
 
 pub returns-in-Err : goal.returns-in-Err

@@ -12,7 +12,7 @@ use Rattle.dns_build.proofs.answer.push_questions.Given as goal
 abbrev pub invariant-loop-question : goal.invariant-loop-question
 invariant-loop-question g l = record {
   pushing : InEach InQuestion g.T.Composer.rule l.initial.builder (λ s.
-      Pushing g.T.Composer.room g.T.Composer.grows g.T.Composer.rule s (readable_questions (message_octets l.msg)) (filter_map result_ok (questions_left l.asked)) l.builder);
+      Pushing g.T.Composer.capacity g.T.Composer.grows g.T.Composer.rule s (readable_questions (message_octets l.msg)) (filter_map result_ok (questions_left l.asked)) l.builder);
 }
 
 abbrev pub decreases-loop-question : goal.decreases-loop-question

@@ -5,7 +5,7 @@ use Rattle.dns_message.proofs.script.run.Goals as goal
 pub loop-call-preserved : goal.loop-call-preserved
 loop-call-preserved g c = record {
   goes_on = goes_on _ _ _ _ _ _ _ _ _ _ _ _ _ _ _ c.loop-call-test.true c.call-item.is c.push_reserved.ensures.items c.loop-call.invariant.goes_on c.step-next.ensures;
-  room = omega (arith, c.loop-call.invariant.room, c.push_reserved.ensures.len, c.push_reserved.ensures.capacity, c.loop-call-test.true);
+  capacity = omega (arith, c.loop-call.invariant.capacity, c.push_reserved.ensures.len, c.push_reserved.ensures.capacity, c.loop-call-test.true);
 }
 
 pub returns-clause-ran : goal.returns-clause-ran

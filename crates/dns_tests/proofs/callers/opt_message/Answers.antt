@@ -10,14 +10,14 @@ use Rattle.dns_build.specs.State.{State, InAdditional, move_to, with_record}
 use Rattle.dns_tests.proofs.callers.opt_message.Goals as goal
 
 -- an accepted record was gathered without an error
-without_error : (room : Option ℕ) (grows : Bool) (limit n count : ℕ) (a : Result (Unit {0}) AppendError) (v : Unit {0}) → OptAnswers room grows limit n count a (Ok v) → a ≡ Ok tt
-without_error room grows limit n count (Ok u) v h = refl
-without_error room grows limit n count (Err e) v h = absurd (cc)
+without_error : (capacity : Option ℕ) (grows : Bool) (limit n count : ℕ) (a : Result (Unit {0}) AppendError) (v : Unit {0}) → OptAnswers capacity grows limit n count a (Ok v) → a ≡ Ok tt
+without_error capacity grows limit n count (Ok u) v h = refl
+without_error capacity grows limit n count (Err e) v h = absurd (cc)
 
 -- and so was a record that is pushed
-was_done : (room : Option ℕ) (grows : Bool) (rule : Rule) (call : OptBuilder → Result (Unit {0}) AppendError → OptBuilder → Type 0) (s : State) (new : Built) (v : Unit {0})
-    (p : PushesOpt room grows rule call s new (Ok v)) → p.answer ≡ Ok tt
-was_done room grows rule call s new v p = without_error room grows s.limit (size_after rule (with_record InAdditional (opt_record p.g)) s) (length s.additionals) p.answer v p.answers
+was_done : (capacity : Option ℕ) (grows : Bool) (rule : Rule) (call : OptBuilder → Result (Unit {0}) AppendError → OptBuilder → Type 0) (s : State) (new : Built) (v : Unit {0})
+    (p : PushesOpt capacity grows rule call s new (Ok v)) → p.answer ≡ Ok tt
+was_done capacity grows rule call s new v p = without_error capacity grows s.limit (size_after rule (with_record InAdditional (opt_record p.g)) s) (length s.additionals) p.answer v p.answers
 
 pub returns : goal.returns
 returns g c =

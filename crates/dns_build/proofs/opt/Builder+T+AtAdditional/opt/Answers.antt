@@ -50,10 +50,10 @@ returns-in_err-push-clause-pushes g c = λ s represents.
         left = refl;
       };
       answers = closure_done _ _ _ _ _ _ _ c.in_ok-gather.was (refused_answers _ _ _ _ _ e
-          (λ is. subst (λ x. Passes g.T.Composer.room (size x)) same (h.short (ap Err is) s represents))
+          (λ is. subst (λ x. Passes g.T.Composer.capacity (size x)) same (h.short (ap Err is) s represents))
           (λ is. h.memory (ap Err is))
-          (λ is. subst (λ x. Fits g.T.Composer.room (size x) × (s.limit < size x)) same (h.limit (ap Err is) s represents))
-          (λ is. subst (λ x. Fits g.T.Composer.room (size x) × (size x ≤ s.limit) × (length s.additionals ≡ most_entries)) same (h.count (ap Err is) s represents)));
+          (λ is. subst (λ x. Fits g.T.Composer.capacity (size x) × (s.limit < size x)) same (h.limit (ap Err is) s represents))
+          (λ is. subst (λ x. Fits g.T.Composer.capacity (size x) × (size x ≤ s.limit) × (length s.additionals ≡ most_entries)) same (h.count (ap Err is) s represents)));
       is_gathered = tt;
       accepted = tt;
     })
@@ -78,7 +78,7 @@ returns-clause-pushes g c = λ s represents.
         left = refl;
       };
       answers = closure_done _ _ _ _ _ _ _ c.in_ok-gather.was
-          (subst (λ x. Fits g.T.Composer.room (size x) × (size x ≤ s.limit) × (length s.additionals < most_entries)) same (c.in_ok-push.ensures.room s represents));
+          (subst (λ x. Fits g.T.Composer.capacity (size x) × (size x ≤ s.limit) × (length s.additionals < most_entries)) same (c.in_ok-push.ensures.capacity s represents));
       is_gathered = made.is_gathered;
       accepted = subst (λ (header : Header). Represents InAdditional g.T.Composer.rule (with_header header pushed) c.set_header.new.self) header (c.set_header.ensures pushed there);
     }

@@ -12,7 +12,7 @@ loop-index-init c =
     let there = subst (λ (ss : List Suffix). IsRest c.args.content.now ss c.args.found.offset) (sym same) (_, found_refers _ c.args.labels.now c.args.found.from c.args.found.offset c.requires.add.found.there) in
     record {
       within = omega arith;
-      room = c.in_ok-reserve.ensures.ok;
+      capacity = c.in_ok-reserve.ensures.ok;
       entries = ap table_entries_in same ∙ none_added (table_entries_in c.args.self.now.suffixes.suffixes) c.args.count c.args.labels.now c.args.offset (length c.args.content.now);
       keyed = subst (λ (ss : List Suffix). AreKeyed c.args.content.now ss) (sym same) c.requires.is_of.0;
       found = there;
@@ -38,7 +38,7 @@ loop-index-preserved c =
     let all = key_next c.args.content.now _ c.loop-index.self.suffixes.suffixes c.args.labels.now c.args.offset _ _ c.args.count c.loop-index.index (c.loop-index.index - 1) c.start.result c.loop-index.rest c.label.result.now k c.loop-index.invariant.within c.requires.add c.loop-index.invariant.entries c.loop-index.invariant.keyed (c.loop-index.invariant.rest (let l = c.loop-index.invariant.within in omega arith)) c.label.ensures.label c.start.ensures.start in
     record {
       within = let l = c.loop-index.invariant.within in omega arith;
-      room = let r = c.push.ensures.room in let s = c.loop-index.invariant.room in omega arith;
+      capacity = let r = c.push.ensures.capacity in let s = c.loop-index.invariant.capacity in omega arith;
       entries = one_added (table_entries_in c.args.self.now.suffixes.suffixes) (table_entries_in c.loop-index.self.suffixes.suffixes) (table_entries_in c.push.new.self.suffixes) c.args.count c.args.labels.now c.args.offset (length c.args.content.now) c.loop-index.index (c.loop-index.index - 1) _ k c.loop-index.invariant.within within c.loop-index.invariant.entries (ap (λ n. c.args.offset + n) c.start.ensures.start) (ap table_entries_in c.push.ensures.suffixes);
       keyed = rw c.push.ensures.suffixes all.1;
       found = rw c.push.ensures.suffixes (all.3 _ c.loop-index.invariant.found);

@@ -7,7 +7,7 @@ use Rattle.dns_target.proofs.hash_index.HashIndexSuffixIndex.add_suffixes.Given 
 abbrev pub invariant-loop-index : goal.invariant-loop-index
 invariant-loop-index l = record {
   within : l.index ≤ l.count;
-  room : l.index ≤ l.self.suffixes.room;
+  capacity : l.index ≤ l.self.suffixes.capacity;
   entries : table_entries_in l.self.suffixes.suffixes ≡ with_suffixes (table_entries_in l.fn.self.suffixes.suffixes) (drop l.index (first_suffixes l.count l.labels l.offset)) (length l.content);
   keyed : AreKeyed l.content l.self.suffixes.suffixes;
   found : IsRest l.content l.self.suffixes.suffixes l.found.offset;

@@ -11,7 +11,7 @@ loop-index-init c =
       within = omega arith;
       entries = ap table_entries_at same ∙ none_added (table_entries_at c.args.self.now.suffixes) c.args.count c.args.labels.now c.args.offset (length c.args.content.now);
       hashed = subst (λ (xs : List HashedSuffix). AreHashed c.args.content.now xs) (sym same) c.requires.is_of;
-      room = let r = c.in_ok-reserve.ensures.ok in let size = ap length c.widen.ensures.suffixes in let capacity = c.widen.ensures.capacity in omega arith;
+      capacity = let r = c.in_ok-reserve.ensures.ok in let size = ap length c.widen.ensures.suffixes in let capacity = c.widen.ensures.capacity in omega arith;
     }
 
 pub start-requires : goal.start-requires
@@ -31,7 +31,7 @@ loop-index-preserved c =
       within = omega arith;
       entries = one_added (table_entries_at c.args.self.now.suffixes) (table_entries_at c.loop-index.self.suffixes) (table_entries_at c.push.new.self.suffixes) c.args.count c.args.labels.now c.args.offset (length c.args.content.now) c.loop-index.index (c.loop-index.index - 1) _ k l h c.loop-index.invariant.entries offset (ap table_entries_at c.push.ensures.suffixes);
       hashed = rw (c.push.ensures.suffixes, offset) (c.hash_by-hash.ensures ∙ ap hash_of (sym next.0), c.loop-index.invariant.hashed);
-      room = let one = ap length c.push.ensures.suffixes in let cap = c.push.ensures.capacity in let was = c.loop-index.invariant.room in omega arith;
+      capacity = let one = ap length c.push.ensures.suffixes in let cap = c.push.ensures.capacity in let was = c.loop-index.invariant.capacity in omega arith;
     }
 
 pub returns-clause-ok : goal.returns-clause-ok

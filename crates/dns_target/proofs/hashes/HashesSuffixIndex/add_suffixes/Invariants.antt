@@ -9,7 +9,7 @@ invariant-loop-index l = record {
   within : l.index ≤ l.count;
   entries : table_entries_at l.self.suffixes ≡ with_suffixes (table_entries_at l.fn.self.suffixes) (drop l.index (first_suffixes l.count l.labels l.offset)) (length l.content);
   hashed : AreHashed l.content l.self.suffixes;
-  room : length l.self.suffixes + l.index ≤ l.self.capacity;
+  capacity : length l.self.suffixes + l.index ≤ l.self.capacity;
 }
 
 abbrev pub decreases-loop-index : goal.decreases-loop-index

@@ -3,10 +3,10 @@ use Rattle.dns_name.specs.Names.{name_size}
 use Rattle.dns_target.proofs.TreeStates.{same_from, tree_added}
 use Rattle.dns_target.proofs.tree.TreeSuffixIndex.add_suffixes.Goals as goal
 
-pub grow-requires-clause-room : goal.grow-requires-clause-room
-grow-requires-clause-room c =
+pub grow-requires-clause-capacity : goal.grow-requires-clause-capacity
+grow-requires-clause-capacity c =
     let same = same_from c.args.content.now c.args.self.now.entries c.args.labels.now c.args.offset c.args.found.from c.args.count c.args.found.offset c.args.lookup.from c.args.lookup.rest c.requires.is_of (c.requires.planned c.if-count-gt0.true) c.if-count-gt0.true c.requires.add.found c.requires.hint.path c.requires.hint.end in
-    let room = c.in_ok-reserve.ensures.ok in
+    let capacity = c.in_ok-reserve.ensures.ok in
     omega arith
 
 pub grow-requires-clause-long : goal.grow-requires-clause-long
