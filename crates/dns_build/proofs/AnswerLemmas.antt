@@ -12,7 +12,7 @@ use Rattle.dns_section.specs.QuestionSection.{questions_left, to_come, position,
 use Rattle.dns_section.specs.QuestionsFrom.{questions_from}
 use Rattle.dns_section.specs.Skipping.{items_left}
 use Rattle.dns_section.specs.declared.question_section.QuestionSection.{QuestionSection}
-use Rattle.dns_build.specs.Answers.{AnswersQuestion, AreAccepted, AnswerHeaderIsSet, Asks, GivesEither, IsEither}
+use Rattle.dns_build.specs.Answers.{ReturnsQuestion, AreAccepted, AnswerHeaderIsSet, Asks, GivesEither, IsEither}
 use Rattle.dns_build.specs.BuilderStates.{Built, Represents, MovesState, InEach}
 use Rattle.dns_build.specs.State.{State, InQuestion, with_question, with_questions}
 use Rattle.dns_build.specs.declared.push_error.PushError.{PushError}
@@ -44,12 +44,12 @@ module _ (capacity : Option ℕ) (grows : Bool) (rule : Rule) (s : State) where
   none_accepted before x after is = absurd (none_there before after x is)
 
   -- if one more question can be pushed, all of them can
-  one_accepted : (xs : List QuestionItem) (x : QuestionItem) → AreAccepted capacity grows rule s xs → AnswersQuestion capacity grows rule x (with_questions xs s) (Ok tt)
+  one_accepted : (xs : List QuestionItem) (x : QuestionItem) → AreAccepted capacity grows rule s xs → ReturnsQuestion capacity grows rule x (with_questions xs s) (Ok tt)
       → AreAccepted capacity grows rule s (xs ++ x ∷ [])
   one_accepted xs x accepted more before y after is = by (at_end_or_before xs before after x y is)
     where
-      by : ((before ≡ xs) × (y ≡ x)) ⊎ ((less : List QuestionItem) × (xs ≡ before ++ y ∷ less)) → AnswersQuestion capacity grows rule y (with_questions before s) (Ok tt)
-      by (inl p) = subst (λ (q : QuestionItem × List QuestionItem). AnswersQuestion capacity grows rule q.0 (with_questions q.1 s) (Ok tt)) (λ i. (sym p.1 i, sym p.0 i)) more
+      by : ((before ≡ xs) × (y ≡ x)) ⊎ ((less : List QuestionItem) × (xs ≡ before ++ y ∷ less)) → ReturnsQuestion capacity grows rule y (with_questions before s) (Ok tt)
+      by (inl p) = subst (λ (q : QuestionItem × List QuestionItem). ReturnsQuestion capacity grows rule q.0 (with_questions q.1 s) (Ok tt)) (λ i. (sym p.1 i, sym p.0 i)) more
       by (inr p) = accepted before y p.0 p.1
 
   -- During a push of the questions `xs`: those before `rest` are pushed.
@@ -79,7 +79,7 @@ module _ (capacity : Option ℕ) (grows : Bool) (rule : Rule) (s : State) where
     after p = p.all ∙ ap (λ (ys : List QuestionItem). p.first ++ ys) is
 
     -- the next question is pushed
-    pub takes-next : InEach InQuestion rule old (λ t. AnswersQuestion capacity grows rule x t (Ok tt)) → MovesState InQuestion InQuestion rule (with_question x) old new
+    pub takes-next : InEach InQuestion rule old (λ t. ReturnsQuestion capacity grows rule x t (Ok tt)) → MovesState InQuestion InQuestion rule (with_question x) old new
         → Pushing xs rest old → Pushing xs less new
     takes-next fits moves p = record {
       first = p.first ++ x ∷ [];
@@ -91,7 +91,7 @@ module _ (capacity : Option ℕ) (grows : Bool) (rule : Rule) (s : State) where
     }
 
     -- pushing the next question fails
-    pub refuses-next : (e : PushError) → InEach InQuestion rule old (λ t. AnswersQuestion capacity grows rule x t (Err e)) → new ≡ old → Pushing xs rest old → Asks capacity grows rule s xs (Err e) new
+    pub refuses-next : (e : PushError) → InEach InQuestion rule old (λ t. ReturnsQuestion capacity grows rule x t (Err e)) → new ≡ old → Pushing xs rest old → Asks capacity grows rule s xs (Err e) new
     refuses-next e refused same p = (
       p.first,
       record { accepted = p.accepted; next = x; others = less; all = after p; refused = refused (with_questions p.first s) p.represents },

@@ -16,7 +16,7 @@ use Rattle.dns_build.specs.declared.push_error.PushError.{PushError}
 use Rattle.dns_build.specs.declared.push_error.PushError.TheVariants.{CountOverflow, LimitExceeded, ShortBuf, OutOfMemory}
 use Rattle.dns_build.specs.declared.copy_records_error.CopyRecordsError.{CopyRecordsError}
 use Rattle.dns_build.specs.declared.copy_records_error.CopyRecordsError.TheVariants.{Parse, Push}
-use Rattle.dns_build.proofs.OptLemmas.{refused_answers}
+use Rattle.dns_build.proofs.OptLemmas.{refused_returns}
 
 -- the clauses of a push, for one state
 pub pushes_record : (capacity : Option ℕ) (grows : Bool) (rule : Rule) (stage : Stage) (x : RecordItem) (s : State) (old new : Built) (result : Result (Unit {0}) PushError)
@@ -30,7 +30,7 @@ pub pushes_record : (capacity : Option ℕ) (grows : Bool) (rule : Rule) (stage 
 pushes_record capacity grows rule stage x s old new (Ok u) represents accepted same fits short memory limit count = (with_record stage x s, (fits s represents, refl), accepted s represents)
 pushes_record capacity grows rule stage x s old new (Err e) represents accepted same fits short memory limit count = (
   s,
-  (refused_answers capacity grows s.limit (size_after rule (with_record stage x) s) (length (records_at stage s)) e (λ is. short (ap Err is) s represents) (λ is. memory (ap Err is)) (λ is. limit (ap Err is) s represents) (λ is. count (ap Err is) s represents), refl),
+  (refused_returns capacity grows s.limit (size_after rule (with_record stage x) s) (length (records_at stage s)) e (λ is. short (ap Err is) s represents) (λ is. memory (ap Err is)) (λ is. limit (ap Err is) s represents) (λ is. count (ap Err is) s represents), refl),
   subst (Represents stage rule s) (sym same) represents,
 )
 

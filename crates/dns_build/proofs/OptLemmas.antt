@@ -12,9 +12,9 @@ use Rattle.dns_opt.proofs.theory.OptionsLemmas.{options_of-holds}
 use Rattle.dns_opt_builder.specs.Gathered.{Gathered, IsGathered, gathered, option_octets}
 use Rattle.dns_opt_builder.specs.declared.builder.OptBuilder.{OptBuilder}
 use Rattle.dns_item.specs.Items.{RecordItem}
-use Rattle.dns_build.specs.Opt.{opt_record, OptAnswers}
+use Rattle.dns_build.specs.Opt.{opt_record, OptReturns}
 use Rattle.dns_build.specs.State.{most_entries}
-use Rattle.dns_build.specs.BuilderStates.{PushAnswers, push_error}
+use Rattle.dns_build.specs.BuilderStates.{PushReturns, push_error}
 use Rattle.dns_build.specs.declared.push_error.PushError.{PushError}
 use Rattle.dns_build.specs.declared.push_error.PushError.TheVariants.{CountOverflow, LimitExceeded, ShortBuf, OutOfMemory}
 
@@ -23,18 +23,18 @@ pub same_item : (x : RecordItem) (g : Gathered) → x.owner ≡ [] → x.rtype �
 same_item x g o r c t p = λ i. record { owner = o i; rtype = r i; class = c i; ttl = t i; parts = p i }
 
 -- the result of a failed push, from the cause of each error
-pub refused_answers : (capacity : Option ℕ) (grows : Bool) (limit n count : ℕ) (e : PushError) → (e ≡ ShortBuf → Passes capacity n) → (e ≡ OutOfMemory → IsTrue grows) → (e ≡ LimitExceeded → Fits capacity n × (limit < n)) → (e ≡ CountOverflow → Fits capacity n × (n ≤ limit) × (count ≡ most_entries)) → PushAnswers capacity grows limit n count (Err e)
-refused_answers capacity grows limit n count CountOverflow s m l c = c refl
-refused_answers capacity grows limit n count LimitExceeded s m l c = l refl
-refused_answers capacity grows limit n count ShortBuf s m l c = s refl
-refused_answers capacity grows limit n count OutOfMemory s m l c = m refl
+pub refused_returns : (capacity : Option ℕ) (grows : Bool) (limit n count : ℕ) (e : PushError) → (e ≡ ShortBuf → Passes capacity n) → (e ≡ OutOfMemory → IsTrue grows) → (e ≡ LimitExceeded → Fits capacity n × (limit < n)) → (e ≡ CountOverflow → Fits capacity n × (n ≤ limit) × (count ≡ most_entries)) → PushReturns capacity grows limit n count (Err e)
+refused_returns capacity grows limit n count CountOverflow s m l c = c refl
+refused_returns capacity grows limit n count LimitExceeded s m l c = l refl
+refused_returns capacity grows limit n count ShortBuf s m l c = s refl
+refused_returns capacity grows limit n count OutOfMemory s m l c = m refl
 
 -- the result if the closure fails, and if it doesn't
-pub closure_refused : (capacity : Option ℕ) (grows : Bool) (limit n count : ℕ) (e : AppendError) (r : Result (Unit {0}) AppendError) → r ≡ Err e → OptAnswers capacity grows limit n count r (Err (push_error e))
-closure_refused capacity grows limit n count e r is = subst (λ (x : Result (Unit {0}) AppendError). OptAnswers capacity grows limit n count x (Err (push_error e))) (sym is) refl
+pub closure_refused : (capacity : Option ℕ) (grows : Bool) (limit n count : ℕ) (e : AppendError) (r : Result (Unit {0}) AppendError) → r ≡ Err e → OptReturns capacity grows limit n count r (Err (push_error e))
+closure_refused capacity grows limit n count e r is = subst (λ (x : Result (Unit {0}) AppendError). OptReturns capacity grows limit n count x (Err (push_error e))) (sym is) refl
 
-pub closure_done : (capacity : Option ℕ) (grows : Bool) (limit n count : ℕ) (r : Result (Unit {0}) AppendError) (result : Result (Unit {0}) PushError) → r ≡ Ok tt → PushAnswers capacity grows limit n count result → OptAnswers capacity grows limit n count r result
-closure_done capacity grows limit n count r result is told = subst (λ (x : Result (Unit {0}) AppendError). OptAnswers capacity grows limit n count x result) (sym is) told
+pub closure_done : (capacity : Option ℕ) (grows : Bool) (limit n count : ℕ) (r : Result (Unit {0}) AppendError) (result : Result (Unit {0}) PushError) → r ≡ Ok tt → PushReturns capacity grows limit n count result → OptReturns capacity grows limit n count r result
+closure_done capacity grows limit n count r result is told = subst (λ (x : Result (Unit {0}) AppendError). OptReturns capacity grows limit n count x result) (sym is) told
 
 -- if octets are a list of options, `options_of` gives this list
 list_in : (b : List ℕ) (o : Option (List OptionItem)) → options_of b ≡ o → IsTrue (is_some o) → AreOptions b (option_map_or (λ (xs : List OptionItem). xs) o [])

@@ -19,12 +19,12 @@ use Rattle.dns_opt_builder.specs.Gathered.{Gathered, IsGathered}
 use Rattle.dns_data.specs.Opt.{is_opt_data, opt_layout}
 use Rattle.dns_data.specs.RecordData.{only}
 use Rattle.dns_item.specs.Items.{RecordItem, RecordEntry, ReadsRecord, TellsRecord}
-use Rattle.dns_item.specs.DataAnswer.{HasSpan}
-use Rattle.dns_item.specs.DataAnswer.IsDataAnswer.{whole}
+use Rattle.dns_item.specs.ParsedData.{HasSpan}
+use Rattle.dns_item.specs.ParsedData.IsParsedData.{whole}
 use Rattle.dns_item.specs.ParsedRecord.{EncodedRecord}
 use Rattle.dns_item.specs.RecordReading.{item_of, HasData}
-use Rattle.dns_item.specs.TypedRecords.{with_parts, laid_out, answer_to}
-use Rattle.dns_item.proofs.theory.TypedLemmas.{data_is_answered}
+use Rattle.dns_item.specs.TypedRecords.{with_parts, laid_out, parsed_as}
+use Rattle.dns_item.proofs.theory.TypedLemmas.{data_is_parsed}
 use Rattle.dns_section.specs.Limited.{limited}
 use Rattle.dns_section.specs.Reading.Reading.{entry}
 use Rattle.dns_section.specs.RecordsFrom.{in_octets, records_in}
@@ -97,15 +97,15 @@ module _ (g : Gathered) (b : List ℕ) (p q : ℕ) (e : RecordEntry) (ok : IsGat
       (end, ap (λ (octets : List ℕ). Octets octets ∷ []) (sym filled), rw filled (gathered_accepted g ok))
 
   -- so `Opt` reads it as the record that was pushed
-  opt_answered : answer_to (only 41 opt_layout) encoded ≡ Some (Ok (opt_record g))
+  opt_answered : parsed_as (only 41 opt_layout) encoded ≡ Some (Ok (opt_record g))
   opt_answered =
       let parts : List Part = Octets (put_options g.options) ∷ [] in
       ap (λ (rtype : ℕ). option_map (laid_out encoded) (only 41 opt_layout rtype)) tells.rtype
-      ∙ ap (λ (r : Result (List Part) Fault). Some (with_parts e r)) (data_is_answered.only encoded opt_layout (Ok parts) (whole data_within data_at))
+      ∙ ap (λ (r : Result (List Part) Fault). Some (with_parts e r)) (data_is_parsed.only encoded opt_layout (Ok parts) (whole data_within data_at))
       ∙ ap (λ (x : RecordItem). let r : Result RecordItem Fault = Ok x in Some r) (same_item (item_of e parts) g tells.owner tells.rtype tells.class tells.ttl refl)
 
 -- `Opt` skips a record of another type
-others_unanswered : (x : EncodedRecord) → (x.entry.rtype ≡ 41 → ⊥) → answer_to (only 41 opt_layout) x ≡ None
+others_unanswered : (x : EncodedRecord) → (x.entry.rtype ≡ 41 → ⊥) → parsed_as (only 41 opt_layout) x ≡ None
 others_unanswered x other =
     let e : (x.entry.rtype == 41) ≡ false = search (rules, tests) in
     ap (λ (t : Bool). option_map (laid_out x) (if t then Some opt_layout else None)) e

@@ -7,7 +7,7 @@ use Rattle.dns_wire.specs.Pieces.{Rule}
 use Rattle.dns_build.specs.BuilderStates.{Built, MovesState, RepresentsSome, starts_of}
 use Rattle.dns_build.specs.State.{Stage, InBuilder, InQuestion, InAnswer, InAuthority, InAdditional, State}
 use Rattle.dns_build.specs.declared.push_error.PushError.{PushError}
-use Rattle.dns_build.proofs.Moves.{AnswersPush}
+use Rattle.dns_build.proofs.Moves.{ReturnsOfPush}
 use Rattle.dns_build.proofs.Steps.{record_depth}
 
 -- after a move
@@ -16,7 +16,7 @@ some_moved from to rule after old new moves some = ∥∥₁_map some (λ p. (af
 
 -- after a push
 pub some_pushed : (stage : Stage) (capacity : Option ℕ) (grows : Bool) (rule : Rule) (after : State → State) (count : State → ℕ) (old new : Built) (result : Result (Unit {0}) PushError)
-    → AnswersPush stage capacity grows rule after count old new result → RepresentsSome stage rule old → RepresentsSome stage rule new
+    → ReturnsOfPush stage capacity grows rule after count old new result → RepresentsSome stage rule old → RepresentsSome stage rule new
 some_pushed stage capacity grows rule after count old new (Ok u) push some = some_moved stage stage rule after old new push.accepted some
 some_pushed stage capacity grows rule after count old new (Err e) push some = subst (RepresentsSome stage rule) (sym push.refused) some
 

@@ -13,14 +13,14 @@ use Rattle.dns_data.specs.Layout.{Layout, IsLaidOut}
 use Rattle.dns_data.proofs.theory.EncodedParts.{encoded_parts_read}
 use Rattle.dns_wire.specs.Parts.{Part}
 use Rattle.dns_item.specs.Items.{RecordItem, RecordEntry, ReadsRecord, TellsRecord}
-use Rattle.dns_item.specs.DataAnswer.{HasSpan}
-use Rattle.dns_item.specs.DataAnswer.IsDataAnswer.{whole}
+use Rattle.dns_item.specs.ParsedData.{HasSpan}
+use Rattle.dns_item.specs.ParsedData.IsParsedData.{whole}
 use Rattle.dns_item.specs.ParsedRecord.{EncodedRecord}
 use Rattle.dns_item.specs.Record.{record_item}
 use Rattle.dns_item.specs.RecordReading.{item_of}
 use Rattle.dns_item.specs.declared.record.Record.{Record}
-use Rattle.dns_item.specs.TypedRecords.{with_parts, laid_out, answer_to, typed_answer}
-use Rattle.dns_item.proofs.theory.TypedLemmas.{data_is_answered, laid_out-answered, answer_to-answered}
+use Rattle.dns_item.specs.TypedRecords.{with_parts, laid_out, parsed_as, typed_result}
+use Rattle.dns_item.proofs.theory.TypedLemmas.{data_is_parsed, laid_out-answered, parsed_as-answered}
 use Rattle.dns_section.specs.AnyRecordIter.{every}
 use Rattle.dns_section.specs.Limited.{in_class_in, limited}
 use Rattle.dns_section.specs.RecordsFrom.{records_in}
@@ -65,7 +65,7 @@ module _ (x : RecordItem) (b : List ℕ) (p q : ℕ) (e : RecordEntry) (reads : 
   told : (layout : Layout) → IsLaidOut layout x.parts → laid_out (record { octets = b; entry = e }) layout ≡ Ok x
   told layout laid =
       let represents = encoded_parts_read b e.data_end e.data_start layout x.parts data_within.end tells.parts laid in
-      ap (with_parts e) (data_is_answered.only (record { octets = b; entry = e }) layout (Ok x.parts) (whole data_within represents))
+      ap (with_parts e) (data_is_parsed.only (record { octets = b; entry = e }) layout (Ok x.parts) (whole data_within represents))
       ∙ ap (λ (y : RecordItem). let r : Result RecordItem Fault = Ok y in r) (same_record e x tells.owner tells.rtype tells.class tells.ttl)
 
   encoded_as : EncodedAs b x (record { octets = b; entry = e })
@@ -90,7 +90,7 @@ pushed_records_are_encoded s b h which =
 module _ (layouts : ℕ → Option Layout) (b : List ℕ) where
   -- what a data type yields of such a record
   answered : (x : RecordItem) (encoded : EncodedRecord) → EncodedAs b x encoded → IsLaidOutBy layouts x
-      → answer_to layouts encoded ≡ option_map (λ (layout : Layout). let r : Result RecordItem Fault = Ok x in r) (layouts x.rtype)
+      → parsed_as layouts encoded ≡ option_map (λ (layout : Layout). let r : Result RecordItem Fault = Ok x in r) (layouts x.rtype)
   answered x encoded h laid =
       ap (λ (y : RecordItem). option_map (laid_out encoded) (layouts y.rtype)) h.item ∙ by (layouts x.rtype) laid
     where
@@ -153,20 +153,20 @@ typed_records_in_read_back s b h which layouts laid =
 
 module _ {D : Type 0} (rtype_of : D → ℕ) (parts_of : D → List Part) where
   -- a result that says the record `x` is a record that says it
-  is_record : (x : RecordItem) (result : Result (Record ParsedName D) ParseError) → typed_answer rtype_of parts_of result ≡ Ok x
+  is_record : (x : RecordItem) (result : Result (Record ParsedName D) ParseError) → typed_result rtype_of parts_of result ≡ Ok x
       → IsOkAnd result (λ r. record_item labels rtype_of parts_of r ≡ x)
   is_record x (Ok r) is = let item = record_item labels rtype_of parts_of r in let same : Ok item ≡ Ok x = is in cc
   is_record x (Err e) is = absurd (cc)
 
-  is_taken : (x : RecordItem) (result : Result (Option (Record ParsedName D)) ParseError) → option_map (typed_answer rtype_of parts_of) (result_transpose result) ≡ Some (Ok x)
+  is_taken : (x : RecordItem) (result : Result (Option (Record ParsedName D)) ParseError) → option_map (typed_result rtype_of parts_of) (result_transpose result) ≡ Some (Ok x)
       → IsOkAnd result (λ o. IsSomeAnd o (λ r. record_item labels rtype_of parts_of r ≡ x))
   is_taken x (Ok None) is = absurd (cc)
-  is_taken x (Ok (Some r)) is = is_record x (Ok r) (let answer = typed_answer rtype_of parts_of (Ok r) in let same : Some answer ≡ Some (Ok x) = is in cc)
+  is_taken x (Ok (Some r)) is = is_record x (Ok r) (let answer = typed_result rtype_of parts_of (Ok r) in let same : Some answer ≡ Some (Ok x) = is in cc)
   is_taken x (Err e) is = absurd (cc)
 
   -- what the layout of a record's type reads
   one_taken : (layouts : ℕ → Option Layout) (b : List ℕ) (x : RecordItem) (encoded : EncodedRecord) → EncodedAs b x encoded → IsTakenBy layouts x
-      → answer_to layouts encoded ≡ Some (Ok x)
+      → parsed_as layouts encoded ≡ Some (Ok x)
   one_taken layouts b x encoded h laid = ap (λ (y : RecordItem). option_map (laid_out encoded) (layouts y.rtype)) h.item ∙ by (layouts x.rtype) laid
     where
       by : (o : Option Layout) → IsSomeAnd o (λ layout. IsLaidOut layout x.parts) → option_map (laid_out encoded) o ≡ Some (Ok x)
@@ -174,11 +174,11 @@ module _ {D : Type 0} (rtype_of : D → ℕ) (parts_of : D → List Part) where
       by (Some layout) laid = ap (λ (r : Result RecordItem Fault). Some r) (h.answer layout laid)
 
   pub to_record_reads_back : (layouts : ℕ → Option Layout) → ToRecordReadsBack rtype_of parts_of layouts
-  to_record_reads_back layouts b x encoded result h laid answers =
-      is_taken x result (answer_to-answered rtype_of parts_of encoded h.there (layouts encoded.entry.rtype) result answers ∙ one_taken layouts b x encoded h laid)
+  to_record_reads_back layouts b x encoded result h laid returned =
+      is_taken x result (parsed_as-answered rtype_of parts_of encoded h.there (layouts encoded.entry.rtype) result returned ∙ one_taken layouts b x encoded h laid)
 
   pub to_any_record_reads_back : (layouts : ℕ → Layout) → ToAnyRecordReadsBack rtype_of parts_of layouts
-  to_any_record_reads_back layouts b x encoded result h laid answers =
+  to_any_record_reads_back layouts b x encoded result h laid returned =
       is_record x result
-      (laid_out-answered rtype_of parts_of encoded h.there (layouts encoded.entry.rtype) result answers
+      (laid_out-answered rtype_of parts_of encoded h.there (layouts encoded.entry.rtype) result returned
       ∙ ap (λ (y : RecordItem). laid_out encoded (layouts y.rtype)) h.item ∙ h.answer (layouts x.rtype) laid)

@@ -10,7 +10,7 @@ use Rattle.dns_question.specs.Questions.{QuestionItem}
 use Rattle.dns_section.specs.QuestionsFrom.{questions_from}
 use Rattle.dns_section.specs.Sections.{question_count}
 use Rattle.dns_build.specs.Opt.{with_rcode}
-use Rattle.dns_build.specs.BuilderStates.{Built, PushAnswers, Represents, size_after}
+use Rattle.dns_build.specs.BuilderStates.{Built, PushReturns, Represents, size_after}
 use Rattle.dns_build.specs.State.{State, InQuestion, InAnswer, move_to, with_header, with_question, with_questions}
 use Rattle.dns_build.specs.declared.push_error.PushError.{PushError}
 
@@ -35,8 +35,8 @@ abbrev pub answering : ℕ → List ℕ → State → State
 answering rcode b s = move_to InQuestion (with_header (answer_header rcode (header_in b) s.header) s)
 
 -- the result of pushing a question onto a state
-abbrev pub AnswersQuestion : Option ℕ → Bool → Rule → QuestionItem → State → Result (Unit {0}) PushError → Type 0
-AnswersQuestion capacity grows rule x s = PushAnswers capacity grows s.limit (size_after rule (with_question x) s) (length s.questions)
+abbrev pub ReturnsQuestion : Option ℕ → Bool → Rule → QuestionItem → State → Result (Unit {0}) PushError → Type 0
+ReturnsQuestion capacity grows rule x s = PushReturns capacity grows s.limit (size_after rule (with_question x) s) (length s.questions)
 
 -- a builder at the answer section represents the state, moved there
 abbrev pub IsAnswer : Rule → State → Built → Type 0
@@ -51,7 +51,7 @@ module _ (capacity : Option ℕ) (grows : Bool) (rule : Rule) (s : State) where
   -- each of these questions can be pushed after those before it
   abbrev pub AreAccepted : List QuestionItem → Type 0
   AreAccepted xs = (before : List QuestionItem) (x : QuestionItem) (after : List QuestionItem) → xs ≡ before ++ x ∷ after
-      → AnswersQuestion capacity grows rule x (with_questions before s) (Ok tt)
+      → ReturnsQuestion capacity grows rule x (with_questions before s) (Ok tt)
 
   -- the questions `first` can be pushed, and pushing the next one fails
   pub record RefusesAfter (xs first : List QuestionItem) (e : PushError) : Type 0 where
@@ -59,7 +59,7 @@ module _ (capacity : Option ℕ) (grows : Bool) (rule : Rule) (s : State) where
     pub next : QuestionItem
     pub others : List QuestionItem
     pub all : xs ≡ first ++ next ∷ others
-    pub refused : AnswersQuestion capacity grows rule next (with_questions first s) (Err e)
+    pub refused : ReturnsQuestion capacity grows rule next (with_questions first s) (Err e)
 
   -- a question builder with all questions, or with those before the one that fails
   abbrev pub Asks : List QuestionItem → Result (Unit {0}) PushError → Built → Type 0

@@ -11,7 +11,7 @@ use Rattle.dns_section.specs.Sections.{StartFault, StartsAt, record_count}
 use Rattle.dns_section.specs.declared.section.Section.{Section}
 use Rattle.dns_section.specs.declared.section.Section.TheVariants.{Answer, Authority, Additional}
 use Rattle.dns_build.specs.State.{Stage, InAdditional, stage_of, State, with_record, records_at, move_to}
-use Rattle.dns_build.specs.BuilderStates.{Built, Represents, PushAnswers, size_after}
+use Rattle.dns_build.specs.BuilderStates.{Built, Represents, PushReturns, size_after}
 use Rattle.dns_build.specs.declared.push_error.PushError.{PushError}
 use Rattle.dns_build.specs.declared.copy_records_error.CopyRecordsError.{CopyRecordsError}
 use Rattle.dns_build.specs.declared.copy_records_error.CopyRecordsError.TheVariants.{Parse, Push}
@@ -19,9 +19,9 @@ use Rattle.dns_build.specs.declared.copy_records_error.CopyRecordsError.TheVaria
 -- pushing a record into the section of a stage: it is appended, or it fails and nothing changes
 abbrev pub PushesRecord : Option ℕ → Bool → Rule → Stage → RecordItem → State → Result (Unit {0}) PushError → State → Type 0
 PushesRecord capacity grows rule stage x s (Ok _) after =
-    PushAnswers capacity grows s.limit (size_after rule (with_record stage x) s) (length (records_at stage s)) (Ok tt) × (after ≡ with_record stage x s)
+    PushReturns capacity grows s.limit (size_after rule (with_record stage x) s) (length (records_at stage s)) (Ok tt) × (after ≡ with_record stage x s)
 PushesRecord capacity grows rule stage x s (Err e) after =
-    PushAnswers capacity grows s.limit (size_after rule (with_record stage x) s) (length (records_at stage s)) (Err e) × (after ≡ s)
+    PushReturns capacity grows s.limit (size_after rule (with_record stage x) s) (length (records_at stage s)) (Err e) × (after ≡ s)
 
 -- pushing the record that the closure returned; for `None` nothing changes
 abbrev pub PushesKept : Option ℕ → Bool → Rule → Stage → Option RecordItem → State → Result (Unit {0}) PushError → State → Type 0

@@ -10,7 +10,7 @@ use Rattle.dns_opt_builder.specs.Gathered.{Gathered, IsGathered, gathered, nothi
 use Rattle.dns_opt_builder.specs.declared.builder.OptBuilder.{OptBuilder}
 use Rattle.dns_item.specs.Items.{RecordItem}
 use Rattle.dns_build.specs.State.{State, InAdditional, with_record, with_header}
-use Rattle.dns_build.specs.BuilderStates.{Built, Represents, PushAnswers, push_error, size_after}
+use Rattle.dns_build.specs.BuilderStates.{Built, Represents, PushReturns, push_error, size_after}
 use Rattle.dns_build.specs.declared.push_error.PushError.{PushError}
 
 -- The OPT record with the gathered fields and options: owned by the root, type 41, the UDP payload size as class, the other fields as TTL, and the options in order as RDATA.
@@ -40,15 +40,15 @@ pub record Gathers (call : OptBuilder → Result (Unit {0}) AppendError → OptB
   pub left : gathered after ≡ g
 
 -- the result of `opt`: the error of the closure, or else the result of the push
-abbrev pub OptAnswers : Option ℕ → Bool → ℕ → ℕ → ℕ → Result (Unit {0}) AppendError → Result (Unit {0}) PushError → Type 0
-OptAnswers capacity grows limit n count (Err e) result = result ≡ Err (push_error e)
-OptAnswers capacity grows limit n count (Ok _) result = PushAnswers capacity grows limit n count result
+abbrev pub OptReturns : Option ℕ → Bool → ℕ → ℕ → ℕ → Result (Unit {0}) AppendError → Result (Unit {0}) PushError → Type 0
+OptReturns capacity grows limit n count (Err e) result = result ≡ Err (push_error e)
+OptReturns capacity grows limit n count (Ok _) result = PushReturns capacity grows limit n count result
 
 -- The fields and options that a closure sets are pushed as an OPT record. On success the builder represents the state with the record and the rcode.
 pub record PushesOpt (capacity : Option ℕ) (grows : Bool) (rule : Rule) (call : OptBuilder → Result (Unit {0}) AppendError → OptBuilder → Type 0) (s : State) (new : Built) (result : Result (Unit {0}) PushError) : Type 0 where
   pub g : Gathered
   pub answer : Result (Unit {0}) AppendError
   pub gathers : Gathers call s.header answer g
-  pub answers : OptAnswers capacity grows s.limit (size_after rule (with_record InAdditional (opt_record g)) s) (length s.additionals) answer result
+  pub answers : OptReturns capacity grows s.limit (size_after rule (with_record InAdditional (opt_record g)) s) (length s.additionals) answer result
   pub is_gathered : OnOk result (IsGathered g)
   pub accepted : OnOk result (Represents InAdditional rule (with_opt g s) new)

@@ -7,11 +7,11 @@ use Rattle.dns_name.specs.ParsedName.{labels}
 use Rattle.dns_name.specs.declared.parsed_name.ParsedName.{ParsedName}
 use Rattle.dns_wire.specs.Parts.{Part, PartsAt}
 use Rattle.dns_data.specs.Layout.{Layout, IsLaidOut}
-use Rattle.dns_item.specs.DataAnswer.{HasSpan}
+use Rattle.dns_item.specs.ParsedData.{HasSpan}
 use Rattle.dns_item.specs.Items.{RecordItem}
 use Rattle.dns_item.specs.ParsedRecord.{EncodedRecord}
 use Rattle.dns_item.specs.Record.{record_item}
-use Rattle.dns_item.specs.RecordReading.{item_of, AnswersLaidOut, AnswersTaken}
+use Rattle.dns_item.specs.RecordReading.{item_of, ReturnsLaidOut, ReturnsTaken}
 use Rattle.dns_item.specs.TypedRecords.{laid_out}
 use Rattle.dns_item.specs.declared.record.Record.{Record}
 use Rattle.dns_read.specs.SectionStarts.{records_of}
@@ -83,12 +83,12 @@ module _ {D : Type 0} (rtype_of : D → ℕ) (parts_of : D → List Part) where
   abbrev pub ToRecordReadsBack : (ℕ → Option Layout) → Type 0
   ToRecordReadsBack layouts = (b : List ℕ) (x : RecordItem) (encoded : EncodedRecord) (result : Result (Option (Record ParsedName D)) ParseError)
       → EncodedAs b x encoded → IsTakenBy layouts x
-      → AnswersTaken rtype_of parts_of encoded.octets encoded.entry (layouts encoded.entry.rtype) result
+      → ReturnsTaken rtype_of parts_of encoded.octets encoded.entry (layouts encoded.entry.rtype) result
       → IsOkAnd result (λ o. IsSomeAnd o (λ r. record_item labels rtype_of parts_of r ≡ x))
 
   -- the same for a data type that accepts every type
   abbrev pub ToAnyRecordReadsBack : (ℕ → Layout) → Type 0
   ToAnyRecordReadsBack layouts = (b : List ℕ) (x : RecordItem) (encoded : EncodedRecord) (result : Result (Record ParsedName D) ParseError)
       → EncodedAs b x encoded → IsLaidOut (layouts x.rtype) x.parts
-      → AnswersLaidOut rtype_of parts_of encoded.octets encoded.entry (layouts encoded.entry.rtype) result
+      → ReturnsLaidOut rtype_of parts_of encoded.octets encoded.entry (layouts encoded.entry.rtype) result
       → IsOkAnd result (λ r. record_item labels rtype_of parts_of r ≡ x)

@@ -95,7 +95,7 @@ fn pushes_one_typed_option(rt: HostRuntime) {
 }
 
 #[test]
-fn answers_what_the_closure_answers(rt: HostRuntime) {
+fn returns_what_the_closure_returns(rt: HostRuntime) {
     let alloc = rt.alloc();
     let gather = |opt: &mut OptBuilder| {
         opt.set_rcode(OptRcode::from(Rcode::NXDOMAIN));

@@ -7,7 +7,7 @@ use Rattle.dns_name.proofs.theory.NameTextFaults.{one_text_name}
 use Rattle.dns_wire.specs.Pieces.{Rule}
 use Rattle.dns_octets.specs.declared.error.AppendError.{AppendError}
 use Rattle.dns_octets.specs.declared.error.AppendError.TheVariants as appending
-use Rattle.dns_wire.specs.Targets.{Answers, Fits, Passes}
+use Rattle.dns_wire.specs.Targets.{AppendReturns, Fits, Passes}
 use Rattle.dns_code.specs.HeaderSection.{header_size}
 use Rattle.dns_code.specs.declared.header.Header.{Header}
 use Rattle.dns_question.specs.Questions.{QuestionItem}
@@ -15,14 +15,14 @@ use Rattle.dns_item.specs.Items.{RecordItem}
 use Rattle.dns_section.specs.declared.section.Section.{Section}
 use Rattle.dns_section.specs.declared.section.Section.TheVariants.{Answer, Authority, Additional}
 use Rattle.dns_build.specs.State.{State, Stage, InBuilder, InQuestion, InAnswer, InAuthority, InAdditional, stage_of, depth_of, with_question, with_questions, with_record, with_records, most_entries}
-use Rattle.dns_build.specs.BuilderStates.{Built, Represents, MovesState, InEach, PushAnswers}
-use Rattle.dns_build.specs.Answers.{AnswersQuestion}
+use Rattle.dns_build.specs.BuilderStates.{Built, Represents, MovesState, InEach, PushReturns}
+use Rattle.dns_build.specs.Answers.{ReturnsQuestion}
 use Rattle.dns_build.specs.declared.push_error.PushError.{PushError}
 use Rattle.dns_build.specs.declared.push_error.PushError.TheVariants as pushing
 use Rattle.dns_c.specs.Codes.{append_fault, number_of, push_fault}
 use Rattle.dns_c.specs.Made.{SpellsNoName}
 use Rattle.dns_c.specs.Walk.{section_at}
-use Rattle.dns_c.specs.Built.{NewEntry, Question, Record, Means, AllMean, IsQuestionOf, IsRecordOf, LacksFields, IsRefused, FirstRefused, AnswersRecordPush, RefusesHeader, RefusesQuestion, RefusesRecord, RefusesEntry, IsUnbuilt, HasTooMany, beginning_of, questions_among, records_among}
+use Rattle.dns_c.specs.Built.{NewEntry, Question, Record, Means, AllMean, IsQuestionOf, IsRecordOf, LacksFields, IsRefused, FirstRefused, ReturnsRecordPush, RefusesHeader, RefusesQuestion, RefusesRecord, RefusesEntry, IsUnbuilt, HasTooMany, beginning_of, questions_among, records_among}
 use Rattle.dns_c.specs.declared.build.NewItem.{NewItem}
 use Rattle.dns_c.specs.declared.code.Fault.TheVariants.{BadSection, BadText, LongData, NoRoom, TooMany}
 
@@ -77,12 +77,12 @@ pub check_ends : (items left : List NewItem) → left ≡ [] → Checking items 
 check_ends items left is h = h.mean [] (subst (λ (xs : List NewItem). AllMean xs []) (sym is) tt)
 
 -- the reasons for which a push fails, one by one
-pub refused_answers : (capacity : Option ℕ) (grows : Bool) (limit n count : ℕ) (e : PushError) → (e ≡ pushing.ShortBuf → Passes capacity n) → (e ≡ pushing.OutOfMemory → IsTrue grows)
-    → (e ≡ pushing.LimitExceeded → Fits capacity n × (limit < n)) → (e ≡ pushing.CountOverflow → Fits capacity n × (n ≤ limit) × (count ≡ most_entries)) → PushAnswers capacity grows limit n count (Err e)
-refused_answers capacity grows limit n count pushing.ShortBuf short memory over full = short refl
-refused_answers capacity grows limit n count pushing.OutOfMemory short memory over full = memory refl
-refused_answers capacity grows limit n count pushing.LimitExceeded short memory over full = over refl
-refused_answers capacity grows limit n count pushing.CountOverflow short memory over full = full refl
+pub refused_returns : (capacity : Option ℕ) (grows : Bool) (limit n count : ℕ) (e : PushError) → (e ≡ pushing.ShortBuf → Passes capacity n) → (e ≡ pushing.OutOfMemory → IsTrue grows)
+    → (e ≡ pushing.LimitExceeded → Fits capacity n × (limit < n)) → (e ≡ pushing.CountOverflow → Fits capacity n × (n ≤ limit) × (count ≡ most_entries)) → PushReturns capacity grows limit n count (Err e)
+refused_returns capacity grows limit n count pushing.ShortBuf short memory over full = short refl
+refused_returns capacity grows limit n count pushing.OutOfMemory short memory over full = memory refl
+refused_returns capacity grows limit n count pushing.LimitExceeded short memory over full = over refl
+refused_returns capacity grows limit n count pushing.CountOverflow short memory over full = full refl
 
 -- An invariant of pushing questions: the first questions are pushed, and the rest are those of the remaining items.
 pub record Asking (rule : Rule) (left : List NewItem) (xs : List NewEntry) (s : State) (now : Built) : Type 0 where
@@ -122,7 +122,7 @@ module _ (rule : Rule) (rest : List NewItem) (item : NewItem) (xs : List NewEntr
 
   -- pushing a question fails
   asking_refused_by : (capacity : Option ℕ) (grows : Bool) (es : List NewEntry) (first : List QuestionItem) (y : QuestionItem) (e : PushError) → item.section ≡ 0 → IsQuestionOf item y → AllMean (item ∷ rest) es
-      → questions_among xs ≡ first ++ questions_among es → AnswersQuestion capacity grows rule y (with_questions first s) (Err e) → RefusesQuestion capacity grows rule (questions_among xs) s (number_of (push_fault e))
+      → questions_among xs ≡ first ++ questions_among es → ReturnsQuestion capacity grows rule y (with_questions first s) (Err e) → RefusesQuestion capacity grows rule (questions_among xs) s (number_of (push_fault e))
   asking_refused_by capacity grows [] first y e here is mean all refused = absurd mean
   asking_refused_by capacity grows (Question x ∷ es) first y e here is mean all refused = record {
     first = first;
@@ -158,7 +158,7 @@ module _ (rule : Rule) (left rest : List NewItem) (item : NewItem) (is : left �
   asking_named none = asking_named_by rule rest item xs s now h.rest here_means none
 
   -- a push fails
-  pub asking_refused : (capacity : Option ℕ) (grows : Bool) (y : QuestionItem) (e : PushError) → item.section ≡ 0 → IsQuestionOf item y → InEach InQuestion rule now (λ t. AnswersQuestion capacity grows rule y t (Err e))
+  pub asking_refused : (capacity : Option ℕ) (grows : Bool) (y : QuestionItem) (e : PushError) → item.section ≡ 0 → IsQuestionOf item y → InEach InQuestion rule now (λ t. ReturnsQuestion capacity grows rule y t (Err e))
       → RefusesQuestion capacity grows rule (questions_among xs) s (number_of (push_fault e))
   asking_refused capacity grows y e here is_question refused = asking_refused_by rule rest item xs s now capacity grows h.rest h.first y e here is_question here_means h.all (refused (with_questions h.first s) h.represents)
 
@@ -284,7 +284,7 @@ module _ (rule : Rule) (stage : Stage) (which : Section) (rest : List NewItem) (
 
   -- pushing a record fails
   stating_refused_by : (capacity : Option ℕ) (grows : Bool) (es : List NewEntry) (first : List RecordItem) (y : RecordItem) (e : PushError) → item.section + 1 ≡ depth_of (stage_of which) → IsRecordOf item y
-      → AllMean (item ∷ rest) es → records_among which xs ≡ first ++ records_among which es → AnswersRecordPush capacity grows rule stage y (with_records stage first s) (Err e)
+      → AllMean (item ∷ rest) es → records_among which xs ≡ first ++ records_among which es → ReturnsRecordPush capacity grows rule stage y (with_records stage first s) (Err e)
       → RefusesRecord capacity grows rule stage (records_among which xs) s (number_of (push_fault e))
   stating_refused_by capacity grows [] first y e at is mean all refused = absurd mean
   stating_refused_by capacity grows (Question x ∷ es) first y e at is mean all refused = absurd (not_first item.section which mean.0.0 at)
@@ -323,7 +323,7 @@ module _ (rule : Rule) (stage : Stage) (which : Section) (left rest : List NewIt
 
   -- a push fails
   pub stating_refused : (capacity : Option ℕ) (grows : Bool) (y : RecordItem) (e : PushError) → item.section + 1 ≡ depth_of (stage_of which) → IsRecordOf item y
-      → InEach stage rule now (λ t. AnswersRecordPush capacity grows rule stage y t (Err e)) → RefusesRecord capacity grows rule stage (records_among which xs) s (number_of (push_fault e))
+      → InEach stage rule now (λ t. ReturnsRecordPush capacity grows rule stage y t (Err e)) → RefusesRecord capacity grows rule stage (records_among which xs) s (number_of (push_fault e))
   stating_refused capacity grows y e at is_record refused =
       stating_refused_by rule stage which rest item xs s now capacity grows h.rest h.first y e at is_record these_mean h.all (refused (with_records stage h.first s) h.represents)
 
@@ -359,19 +359,19 @@ module _ (n : ℕ) (section : n ≡ number_of BadSection → ⊥) (text : n ≡ 
 -- A missing capacity is no reason for failure.
 
 -- a target without a bound fails only if it is out of memory or a count is full
-answers_otherwise : (grows : Bool) (limit n count : ℕ) (e : PushError) → number_of (push_fault e) ≡ number_of NoRoom → PushAnswers None grows limit n count (Err e) → ⊥
-answers_otherwise grows limit n count pushing.ShortBuf capacity refused = refused
-answers_otherwise grows limit n count pushing.OutOfMemory capacity refused = omega arith
-answers_otherwise grows limit n count pushing.LimitExceeded capacity refused = omega arith
-answers_otherwise grows limit n count pushing.CountOverflow capacity refused = omega arith
+returns_otherwise : (grows : Bool) (limit n count : ℕ) (e : PushError) → number_of (push_fault e) ≡ number_of NoRoom → PushReturns None grows limit n count (Err e) → ⊥
+returns_otherwise grows limit n count pushing.ShortBuf capacity refused = refused
+returns_otherwise grows limit n count pushing.OutOfMemory capacity refused = omega arith
+returns_otherwise grows limit n count pushing.LimitExceeded capacity refused = omega arith
+returns_otherwise grows limit n count pushing.CountOverflow capacity refused = omega arith
 
-header_otherwise : (grows : Bool) (e : AppendError) → number_of (append_fault e) ≡ number_of NoRoom → Answers {X = Unit {0}} None grows header_size (Err e) → ⊥
+header_otherwise : (grows : Bool) (e : AppendError) → number_of (append_fault e) ≡ number_of NoRoom → AppendReturns {X = Unit {0}} None grows header_size (Err e) → ⊥
 header_otherwise grows appending.ShortBuf capacity refused = refused
 header_otherwise grows appending.OutOfMemory capacity refused = omega arith
 
 entry_otherwise : (grows : Bool) (rule : Rule) (header : Header) (xs : List NewEntry) (n : ℕ) → n ≡ number_of NoRoom → RefusesEntry None grows rule header xs n → ⊥
-entry_otherwise grows rule header xs n capacity (inl h) = answers_otherwise grows _ _ _ h.error (sym h.number ∙ capacity) h.refused
-entry_otherwise grows rule header xs n capacity (inr h) = answers_otherwise grows _ _ _ h.1.error (sym h.1.number ∙ capacity) h.1.refused
+entry_otherwise grows rule header xs n capacity (inl h) = returns_otherwise grows _ _ _ h.error (sym h.number ∙ capacity) h.refused
+entry_otherwise grows rule header xs n capacity (inr h) = returns_otherwise grows _ _ _ h.1.error (sym h.1.number ∙ capacity) h.1.refused
 
 made_otherwise : (grows : Bool) (rule : Rule) (header : Header) (xs : List NewEntry) (n : ℕ) → n ≡ number_of NoRoom → RefusesHeader None grows rule n ⊎ RefusesEntry None grows rule header xs n → ⊥
 made_otherwise grows rule header xs n capacity (inl h) = header_otherwise grows h.error (sym h.number ∙ capacity) h.refused
@@ -388,11 +388,11 @@ header_others appending.ShortBuf many = omega arith
 header_others appending.OutOfMemory many = omega arith
 
 module _ (capacity : Option ℕ) (grows : Bool) (rule : Rule) where
-  answers_full : (limit n count : ℕ) (e : PushError) → number_of (push_fault e) ≡ number_of TooMany → PushAnswers capacity grows limit n count (Err e) → count ≡ most_entries
-  answers_full limit n count pushing.ShortBuf many refused = absurd (omega arith)
-  answers_full limit n count pushing.OutOfMemory many refused = absurd (omega arith)
-  answers_full limit n count pushing.LimitExceeded many refused = absurd (omega arith)
-  answers_full limit n count pushing.CountOverflow many refused = refused.2
+  returns_full : (limit n count : ℕ) (e : PushError) → number_of (push_fault e) ≡ number_of TooMany → PushReturns capacity grows limit n count (Err e) → count ≡ most_entries
+  returns_full limit n count pushing.ShortBuf many refused = absurd (omega arith)
+  returns_full limit n count pushing.OutOfMemory many refused = absurd (omega arith)
+  returns_full limit n count pushing.LimitExceeded many refused = absurd (omega arith)
+  returns_full limit n count pushing.CountOverflow many refused = refused.2
 
   -- after a full list there is one more
   more_than : {X : Type 0} (xs first others : List X) (next : X) → xs ≡ first ++ next ∷ others → length first ≡ most_entries → most_entries < length xs
@@ -402,13 +402,13 @@ module _ (capacity : Option ℕ) (grows : Bool) (rule : Rule) where
       omega arith
 
   questions_full : (header : Header) (xs : List NewEntry) (n : ℕ) → n ≡ number_of TooMany → RefusesQuestion capacity grows rule (questions_among xs) (beginning_of InQuestion header xs) n → most_entries < length (questions_among xs)
-  questions_full header xs n many h = more_than _ h.first h.others h.next h.all (answers_full _ _ (length h.first) h.error (sym h.number ∙ many) h.refused)
+  questions_full header xs n many h = more_than _ h.first h.others h.next h.all (returns_full _ _ (length h.first) h.error (sym h.number ∙ many) h.refused)
 
   records_full : (which : Section) (header : Header) (xs : List NewEntry) (n : ℕ) → n ≡ number_of TooMany
       → RefusesRecord capacity grows rule (stage_of which) (records_among which xs) (beginning_of (stage_of which) header xs) n → most_entries < length (records_among which xs)
-  records_full Answer header xs n many h = more_than _ h.first h.others h.next h.all (answers_full _ _ (length h.first) h.error (sym h.number ∙ many) h.refused)
-  records_full Authority header xs n many h = more_than _ h.first h.others h.next h.all (answers_full _ _ (length h.first) h.error (sym h.number ∙ many) h.refused)
-  records_full Additional header xs n many h = more_than _ h.first h.others h.next h.all (answers_full _ _ (length h.first) h.error (sym h.number ∙ many) h.refused)
+  records_full Answer header xs n many h = more_than _ h.first h.others h.next h.all (returns_full _ _ (length h.first) h.error (sym h.number ∙ many) h.refused)
+  records_full Authority header xs n many h = more_than _ h.first h.others h.next h.all (returns_full _ _ (length h.first) h.error (sym h.number ∙ many) h.refused)
+  records_full Additional header xs n many h = more_than _ h.first h.others h.next h.all (returns_full _ _ (length h.first) h.error (sym h.number ∙ many) h.refused)
 
   entry_full : (header : Header) (xs : List NewEntry) (n : ℕ) → n ≡ number_of TooMany → RefusesEntry capacity grows rule header xs n
       → (most_entries < length (questions_among xs)) ⊎ ((which : Section) × (most_entries < length (records_among which xs)))
@@ -428,11 +428,11 @@ module _ (capacity : Option ℕ) (grows : Bool) (rule : Rule) where
 
 module _ (capacity : Option ℕ) (grows : Bool) (rule : Rule) (header : Header) (items : List NewItem) (xs : List NewEntry) (mean : AllMean items xs) where
   -- at the header section
-  header_refused : {X : Type 0} (r : Result X AppendError) (e : AppendError) → r ≡ Err e → Answers capacity grows header_size r → Answers {X = Unit {0}} capacity grows header_size (Err e)
-  header_refused {X} r appending.ShortBuf is answer = subst (λ (q : Result X AppendError). Answers capacity grows header_size q) is answer
-  header_refused {X} r appending.OutOfMemory is answer = subst (λ (q : Result X AppendError). Answers capacity grows header_size q) is answer
+  header_refused : {X : Type 0} (r : Result X AppendError) (e : AppendError) → r ≡ Err e → AppendReturns capacity grows header_size r → AppendReturns {X = Unit {0}} capacity grows header_size (Err e)
+  header_refused {X} r appending.ShortBuf is answer = subst (λ (q : Result X AppendError). AppendReturns capacity grows header_size q) is answer
+  header_refused {X} r appending.OutOfMemory is answer = subst (λ (q : Result X AppendError). AppendReturns capacity grows header_size q) is answer
 
-  pub unbuilt_header : {X : Type 0} (r : Result X AppendError) (e : AppendError) → r ≡ Err e → Answers capacity grows header_size r → IsUnbuilt capacity grows rule header items (number_of (append_fault e))
+  pub unbuilt_header : {X : Type 0} (r : Result X AppendError) (e : AppendError) → r ≡ Err e → AppendReturns capacity grows header_size r → IsUnbuilt capacity grows rule header items (number_of (append_fault e))
   unbuilt_header r e is answer = inr (xs, mean, inl (record { error = e; refused = header_refused r e is answer; number = refl }))
 
   -- at a question

@@ -15,13 +15,13 @@ use Rattle.dns_data.specs.Layout.{Layout}
 use Rattle.dns_data.specs.Printing.{numbers_text, opaque_text}
 use Rattle.dns_data.specs.Soa.{serial_of, refresh_of, retry_of, expire_of, minimum_of, number_octets}
 use Rattle.dns_data.specs.declared.soa.Soa.{Soa}
-use Rattle.dns_item.specs.DataAnswer.{HasSpan}
-use Rattle.dns_item.specs.DataAnswer.IsDataAnswer.{whole, fault}
+use Rattle.dns_item.specs.ParsedData.{HasSpan}
+use Rattle.dns_item.specs.ParsedData.IsParsedData.{whole, fault}
 use Rattle.dns_item.specs.ParsedRecord.{EncodedRecord}
 use Rattle.dns_item.specs.Record.{data_of}
 use Rattle.dns_item.specs.RecordReading.{GivesTaken}
 use Rattle.dns_item.specs.declared.record.Record.{Record}
-use Rattle.dns_item.proofs.theory.TypedLemmas.{data_is_answered}
+use Rattle.dns_item.proofs.theory.TypedLemmas.{data_is_parsed}
 use Rattle.dns_show.specs.Show.{IsRead, data_parts, zone_numbers_text}
 use Rattle.dns_c.specs.Texts.{absolute_name, hex_octets}
 
@@ -39,7 +39,7 @@ module _ (x : EncodedRecord) (read : IsRead x) where
   pub given_parts : {D : Type 0} (rtype_of : D → ℕ) (parts_of : D → List Part) (r : Record ParsedName D) (taken : Option Layout)
       → GivesTaken rtype_of parts_of x.octets x.entry taken (Ok (Some r)) → Some (parts_of (data_of r)) ≡ option_and_then (data_parts x) taken
   given_parts rtype_of parts_of r None h = absurd h
-  given_parts rtype_of parts_of r (Some layout) h = sym (ap result_ok (data_is_answered.only x layout (Ok (parts_of (data_of r))) (whole span h.1)))
+  given_parts rtype_of parts_of r (Some layout) h = sym (ap result_ok (data_is_parsed.only x layout (Ok (parts_of (data_of r))) (whole span h.1)))
 
   -- there are none if it doesn't accept the record's type
   pub none_taken : {D : Type 0} (rtype_of : D → ℕ) (parts_of : D → List Part) (taken : Option Layout) → GivesTaken rtype_of parts_of x.octets x.entry taken (Ok None) → None ≡ option_and_then (data_parts x) taken
@@ -50,7 +50,7 @@ module _ (x : EncodedRecord) (read : IsRead x) where
   pub fault_taken : {D : Type 0} (rtype_of : D → ℕ) (parts_of : D → List Part) (e : ParseError) (taken : Option Layout) → GivesTaken rtype_of parts_of x.octets x.entry taken (Err e)
       → None ≡ option_and_then (data_parts x) taken
   fault_taken rtype_of parts_of e None h = absurd h
-  fault_taken rtype_of parts_of e (Some layout) h = sym (ap result_ok (data_is_answered.only x layout (Err (fault_of e)) (fault span h)))
+  fault_taken rtype_of parts_of e (Some layout) h = sym (ap result_ok (data_is_parsed.only x layout (Err (fault_of e)) (fault span h)))
 
 -- the numbers of SOA have 32 bits
 pub record NumbersFit (zone : Soa ParsedName) : Type 0 where

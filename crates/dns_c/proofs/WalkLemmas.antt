@@ -32,7 +32,7 @@ use Rattle.dns_section.proofs.theory.SectionLemmas.{starts_after}
 use Rattle.dns_read.proofs.theory.SectionStartLemmas.{start_found, no_answers, no_authorities, no_additionals, no_reading}
 use Rattle.dns_question.specs.AfterNames.FieldsFaultAt.{name as in_name}
 use Rattle.dns_c.proofs.NameFaultLemmas.{form_in_name}
-use Rattle.dns_c.specs.Steps.{left_from, IsHeader, IsOpen, Opens, AnswersQuestion, AnswersRecord, AnswersEntry, Spans, Tells}
+use Rattle.dns_c.specs.Steps.{left_from, IsHeader, IsOpen, Opens, ReturnsQuestion, ReturnsRecord, ReturnsEntry, Spans, Tells}
 use Rattle.dns_c.specs.declared.walk.Cursor.{Cursor}
 use Rattle.dns_c.specs.declared.walk.Header.{Header}
 use Rattle.dns_c.specs.declared.walk.Item.{Item}
@@ -143,7 +143,7 @@ pub positive : (n : ℕ) → (n ≡ 0 → ⊥) → (m : ℕ) × (n ≡ suc m)
 positive zero other = absurd (other refl)
 positive (suc m) other = (m, refl)
 
-pub entry_of_question : (b : List ℕ) (cursor : Cursor) (r : Result (Item × ℕ) ParseError) → cursor.section ≡ 0 → AnswersQuestion b cursor.place r → AnswersEntry b cursor r
+pub entry_of_question : (b : List ℕ) (cursor : Cursor) (r : Result (Item × ℕ) ParseError) → cursor.section ≡ 0 → ReturnsQuestion b cursor.place r → ReturnsEntry b cursor r
 entry_of_question b cursor (Ok found) first h = (
   Asked h.0,
   h.2,
@@ -154,8 +154,8 @@ entry_of_question b cursor (Ok found) first h = (
 entry_of_question b cursor (Err e) first h =
     λ n more. ap (λ s. left_at b s cursor.left cursor.place) first ∙ ap (λ k. left_at b 0 k cursor.place) more ∙ question_fault b n cursor.place (fault_of e) h
 
-pub entry_of_record : (b : List ℕ) (cursor : Cursor) (r : Result (Item × ℕ) ParseError) (s : ℕ) → cursor.section ≡ suc s → cursor.section ≤ 3 → AnswersRecord b cursor.section cursor.place r
-    → AnswersEntry b cursor r
+pub entry_of_record : (b : List ℕ) (cursor : Cursor) (r : Result (Item × ℕ) ParseError) (s : ℕ) → cursor.section ≡ suc s → cursor.section ≤ 3 → ReturnsRecord b cursor.section cursor.place r
+    → ReturnsEntry b cursor r
 entry_of_record b cursor (Ok found) s at below h =
     let section : found.0.section ≡ suc s = h.3 ∙ at in (
       Stated (section_at (suc s)) h.0,
@@ -173,29 +173,29 @@ told_within : (b : List ℕ) (item : Item) (x : Entry) → Tells b item x → it
 told_within b item (Asked x) h = let none_there = h.data_len in let within = h.within in omega arith
 told_within b item (Stated which x) h = h.0.within
 
-pub answered_within : (b : List ℕ) (cursor : Cursor) (r : Result (Item × ℕ) ParseError) → AnswersEntry b cursor r → IfOk r (λ found. found.0.«data» + found.0.data_len ≤ length b)
+pub answered_within : (b : List ℕ) (cursor : Cursor) (r : Result (Item × ℕ) ParseError) → ReturnsEntry b cursor r → IfOk r (λ found. found.0.«data» + found.0.data_len ≤ length b)
 answered_within b cursor (Ok found) h = told_within b found.0 h.0 h.1
 answered_within b cursor (Err e) h = tt
 
 -- An entry begins at the cursor, and belongs to the cursor's section.
 
-pub question_at_offset : (b : List ℕ) (cursor : Cursor) (r : Result (Item × ℕ) ParseError) → cursor.section ≡ 0 → AnswersQuestion b cursor.place r
+pub question_at_offset : (b : List ℕ) (cursor : Cursor) (r : Result (Item × ℕ) ParseError) → cursor.section ≡ 0 → ReturnsQuestion b cursor.place r
     → IfOk r (λ found. Spans found.0 cursor.place found.1) → IfOk r (λ found. Spans found.0 cursor.place found.1 × (found.0.section ≡ cursor.section))
 question_at_offset b cursor (Ok found) first h spans = (spans, h.2.section ∙ sym first)
 question_at_offset b cursor (Err e) first h spans = tt
 
-pub record_at_offset : (b : List ℕ) (cursor : Cursor) (r : Result (Item × ℕ) ParseError) → AnswersRecord b cursor.section cursor.place r
+pub record_at_offset : (b : List ℕ) (cursor : Cursor) (r : Result (Item × ℕ) ParseError) → ReturnsRecord b cursor.section cursor.place r
     → IfOk r (λ found. Spans found.0 cursor.place found.1) → IfOk r (λ found. Spans found.0 cursor.place found.1 × (found.0.section ≡ cursor.section))
 record_at_offset b cursor (Ok found) h spans = (spans, h.3)
 record_at_offset b cursor (Err e) h spans = tt
 
 -- If an entry is malformed (`Form`), its name is.
 
-pub question_form : (b : List ℕ) (p : ℕ) (r : Result (Item × ℕ) ParseError) → AnswersQuestion b p r → IfErr r (λ e. fault_of e ≡ Form → FaultAt b p Form)
+pub question_form : (b : List ℕ) (p : ℕ) (r : Result (Item × ℕ) ParseError) → ReturnsQuestion b p r → IfErr r (λ e. fault_of e ≡ Form → FaultAt b p Form)
 question_form b p (Ok found) h = tt
 question_form b p (Err e) h = form_in_name b _ p (fault_of e) h
 
-pub record_form : (b : List ℕ) (section p : ℕ) (r : Result (Item × ℕ) ParseError) → AnswersRecord b section p r → IfErr r (λ e. fault_of e ≡ Form → FaultAt b p Form)
+pub record_form : (b : List ℕ) (section p : ℕ) (r : Result (Item × ℕ) ParseError) → ReturnsRecord b section p r → IfErr r (λ e. fault_of e ≡ Form → FaultAt b p Form)
 record_form b section p (Ok found) h = tt
 record_form b section p (Err e) h = form_in_name b _ p (fault_of e) h
 

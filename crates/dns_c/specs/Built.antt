@@ -7,7 +7,7 @@ use Rattle.dns_name.specs.Names.{Labels}
 use Rattle.dns_name.specs.NameTexts.{SpellsName}
 use Rattle.dns_wire.specs.Parts.{Octets}
 use Rattle.dns_wire.specs.Pieces.{Rule}
-use Rattle.dns_wire.specs.Targets.{Answers}
+use Rattle.dns_wire.specs.Targets.{AppendReturns}
 use Rattle.dns_code.specs.HeaderSection.{header_size}
 use Rattle.dns_code.specs.declared.header.Header.{Header}
 use Rattle.dns_question.specs.Questions.{QuestionItem}
@@ -15,8 +15,8 @@ use Rattle.dns_item.specs.Items.{RecordItem}
 use Rattle.dns_section.specs.declared.section.Section.{Section}
 use Rattle.dns_section.specs.declared.section.Section.TheVariants.{Answer, Authority, Additional}
 use Rattle.dns_build.specs.State.{State, Stage, InQuestion, InAdditional, stage_of, move_to, rewound, with_questions, with_record, with_records, records_at, most_entries}
-use Rattle.dns_build.specs.BuilderStates.{PushAnswers, fresh, size_after}
-use Rattle.dns_build.specs.Answers.{AnswersQuestion}
+use Rattle.dns_build.specs.BuilderStates.{PushReturns, fresh, size_after}
+use Rattle.dns_build.specs.Answers.{ReturnsQuestion}
 use Rattle.dns_build.specs.MessageOf.{IsMessageOf}
 use Rattle.dns_build.specs.declared.push_error.PushError.{PushError}
 use Rattle.dns_c.specs.Codes.{append_fault, number_of, push_fault}
@@ -125,15 +125,15 @@ abbrev pub beginning_of : Stage → Header → List NewEntry → State
 beginning_of stage header xs = rewound stage (move_to stage (holding header xs))
 
 -- what pushing a record onto a state returns
-abbrev pub AnswersRecordPush : Option ℕ → Bool → Rule → Stage → RecordItem → State → Result (Unit {0}) PushError → Type 0
-AnswersRecordPush capacity grows rule stage x s = PushAnswers capacity grows s.limit (size_after rule (with_record stage x) s) (length (records_at stage s))
+abbrev pub ReturnsRecordPush : Option ℕ → Bool → Rule → Stage → RecordItem → State → Result (Unit {0}) PushError → Type 0
+ReturnsRecordPush capacity grows rule stage x s = PushReturns capacity grows s.limit (size_after rule (with_record stage x) s) (length (records_at stage s))
 
 -- Why a target refuses what is written, and the number that reports it. `capacity`, `grows` and `rule` are the target's capacity, whether it allocates, and how it writes names.
 module _ (capacity : Option ℕ) (grows : Bool) (rule : Rule) where
   -- the target refuses the header section. RFC 1035 section 4.1.1
   pub record RefusesHeader (n : ℕ) : Type 0 where
     pub error : AppendError
-    pub refused : Answers {X = Unit {0}} capacity grows header_size (Err error)
+    pub refused : AppendReturns {X = Unit {0}} capacity grows header_size (Err error)
     pub number : n ≡ number_of (append_fault error)
 
   -- the first of these questions are pushed onto a state, and pushing the next one fails. RFC 1035 section 4.1.2
@@ -143,7 +143,7 @@ module _ (capacity : Option ℕ) (grows : Bool) (rule : Rule) where
     pub others : List QuestionItem
     pub all : xs ≡ first ++ next ∷ others
     pub error : PushError
-    pub refused : AnswersQuestion capacity grows rule next (with_questions first s) (Err error)
+    pub refused : ReturnsQuestion capacity grows rule next (with_questions first s) (Err error)
     pub number : n ≡ number_of (push_fault error)
 
   -- the first of these records of a stage are pushed onto a state, and pushing the next one fails. RFC 1035 section 4.1.3
@@ -153,7 +153,7 @@ module _ (capacity : Option ℕ) (grows : Bool) (rule : Rule) where
     pub others : List RecordItem
     pub all : xs ≡ first ++ next ∷ others
     pub error : PushError
-    pub refused : AnswersRecordPush capacity grows rule stage next (with_records stage first s) (Err error)
+    pub refused : ReturnsRecordPush capacity grows rule stage next (with_records stage first s) (Err error)
     pub number : n ≡ number_of (push_fault error)
 
   -- pushing an entry fails, after the header and the entries before it. RFC 1035 section 4.1

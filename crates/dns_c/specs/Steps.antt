@@ -76,20 +76,20 @@ pub record Spans (item : Item) (p q : ℕ) : Type 0 where
   pub end : item.«data» + item.data_len ≡ q
 
 -- What reading at a cursor returns if one more entry is to come: that entry and the offset after it, or the error that is to come.
-abbrev pub AnswersEntry : List ℕ → Cursor → Result (Item × ℕ) ParseError → Type 0
-AnswersEntry b cursor (Ok found) =
+abbrev pub ReturnsEntry : List ℕ → Cursor → Result (Item × ℕ) ParseError → Type 0
+ReturnsEntry b cursor (Ok found) =
     (x : Entry) × Tells b found.0 x × ((n : ℕ) → cursor.left ≡ suc n → left_from b cursor ≡ Ok x ∷ left_at b cursor.section n found.1)
-AnswersEntry b cursor (Err e) = (n : ℕ) → cursor.left ≡ suc n → left_from b cursor ≡ Err (fault_of e) ∷ []
+ReturnsEntry b cursor (Err e) = (n : ℕ) → cursor.left ≡ suc n → left_from b cursor ≡ Err (fault_of e) ∷ []
 
 -- what reading a question at p returns: the question and the offset after it, or the error there
-abbrev pub AnswersQuestion : List ℕ → ℕ → Result (Item × ℕ) ParseError → Type 0
-AnswersQuestion b p (Ok found) = (x : QuestionItem) × ReadsQuestion b p found.1 x × TellsQuestion b found.0 x
-AnswersQuestion b p (Err e) = QuestionFaultAt b p (fault_of e)
+abbrev pub ReturnsQuestion : List ℕ → ℕ → Result (Item × ℕ) ParseError → Type 0
+ReturnsQuestion b p (Ok found) = (x : QuestionItem) × ReadsQuestion b p found.1 x × TellsQuestion b found.0 x
+ReturnsQuestion b p (Err e) = QuestionFaultAt b p (fault_of e)
 
 -- what reading a record at p returns, for the section of a number
-abbrev pub AnswersRecord : List ℕ → ℕ → ℕ → Result (Item × ℕ) ParseError → Type 0
-AnswersRecord b section p (Ok found) = (x : RecordEntry) × ReadsRecord b p found.1 x × TellsRecord b found.0 x × (found.0.section ≡ section)
-AnswersRecord b section p (Err e) = RecordFaultAt b p (fault_of e)
+abbrev pub ReturnsRecord : List ℕ → ℕ → ℕ → Result (Item × ℕ) ParseError → Type 0
+ReturnsRecord b section p (Ok found) = (x : RecordEntry) × ReadsRecord b p found.1 x × TellsRecord b found.0 x × (found.0.section ≡ section)
+ReturnsRecord b section p (Err e) = RecordFaultAt b p (fault_of e)
 
 -- The next entry is returned, and those after it remain. Or nothing is left, and nothing is returned. Or the error that is left is returned, and the cursor keeps its number.
 abbrev pub Steps : List ℕ → Cursor → Cursor → Item → Result Bool FaultGiven → Type 0

@@ -11,7 +11,7 @@ ghost use Rattle.dns_item.specs.Items.{RecordFaultAt};
 ghost use Rattle.dns_read.specs.Message.{message_octets};
 ghost use Rattle.dns_c.specs.Codes.{number_of};
 ghost use Rattle.dns_c.specs.Made.{LacksName};
-ghost use Rattle.dns_c.specs.Steps.{left_from, IsHeader, IsOpen, Opens, Spans, AnswersQuestion, AnswersRecord, AnswersEntry, Steps};
+ghost use Rattle.dns_c.specs.Steps.{left_from, IsHeader, IsOpen, Opens, Spans, ReturnsQuestion, ReturnsRecord, ReturnsEntry, Steps};
 ghost use Rattle.dns_c.specs.Walk.{count_at};
 
 use crate::code;
@@ -157,7 +157,7 @@ pub(crate) fn parser_at(octets: &[u8], place: usize) -> Result<Parser<'_>, Parse
 
 /// Reads the question at offset `place`. Also returns the offset after it.
 fn read_question(octets: &[u8], place: usize) -> Result<(Item, usize), ParseError>
-    ensures answers { AnswersQuestion octets.now place result }
+    ensures returned { ReturnsQuestion octets.now place result }
     ensures spans { IfOk result (λ found. Spans found.0 place found.1) }
 {
     let mut parser = parser_at(octets, place)?;
@@ -176,7 +176,7 @@ fn read_question(octets: &[u8], place: usize) -> Result<(Item, usize), ParseErro
 
 /// Reads the record of `section` at offset `place`. Also returns the offset after it.
 fn read_record(octets: &[u8], section: u8, place: usize) -> Result<(Item, usize), ParseError>
-    ensures answers { AnswersRecord octets.now section place result }
+    ensures returned { ReturnsRecord octets.now section place result }
     ensures spans { IfOk result (λ found. Spans found.0 place found.1) }
 {
     let mut parser = parser_at(octets, place)?;
@@ -196,7 +196,7 @@ fn read_record(octets: &[u8], section: u8, place: usize) -> Result<(Item, usize)
 /// Reads the entry at the cursor. Also returns the offset after it.
 fn read(octets: &[u8], cursor: &Cursor) -> Result<(Item, usize), ParseError>
     requires { cursor.now.section ≤ 3 }
-    ensures entry { AnswersEntry octets.now cursor.now result }
+    ensures entry { ReturnsEntry octets.now cursor.now result }
     ensures within { IfOk result (λ found. found.0.«data» + found.0.data_len ≤ length octets.now) }
     ensures place { IfOk result (λ found. Spans found.0 cursor.now.place found.1
         × (found.0.section ≡ cursor.now.section)) }

@@ -2,7 +2,7 @@
 use Rattle.std.proofs.Common.{◌≡◌, ℕ, ◌+◌, ◌≤◌, ◌⊎◌, inl, inr, Bool, Option, Some, Result, Err, List, [], ◌∷◌, length, length-append, ap, sym, ◌∙◌, subst}
 use Rattle.std.specs.FinMap.{get}
 use Rattle.dns_wire.specs.Pieces.{TableEntry, IsClear, IsOldOrWithin, Extends, Piece, IsGrowing, put_octets, both, with_length}
-use Rattle.dns_wire.specs.Targets.{Written, IsTarget, AnswersInSteps, lay, Composes}
+use Rattle.dns_wire.specs.Targets.{Written, IsTarget, ComposeReturns, lay, Composes}
 use Rattle.dns_octets.specs.declared.error.AppendError.{AppendError}
 use Rattle.dns_wire.proofs.theory.PieceLaws.{composes_both}
 use Rattle.dns_wire.proofs.theory.PutNames.{put_octets_grows, ends_within_content}
@@ -36,7 +36,7 @@ refused capacity may_grow a t u e h = record {
   err = h.err;
   answer =
       let n : length (lay (both (put_octets blank) a) t).octets ≡ length (lay (with_length a) t).octets = length-append t.octets _ ∙ sym (length-append t.octets _) in
-      subst (λ n. AnswersInSteps {X = Unit} capacity may_grow n (Err e)) n h.answer;
+      subst (λ n. ComposeReturns {X = Unit} capacity may_grow n (Err e)) n h.answer;
 }
 
 -- if composing after the two octets fails, composing with the length fails

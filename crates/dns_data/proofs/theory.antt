@@ -1,3 +1,3 @@
 -- Lemmas that other crates cite: a changed statement changes for them too.
-pub mod DataAnswers
+pub mod DataReading
 pub mod EncodedParts

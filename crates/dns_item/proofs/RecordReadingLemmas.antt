@@ -11,11 +11,11 @@ use Rattle.dns_name.specs.declared.parser.Parser.{Parser}
 use Rattle.dns_data.specs.Layout.{Layout, IsLaidOut}
 use Rattle.dns_data.specs.RecordData.{ParsesLaidOut, ParsesTaken}
 use Rattle.dns_data.proofs.theory.EncodedParts.{encoded_parts_read}
-use Rattle.dns_item.specs.DataAnswer.{HasSpan, one_data, no_data_fault}
+use Rattle.dns_item.specs.ParsedData.{HasSpan, one_data, no_data_fault}
 use Rattle.dns_item.specs.Items.{RecordEntry}
 use Rattle.dns_item.specs.Record.{data_of}
 use Rattle.dns_item.specs.declared.record.Record.{Record}
-use Rattle.dns_item.specs.RecordReading.{WholeDataFaultAt, item_of, IsThere, HasData, HasDataFault, IsRecordOf, GivesLaidOut, GivesTaken, AnswersLaidOut, AnswersTaken, GivesBack, GivesBackTaken, GivesValueBack, GivesValueBackTaken, IsWhole, IsWholeTaken}
+use Rattle.dns_item.specs.RecordReading.{WholeDataFaultAt, item_of, IsThere, HasData, HasDataFault, IsRecordOf, GivesLaidOut, GivesTaken, ReturnsLaidOut, ReturnsTaken, GivesBack, GivesBackTaken, GivesValueBack, GivesValueBackTaken, IsWhole, IsWholeTaken}
 use Rattle.dns_item.specs.RecordReading.WholeDataFaultAt.{first, left_over}
 
 module _ {D : Type 0} (rtype_of : D → ℕ) (parts_of : D → List Part) (rtype : ℕ) (old new : Parser) where
@@ -62,7 +62,7 @@ module _ {D : Type 0} (rtype_of : D → ℕ) (parts_of : D → List Part) (b : L
   no_fault_there layout parts f there d h = no_data_fault (record { octets = b; entry = x }) layout (span there) parts f d h
 
   -- parts that fill the RDATA are returned
-  pub gives_back : (layout : Layout) (result : Result (Record ParsedName D) ParseError) → AnswersLaidOut rtype_of parts_of b x layout result → GivesBack rtype_of parts_of b x layout result
+  pub gives_back : (layout : Layout) (result : Result (Record ParsedName D) ParseError) → ReturnsLaidOut rtype_of parts_of b x layout result → GivesBack rtype_of parts_of b x layout result
   gives_back layout (Ok r) h parts there laid encoded = read_there layout parts r there (data_is_there layout parts there laid encoded) (h.gives there)
   gives_back layout (Err e) h parts there laid encoded = absurd (no_fault_there layout parts (fault_of e) there (data_is_there layout parts there laid encoded) (h.gives there))
 
@@ -73,7 +73,7 @@ module _ {D : Type 0} (rtype_of : D → ℕ) (parts_of : D → List Part) (b : L
   given_back layout (Err e) parts there d h = absurd (no_fault_there layout parts (fault_of e) there d h)
 
   -- as `gives_back`, for a type that may have no layout
-  pub gives_back_taken : (taken : Option Layout) (result : Result (Option (Record ParsedName D)) ParseError) → AnswersTaken rtype_of parts_of b x taken result
+  pub gives_back_taken : (taken : Option Layout) (result : Result (Option (Record ParsedName D)) ParseError) → ReturnsTaken rtype_of parts_of b x taken result
       → GivesBackTaken rtype_of parts_of b x taken result
   gives_back_taken taken result h layout parts is there laid encoded =
       given_back layout result parts there (data_is_there layout parts there laid encoded) (subst (λ (o : Option Layout). GivesTaken rtype_of parts_of b x o result) is (h.gives there))

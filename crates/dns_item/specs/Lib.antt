@@ -8,7 +8,7 @@ pub mod RecordOrders
 pub mod Canonical
 pub mod OptRecord
 pub mod RecordReading
-pub mod DataAnswer
+pub mod ParsedData
 pub mod TypedRecords
 pub mod RecordPrinting
 pub mod ParsedRecordOrders

@@ -64,12 +64,12 @@ module _ {D : Type 0} (rtype_of : D → ℕ) (parts_of : D → List Part) (b : L
   GivesTaken (Some layout) (Err e) = GivesLaidOut layout (Err e)
 
   -- what reading a record's RDATA returns: `ShortInput` if it isn't all there
-  pub record AnswersLaidOut (layout : Layout) (result : Result (Record ParsedName D) ParseError) : Type 0 where
+  pub record ReturnsLaidOut (layout : Layout) (result : Result (Record ParsedName D) ParseError) : Type 0 where
     pub gives : IsThere b x → GivesLaidOut layout result
     pub missing : (IsThere b x → ⊥) → result ≡ Err ShortInput
 
-  -- as `AnswersLaidOut`, for a type that may have no layout
-  pub record AnswersTaken (taken : Option Layout) (result : Result (Option (Record ParsedName D)) ParseError) : Type 0 where
+  -- as `ReturnsLaidOut`, for a type that may have no layout
+  pub record ReturnsTaken (taken : Option Layout) (result : Result (Option (Record ParsedName D)) ParseError) : Type 0 where
     pub gives : IsThere b x → GivesTaken taken result
     pub missing : (IsThere b x → ⊥) → result ≡ Err ShortInput
 

@@ -6,7 +6,7 @@ use Rattle.dns_name.specs.declared.parsed_name.ParsedName.{ParsedName}
 use Rattle.dns_octets.specs.declared.error.ParseError.{ParseError}
 use Rattle.dns_wire.specs.Parts.{Part}
 use Rattle.dns_data.specs.Layout.{Layout}
-use Rattle.dns_item.specs.DataAnswer.{IsDataAnswer, one_data_answer}
+use Rattle.dns_item.specs.ParsedData.{IsParsedData, one_parsed_data}
 use Rattle.dns_item.specs.Items.{RecordItem, RecordEntry}
 use Rattle.dns_item.specs.ParsedRecord.{EncodedRecord}
 use Rattle.dns_item.specs.Record.{record_item}
@@ -15,12 +15,12 @@ use Rattle.dns_item.specs.declared.record.Record.{Record}
 
 -- the one result of reading a record's RDATA by a layout: its parts, or the fault; `ShortInput` if the RDATA isn't all there
 unfoldable pub data_in : EncodedRecord → Layout → Result (List Part) Fault
-data_in x layout = (one_data_answer x layout).some.0
+data_in x layout = (one_parsed_data x layout).some.0
 
 -- `data_in` is the result of reading by the layout, and there is no other
-pub record DataIsAnswered : Type 0 where
-  pub answer : (x : EncodedRecord) (layout : Layout) → IsDataAnswer x layout (data_in x layout)
-  pub only : (x : EncodedRecord) (layout : Layout) (r : Result (List Part) Fault) → IsDataAnswer x layout r → data_in x layout ≡ r
+pub record DataIsParsed : Type 0 where
+  pub answer : (x : EncodedRecord) (layout : Layout) → IsParsedData x layout (data_in x layout)
+  pub only : (x : EncodedRecord) (layout : Layout) (r : Result (List Part) Fault) → IsParsedData x layout r → data_in x layout ≡ r
 
 -- a record with the parts of its RDATA, or the fault of the RDATA
 abbrev pub with_parts : RecordEntry → Result (List Part) Fault → Result RecordItem Fault
@@ -32,10 +32,10 @@ abbrev pub laid_out : EncodedRecord → Layout → Result RecordItem Fault
 laid_out x layout = with_parts x.entry (data_in x layout)
 
 -- the result of reading a record by an RDATA type, given its layouts: `None` if it doesn't accept the record type
-abbrev pub answer_to : (ℕ → Option Layout) → EncodedRecord → Option (Result RecordItem Fault)
-answer_to layouts x = option_map (laid_out x) (layouts x.entry.rtype)
+abbrev pub parsed_as : (ℕ → Option Layout) → EncodedRecord → Option (Result RecordItem Fault)
+parsed_as layouts x = option_map (laid_out x) (layouts x.entry.rtype)
 
 -- a record that was read with its RDATA as a value, or the fault
-abbrev pub typed_answer : {D : Type 0} → (D → ℕ) → (D → List Part) → Result (Record ParsedName D) ParseError → Result RecordItem Fault
-typed_answer rtype_of parts_of (Ok r) = Ok (record_item labels rtype_of parts_of r)
-typed_answer rtype_of parts_of (Err e) = Err (fault_of e)
+abbrev pub typed_result : {D : Type 0} → (D → ℕ) → (D → List Part) → Result (Record ParsedName D) ParseError → Result RecordItem Fault
+typed_result rtype_of parts_of (Ok r) = Ok (record_item labels rtype_of parts_of r)
+typed_result rtype_of parts_of (Err e) = Err (fault_of e)

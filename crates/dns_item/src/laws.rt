@@ -6,8 +6,8 @@ ghost use Rattle.std.specs.Ordering.{as_partial_cmp};
 ghost use Rattle.dns_question.specs.Questions.{QuestionOrFault, QuestionEndOrFault, QuestionSkipAgrees, QuestionsGrow, QuestionsReadBack};
 ghost use Rattle.dns_item.specs.Items.{HeaderOrFault, RecordOrFault, RecordEndOrFault, RecordSkipAgrees, RecordsGrow, RecordsReadBack};
 ghost use Rattle.dns_item.specs.HeaderOrders.{headers_equal, header_order, header_hash_input};
-ghost use Rattle.dns_item.specs.TypedRecords.{DataIsAnswered};
-ghost use Rattle.dns_question.specs.QuestionTexts.{EachTextAnswered, OneTextAnswer, EachWordsAnswered, OneWordsAnswer};
+ghost use Rattle.dns_item.specs.TypedRecords.{DataIsParsed};
+ghost use Rattle.dns_question.specs.QuestionTexts.{EachTextRead, OneTextResult, EachWordsRead, OneWordsResult};
 
 use crate::record_header::RecordHeader;
 pub use dns_question::laws::{question_equality, question_hash, question_orders};
@@ -47,16 +47,16 @@ pub fn items_read_back()
 
 /// Reading the RDATA of a record by a layout has exactly one result: the parts that fill the RDATA,
 /// or its fault. It is what `data_in` says.
-pub fn one_data_answer()
-    ensures { DataIsAnswered }
+pub fn one_parsed_data()
+    ensures { DataIsParsed }
 {}
 
 /// Every text, and every list of words, is read as exactly one question or exactly one error.
 pub fn questions_as_texts()
-    ensures each_text { EachTextAnswered }
-    ensures one_answer { OneTextAnswer }
-    ensures each_words { EachWordsAnswered }
-    ensures one_answer_of_words { OneWordsAnswer }
+    ensures each_text { EachTextRead }
+    ensures one_answer { OneTextResult }
+    ensures each_words { EachWordsRead }
+    ensures one_result_of_words { OneWordsResult }
 {}
 
 /// Two record headers are equal if and only if all their fields are.

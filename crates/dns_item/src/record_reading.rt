@@ -5,7 +5,7 @@ ghost use Rattle.dns_name.specs.Parsers.{seen, offset, MovesTo};
 ghost use Rattle.dns_item.specs.Items.{ReadsRecord, RecordEntry, RecordFaultAt};
 ghost use Rattle.dns_item.specs.ParsedRecord.{octets_of, parsed_entry};
 ghost use Rattle.dns_item.specs.RecordHeader.{rtype_of, record_at};
-ghost use Rattle.dns_item.specs.RecordReading.{MovesPastRdata, AnswersLaidOut, AnswersTaken, GivesBack, GivesBackTaken, GivesValueBack, GivesValueBackTaken, IsWhole, IsWholeTaken};
+ghost use Rattle.dns_item.specs.RecordReading.{MovesPastRdata, ReturnsLaidOut, ReturnsTaken, GivesBack, GivesBackTaken, GivesValueBack, GivesValueBackTaken, IsWhole, IsWholeTaken};
 
 use crate::parsed_record::ParsedRecord;
 use crate::record::Record;
@@ -57,7 +57,7 @@ impl<'a> RecordHeader<ParsedName<'a>> {
         self,
         parser: &mut Parser<'a>,
     ) -> Result<Option<Record<ParsedName<'a>, D>>, ParseError>
-        ensures answers { AnswersTaken D.rtype_of D.parts (seen parser.old)
+        ensures returned { ReturnsTaken D.rtype_of D.parts (seen parser.old)
             (record_at self.entry (offset parser.old)) (D.layout (rtype_of self.entry)) result }
         ensures moves { MovesPastRdata parser.old parser.new
             (record_at self.entry (offset parser.old)) }
@@ -75,7 +75,7 @@ impl<'a> RecordHeader<ParsedName<'a>> {
         self,
         parser: &mut Parser<'a>,
     ) -> Result<Record<ParsedName<'a>, D>, ParseError>
-        ensures answers { AnswersLaidOut D.rtype_of D.parts (seen parser.old)
+        ensures returned { ReturnsLaidOut D.rtype_of D.parts (seen parser.old)
             (record_at self.entry (offset parser.old)) (D.any_layout (rtype_of self.entry)) result }
         ensures moves { MovesPastRdata parser.old parser.new
             (record_at self.entry (offset parser.old)) }
@@ -96,7 +96,7 @@ impl<'a> ParsedRecord<'a> {
     pub fn to_record<D: ParseRecordData<'a> + Drop>(
         &self,
     ) -> Result<Option<Record<ParsedName<'a>, D>>, ParseError>
-        ensures answers { AnswersTaken D.rtype_of D.parts (octets_of self.now)
+        ensures returned { ReturnsTaken D.rtype_of D.parts (octets_of self.now)
             (parsed_entry self.now) (D.layout (parsed_entry self.now).rtype) result }
         ensures back { GivesBackTaken D.rtype_of D.parts (octets_of self.now)
             (parsed_entry self.now) (D.layout (parsed_entry self.now).rtype) result }
@@ -111,7 +111,7 @@ impl<'a> ParsedRecord<'a> {
     pub fn into_record<D: ParseRecordData<'a> + Drop>(
         self,
     ) -> Result<Option<Record<ParsedName<'a>, D>>, ParseError>
-        ensures answers { AnswersTaken D.rtype_of D.parts (octets_of self.entry)
+        ensures returned { ReturnsTaken D.rtype_of D.parts (octets_of self.entry)
             (parsed_entry self.entry) (D.layout (parsed_entry self.entry).rtype) result }
         ensures back { GivesBackTaken D.rtype_of D.parts (octets_of self.entry)
             (parsed_entry self.entry) (D.layout (parsed_entry self.entry).rtype) result }
@@ -125,7 +125,7 @@ impl<'a> ParsedRecord<'a> {
     pub fn to_any_record<D: ParseAnyRecordData<'a> + Drop>(
         &self,
     ) -> Result<Record<ParsedName<'a>, D>, ParseError>
-        ensures answers { AnswersLaidOut D.rtype_of D.parts (octets_of self.now)
+        ensures returned { ReturnsLaidOut D.rtype_of D.parts (octets_of self.now)
             (parsed_entry self.now) (D.any_layout (parsed_entry self.now).rtype) result }
         ensures back { GivesBack D.rtype_of D.parts (octets_of self.now)
             (parsed_entry self.now) (D.any_layout (parsed_entry self.now).rtype) result }
@@ -140,7 +140,7 @@ impl<'a> ParsedRecord<'a> {
     pub fn into_any_record<D: ParseAnyRecordData<'a> + Drop>(
         self,
     ) -> Result<Record<ParsedName<'a>, D>, ParseError>
-        ensures answers { AnswersLaidOut D.rtype_of D.parts (octets_of self.entry)
+        ensures returned { ReturnsLaidOut D.rtype_of D.parts (octets_of self.entry)
             (parsed_entry self.entry) (D.any_layout (parsed_entry self.entry).rtype) result }
         ensures back { GivesBack D.rtype_of D.parts (octets_of self.entry)
             (parsed_entry self.entry) (D.any_layout (parsed_entry self.entry).rtype) result }
@@ -161,7 +161,7 @@ impl<'a, D: ParseRecordData<'a> + Drop> Record<ParsedName<'a>, D> {
     pub fn parse(parser: &mut Parser<'a>) -> Result<Option<Self>, ParseError>
         ensures gives { (q : ℕ) (x : RecordEntry)
             → ReadsRecord (seen parser.old) (offset parser.old) q x
-            → AnswersTaken D.rtype_of D.parts (seen parser.old) x (D.layout x.rtype) result
+            → ReturnsTaken D.rtype_of D.parts (seen parser.old) x (D.layout x.rtype) result
             × MovesTo parser.old parser.new q }
         ensures back { (q : ℕ) (x : RecordEntry)
             → ReadsRecord (seen parser.old) (offset parser.old) q x

@@ -11,7 +11,7 @@ use Rattle.dns_opt_builder.specs.Additions.{Adds}
 use Rattle.dns_opt_builder.specs.Gathered.{Gathered, IsGathered, gathered, nothing_gathered}
 use Rattle.dns_opt_builder.specs.declared.builder.OptBuilder.{OptBuilder}
 use Rattle.dns_item.specs.Items.{RecordItem}
-use Rattle.dns_build.specs.Opt.{opt_record, with_opt, OptAnswers, PushesOpt}
+use Rattle.dns_build.specs.Opt.{opt_record, with_opt, OptReturns, PushesOpt}
 use Rattle.dns_build.specs.BuilderStates.{Built, Represents, InEach, size_after}
 use Rattle.dns_build.specs.State.{State, InAdditional, with_record}
 use Rattle.dns_build.specs.declared.push_error.PushError.{PushError}
@@ -53,13 +53,13 @@ module _ (capacity : Option ℕ) (grows : Bool) (rule : Rule) (plan : OptPlan) (
   size g = size_after rule (with_record InAdditional (opt_record g)) s
 
   -- the result for what is gathered is the result for what was asked
-  answers_asked : (g : Gathered) (a : Result (Unit {0}) AppendError) (r : Result (Unit {0}) PushError) → OnOk a (g ≡ asked)
-      → OptAnswers capacity grows s.limit (size g) (length s.additionals) a r → OptAnswers capacity grows s.limit (size asked) (length s.additionals) a r
-  answers_asked g (Ok u) r same h = subst (λ (x : Gathered). OptAnswers capacity grows s.limit (size x) (length s.additionals) (Ok u) r) same h
-  answers_asked g (Err e) r same h = h
+  returns_asked : (g : Gathered) (a : Result (Unit {0}) AppendError) (r : Result (Unit {0}) PushError) → OnOk a (g ≡ asked)
+      → OptReturns capacity grows s.limit (size g) (length s.additionals) a r → OptReturns capacity grows s.limit (size asked) (length s.additionals) a r
+  returns_asked g (Ok u) r same h = subst (λ (x : Gathered). OptReturns capacity grows s.limit (size x) (length s.additionals) (Ok u) r) same h
+  returns_asked g (Err e) r same h = h
 
   -- if the push succeeds, what was asked is gathered
-  accepted_asked : (g : Gathered) (n : ℕ) (a : Result (Unit {0}) AppendError) (v : Unit {0}) → OnOk a (g ≡ asked) → OptAnswers capacity grows s.limit n (length s.additionals) a (Ok v) → g ≡ asked
+  accepted_asked : (g : Gathered) (n : ℕ) (a : Result (Unit {0}) AppendError) (v : Unit {0}) → OnOk a (g ≡ asked) → OptReturns capacity grows s.limit n (length s.additionals) a (Ok v) → g ≡ asked
   accepted_asked g n (Ok u) v same h = same
   accepted_asked g n (Err e) v same h = absurd (cc)
 
@@ -94,7 +94,7 @@ module _ (capacity : Option ℕ) (grows : Bool) {Q R : Type 0} (question : Q →
         record {
           gathering = p.answer;
           adds = adds_asked capacity grows rule plan s gathers carries new (Ok v) p;
-          answers = answers_asked capacity grows rule plan s p.g p.answer (Ok v) done p.answers;
+          answers = returns_asked capacity grows rule plan s p.g p.answer (Ok v) done p.answers;
           is_gathered = λ _. subst IsGathered all p.is_gathered;
         },
         subst (λ (g : Gathered). Represents InAdditional rule (with_opt g s) new) all p.accepted,
@@ -107,7 +107,7 @@ module _ (capacity : Option ℕ) (grows : Bool) {Q R : Type 0} (question : Q →
         record {
           gathering = p.answer;
           adds = adds_asked capacity grows rule plan s gathers carries new (Err e) p;
-          answers = answers_asked capacity grows rule plan s p.g p.answer (Err e) done p.answers;
+          answers = returns_asked capacity grows rule plan s p.g p.answer (Err e) done p.answers;
           is_gathered = λ told. absurd (cc);
         },
         subst (λ b. Represents InAdditional rule s b) (sym same) h,

@@ -5,7 +5,7 @@ use Rattle.dns_wire.specs.Pieces.{Rule}
 use Rattle.dns_wire.specs.Targets.{Fits, Passes}
 use Rattle.dns_question.specs.Questions.{QuestionItem}
 use Rattle.dns_item.specs.Items.{RecordItem}
-use Rattle.dns_build.specs.BuilderStates.{Built, PushAnswers, Represents, MovesState, InEach, size_after}
+use Rattle.dns_build.specs.BuilderStates.{Built, PushReturns, Represents, MovesState, InEach, size_after}
 use Rattle.dns_build.specs.State as state
 use Rattle.dns_section.specs.declared.section.Section.{Section}
 use Rattle.dns_section.specs.declared.section.Section.TheVariants.{Answer, Authority, Additional}
@@ -27,7 +27,7 @@ has_push Q R Additional x = refl
 module _ (capacity : Option ℕ) (grows : Bool) (rule : Rule) (stage : state.Stage) (old : Built) (pushed : RecordItem) where
   -- the result of a push, for each state that the builder represents
   abbrev pub Answered : Result (Unit {0}) PushError → Type 0
-  Answered r = (s : State) → Represents stage rule s old → PushAnswers capacity grows s.limit (size_after rule (with_record stage pushed) s) (length (records_at stage s)) r
+  Answered r = (s : State) → Represents stage rule s old → PushReturns capacity grows s.limit (size_after rule (with_record stage pushed) s) (length (records_at stage s)) r
 
   -- the result follows from one clause for success and one for each reason to fail
   pub answered : (r : Result (Unit {0}) PushError)
@@ -45,9 +45,9 @@ module _ (capacity : Option ℕ) (grows : Bool) (rule : Rule) (stage : state.Sta
 
   -- the same for the stage of the state itself
   answered_here : (r : Result (Unit {0}) PushError) → Answered r → (s : State) → Represents stage rule s old
-      → PushAnswers capacity grows s.limit (size_after rule (with_record s.stage pushed) s) (length (records_at s.stage s)) r
+      → PushReturns capacity grows s.limit (size_after rule (with_record s.stage pushed) s) (length (records_at s.stage s)) r
   answered_here r a s h =
-      subst (λ at. PushAnswers capacity grows s.limit (size_after rule (with_record at pushed) s) (length (records_at at s)) r) (sym h.here) (a s h)
+      subst (λ at. PushReturns capacity grows s.limit (size_after rule (with_record at pushed) s) (length (records_at at s)) r) (sym h.here) (a s h)
 
 module _ (capacity : Option ℕ) (grows : Bool) {Q R : Type 0} (question : Q → QuestionItem) (item : R → RecordItem) (rule : Rule) (stage : state.Stage) (old new : Built) (x : R) where
   -- the push of a record is a step that stays at its stage

@@ -5,10 +5,10 @@ use Rattle.dns_wire.specs.Pieces.{Rule}
 use Rattle.dns_opt_builder.specs.Gathered.{Gathered, IsGathered}
 use Rattle.dns_question.specs.Questions.{QuestionItem}
 use Rattle.dns_item.specs.Items.{RecordItem}
-use Rattle.dns_build.specs.BuilderStates.{Built, PushAnswers, Represents}
+use Rattle.dns_build.specs.BuilderStates.{Built, PushReturns, Represents}
 use Rattle.dns_build.specs.State.{fold, State, InBuilder, InQuestion, InAnswer, InAuthority, InAdditional, with_question, with_record, records_at, with_header, with_limit, no_limit, rewound, tc_rewound, move_to}
 use Rattle.dns_build.specs.MessageOf.{IsMessageOf}
-use Rattle.dns_build.specs.Opt.{opt_record, with_opt, OptAnswers}
+use Rattle.dns_build.specs.Opt.{opt_record, with_opt, OptReturns}
 use Rattle.dns_build.specs.declared.push_error.PushError.{PushError}
 use Rattle.dns_build.specs.State as state
 use Rattle.dns_message.specs.OptPlans.{planned_beside, AddsAll}
@@ -106,21 +106,21 @@ module _ {Q R : Type 0} (question : Q → QuestionItem) (item : R → RecordItem
   after_all s (call ∷ calls) (reply ∷ replies) = after_all (after s call reply) calls replies
 
 module _ (capacity : Option ℕ) (grows : Bool) where
-  -- the reply to a push whose result satisfies `Answers`
+  -- the reply to a push whose result satisfies `AppendReturns`
   abbrev pub IsReplyBy : (Result (Unit {0}) PushError → Type 0) → Reply → Type 0
-  IsReplyBy Answers Done = Answers (Ok tt)
-  IsReplyBy Answers (Refused error) = Answers (Err error)
-  IsReplyBy Answers Misplaced = ⊥
+  IsReplyBy AppendReturns Done = AppendReturns (Ok tt)
+  IsReplyBy AppendReturns (Refused error) = AppendReturns (Err error)
+  IsReplyBy AppendReturns Misplaced = ⊥
 
   -- the reply to a push after which the message would have n octets, at a section that counts `count` entries
   abbrev pub IsPushReply : ℕ → ℕ → ℕ → Reply → Type 0
-  IsPushReply limit n count = IsReplyBy (PushAnswers capacity grows limit n count)
+  IsPushReply limit n count = IsReplyBy (PushReturns capacity grows limit n count)
 
   -- the reply to the push of an OPT record: that of adding its options if this fails, else that of the push
   pub record IsOptReply (g : Gathered) (limit n count : ℕ) (reply : Reply) : Type 0 where
     pub gathering : Result (Unit {0}) AppendError
     pub adds : AddsAll 0 g.options gathering
-    pub answers : IsReplyBy (OptAnswers capacity grows limit n count gathering) reply
+    pub answers : IsReplyBy (OptReturns capacity grows limit n count gathering) reply
     pub is_gathered : reply ≡ Done → IsGathered g
 
   module _ {Q R : Type 0} (question : Q → QuestionItem) (item : R → RecordItem) (rule : Rule) where

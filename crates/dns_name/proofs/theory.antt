@@ -1,7 +1,7 @@
 -- Lemmas that other crates cite, so a change here affects them too.
 pub mod HeadLemmas
 pub mod NearNames
-pub mod AnswerLaws
+pub mod NameOrFaultLaws
 pub mod WalkLaws
 pub mod LabelsLemmas
 pub mod Spelling

@@ -63,8 +63,8 @@ question_item_is labels_of q n rtype class e f g =
     ap (λ m. asks (labels_of m) (qtype_of q) (qclass_of q)) e ∙ ap (λ t. asks (labels_of n) t (qclass_of q)) f ∙ ap (λ c. asks (labels_of n) rtype c) g
 
 -- the error says what is wrong with the text
-pub answers_kind : (Memory : Type 0) (text : List ℕ) (kind : PresentationErrorEnum) (e : FromStrError) → IsKind kind e → ReadsText text (Err kind) → ReadsFault Memory text e
-answers_kind Memory text kind e h reads = subst (λ e'. ReadsFault Memory text e') (sym h.1) (subst (λ k. ReadsText text (Err k)) (sym h.2) reads)
+pub returns_kind : (Memory : Type 0) (text : List ℕ) (kind : PresentationErrorEnum) (e : FromStrError) → IsKind kind e → ReadsText text (Err kind) → ReadsFault Memory text e
+returns_kind Memory text kind e h reads = subst (λ e'. ReadsFault Memory text e') (sym h.1) (subst (λ k. ReadsText text (Err k)) (sym h.2) reads)
 
 -- why a word is not the text of a name
 abbrev NoName : List ℕ → NameError → Type 0
@@ -90,6 +90,6 @@ module _ (text : List ℕ) (s t : SplitWhitespace) (x : Bor (List ℕ)) (start :
   pub reads_bad_name : (e : NameError) (f : FromStrError) → NoName x.now e → IsErrorOfName e f → ReadsFault ⊥ text f
   reads_bad_name (NamePresentation fault) f h is =
       let more = some_words (split_whitespace_rest t) after in
-      answers_kind ⊥ text (BadName fault) f is (record { words = x.now ∷ more.0; are_words = all_words more.0 more.1; reads = bad_name h })
+      returns_kind ⊥ text (BadName fault) f is (record { words = x.now ∷ more.0; are_words = all_words more.0 more.1; reads = bad_name h })
   reads_bad_name NameShortBuf f h is = absurd h
   reads_bad_name NameOutOfMemory f h is = absurd h

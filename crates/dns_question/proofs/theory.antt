@@ -2,4 +2,4 @@
 pub mod FieldsAfterNames
 pub mod QuestionEntryLemmas
 pub mod QuestionItemLemmas
-pub mod OneAnswer
+pub mod OneResult

@@ -91,19 +91,19 @@ pub record ReadsText (text : List ℕ) (answer : Answer) : Type 0 where
 -- Theorems over all texts of questions.
 
 -- every text is read as a question or an error
-abbrev pub EachTextAnswered : Type 0
-EachTextAnswered = (text : List ℕ) → IsUtf8 text → (answer : Answer) × ReadsText text answer
+abbrev pub EachTextRead : Type 0
+EachTextRead = (text : List ℕ) → IsUtf8 text → (answer : Answer) × ReadsText text answer
 
 -- and as only one
-abbrev pub OneTextAnswer : Type 0
-OneTextAnswer = (text : List ℕ) (x y : Answer) → ReadsText text x → ReadsText text y → x ≡ y
+abbrev pub OneTextResult : Type 0
+OneTextResult = (text : List ℕ) (x y : Answer) → ReadsText text x → ReadsText text y → x ≡ y
 
 -- the same of every list of words
-abbrev pub EachWordsAnswered : Type 0
-EachWordsAnswered = (words : List (List ℕ)) → (answer : Answer) × ReadsWords words answer
+abbrev pub EachWordsRead : Type 0
+EachWordsRead = (words : List (List ℕ)) → (answer : Answer) × ReadsWords words answer
 
-abbrev pub OneWordsAnswer : Type 0
-OneWordsAnswer = (words : List (List ℕ)) (x y : Answer) → ReadsWords words x → ReadsWords words y → x ≡ y
+abbrev pub OneWordsResult : Type 0
+OneWordsResult = (words : List (List ℕ)) (x y : Answer) → ReadsWords words x → ReadsWords words y → x ≡ y
 
 -- What reading questions from texts returns. RFC 1035 section 5.1.
 

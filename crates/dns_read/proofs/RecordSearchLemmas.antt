@@ -9,13 +9,13 @@ use Rattle.dns_octets.specs.declared.error.ParseError.{ParseError}
 use Rattle.dns_wire.specs.Parts.{Part}
 use Rattle.dns_data.specs.Layout.{Layout}
 use Rattle.dns_item.specs.Items.{RecordItem}
-use Rattle.dns_item.specs.DataAnswer.{HasSpan}
+use Rattle.dns_item.specs.ParsedData.{HasSpan}
 use Rattle.dns_item.specs.ParsedRecord.{octets_of, parsed_entry, encoded_record}
-use Rattle.dns_item.specs.RecordReading.{AnswersTaken}
+use Rattle.dns_item.specs.RecordReading.{ReturnsTaken}
 use Rattle.dns_item.specs.declared.parsed_record.ParsedRecord.{ParsedRecord}
-use Rattle.dns_item.proofs.theory.TypedLemmas.{answer_to-answered}
+use Rattle.dns_item.proofs.theory.TypedLemmas.{parsed_as-answered}
 use Rattle.dns_item.specs.Record.{record_item}
-use Rattle.dns_item.specs.TypedRecords.{answer_to, typed_answer}
+use Rattle.dns_item.specs.TypedRecords.{parsed_as, typed_result}
 use Rattle.dns_item.specs.declared.record.Record.{Record}
 use Rattle.dns_section.specs.RecordSection.{records_left, BeginsSection}
 use Rattle.dns_section.specs.Sections.{AdditionalsFault}
@@ -40,11 +40,11 @@ module _ (b : List ℕ) where
   pub none_last : (layouts : ℕ → Option Layout) (r : Result RecordSection ParseError) → IfErr r (λ e. AdditionalsFault b (fault_of e)) → None ≡ result_ok r → last_additional layouts b ≡ None
   none_last layouts r fault is =
       let f = not_begun (AdditionalsFault b) r fault is in
-      ap (λ xs. option_and_then (λ x. option_and_then result_ok (answer_to layouts x)) (last_record xs)) (no_reading Additional b (no_additionals b f.0 f.1))
+      ap (λ xs. option_and_then (λ x. option_and_then result_ok (parsed_as layouts x)) (last_record xs)) (no_reading Additional b (no_additionals b f.0 f.1))
 
 -- the value that a data type yields, if there is one
 value_given : {D : Type 0} (rtype_of : D → ℕ) (parts_of : D → List Part) (r : Result (Option (Record ParsedName D)) ParseError) (o : Option (Result RecordItem Fault))
-    → option_map (typed_answer rtype_of parts_of) (result_transpose r) ≡ o
+    → option_map (typed_result rtype_of parts_of) (result_transpose r) ≡ o
     → option_and_then (option_map (record_item labels rtype_of parts_of)) (result_ok r) ≡ option_and_then result_ok o
 value_given rtype_of parts_of (Ok None) o e = ap (option_and_then result_ok) e
 value_given rtype_of parts_of (Ok (Some typed)) o e = ap (option_and_then result_ok) e
@@ -53,12 +53,12 @@ value_given rtype_of parts_of (Err e) o h = ap (option_and_then result_ok) h
 -- the last record with its RDATA, by the result of parsing the RDATA
 pub last_given : {D : Type 0} (rtype_of : D → ℕ) (parts_of : D → List Part) (layouts : ℕ → Option Layout) (b : List ℕ) (last : ParsedRecord) (r : Result (Option (Record ParsedName D)) ParseError)
     → Some (encoded_record last) ≡ last_record (records_of Additional b) → HasSpan (encoded_record last)
-    → AnswersTaken rtype_of parts_of (octets_of last) (parsed_entry last) (layouts (parsed_entry last).rtype) r
+    → ReturnsTaken rtype_of parts_of (octets_of last) (parsed_entry last) (layouts (parsed_entry last).rtype) r
     → option_and_then (option_map (record_item labels rtype_of parts_of)) (result_ok r) ≡ last_additional layouts b
-last_given rtype_of parts_of layouts b last r is span answers =
+last_given rtype_of parts_of layouts b last r is span returned =
     let x = encoded_record last in
-    value_given rtype_of parts_of r (answer_to layouts x) (answer_to-answered rtype_of parts_of x span (layouts x.entry.rtype) r answers)
-    ∙ ap (option_and_then (λ y. option_and_then result_ok (answer_to layouts y))) is
+    value_given rtype_of parts_of r (parsed_as layouts x) (parsed_as-answered rtype_of parts_of x span (layouts x.entry.rtype) r returned)
+    ∙ ap (option_and_then (λ y. option_and_then result_ok (parsed_as layouts y))) is
 
 -- an iterator yields something exactly if it has something left
 pub some_first : {A B : Type 0} (view : A → B) (o : Option A) (given : Bool) (xs ys rest : List B) → given ≡ is_some o → xs ≡ ys

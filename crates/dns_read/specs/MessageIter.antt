@@ -24,9 +24,9 @@ abbrev pub Item : Type 0
 Item = Result (EncodedRecord × Section) Fault
 
 -- what a result of the iterator says
-abbrev pub item_answer : Result (ParsedRecord × Section) ParseError → Item
-item_answer (Ok x) = Ok (encoded_record x.0, x.1)
-item_answer (Err e) = Err (fault_of e)
+abbrev pub item_result : Result (ParsedRecord × Section) ParseError → Item
+item_result (Ok x) = Ok (encoded_record x.0, x.1)
+item_result (Err e) = Err (fault_of e)
 
 -- what follows the fault of a section: the same fault again, but nothing in the additional section
 abbrev pub once_more : Section → Fault → List Item
@@ -104,7 +104,7 @@ GivesErrorAgain new None = ⊤
 
 -- what a call of `next` returns, and the iterator after it
 pub record GivesNext (old : MessageIter) (result : Option (Result (ParsedRecord × Section) ParseError)) (new : MessageIter) : Type 0 where
-  pub steps : YieldsFirstBy item_answer items_left old result new
+  pub steps : YieldsFirstBy item_result items_left old result new
   pub again : IfSome (kept_error old) (λ e. result ≡ Some (Err e))
   pub kept : GivesErrorAgain new result
 

@@ -14,7 +14,7 @@ use Rattle.dns_data.specs.RecordData.{only}
 use Rattle.dns_question.specs.Questions.{QuestionItem}
 use Rattle.dns_item.specs.Items.{RecordItem}
 use Rattle.dns_item.specs.ParsedRecord.{EncodedRecord}
-use Rattle.dns_item.specs.TypedRecords.{answer_to}
+use Rattle.dns_item.specs.TypedRecords.{parsed_as}
 use Rattle.dns_section.specs.Limited.{limited}
 use Rattle.dns_section.specs.declared.section.Section.TheVariants.{Answer, Additional}
 use Rattle.dns_read.specs.Searches.{asked_first}
@@ -40,7 +40,7 @@ last_record xs = option_and_then result_ok (last_item xs)
 
 -- the last additional record with its RDATA parsed; none if the data type doesn't accept its type, or if its RDATA is malformed
 abbrev pub last_additional : (ℕ → Option Layout) → List ℕ → Option RecordItem
-last_additional layouts b = option_and_then (λ x. option_and_then result_ok (answer_to layouts x)) (last_record (records_of Additional b))
+last_additional layouts b = option_and_then (λ x. option_and_then result_ok (parsed_as layouts x)) (last_record (records_of Additional b))
 
 -- the layout of CNAME RDATA: RFC 1035 section 3.3.1
 abbrev pub cname_layout : ℕ → Option Layout

@@ -18,11 +18,11 @@ pub struct MessageIter<'a> {
 
 impl<'a> MessageIter<'a> {
     ghost use Rattle.std.specs.Iterator.{YieldsFirstBy};
-    ghost use Rattle.dns_read.specs.MessageIter.{item_answer, items_left, kept_error, GivesErrorAgain};
+    ghost use Rattle.dns_read.specs.MessageIter.{item_result, items_left, kept_error, GivesErrorAgain};
 
     /// The next record with its section, or the error of the first that can't be read.
     pub fn next(&mut self) -> Option<Result<(ParsedRecord<'a>, Section), ParseError>>
-        ensures steps { YieldsFirstBy item_answer items_left self.old result self.new }
+        ensures steps { YieldsFirstBy item_result items_left self.old result self.new }
         ensures again { IfSome (kept_error self.old) (λ e. result ≡ Some (Err e)) }
         ensures kept { GivesErrorAgain self.new result }
     {

@@ -1,7 +1,7 @@
 //! Searches in the records of a message (RFC 1035 sections 3.3.1 and 4.1).
 ghost use Rattle.std.specs.Prelude.{◌≡◌, ◌↔◌, IfSome, IsTrue, option_map};
 ghost use Rattle.dns_name.specs.ParsedName.{labels};
-ghost use Rattle.dns_item.specs.DataAnswer.{HasSpan};
+ghost use Rattle.dns_item.specs.ParsedData.{HasSpan};
 ghost use Rattle.dns_item.specs.ParsedRecord.{encoded_record};
 ghost use Rattle.dns_item.specs.Record.{record_item};
 ghost use Rattle.dns_section.specs.Limited.{limited};

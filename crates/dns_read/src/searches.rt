@@ -2,7 +2,7 @@
 ghost use Rattle.std.specs.Prelude.{◌≡◌, ◌<◌, ◌↔◌, Some, Err, option_map, IsTrue};
 ghost use Rattle.dns_question.specs.Question.{parsed_question};
 ghost use Rattle.dns_read.specs.Message.{message_octets};
-ghost use Rattle.dns_section.specs.QuestionSection.{question_answer};
+ghost use Rattle.dns_section.specs.QuestionSection.{question_result};
 ghost use Rattle.dns_read.specs.Searches.{questions_of, first_item, asked_first, asked_type, AsksForTransfer, answers_query};
 ghost use Rattle.dns_section.specs.Sections.{question_count};
 
@@ -65,7 +65,7 @@ impl<Octs: Octets> Message<Octs> {
         ensures many { 1 < question_count (message_octets self.now)
             → result ≡ Err (ParseError.Form FormError.MULTIPLE_QUESTIONS) }
         ensures one { question_count (message_octets self.now) ≡ 1
-            → Some (question_answer result) ≡ first_item (questions_of (message_octets self.now)) }
+            → Some (question_result result) ≡ first_item (questions_of (message_octets self.now)) }
     {
         if self.header_counts().qdcount() > 1 {
             return Err(ParseError::Form(FormError::MULTIPLE_QUESTIONS));

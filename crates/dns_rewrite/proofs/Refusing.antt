@@ -19,7 +19,7 @@ use Rattle.dns_build.specs.CopyRecords.{CopiesList, CopiesSection, CopiesSection
 use Rattle.dns_build.specs.CopyRecords.CopiesList.{none as no_record, copied as record_copied, refused, fault}
 use Rattle.dns_build.specs.CopyRecords.CopiesSection.{started, unstarted}
 use Rattle.dns_build.specs.CopyRecords.CopiesSections.{none as no_section, copied as section_copied, stopped}
-use Rattle.dns_build.specs.BuilderStates.{PushAnswers, size_after}
+use Rattle.dns_build.specs.BuilderStates.{PushReturns, size_after}
 use Rattle.dns_build.specs.State.{Every, InAdditional, InAnswer, InAuthority, InBuilder, InQuestion, Stage, State, most_entries, move_to, no_limit, records_at, stage_of, up_to, with_question, with_questions, with_record}
 use Rattle.dns_build.specs.declared.copy_records_error.CopyRecordsError.{CopyRecordsError}
 use Rattle.dns_build.specs.declared.copy_records_error.CopyRecordsError.TheVariants.{Push}
@@ -189,7 +189,7 @@ pub record AreFew (b : List ℕ) : Type 0 where
 
 module _ (grows : Bool) where
   question_refused : (s : State) (x : QuestionItem) (left : ℕ) (e : PushError) → IsOpen s → IsNamed x → length s.questions + (left + 1) ≤ most_entries
-      → PushAnswers None grows s.limit (size_after Static (with_question x) s) (length s.questions) (Err e) → e ≡ OutOfMemory
+      → PushReturns None grows s.limit (size_after Static (with_question x) s) (length s.questions) (Err e) → e ≡ OutOfMemory
   question_refused s x left OutOfMemory is one few p = refl
   question_refused s x left ShortBuf is one few p = absurd p
   question_refused s x left LimitExceeded is one few p = let l = asked_within s x is one in let q = p.1 in absurd (omega (arith, l, q))
@@ -207,7 +207,7 @@ module _ (grows : Bool) where
 
   -- pushing a short record fails only because an allocation failed
   push_refused : (stage : Stage) (s : State) (x : RecordItem) (left : ℕ) (e : PushError) → CanTake stage (left + 1) s → IsShort x
-      → PushAnswers None grows s.limit (size_after Static (with_record stage x) s) (length (records_at stage s)) (Err e) → e ≡ OutOfMemory
+      → PushReturns None grows s.limit (size_after Static (with_record stage x) s) (length (records_at stage s)) (Err e) → e ≡ OutOfMemory
   push_refused stage s x left OutOfMemory can one p = refl
   push_refused stage s x left ShortBuf can one p = absurd p
   push_refused stage s x left LimitExceeded can one p = let l = within_limit stage s x can.is_open one in let q = p.1 in absurd (omega (arith, l, q))

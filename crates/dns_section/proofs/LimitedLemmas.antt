@@ -8,18 +8,18 @@ use Rattle.dns_name.specs.Names.{Fault}
 use Rattle.dns_octets.specs.declared.error.ParseError.{ParseError}
 use Rattle.dns_data.specs.Layout.{Layout}
 use Rattle.dns_item.specs.Items.{RecordItem}
-use Rattle.dns_item.specs.DataAnswer.{HasSpan}
+use Rattle.dns_item.specs.ParsedData.{HasSpan}
 use Rattle.dns_item.specs.ParsedRecord.{EncodedRecord, encoded_record}
-use Rattle.dns_item.specs.TypedRecords.{answer_to}
+use Rattle.dns_item.specs.TypedRecords.{parsed_as}
 use Rattle.dns_item.specs.declared.parsed_record.ParsedRecord.{ParsedRecord}
-use Rattle.dns_section.specs.Given.{Given, PassesToAnswer, PassesToEnd, YieldsAnswer}
+use Rattle.dns_section.specs.Given.{Given, PassesToAnswer, PassesToEnd, YieldsOne}
 use Rattle.dns_section.specs.Given.Given.{none, more}
-use Rattle.dns_section.specs.Limited.{answer_to_item, limited, is_in_class_in, limited_by}
-use Rattle.dns_section.specs.RecordSection.{records_left, record_answer, GivesNext}
+use Rattle.dns_section.specs.Limited.{parsed_item, limited, is_in_class_in, limited_by}
+use Rattle.dns_section.specs.RecordSection.{records_left, record_result, GivesNext}
 use Rattle.dns_section.specs.declared.record_section.RecordSection.{RecordSection}
 
 pub limited-append : (layouts : ℕ → Option Layout) (xs ys : List (Result EncodedRecord Fault)) → limited layouts (xs ++ ys) ≡ limited layouts xs ++ limited layouts ys
-limited-append layouts xs ys = filter_map-append (answer_to_item layouts) xs ys
+limited-append layouts xs ys = filter_map-append (parsed_item layouts) xs ys
 
 pub limited_by-append : (layouts : ℕ → Option Layout) (in_only : Bool) (xs ys : List (Result EncodedRecord Fault))
     → limited_by layouts in_only (xs ++ ys) ≡ limited_by layouts in_only xs ++ limited_by layouts in_only ys
@@ -32,11 +32,11 @@ cons_option-nil (Some x) = refl
 
 -- what a data type yields for one record, which is of class IN if only such records are yielded
 pub limited_by-one : (layouts : ℕ → Option Layout) (in_only : Bool) (x : EncodedRecord) → (in_only ≡ true → (x.entry.class == 1) ≡ true)
-    → limited_by layouts in_only (Ok x ∷ []) ≡ option_to_list (answer_to layouts x)
+    → limited_by layouts in_only (Ok x ∷ []) ≡ option_to_list (parsed_as layouts x)
 limited_by-one layouts true x class =
     let one : List (Result EncodedRecord Fault) = Ok x ∷ [] in
-    ap (λ (b : Bool). limited layouts (if b then one else [])) (class refl) ∙ cons_option-nil (answer_to layouts x)
-limited_by-one layouts false x class = cons_option-nil (answer_to layouts x)
+    ap (λ (b : Bool). limited layouts (if b then one else [])) (class refl) ∙ cons_option-nil (parsed_as layouts x)
+limited_by-one layouts false x class = cons_option-nil (parsed_as layouts x)
 
 -- the RDATA of a record that a cursor yielded lies within the octets
 pub given_span : (old new : RecordSection) (r : ParsedRecord) → GivesNext old (Some (Ok r)) new → HasSpan (encoded_record r)
@@ -52,7 +52,7 @@ limited_by-none layouts false = refl
 
 -- the items of one more call
 given_last : {old mid new : RecordSection} {items : List (Result EncodedRecord Fault)} (answer : Result ParsedRecord ParseError) → Given old items mid → GivesNext mid (Some answer) new
-    → Given old (items ++ record_answer answer ∷ []) new
+    → Given old (items ++ record_result answer ∷ []) new
 given_last answer none calls = more answer calls refl none
 given_last answer (more first call is rest) calls = more first call is (given_last answer rest calls)
 
@@ -62,8 +62,8 @@ given_left none = refl
 given_left (more answer calls is rest) = calls.steps ∙ (λ i. is i ∷ given_left rest i)
 
 -- the item that is yielded is the first of what was left that the data type accepts
-pub passed_yields : {answers : List (Result EncodedRecord Fault) → List (Result RecordItem Fault)} {old new : RecordSection} {x : Result RecordItem Fault} → PassesToAnswer answers old new x
-    → YieldsAnswer answers (records_left old) (records_left new) x
+pub passed_yields : {accepted : List (Result EncodedRecord Fault) → List (Result RecordItem Fault)} {old new : RecordSection} {x : Result RecordItem Fault} → PassesToAnswer accepted old new x
+    → YieldsOne accepted (records_left old) (records_left new) x
 passed_yields {new = new} p = record {
   skipped = p.passed;
   last = p.last;
@@ -73,50 +73,50 @@ passed_yields {new = new} p = record {
 }
 
 -- the data type accepts nothing of what was left
-pub ended_yields : {answers : List (Result EncodedRecord Fault) → List (Result RecordItem Fault)} {old new : RecordSection} → PassesToEnd answers old new
-    → (answers (records_left old) ≡ []) × (records_left new ≡ [])
-ended_yields {answers = answers} p = (
-  ap answers (given_left p.given ∙ ap (λ (ys : List (Result EncodedRecord Fault)). p.passed ++ ys) p.ended.steps.0 ∙ append-nil p.passed) ∙ p.unanswered,
+pub ended_yields : {accepted : List (Result EncodedRecord Fault) → List (Result RecordItem Fault)} {old new : RecordSection} → PassesToEnd accepted old new
+    → (accepted (records_left old) ≡ []) × (records_left new ≡ [])
+ended_yields {accepted = accepted} p = (
+  ap accepted (given_left p.given ∙ ap (λ (ys : List (Result EncodedRecord Fault)). p.passed ++ ys) p.ended.steps.0 ∙ append-nil p.passed) ∙ p.unanswered,
   p.ended.steps.1,
 )
 
 -- the cursor yielded items that the data type doesn't accept
-pub record Passing (answers : List (Result EncodedRecord Fault) → List (Result RecordItem Fault)) (old now : RecordSection) : Type 0 where
+pub record Passing (accepted : List (Result EncodedRecord Fault) → List (Result RecordItem Fault)) (old now : RecordSection) : Type 0 where
   pub passed : List (Result EncodedRecord Fault)
   pub given : Given old passed now
-  pub unanswered : answers passed ≡ []
-  pub left : answers (records_left old) ≡ answers (records_left now)
+  pub unanswered : accepted passed ≡ []
+  pub left : accepted (records_left old) ≡ accepted (records_left now)
 
-module _ (answers : List (Result EncodedRecord Fault) → List (Result RecordItem Fault)) (nothing : answers [] ≡ []) (append : (xs ys : List (Result EncodedRecord Fault)) → answers (xs ++ ys) ≡ answers xs ++ answers ys) where
-  pub passing_none : (cursor : RecordSection) → Passing answers cursor cursor
+module _ (accepted : List (Result EncodedRecord Fault) → List (Result RecordItem Fault)) (nothing : accepted [] ≡ []) (append : (xs ys : List (Result EncodedRecord Fault)) → accepted (xs ++ ys) ≡ accepted xs ++ accepted ys) where
+  pub passing_none : (cursor : RecordSection) → Passing accepted cursor cursor
   passing_none cursor = record { passed = []; given = none; unanswered = nothing; left = refl }
 
   -- what was left, by the item that is yielded next
-  one_first : (old new : RecordSection) (answer : Result ParsedRecord ParseError) (given : List (Result RecordItem Fault)) → GivesNext old (Some answer) new → answers (record_answer answer ∷ []) ≡ given
-      → answers (records_left old) ≡ given ++ answers (records_left new)
+  one_first : (old new : RecordSection) (answer : Result ParsedRecord ParseError) (given : List (Result RecordItem Fault)) → GivesNext old (Some answer) new → accepted (record_result answer ∷ []) ≡ given
+      → accepted (records_left old) ≡ given ++ accepted (records_left new)
   one_first old new answer given calls is =
-      ap answers calls.steps ∙ append (record_answer answer ∷ []) (records_left new) ∙ ap (λ (ys : List (Result RecordItem Fault)). ys ++ answers (records_left new)) is
+      ap accepted calls.steps ∙ append (record_result answer ∷ []) (records_left new) ∙ ap (λ (ys : List (Result RecordItem Fault)). ys ++ accepted (records_left new)) is
 
-  pub passing_more : (old now new : RecordSection) (answer : Result ParsedRecord ParseError) → Passing answers old now → GivesNext now (Some answer) new → answers (record_answer answer ∷ []) ≡ []
-      → Passing answers old new
+  pub passing_more : (old now new : RecordSection) (answer : Result ParsedRecord ParseError) → Passing accepted old now → GivesNext now (Some answer) new → accepted (record_result answer ∷ []) ≡ []
+      → Passing accepted old new
   passing_more old now new answer p calls is = record {
-    passed = p.passed ++ record_answer answer ∷ [];
+    passed = p.passed ++ record_result answer ∷ [];
     given = given_last answer p.given calls;
-    unanswered = append p.passed (record_answer answer ∷ []) ∙ (λ i. p.unanswered i ++ is i);
+    unanswered = append p.passed (record_result answer ∷ []) ∙ (λ i. p.unanswered i ++ is i);
     left = p.left ∙ one_first now new answer [] calls is;
   }
 
-  pub passing_answered : (old now new : RecordSection) (answer : Result ParsedRecord ParseError) (x : Result RecordItem Fault) → Passing answers old now → GivesNext now (Some answer) new
-      → answers (record_answer answer ∷ []) ≡ x ∷ [] → (answers (records_left old) ≡ x ∷ answers (records_left new)) × PassesToAnswer answers old new x
+  pub passing_answered : (old now new : RecordSection) (answer : Result ParsedRecord ParseError) (x : Result RecordItem Fault) → Passing accepted old now → GivesNext now (Some answer) new
+      → accepted (record_result answer ∷ []) ≡ x ∷ [] → (accepted (records_left old) ≡ x ∷ accepted (records_left new)) × PassesToAnswer accepted old new x
   passing_answered old now new answer x p calls is = (
     p.left ∙ one_first now new answer (x ∷ []) calls is,
-    record { passed = p.passed; last = record_answer answer; given = given_last answer p.given calls; unanswered = p.unanswered; answered = is },
+    record { passed = p.passed; last = record_result answer; given = given_last answer p.given calls; unanswered = p.unanswered; answered = is },
   )
 
-  pub passing_ended : (old now new : RecordSection) → Passing answers old now → GivesNext now None new
-      → (answers (records_left old) ≡ []) × (answers (records_left new) ≡ []) × PassesToEnd answers old new
+  pub passing_ended : (old now new : RecordSection) → Passing accepted old now → GivesNext now None new
+      → (accepted (records_left old) ≡ []) × (accepted (records_left new) ≡ []) × PassesToEnd accepted old new
   passing_ended old now new p calls = (
-    p.left ∙ ap answers calls.steps.0 ∙ nothing,
-    ap answers calls.steps.1 ∙ nothing,
+    p.left ∙ ap accepted calls.steps.0 ∙ nothing,
+    ap accepted calls.steps.1 ∙ nothing,
     record { passed = p.passed; before_end = now; given = p.given; ended = calls; unanswered = p.unanswered },
   )

@@ -1,51 +1,51 @@
 -- How an iterator over records with parsed RDATA moves its cursor. RFC 1035 section 4.1.3.
 --
--- `answers` maps items to what the iterator yields for them: nothing for a record whose type the data type doesn't accept, or whose class isn't wanted.
+-- `accepted` maps items to what the iterator yields for them: nothing for a record whose type the data type doesn't accept, or whose class isn't wanted.
 use Rattle.std.specs.Prelude.{◌≡◌, List, [], ◌∷◌, ◌++◌, Option, Some, None, Result}
 use Rattle.dns_name.specs.Names.{Fault}
 use Rattle.dns_octets.specs.declared.error.ParseError.{ParseError}
 use Rattle.dns_item.specs.Items.{RecordItem}
 use Rattle.dns_item.specs.ParsedRecord.{EncodedRecord}
 use Rattle.dns_item.specs.declared.parsed_record.ParsedRecord.{ParsedRecord}
-use Rattle.dns_section.specs.RecordSection.{record_answer, GivesNext}
+use Rattle.dns_section.specs.RecordSection.{record_result, GivesNext}
 use Rattle.dns_section.specs.declared.record_section.RecordSection.{RecordSection}
 
 -- A cursor yields these items, in order, and becomes the second cursor.
 pub data Given : RecordSection → List (Result EncodedRecord Fault) → RecordSection → Type 0 where
   none : {cursor : RecordSection} → Given cursor [] cursor
   more : {old mid new : RecordSection} {item : Result EncodedRecord Fault} {items : List (Result EncodedRecord Fault)} (answer : Result ParsedRecord ParseError)
-      → GivesNext old (Some answer) mid → record_answer answer ≡ item → Given mid items new → Given old (item ∷ items) new
+      → GivesNext old (Some answer) mid → record_result answer ≡ item → Given mid items new → Given old (item ∷ items) new
 
 -- The cursor skips records for which nothing is yielded. For the next item, a record or a fault, `answer` is yielded.
-pub record PassesToAnswer (answers : List (Result EncodedRecord Fault) → List (Result RecordItem Fault)) (old new : RecordSection) (answer : Result RecordItem Fault) : Type 0 where
+pub record PassesToAnswer (accepted : List (Result EncodedRecord Fault) → List (Result RecordItem Fault)) (old new : RecordSection) (answer : Result RecordItem Fault) : Type 0 where
   pub passed : List (Result EncodedRecord Fault)
   pub last : Result EncodedRecord Fault
   pub given : Given old (passed ++ last ∷ []) new
-  pub unanswered : answers passed ≡ []
-  pub answered : answers (last ∷ []) ≡ answer ∷ []
+  pub unanswered : accepted passed ≡ []
+  pub answered : accepted (last ∷ []) ≡ answer ∷ []
 
 -- The cursor skips all remaining records, as nothing is yielded for them, and ends.
-pub record PassesToEnd (answers : List (Result EncodedRecord Fault) → List (Result RecordItem Fault)) (old new : RecordSection) : Type 0 where
+pub record PassesToEnd (accepted : List (Result EncodedRecord Fault) → List (Result RecordItem Fault)) (old new : RecordSection) : Type 0 where
   pub passed : List (Result EncodedRecord Fault)
   pub before_end : RecordSection
   pub given : Given old passed before_end
   pub ended : GivesNext before_end None new
-  pub unanswered : answers passed ≡ []
+  pub unanswered : accepted passed ≡ []
 
 -- The cursor skips records for which nothing is yielded, up to the first item for which the iterator yields its result, or to the end.
 abbrev pub PassesTo : {A : Type 0} → (A → Result RecordItem Fault) → (List (Result EncodedRecord Fault) → List (Result RecordItem Fault)) → RecordSection → RecordSection → Option A → Type 0
-PassesTo answer_of answers old new (Some answer) = PassesToAnswer answers old new (answer_of answer)
-PassesTo answer_of answers old new None = PassesToEnd answers old new
+PassesTo result_of accepted old new (Some answer) = PassesToAnswer accepted old new (result_of answer)
+PassesTo result_of accepted old new None = PassesToEnd accepted old new
 
 -- What was left is what was skipped, then the item for which `answer` is yielded, then what is left now.
-pub record YieldsAnswer (answers : List (Result EncodedRecord Fault) → List (Result RecordItem Fault)) (before after : List (Result EncodedRecord Fault)) (answer : Result RecordItem Fault) : Type 0 where
+pub record YieldsOne (accepted : List (Result EncodedRecord Fault) → List (Result RecordItem Fault)) (before after : List (Result EncodedRecord Fault)) (answer : Result RecordItem Fault) : Type 0 where
   pub skipped : List (Result EncodedRecord Fault)
   pub last : Result EncodedRecord Fault
   pub left : before ≡ skipped ++ last ∷ after
-  pub unanswered : answers skipped ≡ []
-  pub answered : answers (last ∷ []) ≡ answer ∷ []
+  pub unanswered : accepted skipped ≡ []
+  pub answered : accepted (last ∷ []) ≡ answer ∷ []
 
 -- The iterator yields its result for the first item that it doesn't skip. If it skips all, it yields nothing and nothing is left.
 abbrev pub YieldsNext : {A : Type 0} → (A → Result RecordItem Fault) → (List (Result EncodedRecord Fault) → List (Result RecordItem Fault)) → List (Result EncodedRecord Fault) → List (Result EncodedRecord Fault) → Option A → Type 0
-YieldsNext answer_of answers before after (Some answer) = YieldsAnswer answers before after (answer_of answer)
-YieldsNext answer_of answers before after None = (answers before ≡ []) × (after ≡ [])
+YieldsNext result_of accepted before after (Some answer) = YieldsOne accepted before after (result_of answer)
+YieldsNext result_of accepted before after None = (accepted before ≡ []) × (after ≡ [])

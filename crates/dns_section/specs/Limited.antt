@@ -5,16 +5,16 @@ use Rattle.dns_name.specs.Names.{Fault}
 use Rattle.dns_data.specs.Layout.{Layout}
 use Rattle.dns_item.specs.Items.{RecordItem}
 use Rattle.dns_item.specs.ParsedRecord.{EncodedRecord}
-use Rattle.dns_item.specs.TypedRecords.{answer_to}
+use Rattle.dns_item.specs.TypedRecords.{parsed_as}
 
--- what a data type yields for an item of a reading: as `answer_to` says for a record, and the fault itself for a fault
-abbrev pub answer_to_item : (ℕ → Option Layout) → Result EncodedRecord Fault → Option (Result RecordItem Fault)
-answer_to_item layouts (Ok x) = answer_to layouts x
-answer_to_item layouts (Err f) = Some (Err f)
+-- what a data type yields for an item of a reading: as `parsed_as` says for a record, and the fault itself for a fault
+abbrev pub parsed_item : (ℕ → Option Layout) → Result EncodedRecord Fault → Option (Result RecordItem Fault)
+parsed_item layouts (Ok x) = parsed_as layouts x
+parsed_item layouts (Err f) = Some (Err f)
 
 -- what a data type yields for a reading: each record of a type that it accepts with its parts, or the fault of its RDATA; and the reading's own fault, which is the last item
 abbrev pub limited : (ℕ → Option Layout) → List (Result EncodedRecord Fault) → List (Result RecordItem Fault)
-limited layouts = filter_map (answer_to_item layouts)
+limited layouts = filter_map (parsed_item layouts)
 
 -- whether an item is a record of class IN, which is 1, or a fault
 abbrev pub is_in_class_in : Result EncodedRecord Fault → Bool

@@ -31,9 +31,9 @@ abbrev pub questions_left : QuestionSection → List (Result QuestionItem Fault)
 questions_left section = items_left (λ n. questions_from (octets_of section) n (position section)) (to_come section)
 
 -- what a result of the cursor says: a question, or a fault
-abbrev pub question_answer : Result (Question ParsedName) ParseError → Result QuestionItem Fault
-question_answer (Ok question) = Ok (parsed_question question)
-question_answer (Err e) = Err (fault_of e)
+abbrev pub question_result : Result (Question ParsedName) ParseError → Result QuestionItem Fault
+question_result (Ok question) = Ok (parsed_question question)
+question_result (Err e) = Err (fault_of e)
 
 -- The cursor moves past a question that it yielded. It doesn't move at a question that can't be read, nor at the end.
 abbrev pub PassesQuestion : QuestionSection → QuestionSection → Option (Result (Question ParsedName) ParseError) → Type 0
@@ -43,7 +43,7 @@ PassesQuestion old new None = position new ≡ position old
 
 -- what a call of `next` returns, and the cursor after it
 pub record GivesNext (old : QuestionSection) (result : Option (Result (Question ParsedName) ParseError)) (new : QuestionSection) : Type 0 where
-  pub steps : YieldsFirstBy question_answer questions_left old result new
+  pub steps : YieldsFirstBy question_result questions_left old result new
   pub passes : PassesQuestion old new result
   pub counts : CountsDown (to_come old) (to_come new) result
   pub octets : octets_of new ≡ octets_of old

@@ -38,9 +38,9 @@ abbrev pub records_left : RecordSection → List (Result EncodedRecord Fault)
 records_left cursor = items_left (λ n. records_in (octets_of cursor) n (position cursor)) (to_come cursor)
 
 -- what a result of the cursor says: a record with the octets that it is read from, or a fault
-abbrev pub record_answer : Result ParsedRecord ParseError → Result EncodedRecord Fault
-record_answer (Ok r) = Ok (encoded_record r)
-record_answer (Err e) = Err (fault_of e)
+abbrev pub record_result : Result ParsedRecord ParseError → Result EncodedRecord Fault
+record_result (Ok r) = Ok (encoded_record r)
+record_result (Err e) = Err (fault_of e)
 
 -- The cursor moves past a record that it yielded, which is read from the message's octets. It doesn't move at a record that can't be read, nor at the end.
 abbrev pub PassesRecord : RecordSection → RecordSection → Option (Result ParsedRecord ParseError) → Type 0
@@ -50,7 +50,7 @@ PassesRecord old new None = position new ≡ position old
 
 -- what a call of `next` returns, and the cursor after it
 pub record GivesNext (old : RecordSection) (result : Option (Result ParsedRecord ParseError)) (new : RecordSection) : Type 0 where
-  pub steps : YieldsFirstBy record_answer records_left old result new
+  pub steps : YieldsFirstBy record_result records_left old result new
   pub passes : PassesRecord old new result
   pub counts : CountsDown (to_come old) (to_come new) result
   pub octets : octets_of new ≡ octets_of old

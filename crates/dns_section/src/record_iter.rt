@@ -1,13 +1,13 @@
 ghost use Rattle.std.specs.Prelude.{◌≡◌, true, false, ◌∷◌, [], Some, option_map, option_to_list, Err, IfErr};
 ghost use Rattle.std.specs.Iterator.{YieldsFirstBy, item_count};
 ghost use Rattle.std.specs.Result.{ForOk};
-ghost use Rattle.dns_item.specs.DataAnswer.{HasSpan};
+ghost use Rattle.dns_item.specs.ParsedData.{HasSpan};
 ghost use Rattle.dns_item.specs.ParsedRecord.{encoded_record};
-ghost use Rattle.dns_item.specs.TypedRecords.{typed_answer};
+ghost use Rattle.dns_item.specs.TypedRecords.{typed_result};
 ghost use Rattle.dns_section.specs.Given.{PassesTo, YieldsNext};
 ghost use Rattle.dns_section.specs.Limited.{limited, in_class_in, limited_by};
 ghost use Rattle.dns_section.specs.RecordIter.{cursor_of, takes_in_only, typed_left, GivesNext};
-ghost use Rattle.dns_section.specs.RecordSection.{to_come, record_answer, records_left, MovesOn};
+ghost use Rattle.dns_section.specs.RecordSection.{to_come, record_result, records_left, MovesOn};
 ghost use Rattle.dns_section.specs.Skipping.{KeepsError};
 
 use crate::record_section::RecordSection;
@@ -84,12 +84,12 @@ impl<'a, D: ParseRecordData<'a> + Drop> RecordIter<'a, D> {
     ///
     /// The cursor is then after the record that was yielded, and no later record has been read.
     pub fn next(&mut self) -> Option<Result<Record<ParsedName<'a>, D>, ParseError>>
-        ensures steps { YieldsFirstBy (typed_answer D.rtype_of D.parts) (typed_left D.layout)
+        ensures steps { YieldsFirstBy (typed_result D.rtype_of D.parts) (typed_left D.layout)
             self.old result self.new }
-        ensures moves { PassesTo (typed_answer D.rtype_of D.parts)
+        ensures moves { PassesTo (typed_result D.rtype_of D.parts)
             (limited_by D.layout (takes_in_only self.old)) (cursor_of self.old)
             (cursor_of self.new) result }
-        ensures yields { YieldsNext (typed_answer D.rtype_of D.parts)
+        ensures yields { YieldsNext (typed_result D.rtype_of D.parts)
             (limited_by D.layout (takes_in_only self.old)) (records_left (cursor_of self.old))
             (records_left (cursor_of self.new)) result }
         ensures kept { KeepsError (to_come (cursor_of self.new)) result }
@@ -112,8 +112,8 @@ fn typed<'a, D: ParseRecordData<'a> + Drop>(
     in_only: bool,
 ) -> Option<Result<Record<ParsedName<'a>, D>, ParseError>>
     requires { ForOk item (λ parsed. HasSpan (encoded_record parsed)) }
-    ensures answer { limited_by D.layout in_only (record_answer item.entry ∷ [])
-        ≡ option_to_list (option_map (typed_answer D.rtype_of D.parts) result) }
+    ensures answer { limited_by D.layout in_only (record_result item.entry ∷ [])
+        ≡ option_to_list (option_map (typed_result D.rtype_of D.parts) result) }
     ensures error { IfErr item.entry (λ e. result ≡ Some (Err e)) }
 {
     match item {

@@ -1,6 +1,6 @@
 //! Whether the remaining questions of two cursors are the same (RFC 1035 section 4.1.2).
 ghost use Rattle.std.specs.Prelude.{◌≡◌};
-ghost use Rattle.dns_section.specs.QuestionSection.{question_answer, questions_left};
+ghost use Rattle.dns_section.specs.QuestionSection.{question_result, questions_left};
 ghost use Rattle.dns_section.specs.SameQuestions.{same_item, same_readings};
 
 use crate::question_section::QuestionSection;
@@ -35,7 +35,7 @@ fn same_answers(
     answer: Result<Question<ParsedName<'_>>, ParseError>,
     other: Result<Question<ParsedName<'_>>, ParseError>,
 ) -> bool
-    ensures { result ≡ same_item (question_answer answer.entry) (question_answer other.entry) }
+    ensures { result ≡ same_item (question_result answer.entry) (question_result other.entry) }
 {
     match (answer, other) {
         (Ok(question), Ok(other)) => question == other,

@@ -15,16 +15,16 @@ use Rattle.dns_name.specs.declared.parsed_name.ParsedName.{ParsedName}
 use Rattle.dns_data.specs.Layout.{Layout}
 use Rattle.dns_data.specs.UnknownData.{opaque_layout}
 use Rattle.dns_item.specs.Items.{ReadsRecord}
-use Rattle.dns_item.specs.DataAnswer.{HasSpan}
-use Rattle.dns_item.specs.DataAnswer.IsDataAnswer.{whole, fault}
-use Rattle.dns_item.proofs.theory.TypedLemmas.{data_is_answered}
+use Rattle.dns_item.specs.ParsedData.{HasSpan}
+use Rattle.dns_item.specs.ParsedData.IsParsedData.{whole, fault}
+use Rattle.dns_item.proofs.theory.TypedLemmas.{data_is_parsed}
 use Rattle.dns_read.specs.SectionStarts.{start_of}
 use Rattle.dns_item.specs.ParsedRecord.{EncodedRecord, encoded_record, parsed_entry}
 use Rattle.dns_item.specs.declared.parsed_record.ParsedRecord.{ParsedRecord}
 use Rattle.dns_section.specs.RecordSection.{BeginsSection, PassesRecord, position, records_left}
 use Rattle.dns_section.specs.declared.record_section.RecordSection.{RecordSection}
 use Rattle.dns_item.specs.RecordPrinting.{record_fields_text}
-use Rattle.dns_item.specs.RecordReading.{up_to_data_end, AnswersLaidOut, HasData, HasDataFault, IsRecordOf, GivesTaken}
+use Rattle.dns_item.specs.RecordReading.{up_to_data_end, ReturnsLaidOut, HasData, HasDataFault, IsRecordOf, GivesTaken}
 use Rattle.dns_item.specs.RecordReading.WholeDataFaultAt.{first, left_over}
 use Rattle.dns_item.specs.Record.{owner_of, class_of, ttl_of, data_of}
 use Rattle.dns_item.specs.declared.record.Record.{Record}
@@ -73,11 +73,11 @@ module _ (x : EncodedRecord) (read : IsRead x) where
 
   -- the parts of well-formed RDATA
   pub parts_there : (layout : Layout) (parts : List Part) → HasData x.octets x.entry layout parts → data_parts x layout ≡ Some parts
-  parts_there layout parts h = ap result_ok (data_is_answered.only x layout (Ok parts) (whole span h))
+  parts_there layout parts h = ap result_ok (data_is_parsed.only x layout (Ok parts) (whole span h))
 
   -- malformed RDATA has no parts
   pub parts_missing : (layout : Layout) (f : Fault) → HasDataFault x.octets x.entry layout f → data_parts x layout ≡ None
-  parts_missing layout f h = ap result_ok (data_is_answered.only x layout (Err f) (fault span h))
+  parts_missing layout f h = ap result_ok (data_is_parsed.only x layout (Err f) (fault span h))
 
   -- opaque RDATA of at most 65,535 octets is well-formed
   pub no_fault : HasShortData x → (f : Fault) → HasDataFault x.octets x.entry opaque_layout f → ⊥
@@ -93,7 +93,7 @@ sections_printed b old new r answers authorities additionals a c d h =
     subst (λ (text : List ℕ). OnOk r (Appends old new text)) (sym (λ i. section_lines b Answer (a i) (section_lines b Authority (c i) (section_lines b Additional (d i) [])))) h
 
 module _ {D : Type 0} (rtype_of : D → ℕ) (parts_of : D → List Part) (x : EncodedRecord) (read : IsRead x) where
-  pub opaque_is_ok : HasShortData x → (r : Result (Record ParsedName D) ParseError) → AnswersLaidOut rtype_of parts_of x.octets x.entry opaque_layout r → IsOk r
+  pub opaque_is_ok : HasShortData x → (r : Result (Record ParsedName D) ParseError) → ReturnsLaidOut rtype_of parts_of x.octets x.entry opaque_layout r → IsOk r
   opaque_is_ok short (Ok r) h = refl
   opaque_is_ok short (Err e) h = absurd (no_fault x read short (fault_of e) (h.gives (there x read)))
 

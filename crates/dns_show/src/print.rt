@@ -6,8 +6,8 @@ ghost use Rattle.dns_code.specs.Header.{fields};
 ghost use Rattle.dns_code.specs.HeaderCounts.{counts as count_fields};
 ghost use Rattle.dns_item.specs.ParsedRecord.{encoded_record};
 ghost use Rattle.dns_read.specs.Message.{message_octets};
-ghost use Rattle.dns_section.specs.QuestionSection.{question_answer, questions_left};
-ghost use Rattle.dns_section.specs.RecordSection.{record_answer, records_left};
+ghost use Rattle.dns_section.specs.QuestionSection.{question_result, questions_left};
+ghost use Rattle.dns_section.specs.RecordSection.{record_result, records_left};
 ghost use Rattle.dns_show.specs.Show.{header_line, counts_line, line, question_line, record_line, section_word, IsRead, HasShortData, text_with, records_text, message_text};
 
 use crate::typed_data::TypedData;
@@ -80,7 +80,7 @@ fn print_question<W: Write>(
     question: Result<Question<ParsedName<'_>>, ParseError>,
 ) -> io::Result<()>
     ensures { OnOk result (Appends (W.contents writer.old) (W.contents writer.new)
-        (question_line (question_answer question.entry))) }
+        (question_line (question_result question.entry))) }
 {
     match question {
         Ok(question) => writeln!(writer, "question {question}"),
@@ -153,7 +153,7 @@ fn print_record<W: Write>(
     requires read { IfOk «record» (λ r. IsRead (encoded_record r)) }
     requires short { IfOk «record» (λ r. HasShortData (encoded_record r)) }
     ensures { OnOk result (Appends (W.contents writer.old) (W.contents writer.new)
-        (record_line word.now (record_answer «record».entry))) }
+        (record_line word.now (record_result «record».entry))) }
 {
     match record {
         Ok(record) => print_parsed(writer, word, &record),

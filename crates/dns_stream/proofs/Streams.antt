@@ -2,7 +2,7 @@
 use Rattle.std.proofs.Common.{◌≡◌, ℕ, suc, ◌+◌, ◌≤◌, Bool, Option, Some, None, Result, Err, List, [], ◌∷◌, ◌++◌, length, length-append, take, drop, ap, sym, ◌∙◌, refl, arith}
 use Rattle.std.proofs.lemmas.Grind.{common_steps}
 use Rattle.dns_wire.specs.Pieces.{put_octets}
-use Rattle.dns_wire.specs.Targets.{Written, Fits, Passes, Answers, Appends, cut_to, overwrite, with_empty_table as plain}
+use Rattle.dns_wire.specs.Targets.{Written, Fits, Passes, AppendReturns, Appends, cut_to, overwrite, with_empty_table as plain}
 use Rattle.dns_octets.specs.declared.error.AppendError.{AppendError}
 use Rattle.dns_octets.specs.declared.error.AppendError.TheVariants.{ShortBuf, OutOfMemory}
 use Rattle.dns_wire.proofs.theory.PieceLaws.{same_written}
@@ -46,7 +46,7 @@ fits_stream (Some capacity) t xs l few f =
     omega arith
 
 answers : (capacity : Option ℕ) (grows : Bool) (t : Written) (xs : List ℕ) (e : AppendError) → 2 ≤ length t.octets → Fits capacity (length t.octets) → length (drop 2 t.octets ++ xs) ≤ 65535
-    → Answers {X = Unit {0}} capacity grows (length (t.octets ++ xs)) (Err e) → Answers {X = Unit {0}} (stream_capacity capacity) grows (length (drop 2 t.octets ++ xs)) (Err e)
+    → AppendReturns {X = Unit {0}} capacity grows (length (t.octets ++ xs)) (Err e) → AppendReturns {X = Unit {0}} (stream_capacity capacity) grows (length (drop 2 t.octets ++ xs)) (Err e)
 answers capacity grows t xs ShortBuf l f few h = passes capacity t xs l f h
 answers capacity grows t xs OutOfMemory l f few h = (fits_stream capacity t xs l few h.0, h.1)
 

@@ -1,7 +1,7 @@
 //! A target for messages over a stream.
 ghost use Rattle.std.specs.Prelude.{◌≡◌, [], refl, IfOk, IfErr, OnErr, IsTrue};
 ghost use Rattle.dns_wire.specs.Pieces.{Plain};
-ghost use Rattle.dns_wire.specs.Targets.{Answers, with_empty_table};
+ghost use Rattle.dns_wire.specs.Targets.{AppendReturns, with_empty_table};
 ghost use Rattle.dns_stream.specs.Stream.{stream_capacity, with_prefix};
 
 use dns_wire::{AppendError, CloneTarget, Composer, ToName};
@@ -56,7 +56,7 @@ impl<T: Composer> StreamTarget<T> {
     pub fn new(target: T) -> Result<Self, AppendError>
         requires { T.rule ≡ Plain }
         ensures empty { IfOk result (λ stream. stream ≡ []) }
-        ensures answer { Answers T.capacity T.grows 2 result }
+        ensures answer { AppendReturns T.capacity T.grows 2 result }
     {
         let mut target = target;
         target.truncate(0);

@@ -10,7 +10,7 @@ use Rattle.dns_wire.proofs.theory.Stability.{name_at_within}
 use Rattle.dns_wire.specs.Targets.{Labelled, IsTableOf}
 use Rattle.dns_name.specs.Unique.{same_name, encoded_short}
 use Rattle.dns_wire.specs.Choice.{first_suffixes}
-use Rattle.dns_name.proofs.theory.AnswerLaws.{one_answer, not_both}
+use Rattle.dns_name.proofs.theory.NameOrFaultLaws.{one_answer, not_both}
 use Rattle.dns_wire.proofs.theory.TargetTheorems.{entries_are_names}
 use Rattle.dns_wire.proofs.theory.CompressionTables.{cut-within, cut_nothing, get-insert_same, get-insert_other, insert_cases, cut-insert_late, AreShorter, get-add_suffixes_longer}
 use Rattle.dns_target.specs.TableEntries.{AreAdded, with_names, table_entries, name_of, name_in, named, table_in, AreNew, last_end, AreOrdered, cut_table_entries, with_suffixes, FirstLabelAt, AreNamesAt}

@@ -6,7 +6,7 @@ use Rattle.dns_octets.specs.declared.error.AppendError.TheVariants.{ShortBuf, Ou
 use Rattle.dns_name.specs.Names.{Labels, IsName, name_size, max_size, uncompressed}
 use Rattle.dns_wire.specs.Pieces.{suffix_cmp, CompressionTable, TableEntry, IsClear, Plain, Rule, Static, Tree, put_octets, put_name}
 use Rattle.dns_wire.specs.Choice.{first_suffixes}
-use Rattle.dns_wire.specs.Targets.{IsTableOf, Written, lay, cut_to, overwrite, Fits, Passes, Answers, Appends, IsTarget}
+use Rattle.dns_wire.specs.Targets.{IsTableOf, Written, lay, cut_to, overwrite, Fits, Passes, AppendReturns, Appends, IsTarget}
 use Rattle.dns_wire.proofs.theory.PieceLaws.{same_written, puts_octets, puts_put_name}
 use Rattle.dns_wire.proofs.theory.PutNames.{ends_within_content}
 use Rattle.dns_wire.proofs.theory.SpelledNames.{is_table_cut, is_table_over}
@@ -81,13 +81,13 @@ octets_appended rule capacity grows all_grow w v now xs ys (Err e) h more s a =
     subst (λ (t : Written). Appends capacity all_grow (put_octets ys) t (with_table_entries v xs) {X = Unit {0}} (Err e)) s (record {
       ok = tt;
       err = ap (λ (t : Written). with_table_entries t xs) a.err;
-      answer = answer_by e a.answer;
+      answer = result_by e a.answer;
     })
   where
-    answer_by : (e : AppendError) → Answers {X = Unit {0}} capacity grows (length (lay (put_octets ys) w).octets) (Err e)
-        → Answers {X = Unit {0}} capacity all_grow (length (lay (put_octets ys) (with_table_entries w xs)).octets) (Err e)
-    answer_by ShortBuf k = k
-    answer_by OutOfMemory k = (k.0, more k.1)
+    result_by : (e : AppendError) → AppendReturns {X = Unit {0}} capacity grows (length (lay (put_octets ys) w).octets) (Err e)
+        → AppendReturns {X = Unit {0}} capacity all_grow (length (lay (put_octets ys) (with_table_entries w xs)).octets) (Err e)
+    result_by ShortBuf k = k
+    result_by OutOfMemory k = (k.0, more k.1)
 
 over_kept : (rule : Rule) (w v : Written) (xs : List TableEntry) (a : ℕ) (ys : List ℕ) (now : Written) → HasTableEntries rule w xs → v ≡ overwrite a ys w → with_table_entries w xs ≡ now
     → IsClear now.table a (length ys) → IsTableOf v.octets (table_in w.octets xs)
@@ -232,13 +232,13 @@ name_refused compressing capacity grows all_grow w v now xs us name text ss r e 
     (subst (λ (t : Written). Appends capacity all_grow (put_name compressing name) t (with_table_entries v xs) {X = Unit {0}} (Err e)) s (record {
       ok = tt;
       err = ap (λ (t : Written). with_table_entries t xs) a.err;
-      answer = answer_by e a.answer;
+      answer = result_by e a.answer;
     }))
   where
-    answer_by : (e : AppendError) → Answers {X = Unit {0}} capacity grows (length (lay (put_octets text) w).octets) (Err e)
-        → Answers {X = Unit {0}} capacity all_grow (length (lay (put_name compressing name) (with_table_entries w xs)).octets) (Err e)
-    answer_by ShortBuf k = subst (λ (ys : List ℕ). Passes capacity (length (w.octets ++ ys))) (sym put.octets) k
-    answer_by OutOfMemory k = (subst (λ (ys : List ℕ). Fits capacity (length (w.octets ++ ys))) (sym put.octets) k.0, more k.1)
+    result_by : (e : AppendError) → AppendReturns {X = Unit {0}} capacity grows (length (lay (put_octets text) w).octets) (Err e)
+        → AppendReturns {X = Unit {0}} capacity all_grow (length (lay (put_name compressing name) (with_table_entries w xs)).octets) (Err e)
+    result_by ShortBuf k = subst (λ (ys : List ℕ). Passes capacity (length (w.octets ++ ys))) (sym put.octets) k
+    result_by OutOfMemory k = (subst (λ (ys : List ℕ). Fits capacity (length (w.octets ++ ys))) (sym put.octets) k.0, more k.1)
 
 -- if one of two may allocate, both together may
 pub or_first : (a b : Bool) → a ≡ true → (a || b) ≡ true

@@ -17,11 +17,11 @@ use Rattle.dns_item.specs.Items.{RecordItem}
 use Rattle.dns_item.specs.ParsedRecord.{encoded_record}
 use Rattle.dns_item.specs.declared.parsed_record.ParsedRecord.{ParsedRecord}
 use Rattle.dns_item.specs.Record.{record_item}
-use Rattle.dns_item.specs.TypedRecords.{typed_answer}
+use Rattle.dns_item.specs.TypedRecords.{typed_result}
 use Rattle.dns_item.specs.declared.record.Record.{Record}
 use Rattle.dns_section.specs.Limited.{limited}
 use Rattle.dns_section.specs.Readings.{StartOrFault}
-use Rattle.dns_section.specs.RecordSection.{BeginsSection, position, records_left, record_answer}
+use Rattle.dns_section.specs.RecordSection.{BeginsSection, position, records_left, record_result}
 use Rattle.dns_section.specs.RecordsFrom.{records_in}
 use Rattle.dns_section.specs.Sections.{AnswersStart, AnswersFault, answer_count}
 use Rattle.dns_section.specs.declared.record_iter.RecordIter.{RecordIter}
@@ -54,14 +54,14 @@ one_left found b layouts x cursor begins one = ap (limited layouts) (all_left fo
 
 -- if the remaining records are as they were pushed, the next call yields the first of them
 pub encoded_first : (b : List ℕ) (x : RecordItem) (xs : List RecordItem) (old new : RecordSection) (result : Option (Result ParsedRecord ParseError))
-    → YieldsFirstBy record_answer records_left old result new → AllEncodedAs b (x ∷ xs) (records_left old) → IsSomeAnd result (λ answer. IsOkAnd answer (λ r. EncodedAs b x (encoded_record r)))
+    → YieldsFirstBy record_result records_left old result new → AllEncodedAs b (x ∷ xs) (records_left old) → IsSomeAnd result (λ answer. IsOkAnd answer (λ r. EncodedAs b x (encoded_record r)))
 encoded_first b x xs old new None steps all = subst (AllEncodedAs b (x ∷ xs)) steps.0 all
 encoded_first b x xs old new (Some (Ok r)) steps all = (subst (AllEncodedAs b (x ∷ xs)) steps all).0
 encoded_first b x xs old new (Some (Err e)) steps all = (subst (AllEncodedAs b (x ∷ xs)) steps all).0
 
 -- a record that was pushed first is the first that a cursor at the start of the answers yields
 pub pushed_first : (encoded : PushedRecordsAreEncoded) (found : StartsAreFound) (layouts : ℕ → Option Layout) (b : List ℕ) (x : RecordItem) (old new : RecordSection)
-    (result : Option (Result ParsedRecord ParseError)) → WasPushedFirst layouts b x → BeginsSection Answer b old → YieldsFirstBy record_answer records_left old result new
+    (result : Option (Result ParsedRecord ParseError)) → WasPushedFirst layouts b x → BeginsSection Answer b old → YieldsFirstBy record_result records_left old result new
     → IsSomeAnd result (λ answer. IsOkAnd answer (λ r. EncodedAs b x (encoded_record r)))
 pushed_first encoded found layouts b x old new result was begins steps =
     let all = subst (λ (xs : List RecordItem). AllEncodedAs b xs (records_of Answer b)) was.first (encoded was.s b was.reads_back Answer) in
@@ -85,7 +85,7 @@ in_vain law rule x old full new result refused accepted rewinds s represents non
 module _ {D : Type 0} (rtype_of : D → ℕ) (parts_of : D → List Part) where
   -- if one record remains, the next call yields it
   pub one_given : (left : RecordIter D → List (Result RecordItem Fault)) (old new : RecordIter D) (x : RecordItem) (result : Option (Result (Record ParsedName D) ParseError))
-      → YieldsFirstBy (typed_answer rtype_of parts_of) left old result new → left old ≡ Ok x ∷ []
+      → YieldsFirstBy (typed_result rtype_of parts_of) left old result new → left old ≡ Ok x ∷ []
       → IsSomeAnd result (λ answer. IsOkAnd answer (λ r. record_item labels rtype_of parts_of r ≡ x))
   one_given left old new x None steps is = let none : [] ≡ Ok x ∷ [] = sym steps.0 ∙ is in absurd (cc)
   one_given left old new x (Some (Ok r)) steps is =

@@ -17,10 +17,10 @@ use Rattle.dns_data.specs.UnknownData.{opaque_layout}
 use Rattle.dns_item.specs.ParsedRecord.{EncodedRecord}
 use Rattle.dns_item.specs.Record.{owner_of, class_of, ttl_of, data_of}
 use Rattle.dns_item.specs.RecordPrinting.{record_fields_text}
-use Rattle.dns_item.specs.RecordReading.{AnswersTaken, AnswersLaidOut, GivesTaken, IsRecordOf}
+use Rattle.dns_item.specs.RecordReading.{ReturnsTaken, ReturnsLaidOut, GivesTaken, IsRecordOf}
 use Rattle.dns_item.specs.declared.parsed_record.ParsedRecord.{ParsedRecord}
 use Rattle.dns_item.specs.declared.record.Record.{Record}
-use Rattle.dns_section.specs.RecordSection.{record_answer}
+use Rattle.dns_section.specs.RecordSection.{record_result}
 use Rattle.dns_show.proofs.theory.AppendedTexts.{appends_both, appends_none}
 use Rattle.dns_transfer.specs.Printed.{ending, HasNoOctets, IsItemText, IsItemsText, IsRecordLine, IsTransferText, Prints}
 use Rattle.dns_transfer.specs.Transfer.{AreMessagesOf, AreTransferred, Taken, is_whole}
@@ -40,19 +40,19 @@ none_printed old = ([], ([], tt, refl), appends_none old)
 
 -- the line of the next item
 pub more_printed : (xs : List Item) (i : ℕ) (m : Item) (a b c : Option (List ℕ)) → i < length xs → m ≡ get_or xs i m
-    → Prints (IsItemsText (map record_answer (take i xs))) a b → Prints (IsItemText (record_answer m)) b c → Prints (IsItemsText (map record_answer (take (i + 1) xs))) a c
+    → Prints (IsItemsText (map record_result (take i xs))) a b → Prints (IsItemText (record_result m)) b c → Prints (IsItemsText (map record_result (take (i + 1) xs))) a c
 more_printed xs i m a b c within at p h =
-    let front = map record_answer (take i xs) in
-    let all : map record_answer (take (i + 1) xs) ≡ front ++ record_answer m ∷ [] =
-    ap (map record_answer) (take_more xs i m within) ∙ map-append record_answer (take i xs) (get_or xs i m ∷ []) ∙ ap (λ (x : Item). front ++ record_answer x ∷ []) (sym at) in
+    let front = map record_result (take i xs) in
+    let all : map record_result (take (i + 1) xs) ≡ front ++ record_result m ∷ [] =
+    ap (map record_result) (take_more xs i m within) ∙ map-append record_result (take i xs) (get_or xs i m ∷ []) ∙ ap (λ (x : Item). front ++ record_result x ∷ []) (sym at) in
     let lines = p.1.0 in
     let joined : p.0 ++ h.0 ≡ concat (lines ++ h.0 ∷ []) =
     ap (λ l. l ++ h.0) p.1.2 ∙ ap (λ l. concat lines ++ l) (sym (append-nil h.0)) ∙ sym (concat-append lines (h.0 ∷ [])) in
     subst (λ (ys : List Taken). Prints (IsItemsText ys) a c) (sym all)
-    (p.0 ++ h.0, (lines ++ h.0 ∷ [], zip_more front lines (record_answer m) h.0 p.1.1 h.1, joined), appends_both a b c p.0 h.0 p.2 h.2)
+    (p.0 ++ h.0, (lines ++ h.0 ∷ [], zip_more front lines (record_result m) h.0 p.1.1 h.1, joined), appends_both a b c p.0 h.0 p.2 h.2)
 
 -- items are whole if all of them are records
-pub whole_items : (xs : List Item) → is_whole (map record_answer xs) ≡ list_all is_ok xs
+pub whole_items : (xs : List Item) → is_whole (map record_result xs) ≡ list_all is_ok xs
 whole_items [] = refl
 whole_items (Ok x ∷ xs) = whole_items xs
 whole_items (Err e ∷ xs) = refl
@@ -64,17 +64,17 @@ nothing_left items (octet ∷ rest) a e = absurd (omega arith)
 
 module _ (items : List Item) where
   -- what the last line is if something is left over
-  last_line : (octet : ℕ) (rest : List ℕ) (whole : Bool) → list_all is_ok items ≡ whole → ending (map record_answer items) (octet ∷ rest) ≡ (if whole then codes "unreadable message\n" else [])
+  last_line : (octet : ℕ) (rest : List ℕ) (whole : Bool) → list_all is_ok items ≡ whole → ending (map record_result items) (octet ∷ rest) ≡ (if whole then codes "unreadable message\n" else [])
   last_line octet rest whole e = ap (λ (b : Bool). if b then codes "unreadable message\n" else []) (whole_items items ∙ e)
 
   -- nor if an item can't be read
-  pub fault_told : (rest : List ℕ) (a : Option (List ℕ)) → list_all is_ok items ≡ false → Appends a a (ending (map record_answer items) rest)
+  pub fault_told : (rest : List ℕ) (a : Option (List ℕ)) → list_all is_ok items ≡ false → Appends a a (ending (map record_result items) rest)
   fault_told [] a e = appends_none a
   fault_told (octet ∷ rest) a e = subst (λ (l : List ℕ). Appends a a l) (sym (last_line octet rest false e)) (appends_none a)
 
   -- otherwise it is printed
   pub ending_printed : {X E : Type 0} (r : Result X E) (rest : List ℕ) (a b : Option (List ℕ)) → (length rest ≡ 0 → ⊥) → list_all is_ok items ≡ true → OnOk r (Appends a b (codes "unreadable message\n"))
-      → OnOk r (Appends a b (ending (map record_answer items) rest))
+      → OnOk r (Appends a b (ending (map record_result items) rest))
   ending_printed r [] a b some e h = absurd (some refl)
   ending_printed r (octet ∷ rest) a b some e h = subst (λ (l : List ℕ). OnOk r (Appends a b l)) (sym (last_line octet rest true e)) h
 
@@ -117,23 +117,23 @@ module _ {D : Type 0} (rtype_of : D → ℕ) (parts_of : D → List Part) (x : E
   taken_line r (Some layout) h value = same_line r (parts_of (data_of r)) h.0 value
 
   -- the line of a record whose RDATA is of one type
-  pub typed_line : (r : Record ParsedName D) (taken : Option Layout) → AnswersTaken rtype_of parts_of x.octets x.entry taken (Ok (Some r)) → (value : List ℕ)
+  pub typed_line : (r : Record ParsedName D) (taken : Option Layout) → ReturnsTaken rtype_of parts_of x.octets x.entry taken (Ok (Some r)) → (value : List ℕ)
       → IsItemText (Ok x) (record_fields_text (name_text (labels (owner_of r))) (ttl_of r) (class_of r) (rtype_of (data_of r)) value ++ codes "\n")
-  typed_line r taken answers value =
+  typed_line r taken returned value =
       elim (cases_lt (length x.octets) x.entry.data_end) [
-        | inl missing ↦ let e = answers.missing (λ there. omega arith) in cc e
-        | inr there ↦ inl (taken_line r taken (answers.gives there) value)
+        | inl missing ↦ let e = returned.missing (λ there. omega arith) in cc e
+        | inr there ↦ inl (taken_line r taken (returned.gives there) value)
       ]
 
   -- the line of a record whose RDATA is of any type
-  pub any_line : (r : Record ParsedName D) (layout : Layout) → AnswersLaidOut rtype_of parts_of x.octets x.entry layout (Ok r) → (value : List ℕ)
+  pub any_line : (r : Record ParsedName D) (layout : Layout) → ReturnsLaidOut rtype_of parts_of x.octets x.entry layout (Ok r) → (value : List ℕ)
       → IsItemText (Ok x) (record_fields_text (name_text (labels (owner_of r))) (ttl_of r) (class_of r) (rtype_of (data_of r)) value ++ codes "\n")
-  any_line r layout answers value =
+  any_line r layout returned value =
       elim (cases_lt (length x.octets) x.entry.data_end) [
-        | inl missing ↦ let e = answers.missing (λ there. omega arith) in cc e
-        | inr there ↦ let given = answers.gives there in inl (same_line r (parts_of (data_of r)) given.0 value)
+        | inl missing ↦ let e = returned.missing (λ there. omega arith) in cc e
+        | inr there ↦ let given = returned.gives there in inl (same_line r (parts_of (data_of r)) given.0 value)
       ]
 
   -- RDATA that can't be read
-  pub no_octets : (e : ParseError) → AnswersLaidOut rtype_of parts_of x.octets x.entry opaque_layout (Err e) → HasNoOctets x
-  no_octets e answers = λ there. (fault_of e, answers.gives there)
+  pub no_octets : (e : ParseError) → ReturnsLaidOut rtype_of parts_of x.octets x.entry opaque_layout (Err e) → HasNoOctets x
+  no_octets e returned = λ there. (fault_of e, returned.gives there)

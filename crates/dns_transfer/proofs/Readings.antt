@@ -8,7 +8,7 @@ use Rattle.dns_item.specs.Items.{RecordEntry, ReadsRecord, RecordFaultAt}
 use Rattle.dns_item.specs.declared.parsed_record.ParsedRecord.{ParsedRecord}
 use Rattle.dns_section.specs.Reading.{Reading}
 use Rattle.dns_section.specs.Reading.Reading.{none, entry, stop}
-use Rattle.dns_section.specs.RecordSection.{position, records_left, record_answer, BeginsSection}
+use Rattle.dns_section.specs.RecordSection.{position, records_left, record_result, BeginsSection}
 use Rattle.dns_section.specs.RecordsFrom.{in_octets, records_in}
 use Rattle.dns_section.specs.Sections.{answer_count, AnswersFault}
 use Rattle.dns_section.specs.declared.record_section.RecordSection.{RecordSection}
@@ -40,9 +40,9 @@ module _ (b : List ℕ) where
 
   -- if the section has no start, the error for that is the only item
   pub takes_fault : (old new : List (Result ParsedRecord ParseError)) (e : ParseError) → AnswersFault b (fault_of e) → new ≡ old ++ Err e ∷ []
-      → TakesAnswers b (map record_answer old) (map record_answer new) false
+      → TakesAnswers b (map record_result old) (map record_result new) false
   takes_fault old new e faulty is =
-      (Err (fault_of e) ∷ [], no_section (fault_of e) faulty, ap (map record_answer) is ∙ map-append record_answer old (Err e ∷ []), refl)
+      (Err (fault_of e) ∷ [], no_section (fault_of e) faulty, ap (map record_result) is ∙ map-append record_result old (Err e ∷ []), refl)
 
 -- From the answers of the first messages to those of one more.
 module _ {M : Type 0} (octets_of : M → List ℕ) (messages : List M) where

@@ -3,7 +3,7 @@ ghost use Rattle.std.specs.Prelude.{◌≡◌, map, is_ok, Ok, OnOk};
 ghost use Rattle.std.specs.Io.KnownBytes.{Appends};
 ghost use Rattle.std.specs.List.{list_all};
 ghost use Rattle.dns_item.specs.ParsedRecord.{encoded_record};
-ghost use Rattle.dns_section.specs.RecordSection.{record_answer};
+ghost use Rattle.dns_section.specs.RecordSection.{record_result};
 ghost use Rattle.dns_transfer.specs.Printed.{ending, IsItemText, IsItemsText, IsTransferText, Prints};
 
 use crate::transfer::{Item, items, messages};
@@ -31,7 +31,7 @@ pub(crate) fn print_transfer<W: Write>(
 
 /// Prints a line for each item.
 fn print_items<W: Write>(writer: &mut W, items: &[Item<'_>]) -> io::Result<()>
-    ensures { OnOk result (Prints (IsItemsText (map record_answer items.now))
+    ensures { OnOk result (Prints (IsItemsText (map record_result items.now))
         (W.contents writer.old) (W.contents writer.new)) }
 {
     for item in items {
@@ -42,7 +42,7 @@ fn print_items<W: Write>(writer: &mut W, items: &[Item<'_>]) -> io::Result<()>
 
 /// Prints the line of a record, or that it can't be read.
 fn print_item<W: Write>(writer: &mut W, item: &Item<'_>) -> io::Result<()>
-    ensures { OnOk result (Prints (IsItemText (record_answer item.now))
+    ensures { OnOk result (Prints (IsItemText (record_result item.now))
         (W.contents writer.old) (W.contents writer.new)) }
 {
     match item {
@@ -75,7 +75,7 @@ fn print_record<W: Write>(writer: &mut W, record: &ParsedRecord<'_>) -> io::Resu
 /// Prints that octets are left over, if all records could be read.
 fn print_ending<W: Write>(writer: &mut W, items: &[Item<'_>], rest: &[u8]) -> io::Result<()>
     ensures { OnOk result (Appends (W.contents writer.old) (W.contents writer.new)
-        (ending (map record_answer items.now) rest.now)) }
+        (ending (map record_result items.now) rest.now)) }
 {
     if rest.is_empty() || !is_whole(items) {
         return Ok(());

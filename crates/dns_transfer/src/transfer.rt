@@ -1,7 +1,7 @@
 //! The messages of a stream, and the records of their answer sections.
 ghost use Rattle.std.specs.Prelude.{◌≡◌, List, map, IfOk, MatchOption};
 ghost use Rattle.dns_read.specs.Message.{message_octets};
-ghost use Rattle.dns_section.specs.RecordSection.{record_answer, records_left};
+ghost use Rattle.dns_section.specs.RecordSection.{record_result, records_left};
 ghost use Rattle.dns_transfer.specs.Transfer.{AreMessagesOf, AreTransferred, BeginsWithNone, Taken};
 ghost use Rattle.dns_transfer.specs.Taking.{BeginsWith, Takes, TakesAnswers};
 
@@ -49,12 +49,12 @@ pub(crate) fn items<'a>(
     messages: &'a [Message<&'a [u8]>],
 ) -> Result<Vec<Item<'a>>, AllocError>
     ensures given { IfOk result (λ items. AreTransferred (map message_octets messages.now)
-        (map record_answer items.items)) }
+        (map record_result items.items)) }
 
     // There is only one such list.
     ensures one { IfOk result (λ items. (xs : List Taken)
         → AreTransferred (map message_octets messages.now) xs
-        → xs ≡ map record_answer items.items) }
+        → xs ≡ map record_result items.items) }
 {
     let mut items = Vec::new(alloc);
     for message in messages {
@@ -71,7 +71,7 @@ fn take_answers<'a>(
     items: &mut Vec<Item<'a>>,
 ) -> Result<bool, AllocError>
     ensures { IfOk result (TakesAnswers (message_octets message.now)
-        (map record_answer items.old.items) (map record_answer items.new.items)) }
+        (map record_result items.old.items) (map record_result items.new.items)) }
 {
     match message.answer() {
         Ok(records) => take_records(records, items),
@@ -88,7 +88,7 @@ fn take_records<'a>(
     items: &mut Vec<Item<'a>>,
 ) -> Result<bool, AllocError>
     ensures { IfOk result (Takes (records_left records.entry)
-        (map record_answer items.old.items) (map record_answer items.new.items)) }
+        (map record_result items.old.items) (map record_result items.new.items)) }
 {
     for item in records {
         match item {

@@ -72,28 +72,28 @@ Passes None n = ⊥
 Passes (Some capacity) n = capacity < n
 
 -- The result of an append that would leave n octets: `ShortBuf` if they exceed the capacity, else success, or `OutOfMemory` if the target may allocate.
-abbrev pub Answers : {X : Type 0} → Option ℕ → Bool → ℕ → Result X AppendError → Type 0
-Answers capacity grows n (Ok x) = Fits capacity n
-Answers capacity grows n (Err ShortBuf) = Passes capacity n
-Answers capacity grows n (Err OutOfMemory) = Fits capacity n × IsTrue grows
+abbrev pub AppendReturns : {X : Type 0} → Option ℕ → Bool → ℕ → Result X AppendError → Type 0
+AppendReturns capacity grows n (Ok x) = Fits capacity n
+AppendReturns capacity grows n (Err ShortBuf) = Passes capacity n
+AppendReturns capacity grows n (Err OutOfMemory) = Fits capacity n × IsTrue grows
 
--- The result of several appends that would leave n octets: as `Answers`, but `OutOfMemory` may also come before the capacity is exceeded.
-abbrev pub AnswersInSteps : {X : Type 0} → Option ℕ → Bool → ℕ → Result X AppendError → Type 0
-AnswersInSteps capacity grows n (Ok x) = Fits capacity n
-AnswersInSteps capacity grows n (Err ShortBuf) = Passes capacity n
-AnswersInSteps capacity grows n (Err OutOfMemory) = IsTrue grows
+-- The result of several appends that would leave n octets: as `AppendReturns`, but `OutOfMemory` may also come before the capacity is exceeded.
+abbrev pub ComposeReturns : {X : Type 0} → Option ℕ → Bool → ℕ → Result X AppendError → Type 0
+ComposeReturns capacity grows n (Ok x) = Fits capacity n
+ComposeReturns capacity grows n (Err ShortBuf) = Passes capacity n
+ComposeReturns capacity grows n (Err OutOfMemory) = IsTrue grows
 
 -- One append of an encoding. On error nothing changes.
 pub record Appends (capacity : Option ℕ) (grows : Bool) (piece : Piece) (before after : Written) {X : Type 0} (result : Result X AppendError) : Type 0 where
   pub ok : OnOk result (after ≡ lay piece before)
   pub err : OnErr result (after ≡ before)
-  pub answer : Answers capacity grows (length (lay piece before).octets) result
+  pub answer : AppendReturns capacity grows (length (lay piece before).octets) result
 
 -- An encoding appended in several steps. On error, truncating to the old length undoes it.
 pub record Composes (capacity : Option ℕ) (grows : Bool) (piece : Piece) (before after : Written) {X : Type 0} (result : Result X AppendError) : Type 0 where
   pub ok : OnOk result (after ≡ lay piece before)
   pub err : OnErr result (cut_to (length before.octets) after ≡ cut_to (length before.octets) before)
-  pub answer : AnswersInSteps capacity grows (length (lay piece before).octets) result
+  pub answer : ComposeReturns capacity grows (length (lay piece before).octets) result
 
 -- What a target holds, coded as plain data, so that it can be the value of a model.
 

@@ -7,33 +7,33 @@ use Rattle.dns_name.specs.declared.parsed_name.ParsedName.{ParsedName}
 use Rattle.dns_octets.specs.declared.error.ParseError.{ParseError}
 use Rattle.dns_wire.specs.Parts.{Part}
 use Rattle.dns_data.specs.Layout.{Layout}
-use Rattle.dns_item.specs.DataAnswer.{HasSpan, one_data_answer}
-use Rattle.dns_item.specs.DataAnswer.IsDataAnswer.{whole, fault}
+use Rattle.dns_item.specs.ParsedData.{HasSpan, one_parsed_data}
+use Rattle.dns_item.specs.ParsedData.IsParsedData.{whole, fault}
 use Rattle.dns_item.specs.Items.{RecordItem}
 use Rattle.dns_item.specs.ParsedRecord.{EncodedRecord}
 use Rattle.dns_item.specs.Record.{data_of}
-use Rattle.dns_item.specs.RecordReading.{GivesLaidOut, GivesTaken, AnswersLaidOut, AnswersTaken}
-use Rattle.dns_item.specs.TypedRecords.{data_in, DataIsAnswered, with_parts, laid_out, typed_answer}
+use Rattle.dns_item.specs.RecordReading.{GivesLaidOut, GivesTaken, ReturnsLaidOut, ReturnsTaken}
+use Rattle.dns_item.specs.TypedRecords.{data_in, DataIsParsed, with_parts, laid_out, typed_result}
 use Rattle.dns_item.specs.declared.record.Record.{Record}
 
-pub data_is_answered : DataIsAnswered
+pub data_is_parsed : DataIsParsed
 unfolding data_in
-data_is_answered = record {
-  answer = λ x layout. (one_data_answer x layout).some.1;
-  only = λ x layout r h. (one_data_answer x layout).one _ r (one_data_answer x layout).some.1 h;
+data_is_parsed = record {
+  answer = λ x layout. (one_parsed_data x layout).some.1;
+  only = λ x layout r h. (one_parsed_data x layout).one _ r (one_parsed_data x layout).some.1 h;
 }
 
 module _ {D : Type 0} (rtype_of : D → ℕ) (parts_of : D → List Part) (x : EncodedRecord) (span : HasSpan x) where
   -- reading RDATA of the layout returns the record, or the fault
   pub laid_out-given : (layout : Layout) (r : Result (Record ParsedName D) ParseError) → GivesLaidOut rtype_of parts_of x.octets x.entry layout r
-      → typed_answer rtype_of parts_of r ≡ laid_out x layout
+      → typed_result rtype_of parts_of r ≡ laid_out x layout
   laid_out-given layout (Ok r) h =
       ap (λ (item : RecordItem). let y : Result RecordItem Fault = Ok item in y) h.0
-      ∙ sym (ap (with_parts x.entry) (data_is_answered.only x layout (Ok (parts_of (data_of r))) (whole span h.1)))
-  laid_out-given layout (Err e) h = sym (ap (with_parts x.entry) (data_is_answered.only x layout (Err (fault_of e)) (fault span h)))
+      ∙ sym (ap (with_parts x.entry) (data_is_parsed.only x layout (Ok (parts_of (data_of r))) (whole span h.1)))
+  laid_out-given layout (Err e) h = sym (ap (with_parts x.entry) (data_is_parsed.only x layout (Err (fault_of e)) (fault span h)))
 
   given : (taken : Option Layout) (r : Result (Option (Record ParsedName D)) ParseError) → GivesTaken rtype_of parts_of x.octets x.entry taken r
-      → option_map (typed_answer rtype_of parts_of) (result_transpose r) ≡ option_map (laid_out x) taken
+      → option_map (typed_result rtype_of parts_of) (result_transpose r) ≡ option_map (laid_out x) taken
   given None (Ok None) h = refl
   given None (Ok (Some r)) h = absurd h
   given None (Err e) h = absurd h
@@ -42,10 +42,10 @@ module _ {D : Type 0} (rtype_of : D → ℕ) (parts_of : D → List Part) (x : E
   given (Some layout) (Err e) h = ap (λ (y : Result RecordItem Fault). Some y) (laid_out-given layout (Err e) h)
 
   -- the same of a record whose RDATA is all there
-  pub laid_out-answered : (layout : Layout) (r : Result (Record ParsedName D) ParseError) → AnswersLaidOut rtype_of parts_of x.octets x.entry layout r
-      → typed_answer rtype_of parts_of r ≡ laid_out x layout
+  pub laid_out-answered : (layout : Layout) (r : Result (Record ParsedName D) ParseError) → ReturnsLaidOut rtype_of parts_of x.octets x.entry layout r
+      → typed_result rtype_of parts_of r ≡ laid_out x layout
   laid_out-answered layout r h = laid_out-given layout r (h.gives span.end)
 
-  pub answer_to-answered : (taken : Option Layout) (r : Result (Option (Record ParsedName D)) ParseError) → AnswersTaken rtype_of parts_of x.octets x.entry taken r
-      → option_map (typed_answer rtype_of parts_of) (result_transpose r) ≡ option_map (laid_out x) taken
-  answer_to-answered taken r h = given taken r (h.gives span.end)
+  pub parsed_as-answered : (taken : Option Layout) (r : Result (Option (Record ParsedName D)) ParseError) → ReturnsTaken rtype_of parts_of x.octets x.entry taken r
+      → option_map (typed_result rtype_of parts_of) (result_transpose r) ≡ option_map (laid_out x) taken
+  parsed_as-answered taken r h = given taken r (h.gives span.end)

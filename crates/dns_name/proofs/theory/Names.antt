@@ -3,7 +3,7 @@ use Rattle.std.proofs.Common.{arith, inl, inr, refl, Ok, Err}
 use Rattle.dns_name.specs.Laws.{NameOrFault, NameOrFaultNotBoth, OneName, OneFault, EndOrSkipFault, EndOrSkipFaultNotBoth, OneEnd, EncodedNamesEnd, SkipFaultsAreFaults, SkippingEndsAlike, SkippingFailsAlike}
 use Rattle.dns_name.specs.Parsers.{seen}
 use Rattle.dns_name.specs.Unique.{same_name as same, encoded_short}
-use Rattle.dns_name.proofs.theory.AnswerLaws as answers
+use Rattle.dns_name.proofs.theory.NameOrFaultLaws as answers
 use Rattle.dns_name.proofs.theory.WalkLaws as walks
 
 pub name_or_fault : NameOrFault

@@ -12,7 +12,7 @@ use Rattle.dns_name.specs.Names.{Labels, IsName}
 use Rattle.dns_name.specs.Parsers.{number_at}
 use Rattle.dns_wire.specs.Pieces.{Rule, Piece, IsGrowing, put_octets, both, put_name, CompressionTable, with_length, TableEntry, cut, ends_within}
 use Rattle.dns_wire.specs.Parts.{Part, Octets, CompressibleName, PartsAt, AreParts, put_parts}
-use Rattle.dns_wire.specs.Targets.{At, Spelled, Written, IsTarget, lay, cut_to, Fits, Passes, AnswersInSteps, Composes}
+use Rattle.dns_wire.specs.Targets.{At, Spelled, Written, IsTarget, lay, cut_to, Fits, Passes, ComposeReturns, Composes}
 use Rattle.dns_wire.specs.TargetLaws.{CutUndoes, AppendsCompose, ComposesBoth, ComposesFirst}
 use Rattle.dns_wire.proofs.theory.CompressionTables.{cut-extends, cut-within, gets, get-cut, same_table}
 use Rattle.dns_wire.proofs.theory.PutNames.{put_name_grows, put_octets_grows, both_grows, with_length_grows, ends_within_content, puts_name}
@@ -256,7 +256,7 @@ composes_both capacity grows a b t u v (Err d) g e h = record {
       let longer : length t.octets ≤ length u.octets = rw e (rw length-append (omega arith)) in
       sym (cut_to-cut_to v (length t.octets) (length u.octets) longer) ∙ ap (cut_to (length t.octets)) h.err
       ∙ cut_to-cut_to u _ _ longer ∙ ap (cut_to (length t.octets)) e ∙ cut_to-lay a t (length t.octets) g (omega arith);
-  answer = subst (λ w. AnswersInSteps {X = Unit} capacity grows (length w.octets) (Err d)) (ap (lay b) e ∙ lay-both a b t) h.answer;
+  answer = subst (λ w. ComposeReturns {X = Unit} capacity grows (length w.octets) (Err d)) (ap (lay b) e ∙ lay-both a b t) h.answer;
 }
 
 -- An error in composing the first encoding is one in composing both.

@@ -3,21 +3,21 @@ use Rattle.dns_c.proofs.walk.read.Goals as goal
 
 pub returns-then-cursor-eq0 : goal.returns-then-cursor-eq0
 returns-then-cursor-eq0 c =
-    let entry = entry_of_question c.args.octets.now c.args.cursor.now c.read_question.result c.if-cursor-eq0.true c.read_question.ensures.answers in
+    let entry = entry_of_question c.args.octets.now c.args.cursor.now c.read_question.result c.if-cursor-eq0.true c.read_question.ensures.returned in
     record {
       entry = entry;
       within = answered_within c.args.octets.now c.args.cursor.now c.read_question.result entry;
-      place = question_at_offset c.args.octets.now c.args.cursor.now c.read_question.result c.if-cursor-eq0.true c.read_question.ensures.answers c.read_question.ensures.spans;
-      form = question_form c.args.octets.now c.args.cursor.now.place c.read_question.result c.read_question.ensures.answers;
+      place = question_at_offset c.args.octets.now c.args.cursor.now c.read_question.result c.if-cursor-eq0.true c.read_question.ensures.returned c.read_question.ensures.spans;
+      form = question_form c.args.octets.now c.args.cursor.now.place c.read_question.result c.read_question.ensures.returned;
     }
 
 pub returns-else-cursor-eq0 : goal.returns-else-cursor-eq0
 returns-else-cursor-eq0 c =
     let at = positive c.args.cursor.now.section c.if-cursor-eq0.false in
-    let entry = entry_of_record c.args.octets.now c.args.cursor.now c.read_record.result at.0 at.1 c.requires c.read_record.ensures.answers in
+    let entry = entry_of_record c.args.octets.now c.args.cursor.now c.read_record.result at.0 at.1 c.requires c.read_record.ensures.returned in
     record {
       entry = entry;
       within = answered_within c.args.octets.now c.args.cursor.now c.read_record.result entry;
-      place = record_at_offset c.args.octets.now c.args.cursor.now c.read_record.result c.read_record.ensures.answers c.read_record.ensures.spans;
-      form = record_form c.args.octets.now c.args.cursor.now.section c.args.cursor.now.place c.read_record.result c.read_record.ensures.answers;
+      place = record_at_offset c.args.octets.now c.args.cursor.now c.read_record.result c.read_record.ensures.returned c.read_record.ensures.spans;
+      form = record_form c.args.octets.now c.args.cursor.now.section c.args.cursor.now.place c.read_record.result c.read_record.ensures.returned;
     }

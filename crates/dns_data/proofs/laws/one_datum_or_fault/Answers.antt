@@ -1,4 +1,4 @@
-use Rattle.dns_data.proofs.theory.DataAnswers as answers
+use Rattle.dns_data.proofs.theory.DataReading as answers
 use Rattle.dns_data.proofs.laws.one_datum_or_fault.Goals as goal
 
 pub returns : goal.returns

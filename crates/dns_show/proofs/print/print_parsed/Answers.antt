@@ -19,8 +19,8 @@ pub returns-in-Ok-Some : goal.returns-in-Ok-Some
 returns-in-Ok-Some g c =
     let x = encoded_record c.args.record.now in
     let r = c.in-Ok-Some.record in
-    let answers = rw c.in-Ok-Some.field-0-is at c.in-Ok-Some.ensures.answers in
-    let given = taken_data rtype_of parts_of x r (typed_layout x.entry.rtype) (answers.gives (there x c.requires.read)) in
+    let returned = rw c.in-Ok-Some.field-0-is at c.in-Ok-Some.ensures.returned in
+    let given = taken_data rtype_of parts_of x r (typed_layout x.entry.rtype) (returned.gives (there x c.requires.read)) in
     let types = rw (c.in-Ok-Some.is, c.in-Ok-Some.field-0-is) at c.to_record.type_inv in
     let parts : typed_parts x ≡ Some (parts_of (data_of r)) = ap (option_and_then (data_parts x)) given.1 ∙ parts_there x c.requires.read given.0 (parts_of (data_of r)) given.3 in
     let value = typed_shown (data_of r) (λ zone e. let t = rw e at types in record { serial = omega (arith, t); refresh = omega (arith, t); retry = omega (arith, t); expire = omega (arith, t); minimum = omega (arith, t) }) in
@@ -32,13 +32,13 @@ returns-in-Ok-Some g c =
 pub returns-in-Ok-None : goal.returns-in-Ok-None
 returns-in-Ok-None g c =
     let x = encoded_record c.args.record.now in
-    let answers = rw (c.in-Ok-None.is, c.in-Ok-None.field-0-is) at c.to_record.ensures.answers in
-    let parts = none_taken rtype_of parts_of x c.requires.read (typed_layout x.entry.rtype) (answers.gives (there x c.requires.read)) in
+    let returned = rw (c.in-Ok-None.is, c.in-Ok-None.field-0-is) at c.to_record.ensures.returned in
+    let parts = none_taken rtype_of parts_of x c.requires.read (typed_layout x.entry.rtype) (returned.gives (there x c.requires.read)) in
     subst (λ (o : Option (List Part)). OnOk c.print_opaque.result (Appends (g.W.Write.contents c.args.writer.now) (g.W.Write.contents c.print_opaque.new.writer) (line (c.args.word.now ++ codes " " ++ text_with x o)))) (sym parts) c.print_opaque.ensures
 
 pub returns-in-Err : goal.returns-in-Err
 returns-in-Err g c =
     let x = encoded_record c.args.record.now in
-    let answers = rw c.in-Err.is at c.to_record.ensures.answers in
-    let parts = fault_taken rtype_of parts_of x c.requires.read c.in-Err.field-0 (typed_layout x.entry.rtype) (answers.gives (there x c.requires.read)) in
+    let returned = rw c.in-Err.is at c.to_record.ensures.returned in
+    let parts = fault_taken rtype_of parts_of x c.requires.read c.in-Err.field-0 (typed_layout x.entry.rtype) (returned.gives (there x c.requires.read)) in
     subst (λ (o : Option (List Part)). OnOk c.print_opaque-in-Err.result (Appends (g.W.Write.contents c.args.writer.now) (g.W.Write.contents c.print_opaque-in-Err.new.writer) (line (c.args.word.now ++ codes " " ++ text_with x o)))) (sym parts) c.print_opaque-in-Err.ensures

@@ -4,13 +4,13 @@ use Rattle.std.specs.Prelude.{Option, Result, Ok, Err}
 use Rattle.dns_octets.specs.declared.error.AppendError.{AppendError}
 use Rattle.dns_wire.specs.Pieces.{Rule}
 use Rattle.dns_opt_builder.specs.declared.builder.OptBuilder.{OptBuilder}
-use Rattle.dns_build.specs.Opt.{Gathers, OptAnswers, PushesOpt, opt_record, with_opt}
+use Rattle.dns_build.specs.Opt.{Gathers, OptReturns, PushesOpt, opt_record, with_opt}
 use Rattle.dns_build.specs.BuilderStates.{Built, fresh, size_after}
 use Rattle.dns_build.specs.State.{State, InAdditional, move_to, with_record}
 use Rattle.dns_tests.proofs.callers.opt_message.Goals as goal
 
 -- an accepted record was gathered without an error
-without_error : (capacity : Option ℕ) (grows : Bool) (limit n count : ℕ) (a : Result (Unit {0}) AppendError) (v : Unit {0}) → OptAnswers capacity grows limit n count a (Ok v) → a ≡ Ok tt
+without_error : (capacity : Option ℕ) (grows : Bool) (limit n count : ℕ) (a : Result (Unit {0}) AppendError) (v : Unit {0}) → OptReturns capacity grows limit n count a (Ok v) → a ≡ Ok tt
 without_error capacity grows limit n count (Ok u) v h = refl
 without_error capacity grows limit n count (Err e) v h = absurd (cc)
 

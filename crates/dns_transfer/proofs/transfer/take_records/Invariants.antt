@@ -1,5 +1,5 @@
 use Rattle.std.proofs.Common.{◌≡◌, ◌++◌, map}
-use Rattle.dns_section.specs.RecordSection.{record_answer, records_left}
+use Rattle.dns_section.specs.RecordSection.{record_result, records_left}
 use Rattle.dns_transfer.specs.Transfer.{is_whole}
 use Rattle.dns_transfer.specs.Taking.{up_to_fault}
 use Rattle.dns_transfer.proofs.transfer.take_records.Given as goal
@@ -8,5 +8,5 @@ abbrev pub invariant-loop-item : goal.invariant-loop-item
 invariant-loop-item l =
     let left = records_left l.item-iterator in
     let all = records_left l.fn.records in
-    (map record_answer l.items.items ++ up_to_fault left ≡ map record_answer l.fn.items.items ++ up_to_fault all)
+    (map record_result l.items.items ++ up_to_fault left ≡ map record_result l.fn.items.items ++ up_to_fault all)
     × (is_whole left ≡ is_whole all)

@@ -9,7 +9,7 @@ use Rattle.dns_code.specs.declared.header.Header.{Header}
 use Rattle.dns_build.specs.Opt.{opt_record, with_rcode}
 use Rattle.dns_build.specs.State.{State, InAdditional, with_record, with_header, most_entries}
 use Rattle.dns_build.specs.BuilderStates.{size_after, Represents}
-use Rattle.dns_build.proofs.OptLemmas.{same_item, refused_answers, closure_refused, closure_done}
+use Rattle.dns_build.proofs.OptLemmas.{same_item, refused_returns, closure_refused, closure_done}
 use Rattle.dns_build.proofs.opt.Builder+T+AtAdditional.opt.Goals as goal
 
 pub returns-in_err-gather-clause-pushes : goal.returns-in_err-gather-clause-pushes
@@ -49,7 +49,7 @@ returns-in_err-push-clause-pushes g c = λ s represents.
         called = record { shown = _; shows = refl; left = _; met = c.gather.ensures; leaves = refl };
         left = refl;
       };
-      answers = closure_done _ _ _ _ _ _ _ c.in_ok-gather.was (refused_answers _ _ _ _ _ e
+      answers = closure_done _ _ _ _ _ _ _ c.in_ok-gather.was (refused_returns _ _ _ _ _ e
           (λ is. subst (λ x. Passes g.T.Composer.capacity (size x)) same (h.short (ap Err is) s represents))
           (λ is. h.memory (ap Err is))
           (λ is. subst (λ x. Fits g.T.Composer.capacity (size x) × (s.limit < size x)) same (h.limit (ap Err is) s represents))

@@ -7,7 +7,7 @@ pub returns-clause-back : goal.returns-clause-back
 returns-clause-back g c =
     let r = c.args.self.now in
     gives_back g.D.RecordData.rtype_of g.D.RecordData.parts (octets_of r) (parsed_entry r) (omega arith)
-    (g.D.ParseAnyRecordData.any_layout (parsed_entry r).rtype) c.parse_into_any_record.result c.parse_into_any_record.ensures.answers
+    (g.D.ParseAnyRecordData.any_layout (parsed_entry r).rtype) c.parse_into_any_record.result c.parse_into_any_record.ensures.returned
 
 pub returns-clause-value : goal.returns-clause-value
 returns-clause-value g c =

@@ -3,7 +3,7 @@ use Rattle.std.proofs.lemmas.Result.{err_from_is_err_and}
 use Rattle.dns_name.specs.Parsers.{seen, offset}
 use Rattle.dns_item.specs.Items.{RecordEntry}
 use Rattle.dns_item.specs.ParsedRecord.{octets_of, parsed_entry}
-use Rattle.dns_item.specs.RecordReading.{AnswersTaken, GivesBackTaken, GivesValueBackTaken}
+use Rattle.dns_item.specs.RecordReading.{ReturnsTaken, GivesBackTaken, GivesValueBackTaken}
 use Rattle.dns_item.proofs.theory.EntryLemmas.{record_or_fault}
 use Rattle.dns_item.proofs.RecordLemmas.{of_read, after_read}
 use Rattle.dns_item.proofs.record_reading.Record+ParsedName+D.parse.Goals as goal
@@ -21,8 +21,8 @@ returns-clause-gives g c q x h =
     let old = c.args.parser.now in
     let r = c.in_ok-parse.field-0 in
     let parses = c.in_ok-parse.ensures in (
-      of_read (λ (b : List ℕ) (x : RecordEntry). AnswersTaken g.D.RecordData.rtype_of g.D.RecordData.parts b x (g.D.ParseRecordData.layout x.rtype) c.into_record.result)
-          (seen old) (octets_of r) (offset old) (offset c.parse.new.parser) q (parsed_entry r) x parses.0 parses.2.seen h c.into_record.ensures.answers,
+      of_read (λ (b : List ℕ) (x : RecordEntry). ReturnsTaken g.D.RecordData.rtype_of g.D.RecordData.parts b x (g.D.ParseRecordData.layout x.rtype) c.into_record.result)
+          (seen old) (octets_of r) (offset old) (offset c.parse.new.parser) q (parsed_entry r) x parses.0 parses.2.seen h c.into_record.ensures.returned,
       after_read old c.parse.new.parser q (parsed_entry r) x parses.0 parses.1 h,
     )
 

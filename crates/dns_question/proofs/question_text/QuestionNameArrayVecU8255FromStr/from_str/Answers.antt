@@ -6,13 +6,13 @@ use Rattle.dns_question.specs.QuestionTexts.{ReadsQuestionText, ReadsText, AreWo
 use Rattle.dns_question.specs.QuestionTexts.ReadsWords.{no_name}
 use Rattle.dns_question.specs.declared.question_error.PresentationErrorEnum.TheVariants.{MissingQname}
 use Rattle.dns_question.proofs.WordLemmas.{no_words}
-use Rattle.dns_question.proofs.QuestionTextLemmas.{answers_kind, question_item_is, reads_bad_name, reads_named}
+use Rattle.dns_question.proofs.QuestionTextLemmas.{returns_kind, question_item_is, reads_bad_name, reads_named}
 use Rattle.dns_question.proofs.question_text.QuestionNameArrayVecU8255FromStr.from_str.Goals as goal
 
 pub returns-in_default : goal.returns-in_default
 returns-in_default c =
     let are_words = subst (λ text. AreWords text []) c.split_whitespace-words.ensures.rest (no_words c.split_whitespace-words.result c.next.new.self c.in_default.ensures.steps) in
-    answers_kind ⊥ c.args.text.now MissingQname c.of_kind.result c.of_kind.ensures (record { words = []; are_words = are_words; reads = no_name })
+    returns_kind ⊥ c.args.text.now MissingQname c.of_kind.result c.of_kind.ensures (record { words = []; are_words = are_words; reads = no_name })
 
 pub returns-in_err-qname : goal.returns-in_err-qname
 returns-in_err-qname c =
@@ -34,4 +34,4 @@ returns-in-Err c =
     let reads =
     reads_named c.args.text.now c.split_whitespace-words.result c.next.new.self c.in-Some.word c.split_whitespace-words.ensures.rest c.in-Some.ensures.steps c.utf8.text
     (name_labels c.in_ok-qname.qname) (Err c.in-Err.kind) c.in_ok-qname.ensures c.in-Err.ensures in
-    answers_kind ⊥ c.args.text.now c.in-Err.kind c.of_kind-in-Err.result c.of_kind-in-Err.ensures reads
+    returns_kind ⊥ c.args.text.now c.in-Err.kind c.of_kind-in-Err.result c.of_kind-in-Err.ensures reads

@@ -1,5 +1,5 @@
 use Rattle.std.proofs.Common.{◌∙◌, ap}
-use Rattle.dns_item.specs.TypedRecords.{typed_answer}
+use Rattle.dns_item.specs.TypedRecords.{typed_result}
 use Rattle.dns_section.specs.Limited.{limited}
 use Rattle.dns_section.specs.RecordIter.{typed_left}
 use Rattle.dns_section.specs.declared.section.Section.TheVariants.{Answer}
@@ -14,7 +14,7 @@ pub returns-in-Ok : goal.returns-in-Ok
 returns-in-Ok g c =
     let b = message_octets c.args.self.now in
     let layouts = g.D.ParseRecordData.layout in
-    some_first (typed_answer g.D.RecordData.rtype_of g.D.RecordData.parts) c.next.result c.is_some.result
+    some_first (typed_result g.D.RecordData.rtype_of g.D.RecordData.parts) c.next.result c.is_some.result
     (typed_left layouts c.limit_to.result) (limited layouts (records_of Answer b)) (typed_left layouts c.next.new.self) c.is_some.ensures
     (c.limit_to.ensures.left ∙ ap (limited layouts) (begins_reading Answer b c.in-Ok.section c.in-Ok.ensures.starts)) c.next.ensures.steps
 

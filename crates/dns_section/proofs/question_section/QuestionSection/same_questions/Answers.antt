@@ -6,7 +6,7 @@ use Rattle.dns_name.specs.Names.{Fault}
 use Rattle.dns_name.specs.declared.parsed_name.ParsedName.{ParsedName}
 use Rattle.dns_question.specs.Questions.{QuestionItem}
 use Rattle.dns_question.specs.declared.question.Question.{Question}
-use Rattle.dns_section.specs.QuestionSection.{question_answer, questions_left}
+use Rattle.dns_section.specs.QuestionSection.{question_result, questions_left}
 use Rattle.dns_section.specs.SameQuestions.{same_item, same_readings}
 use Rattle.dns_section.specs.declared.question_section.QuestionSection.{QuestionSection}
 use Rattle.dns_section.proofs.question_section.QuestionSection.same_questions.Goals as goal
@@ -17,7 +17,7 @@ heads : (x y : Result QuestionItem Fault) (xs ys all others : List (Result Quest
 heads x y xs ys all others e f = λ i. same_readings (e i) (f i)
 
 -- an empty reading is the same as another only if that has nothing left
-ended : (r : Option (Result (Question ParsedName) ParseError)) (old new : QuestionSection) (nothing : Bool) → is_some r ≡ not nothing → YieldsFirstBy question_answer questions_left old r new
+ended : (r : Option (Result (Question ParsedName) ParseError)) (old new : QuestionSection) (nothing : Bool) → is_some r ≡ not nothing → YieldsFirstBy question_result questions_left old r new
     → nothing ≡ same_readings [] (questions_left old)
 ended None old new true e h = ap (same_readings []) (sym h.0)
 ended None old new false e h = absurd (cc)

@@ -7,7 +7,7 @@ use Rattle.dns_name.specs.Names.{Fault}
 use Rattle.dns_name.specs.Names.Fault.{Form, ShortInput}
 use Rattle.dns_wire.specs.Parts.{Part}
 use Rattle.dns_data.specs.Layout.{Layout, DataAt}
-use Rattle.dns_data.proofs.theory.DataAnswers.{one_datum_or_fault, data_within}
+use Rattle.dns_data.proofs.theory.DataReading.{one_datum_or_fault, data_within}
 use Rattle.dns_item.specs.ParsedRecord.{EncodedRecord}
 use Rattle.dns_item.specs.RecordReading.{WholeDataFaultAt, IsThere, up_to_data_end, HasData, HasDataFault}
 use Rattle.dns_item.specs.RecordReading.WholeDataFaultAt.{first, left_over}
@@ -18,15 +18,15 @@ pub record HasSpan (x : EncodedRecord) : Type 0 where
   pub end : IsThere x.octets x.entry
 
 -- The result of reading the RDATA by a layout: the parts that fill it, or its fault; `ShortInput` if the RDATA isn't all there.
-pub data IsDataAnswer (x : EncodedRecord) (layout : Layout) : Result (List Part) Fault → Type 0 where
-  whole : {parts : List Part} → HasSpan x → HasData x.octets x.entry layout parts → IsDataAnswer x layout (Ok parts)
-  fault : {f : Fault} → HasSpan x → HasDataFault x.octets x.entry layout f → IsDataAnswer x layout (Err f)
-  missing : (HasSpan x → ⊥) → IsDataAnswer x layout (Err ShortInput)
+pub data IsParsedData (x : EncodedRecord) (layout : Layout) : Result (List Part) Fault → Type 0 where
+  whole : {parts : List Part} → HasSpan x → HasData x.octets x.entry layout parts → IsParsedData x layout (Ok parts)
+  fault : {f : Fault} → HasSpan x → HasDataFault x.octets x.entry layout f → IsParsedData x layout (Err f)
+  missing : (HasSpan x → ⊥) → IsParsedData x layout (Err ShortInput)
 
 -- there is a result, and no other
-pub record OneDataAnswer (x : EncodedRecord) (layout : Layout) : Type 0 where
-  pub some : (r : Result (List Part) Fault) × IsDataAnswer x layout r
-  pub one : (r s : Result (List Part) Fault) → IsDataAnswer x layout r → IsDataAnswer x layout s → r ≡ s
+pub record OneParsedData (x : EncodedRecord) (layout : Layout) : Type 0 where
+  pub some : (r : Result (List Part) Fault) × IsParsedData x layout r
+  pub one : (r s : Result (List Part) Fault) → IsParsedData x layout r → IsParsedData x layout s → r ≡ s
 
 -- RDATA of a layout that takes all octets from p on, or the fault of octets that aren't such RDATA
 module _ (b : List ℕ) (layout : Layout) (p : ℕ) (within : p ≤ length b) where
@@ -80,7 +80,7 @@ module _ (x : EncodedRecord) (layout : Layout) where
   to_end span parts h =
       subst (λ q. DataAt (up_to_data_end x.octets x.entry) layout x.entry.data_start q parts) (sym (ends_there span)) h
 
-  some_answer : (r : Result (List Part) Fault) × IsDataAnswer x layout r
+  some_answer : (r : Result (List Part) Fault) × IsParsedData x layout r
   some_answer =
       elim span_or_not [
         | inl span ↦ elim (some_whole (up_to_data_end x.octets x.entry) layout x.entry.data_start (starts_within span)) [
@@ -102,7 +102,7 @@ module _ (x : EncodedRecord) (layout : Layout) where
   no_data_fault span parts f h k =
       no_fault (up_to_data_end x.octets x.entry) layout x.entry.data_start (starts_within span) parts f (to_end span parts h) k
 
-  one_answer : {r s : Result (List Part) Fault} → IsDataAnswer x layout r → IsDataAnswer x layout s → r ≡ s
+  one_answer : {r s : Result (List Part) Fault} → IsParsedData x layout r → IsParsedData x layout s → r ≡ s
   one_answer (whole {parts = xs} span h) (whole {parts = ys} again k) = ap (λ (zs : List Part). let r : Result (List Part) Fault = Ok zs in r) (one_data span xs ys h k)
   one_answer (whole {parts = xs} span h) (fault {f = f} again k) = absurd (no_data_fault span xs f h k)
   one_answer (whole span h) (missing none) = absurd (none span)
@@ -115,5 +115,5 @@ module _ (x : EncodedRecord) (layout : Layout) where
   one_answer (missing none) (fault span h) = absurd (none span)
   one_answer (missing none) (missing never) = refl
 
-  pub one_data_answer : OneDataAnswer x layout
-  one_data_answer = record { some = some_answer; one = λ r s h k. one_answer h k }
+  pub one_parsed_data : OneParsedData x layout
+  one_parsed_data = record { some = some_answer; one = λ r s h k. one_answer h k }

@@ -7,8 +7,8 @@ use Rattle.dns_name.specs.Names.Fault.{ShortInput}
 use Rattle.dns_wire.specs.Parts.{Part}
 use Rattle.dns_wire.specs.Parts.Part.{Octets, CompressibleName}
 use Rattle.dns_name.specs.Unique.{same_name, encoded_short}
-use Rattle.dns_name.proofs.theory.AnswerLaws.{one_answer}
-use Rattle.dns_name.proofs.theory.AnswerLaws as names
+use Rattle.dns_name.proofs.theory.NameOrFaultLaws.{one_answer}
+use Rattle.dns_name.proofs.theory.NameOrFaultLaws as names
 use Rattle.dns_name.proofs.theory.WalkLaws.{one_end, encoded_end, walked_in_octets}
 use Rattle.dns_data.specs.Layout.{Layout, string_size, DataAt, DataFaultAt}
 use Rattle.dns_data.specs.Layout.Layout.{End, Rest, Fixed, CharacterString, DomainName}

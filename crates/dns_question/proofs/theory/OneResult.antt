@@ -7,7 +7,7 @@ use Rattle.dns_name.specs.declared.name_error.PresentationError.{PresentationErr
 use Rattle.dns_name.proofs.theory.NameTextFaults.{text_name_or_fault, one_text_fault, text_name_or_fault_not_both, one_text_name}
 use Rattle.dns_number.specs.Classes.{SpellsClass}
 use Rattle.dns_number.specs.Types.{SpellsType}
-use Rattle.dns_question.specs.QuestionTexts.{Fields, named, EachTextAnswered, OneTextAnswer, EachWordsAnswered, OneWordsAnswer, Answer, ReadsWords}
+use Rattle.dns_question.specs.QuestionTexts.{Fields, named, EachTextRead, OneTextResult, EachWordsRead, OneWordsResult, Answer, ReadsWords}
 use Rattle.dns_question.specs.QuestionTexts.ReadsWords.{no_name, bad_name, name_alone, class_alone, no_type_after_class, class_and_type, neither, type_alone, no_class_after_type, type_and_class, trailing}
 use Rattle.dns_question.specs.declared.question_error.PresentationErrorEnum.TheVariants.{BadName, MissingQname, MissingClassAndQtype, MissingQtype, BadClass, BadQtype, TrailingData}
 use Rattle.dns_question.proofs.WordLemmas.{one_words, some_words}
@@ -62,18 +62,18 @@ abbrev fields_of : List (List ℕ) → Fields
 fields_of [] = Err MissingClassAndQtype
 fields_of (b ∷ more) = fields_by (class_of b).0 (type_of b).0 more
 
-abbrev answer_by : Result Labels PresentationError → List (List ℕ) → Answer
-answer_by (Ok name) more = named name (fields_of more)
-answer_by (Err f) more = Err (BadName f)
+abbrev result_by : Result Labels PresentationError → List (List ℕ) → Answer
+result_by (Ok name) more = named name (fields_of more)
+result_by (Err f) more = Err (BadName f)
 
-abbrev answer_of : List (List ℕ) → Answer
-answer_of [] = Err MissingQname
-answer_of (a ∷ more) = answer_by (name_of a).0 more
+abbrev result_of : List (List ℕ) → Answer
+result_of [] = Err MissingQname
+result_of (a ∷ more) = result_by (name_of a).0 more
 
 -- ---- what is read is what is found
 
-named_found : (a : List ℕ) (name : Labels) (more : List (List ℕ)) (fields : Fields) → SpellsName a name → fields_of more ≡ fields → answer_of (a ∷ more) ≡ named name fields
-named_found a name more fields s e = ap (λ r. answer_by r more) (name_is a (name_of a).0 (Ok name) (name_of a).1 s) ∙ ap (named name) e
+named_found : (a : List ℕ) (name : Labels) (more : List (List ℕ)) (fields : Fields) → SpellsName a name → fields_of more ≡ fields → result_of (a ∷ more) ≡ named name fields
+named_found a name more fields s e = ap (λ r. result_by r more) (name_is a (name_of a).0 (Ok name) (name_of a).1 s) ∙ ap (named name) e
 
 class_found : (b : List ℕ) (class : ℕ) (more : List (List ℕ)) → SpellsClass b class → fields_of (b ∷ more) ≡ after_class more class
 class_found b class more h = ap (λ r. fields_by r (type_of b).0 more) (found (SpellsClass b) (class_of b) class h)
@@ -88,9 +88,9 @@ second_type c rtype class more h = ap (λ r. type_after r more class) (found (Sp
 second_class : (c : List ℕ) (rtype class : ℕ) (more : List (List ℕ)) → SpellsClass c class → after_type (c ∷ more) rtype ≡ ended more rtype class
 second_class c rtype class more h = ap (λ r. class_after r more rtype) (found (SpellsClass c) (class_of c) class h)
 
-is_answer : (words : List (List ℕ)) (x : Answer) → ReadsWords words x → answer_of words ≡ x
+is_answer : (words : List (List ℕ)) (x : Answer) → ReadsWords words x → result_of words ≡ x
 is_answer _ _ no_name = refl
-is_answer _ _ (bad_name {a} {more} {f} h) = ap (λ r. answer_by r more) (name_is a (name_of a).0 (Err f) (name_of a).1 h)
+is_answer _ _ (bad_name {a} {more} {f} h) = ap (λ r. result_by r more) (name_is a (name_of a).0 (Err f) (name_of a).1 h)
 is_answer _ _ (name_alone {a} {name} s) = named_found a name [] (Err MissingClassAndQtype) s refl
 is_answer _ _ (class_alone {a} {b} {name} {class} s h) = named_found a name (b ∷ []) (Err MissingQtype) s (class_found b class [] h)
 is_answer _ _ (no_type_after_class {a} {b} {c} {more} {name} {class} s h n) =
@@ -145,25 +145,25 @@ module _ (a : List ℕ) (name : Labels) (s : SpellsName a name) where
       by None g (Some rtype) u = read_after_type b rtype more (none_spelled (SpellsClass b) g) ((u rtype).1 refl)
       by None g None u = neither {name = name} s (none_spelled (SpellsClass b) g) (none_spelled (SpellsType b) u)
 
-reads_answer : (words : List (List ℕ)) → ReadsWords words (answer_of words)
+reads_answer : (words : List (List ℕ)) → ReadsWords words (result_of words)
 reads_answer [] = no_name
 reads_answer (a ∷ more) = by (name_of a).0 (name_of a).1
   where
-    by : (r : Result Labels PresentationError) → IsNameOf a r → ReadsWords (a ∷ more) (answer_by r more)
+    by : (r : Result Labels PresentationError) → IsNameOf a r → ReadsWords (a ∷ more) (result_by r more)
     by (Ok name) h = read_after a name h more
     by (Err f) h = bad_name h
 
-pub each_words_answered : EachWordsAnswered
-each_words_answered words = (answer_of words, reads_answer words)
+pub each_words_read : EachWordsRead
+each_words_read words = (result_of words, reads_answer words)
 
-pub one_words_answer : OneWordsAnswer
-one_words_answer words x y r s = sym (is_answer words x r) ∙ is_answer words y s
+pub one_words_result : OneWordsResult
+one_words_result words x y r s = sym (is_answer words x r) ∙ is_answer words y s
 
-pub each_text_answered : EachTextAnswered
-each_text_answered text u =
+pub each_text_read : EachTextRead
+each_text_read text u =
     let words = some_words text u in
-    (answer_of words.0, record { words = words.0; are_words = words.1; reads = reads_answer words.0 })
+    (result_of words.0, record { words = words.0; are_words = words.1; reads = reads_answer words.0 })
 
-pub one_text_answer : OneTextAnswer
-one_text_answer text x y r s =
-    one_words_answer s.words x y (subst (λ words. ReadsWords words x) (one_words text r.words s.words r.are_words s.are_words) r.reads) s.reads
+pub one_text_result : OneTextResult
+one_text_result text x y r s =
+    one_words_result s.words x y (subst (λ words. ReadsWords words x) (one_words text r.words s.words r.are_words s.are_words) r.reads) s.reads
