@@ -34,7 +34,7 @@ pub closure_refused : (capacity : Option ℕ) (grows : Bool) (limit n count : �
 closure_refused capacity grows limit n count e r is = subst (λ (x : Result (Unit {0}) AppendError). OptReturns capacity grows limit n count x (Err (push_error e))) (sym is) refl
 
 pub closure_done : (capacity : Option ℕ) (grows : Bool) (limit n count : ℕ) (r : Result (Unit {0}) AppendError) (result : Result (Unit {0}) PushError) → r ≡ Ok tt → PushReturns capacity grows limit n count result → OptReturns capacity grows limit n count r result
-closure_done capacity grows limit n count r result is told = subst (λ (x : Result (Unit {0}) AppendError). OptReturns capacity grows limit n count x result) (sym is) told
+closure_done capacity grows limit n count r result is reported = subst (λ (x : Result (Unit {0}) AppendError). OptReturns capacity grows limit n count x result) (sym is) reported
 
 -- if octets are a list of options, `options_of` gives this list
 list_in : (b : List ℕ) (o : Option (List OptionItem)) → options_of b ≡ o → IsTrue (is_some o) → AreOptions b (option_map_or (λ (xs : List OptionItem). xs) o [])

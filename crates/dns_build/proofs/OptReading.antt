@@ -18,7 +18,7 @@ use Rattle.dns_opt.proofs.theory.OptionsLemmas.{options_of-is}
 use Rattle.dns_opt_builder.specs.Gathered.{Gathered, IsGathered}
 use Rattle.dns_data.specs.Opt.{is_opt_data, opt_layout}
 use Rattle.dns_data.specs.RecordData.{only}
-use Rattle.dns_item.specs.Items.{RecordItem, RecordEntry, ReadsRecord, TellsRecord}
+use Rattle.dns_item.specs.Items.{RecordItem, RecordEntry, ReadsRecord, ReportsRecord}
 use Rattle.dns_item.specs.ParsedData.{HasSpan}
 use Rattle.dns_item.specs.ParsedData.IsParsedData.{whole}
 use Rattle.dns_item.specs.ParsedRecord.{EncodedRecord}
@@ -35,7 +35,7 @@ use Rattle.dns_read.specs.OptSearches.{first_opt_in, opt_said, opt_of, extended_
 use Rattle.dns_read.specs.Searches.{first_value}
 use Rattle.dns_read.specs.SectionStarts.{records_of}
 use Rattle.dns_read.proofs.theory.SectionStartLemmas.{start_found}
-use Rattle.dns_build.specs.MessageOf.{AllTell, ReadsBack}
+use Rattle.dns_build.specs.MessageOf.{AllReported, ReadsBack}
 use Rattle.dns_build.specs.Opt.{opt_record}
 use Rattle.dns_build.specs.OptReading.{said, HasNoOpt, OptsReadBack, RcodeIsSet}
 use Rattle.dns_build.specs.State.{State}
@@ -75,7 +75,7 @@ gathered_accepted g ok =
     rw e (search (rules, tests))
 
 -- an entry that was read as the OPT record of `g`
-module _ (g : Gathered) (b : List ℕ) (p q : ℕ) (e : RecordEntry) (ok : IsGathered g) (reads : ReadsRecord b p q e) (tells : TellsRecord b e (opt_record g)) where
+module _ (g : Gathered) (b : List ℕ) (p q : ℕ) (e : RecordEntry) (ok : IsGathered g) (reads : ReadsRecord b p q e) (reports : ReportsRecord b e (opt_record g)) where
   -- the entry with the octets that it is read from
   abbrev encoded : EncodedRecord
   encoded = record { octets = b; entry = e }
@@ -83,7 +83,7 @@ module _ (g : Gathered) (b : List ℕ) (p q : ℕ) (e : RecordEntry) (ok : IsGat
   -- its RDATA is within the octets
   data_within : HasSpan encoded
   data_within =
-      let filled = tells.parts.1 in
+      let filled = reports.parts.1 in
       let end = reads.data_end in
       let within = reads.skips.within in
       record { start = omega arith; end = omega arith }
@@ -91,7 +91,7 @@ module _ (g : Gathered) (b : List ℕ) (p q : ℕ) (e : RecordEntry) (ok : IsGat
   -- its RDATA is the options, by the layout of OPT
   data_at : HasData b e opt_layout (Octets (put_options g.options) ∷ [])
   data_at =
-      let filled = data_filled b e.data_start e.data_end (put_options g.options) tells.parts in
+      let filled = data_filled b e.data_start e.data_end (put_options g.options) reports.parts in
       let within = data_within.end in
       let end : e.data_end ≡ length (take e.data_end b) = grind (arith, common_steps) in
       (end, ap (λ (octets : List ℕ). Octets octets ∷ []) (sym filled), rw filled (gathered_accepted g ok))
@@ -100,9 +100,9 @@ module _ (g : Gathered) (b : List ℕ) (p q : ℕ) (e : RecordEntry) (ok : IsGat
   opt_answered : parsed_as (only 41 opt_layout) encoded ≡ Some (Ok (opt_record g))
   opt_answered =
       let parts : List Part = Octets (put_options g.options) ∷ [] in
-      ap (λ (rtype : ℕ). option_map (laid_out encoded) (only 41 opt_layout rtype)) tells.rtype
+      ap (λ (rtype : ℕ). option_map (laid_out encoded) (only 41 opt_layout rtype)) reports.rtype
       ∙ ap (λ (r : Result (List Part) Fault). Some (with_parts e r)) (data_is_parsed.only encoded opt_layout (Ok parts) (whole data_within data_at))
-      ∙ ap (λ (x : RecordItem). let r : Result RecordItem Fault = Ok x in Some r) (same_item (item_of e parts) g tells.owner tells.rtype tells.class tells.ttl refl)
+      ∙ ap (λ (x : RecordItem). let r : Result RecordItem Fault = Ok x in Some r) (same_item (item_of e parts) g reports.owner reports.rtype reports.class reports.ttl refl)
 
 -- `Opt` skips a record of another type
 others_unanswered : (x : EncodedRecord) → (x.entry.rtype ≡ 41 → ⊥) → parsed_as (only 41 opt_layout) x ≡ None
@@ -115,18 +115,18 @@ abbrev first_by : List ℕ → List RecordEntry → Option (Result RecordItem Fa
 first_by b entries answer = first_value (cons_option answer (limited (only 41 opt_layout) (items_of b entries)))
 
 -- the first OPT record after records of other types is the one that was pushed
-first_told : (g : Gathered) (b : List ℕ) (n p : ℕ) (xs ys : List RecordItem) (entries : List RecordEntry) → IsGathered g → HasNoOpt xs → ReadingRecords b n p (map Ok entries)
-    → AllTell b entries (xs ++ opt_record g ∷ ys) → first_opt_in (items_of b entries) ≡ Some (opt_record g)
-first_told g b n p [] ys [] ok none reading tell = absurd tell
-first_told g b n p (x ∷ xs) ys [] ok none reading tell = absurd tell
-first_told g b n p [] ys (e ∷ entries) ok none reading tell =
+first_reported : (g : Gathered) (b : List ℕ) (n p : ℕ) (xs ys : List RecordItem) (entries : List RecordEntry) → IsGathered g → HasNoOpt xs → ReadingRecords b n p (map Ok entries)
+    → AllReported b entries (xs ++ opt_record g ∷ ys) → first_opt_in (items_of b entries) ≡ Some (opt_record g)
+first_reported g b n p [] ys [] ok none reading report = absurd report
+first_reported g b n p (x ∷ xs) ys [] ok none reading report = absurd report
+first_reported g b n p [] ys (e ∷ entries) ok none reading report =
     let r = first_read reading in
-    ap (first_by b entries) (opt_answered g b p r.1 e ok r.2 tell.0)
-first_told g b n p (x ∷ xs) ys (e ∷ entries) ok none reading tell =
+    ap (first_by b entries) (opt_answered g b p r.1 e ok r.2 report.0)
+first_reported g b n p (x ∷ xs) ys (e ∷ entries) ok none reading report =
     let r = first_read reading in
-    let other = λ (is : e.rtype ≡ 41). All-head (λ (y : RecordItem). y.rtype ≡ 41 → ⊥) x xs none (sym tell.0.rtype ∙ is) in
+    let other = λ (is : e.rtype ≡ 41). All-head (λ (y : RecordItem). y.rtype ≡ 41 → ⊥) x xs none (sym report.0.rtype ∙ is) in
     ap (first_by b entries) (others_unanswered (record { octets = b; entry = e }) other)
-    ∙ first_told g b r.0 r.1 xs ys entries ok (All-tail (λ (y : RecordItem). y.rtype ≡ 41 → ⊥) x xs none) r.3 tell.1
+    ∙ first_reported g b r.0 r.1 xs ys entries ok (All-tail (λ (y : RecordItem). y.rtype ≡ 41 → ⊥) x xs none) r.3 report.1
 
 -- the numbers of which a TTL was made are read from it; that of DO is 0 or 1
 numbers_read : (size ext version dnssec z : ℕ) → version < 256 → dnssec < 2 → z < 32768
@@ -158,9 +158,9 @@ said_gathered g ok =
 opt_read : (g : Gathered) (s : State) (b : List ℕ) (xs ys : List RecordItem) → s.additionals ≡ xs ++ opt_record g ∷ ys → IsGathered g → HasNoOpt xs → ReadsBack s b → opt_of b ≡ Some (said g)
 opt_read g s b xs ys is ok none h =
     let list = h.additionals in
-    let tell = subst (λ (items : List RecordItem). AllTell b list.entries items) is list.tell in
+    let report = subst (λ (items : List RecordItem). AllReported b list.entries items) is list.report in
     ap (λ (items : List (Result EncodedRecord Fault)). option_and_then opt_said (first_opt_in items)) (additionals_read s b h)
-    ∙ ap (option_and_then opt_said) (first_told g b (additional_count b) h.additionals_start xs ys list.entries ok none list.reading tell)
+    ∙ ap (option_and_then opt_said) (first_reported g b (additional_count b) h.additionals_start xs ys list.entries ok none list.reading report)
     ∙ said_gathered g ok
 
 pub opts_read_back : OptsReadBack

@@ -12,7 +12,7 @@ use Rattle.dns_name.specs.declared.parsed_name.ParsedName.{ParsedName}
 use Rattle.dns_data.specs.Layout.{Layout, IsLaidOut}
 use Rattle.dns_data.proofs.theory.EncodedParts.{encoded_parts_read}
 use Rattle.dns_wire.specs.Parts.{Part}
-use Rattle.dns_item.specs.Items.{RecordItem, RecordEntry, ReadsRecord, TellsRecord}
+use Rattle.dns_item.specs.Items.{RecordItem, RecordEntry, ReadsRecord, ReportsRecord}
 use Rattle.dns_item.specs.ParsedData.{HasSpan}
 use Rattle.dns_item.specs.ParsedData.IsParsedData.{whole}
 use Rattle.dns_item.specs.ParsedRecord.{EncodedRecord}
@@ -29,7 +29,7 @@ use Rattle.dns_section.specs.declared.section.Section.{Section}
 use Rattle.dns_section.specs.declared.section.Section.TheVariants.{Answer, Authority, Additional}
 use Rattle.dns_read.specs.SectionStarts.{records_of}
 use Rattle.dns_read.proofs.theory.SectionStartLemmas.{start_found}
-use Rattle.dns_build.specs.MessageOf.{AllTell, GivesRecords, ReadsBack}
+use Rattle.dns_build.specs.MessageOf.{AllReported, GivesRecords, ReadsBack}
 use Rattle.dns_build.specs.State.{State}
 use Rattle.dns_build.specs.TypedReading.{pushed, IsLaidOutBy, IsTakenBy, taken, TypedRecordsReadBack, AnyRecordsReadBack, EncodedAs, AllEncodedAs, PushedRecordsAreEncoded, of_class_in, TypedRecordsInReadBack, ToRecordReadsBack, ToAnyRecordReadsBack}
 use Rattle.dns_build.proofs.OptReading.{items_of, records_in-entries, first_read}
@@ -51,7 +51,7 @@ same_record : (e : RecordEntry) (x : RecordItem) → e.owner ≡ x.owner → e.r
 same_record e x owner rtype class ttl = λ i. record { owner = owner i; rtype = rtype i; class = class i; ttl = ttl i; parts = x.parts }
 
 -- an entry that was read as the pushed record `x`
-module _ (x : RecordItem) (b : List ℕ) (p q : ℕ) (e : RecordEntry) (reads : ReadsRecord b p q e) (tells : TellsRecord b e x) where
+module _ (x : RecordItem) (b : List ℕ) (p q : ℕ) (e : RecordEntry) (reads : ReadsRecord b p q e) (reports : ReportsRecord b e x) where
   -- its RDATA is within the octets
   data_within : HasSpan (record { octets = b; entry = e })
   data_within =
@@ -62,30 +62,30 @@ module _ (x : RecordItem) (b : List ℕ) (p q : ℕ) (e : RecordEntry) (reads : 
       record { start = omega arith; end = omega arith }
 
   -- each layout that accepts the parts reads `x`
-  told : (layout : Layout) → IsLaidOut layout x.parts → laid_out (record { octets = b; entry = e }) layout ≡ Ok x
-  told layout laid =
-      let represents = encoded_parts_read b e.data_end e.data_start layout x.parts data_within.end tells.parts laid in
+  reported : (layout : Layout) → IsLaidOut layout x.parts → laid_out (record { octets = b; entry = e }) layout ≡ Ok x
+  reported layout laid =
+      let represents = encoded_parts_read b e.data_end e.data_start layout x.parts data_within.end reports.parts laid in
       ap (with_parts e) (data_is_parsed.only (record { octets = b; entry = e }) layout (Ok x.parts) (whole data_within represents))
-      ∙ ap (λ (y : RecordItem). let r : Result RecordItem Fault = Ok y in r) (same_record e x tells.owner tells.rtype tells.class tells.ttl)
+      ∙ ap (λ (y : RecordItem). let r : Result RecordItem Fault = Ok y in r) (same_record e x reports.owner reports.rtype reports.class reports.ttl)
 
   encoded_as : EncodedAs b x (record { octets = b; entry = e })
-  encoded_as = record { octets = refl; there = data_within; parts = tells.parts; item = same_record e x tells.owner tells.rtype tells.class tells.ttl; answer = told }
+  encoded_as = record { octets = refl; there = data_within; parts = reports.parts; item = same_record e x reports.owner reports.rtype reports.class reports.ttl; answer = reported }
 
 -- the same for all records
-all_encoded_as : (xs : List RecordItem) (b : List ℕ) (n p : ℕ) (entries : List RecordEntry) → ReadingRecords b n p (map Ok entries) → AllTell b entries xs
+all_encoded_as : (xs : List RecordItem) (b : List ℕ) (n p : ℕ) (entries : List RecordEntry) → ReadingRecords b n p (map Ok entries) → AllReported b entries xs
     → AllEncodedAs b xs (items_of b entries)
-all_encoded_as [] b n p [] reading tell = tt
-all_encoded_as [] b n p (e ∷ entries) reading tell = absurd tell
-all_encoded_as (x ∷ xs) b n p [] reading tell = absurd tell
-all_encoded_as (x ∷ xs) b n p (e ∷ entries) reading tell =
+all_encoded_as [] b n p [] reading report = tt
+all_encoded_as [] b n p (e ∷ entries) reading report = absurd report
+all_encoded_as (x ∷ xs) b n p [] reading report = absurd report
+all_encoded_as (x ∷ xs) b n p (e ∷ entries) reading report =
     let r = first_read reading in
-    (encoded_as x b p r.1 e r.2 tell.0, all_encoded_as xs b r.0 r.1 entries r.3 tell.1)
+    (encoded_as x b p r.1 e r.2 report.0, all_encoded_as xs b r.0 r.1 entries r.3 report.1)
 
 pub pushed_records_are_encoded : PushedRecordsAreEncoded
 pushed_records_are_encoded s b h which =
     let found = section_read s b which h in
     subst (AllEncodedAs b (pushed which s)) (sym (section_is b which found.0 (pushed which s) found.1 found.2))
-    (all_encoded_as (pushed which s) b (record_count which b) found.0 found.2.entries found.2.reading found.2.tell)
+    (all_encoded_as (pushed which s) b (record_count which b) found.0 found.2.entries found.2.reading found.2.report)
 
 module _ (layouts : ℕ → Option Layout) (b : List ℕ) where
   -- what a data type yields of such a record

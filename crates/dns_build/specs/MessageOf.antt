@@ -10,7 +10,7 @@ use Rattle.dns_code.specs.Header.{header_octets, fields}
 use Rattle.dns_code.specs.HeaderSection.{header_size}
 use Rattle.dns_code.specs.declared.header.Header.{Header}
 use Rattle.dns_question.specs.Questions.{QuestionItem, question_fields}
-use Rattle.dns_item.specs.Items.{SkipsRecord, RecordEntry, TellsRecord, RecordItem, record_fields}
+use Rattle.dns_item.specs.Items.{SkipsRecord, RecordEntry, ReportsRecord, RecordItem, record_fields}
 use Rattle.dns_section.specs.QuestionsFrom.{questions_from}
 use Rattle.dns_section.specs.Reading.{Passed}
 use Rattle.dns_section.specs.Sections.{question_count, answer_count, authority_count, additional_count, AnswersStart, AuthoritiesStart, AdditionalsStart, ReadingRecords}
@@ -19,17 +19,17 @@ use Rattle.dns_build.specs.State.{State, fold, IsState, with_tc}
 -- Reading the octets of a state gives back the state. RFC 1035 section 4.1.
 
 -- the entries read are the records, one for one, and the parts of each record fill its RDATA
-abbrev pub AllTell : List ℕ → List RecordEntry → List RecordItem → Type 0
-AllTell b [] [] = Unit {0}
-AllTell b [] (x ∷ xs) = ⊥
-AllTell b (e ∷ es) [] = ⊥
-AllTell b (e ∷ es) (x ∷ xs) = TellsRecord b e x × AllTell b es xs
+abbrev pub AllReported : List ℕ → List RecordEntry → List RecordItem → Type 0
+AllReported b [] [] = Unit {0}
+AllReported b [] (x ∷ xs) = ⊥
+AllReported b (e ∷ es) [] = ⊥
+AllReported b (e ∷ es) (x ∷ xs) = ReportsRecord b e x × AllReported b es xs
 
 -- reading n records from offset p yields exactly the records `xs`, without a fault
 pub record GivesRecords (b : List ℕ) (n p : ℕ) (xs : List RecordItem) : Type 0 where
   pub entries : List RecordEntry
   pub reading : ReadingRecords b n p (map Ok entries)
-  pub tell : AllTell b entries xs
+  pub report : AllReported b entries xs
 
 -- The header section has the state's header and the lengths of its lists as counts. Each section has a start, and reading it yields its list without a fault. The last section ends where the octets end.
 pub record ReadsBack (s : State) (b : List ℕ) : Type 0 where

@@ -83,7 +83,7 @@ fn assert_refuses<T: Composer>(rt: &impl Abort, first: T, second: T) {
 }
 
 /// Checks `start_error` on such a target.
-fn assert_tells<T: Composer>(rt: &impl Abort, target: T) {
+fn assert_reports<T: Composer>(rt: &impl Abort, target: T) {
     let message = Message::from_slice(&READABLE).expect(rt, NO_CAPACITY);
     let given = over(rt, target).start_error(&message, Rcode::NOERROR);
     assert_builder(rt, NO_CAPACITY, Some(given), &SERVFAIL);
@@ -93,5 +93,5 @@ fn assert_tells<T: Composer>(rt: &impl Abort, target: T) {
 fn keeps_the_questions_before_a_refused_one(rt: HostRuntime) {
     let target = ArrayVec::<u8, 40>::new;
     assert_refuses(&rt, target(), target());
-    assert_tells(&rt, target());
+    assert_reports(&rt, target());
 }

@@ -13,7 +13,7 @@ use Rattle.dns_name.proofs.theory.HeadLemmas.{label_begins, root_begins}
 use Rattle.dns_question.specs.AfterNames.{FieldsFaultAt}
 use Rattle.dns_question.specs.AfterNames.FieldsFaultAt.{name as in_name, short as after_name}
 use Rattle.dns_c.specs.Codes.{number_of}
-use Rattle.dns_c.specs.NameFaults.{LeadsOn, Misformed, TellsAt}
+use Rattle.dns_c.specs.NameFaults.{LeadsOn, Misformed, ReportsAt}
 use Rattle.dns_c.specs.NameFaults.Misformed.{bits, long, ahead, label, pointer}
 use Rattle.dns_c.specs.declared.code.Fault.{Fault}
 use Rattle.dns_c.specs.declared.code.Fault.TheVariants as faults
@@ -157,11 +157,11 @@ misformed_number (ahead h forth) = (omega arith, omega arith)
 misformed_number (label h fits there rest) = misformed_number rest
 misformed_number (pointer h back rest) = misformed_number rest
 
-pub tells_short : (b : List ℕ) (p : ℕ) → TellsAt b p ShortInput 2
-tells_short b p = record { kind = refl; form = λ is. absurd (cc) }
+pub reports_short : (b : List ℕ) (p : ℕ) → ReportsAt b p ShortInput 2
+reports_short b p = record { kind = refl; form = λ is. absurd (cc) }
 
-pub tells_form : (b : List ℕ) (p : ℕ) (fault : Fault) → Misformed b p 0 fault → TellsAt b p Form (number_of fault)
-tells_form b p fault h = record { kind = misformed_number h; form = λ is. (fault, h, refl) }
+pub reports_form : (b : List ℕ) (p : ℕ) (fault : Fault) → Misformed b p 0 fault → ReportsAt b p Form (number_of fault)
+reports_form b p fault h = record { kind = misformed_number h; form = λ is. (fault, h, refl) }
 
 -- what begins with a name is malformed only if the name is
 pub form_in_name : (b : List ℕ) (Lacks : ℕ → Type 0) (p : ℕ) (f : FaultThere) → FieldsFaultAt b Lacks p f → f ≡ Form → FaultAt b p Form

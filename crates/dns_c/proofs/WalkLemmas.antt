@@ -32,7 +32,7 @@ use Rattle.dns_section.proofs.theory.SectionLemmas.{starts_after}
 use Rattle.dns_read.proofs.theory.SectionStartLemmas.{start_found, no_answers, no_authorities, no_additionals, no_reading}
 use Rattle.dns_question.specs.AfterNames.FieldsFaultAt.{name as in_name}
 use Rattle.dns_c.proofs.NameFaultLemmas.{form_in_name}
-use Rattle.dns_c.specs.Steps.{left_from, IsHeader, IsOpen, Opens, ReturnsQuestion, ReturnsRecord, ReturnsEntry, Spans, Tells}
+use Rattle.dns_c.specs.Steps.{left_from, IsHeader, IsOpen, Opens, ReturnsQuestion, ReturnsRecord, ReturnsEntry, Spans, Reports}
 use Rattle.dns_c.specs.declared.walk.Cursor.{Cursor}
 use Rattle.dns_c.specs.declared.walk.Header.{Header}
 use Rattle.dns_c.specs.declared.walk.Item.{Item}
@@ -169,12 +169,12 @@ entry_of_record b cursor (Err e) s at below h =
 
 -- An entry's RDATA lies within the message.
 
-told_within : (b : List ℕ) (item : Item) (x : Entry) → Tells b item x → item.«data» + item.data_len ≤ length b
-told_within b item (Asked x) h = let none_there = h.data_len in let within = h.within in omega arith
-told_within b item (Stated which x) h = h.0.within
+reported_within : (b : List ℕ) (item : Item) (x : Entry) → Reports b item x → item.«data» + item.data_len ≤ length b
+reported_within b item (Asked x) h = let none_there = h.data_len in let within = h.within in omega arith
+reported_within b item (Stated which x) h = h.0.within
 
 pub answered_within : (b : List ℕ) (cursor : Cursor) (r : Result (Item × ℕ) ParseError) → ReturnsEntry b cursor r → IfOk r (λ found. found.0.«data» + found.0.data_len ≤ length b)
-answered_within b cursor (Ok found) h = told_within b found.0 h.0 h.1
+answered_within b cursor (Ok found) h = reported_within b found.0 h.0 h.1
 answered_within b cursor (Err e) h = tt
 
 -- An entry begins at the cursor, and belongs to the cursor's section.

@@ -35,9 +35,9 @@ code_of (Ok false) = 1
 code_of (Err fault) = number_of fault
 
 -- the number reports this fault of octets: 2 that an octet is missing, 3 to 5 that a name is malformed
-abbrev pub TellsFault : FaultThere → ℕ → Type 0
-TellsFault ShortInput n = n ≡ 2
-TellsFault Form n = (3 ≤ n) × (n ≤ 5)
+abbrev pub ReportsFault : FaultThere → ℕ → Type 0
+ReportsFault ShortInput n = n ≡ 2
+ReportsFault Form n = (3 ≤ n) × (n ≤ 5)
 
 -- the fault that reports an append error
 abbrev pub append_fault : AppendError → Fault

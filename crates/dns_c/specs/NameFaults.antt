@@ -5,7 +5,7 @@ use Rattle.std.specs.Prelude.{◌≡◌, ◌⊎◌, ℕ, ◌+◌, ◌<◌, ◌�
 use Rattle.dns_name.specs.Names.{Fault as FaultThere, Faulty, head_at, max_size}
 use Rattle.dns_name.specs.Names.Fault.{Form}
 use Rattle.dns_name.specs.declared.head.Head.TheVariants.{Label, Pointer}
-use Rattle.dns_c.specs.Codes.{TellsFault, number_of}
+use Rattle.dns_c.specs.Codes.{ReportsFault, number_of}
 use Rattle.dns_c.specs.declared.code.Fault.{Fault}
 use Rattle.dns_c.specs.declared.code.Fault.TheVariants as faults
 
@@ -24,8 +24,8 @@ pub data Misformed (b : List ℕ) : ℕ → ℕ → Fault → Type 0 where
   pointer : {p t s : ℕ} {f : Fault} → head_at b p ≡ Ok (Pointer t) → t < p → Misformed b t s f → Misformed b p s f
 
 -- The number reports this fault of what begins with a name at p: 2 if an octet is missing; 3, 4 or 5 if the name is malformed, by how it is.
-pub record TellsAt (b : List ℕ) (p : ℕ) (f : FaultThere) (n : ℕ) : Type 0 where
-  pub kind : TellsFault f n
+pub record ReportsAt (b : List ℕ) (p : ℕ) (f : FaultThere) (n : ℕ) : Type 0 where
+  pub kind : ReportsFault f n
   pub form : f ≡ Form → (fault : Fault) × Misformed b p 0 fault × (n ≡ number_of fault)
 
 -- The label or pointer at p, after labels of s octets, leads to q, after labels of t octets: to a smaller offset, or after more labels. If the name is malformed from p on, it is so from q on, and for the same reason.

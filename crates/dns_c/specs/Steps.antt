@@ -11,7 +11,7 @@ use Rattle.dns_question.specs.Questions.{QuestionItem, ReadsQuestion, QuestionFa
 use Rattle.dns_item.specs.Items.{RecordEntry, ReadsRecord, RecordFaultAt}
 use Rattle.dns_section.specs.Sections.{question_count, answer_count, authority_count, additional_count}
 use Rattle.dns_c.specs.Codes.{code_of, number_of}
-use Rattle.dns_c.specs.NameFaults.{TellsAt}
+use Rattle.dns_c.specs.NameFaults.{ReportsAt}
 use Rattle.dns_c.specs.Walk.{Entry, Asked, Stated, Given, left_at, section_at, walk_of}
 use Rattle.dns_c.specs.declared.code.Fault.{Fault as FaultGiven}
 use Rattle.dns_c.specs.declared.walk.Cursor.{Cursor}
@@ -46,7 +46,7 @@ pub record Opens (b : List ℕ) (header : Header) (cursor : Cursor) : Type 0 whe
   pub walk : left_from b cursor ≡ walk_of b
 
 -- the item that C gets describes this question
-pub record TellsQuestion (b : List ℕ) (item : Item) (x : QuestionItem) : Type 0 where
+pub record ReportsQuestion (b : List ℕ) (item : Item) (x : QuestionItem) : Type 0 where
   pub section : item.section ≡ 0
   pub name : NameAt b item.place x.name
   pub rtype : item.rtype ≡ x.rtype
@@ -56,7 +56,7 @@ pub record TellsQuestion (b : List ℕ) (item : Item) (x : QuestionItem) : Type 
   pub within : item.«data» ≤ length b
 
 -- the item describes this record
-pub record TellsRecord (b : List ℕ) (item : Item) (x : RecordEntry) : Type 0 where
+pub record ReportsRecord (b : List ℕ) (item : Item) (x : RecordEntry) : Type 0 where
   pub name : NameAt b item.place x.owner
   pub rtype : item.rtype ≡ x.rtype
   pub class : item.class ≡ x.class
@@ -66,9 +66,9 @@ pub record TellsRecord (b : List ℕ) (item : Item) (x : RecordEntry) : Type 0 w
   pub within : item.«data» + item.data_len ≤ length b
 
 -- the item describes this entry; the section of a record is a number from 1 to 3
-abbrev pub Tells : List ℕ → Item → Entry → Type 0
-Tells b item (Asked x) = TellsQuestion b item x
-Tells b item (Stated which x) = TellsRecord b item x × (1 ≤ item.section) × (item.section ≤ 3) × (section_at item.section ≡ which)
+abbrev pub Reports : List ℕ → Item → Entry → Type 0
+Reports b item (Asked x) = ReportsQuestion b item x
+Reports b item (Stated which x) = ReportsRecord b item x × (1 ≤ item.section) × (item.section ≤ 3) × (section_at item.section ≡ which)
 
 -- an item begins at p, and its RDATA ends at q; a question has none, and ends at q
 pub record Spans (item : Item) (p q : ℕ) : Type 0 where
@@ -78,25 +78,25 @@ pub record Spans (item : Item) (p q : ℕ) : Type 0 where
 -- What reading at a cursor returns if one more entry is to come: that entry and the offset after it, or the error that is to come.
 abbrev pub ReturnsEntry : List ℕ → Cursor → Result (Item × ℕ) ParseError → Type 0
 ReturnsEntry b cursor (Ok found) =
-    (x : Entry) × Tells b found.0 x × ((n : ℕ) → cursor.left ≡ suc n → left_from b cursor ≡ Ok x ∷ left_at b cursor.section n found.1)
+    (x : Entry) × Reports b found.0 x × ((n : ℕ) → cursor.left ≡ suc n → left_from b cursor ≡ Ok x ∷ left_at b cursor.section n found.1)
 ReturnsEntry b cursor (Err e) = (n : ℕ) → cursor.left ≡ suc n → left_from b cursor ≡ Err (fault_of e) ∷ []
 
 -- what reading a question at p returns: the question and the offset after it, or the error there
 abbrev pub ReturnsQuestion : List ℕ → ℕ → Result (Item × ℕ) ParseError → Type 0
-ReturnsQuestion b p (Ok found) = (x : QuestionItem) × ReadsQuestion b p found.1 x × TellsQuestion b found.0 x
+ReturnsQuestion b p (Ok found) = (x : QuestionItem) × ReadsQuestion b p found.1 x × ReportsQuestion b found.0 x
 ReturnsQuestion b p (Err e) = QuestionFaultAt b p (fault_of e)
 
 -- what reading a record at p returns, for the section of a number
 abbrev pub ReturnsRecord : List ℕ → ℕ → ℕ → Result (Item × ℕ) ParseError → Type 0
-ReturnsRecord b section p (Ok found) = (x : RecordEntry) × ReadsRecord b p found.1 x × TellsRecord b found.0 x × (found.0.section ≡ section)
+ReturnsRecord b section p (Ok found) = (x : RecordEntry) × ReadsRecord b p found.1 x × ReportsRecord b found.0 x × (found.0.section ≡ section)
 ReturnsRecord b section p (Err e) = RecordFaultAt b p (fault_of e)
 
 -- The next entry is returned, and those after it remain. Or nothing is left, and nothing is returned. Or the error that is left is returned, and the cursor keeps its number.
 abbrev pub Steps : List ℕ → Cursor → Cursor → Item → Result Bool FaultGiven → Type 0
-Steps b old new item (Ok true) = (x : Entry) × (left_from b old ≡ Ok x ∷ left_from b new) × Tells b item x × IsOpen b new
+Steps b old new item (Ok true) = (x : Entry) × (left_from b old ≡ Ok x ∷ left_from b new) × Reports b item x × IsOpen b new
 Steps b old new item (Ok false) = (left_from b old ≡ []) × (left_from b new ≡ []) × IsOpen b new
 Steps b old new item (Err fault) =
-    (f : Fault) × (left_from b old ≡ Err f ∷ []) × TellsAt b old.place f (number_of fault) × (new.status ≡ number_of fault)
+    (f : Fault) × (left_from b old ≡ Err f ∷ []) × ReportsAt b old.place f (number_of fault) × (new.status ≡ number_of fault)
 
 -- what C gets from a call of `dns_next`, as a number
 abbrev pub GivesNext : List ℕ → Cursor → Cursor → Item → ℕ → Type 0

@@ -8,7 +8,7 @@ use Rattle.dns_item.specs.Items.{RecordEntry, ReadsRecord, RecordFaultAt}
 use Rattle.dns_item.specs.ParsedRecord.{EncodedRecord}
 use Rattle.dns_item.specs.RecordReading.{up_to_data_end}
 use Rattle.dns_show.specs.Show.{shown_data, typed_parts}
-use Rattle.dns_c.specs.NameFaults.{TellsAt}
+use Rattle.dns_c.specs.NameFaults.{ReportsAt}
 
 -- the buffer holds a text from its beginning up to this end; the end is None if the buffer is too short for the text
 abbrev pub Holds : List ℕ → List ℕ → Option ℕ → Type 0
@@ -29,7 +29,7 @@ RecordAt b p x = (q : ℕ) × ReadsRecord b p q x
 
 -- no record can be read at p, and the number says why
 abbrev pub NoRecordAt : List ℕ → ℕ → ℕ → Type 0
-NoRecordAt b p n = (f : Fault) × RecordFaultAt b p f × TellsAt b p f n
+NoRecordAt b p n = (f : Fault) × RecordFaultAt b p f × ReportsAt b p f n
 
 -- the octets of a record's RDATA
 abbrev pub data_octets : List ℕ → RecordEntry → List ℕ

@@ -129,7 +129,7 @@ pub extern "C" fn dns_data_text(message: &[u8], item: &Item, out: &mut [u8], len
     ensures question { item.now.section ≡ 0 → result ≡ number_of Fault.BadSection }
     ensures no_record { item.now.section ≢ 0 → result ≢ 0 → result ≢ number_of Fault.NoRoom
         → NoRecordAt message.now item.now.place result }
-    ensures told { result ≢ 0 → (fault : Fault) × (result ≡ number_of fault) }
+    ensures reported { result ≢ 0 → (fault : Fault) × (result ≡ number_of fault) }
 {
     match data_text::data(message, item, out) {
         Ok(end) => text::finish(end, out, len),

@@ -3,7 +3,7 @@ ghost use Rattle.std.specs.Prelude.{◌≡◌, ◌<◌, ◌≤◌, length, slice
 ghost use Rattle.dns_name.specs.Names.{FaultAt, Faulty, fault_of};
 ghost use Rattle.dns_name.specs.Names.Fault.{Form};
 ghost use Rattle.dns_c.specs.Codes.{number_of};
-ghost use Rattle.dns_c.specs.NameFaults.{LeadsOn, Misformed, TellsAt};
+ghost use Rattle.dns_c.specs.NameFaults.{LeadsOn, Misformed, ReportsAt};
 
 use crate::code::Fault;
 use dns_wire::ParseError;
@@ -98,7 +98,7 @@ fn form_fault(octets: &[u8], place: usize) -> Fault
 /// the name is malformed.
 pub(crate) fn fault_at(octets: &[u8], place: usize, error: ParseError) -> Fault
     ensures { (fault_of error ≡ Form → FaultAt octets.now place Form)
-        → TellsAt octets.now place (fault_of error) (number_of result) }
+        → ReportsAt octets.now place (fault_of error) (number_of result) }
 {
     match error {
         ParseError::ShortInput => Fault::ShortInput,

@@ -68,13 +68,13 @@ flags_read-joined [] h = refl
 flags_read-joined (t ∷ ts) h = rw (tokens-joined t ts h) (read_tokens (t ∷ ts) h)
 
 -- only allowed tokens denote flags
-told : (ts : List (List ℕ)) (b : Bool) (flags : Flags) → (if b then Some (flags_named ts) else None) ≡ Some flags → (b ≡ true) × (flags_named ts ≡ flags)
-told ts true flags h = (refl, cc)
-told ts false flags h = cc
+reported : (ts : List (List ℕ)) (b : Bool) (flags : Flags) → (if b then Some (flags_named ts) else None) ≡ Some flags → (b ≡ true) × (flags_named ts ≡ flags)
+reported ts true flags h = (refl, cc)
+reported ts false flags h = cc
 
 -- which texts denote which flags
 pub flags_texts : (text : List ℕ) (flags : Flags) → (flags_read text ≡ Some flags) ↔ ((ts : List (List ℕ)) × (joined ts ≡ text) × IsTrue (list_all is_flags_token ts) × (flags_named ts ≡ flags))
 flags_texts text flags = (
-  λ h. let answer = told (tokens text) _ flags h in (tokens text, join_with_byte-slice_split space text, answer.0, answer.1),
+  λ h. let answer = reported (tokens text) _ flags h in (tokens text, join_with_byte-slice_split space text, answer.0, answer.1),
   λ h. rw (← h.1, flags_read-joined h.0 h.2) (ap (λ (f : Flags). Some f) h.3),
 )

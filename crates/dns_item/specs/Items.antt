@@ -96,7 +96,7 @@ abbrev pub RecordSkipFaultAt : List ℕ → ℕ → Fault → Type 0
 RecordSkipFaultAt b = FieldsSkipFaultAt b (LacksRecord b)
 
 -- what was read is the record, and its parts fill the RDATA
-pub record TellsRecord (b : List ℕ) (x : RecordEntry) (item : RecordItem) : Type 0 where
+pub record ReportsRecord (b : List ℕ) (x : RecordEntry) (item : RecordItem) : Type 0 where
   pub owner : x.owner ≡ item.owner
   pub rtype : x.rtype ≡ item.rtype
   pub class : x.class ≡ item.class
@@ -107,7 +107,7 @@ pub record TellsRecord (b : List ℕ) (x : RecordEntry) (item : RecordItem) : Ty
 pub record ReadsRecordItem (b : List ℕ) (p q : ℕ) (item : RecordItem) : Type 0 where
   pub entry : RecordEntry
   pub reads : ReadsRecord b p q entry
-  pub tells : TellsRecord b entry item
+  pub reports : ReportsRecord b entry item
 
 -- Theorems over records in all octets, and over all records that are written. RFC 1035 section 4.1.3.
 

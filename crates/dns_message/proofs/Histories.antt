@@ -42,10 +42,10 @@ module _ {Q R : Type 0} (capacity : Option ℕ) (grows : Bool) (question : Q →
 
   -- the calls so far, one reply for each appended to the replies before, and the stage that they lead to
   pub record GoesOn {T : Type 0} (old : Stage T) (calls : List (Call Q R)) (before items : List Reply) (mid : Stage T) : Type 0 where
-    pub told : List Reply
-    pub appended : items ≡ before ++ told
-    pub one_each : length told ≡ length calls
-    pub goes : Goes old calls told mid
+    pub reported : List Reply
+    pub appended : items ≡ before ++ reported
+    pub one_each : length reported ≡ length calls
+    pub goes : Goes old calls reported mid
 
   -- one call more, with its reply
   pub goes_on : {T : Type 0} → (old mid new : Stage T) (calls : List (Call Q R)) (index : ℕ) (call : Call Q R) (before items items' : List Reply) (reply : Reply) → index < length calls → call ≡ get_or calls index call → items' ≡ items ++ reply ∷ []
@@ -54,10 +54,10 @@ module _ {Q R : Type 0} (capacity : Option ℕ) (grows : Bool) (question : Q →
       let e : take (index + 1) calls ≡ take index calls ++ call ∷ [] = take_more calls index call l ∙ ap (λ (x : Call Q R). take index calls ++ x ∷ []) (sym is) in
       let each = so_far.one_each in
       let one_more : GoesOn old (take index calls ++ call ∷ []) before items' new = record {
-        told = so_far.told ++ reply ∷ [];
-        appended = more ∙ ap (λ (xs : List Reply). xs ++ reply ∷ []) so_far.appended ∙ append_assoc before so_far.told (reply ∷ []);
+        reported = so_far.reported ++ reply ∷ [];
+        appended = more ∙ ap (λ (xs : List Reply). xs ++ reply ∷ []) so_far.appended ∙ append_assoc before so_far.reported (reply ∷ []);
         one_each = simp length-append (omega arith);
-        goes = runs_more old mid new (take index calls) so_far.told call reply so_far.goes step;
+        goes = runs_more old mid new (take index calls) so_far.reported call reply so_far.goes step;
       } in
       subst (λ (xs : List (Call Q R)). GoesOn old xs before items' new) (sym e) one_more
 
@@ -76,7 +76,7 @@ module _ {Q R : Type 0} (capacity : Option ℕ) (grows : Bool) (question : Q →
       let e : take index calls ≡ calls = grind (arith, common_steps) in
       let all = subst (λ (xs : List (Call Q R)). GoesOn old xs before items new) e so_far in
       record {
-        told = all.told;
+        reported = all.reported;
         appended = all.appended;
         one_each = all.one_each;
         runs = λ s h. let went = all.goes s h in record { replied = went.0; represents = went.1; message = represents_message _ new folds went.1 };

@@ -108,7 +108,7 @@ module _ (capacity : Option ℕ) (grows : Bool) {Q R : Type 0} (question : Q →
           gathering = p.answer;
           adds = adds_asked capacity grows rule plan s gathers carries new (Err e) p;
           answers = returns_asked capacity grows rule plan s p.g p.answer (Err e) done p.answers;
-          is_gathered = λ told. absurd (cc);
+          is_gathered = λ reported. absurd (cc);
         },
         subst (λ b. Represents InAdditional rule s b) (sym same) h,
       )

@@ -166,7 +166,7 @@ module _ (capacity : Option ℕ) (grows : Bool) where
 
     -- The calls are made in order on a stage, and one reply for each is appended to the replies before. This is a run from each state that the stage represents.
     pub record RunsAll {T : Type 0} (old : Stage T) (calls : List (Call Q R)) (before replies : List Reply) (new : Stage T) : Type 0 where
-      pub told : List Reply
-      pub appended : replies ≡ before ++ told
-      pub one_each : length told ≡ length calls
-      pub runs : (s : State) → StageRepresents rule s old → Runs s calls told new
+      pub reported : List Reply
+      pub appended : replies ≡ before ++ reported
+      pub one_each : length reported ≡ length calls
+      pub runs : (s : State) → StageRepresents rule s old → Runs s calls reported new

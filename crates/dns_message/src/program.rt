@@ -90,15 +90,15 @@ pub fn tool<R: Read + Drop, W: Write + Drop>(
     let Err(fault) = perform(alloc, args, &mut reader, &mut writer) else {
         return 0;
     };
-    if tell(fault, &mut writer).is_ok() {
+    if report(fault, &mut writer).is_ok() {
         return fault.status();
     }
-    let _ = tell(Fault::Failed, &mut writer);
+    let _ = report(Fault::Failed, &mut writer);
     Fault::Failed.status()
 }
 
 /// Prints the line that reports a fault.
-fn tell<W: Write>(fault: Fault, writer: &mut W) -> io::Result<()> {
+fn report<W: Write>(fault: Fault, writer: &mut W) -> io::Result<()> {
     fault.print(writer)?;
     writer.flush()
 }

@@ -275,7 +275,7 @@ pub fn run<T: Composer, Q: ComposeQuestion, R: ComposeRecord>(
     replies: &mut Vec<Reply>,
 ) -> Result<Stage<T>, Stage<T>>
     ensures same { IfErr result (λ same. same ≡ stage) }
-    ensures untold { OnErr result (replies.new.items ≡ replies.old.items) }
+    ensures unreported { OnErr result (replies.new.items ≡ replies.old.items) }
     ensures full { OnErr result
         (vec_capacity replies.old < vec_len replies.old + length calls.now) }
     ensures ran { IfOk result (λ new.

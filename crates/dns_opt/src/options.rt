@@ -6,7 +6,7 @@ use crate::split::split_option;
 use dns_code::OptionCode;
 
 /// Whether octets are a list of options.
-#[tactic(auto, using(crate::proofs::theory::OptionsLemmas::told_empty, crate::proofs::theory::OptionsLemmas::told_none))]
+#[tactic(auto, using(crate::proofs::theory::OptionsLemmas::reported_empty, crate::proofs::theory::OptionsLemmas::reported_none))]
 pub fn are_options(octets: &[u8]) -> bool
     ensures { result ≡ are_options octets.now }
 {

@@ -57,7 +57,7 @@ fn prints_opaque_data(rt: HostRuntime) {
 type ReadingError = RecordParseError<ParseError, LongRecordData>;
 
 #[test]
-fn tells_errors(rt: HostRuntime) {
+fn reports_errors(rt: HostRuntime) {
     let alloc = rt.alloc();
     let name = ReadingError::Name(ParseError::ShortInput);
     assert_printed(&rt, alloc, &name, "unexpected end of input");

@@ -107,7 +107,7 @@ fn assert_faulty(
 }
 
 #[test]
-fn tells_what_is_wrong(rt: HostRuntime) {
+fn reports_what_is_wrong(rt: HostRuntime) {
     for &(text, kind, printed) in FAULTY {
         let read = Question::vec_from_str(rt.alloc(), text);
         assert_faulty(&rt, rt.alloc(), text, read.err(), kind, printed);

@@ -17,7 +17,7 @@ pub cut_here : (p n e : ℕ) (field : Field) (after : List Row) (old new : Walk)
 cut_here p n e field after old new fault h same offset end =
     let P : ℕ → Type 0 = λ q. CutRows (octets old) (field_row p e field ∷ after) q fault [] in
     let within : p ≤ length (octets old) = omega (arith, walk_within old, offset) in
-    let cut : P p = record { field = field; end = e; after = after; made = refl; within = within; short = omega (arith, h.1, offset, end); told = h.0 } in
+    let cut : P p = record { field = field; end = e; after = after; made = refl; within = within; short = omega (arith, h.1, offset, end); reported = h.0 } in
     record {
       rows = [];
       adds = ap (λ (w : Walk). w.rows.items) same ∙ sym (append-nil old.rows.items);
@@ -33,7 +33,7 @@ cut_rows_after b front after rows offset fault h = record {
   made = ap (λ others. front ++ others) h.made ∙ sym (append_assoc front rows (field_row offset h.end h.field ∷ h.after));
   within = h.within;
   short = h.short;
-  told = h.told;
+  reported = h.reported;
 }
 
 pub cut_after : (front after : List Row) (q : ℕ) (old mid new : Walk) (fault : Fault) → Adds front q old mid → CutsFields after mid new fault → CutsFields (front ++ after) old new fault
@@ -57,6 +57,6 @@ cut_before whole others old new fault h = record {
     made = ap (λ rows. rows ++ others) h.cut.made ∙ append_assoc h.rows (field_row (at new) h.cut.end h.cut.field ∷ h.cut.after) others;
     within = h.cut.within;
     short = h.cut.short;
-    told = h.cut.told;
+    reported = h.cut.reported;
   };
 }

@@ -8,7 +8,7 @@ use Rattle.dns_name.specs.Names.Fault.{ShortInput, Form}
 use Rattle.dns_name.specs.Names.Faulty.{head, long, cut, ahead, label, pointer}
 use Rattle.dns_name.specs.declared.head.Head.TheVariants.{Root, Label, Pointer}
 use Rattle.dns_name.proofs.theory.HeadLemmas.{at_label, at_pointer, label_begins, pointer_begins, root_begins}
-use Rattle.dns_rows.specs.Faults.{StopsName, TellsFault}
+use Rattle.dns_rows.specs.Faults.{StopsName, ReportsFault}
 use Rattle.dns_rows.specs.Faults.StopsName.{none as no_octet, half as half_pointer, cut as cut_label, label as no_label, long as long_name, ahead as ahead_pointer, after as after_pointer, pointed}
 use Rattle.dns_rows.specs.declared.row.Fault.{Fault as RowFault}
 use Rattle.dns_rows.specs.declared.row.Fault.TheVariants as faults
@@ -126,12 +126,12 @@ stops_cut b of start p (suc n) there small unlike none near =
     cut_label begins short (past_end (length b) (p + 1 + suc n) (λ fits. none (suc n) (record { begins = begins; short = short; fits = fits })))
 
 -- the fault that a row reports belongs to the fault that reading the name meets
-pub tells_name : (b : List ℕ) (of : NameOf) (start p : ℕ) (fault : RowFault) (f : Fault) → StopsName b of start p fault → Faulty b p (p - start) f → TellsFault fault f
-tells_name b of start p _ f (no_octet h) w = fault_of_none b p (p - start) f ShortInput (past_head b p h) w
-tells_name b of start p _ f (half_pointer k h) w = fault_of_none b p (p - start) f ShortInput h w
-tells_name b of start p _ f (cut_label {n = n} h fits past) w = fault_of_cut b p (p - start) n f h fits past w
-tells_name b of start p _ f (no_label h) w = fault_of_none b p (p - start) f Form h w
-tells_name b of start p _ f (long_name {n = n} h far) w = fault_of_long b p (p - start) n f h far w
-tells_name b of start p _ f (ahead_pointer {t = t} h far) w = fault_of_ahead b p (p - start) t f h far w
-tells_name b of start p _ f (after_pointer h back no_name) w = tt
-tells_name b of start p _ f (pointed {name = name} h back there) w = form_of_encoded b p (p - start) f name (NameAt.pointer h back there) w
+pub reports_name : (b : List ℕ) (of : NameOf) (start p : ℕ) (fault : RowFault) (f : Fault) → StopsName b of start p fault → Faulty b p (p - start) f → ReportsFault fault f
+reports_name b of start p _ f (no_octet h) w = fault_of_none b p (p - start) f ShortInput (past_head b p h) w
+reports_name b of start p _ f (half_pointer k h) w = fault_of_none b p (p - start) f ShortInput h w
+reports_name b of start p _ f (cut_label {n = n} h fits past) w = fault_of_cut b p (p - start) n f h fits past w
+reports_name b of start p _ f (no_label h) w = fault_of_none b p (p - start) f Form h w
+reports_name b of start p _ f (long_name {n = n} h far) w = fault_of_long b p (p - start) n f h far w
+reports_name b of start p _ f (ahead_pointer {t = t} h far) w = fault_of_ahead b p (p - start) t f h far w
+reports_name b of start p _ f (after_pointer h back no_name) w = tt
+reports_name b of start p _ f (pointed {name = name} h back there) w = form_of_encoded b p (p - start) f name (NameAt.pointer h back there) w

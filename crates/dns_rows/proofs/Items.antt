@@ -272,7 +272,7 @@ data_stops part number rtype len old a b new _ records h k (stopped stop there w
       stop = stop;
       value = subst (λ p. P (octets old) p) k.adds.offset (subst (λ o. P o (at b)) seen w.shows);
       left_over = λ e. omega (arith, left e, k.adds.offset);
-      told = refl;
+      reported = refl;
       made = refl;
     } in
     marks_stop part number others old new (data_fault stop) adds (record_stops (octets old) part (at old) (at new) (data_fault stop) others records (Ok x, stops))

@@ -83,7 +83,7 @@ pub record DataStops (b : List ℕ) (x : RecordEntry) (p offset : ℕ) (fault : 
   pub stop : Option rows.Fault
   pub value : ShowsData (up_to_data_end b x) (shape_of x.rtype) stop x.data_start offset data_rows
   pub left_over : stop ≡ None → offset < x.data_end
-  pub told : fault ≡ data_fault stop
+  pub reported : fault ≡ data_fault stop
   pub made : shown ≡ owner_rows ++ (number_rows x.rtype reads.skips.name_end ++ data_rows)
 
 -- An item at p, which is a name and the fields after it, can't be read: its name can't be, or a field is incomplete. The rows are those up to there, after the row where the item begins. RFC 1035 sections 4.1.2 to 4.1.4.

@@ -32,18 +32,18 @@ pub data StopsName (b : List ℕ) (of : NameOf) (start p : ℕ) : rows.Fault →
   pointed : {t : ℕ} {name : Labels} → head_at b p ≡ Ok (heads.Pointer t) → t < p → NameAt b t name → StopsName b of start p LongPointer
 
 -- The fault of the reading that belongs to a row's fault. For an incomplete field it is `ShortInput`, for a malformed name `Form`. For a pointer to a name that can't be read it is either. Octets after the last field of RDATA are no fault of the reading.
-abbrev pub TellsFault : rows.Fault → Fault → Type 0
-TellsFault (Short field) f = f ≡ ShortInput
-TellsFault Label f = f ≡ Form
-TellsFault LongName f = f ≡ Form
-TellsFault Pointer f = f ≡ Form
-TellsFault After f = ⊤
-TellsFault LongPointer f = f ≡ Form
-TellsFault Trailing f = ⊥
+abbrev pub ReportsFault : rows.Fault → Fault → Type 0
+ReportsFault (Short field) f = f ≡ ShortInput
+ReportsFault Label f = f ≡ Form
+ReportsFault LongName f = f ≡ Form
+ReportsFault Pointer f = f ≡ Form
+ReportsFault After f = ⊤
+ReportsFault LongPointer f = f ≡ Form
+ReportsFault Trailing f = ⊥
 
 -- No name can be read at p. Its labels extend to `offset` and have these rows, and `fault` is why it can't be read further.
 pub record LacksName (b : List ℕ) (of : NameOf) (p : ℕ) (f : Fault) (offset : ℕ) (fault : rows.Fault) (shown : List Row) : Type 0 where
   pub faulty : FaultAt b p f
   pub labels : LabelRows b of p p offset shown
   pub stops : StopsName b of p offset fault
-  pub tells : TellsFault fault f
+  pub reports : ReportsFault fault f

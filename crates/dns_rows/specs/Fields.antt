@@ -48,4 +48,4 @@ pub record CutRows (b : List ℕ) (whole : List Row) (offset : ℕ) (fault : Fau
   pub made : whole ≡ rows ++ field_row offset end field ∷ after
   pub within : offset ≤ length b
   pub short : length b < end
-  pub told : fault ≡ Short field
+  pub reported : fault ≡ Short field

@@ -175,7 +175,7 @@ fn letter_of(reply: Reply) -> u8 {
 }
 
 /// Whether the replies have these letters.
-fn are_told(replies: &[Reply], letters: &str) -> bool {
+fn are_reported(replies: &[Reply], letters: &str) -> bool {
     if replies.len() != letters.len() {
         return false;
     }
@@ -196,7 +196,7 @@ fn after<T: Composer>(
     let calls = calls_of(alloc, calls)?;
     let mut replies = Vec::new(alloc);
     match run(alloc, stage, &calls, &mut replies) {
-        Ok(stage) if are_told(&replies, letters) => Ok(stage),
+        Ok(stage) if are_reported(&replies, letters) => Ok(stage),
         _ => Err(Fail::from("another reply")),
     }
 }

@@ -75,7 +75,7 @@ fn push_in_vain<T: Composer, R: ComposeRecord + Drop>(
 
 /// Pushes the NS record of a zone and the address of the server, over a compressor, and reads both
 /// back by their types.
-fn told(
+fn reported(
     alloc: Global,
     zone: Name<Vec<u8>>,
     server: Name<Vec<u8>>,
@@ -99,7 +99,7 @@ fn told(
 }
 
 /// Pushes an address, and reads the first answer back as one.
-fn address_told(alloc: Global, owner: Name<Vec<u8>>, address: A) -> Result<A, PushError>
+fn address_reported(alloc: Global, owner: Name<Vec<u8>>, address: A) -> Result<A, PushError>
     ensures { IfOk result (λ read. address_of read ≡ address_of address) }
 {
     let mut builder = MessageBuilder::new_vec(alloc)?.answer();
@@ -115,10 +115,10 @@ fn reads_back_by_types(rt: HostRuntime) -> Result<(), Fail> {
     let zone = Name::vec_from_str(alloc, "example.com.")?;
     let server = Name::vec_from_str(alloc, "ns.example.com.")?;
     let address = A::from_octets(192, 0, 2, 1);
-    let (name, glue) = told(alloc, zone, server, address)?;
+    let (name, glue) = reported(alloc, zone, server, address)?;
     assert_eq!(rt; name.as_slice(), b"\x02ns\x07example\x03com\x00".as_slice());
     assert_eq!(rt; glue.octets(), [192, 0, 2, 1]);
-    let read = address_told(alloc, Name::vec_from_str(alloc, "a.")?, address)?;
+    let read = address_reported(alloc, Name::vec_from_str(alloc, "a.")?, address)?;
     assert_eq!(rt; read.octets(), [192, 0, 2, 1]);
     Ok(())
 }

@@ -68,9 +68,9 @@ module _ (items : List Item) where
   last_line octet rest whole e = ap (λ (b : Bool). if b then codes "unreadable message\n" else []) (whole_items items ∙ e)
 
   -- nor if an item can't be read
-  pub fault_told : (rest : List ℕ) (a : Option (List ℕ)) → list_all is_ok items ≡ false → Appends a a (ending (map record_result items) rest)
-  fault_told [] a e = appends_none a
-  fault_told (octet ∷ rest) a e = subst (λ (l : List ℕ). Appends a a l) (sym (last_line octet rest false e)) (appends_none a)
+  pub fault_reported : (rest : List ℕ) (a : Option (List ℕ)) → list_all is_ok items ≡ false → Appends a a (ending (map record_result items) rest)
+  fault_reported [] a e = appends_none a
+  fault_reported (octet ∷ rest) a e = subst (λ (l : List ℕ). Appends a a l) (sym (last_line octet rest false e)) (appends_none a)
 
   -- otherwise it is printed
   pub ending_printed : {X E : Type 0} (r : Result X E) (rest : List ℕ) (a b : Option (List ℕ)) → (length rest ≡ 0 → ⊥) → list_all is_ok items ≡ true → OnOk r (Appends a b (codes "unreadable message\n"))

@@ -17,7 +17,7 @@ use Rattle.dns_view.proofs.Appended.{on_ok}
 use Rattle.dns_view.specs.Pages.{IsPage}
 use Rattle.dns_view.specs.Printed.{Prints, PrintsEach}
 use Rattle.dns_view.specs.Texts.{IsRowText}
-use Rattle.dns_view.specs.Viewing.{is_digits, words_of, AreRowsOf, AskNothing, IsOdd, IsPrinted, IsViewed, PrintsRows, Tells}
+use Rattle.dns_view.specs.Viewing.{is_digits, words_of, AreRowsOf, AskNothing, IsOdd, IsPrinted, IsViewed, PrintsRows, Reports}
 use Rattle.dns_view.specs.Viewing.IsPrinted.{shown, bad_hex}
 use Rattle.dns_view.specs.Viewing.IsViewed.{asked, usage}
 use Rattle.dns_view.specs.declared.program.Form.{Form}
@@ -122,24 +122,24 @@ odd_digits input e digits faulty =
     ]
 
 -- what is printed determines what the exit status says
-status_tells : {words : List (List ℕ)} {input : List ℕ} {a b : Option (List ℕ)} {status : ℕ} → IsViewed words input a b status → Tells words input status
-status_tells (asked form status is (shown octets gives p)) =
+status_reports : {words : List (List ℕ)} {input : List ℕ} {a b : Option (List ℕ)} {status : ℕ} → IsViewed words input a b status → Reports words input status
+status_reports (asked form status is (shown octets gives p)) =
     record { asked = λ e. (form, is); shown = λ e. (octets, gives); bad_hex = λ e. absurd (let n : 0 ≡ 1 = e in omega arith); usage = λ e. absurd (let n : 0 ≡ 2 = e in omega arith) }
-status_tells (asked form status is (bad_hex odd p)) =
+status_reports (asked form status is (bad_hex odd p)) =
     record { asked = λ e. (form, is); shown = λ e. absurd (let n : 1 ≡ 0 = e in omega arith); bad_hex = λ e. odd; usage = λ e. absurd (let n : 1 ≡ 2 = e in omega arith) }
-status_tells (usage none p) =
+status_reports (usage none p) =
     record { asked = λ e. absurd (let n : 2 ≤ 1 = e in omega arith); shown = λ e. absurd (let n : 2 ≡ 0 = e in omega arith); bad_hex = λ e. absurd (let n : 2 ≡ 1 = e in omega arith); usage = λ e. none }
 
 module _ (remaining : Option (List ℕ)) (words : List (List ℕ)) where
   -- the same if the reader's octets are known
-  pub viewed_tells : (a b : Option (List ℕ)) (status : ℕ) → IfSome remaining (λ xs. IsViewed words xs a b status) → IfSome remaining (λ xs. Tells words xs status)
-  viewed_tells a b status h =
-      elim remaining as (λ (o : Option (List ℕ)). IfSome o (λ xs. IsViewed words xs a b status) → IfSome o (λ xs. Tells words xs status)) [ None ↦ λ v. tt | Some xs ↦ λ v. status_tells v ] h
+  pub viewed_reports : (a b : Option (List ℕ)) (status : ℕ) → IfSome remaining (λ xs. IsViewed words xs a b status) → IfSome remaining (λ xs. Reports words xs status)
+  viewed_reports a b status h =
+      elim remaining as (λ (o : Option (List ℕ)). IfSome o (λ xs. IsViewed words xs a b status) → IfSome o (λ xs. Reports words xs status)) [ None ↦ λ v. tt | Some xs ↦ λ v. status_reports v ] h
 
   -- exit status 3 says nothing
-  pub failure_tells : IfSome remaining (λ xs. Tells words xs 3)
-  failure_tells =
-      elim remaining as (λ (o : Option (List ℕ)). IfSome o (λ xs. Tells words xs 3)) [
+  pub failure_reports : IfSome remaining (λ xs. Reports words xs 3)
+  failure_reports =
+      elim remaining as (λ (o : Option (List ℕ)). IfSome o (λ xs. Reports words xs 3)) [
         | None ↦ tt
         | Some xs ↦ record { asked = λ e. absurd (let n : 3 ≤ 1 = e in omega arith); shown = λ e. absurd (let n : 3 ≡ 0 = e in omega arith); bad_hex = λ e. absurd (let n : 3 ≡ 1 = e in omega arith); usage = λ e. absurd (let n : 3 ≡ 2 = e in omega arith) }
       ]

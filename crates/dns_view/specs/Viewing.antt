@@ -59,7 +59,7 @@ pub data IsViewed (words : List (List ℕ)) (input : List ℕ) (old new : Option
 
 -- What the exit status says of the arguments and the input. It is 0 or 1 only if the arguments ask for text or a page, and 2 only if the program doesn't know them.
 -- It is 0 only if the input has a message, and 1 only if the number of its digits is odd.
-pub record Tells (words : List (List ℕ)) (input : List ℕ) (status : ℕ) : Type 0 where
+pub record Reports (words : List (List ℕ)) (input : List ℕ) (status : ℕ) : Type 0 where
   pub asked : status ≤ 1 → (form : Form) × (words ≡ words_of form)
   pub shown : status ≡ 0 → (octets : List ℕ) × Gives input octets
   pub bad_hex : status ≡ 1 → IsOdd input

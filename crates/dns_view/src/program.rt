@@ -2,7 +2,7 @@
 ghost use Rattle.std.specs.Prelude.{◌≡◌, ◌≤◌, ◌||◌, IfOk, IfSome, MatchOption, OnOk, length, map, string_bytes};
 ghost use Rattle.std.specs.Char.{is_ascii_hexdigit, is_ascii_whitespace};
 ghost use Rattle.dns_message.specs.Hex.{unspaced};
-ghost use Rattle.dns_view.specs.Viewing.{is_digits, words_of, AskNothing, Gives, IsOdd, IsPrinted, IsViewed, PrintsRows, Tells};
+ghost use Rattle.dns_view.specs.Viewing.{is_digits, words_of, AskNothing, Gives, IsOdd, IsPrinted, IsViewed, PrintsRows, Reports};
 
 use crate::html::print_page;
 use crate::text::print_text;
@@ -55,8 +55,8 @@ pub fn tool<R: Read + Drop, W: Write + Drop>(
 ) -> u8
     ensures status { result ≤ 3 }
     ensures usage { 2 ≤ length args.now → 2 ≤ result }
-    ensures tells { IfSome (R.remaining reader)
-        (λ input. Tells (map string_bytes args.now) input result) }
+    ensures reports { IfSome (R.remaining reader)
+        (λ input. Reports (map string_bytes args.now) input result) }
 {
     let mut reader = reader;
     let mut writer = writer;

@@ -20,7 +20,7 @@ const FAULTS: &[(ParseError, &str)] = &[
 ];
 
 #[test]
-fn tells_what_is_wrong(rt: HostRuntime) {
+fn reports_what_is_wrong(rt: HostRuntime) {
     let alloc = rt.alloc();
     for (error, text) in FAULTS {
         assert_prints(&rt, alloc, error, text);

@@ -345,7 +345,7 @@ fn raises_each_count_to_65535(rt: HostRuntime) {
 }
 
 #[test]
-fn tells_what_is_wrong(rt: HostRuntime) {
+fn reports_what_is_wrong(rt: HostRuntime) {
     let alloc = rt.alloc();
     let overflow = HeaderCounts::for_message_slice(&[0xff; 12])
         .inc_qdcount()

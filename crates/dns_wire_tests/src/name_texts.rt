@@ -169,7 +169,7 @@ const FAULTS: &[(FromStrError, &str)] = &[
 ];
 
 #[test]
-fn tells_faults(rt: HostRuntime) {
+fn reports_faults(rt: HostRuntime) {
     let alloc = rt.alloc();
     for (fault, text) in FAULTS {
         assert_prints(&rt, alloc, fault, text);

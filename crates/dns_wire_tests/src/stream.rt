@@ -56,7 +56,7 @@ const ABC: &[Step] = &[
 ];
 
 #[test]
-fn tells_its_length(rt: HostRuntime) {
+fn reports_its_length(rt: HostRuntime) {
     let row = "the length of a message";
     let mut target = growing(&rt, rt.alloc());
     assert_steps(&rt, row, &mut target, ABC);

@@ -56,7 +56,7 @@ fn has_operators(rt: HostRuntime) {
 }
 
 #[test]
-fn tells_other_units(rt: HostRuntime) {
+fn reports_other_units(rt: HostRuntime) {
     let most = Ttl::MAX;
     let units = [most.as_days().into(), most.as_hours(), most.as_minutes()];
     let row = "Largest TTL in other units";

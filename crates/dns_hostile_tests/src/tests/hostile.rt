@@ -5,7 +5,7 @@ use crate::tests::octets::{
 };
 use crate::tests::plain_searches::line_count;
 use crate::tests::searches::{
-    assert_copies, assert_question_searches, assert_record_searches, assert_told_apart,
+    assert_copies, assert_distinguished, assert_question_searches, assert_record_searches,
 };
 use crate::tests::sections::{assert_iter, assert_questions, assert_sections};
 use crate::tests::walks::assert_walks;
@@ -54,7 +54,7 @@ fn assert_all(rt: &impl Abort, alloc: Global, octets: &[u8]) -> Result<(), Fail>
     assert_iter(rt, &message);
     assert_question_searches(rt, &message);
     assert_record_searches(rt, &message);
-    assert_told_apart(rt, &message);
+    assert_distinguished(rt, &message);
     assert_copies(rt, alloc, &message)?;
     assert_walks(rt, octets);
     assert_shows(rt, alloc, octets)

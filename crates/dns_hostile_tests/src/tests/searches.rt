@@ -83,7 +83,7 @@ fn assert_answer(rt: &impl Abort, message: &Message<&[u8]>, octets: &[u8]) {
 }
 
 /// Checks whether the message is a response to itself, and to others.
-pub(crate) fn assert_told_apart(rt: &impl Abort, message: &Message<&[u8]>) {
+pub(crate) fn assert_distinguished(rt: &impl Abort, message: &Message<&[u8]>) {
     assert_answer(rt, message, message.as_slice());
     for octets in BOUNDS {
         assert_answer(rt, message, octets);

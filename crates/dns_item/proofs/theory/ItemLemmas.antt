@@ -68,7 +68,7 @@ reads_record x t p q is good h =
         data_start = refl;
         data_end = refl;
       };
-      tells = record {
+      reports = record {
         owner = refl;
         rtype = refl;
         class = refl;

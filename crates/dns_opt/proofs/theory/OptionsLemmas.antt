@@ -68,27 +68,27 @@ pub given_none : (b : List ℕ) → ((x : OptionItem) (after : List ℕ) → Opt
 given_none b never some = let all = some_of b (options_of b) refl some in no_options b never all.0 all.1
 
 -- octets that begin with an option are a list of options if and only if the octets after it are
-told : (x : OptionItem) (b after : List ℕ) → OptionBegins x b after → ((ys : List OptionItem) × AreOptions after ys) ⊎ ((ys : List OptionItem) → AreOptions after ys → ⊥) → are_options b ≡ are_options after
-told x b after begins (inl p) =
+reported : (x : OptionItem) (b after : List ℕ) → OptionBegins x b after → ((ys : List OptionItem) × AreOptions after ys) ⊎ ((ys : List OptionItem) → AreOptions after ys → ⊥) → are_options b ≡ are_options after
+reported x b after begins (inl p) =
     let e : options_of after ≡ Some p.0 = options_of-is after p.0 p.1 in
     let f : options_of b ≡ Some (x ∷ p.0) = options_of-is b (x ∷ p.0) (after, begins, p.1) in
     ap (λ (o : Option (List OptionItem)). is_some o) f ∙ sym (ap (λ (o : Option (List OptionItem)). is_some o) e)
-told x b after begins (inr never) =
+reported x b after begins (inr never) =
     let e = options_of-none after never in
     let f = options_of-none b (λ xs h. let rest = after_list x b after xs begins h in never rest.0 rest.2) in
     ap (λ (o : Option (List OptionItem)). is_some o) f ∙ sym (ap (λ (o : Option (List OptionItem)). is_some o) e)
 
 pub reported_after : (x : OptionItem) (b after : List ℕ) → OptionBegins x b after → are_options b ≡ are_options after
-reported_after x b after begins = told x b after begins (one_or_none after)
+reported_after x b after begins = reported x b after begins (one_or_none after)
 
 -- no octets are a list of options
-pub told_empty : (b : List ℕ) → length b ≡ 0 → are_options b ≡ true
-told_empty [] e = ap (λ (o : Option (List OptionItem)). is_some o) options_of-nil
-told_empty (o ∷ os) e = absurd (omega (arith, e))
+pub reported_empty : (b : List ℕ) → length b ≡ 0 → are_options b ≡ true
+reported_empty [] e = ap (λ (o : Option (List OptionItem)). is_some o) options_of-nil
+reported_empty (o ∷ os) e = absurd (omega (arith, e))
 
 -- octets that don't begin with an option are no list of options
-pub told_none : (b : List ℕ) → 0 < length b → ((x : OptionItem) (after : List ℕ) → OptionBegins x b after → ⊥) → are_options b ≡ false
-told_none b there never = ap (λ (o : Option (List OptionItem)). is_some o) (options_of-none b (none_at_all b there never))
+pub reported_none : (b : List ℕ) → 0 < length b → ((x : OptionItem) (after : List ℕ) → OptionBegins x b after → ⊥) → are_options b ≡ false
+reported_none b there never = ap (λ (o : Option (List OptionItem)). is_some o) (options_of-none b (none_at_all b there never))
 
 -- an encoded option is at the start
 put_begins : (x : OptionItem) (after : List ℕ) → IsOption x → OptionBegins x (put_option x ++ after) after

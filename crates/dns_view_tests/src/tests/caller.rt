@@ -13,7 +13,7 @@ fn is_one_row(alloc: Global, octets: &[u8]) -> Result<bool, AllocError>
 }
 
 #[test]
-fn tells_a_short_message_by_one_row(rt: HostRuntime) -> Result<(), Fail> {
+fn reports_a_short_message_by_one_row(rt: HostRuntime) -> Result<(), Fail> {
     assert!(rt; is_one_row(rt.alloc(), &[0; 11])?);
     assert!(rt; !is_one_row(rt.alloc(), &[0; 12])?);
     Ok(())

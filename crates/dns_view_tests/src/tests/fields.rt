@@ -183,7 +183,7 @@ const FIELDS: &[Message<'_>] = &[
 ];
 
 #[test]
-fn tells_fields(rt: HostRuntime) -> Result<(), Fail> {
+fn reports_fields(rt: HostRuntime) -> Result<(), Fail> {
     assert_messages(&rt, rt.alloc(), 0, HEADERS)?;
     assert_messages(&rt, rt.alloc(), HEADER_LINES, FIELDS)?;
     assert_codes(&rt, rt.alloc())

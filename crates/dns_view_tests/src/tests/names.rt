@@ -84,7 +84,7 @@ const ODD_OCTETS_OF_LABELS: Message<'_> = (
 const NAMES: &[Message<'_>] = &[POINTERS_LEAD, POINTER_TO_A_POINTER, ODD_OCTETS_OF_LABELS];
 
 #[test]
-fn tells_names(rt: HostRuntime) -> Result<(), Fail> {
+fn reports_names(rt: HostRuntime) -> Result<(), Fail> {
     assert_messages(&rt, rt.alloc(), HEADER_LINES, NAMES)?;
     assert_longest(&rt, rt.alloc())
 }

@@ -181,6 +181,6 @@ const MESSAGES: &[Message<'_>] = &[
 ];
 
 #[test]
-fn tells_options(rt: HostRuntime) -> Result<(), Fail> {
+fn reports_options(rt: HostRuntime) -> Result<(), Fail> {
     assert_messages(&rt, rt.alloc(), HEADER_LINES, MESSAGES)
 }

@@ -3,7 +3,7 @@ use Rattle.dns_name.specs.Names.{Fault, FaultAt, head_at}
 use Rattle.dns_name.specs.declared.head.Head.TheVariants.{Root}
 use Rattle.dns_rows.specs.Faults.{StopsName}
 use Rattle.dns_rows.specs.Walks.{at, octets}
-use Rattle.dns_rows.proofs.Faults.{no_root, tells_name}
+use Rattle.dns_rows.proofs.Faults.{no_root, reports_name}
 use Rattle.dns_rows.proofs.walk.Walk.name.Goals as goal
 
 pub name_fault-requires-clause-no_root : goal.name_fault-requires-clause-no_root
@@ -24,5 +24,5 @@ returns-then-is_err-clause-misses c =
     let passes = c.in_ok-labels.ensures.passes in
     let P : List ℕ → ℕ → Type 0 = λ b start. StopsName b c.args.name start (at new) fault in
     let stops : P (octets old) (at old) = subst (λ b. P b (at old)) passes.adds.seen (subst (λ start. P (octets new) start) c.pos-start.ensures c.name_fault.ensures) in
-    let tells = tells_name (octets old) c.args.name (at old) (at new) fault fails.0 stops (passes.faults fails.0 fails.1) in
-    record { rows = passes.rows; adds = passes.adds.rows; f = fails.0; lacks = record { faulty = fails.1; labels = passes.shown; stops = stops; tells = tells } }
+    let reports = reports_name (octets old) c.args.name (at old) (at new) fault fails.0 stops (passes.faults fails.0 fails.1) in
+    record { rows = passes.rows; adds = passes.adds.rows; f = fails.0; lacks = record { faulty = fails.1; labels = passes.shown; stops = stops; reports = reports } }

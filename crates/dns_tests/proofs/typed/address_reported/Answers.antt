@@ -6,7 +6,7 @@ use Rattle.dns_build.specs.BuilderStates.{fresh}
 use Rattle.dns_build.specs.State.{InAnswer, move_to, with_record}
 use Rattle.dns_tests.specs.Typed.{address_record}
 use Rattle.dns_tests.proofs.TypedReading.{octets_first}
-use Rattle.dns_tests.proofs.typed.address_told.Goals as goal
+use Rattle.dns_tests.proofs.typed.address_reported.Goals as goal
 
 pub first_pushed-found-requires : goal.first_pushed-found-requires
 first_pushed-found-requires c κs =

@@ -10,7 +10,7 @@ use Rattle.dns_build.specs.BuilderStates.{fresh}
 use Rattle.dns_build.specs.State.{InAnswer, move_to, with_record}
 use Rattle.dns_tests.specs.Typed.{server_record, address_record}
 use Rattle.dns_tests.proofs.TypedReading.{state, one_server, one_address, name_first, octets_first}
-use Rattle.dns_tests.proofs.typed.told.Goals as goal
+use Rattle.dns_tests.proofs.typed.reported.Goals as goal
 
 pub one_answer-found-requires : goal.one_answer-found-requires
 one_answer-found-requires c κs =
@@ -25,9 +25,9 @@ one_answer-found-requires c κs =
     let octets = address_of c.args.address in
     let four = c.args.address.four in
     let entered = c.answer-builder.ensures fresh c.in_ok-from_target.ensures.fresh in
-    let told = c.in_ok-push.ensures.accepted (move_to InAnswer fresh) entered in
+    let reported = c.in_ok-push.ensures.accepted (move_to InAnswer fresh) entered in
     let s = with_record InAnswer (server_record zone class ttl server) (move_to InAnswer fresh) in
-    let both = c.in_ok-push-2.ensures.accepted s told in
+    let both = c.in_ok-push-2.ensures.accepted s reported in
     let h = c.as_message-message.ensures.reads_back (state law b zone class ttl server owner 1 c.from_secs-2.result octets four) both in
     ((refl, tt), (server_record zone class ttl server, one_server law b zone class ttl server owner 1 c.from_secs-2.result octets four h))
 
@@ -44,9 +44,9 @@ one_answer-glue-requires c κs =
     let octets = address_of c.args.address in
     let four = c.args.address.four in
     let entered = c.answer-builder.ensures fresh c.in_ok-from_target.ensures.fresh in
-    let told = c.in_ok-push.ensures.accepted (move_to InAnswer fresh) entered in
+    let reported = c.in_ok-push.ensures.accepted (move_to InAnswer fresh) entered in
     let s = with_record InAnswer (server_record zone class ttl server) (move_to InAnswer fresh) in
-    let both = c.in_ok-push-2.ensures.accepted s told in
+    let both = c.in_ok-push-2.ensures.accepted s reported in
     let h = c.as_message-message.ensures.reads_back (state law b zone class ttl server owner 1 c.from_secs-2.result octets four) both in
     ((refl, tt), (address_record owner 1 c.from_secs-2.result octets, one_address law b zone class ttl server owner 1 c.from_secs-2.result octets four h))
 
@@ -63,9 +63,9 @@ returns-clause-server c =
     let octets = address_of c.args.address in
     let four = c.args.address.four in
     let entered = c.answer-builder.ensures fresh c.in_ok-from_target.ensures.fresh in
-    let told = c.in_ok-push.ensures.accepted (move_to InAnswer fresh) entered in
+    let reported = c.in_ok-push.ensures.accepted (move_to InAnswer fresh) entered in
     let s = with_record InAnswer (server_record zone class ttl server) (move_to InAnswer fresh) in
-    let both = c.in_ok-push-2.ensures.accepted s told in
+    let both = c.in_ok-push-2.ensures.accepted s reported in
     let h = c.as_message-message.ensures.reads_back (state law b zone class ttl server owner 1 c.from_secs-2.result octets four) both in
     let read = c.one_answer-found.ensures (server_record zone class ttl server) (one_server law b zone class ttl server owner 1 c.from_secs-2.result octets four h) in
     c.in_ok-name.ensures.0 ∙ ap labels (c.nsdname.ensures ∙ ap (λ d. nsdname_of d) c.data-2.ensures) ∙ ap (λ (x : RecordItem). name_first x.parts) read
@@ -84,9 +84,9 @@ returns-clause-address c =
     let octets = address_of c.args.address in
     let four = c.args.address.four in
     let entered = c.answer-builder.ensures fresh c.in_ok-from_target.ensures.fresh in
-    let told = c.in_ok-push.ensures.accepted (move_to InAnswer fresh) entered in
+    let reported = c.in_ok-push.ensures.accepted (move_to InAnswer fresh) entered in
     let s = with_record InAnswer (server_record zone class ttl server) (move_to InAnswer fresh) in
-    let both = c.in_ok-push-2.ensures.accepted s told in
+    let both = c.in_ok-push-2.ensures.accepted s reported in
     let h = c.as_message-message.ensures.reads_back (state law b zone class ttl server owner 1 c.from_secs-2.result octets four) both in
     let read = c.one_answer-glue.ensures (address_record owner 1 c.from_secs-2.result octets) (one_address law b zone class ttl server owner 1 c.from_secs-2.result octets four h) in
     ap address_of c.into_data.ensures ∙ ap (λ (x : RecordItem). octets_first x.parts) read
