@@ -58,7 +58,7 @@ pub no_utf8 : (text : List ℕ) → (IsUtf8 text → ⊥) → SpellsNoName text
 no_utf8 text not name spells = not (spelled_utf8 text name spells)
 
 -- nor does what can't be parsed as one
-pub unread : {X : Type 0} {holder : Ghosts X} (text : List ℕ) (result : Result (Name X holder) FromStrError) (e : FromStrError) → result ≡ Err e → ReadsName ⊥ text result → SpellsNoName text
+pub unread : {X : Type 0} {buffer : Ghosts X} (text : List ℕ) (result : Result (Name X buffer) FromStrError) (e : FromStrError) → result ≡ Err e → ReadsName ⊥ text result → SpellsNoName text
 unread text result (Presentation f) is reads name spells = text_name_or_fault_not_both text name f spells (subst (ReadsName ⊥ text) is reads)
 unread text result ShortBuf is reads name spells = subst (ReadsName ⊥ text) is reads
 unread text result OutOfMemory is reads name spells = subst (ReadsName ⊥ text) is reads

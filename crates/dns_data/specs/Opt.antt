@@ -9,12 +9,12 @@ use Rattle.dns_data.specs.declared.opt.Opt.{Opt}
 
 module _ {X : Type 0} {holds : Ghosts X} where
   -- the value that holds the octets
-  abbrev pub opt_holder_of : Opt X holds → X
-  opt_holder_of opt = opt.octets
+  abbrev pub opt_buffer : Opt X holds → X
+  opt_buffer opt = opt.octets
 
   -- the octets
   abbrev pub opt_octets : Opt X holds → List ℕ
-  opt_octets opt = holds.octets (opt_holder_of opt)
+  opt_octets opt = holds.octets (opt_buffer opt)
 
   -- the options in the octets
   abbrev pub opt_options : Opt X holds → List OptionItem

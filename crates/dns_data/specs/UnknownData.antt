@@ -11,12 +11,12 @@ module _ {X : Type 0} {holds : Ghosts X} where
   unknown_rtype_of unknown = unknown.rtype
 
   -- the value that holds the octets
-  abbrev pub unknown_holder_of : UnknownRecordData X holds → X
-  unknown_holder_of unknown = unknown.octets
+  abbrev pub unknown_buffer : UnknownRecordData X holds → X
+  unknown_buffer unknown = unknown.octets
 
   -- the octets
   abbrev pub unknown_octets : UnknownRecordData X holds → List ℕ
-  unknown_octets unknown = holds.octets (unknown_holder_of unknown)
+  unknown_octets unknown = holds.octets (unknown_buffer unknown)
 
 -- all remaining octets, if they are at most 65,535, the most that RDLENGTH can say
 abbrev pub opaque_layout : Layout

@@ -4,9 +4,9 @@ ghost use Rattle.dns_octets.specs.Converts.{Converts};
 ghost use Rattle.dns_data.specs.A.{address_of};
 ghost use Rattle.dns_data.specs.Conversions.{keeps_soa, keeps_unknown, keeps_opt};
 ghost use Rattle.dns_data.specs.NameData.{nsdname_of, cname_of};
-ghost use Rattle.dns_data.specs.Opt.{opt_holder_of};
+ghost use Rattle.dns_data.specs.Opt.{opt_buffer};
 ghost use Rattle.dns_data.specs.Soa.{mname_of, rname_of};
-ghost use Rattle.dns_data.specs.UnknownData.{unknown_holder_of};
+ghost use Rattle.dns_data.specs.UnknownData.{unknown_buffer};
 
 use crate::a::A;
 use crate::name_data::{Cname, Ns};
@@ -14,7 +14,7 @@ use crate::opt::Opt;
 use crate::soa::Soa;
 use crate::unknown::UnknownRecordData;
 use dns_octets::join_conversions;
-use dns_wire::{AppendError, FlattenInto, HolderFrom, Octets, OctetsFrom};
+use dns_wire::{AppendError, BufferFrom, FlattenInto, Octets, OctetsFrom};
 use std::alloc::Global;
 
 impl OctetsFrom<A> for A {
@@ -130,10 +130,10 @@ impl<N: Drop, S: FlattenInto<N>> FlattenInto<Soa<N>> for Soa<S> {
 }
 
 /// Converts the octets. The type stays.
-impl<S: Octets, T: HolderFrom<S>> OctetsFrom<UnknownRecordData<S>> for UnknownRecordData<T> {
+impl<S: Octets, T: BufferFrom<S>> OctetsFrom<UnknownRecordData<S>> for UnknownRecordData<T> {
     ghost keeps = { keeps_unknown };
 
-    ghost too_long = { λ source. T.too_long (unknown_holder_of source) };
+    ghost too_long = { λ source. T.too_long (unknown_buffer source) };
 
     ghost takes_memory = { T.takes_memory };
 
@@ -145,10 +145,10 @@ impl<S: Octets, T: HolderFrom<S>> OctetsFrom<UnknownRecordData<S>> for UnknownRe
 }
 
 /// As `try_octets_from`.
-impl<S: Octets, T: HolderFrom<S>> FlattenInto<UnknownRecordData<T>> for UnknownRecordData<S> {
+impl<S: Octets, T: BufferFrom<S>> FlattenInto<UnknownRecordData<T>> for UnknownRecordData<S> {
     ghost keeps = { keeps_unknown };
 
-    ghost too_long = { λ source. T.too_long (unknown_holder_of source) };
+    ghost too_long = { λ source. T.too_long (unknown_buffer source) };
 
     ghost takes_memory = { T.takes_memory };
 
@@ -158,10 +158,10 @@ impl<S: Octets, T: HolderFrom<S>> FlattenInto<UnknownRecordData<T>> for UnknownR
 }
 
 /// Converts the octets.
-impl<S: Octets, T: HolderFrom<S>> OctetsFrom<Opt<S>> for Opt<T> {
+impl<S: Octets, T: BufferFrom<S>> OctetsFrom<Opt<S>> for Opt<T> {
     ghost keeps = { keeps_opt };
 
-    ghost too_long = { λ source. T.too_long (opt_holder_of source) };
+    ghost too_long = { λ source. T.too_long (opt_buffer source) };
 
     ghost takes_memory = { T.takes_memory };
 
@@ -172,10 +172,10 @@ impl<S: Octets, T: HolderFrom<S>> OctetsFrom<Opt<S>> for Opt<T> {
 }
 
 /// As `try_octets_from`.
-impl<S: Octets, T: HolderFrom<S>> FlattenInto<Opt<T>> for Opt<S> {
+impl<S: Octets, T: BufferFrom<S>> FlattenInto<Opt<T>> for Opt<S> {
     ghost keeps = { keeps_opt };
 
-    ghost too_long = { λ source. T.too_long (opt_holder_of source) };
+    ghost too_long = { λ source. T.too_long (opt_buffer source) };
 
     ghost takes_memory = { T.takes_memory };
 

@@ -22,12 +22,12 @@ impl<Octs: Octets> Opt<Octs> {
     ghost use Rattle.dns_name.specs.Names.{fault_of};
     ghost use Rattle.dns_name.specs.Names.Fault.{ShortInput};
     ghost use Rattle.dns_opt.specs.OptionIter.{options_left};
-    ghost use Rattle.dns_data.specs.Opt.{opt_holder_of, opt_options, is_opt_data};
+    ghost use Rattle.dns_data.specs.Opt.{opt_buffer, opt_options, is_opt_data};
 
     /// Takes octets as the RDATA. Returns `ShortInput` if they aren't a list of options or are more
     /// than 65,535.
     pub fn from_octets(octets: Octs) -> Result<Self, ParseError>
-        ensures octets { IfOk result (λ opt. opt_holder_of opt ≡ octets) }
+        ensures octets { IfOk result (λ opt. opt_buffer opt ≡ octets) }
         ensures accepted { IsOk result ↔ IsTrue (is_opt_data (Octs.octets octets)) }
         ensures fault { IfErr result (λ e. fault_of e ≡ ShortInput) }
     {
@@ -40,7 +40,7 @@ impl<Octs: Octets> Opt<Octs> {
 
     /// The value that holds the octets.
     pub fn data(&self) -> &Octs
-        ensures { result.now ≡ opt_holder_of self.now }
+        ensures { result.now ≡ opt_buffer self.now }
     {
         &self.octets
     }
@@ -55,14 +55,14 @@ impl<Octs: Octets> Opt<Octs> {
     /// The RDATA of octets that are known to be a list of options of at most 65,535 octets.
     pub(crate) fn of_options(octets: Octs) -> Self
         requires { IsTrue (is_opt_data (Octs.octets octets)) }
-        ensures { opt_holder_of result ≡ octets }
+        ensures { opt_buffer result ≡ octets }
     {
         Opt { octets }
     }
 
     /// Takes out the value that holds the octets.
     pub(crate) fn into_data(self) -> Octs
-        ensures holder { result ≡ opt_holder_of self }
+        ensures buffer { result ≡ opt_buffer self }
         ensures options { IsTrue (is_opt_data (Octs.octets result)) }
     {
         let Opt { octets } = self;
@@ -119,12 +119,12 @@ impl<'a> ParseRecordData<'a> for Opt<&'a [u8]> {
 impl<Octs: Octets + Clone> Clone for Opt<Octs> {
     ghost use Rattle.std.specs.Prelude.{◌≡◌};
     ghost use Rattle.dns_octets.specs.Octets.{ClonesSurely};
-    ghost use Rattle.dns_data.specs.Opt.{opt_holder_of, opt_octets};
+    ghost use Rattle.dns_data.specs.Opt.{opt_buffer, opt_octets};
 
     ghost is_clone = { λ opt clone. opt_octets clone ≡ opt_octets opt };
 
     ghost is_infallible = { λ opt. ClonesSurely Octs.is_infallible Octs.is_clone Octs.octets
-        (opt_holder_of opt) };
+        (opt_buffer opt) };
 
     fn clone(&self) -> Result<Self, AllocError> {
         let octets = self.octets.clone()?;

@@ -19,12 +19,12 @@ pub struct UnknownRecordData<Octs: Octets> {
 
 impl<Octs: Octets> UnknownRecordData<Octs> {
     ghost use Rattle.std.specs.Prelude.{◌≡◌, ◌<◌, ◌↔◌, length, IfOk, IsErr};
-    ghost use Rattle.dns_data.specs.UnknownData.{unknown_rtype_of, unknown_holder_of};
+    ghost use Rattle.dns_data.specs.UnknownData.{unknown_rtype_of, unknown_buffer};
 
     /// The RDATA of a record of this type. Returns an error for more than 65,535 octets.
     pub fn from_octets(rtype: Rtype, octets: Octs) -> Result<Self, LongRecordData>
         ensures rtype { IfOk result (λ unknown. unknown_rtype_of unknown ≡ rtype) }
-        ensures octets { IfOk result (λ unknown. unknown_holder_of unknown ≡ octets) }
+        ensures octets { IfOk result (λ unknown. unknown_buffer unknown ≡ octets) }
         ensures long { IsErr result ↔ (65535 < length (Octs.octets octets)) }
     {
         if octets.octets().len() > 65535 {
@@ -35,7 +35,7 @@ impl<Octs: Octets> UnknownRecordData<Octs> {
 
     /// The value that holds the octets.
     pub fn data(&self) -> &Octs
-        ensures { result.now ≡ unknown_holder_of self.now }
+        ensures { result.now ≡ unknown_buffer self.now }
     {
         &self.octets
     }
@@ -44,7 +44,7 @@ impl<Octs: Octets> UnknownRecordData<Octs> {
     pub(crate) fn of_short(rtype: Rtype, octets: Octs) -> Self
         requires { length (Octs.octets octets) ≤ 65535 }
         ensures rtype { unknown_rtype_of result ≡ rtype }
-        ensures octets { unknown_holder_of result ≡ octets }
+        ensures octets { unknown_buffer result ≡ octets }
     {
         UnknownRecordData {
             rtype: rtype.to_int(),
@@ -55,7 +55,7 @@ impl<Octs: Octets> UnknownRecordData<Octs> {
     /// Takes out the type and the value that holds the octets.
     pub(crate) fn into_parts(self) -> (Rtype, Octs)
         ensures rtype { result.0 ≡ unknown_rtype_of self }
-        ensures octets { result.1 ≡ unknown_holder_of self }
+        ensures octets { result.1 ≡ unknown_buffer self }
         ensures short { length (Octs.octets result.1) ≤ 65535 }
     {
         let UnknownRecordData { rtype, octets } = self;
@@ -138,12 +138,12 @@ impl<'a> ParseRecordData<'a> for UnknownRecordData<&'a [u8]> {
 impl<Octs: Octets + Clone> Clone for UnknownRecordData<Octs> {
     ghost use Rattle.std.specs.Prelude.{◌≡◌};
     ghost use Rattle.dns_octets.specs.Octets.{ClonesSurely};
-    ghost use Rattle.dns_data.specs.UnknownData.{unknown_holder_of, unknown_rtype_of, unknown_octets};
+    ghost use Rattle.dns_data.specs.UnknownData.{unknown_buffer, unknown_rtype_of, unknown_octets};
 
     ghost is_clone = { λ unknown clone. (unknown_rtype_of clone ≡ unknown_rtype_of unknown) × (unknown_octets clone ≡ unknown_octets unknown) };
 
     ghost is_infallible = { λ unknown. ClonesSurely Octs.is_infallible Octs.is_clone Octs.octets
-        (unknown_holder_of unknown) };
+        (unknown_buffer unknown) };
 
     fn clone(&self) -> Result<Self, AllocError> {
         let octets = self.octets.clone()?;

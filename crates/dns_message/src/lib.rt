@@ -90,7 +90,7 @@ pub mod wire {
     //! The parser, buffers of octets, the errors of both, canonical order, and theorems on names
     //! and targets.
     pub use dns_wire::{
-        AppendError, CanonicalOrd, FlattenInto, FormError, HolderFrom, Octets, OctetsFrom,
+        AppendError, BufferFrom, CanonicalOrd, FlattenInto, FormError, Octets, OctetsFrom,
         OctetsMut, ParseError, Parser, ShortBuf, laws, target_laws,
     };
 }

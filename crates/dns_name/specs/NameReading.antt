@@ -10,11 +10,11 @@ use Rattle.dns_name.specs.declared.name_error.FromStrError.{FromStrError}
 use Rattle.dns_name.specs.declared.name_error.FromStrError.TheVariants.{Presentation, ShortBuf, OutOfMemory}
 
 -- The value that stores the octets of a `Name`.
-abbrev pub name_holder_of : {X : Type 0} {holder : Ghosts X} → Name X holder → X
-name_holder_of name = name.octets
+abbrev pub name_buffer : {X : Type 0} {buffer : Ghosts X} → Name X buffer → X
+name_buffer name = name.octets
 
 -- The labels of a `Name`.
-abbrev pub name_labels : {X : Type 0} {holder : Ghosts X} → Name X holder → Labels
+abbrev pub name_labels : {X : Type 0} {buffer : Ghosts X} → Name X buffer → Labels
 name_labels name = name.whole.0.0
 
 -- The first octet that the text represents, and the text after it; or the fault there, whatever precedes the text.
@@ -52,7 +52,7 @@ abbrev pub SpellsSomeName : List ℕ → Type 0
 SpellsSomeName text = (name : Labels) × SpellsName text name
 
 -- The result is the name that the text represents, or the fault of the text, or `OutOfMemory`, which only happens if `Memory` holds.
-abbrev pub ReadsName : {X : Type 0} {holder : Ghosts X} → Type 0 → List ℕ → Result (Name X holder) FromStrError → Type 0
+abbrev pub ReadsName : {X : Type 0} {buffer : Ghosts X} → Type 0 → List ℕ → Result (Name X buffer) FromStrError → Type 0
 ReadsName Memory text (Ok name) = SpellsName text (name_labels name)
 ReadsName Memory text (Err (Presentation f)) = NameTextFault text f
 ReadsName Memory text (Err ShortBuf) = ⊥

@@ -114,12 +114,12 @@ impl<Octs: Octets> ToName for Name<Octs> {
 impl<Octs: Octets + Clone> Clone for Name<Octs> {
     ghost use Rattle.std.specs.Prelude.{◌≡◌};
     ghost use Rattle.dns_octets.specs.Octets.{ClonesSurely};
-    ghost use Rattle.dns_name.specs.NameReading.{name_holder_of, name_labels};
+    ghost use Rattle.dns_name.specs.NameReading.{name_buffer, name_labels};
 
     ghost is_clone = { λ name clone. name_labels clone ≡ name_labels name };
 
     ghost is_infallible = { λ name. ClonesSurely Octs.is_infallible Octs.is_clone Octs.octets
-        (name_holder_of name) };
+        (name_buffer name) };
 
     fn clone(&self) -> Result<Self, AllocError> {
         let octets = self.octets.clone()?;

@@ -9,4 +9,4 @@ mod octets;
 
 pub use error::{AppendError, FormError, ParseError, ShortBuf};
 pub use join::join_conversions;
-pub use octets::{HolderFrom, Octets, OctetsFrom, OctetsMut};
+pub use octets::{BufferFrom, Octets, OctetsFrom, OctetsMut};

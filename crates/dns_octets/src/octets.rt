@@ -43,7 +43,7 @@ pub trait OctetsFrom<Source>: Sized {
 }
 
 /// A conversion from other octets that keeps the octets.
-pub trait HolderFrom<Source: Octets>: Octets + OctetsFrom<Source> {
+pub trait BufferFrom<Source: Octets>: Octets + OctetsFrom<Source> {
     /// A value that keeps what the source holds has the same octets.
     ghost same_octets: { (source : Source) (value : Self) → Self.keeps source value
         → Self.octets value ≡ Source.octets source };
@@ -163,18 +163,18 @@ impl<'a> OctetsFrom<&'a [u8]> for &'a [u8] {
     }
 }
 
-impl<S: Octets> HolderFrom<S> for Vec<u8> {
+impl<S: Octets> BufferFrom<S> for Vec<u8> {
     ghost same_octets = { λ source value same. same };
 }
 
-impl<S: Octets, const N: usize> HolderFrom<S> for ArrayVec<u8, N> {
+impl<S: Octets, const N: usize> BufferFrom<S> for ArrayVec<u8, N> {
     ghost same_octets = { λ source value same. same };
 }
 
-impl<'a, S: Octets> HolderFrom<&'a S> for &'a [u8] {
+impl<'a, S: Octets> BufferFrom<&'a S> for &'a [u8] {
     ghost same_octets = { λ source value same. same };
 }
 
-impl<'a> HolderFrom<&'a [u8]> for &'a [u8] {
+impl<'a> BufferFrom<&'a [u8]> for &'a [u8] {
     ghost same_octets = { λ source value same. same };
 }

@@ -5,9 +5,9 @@ use Rattle.dns_opt.specs.declared.option.UnknownOptData.{UnknownOptData}
 
 module _ {X : Type 0} {holds : Ghosts X} where
   -- the value that holds the octets
-  abbrev pub holder_of : UnknownOptData X holds → X
-  holder_of unknown = unknown.octets
+  abbrev pub buffer_of : UnknownOptData X holds → X
+  buffer_of unknown = unknown.octets
 
   -- the option
   abbrev pub option_of : UnknownOptData X holds → OptionItem
-  option_of unknown = record { code = unknown.code; octets = holds.octets (holder_of unknown) }
+  option_of unknown = record { code = unknown.code; octets = holds.octets (buffer_of unknown) }

@@ -30,12 +30,12 @@ pub struct UnknownOptData<Octs: Octets> {
 
 impl<Octs: Octets> UnknownOptData<Octs> {
     ghost use Rattle.std.specs.Prelude.{◌<◌, ◌↔◌, IfOk, IsErr};
-    ghost use Rattle.dns_opt.specs.OptData.{holder_of, option_of};
+    ghost use Rattle.dns_opt.specs.OptData.{buffer_of, option_of};
 
     /// The option with this code and these octets. Returns an error for more than 65,535 octets.
     pub fn new(code: OptionCode, octets: Octs) -> Result<Self, LongOptData>
         ensures code { IfOk result (λ unknown. (option_of unknown).code ≡ code) }
-        ensures octets { IfOk result (λ unknown. holder_of unknown ≡ octets) }
+        ensures octets { IfOk result (λ unknown. buffer_of unknown ≡ octets) }
         ensures long { IsErr result ↔ (65535 < length (Octs.octets octets)) }
     {
         if octets.octets().len() > 65535 {

@@ -157,6 +157,6 @@ ReadsFault Memory text ShortBuf = ⊥
 ReadsFault Memory text OutOfMemory = Memory
 
 -- the question that the text is read as, or the error
-abbrev pub ReadsQuestionText : {X : Type 0} {holder : Ghosts X} → Type 0 → List ℕ → Result (Question (Name X holder)) FromStrError → Type 0
+abbrev pub ReadsQuestionText : {X : Type 0} {buffer : Ghosts X} → Type 0 → List ℕ → Result (Question (Name X buffer)) FromStrError → Type 0
 ReadsQuestionText Memory text (Ok question) = ReadsText text (Ok (question_item name_labels question))
 ReadsQuestionText Memory text (Err e) = ReadsFault Memory text e

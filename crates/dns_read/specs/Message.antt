@@ -4,9 +4,9 @@ use Rattle.dns_octets.specs.declared.octets.Octets.{Ghosts}
 use Rattle.dns_read.specs.declared.message.Message.{Message}
 
 -- the value that holds a message's octets
-abbrev pub holder_of : {X : Type 0} {holds : Ghosts X} → Message X holds → X
-holder_of message = message.octets
+abbrev pub buffer_of : {X : Type 0} {holds : Ghosts X} → Message X holds → X
+buffer_of message = message.octets
 
 -- the octets of a message
 abbrev pub message_octets : {X : Type 0} {holds : Ghosts X} → Message X holds → List ℕ
-message_octets {holds = holds} message = holds.octets (holder_of message)
+message_octets {holds = holds} message = holds.octets (buffer_of message)

@@ -5,8 +5,8 @@
 //! over its sections are those of `dns_section`.
 #![tactic(auto)]
 
+mod buffers;
 mod error;
-mod holders;
 pub mod message;
 mod message_iter;
 mod opt_searches;

@@ -37,7 +37,7 @@ impl<Octs: Octets> Message<Octs> {
     ghost use Rattle.dns_code.specs.Header.{fields_in, header_octets};
     ghost use Rattle.dns_code.specs.HeaderCounts.{counts, counts_octets};
     ghost use Rattle.dns_code.specs.HeaderSection.{section_octets};
-    ghost use Rattle.dns_read.specs.Message.{holder_of, message_octets};
+    ghost use Rattle.dns_read.specs.Message.{buffer_of, message_octets};
     ghost use Rattle.dns_section.specs.QuestionSection.{octets_of, position, to_come, questions_left, BeginsQuestions};
     ghost use Rattle.dns_section.specs.QuestionsFrom.{questions_from};
     ghost use Rattle.dns_section.specs.RecordSection.{BeginsSection};
@@ -47,7 +47,7 @@ impl<Octs: Octets> Message<Octs> {
 
     /// The message with these octets. Returns `ShortMessage` if they are fewer than 12.
     pub fn from_octets(octets: Octs) -> Result<Self, ShortMessage>
-        ensures holder { IfOk result (λ message. holder_of message ≡ octets) }
+        ensures buffer { IfOk result (λ message. buffer_of message ≡ octets) }
         ensures short { IsErr result ↔ (length (Octs.octets octets) < header_size) }
     {
         Message::try_from_octets(octets).map_err(|_| ShortMessage)
@@ -55,7 +55,7 @@ impl<Octs: Octets> Message<Octs> {
 
     /// The message with these octets. Returns them as the error if they are fewer than 12.
     pub fn try_from_octets(octets: Octs) -> Result<Self, Octs>
-        ensures holder { IfOk result (λ message. holder_of message ≡ octets) }
+        ensures buffer { IfOk result (λ message. buffer_of message ≡ octets) }
         ensures back { IfErr result (λ refused. refused ≡ octets) }
         ensures short { IsErr result ↔ (length (Octs.octets octets) < header_size) }
     {
@@ -68,7 +68,7 @@ impl<Octs: Octets> Message<Octs> {
     /// The message with these octets, which are known to be at least 12.
     pub(crate) fn of_long(octets: Octs) -> Self
         requires { header_size ≤ length (Octs.octets octets) }
-        ensures { holder_of result ≡ octets }
+        ensures { buffer_of result ≡ octets }
     {
         Message { octets }
     }
@@ -89,14 +89,14 @@ impl<Octs: Octets> Message<Octs> {
 
     /// The octets, as the message stores them.
     pub fn as_octets(&self) -> &Octs
-        ensures { result.now ≡ holder_of self.now }
+        ensures { result.now ≡ buffer_of self.now }
     {
         &self.octets
     }
 
     /// Converts the message into its octets.
     pub fn into_octets(self) -> Octs
-        ensures { result ≡ holder_of self }
+        ensures { result ≡ buffer_of self }
     {
         let Message { octets } = self;
         octets
@@ -290,12 +290,12 @@ impl<Octs: OctetsMut> Message<Octs> {
 /// Clones the octets. Returns `AllocError` if the clone doesn't have the same octets.
 impl<Octs: Octets + Clone> Clone for Message<Octs> {
     ghost use Rattle.dns_octets.specs.Octets.{ClonesSurely};
-    ghost use Rattle.dns_read.specs.Message.{holder_of, message_octets};
+    ghost use Rattle.dns_read.specs.Message.{buffer_of, message_octets};
 
     ghost is_clone = { λ message clone. message_octets clone ≡ message_octets message };
 
     ghost is_infallible = { λ message. ClonesSurely Octs.is_infallible Octs.is_clone Octs.octets
-        (holder_of message) };
+        (buffer_of message) };
 
     fn clone(&self) -> Result<Self, AllocError> {
         let octets = self.octets.clone()?;
@@ -310,10 +310,10 @@ impl<Octs: Octets + Copy> Copy for Message<Octs> {}
 
 /// The octets, as the message stores them.
 impl<Octs: Octets> AsRef<Octs> for Message<Octs> {
-    ghost use Rattle.dns_read.specs.Message.{holder_of};
+    ghost use Rattle.dns_read.specs.Message.{buffer_of};
 
     fn as_ref(&self) -> &Octs
-        ensures { result.now ≡ holder_of self.now }
+        ensures { result.now ≡ buffer_of self.now }
     {
         self.as_octets()
     }

@@ -63,8 +63,8 @@ fn takes_another_header(rt: HostRuntime) -> Result<(), Fail> {
     assert!(rt; message.no_error() && !message.is_error());
     let expected = [0, 0, 0, 0, 7, 7, 7, 7, 7, 7, 7, 7];
     assert_octets(&rt, message.as_octets(), &expected, "holder");
-    let holder: &[u8; 12] = message.as_ref();
-    assert_octets(&rt, holder, &expected, "holder by reference");
+    let buffer: &[u8; 12] = message.as_ref();
+    assert_octets(&rt, buffer, &expected, "holder by reference");
     assert_octets(&rt, &message.into_octets(), &expected, "holder taken out");
     Ok(())
 }
@@ -118,7 +118,7 @@ fn assert_converted<T: OctetsFrom<S> + AsSlice<u8> + Drop, S>(
 }
 
 #[test]
-fn changes_holders(rt: HostRuntime) {
+fn changes_buffers(rt: HostRuntime) {
     let alloc = rt.alloc();
     let message = message_of(&rt, POSITIVE_RESPONSE);
     assert_converted::<Message<&[u8]>, _>(&rt, alloc, message, "slice");

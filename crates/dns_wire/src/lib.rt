@@ -14,6 +14,6 @@ pub use canonical_ord::CanonicalOrd;
 pub use composer::{CloneTarget, Composer, FreezeBuilder};
 pub use dns_name::{FlattenInto, Label, LabelIter, Name, ParsedName, Parser, ToName, laws, name};
 pub use dns_octets::{
-    AppendError, FormError, HolderFrom, Octets, OctetsFrom, OctetsMut, ParseError, ShortBuf,
+    AppendError, BufferFrom, FormError, Octets, OctetsFrom, OctetsMut, ParseError, ShortBuf,
 };
 pub use to_name::ToNameExt;

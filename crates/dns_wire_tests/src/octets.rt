@@ -17,18 +17,18 @@ const PLAIN: [u8; 13] = *b"\x07example\x03com\x00";
 /// `com`, and `example.com` at offset 5, with a pointer after its first label.
 const POINTED: &[u8] = b"\x03com\x00\x07example\xC0\x00";
 
-fn assert_abc<T: Octets>(rt: &impl Abort, holder: &T) {
-    assert_same(rt, "octets held", holder.octets(), b"abc".as_slice());
+fn assert_abc<T: Octets>(rt: &impl Abort, buffer: &T) {
+    assert_same(rt, "octets held", buffer.octets(), b"abc".as_slice());
 }
 
-fn assert_written<T: OctetsMut>(rt: &impl Abort, holder: &mut T)
-    requires { 4 ≤ length (T.octets holder.old) }
+fn assert_written<T: OctetsMut>(rt: &impl Abort, buffer: &mut T)
+    requires { 4 ≤ length (T.octets buffer.old) }
 {
-    holder.write_at(1, b"XY");
+    buffer.write_at(1, b"XY");
     assert_same(
         rt,
         "octets written over",
-        holder.octets(),
+        buffer.octets(),
         b"aXYd".as_slice(),
     );
 }

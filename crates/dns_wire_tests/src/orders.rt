@@ -83,7 +83,7 @@ fn held_name(rt: &impl Abort, octets: [u8; 3]) -> Name<[u8; 3]> {
 }
 
 #[test]
-fn compares_across_holders(rt: HostRuntime) {
+fn compares_across_buffers(rt: HostRuntime) {
     let name = held_name(&rt, *b"\x01A\x00");
     let same = held_name(&rt, *b"\x01a\x00");
     let other = name_of(&rt, b"\x01b\x00");

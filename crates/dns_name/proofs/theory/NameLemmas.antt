@@ -23,7 +23,7 @@ name_at_in_own : (name : Labels) → IsName name → NameAt (uncompressed name) 
 name_at_in_own name n = name_at_uncompressed (uncompressed name) 0 name n refl
 
 -- The labels of a `Name` are those of a name.
-pub name_is : {X : Type 0} {holder : Ghosts X} (name : Name X holder) → IsName (name_labels name)
+pub name_is : {X : Type 0} {buffer : Ghosts X} (name : Name X buffer) → IsName (name_labels name)
 name_is name = encoded_name name.whole.0.1
 
 -- The labels of a `ParsedName` are those of a name.
@@ -35,11 +35,11 @@ pub octets_whole : (name : Labels) (b : List ℕ) → IsName name → uncompress
 octets_whole name b n e = subst WholeName e ((name, name_at_in_own name n), refl)
 
 -- A `Name` whose octets are those of `own` has the labels `own`.
-pub labels_of_octets : {X : Type 0} {holder : Ghosts X} (name : Name X holder) (own : Labels) (b : List ℕ) → uncompressed (name_labels name) ≡ b → uncompressed own ≡ b → own ≡ name_labels name
+pub labels_of_octets : {X : Type 0} {buffer : Ghosts X} (name : Name X buffer) (own : Labels) (b : List ℕ) → uncompressed (name_labels name) ≡ b → uncompressed own ≡ b → own ≡ name_labels name
 labels_of_octets name own b e same = uncompressed-injective _ _ (same ∙ sym e)
 
 -- The octets of a `Name` are one whole name.
-pub name_whole : {X : Type 0} {holder : Ghosts X} (name : Name X holder) → WholeName (uncompressed (name_labels name))
+pub name_whole : {X : Type 0} {buffer : Ghosts X} (name : Name X buffer) → WholeName (uncompressed (name_labels name))
 name_whole name = ((name_labels name, name_at_in_own _ (name_is name)), refl)
 
 -- The uncompressed octets of a `ParsedName` are one whole name.
@@ -55,12 +55,12 @@ label_fits name before label after e =
     omega (arith, all, short, length-append before (framed label ++ after), length-append (framed label) after)
 
 -- Names with the same octets have the same labels.
-pub same_names : {X Y : Type 0} {holder : Ghosts X} {other_holder : Ghosts Y} (name : Name X holder) (other : Name Y other_holder)
+pub same_names : {X Y : Type 0} {buffer : Ghosts X} {other_buffer : Ghosts Y} (name : Name X buffer) (other : Name Y other_buffer)
     → uncompressed (name_labels name) ≡ uncompressed (name_labels other) → name_labels name ≡ name_labels other
 same_names name other e = uncompressed-injective _ _ e
 
 -- The same if one of them is a `ParsedName`.
-pub same_parsed : {X : Type 0} {holder : Ghosts X} (name : Name X holder) (other : ParsedName)
+pub same_parsed : {X : Type 0} {buffer : Ghosts X} (name : Name X buffer) (other : ParsedName)
     → uncompressed (name_labels name) ≡ uncompressed (labels other) → name_labels name ≡ labels other
 same_parsed name other e = uncompressed-injective _ _ e
 
