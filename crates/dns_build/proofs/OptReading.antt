@@ -84,16 +84,16 @@ module _ (g : Gathered) (b : List ℕ) (p q : ℕ) (e : RecordEntry) (ok : IsGat
   data_within : HasSpan encoded
   data_within =
       let filled = reports.parts.1 in
-      let end = reads.data_end in
+      let end = reads.rdata_end in
       let within = reads.skips.within in
       record { start = omega arith; end = omega arith }
 
   -- its RDATA is the options, by the layout of OPT
   data_at : HasData b e opt_layout (Octets (put_options g.options) ∷ [])
   data_at =
-      let filled = data_filled b e.data_start e.data_end (put_options g.options) reports.parts in
+      let filled = data_filled b e.rdata_start e.rdata_end (put_options g.options) reports.parts in
       let within = data_within.end in
-      let end : e.data_end ≡ length (take e.data_end b) = grind (arith, common_steps) in
+      let end : e.rdata_end ≡ length (take e.rdata_end b) = grind (arith, common_steps) in
       (end, ap (λ (octets : List ℕ). Octets octets ∷ []) (sym filled), rw filled (gathered_accepted g ok))
 
   -- so `Opt` reads it as the record that was pushed

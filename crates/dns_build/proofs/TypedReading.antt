@@ -55,8 +55,8 @@ module _ (x : RecordItem) (b : List ℕ) (p q : ℕ) (e : RecordEntry) (reads : 
   -- its RDATA is within the octets
   data_within : HasSpan (record { octets = b; entry = e })
   data_within =
-      let start = reads.data_start in
-      let end = reads.data_end in
+      let start = reads.rdata_start in
+      let end = reads.rdata_end in
       let size = reads.skips.end in
       let within = reads.skips.within in
       record { start = omega arith; end = omega arith }
@@ -64,7 +64,7 @@ module _ (x : RecordItem) (b : List ℕ) (p q : ℕ) (e : RecordEntry) (reads : 
   -- each layout that accepts the parts reads `x`
   reported : (layout : Layout) → IsLaidOut layout x.parts → laid_out (record { octets = b; entry = e }) layout ≡ Ok x
   reported layout laid =
-      let represents = encoded_parts_read b e.data_end e.data_start layout x.parts data_within.end reports.parts laid in
+      let represents = encoded_parts_read b e.rdata_end e.rdata_start layout x.parts data_within.end reports.parts laid in
       ap (with_parts e) (data_is_parsed.only (record { octets = b; entry = e }) layout (Ok x.parts) (whole data_within represents))
       ∙ ap (λ (y : RecordItem). let r : Result RecordItem Fault = Ok y in r) (same_record e x reports.owner reports.rtype reports.class reports.ttl)
 

@@ -45,7 +45,7 @@ of_class_in = filter (λ x. x.class == 1)
 pub record EncodedAs (b : List ℕ) (x : RecordItem) (encoded : EncodedRecord) : Type 0 where
   pub octets : encoded.octets ≡ b
   pub there : HasSpan encoded
-  pub parts : PartsAt encoded.octets encoded.entry.data_end encoded.entry.data_start x.parts
+  pub parts : PartsAt encoded.octets encoded.entry.rdata_end encoded.entry.rdata_start x.parts
   pub item : item_of encoded.entry x.parts ≡ x
   pub answer : (layout : Layout) → IsLaidOut layout x.parts → laid_out encoded layout ≡ Ok x
 

@@ -28,11 +28,11 @@ use Rattle.dns_c.specs.Texts.{absolute_name, hex_octets}
 module _ (x : EncodedRecord) (read : IsRead x) where
   span : HasSpan x
   span = record {
-    start = let e = read.2.data_end in let s = read.2.data_start in let w = read.2.skips.end in omega arith;
-    end = let w = read.2.skips.within in let e = read.2.data_end in omega arith;
+    start = let e = read.2.rdata_end in let s = read.2.rdata_start in let w = read.2.skips.end in omega arith;
+    end = let w = read.2.skips.within in let e = read.2.rdata_end in omega arith;
   }
 
-  pub there : x.entry.data_end ≤ length x.octets
+  pub there : x.entry.rdata_end ≤ length x.octets
   there = span.end
 
   -- the parts of RDATA that a data type parses

@@ -100,7 +100,7 @@ module _ (b : List ℕ) where
   unfolding records_in
   record_then which n p q x reads =
       ap (by_reading which p) ((records_from_are_read b).entry n p q x reads)
-      ∙ ap (λ (r : ℕ). Ok (Stated which x) ∷ by_reading which r (records_from b n q)) reads.data_end
+      ∙ ap (λ (r : ℕ). Ok (Stated which x) ∷ by_reading which r (records_from b n q)) reads.rdata_end
 
   fault_then : (which : Section) (n p : ℕ) (f : Fault) → RecordFaultAt b p f → records_left which b (suc n) p ≡ Err f ∷ []
   unfolding records_in
@@ -234,7 +234,7 @@ passed_all : (b : List ℕ) {n p : ℕ} {xs : List (Result RecordEntry Fault)} �
     → Passed (SkipsRecord b) n p (records_end p (map (in_octets b) xs))
 passed_all b no_entry h = none
 passed_all b (entry {n = n} {q = q} {xs = xs} reads rest) h =
-    more reads.skips (subst (λ e. Passed (SkipsRecord b) n q (records_end e (map (in_octets b) xs))) (sym reads.data_end) (passed_all b rest h.1))
+    more reads.skips (subst (λ e. Passed (SkipsRecord b) n q (records_end e (map (in_octets b) xs))) (sym reads.rdata_end) (passed_all b rest h.1))
 passed_all b (stop {f = f} fault) h = let refused = h.0 in absurd (cc)
 
 -- so the next section begins where the last of them ends

@@ -61,8 +61,8 @@ pub record ReportsRecord (b : List ℕ) (item : Item) (x : RecordEntry) : Type 0
   pub rtype : item.rtype ≡ x.rtype
   pub class : item.class ≡ x.class
   pub ttl : item.ttl ≡ x.ttl
-  pub data_start : item.«data» ≡ x.data_start
-  pub data_end : item.«data» + item.data_len ≡ x.data_end
+  pub rdata_start : item.«data» ≡ x.rdata_start
+  pub rdata_end : item.«data» + item.data_len ≡ x.rdata_end
   pub within : item.«data» + item.data_len ≤ length b
 
 -- the item describes this entry; the section of a record is a number from 1 to 3

@@ -6,7 +6,7 @@ use Rattle.dns_name.specs.NameTexts.{dot, name_text}
 use Rattle.dns_data.specs.Printing.{hex_octet}
 use Rattle.dns_item.specs.Items.{RecordEntry, ReadsRecord, RecordFaultAt}
 use Rattle.dns_item.specs.ParsedRecord.{EncodedRecord}
-use Rattle.dns_item.specs.RecordReading.{up_to_data_end}
+use Rattle.dns_item.specs.RecordReading.{up_to_rdata_end}
 use Rattle.dns_show.specs.Show.{shown_data, typed_parts}
 use Rattle.dns_c.specs.NameFaults.{ReportsAt}
 
@@ -33,7 +33,7 @@ NoRecordAt b p n = (f : Fault) × RecordFaultAt b p f × ReportsAt b p f n
 
 -- the octets of a record's RDATA
 abbrev pub data_octets : List ℕ → RecordEntry → List ℕ
-data_octets b x = drop x.data_start (up_to_data_end b x)
+data_octets b x = drop x.rdata_start (up_to_rdata_end b x)
 
 -- the text of RDATA, as `dnsmsg show` prints it: by its fields if it is well-formed data of a type with known fields, otherwise as octets
 abbrev pub data_text : List ℕ → RecordEntry → List ℕ

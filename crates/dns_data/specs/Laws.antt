@@ -32,15 +32,15 @@ abbrev pub NamesAreBounded : Type 0
 NamesAreBounded = (name : Labels) → IsName name → length (uncompressed name) ≤ 255
 
 -- at offset p, either exactly one list of parts has the layout, with one end, or there is exactly one fault, never both
-pub record DatumOrFault (b : List ℕ) (layout : Layout) (p : ℕ) : Type 0 where
+pub record RdataOrFault (b : List ℕ) (layout : Layout) (p : ℕ) : Type 0 where
   pub some : ((q : ℕ) × (parts : List Part) × DataAt b layout p q parts) ⊎ ((f : Fault) × DataFaultAt b layout p f)
   pub one : (q r : ℕ) (xs ys : List Part) → DataAt b layout p q xs → DataAt b layout p r ys → (q ≡ r) × (xs ≡ ys)
   pub not_both : (q : ℕ) (parts : List Part) (f : Fault) → DataAt b layout p q parts → DataFaultAt b layout p f → ⊥
   pub one_fault : (f g : Fault) → DataFaultAt b layout p f → DataFaultAt b layout p g → f ≡ g
 
--- `DatumOrFault` holds at each offset in all octets, and at their end
-abbrev pub OneDatumOrFault : Type 0
-OneDatumOrFault = (b : List ℕ) (layout : Layout) (p : ℕ) → p ≤ length b → DatumOrFault b layout p
+-- `RdataOrFault` holds at each offset in all octets, and at their end
+abbrev pub OneRdataOrFault : Type 0
+OneRdataOrFault = (b : List ℕ) (layout : Layout) (p : ℕ) → p ≤ length b → RdataOrFault b layout p
 
 -- parts that fill the octets from p to an end are there in each layout that they have, if only the octets up to that end are seen
 abbrev pub EncodedPartsRead : Type 0

@@ -3,7 +3,7 @@
 ghost use Rattle.std.specs.Prelude.{◌≡◌};
 ghost use Rattle.std.specs.Ordering.{as_partial_cmp};
 ghost use Rattle.dns_data.specs.DataOrders.{zones_equal, zone_order, zone_hash_input};
-ghost use Rattle.dns_data.specs.Laws.{NoPartComposes, OnePartComposes, PartsComposeAfter, RefusedPartComposes, NamesAreBounded, OneDatumOrFault, EncodedPartsRead};
+ghost use Rattle.dns_data.specs.Laws.{NoPartComposes, OnePartComposes, PartsComposeAfter, RefusedPartComposes, NamesAreBounded, OneRdataOrFault, EncodedPartsRead};
 
 use crate::soa::Soa;
 use std::hash::Hash;
@@ -25,8 +25,8 @@ pub fn names_are_short()
 
 /// At each offset the fields of a layout either are there, with one list of parts and one end, or
 /// have exactly one fault.
-pub fn one_datum_or_fault()
-    ensures { OneDatumOrFault }
+pub fn one_rdata_or_fault()
+    ensures { OneRdataOrFault }
 {}
 
 /// Parts that fill a range of octets, as written parts do, are read back by every layout that they

@@ -46,8 +46,8 @@ with_data old mid new header n parses is long to =
         rtype = reads.rtype;
         class = reads.class;
         ttl = reads.ttl;
-        data_start = reads.end;
-        data_end = omega arith;
+        rdata_start = reads.end;
+        rdata_end = omega arith;
       },
       record { input = to.input ∙ parses.1.input; seen = to.seen ∙ there; offset = refl },
     )

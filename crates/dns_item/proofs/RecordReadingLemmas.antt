@@ -43,14 +43,14 @@ module _ {D : Type 0} (rtype_of : D → ℕ) (parts_of : D → List Part) (rtype
   whole_left_over_taken (Some layout) value e h l f =
       subst (WholeDataFaultAt (seen old) layout (offset old)) (sym f) (whole_left_over layout value h l)
 
-module _ {D : Type 0} (rtype_of : D → ℕ) (parts_of : D → List Part) (b : List ℕ) (x : RecordEntry) (start : x.data_start ≤ x.data_end) where
+module _ {D : Type 0} (rtype_of : D → ℕ) (parts_of : D → List Part) (b : List ℕ) (x : RecordEntry) (start : x.rdata_start ≤ x.rdata_end) where
   -- RDATA that is all there is within the octets
   span : IsThere b x → HasSpan (record { octets = b; entry = x })
   span there = record { start = start; end = there }
 
   -- parts that fill the RDATA are read there by each layout that they have
-  data_is_there : (layout : Layout) (parts : List Part) → IsThere b x → IsLaidOut layout parts → PartsAt b x.data_end x.data_start parts → HasData b x layout parts
-  data_is_there layout parts there laid encoded = encoded_parts_read b x.data_end x.data_start layout parts there encoded laid
+  data_is_there : (layout : Layout) (parts : List Part) → IsThere b x → IsLaidOut layout parts → PartsAt b x.rdata_end x.rdata_start parts → HasData b x layout parts
+  data_is_there layout parts there laid encoded = encoded_parts_read b x.rdata_end x.rdata_start layout parts there encoded laid
 
   -- the parts that are read are those of the RDATA of the layout
   read_there : (layout : Layout) (parts : List Part) (r : Record ParsedName D) → IsThere b x → HasData b x layout parts → GivesLaidOut rtype_of parts_of b x layout (Ok r)

@@ -65,8 +65,8 @@ pub record RecordEntry : Type 0 where
   pub rtype : ℕ
   pub class : ℕ
   pub ttl : ℕ
-  pub data_start : ℕ
-  pub data_end : ℕ
+  pub rdata_start : ℕ
+  pub rdata_end : ℕ
 
 -- a record is encoded from p to q, and `x` is what is read of it
 pub record ReadsRecord (b : List ℕ) (p q : ℕ) (x : RecordEntry) : Type 0 where
@@ -75,8 +75,8 @@ pub record ReadsRecord (b : List ℕ) (p q : ℕ) (x : RecordEntry) : Type 0 whe
   pub rtype : x.rtype ≡ number_at w16 b skips.name_end
   pub class : x.class ≡ number_at w16 b (skips.name_end + 2)
   pub ttl : x.ttl ≡ number_at w32 b (skips.name_end + 4)
-  pub data_start : x.data_start ≡ skips.name_end + 10
-  pub data_end : x.data_end ≡ q
+  pub rdata_start : x.rdata_start ≡ skips.name_end + 10
+  pub rdata_end : x.rdata_end ≡ q
 
 -- Why no record header can be read at an offset: its owner has a fault, or the ten octets after the owner aren't all there.
 abbrev pub HeaderFaultAt : List ℕ → ℕ → Fault → Type 0
@@ -101,7 +101,7 @@ pub record ReportsRecord (b : List ℕ) (x : RecordEntry) (item : RecordItem) : 
   pub rtype : x.rtype ≡ item.rtype
   pub class : x.class ≡ item.class
   pub ttl : x.ttl ≡ item.ttl
-  pub parts : PartsAt b x.data_end x.data_start item.parts
+  pub parts : PartsAt b x.rdata_end x.rdata_start item.parts
 
 -- a record with these fields and parts is encoded from p to q
 pub record ReadsRecordItem (b : List ℕ) (p q : ℕ) (item : RecordItem) : Type 0 where

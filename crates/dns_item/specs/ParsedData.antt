@@ -7,14 +7,14 @@ use Rattle.dns_name.specs.Names.{Fault}
 use Rattle.dns_name.specs.Names.Fault.{Form, ShortInput}
 use Rattle.dns_wire.specs.Parts.{Part}
 use Rattle.dns_data.specs.Layout.{Layout, DataAt}
-use Rattle.dns_data.proofs.theory.DataReading.{one_datum_or_fault, data_within}
+use Rattle.dns_data.proofs.theory.DataReading.{one_rdata_or_fault, data_within}
 use Rattle.dns_item.specs.ParsedRecord.{EncodedRecord}
-use Rattle.dns_item.specs.RecordReading.{WholeDataFaultAt, IsThere, up_to_data_end, HasData, HasDataFault}
+use Rattle.dns_item.specs.RecordReading.{WholeDataFaultAt, IsThere, up_to_rdata_end, HasData, HasDataFault}
 use Rattle.dns_item.specs.RecordReading.WholeDataFaultAt.{first, left_over}
 
 -- the RDATA of a record lies within the octets that it is read from
 pub record HasSpan (x : EncodedRecord) : Type 0 where
-  pub start : x.entry.data_start ≤ x.entry.data_end
+  pub start : x.entry.rdata_start ≤ x.entry.rdata_end
   pub end : IsThere x.octets x.entry
 
 -- The result of reading the RDATA by a layout: the parts that fill it, or its fault; `ShortInput` if the RDATA isn't all there.
@@ -32,7 +32,7 @@ pub record OneParsedData (x : EncodedRecord) (layout : Layout) : Type 0 where
 module _ (b : List ℕ) (layout : Layout) (p : ℕ) (within : p ≤ length b) where
   some_whole : ((parts : List Part) × DataAt b layout p (length b) parts) ⊎ ((f : Fault) × WholeDataFaultAt b layout p f)
   some_whole =
-      elim (one_datum_or_fault b layout p within).some [
+      elim (one_rdata_or_fault b layout p within).some [
         | inl d ↦ elim (leb_tells (length b) d.0) [
           | inl l ↦
               let end = data_within b layout p d.0 d.1 within d.2 in
@@ -45,29 +45,29 @@ module _ (b : List ℕ) (layout : Layout) (p : ℕ) (within : p ≤ length b) wh
 
   -- if RDATA takes all octets, there is no fault
   pub no_fault : (parts : List Part) (f : Fault) → DataAt b layout p (length b) parts → WholeDataFaultAt b layout p f → ⊥
-  no_fault parts f h (first g) = (one_datum_or_fault b layout p within).not_both (length b) parts f h g
+  no_fault parts f h (first g) = (one_rdata_or_fault b layout p within).not_both (length b) parts f h g
   no_fault parts f h (left_over q others k short) =
-      let e = (one_datum_or_fault b layout p within).one (length b) q parts others h k in
+      let e = (one_rdata_or_fault b layout p within).one (length b) q parts others h k in
       omega (arith, e.0, short)
 
   one_whole_fault : {f g : Fault} → WholeDataFaultAt b layout p f → WholeDataFaultAt b layout p g → f ≡ g
-  one_whole_fault {f} {g} (first h) (first k) = (one_datum_or_fault b layout p within).one_fault f g h k
-  one_whole_fault {f} (first h) (left_over q parts k short) = absurd ((one_datum_or_fault b layout p within).not_both q parts f k h)
-  one_whole_fault {f} {g} (left_over q parts k short) (first h) = absurd ((one_datum_or_fault b layout p within).not_both q parts g k h)
+  one_whole_fault {f} {g} (first h) (first k) = (one_rdata_or_fault b layout p within).one_fault f g h k
+  one_whole_fault {f} (first h) (left_over q parts k short) = absurd ((one_rdata_or_fault b layout p within).not_both q parts f k h)
+  one_whole_fault {f} {g} (left_over q parts k short) (first h) = absurd ((one_rdata_or_fault b layout p within).not_both q parts g k h)
   one_whole_fault (left_over q parts h short) (left_over r others k less) = refl
 
 module _ (x : EncodedRecord) (layout : Layout) where
   -- the number of octets up to the end of the RDATA, if that is all there
-  pub ends_there : HasSpan x → length (up_to_data_end x.octets x.entry) ≡ x.entry.data_end
+  pub ends_there : HasSpan x → length (up_to_rdata_end x.octets x.entry) ≡ x.entry.rdata_end
   ends_there span = let there = span.end in grind (arith, common_steps)
 
-  starts_within : HasSpan x → x.entry.data_start ≤ length (up_to_data_end x.octets x.entry)
+  starts_within : HasSpan x → x.entry.rdata_start ≤ length (up_to_rdata_end x.octets x.entry)
   starts_within span = let start = span.start in let end = ends_there span in omega arith
 
   span_or_not : HasSpan x ⊎ (HasSpan x → ⊥)
   span_or_not =
-      elim (leb_tells x.entry.data_start x.entry.data_end) [
-        | inl start ↦ elim (leb_tells x.entry.data_end (length x.octets)) [
+      elim (leb_tells x.entry.rdata_start x.entry.rdata_end) [
+        | inl start ↦ elim (leb_tells x.entry.rdata_end (length x.octets)) [
           | inl end ↦ inl (record { start = start.1; end = end.1 })
           | inr short ↦ inr (λ span. omega (arith, span.end, short.1))
         ]
@@ -76,16 +76,16 @@ module _ (x : EncodedRecord) (layout : Layout) where
 
   -- RDATA up to its end, which is the end of the octets that are seen
   to_end : HasSpan x → (parts : List Part) → HasData x.octets x.entry layout parts
-      → DataAt (up_to_data_end x.octets x.entry) layout x.entry.data_start (length (up_to_data_end x.octets x.entry)) parts
+      → DataAt (up_to_rdata_end x.octets x.entry) layout x.entry.rdata_start (length (up_to_rdata_end x.octets x.entry)) parts
   to_end span parts h =
-      subst (λ q. DataAt (up_to_data_end x.octets x.entry) layout x.entry.data_start q parts) (sym (ends_there span)) h
+      subst (λ q. DataAt (up_to_rdata_end x.octets x.entry) layout x.entry.rdata_start q parts) (sym (ends_there span)) h
 
   some_answer : (r : Result (List Part) Fault) × IsParsedData x layout r
   some_answer =
       elim span_or_not [
-        | inl span ↦ elim (some_whole (up_to_data_end x.octets x.entry) layout x.entry.data_start (starts_within span)) [
+        | inl span ↦ elim (some_whole (up_to_rdata_end x.octets x.entry) layout x.entry.rdata_start (starts_within span)) [
           | inl d ↦
-              let there = subst (λ q. DataAt (up_to_data_end x.octets x.entry) layout x.entry.data_start q d.0) (ends_there span) d.1 in
+              let there = subst (λ q. DataAt (up_to_rdata_end x.octets x.entry) layout x.entry.rdata_start q d.0) (ends_there span) d.1 in
               (Ok d.0, whole span there)
           | inr f ↦ (Err f.0, fault span f.1)
         ]
@@ -95,12 +95,12 @@ module _ (x : EncodedRecord) (layout : Layout) where
   -- the parts that fill the RDATA, and no others
   pub one_data : HasSpan x → (xs ys : List Part) → HasData x.octets x.entry layout xs → HasData x.octets x.entry layout ys → xs ≡ ys
   one_data span xs ys h k =
-      ((one_datum_or_fault (up_to_data_end x.octets x.entry) layout x.entry.data_start (starts_within span)).one x.entry.data_end x.entry.data_end xs ys h k).1
+      ((one_rdata_or_fault (up_to_rdata_end x.octets x.entry) layout x.entry.rdata_start (starts_within span)).one x.entry.rdata_end x.entry.rdata_end xs ys h k).1
 
   -- parts that fill the RDATA, and no fault
   pub no_data_fault : HasSpan x → (parts : List Part) (f : Fault) → HasData x.octets x.entry layout parts → HasDataFault x.octets x.entry layout f → ⊥
   no_data_fault span parts f h k =
-      no_fault (up_to_data_end x.octets x.entry) layout x.entry.data_start (starts_within span) parts f (to_end span parts h) k
+      no_fault (up_to_rdata_end x.octets x.entry) layout x.entry.rdata_start (starts_within span) parts f (to_end span parts h) k
 
   one_answer : {r s : Result (List Part) Fault} → IsParsedData x layout r → IsParsedData x layout s → r ≡ s
   one_answer (whole {parts = xs} span h) (whole {parts = ys} again k) = ap (λ (zs : List Part). let r : Result (List Part) Fault = Ok zs in r) (one_data span xs ys h k)
@@ -109,7 +109,7 @@ module _ (x : EncodedRecord) (layout : Layout) where
   one_answer (fault {f = f} span h) (whole {parts = xs} again k) = absurd (no_data_fault span xs f k h)
   one_answer (fault span h) (fault again k) =
       ap (λ (f : Fault). let r : Result (List Part) Fault = Err f in r)
-      (one_whole_fault (up_to_data_end x.octets x.entry) layout x.entry.data_start (starts_within span) h k)
+      (one_whole_fault (up_to_rdata_end x.octets x.entry) layout x.entry.rdata_start (starts_within span) h k)
   one_answer (fault span h) (missing none) = absurd (none span)
   one_answer (missing none) (whole span h) = absurd (none span)
   one_answer (missing none) (fault span h) = absurd (none span)

@@ -52,8 +52,8 @@ record_at header start =
       rtype = rtype_of header;
       class = class_of header;
       ttl = ttl_of header;
-      data_start = start;
-      data_end = start + rdlen_of header;
+      rdata_start = start;
+      rdata_end = start + rdlen_of header;
     }
 
 -- What parsing returns: the header at the parser's offset, with the parser moved past it; or the fault there, and the parser doesn't move.

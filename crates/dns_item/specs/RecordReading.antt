@@ -25,24 +25,24 @@ item_of x parts = record { owner = x.owner; rtype = x.rtype; class = x.class; tt
 
 -- a record's RDATA is all there
 abbrev pub IsThere : List ℕ → RecordEntry → Type 0
-IsThere b x = x.data_end ≤ length b
+IsThere b x = x.rdata_end ≤ length b
 
 -- The parser moves past a record's RDATA if that is all there, and otherwise doesn't move.
 pub record MovesPastRdata (old new : Parser) (x : RecordEntry) : Type 0 where
-  pub there : IsThere (seen old) x → MovesTo old new x.data_end
+  pub there : IsThere (seen old) x → MovesTo old new x.rdata_end
   pub missing : (IsThere (seen old) x → ⊥) → new ≡ old
 
 -- the octets up to the end of a record's RDATA
-abbrev pub up_to_data_end : List ℕ → RecordEntry → List ℕ
-up_to_data_end b x = take x.data_end b
+abbrev pub up_to_rdata_end : List ℕ → RecordEntry → List ℕ
+up_to_rdata_end b x = take x.rdata_end b
 
 -- RDATA of the layout fills the record's RDATA, and these are its parts.
 abbrev pub HasData : List ℕ → RecordEntry → Layout → List Part → Type 0
-HasData b x layout parts = DataAt (up_to_data_end b x) layout x.data_start x.data_end parts
+HasData b x layout parts = DataAt (up_to_rdata_end b x) layout x.rdata_start x.rdata_end parts
 
 -- the fault of a record whose RDATA isn't of the layout
 abbrev pub HasDataFault : List ℕ → RecordEntry → Layout → Fault → Type 0
-HasDataFault b x layout f = WholeDataFaultAt (up_to_data_end b x) layout x.data_start f
+HasDataFault b x layout f = WholeDataFaultAt (up_to_rdata_end b x) layout x.rdata_start f
 
 module _ {D : Type 0} (rtype_of : D → ℕ) (parts_of : D → List Part) (b : List ℕ) (x : RecordEntry) where
   -- a parsed record is what was read of it, with these parts
@@ -76,24 +76,24 @@ module _ {D : Type 0} (rtype_of : D → ℕ) (parts_of : D → List Part) (b : L
   -- If parts of the layout fill the RDATA, the result is the record with these parts.
   abbrev pub GivesBack : Layout → Result (Record ParsedName D) ParseError → Type 0
   GivesBack layout result =
-      (parts : List Part) → IsThere b x → IsLaidOut layout parts → PartsAt b x.data_end x.data_start parts → IsOkAnd result (IsRecordOf parts)
+      (parts : List Part) → IsThere b x → IsLaidOut layout parts → PartsAt b x.rdata_end x.rdata_start parts → IsOkAnd result (IsRecordOf parts)
 
   -- as `GivesBack`, for a type that may have no layout
   abbrev pub GivesBackTaken : Option Layout → Result (Option (Record ParsedName D)) ParseError → Type 0
   GivesBackTaken taken result =
-      (layout : Layout) (parts : List Part) → taken ≡ Some layout → IsThere b x → IsLaidOut layout parts → PartsAt b x.data_end x.data_start parts
+      (layout : Layout) (parts : List Part) → taken ≡ Some layout → IsThere b x → IsLaidOut layout parts → PartsAt b x.rdata_end x.rdata_start parts
       → IsOkAnd result (λ o. IsSomeAnd o (IsRecordOf parts))
 
   -- If the parts of a value of the record's type fill the RDATA, the result is a record with these parts.
   abbrev pub GivesValueBack : Result (Record ParsedName D) ParseError → Type 0
   GivesValueBack result =
-      (value : D) → rtype_of value ≡ x.rtype → IsThere b x → PartsAt b x.data_end x.data_start (parts_of value)
+      (value : D) → rtype_of value ≡ x.rtype → IsThere b x → PartsAt b x.rdata_end x.rdata_start (parts_of value)
       → IsOkAnd result (IsRecordOf (parts_of value))
 
   -- as `GivesValueBack`, for a type that may not be accepted
   abbrev pub GivesValueBackTaken : Result (Option (Record ParsedName D)) ParseError → Type 0
   GivesValueBackTaken result =
-      (value : D) → rtype_of value ≡ x.rtype → IsThere b x → PartsAt b x.data_end x.data_start (parts_of value)
+      (value : D) → rtype_of value ≡ x.rtype → IsThere b x → PartsAt b x.rdata_end x.rdata_start (parts_of value)
       → IsOkAnd result (λ o. IsSomeAnd o (IsRecordOf (parts_of value)))
 
 module _ {D : Type 0} (rtype_of : D → ℕ) (parts_of : D → List Part) (b : List ℕ) (p : ℕ) where

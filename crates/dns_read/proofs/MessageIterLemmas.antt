@@ -115,7 +115,7 @@ passed_all : (b : List ℕ) {n p : ℕ} {xs : List (Result RecordEntry Fault)} �
     → Passed (SkipsRecord b) n p (records_end p (map (in_octets b) xs))
 passed_all b no_entry h = no_more
 passed_all b (entry {n = n} {q = q} {xs = xs} reads rest) h =
-    more reads.skips (subst (λ e. Passed (SkipsRecord b) n q (records_end e (map (in_octets b) xs))) (sym reads.data_end) (passed_all b rest h.1))
+    more reads.skips (subst (λ e. Passed (SkipsRecord b) n q (records_end e (map (in_octets b) xs))) (sym reads.rdata_end) (passed_all b rest h.1))
 passed_all b (stop {f = f} fault) h = let refused = h.0 in absurd (cc)
 
 pub sections_follow : SectionsFollow

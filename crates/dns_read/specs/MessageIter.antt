@@ -43,7 +43,7 @@ in_section which (Err f ∷ xs) after = Err f ∷ once_more which f
 -- the offset where the last record of a reading from p ends
 abbrev pub records_end : ℕ → List (Result EncodedRecord Fault) → ℕ
 records_end p [] = p
-records_end p (Ok x ∷ xs) = records_end x.entry.data_end xs
+records_end p (Ok x ∷ xs) = records_end x.entry.rdata_end xs
 records_end p (Err f ∷ xs) = p
 
 -- at most n records of a section from offset p, then what `follows` gives for the offset where the last of them ends

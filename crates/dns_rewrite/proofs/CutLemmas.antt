@@ -20,10 +20,10 @@ use Rattle.dns_item.specs.declared.record.Record.{Record}
 use Rattle.dns_rewrite.specs.Rewriting.{cut_answer, with_ttl_cut}
 
 -- reading the RDATA of a record returns what its layout says, also if the RDATA is incomplete
-pub laid_out-read : {D : Type 0} (rtype_of : D → ℕ) (parts_of : D → List Part) (x : EncodedRecord) (layout : Layout) (r : Result (Record ParsedName D) ParseError) → x.entry.data_start ≤ x.entry.data_end
+pub laid_out-read : {D : Type 0} (rtype_of : D → ℕ) (parts_of : D → List Part) (x : EncodedRecord) (layout : Layout) (r : Result (Record ParsedName D) ParseError) → x.entry.rdata_start ≤ x.entry.rdata_end
     → ReturnsLaidOut rtype_of parts_of x.octets x.entry layout r → typed_result rtype_of parts_of r ≡ laid_out x layout
 laid_out-read rtype_of parts_of x layout r start h =
-    elim (leb_tells x.entry.data_end (length x.octets)) [
+    elim (leb_tells x.entry.rdata_end (length x.octets)) [
       | inl there ↦ laid_out-answered rtype_of parts_of x (record { start = start; end = there.1 }) layout r h
       | inr short ↦
           ap (typed_result rtype_of parts_of) (h.missing (λ within. omega (arith, within, short.1)))

@@ -159,11 +159,11 @@ class_lacks rtype old mid new fault h read k =
     let rows : List Row = class_rows (number_at w16 (octets old) r) (r + 2) in
     let P : ℕ → ℕ → Type 0 = λ n p. CutsFields (class_rows n p) mid new fault in
     let cut : CutsFields rows mid new fault = subst (λ n. P n (r + 2)) read (subst (λ p. P rtype p) h.offset k) in
-    let last = field_row (r + 8) (r + 10) fields.DataLength ∷ [] in
+    let last = field_row (r + 8) (r + 10) fields.RdLength ∷ [] in
     cut_after (field_row r (r + 2) fields.Type ∷ []) (rows ++ last) (r + 2) old mid new fault h (cut_before rows last mid new fault cut)
 
 pub len_lacks : (rtype : ℕ) (old mid last new : Walk) (fault : RowFault) → Adds (field_row (at old) (at old + 2) fields.Type ∷ []) (at old + 2) old mid → rtype ≡ number_at w16 (octets old) (at old)
-    → Adds (class_rows rtype (at mid)) (at mid + 6) mid last → LacksField fields.DataLength (octets last) (at last + 2) fault → new ≡ last
+    → Adds (class_rows rtype (at mid)) (at mid + 6) mid last → LacksField fields.RdLength (octets last) (at last + 2) fault → new ≡ last
     → CutsFields (number_rows (number_at w16 (octets old) (at old)) (at old)) old new fault
 len_lacks rtype old mid last new fault h read k l same =
     let r = at old in
@@ -172,9 +172,9 @@ len_lacks rtype old mid last new fault h read k l same =
     let class : Adds rows (r + 2 + 6) mid last = subst (λ n. P n (r + 2)) read (subst (λ p. P rtype p) h.offset k) in
     let there : at last ≡ r + 8 = omega (arith, class.offset) in
     let grown : r + 10 ≡ r + 8 + 2 = omega arith in
-    let end = field_row (r + 8) (r + 10) fields.DataLength ∷ [] in
+    let end = field_row (r + 8) (r + 10) fields.RdLength ∷ [] in
     cut_after (field_row r (r + 2) fields.Type ∷ []) (rows ++ end) (r + 2) old mid new fault h
-    (cut_after rows end (r + 2 + 6) mid last new fault class (cut_here (r + 8) 2 (r + 10) fields.DataLength [] last new fault l same there grown))
+    (cut_after rows end (r + 2 + 6) mid last new fault class (cut_here (r + 8) 2 (r + 10) fields.RdLength [] last new fault l same there grown))
 
 -- a field that an OPT record has in place of CLASS and TTL is incomplete
 pub opt_cut_2 : (old a new : Walk) (fault : RowFault) → Adds (field_row (at old) (at old + 2) fields.PayloadSize ∷ []) (at old + 2) old a
@@ -221,8 +221,8 @@ entry_of owner b r rtype len = record {
   rtype = rtype;
   class = number_at w16 b (r + 2);
   ttl = number_at w32 b (r + 4);
-  data_start = r + 10;
-  data_end = r + 10 + len;
+  rdata_start = r + 10;
+  rdata_end = r + 10 + len;
 }
 
 abbrev reads_record : (row : Row) (rtype len : ℕ) (old a b : Walk) (h : PassesItemName names.Owner row old a) → PassesNumbers rtype len a b → at a + 10 + len ≤ length (octets old)
@@ -231,7 +231,7 @@ reads_record row rtype len old a b h k there =
     let rtype_there : rtype ≡ number_at w16 (octets old) (at a) = subst (λ b. rtype ≡ number_at w16 b (at a)) h.adds.seen k.rtype_there in
     let len_there : len ≡ number_at w16 (octets old) (at a + 8) = subst (λ b. len ≡ number_at w16 b (at a + 8)) h.adds.seen k.len_there in
     let end : at a + 10 + len ≡ at a + (10 + number_at w16 (octets old) (at a + 8)) = omega (arith, len_there) in
-    record { skips = record { name_end = at a; walked = h.walked; end = end; within = there }; owner = h.encoded; rtype = rtype_there; class = refl; ttl = refl; data_start = refl; data_end = refl }
+    record { skips = record { name_end = at a; walked = h.walked; end = end; within = there }; owner = h.encoded; rtype = rtype_there; class = refl; ttl = refl; rdata_start = refl; rdata_end = refl }
 
 -- the RDATA of a record is incomplete
 data_cut : (rtype len : ℕ) (a b new : Walk) → PassesNumbers rtype len a b → length (octets b) < at b + len → new ≡ b → CutsFields (record_rows (octets a) (at a)) a new (Short fields.Data)

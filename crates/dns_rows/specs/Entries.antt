@@ -9,7 +9,7 @@ use Rattle.dns_name.specs.Parsers.{number_at}
 use Rattle.dns_code.specs.HeaderSection.{header_size}
 use Rattle.dns_question.specs.Questions.{QuestionItem, ReadsQuestion, QuestionFaultAt}
 use Rattle.dns_item.specs.Items.{RecordEntry, ReadsRecord, RecordFaultAt}
-use Rattle.dns_item.specs.RecordReading.{up_to_data_end}
+use Rattle.dns_item.specs.RecordReading.{up_to_rdata_end}
 use Rattle.dns_section.specs.QuestionsFrom.{questions_from}
 use Rattle.dns_section.specs.RecordsFrom.{records_from}
 use Rattle.dns_section.specs.Sections.{question_count, answer_count, authority_count, additional_count, AnswersStart, AuthoritiesStart, AdditionalsStart}
@@ -56,7 +56,7 @@ class_rows rtype p = if rtype == opt_type then opt_rows p else field_row p (p + 
 
 -- the rows of the numbers of a record of this type, after an owner that ends at r: TYPE to RDLENGTH. RFC 1035 section 4.1.3.
 abbrev pub number_rows : ℕ → ℕ → List Row
-number_rows rtype r = field_row r (r + 2) fields.Type ∷ (class_rows rtype (r + 2) ++ field_row (r + 8) (r + 10) fields.DataLength ∷ [])
+number_rows rtype r = field_row r (r + 2) fields.Type ∷ (class_rows rtype (r + 2) ++ field_row (r + 8) (r + 10) fields.RdLength ∷ [])
 
 -- a record extends from p to q, and has these rows: where it begins, its owner, its numbers, and the fields of its RDATA
 pub record ShowsRecord (b : List ℕ) (part : Part) (number : ℕ) (x : RecordEntry) (p q : ℕ) (rows : List Row) : Type 0 where
@@ -64,7 +64,7 @@ pub record ShowsRecord (b : List ℕ) (part : Part) (number : ℕ) (x : RecordEn
   pub owner_rows : List Row
   pub owner : NameRows b names.Owner p p reads.skips.name_end owner_rows
   pub data_rows : List Row
-  pub value : ShowsData (up_to_data_end b x) (shape_of x.rtype) None x.data_start x.data_end data_rows
+  pub value : ShowsData (up_to_rdata_end b x) (shape_of x.rtype) None x.rdata_start x.rdata_end data_rows
   pub made : let r = reads.skips.name_end in
       rows ≡ item_row part number p ∷ (owner_rows ++ (number_rows x.rtype r ++ data_rows))
 
@@ -81,8 +81,8 @@ pub record DataStops (b : List ℕ) (x : RecordEntry) (p offset : ℕ) (fault : 
   pub owner : NameRows b names.Owner p p reads.skips.name_end owner_rows
   pub data_rows : List Row
   pub stop : Option rows.Fault
-  pub value : ShowsData (up_to_data_end b x) (shape_of x.rtype) stop x.data_start offset data_rows
-  pub left_over : stop ≡ None → offset < x.data_end
+  pub value : ShowsData (up_to_rdata_end b x) (shape_of x.rtype) stop x.rdata_start offset data_rows
+  pub left_over : stop ≡ None → offset < x.rdata_end
   pub reported : fault ≡ data_fault stop
   pub made : shown ≡ owner_rows ++ (number_rows x.rtype reads.skips.name_end ++ data_rows)
 

@@ -104,7 +104,7 @@ pub enum Field {
     /// TTL of a record, in seconds.
     Ttl,
     /// RDLENGTH of a record.
-    DataLength,
+    RdLength,
     /// An IPv4 address, of 4 octets.
     Address,
     /// An IPv6 address, of 16 octets.

@@ -356,7 +356,7 @@ impl<'a> Walk<'a> {
     {
         let rtype = Rtype::from_int(self.number(Field::Type)?);
         self.class_and_ttl(rtype)?;
-        let len = self.number(Field::DataLength)?;
+        let len = self.number(Field::RdLength)?;
         Ok((rtype, len))
     }
 

@@ -41,7 +41,7 @@ limited_by-one layouts false x class = cons_option-nil (parsed_as layouts x)
 -- the RDATA of a record that a cursor yielded lies within the octets
 pub given_span : (old new : RecordSection) (r : ParsedRecord) → GivesNext old (Some (Ok r)) new → HasSpan (encoded_record r)
 given_span old new r calls =
-    let end = calls.passes.0.data_end in
+    let end = calls.passes.0.rdata_end in
     let within = calls.passes.0.skips.within in
     let same = ap length calls.passes.1 in
     record { start = omega arith; end = omega arith }

@@ -24,7 +24,7 @@ use Rattle.dns_item.specs.declared.parsed_record.ParsedRecord.{ParsedRecord}
 use Rattle.dns_section.specs.RecordSection.{BeginsSection, PassesRecord, position, records_left}
 use Rattle.dns_section.specs.declared.record_section.RecordSection.{RecordSection}
 use Rattle.dns_item.specs.RecordPrinting.{record_fields_text}
-use Rattle.dns_item.specs.RecordReading.{up_to_data_end, ReturnsLaidOut, HasData, HasDataFault, IsRecordOf, GivesTaken}
+use Rattle.dns_item.specs.RecordReading.{up_to_rdata_end, ReturnsLaidOut, HasData, HasDataFault, IsRecordOf, GivesTaken}
 use Rattle.dns_item.specs.RecordReading.WholeDataFaultAt.{first, left_over}
 use Rattle.dns_item.specs.Record.{owner_of, class_of, ttl_of, data_of}
 use Rattle.dns_item.specs.declared.record.Record.{Record}
@@ -58,15 +58,15 @@ module _ (b : List ℕ) (section : Section) (cursor : RecordSection) (begins : B
   last_printed old new r h = subst (λ (l : List ℕ). OnOk r (Appends old new l)) (lines_are ∙ sym (append-nil _)) h
 
 module _ (x : EncodedRecord) (read : IsRead x) where
-  pub there : x.entry.data_end ≤ length x.octets
-  there = let w = read.2.skips.within in let e = read.2.data_end in omega arith
+  pub there : x.entry.rdata_end ≤ length x.octets
+  there = let w = read.2.skips.within in let e = read.2.rdata_end in omega arith
 
-  pub rises : x.entry.data_start ≤ x.entry.data_end
-  rises = let e = read.2.data_end in let s = read.2.data_start in let w = read.2.skips.end in omega arith
+  pub rises : x.entry.rdata_start ≤ x.entry.rdata_end
+  rises = let e = read.2.rdata_end in let s = read.2.rdata_start in let w = read.2.skips.end in omega arith
 
   -- the octets up to the end of the RDATA are all there
-  pub seen_length : length (up_to_data_end x.octets x.entry) ≡ x.entry.data_end
-  seen_length = length-take-le x.entry.data_end x.octets there
+  pub seen_length : length (up_to_rdata_end x.octets x.entry) ≡ x.entry.rdata_end
+  seen_length = length-take-le x.entry.rdata_end x.octets there
 
   pub span : HasSpan x
   span = record { start = rises; end = there }
@@ -81,7 +81,7 @@ module _ (x : EncodedRecord) (read : IsRead x) where
 
   -- opaque RDATA of at most 65,535 octets is well-formed
   pub no_fault : HasShortData x → (f : Fault) → HasDataFault x.octets x.entry opaque_layout f → ⊥
-  no_fault short f (first h) = h.1 (le-leb _ _ (let l = length-drop x.entry.data_start (up_to_data_end x.octets x.entry) in let s = seen_length in omega arith))
+  no_fault short f (first h) = h.1 (le-leb _ _ (let l = length-drop x.entry.rdata_start (up_to_rdata_end x.octets x.entry) in let s = seen_length in omega arith))
   no_fault short f (left_over q parts encoded l) = let e = encoded.0 in omega arith
 
 -- the sections of records are printed, by where they start

@@ -21,7 +21,7 @@ use Rattle.dns_question.specs.Questions.{QuestionItem}
 use Rattle.dns_item.specs.Items.{ReadsRecord}
 use Rattle.dns_item.specs.ParsedRecord.{EncodedRecord}
 use Rattle.dns_item.specs.RecordPrinting.{record_fields_text}
-use Rattle.dns_item.specs.RecordReading.{up_to_data_end}
+use Rattle.dns_item.specs.RecordReading.{up_to_rdata_end}
 use Rattle.dns_item.specs.TypedRecords.{data_in}
 use Rattle.dns_section.specs.RecordsFrom.{records_in}
 use Rattle.dns_read.specs.SectionStarts.{start_of}
@@ -79,7 +79,7 @@ parts_text _ = []
 -- the text of a record's RDATA: that of its parts if they are given, else that of its octets
 abbrev pub shown_data : EncodedRecord → Option (List Part) → List ℕ
 shown_data x (Some parts) = parts_text parts
-shown_data x None = opaque_text (drop x.entry.data_start (up_to_data_end x.octets x.entry))
+shown_data x None = opaque_text (drop x.entry.rdata_start (up_to_rdata_end x.octets x.entry))
 
 -- the parts of a record's RDATA; none if its type has no layout, or if the RDATA is malformed
 abbrev pub typed_parts : EncodedRecord → Option (List Part)
@@ -105,7 +105,7 @@ IsRead x = (p : ℕ) × (q : ℕ) × ReadsRecord x.octets p q x.entry
 
 -- its RDATA has at most 65,535 octets
 abbrev pub HasShortData : EncodedRecord → Type 0
-HasShortData x = x.entry.data_end ≤ x.entry.data_start + 65535
+HasShortData x = x.entry.rdata_end ≤ x.entry.rdata_start + 65535
 
 -- the line of an item of a section of records, after the section's word: a record, or an error
 abbrev pub record_line : List ℕ → Result EncodedRecord Fault → List ℕ

@@ -120,7 +120,7 @@ module _ {D : Type 0} (rtype_of : D → ℕ) (parts_of : D → List Part) (x : E
   pub typed_line : (r : Record ParsedName D) (taken : Option Layout) → ReturnsTaken rtype_of parts_of x.octets x.entry taken (Ok (Some r)) → (value : List ℕ)
       → IsItemText (Ok x) (record_fields_text (name_text (labels (owner_of r))) (ttl_of r) (class_of r) (rtype_of (data_of r)) value ++ codes "\n")
   typed_line r taken returned value =
-      elim (cases_lt (length x.octets) x.entry.data_end) [
+      elim (cases_lt (length x.octets) x.entry.rdata_end) [
         | inl missing ↦ let e = returned.missing (λ there. omega arith) in cc e
         | inr there ↦ inl (taken_line r taken (returned.gives there) value)
       ]
@@ -129,7 +129,7 @@ module _ {D : Type 0} (rtype_of : D → ℕ) (parts_of : D → List Part) (x : E
   pub any_line : (r : Record ParsedName D) (layout : Layout) → ReturnsLaidOut rtype_of parts_of x.octets x.entry layout (Ok r) → (value : List ℕ)
       → IsItemText (Ok x) (record_fields_text (name_text (labels (owner_of r))) (ttl_of r) (class_of r) (rtype_of (data_of r)) value ++ codes "\n")
   any_line r layout returned value =
-      elim (cases_lt (length x.octets) x.entry.data_end) [
+      elim (cases_lt (length x.octets) x.entry.rdata_end) [
         | inl missing ↦ let e = returned.missing (λ there. omega arith) in cc e
         | inr there ↦ let given = returned.gives there in inl (same_line r (parts_of (data_of r)) given.0 value)
       ]

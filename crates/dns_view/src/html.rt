@@ -135,7 +135,7 @@ fn field_class(field: Field) -> &'static str
         Field::Id | Field::Flags | Field::Count(_) => "header",
         Field::Label(_) | Field::Root(_, _) => "name",
         Field::Pointer(_, _) => "pointer",
-        Field::Type | Field::Class | Field::Ttl | Field::DataLength => "kind",
+        Field::Type | Field::Class | Field::Ttl | Field::RdLength => "kind",
         Field::PayloadSize | Field::ExtendedRcode | Field::Version | Field::OptFlags => "option",
         Field::OptionCode | Field::OptionLength(_) | Field::OptionData(_) => "option",
         _ => "data",

@@ -165,7 +165,7 @@ fn field_words(field: Field) -> &'static str {
         Field::Type => "type",
         Field::Class => "class",
         Field::Ttl => "TTL",
-        Field::DataLength => "data length",
+        Field::RdLength => "data length",
         Field::Address | Field::LongAddress => "address",
         Field::Preference => "preference",
         Field::Zone(ZoneNumber::Serial) => "serial",
@@ -330,7 +330,7 @@ fn write_number<W: fmt::Write>(
             let seconds = second_count(number);
             write!(f, "TTL {seconds}")
         }
-        Field::DataLength => write!(f, "data length {number}"),
+        Field::RdLength => write!(f, "data length {number}"),
         Field::Preference => write!(f, "preference {number}"),
         Field::Zone(part) => write_zone_number(f, part, number),
         Field::PayloadSize => write!(f, "UDP payload size {number}"),

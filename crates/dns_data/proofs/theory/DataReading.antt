@@ -12,7 +12,7 @@ use Rattle.dns_name.proofs.theory.NameOrFaultLaws as names
 use Rattle.dns_name.proofs.theory.WalkLaws.{one_end, encoded_end, walked_in_octets}
 use Rattle.dns_data.specs.Layout.{Layout, string_size, DataAt, DataFaultAt}
 use Rattle.dns_data.specs.Layout.Layout.{End, Rest, Fixed, CharacterString, DomainName}
-use Rattle.dns_data.specs.Laws.{OneDatumOrFault}
+use Rattle.dns_data.specs.Laws.{OneRdataOrFault}
 
 module _ (b : List ℕ) where
   -- no offset has both a name and a fault
@@ -45,64 +45,64 @@ module _ (b : List ℕ) where
   data_within (DomainName layout) p q (Octets x ∷ parts) l h = absurd h
   data_within (DomainName layout) p q (CompressibleName x ∷ parts) l h = data_within layout h.0 q parts (walked_in_octets h.2) h.3
 
-  datum_or_fault : (layout : Layout) (p : ℕ) → ((q : ℕ) × (parts : List Part) × DataAt b layout p q parts) ⊎ ((f : Fault) × DataFaultAt b layout p f)
-  datum_or_fault End p = inl (p, [], (refl, refl))
-  datum_or_fault (Rest accepts) p = elim (cases_Bool (accepts (drop p b))) [
+  rdata_or_fault : (layout : Layout) (p : ℕ) → ((q : ℕ) × (parts : List Part) × DataAt b layout p q parts) ⊎ ((f : Fault) × DataFaultAt b layout p f)
+  rdata_or_fault End p = inl (p, [], (refl, refl))
+  rdata_or_fault (Rest accepts) p = elim (cases_Bool (accepts (drop p b))) [
     | inl good ↦ inl (length b, Octets (drop p b) ∷ [], (refl, refl, good))
     | inr bad ↦ inr (ShortInput, (refl, λ good. cc (good, bad)))
   ]
-  datum_or_fault (Fixed n layout) p = elim (leb_tells (p + n) (length b)) [
-    | inl l ↦ elim (datum_or_fault layout (p + n)) [
+  rdata_or_fault (Fixed n layout) p = elim (leb_tells (p + n) (length b)) [
+    | inl l ↦ elim (rdata_or_fault layout (p + n)) [
       | inl d ↦ inl (d.0, Octets (slice_range b p (p + n)) ∷ d.1, (length-range p n l.1, refl, d.2))
       | inr f ↦ inr (f.0, inr (l.1, f.1))
     ]
     | inr l ↦ inr (ShortInput, inl (refl, l.1))
   ]
-  datum_or_fault (CharacterString layout) p =
+  rdata_or_fault (CharacterString layout) p =
       let n = string_size b p in
       elim (leb_tells (p + n) (length b)) [
-        | inl l ↦ elim (datum_or_fault layout (p + n)) [
+        | inl l ↦ elim (rdata_or_fault layout (p + n)) [
           | inl d ↦ inl (d.0, Octets (slice_range b p (p + n)) ∷ d.1, (length-range p n l.1, refl, d.2))
           | inr f ↦ inr (f.0, inr (l.1, f.1))
         ]
         | inr l ↦ inr (ShortInput, inl (refl, l.1))
       ]
-  datum_or_fault (DomainName layout) p = elim (one_answer b p) [
+  rdata_or_fault (DomainName layout) p = elim (one_answer b p) [
     | inl x ↦
         let w = encoded_end 0 x.1 x.2 in
-        elim (datum_or_fault layout w.0) [
+        elim (rdata_or_fault layout w.0) [
           | inl d ↦ inl (d.0, CompressibleName x.0 ∷ d.1, (w.0, x.1, w.1, d.2))
           | inr f ↦ inr (f.0, inr (x.0, w.0, x.1, w.1, f.1))
         ]
     | inr f ↦ inr (f.0, inl f.1)
   ]
 
-  one_datum : (layout : Layout) (p q r : ℕ) (xs ys : List Part) → DataAt b layout p q xs → DataAt b layout p r ys → (q ≡ r) × (xs ≡ ys)
-  one_datum End p q r xs ys h k = (h.0 ∙ sym k.0, h.1 ∙ sym k.1)
-  one_datum (Rest accepts) p q r xs ys h k = (h.0 ∙ sym k.0, h.1 ∙ sym k.1)
-  one_datum (Fixed n layout) p q r [] ys h k = absurd h
-  one_datum (Fixed n layout) p q r (CompressibleName x ∷ xs) ys h k = absurd h
-  one_datum (Fixed n layout) p q r (Octets x ∷ xs) [] h k = absurd k
-  one_datum (Fixed n layout) p q r (Octets x ∷ xs) (CompressibleName y ∷ ys) h k = absurd k
-  one_datum (Fixed n layout) p q r (Octets x ∷ xs) (Octets y ∷ ys) h k =
-      let after = one_datum layout (p + n) q r xs ys h.2 k.2 in
+  one_rdata : (layout : Layout) (p q r : ℕ) (xs ys : List Part) → DataAt b layout p q xs → DataAt b layout p r ys → (q ≡ r) × (xs ≡ ys)
+  one_rdata End p q r xs ys h k = (h.0 ∙ sym k.0, h.1 ∙ sym k.1)
+  one_rdata (Rest accepts) p q r xs ys h k = (h.0 ∙ sym k.0, h.1 ∙ sym k.1)
+  one_rdata (Fixed n layout) p q r [] ys h k = absurd h
+  one_rdata (Fixed n layout) p q r (CompressibleName x ∷ xs) ys h k = absurd h
+  one_rdata (Fixed n layout) p q r (Octets x ∷ xs) [] h k = absurd k
+  one_rdata (Fixed n layout) p q r (Octets x ∷ xs) (CompressibleName y ∷ ys) h k = absurd k
+  one_rdata (Fixed n layout) p q r (Octets x ∷ xs) (Octets y ∷ ys) h k =
+      let after = one_rdata layout (p + n) q r xs ys h.2 k.2 in
       let same : x ≡ y = sym h.1 ∙ k.1 in
       (after.0, cc (same, after.1))
-  one_datum (CharacterString layout) p q r [] ys h k = absurd h
-  one_datum (CharacterString layout) p q r (CompressibleName x ∷ xs) ys h k = absurd h
-  one_datum (CharacterString layout) p q r (Octets x ∷ xs) [] h k = absurd k
-  one_datum (CharacterString layout) p q r (Octets x ∷ xs) (CompressibleName y ∷ ys) h k = absurd k
-  one_datum (CharacterString layout) p q r (Octets x ∷ xs) (Octets y ∷ ys) h k =
-      let after = one_datum layout (p + string_size b p) q r xs ys h.2 k.2 in
+  one_rdata (CharacterString layout) p q r [] ys h k = absurd h
+  one_rdata (CharacterString layout) p q r (CompressibleName x ∷ xs) ys h k = absurd h
+  one_rdata (CharacterString layout) p q r (Octets x ∷ xs) [] h k = absurd k
+  one_rdata (CharacterString layout) p q r (Octets x ∷ xs) (CompressibleName y ∷ ys) h k = absurd k
+  one_rdata (CharacterString layout) p q r (Octets x ∷ xs) (Octets y ∷ ys) h k =
+      let after = one_rdata layout (p + string_size b p) q r xs ys h.2 k.2 in
       let same : x ≡ y = sym h.1 ∙ k.1 in
       (after.0, cc (same, after.1))
-  one_datum (DomainName layout) p q r [] ys h k = absurd h
-  one_datum (DomainName layout) p q r (Octets x ∷ xs) ys h k = absurd h
-  one_datum (DomainName layout) p q r (CompressibleName x ∷ xs) [] h k = absurd k
-  one_datum (DomainName layout) p q r (CompressibleName x ∷ xs) (Octets y ∷ ys) h k = absurd k
-  one_datum (DomainName layout) p q r (CompressibleName x ∷ xs) (CompressibleName y ∷ ys) h k =
+  one_rdata (DomainName layout) p q r [] ys h k = absurd h
+  one_rdata (DomainName layout) p q r (Octets x ∷ xs) ys h k = absurd h
+  one_rdata (DomainName layout) p q r (CompressibleName x ∷ xs) [] h k = absurd k
+  one_rdata (DomainName layout) p q r (CompressibleName x ∷ xs) (Octets y ∷ ys) h k = absurd k
+  one_rdata (DomainName layout) p q r (CompressibleName x ∷ xs) (CompressibleName y ∷ ys) h k =
       let end : k.0 ≡ h.0 = one_end b k.2 h.2 in
-      let after = one_datum layout h.0 q r xs ys h.3 (subst (λ e. DataAt b layout e r ys) end k.3) in
+      let after = one_rdata layout h.0 q r xs ys h.3 (subst (λ e. DataAt b layout e r ys) end k.3) in
       let same : x ≡ y = same_name b h.1 k.1 in
       (after.0, cc (same, after.1))
 
@@ -145,10 +145,10 @@ module _ (b : List ℕ) where
       let end : k.1 ≡ h.1 = one_end b k.3 h.3 in
       one_fault layout h.1 f g h.4 (subst (λ e. DataFaultAt b layout e g) end k.4)
 
-pub one_datum_or_fault : OneDatumOrFault
-one_datum_or_fault b layout p l = record {
-  some = datum_or_fault b layout p;
-  one = one_datum b layout p;
+pub one_rdata_or_fault : OneRdataOrFault
+one_rdata_or_fault b layout p l = record {
+  some = rdata_or_fault b layout p;
+  one = one_rdata b layout p;
   not_both = λ q parts f. not_both b layout p q parts f l;
   one_fault = one_fault b layout p;
 }

@@ -39,9 +39,9 @@ module _ (b : List ℕ) where
       let rtype : x.rtype ≡ y.rtype = h.rtype ∙ ap (number_at w16 b) e ∙ sym k.rtype in
       let class : x.class ≡ y.class = h.class ∙ ap (λ n. number_at w16 b (n + 2)) e ∙ sym k.class in
       let ttl : x.ttl ≡ y.ttl = h.ttl ∙ ap (λ n. number_at w32 b (n + 4)) e ∙ sym k.ttl in
-      let from : x.data_start ≡ y.data_start = h.data_start ∙ ap (λ n. n + 10) e ∙ sym k.data_start in
-      let to : x.data_end ≡ y.data_end = h.data_end ∙ one_fields_end b size h.skips k.skips ∙ sym k.data_end in
-      λ i. record { owner = owner i; rtype = rtype i; class = class i; ttl = ttl i; data_start = from i; data_end = to i }
+      let from : x.rdata_start ≡ y.rdata_start = h.rdata_start ∙ ap (λ n. n + 10) e ∙ sym k.rdata_start in
+      let to : x.rdata_end ≡ y.rdata_end = h.rdata_end ∙ one_fields_end b size h.skips k.skips ∙ sym k.rdata_end in
+      λ i. record { owner = owner i; rtype = rtype i; class = class i; ttl = ttl i; rdata_start = from i; rdata_end = to i }
 
 pub header_or_fault : HeaderOrFault
 header_or_fault b =
@@ -57,8 +57,8 @@ pub record_or_fault : RecordOrFault
 record_or_fault b =
     reads_or_faults b (size b) (LacksRecord b) (record_long b) (record_short b) (ReadsRecord b) (λ x. x.owner) (λ p q x h. (h.skips, h.owner))
     (λ p r name s w l. (
-      record { owner = name; rtype = number_at w16 b r; class = number_at w16 b (r + 2); ttl = number_at w32 b (r + 4); data_start = r + 10; data_end = r + size b r },
-      record { skips = fields_from b (size b) w l; owner = s; rtype = refl; class = refl; ttl = refl; data_start = refl; data_end = refl },
+      record { owner = name; rtype = number_at w16 b r; class = number_at w16 b (r + 2); ttl = number_at w32 b (r + 4); rdata_start = r + 10; rdata_end = r + size b r },
+      record { skips = fields_from b (size b) w l; owner = s; rtype = refl; class = refl; ttl = refl; rdata_start = refl; rdata_end = refl },
     ))
     (same_record b)
 

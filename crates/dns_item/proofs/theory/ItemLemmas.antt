@@ -41,7 +41,7 @@ puts_record rule x is =
 
 -- what is read of a record whose RDATA goes from one offset to another
 entry_of : RecordItem → ℕ → ℕ → RecordEntry
-entry_of x from to = record { owner = x.owner; rtype = x.rtype; class = x.class; ttl = x.ttl; data_start = from; data_end = to }
+entry_of x from to = record { owner = x.owner; rtype = x.rtype; class = x.class; ttl = x.ttl; rdata_start = from; rdata_end = to }
 
 -- a record is read there
 pub reads_record : (x : RecordItem) (t : Written) (p q : ℕ) → IsRecord x → IsTarget t → HasRecord x t p q → ReadsRecordItem t.octets p q x
@@ -65,8 +65,8 @@ reads_record x t p q is good h =
         rtype = sym (number_16 t.octets r x.rtype is.rtype (at_first {xs = to_be_bytes w16 x.rtype} (to_be_bytes w16 x.class ++ to_be_bytes w32 x.ttl) here));
         class = sym (number_16 t.octets (r + 2) x.class is.class (at_first {xs = to_be_bytes w16 x.class} (to_be_bytes w32 x.ttl) rest));
         ttl = sym (number_32 t.octets (r + 4) x.ttl is.ttl (at_offset (omega arith) (at_second (to_be_bytes w16 x.class) {ys = to_be_bytes w32 x.ttl} rest)));
-        data_start = refl;
-        data_end = refl;
+        rdata_start = refl;
+        rdata_end = refl;
       };
       reports = record {
         owner = refl;

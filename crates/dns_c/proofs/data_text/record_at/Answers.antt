@@ -6,6 +6,6 @@ use Rattle.dns_c.proofs.data_text.record_at.Goals as goal
 pub returns-clause-opaque : goal.returns-clause-opaque
 returns-clause-opaque c =
     let x = parsed_entry c.in_ok-found.found in
-    let end : c.pos-end.result ≡ x.data_end = c.pos-end.ensures ∙ sym c.in_ok-found.ensures.0.data_end in
-    let start : c.pos-end.result - c.from.result ≡ x.data_start = omega (arith, end, c.from.ensures, c.rdlen.ensures) in
+    let end : c.pos-end.result ≡ x.rdata_end = c.pos-end.ensures ∙ sym c.in_ok-found.ensures.0.rdata_end in
+    let start : c.pos-end.result - c.from.result ≡ x.rdata_start = omega (arith, end, c.from.ensures, c.rdlen.ensures) in
     between_is c.args.octets.now (c.pos-end.result - c.from.result) c.pos-end.result ∙ λ i. drop (start i) (take (end i) c.args.octets.now)

@@ -17,7 +17,7 @@ returns-in_err-number-clause-cuts c =
     let r = at old in
     let n = number_at w16 (octets old) r in
     on_fault_2 c.from_residual.result (LacksField fields.Type (octets old) (r + 2)) (λ _. new ≡ old) (CutsFields (number_rows n r) old new)
-    (λ fault h same. cut_here r 2 (r + 2) fields.Type (class_rows n (r + 2) ++ field_row (r + 8) (r + 10) fields.DataLength ∷ []) old new fault h same refl refl) (search rules) (search rules)
+    (λ fault h same. cut_here r 2 (r + 2) fields.Type (class_rows n (r + 2) ++ field_row (r + 8) (r + 10) fields.RdLength ∷ []) old new fault h same refl refl) (search rules) (search rules)
 
 pub returns-in_err-class_and_ttl-clause-cuts : goal.returns-in_err-class_and_ttl-clause-cuts
 returns-in_err-class_and_ttl-clause-cuts c =
@@ -37,5 +37,5 @@ returns-in_err-len-clause-cuts c =
     let new = c.number-2.new.self in
     let rtype = c.from_int-rtype.result in
     let read : rtype ≡ number_at w16 (octets old) (at old) = c.from_int-rtype.ensures ∙ c.in_ok-number.ensures.number in
-    on_fault_2 c.from_residual-in_err-len.result (LacksField fields.DataLength (octets last) (at last + 2)) (λ _. new ≡ last) (CutsFields (number_rows (number_at w16 (octets old) (at old)) (at old)) old new)
+    on_fault_2 c.from_residual-in_err-len.result (LacksField fields.RdLength (octets last) (at last + 2)) (λ _. new ≡ last) (CutsFields (number_rows (number_at w16 (octets old) (at old)) (at old)) old new)
     (λ fault h same. len_lacks rtype old a last new fault c.in_ok-number.ensures.adds read c.in_ok-class_and_ttl.ensures.adds h same) (search rules) (search rules)
