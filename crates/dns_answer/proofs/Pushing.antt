@@ -5,7 +5,7 @@ use Rattle.std.proofs.Math.Seq.{take-length}
 use Rattle.std.proofs.lemmas.List.{take_more, append-nil, map-append, take-append-drop}
 use Rattle.std.proofs.lemmas.List.Elements.{filter-append}
 use Rattle.std.specs.Prelude.{map, nat_le, Result, Ok, Err}
-use Rattle.dns_wire.specs.Pieces.{Plain}
+use Rattle.dns_wire.specs.Encoders.{Plain}
 use Rattle.dns_wire.specs.Targets.{Fits, Passes}
 use Rattle.dns_question.specs.Questions.{QuestionItem}
 use Rattle.dns_item.specs.Items.{RecordItem}

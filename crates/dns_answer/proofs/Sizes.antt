@@ -2,15 +2,15 @@
 use Rattle.std.proofs.Common.{◌≡◌, ◌∙◌, ℕ, ◌+◌, ◌≤◌, List, [], ◌∷◌, ◌++◌, length, length-append, append_assoc, ap, sym, refl, arith}
 use Rattle.std.proofs.lemmas.List.{append-nil, map-append, length-map}
 use Rattle.std.specs.Prelude.{map}
-use Rattle.dns_wire.specs.Pieces.{CompressionTable, Piece, Plain, nothing}
+use Rattle.dns_wire.specs.Encoders.{CompressionTable, Encoder, Plain, nothing}
 use Rattle.dns_code.specs.Header.{header_octets}
 use Rattle.dns_question.specs.Questions.{QuestionItem, put_question}
 use Rattle.dns_item.specs.Items.{RecordItem, put_record}
-use Rattle.dns_build.specs.State.{InAnswer, InQuestion, State, Every, all_of, pieces_of, head_of, fold, tc_rewound, with_tc, move_to, up_to}
+use Rattle.dns_build.specs.State.{InAnswer, InQuestion, State, Every, all_of, encoders_of, head_of, fold, tc_rewound, with_tc, move_to, up_to}
 use Rattle.dns_answer.specs.Answering.{size, with_answers}
 
 -- further encodings don't shorten the octets
-longer : (ps qs : List Piece) (m : CompressionTable) (w : ℕ) → length (all_of ps m w).octets ≤ length (all_of (ps ++ qs) m w).octets
+longer : (ps qs : List Encoder) (m : CompressionTable) (w : ℕ) → length (all_of ps m w).octets ≤ length (all_of (ps ++ qs) m w).octets
 longer [] qs m w = omega arith
 longer (p ∷ ps) qs m w =
     let rest = longer ps qs (p m w).table (w + length (p m w).octets) in
@@ -21,13 +21,13 @@ head_size : (s : State) → length (header_octets s.header) ≡ 4 → length (he
 head_size s four = length-append _ _ ∙ ap (λ n. n + 8) four
 
 -- the size of a message with these encodings after the header section
-abbrev after : List Piece → ℕ
+abbrev after : List Encoder → ℕ
 after ps = 12 + length (all_of ps nothing 12).octets
 
 -- the size of a message is that of the header section and of the encodings after it
-pub sized : (s : State) → length (header_octets s.header) ≡ 4 → size s ≡ 12 + length (all_of (pieces_of Plain s) nothing 12).octets
+pub sized : (s : State) → length (header_octets s.header) ≡ 4 → size s ≡ 12 + length (all_of (encoders_of Plain s) nothing 12).octets
 unfolding fold
-sized s four = length-append _ _ ∙ (λ i. head_size s four i + length (all_of (pieces_of Plain s) nothing (head_size s four i)).octets)
+sized s four = length-append _ _ ∙ (λ i. head_size s four i + length (all_of (encoders_of Plain s) nothing (head_size s four i)).octets)
 
 -- emptying the answer section and setting TC doesn't lengthen a message
 pub cut_within : (s : State) → length (header_octets s.header) ≡ 4 → length (header_octets (with_tc s.header)) ≡ 4 → size (tc_rewound InAnswer s) ≤ size s
@@ -61,17 +61,17 @@ longer_answers s xs ys four =
     let front = asked ++ map put (s.answers ++ xs) in
     let l = longer front (map put ys) nothing 12 in
     let a : size (with_answers xs (up_to InAnswer s)) ≡ after front =
-    sized (with_answers xs (up_to InAnswer s)) four ∙ ap (λ (ps : List Piece). after (asked ++ ps)) (append-nil (map put (s.answers ++ xs))) in
+    sized (with_answers xs (up_to InAnswer s)) four ∙ ap (λ (ps : List Encoder). after (asked ++ ps)) (append-nil (map put (s.answers ++ xs))) in
     let e : map put (s.answers ++ (xs ++ ys)) ≡ map put (s.answers ++ xs) ++ map put ys =
     ap (map put) (sym (append_assoc s.answers xs ys)) ∙ map-append put (s.answers ++ xs) ys in
     let b : size (with_answers (xs ++ ys) (up_to InAnswer s)) ≡ after (front ++ map put ys) =
     sized (with_answers (xs ++ ys) (up_to InAnswer s)) four
-    ∙ ap (λ (ps : List Piece). after (asked ++ ps)) (append-nil (map put (s.answers ++ (xs ++ ys))) ∙ e)
+    ∙ ap (λ (ps : List Encoder). after (asked ++ ps)) (append-nil (map put (s.answers ++ (xs ++ ys))) ∙ e)
     ∙ ap after (sym (append_assoc asked (map put (s.answers ++ xs)) (map put ys))) in
     omega (arith, a, b, l)
 
 -- an encoding has at least one octet, for any compression table and at any offset
-abbrev HasOctets : Piece → Type 0
+abbrev HasOctets : Encoder → Type 0
 HasOctets p = (m : CompressionTable) (w : ℕ) → 1 ≤ length (p m w).octets
 
 question_octets : (x : QuestionItem) → HasOctets (put_question Plain x)
@@ -90,16 +90,16 @@ every_record : (xs : List RecordItem) → Every HasOctets (map (put_record Plain
 every_record [] = tt
 every_record (x ∷ xs) = (record_octets x, every_record xs)
 
-every_both : (ps qs : List Piece) → Every HasOctets ps → Every HasOctets qs → Every HasOctets (ps ++ qs)
+every_both : (ps qs : List Encoder) → Every HasOctets ps → Every HasOctets qs → Every HasOctets (ps ++ qs)
 every_both [] qs all others = others
 every_both (p ∷ ps) qs all others = (all.0, every_both ps qs all.1 others)
 
 -- so there are at least as many octets as encodings
-pieces_within : (ps : List Piece) (m : CompressionTable) (w : ℕ) → Every HasOctets ps → length ps ≤ length (all_of ps m w).octets
-pieces_within [] m w all = omega arith
-pieces_within (p ∷ ps) m w all =
+encoders_within : (ps : List Encoder) (m : CompressionTable) (w : ℕ) → Every HasOctets ps → length ps ≤ length (all_of ps m w).octets
+encoders_within [] m w all = omega arith
+encoders_within (p ∷ ps) m w all =
     let first = all.0 m w in
-    let rest = pieces_within ps (p m w).table (w + length (p m w).octets) all.1 in
+    let rest = encoders_within ps (p m w).table (w + length (p m w).octets) all.1 in
     simp length-append (omega (arith, first, rest))
 
 -- questions and answers together are at most as many as the octets after the header section
@@ -108,7 +108,7 @@ items_within s four =
     let questions = map (put_question Plain) s.questions in
     let answers = map (put_record Plain) s.answers in
     let after_them = map (put_record Plain) s.authorities ++ map (put_record Plain) s.additionals in
-    let l = pieces_within (questions ++ answers) nothing 12 (every_both questions answers (every_question s.questions) (every_record s.answers)) in
+    let l = encoders_within (questions ++ answers) nothing 12 (every_both questions answers (every_question s.questions) (every_record s.answers)) in
     let m = longer (questions ++ answers) after_them nothing 12 in
     let a = sized s four ∙ ap after (sym (append_assoc questions answers after_them)) in
     let n = length-append questions answers in

@@ -5,7 +5,7 @@ use Rattle.std.specs.List.{filter_map}
 use Rattle.std.specs.Result.{result_ok}
 use Rattle.std.specs.Prelude.{nat_le, Result, Ok, Err, Option, Some, None}
 use Rattle.dns_name.specs.Names.{Fault}
-use Rattle.dns_wire.specs.Pieces.{Plain}
+use Rattle.dns_wire.specs.Encoders.{Plain}
 use Rattle.dns_wire.specs.Targets.{Written}
 use Rattle.dns_code.specs.HeaderSection.{header_size}
 use Rattle.dns_question.specs.Questions.{QuestionItem}

@@ -1,7 +1,7 @@
 -- Answers from a table of records that are no longer than the client accepts. RFC 1035 sections 4.1 and 4.2.1, RFC 6891 section 6.2.
 use Rattle.std.specs.Prelude.{◌≡◌, ◌<◌, ◌==◌, ◌&&◌, nat_le, if◌then◌else◌, ℕ, Bool, List, ◌++◌, length, filter, max, Option, Some, None}
 use Rattle.dns_name.specs.NameOrders.{names_equal}
-use Rattle.dns_wire.specs.Pieces.{Plain}
+use Rattle.dns_wire.specs.Encoders.{Plain}
 use Rattle.dns_code.specs.HeaderSection.{header_size}
 use Rattle.dns_question.specs.Questions.{QuestionItem}
 use Rattle.dns_item.specs.Items.{RecordItem}

@@ -1,6 +1,6 @@
 -- How the records that match a question are pushed. RFC 1035 section 4.1.
 use Rattle.std.specs.Prelude.{◌≤◌, ◌<◌, List, Result, Ok, Err}
-use Rattle.dns_wire.specs.Pieces.{Plain}
+use Rattle.dns_wire.specs.Encoders.{Plain}
 use Rattle.dns_item.specs.Items.{RecordItem}
 use Rattle.dns_build.specs.BuilderStates.{Built, Represents}
 use Rattle.dns_build.specs.State.{InAnswer, State, most_entries}

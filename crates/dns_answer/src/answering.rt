@@ -1,7 +1,7 @@
 //! Answers queries from a table of records. An answer is no longer than the client accepts
 //! (RFC 1035 section 4.1, RFC 6891 section 6.2).
 ghost use Rattle.std.specs.Prelude.{◌≡◌, ◌≤◌, ◌<◌, IfOk, IfErr, Some, None, Err, length, map, max};
-ghost use Rattle.dns_wire.specs.Pieces.{Plain};
+ghost use Rattle.dns_wire.specs.Encoders.{Plain};
 ghost use Rattle.dns_code.specs.HeaderSection.{header_size};
 ghost use Rattle.dns_question.specs.Question.{parsed_question};
 ghost use Rattle.dns_question.specs.Questions.{QuestionItem};

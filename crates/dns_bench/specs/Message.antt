@@ -1,7 +1,7 @@
 -- Names written as one message. RFC 1035 section 4.1.4.
 use Rattle.std.specs.Prelude.{◌≡◌, ◌≤◌, ℕ, List, length}
 use Rattle.dns_name.specs.ParsedName.{labels}
-use Rattle.dns_wire.specs.Pieces.{Rule, put_name}
+use Rattle.dns_wire.specs.Encoders.{Rule, put_name}
 use Rattle.dns_wire.specs.Targets.{Written, lay}
 use Rattle.dns_name.specs.declared.parsed_name.ParsedName.{ParsedName}
 

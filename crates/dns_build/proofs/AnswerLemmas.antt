@@ -5,7 +5,7 @@ use Rattle.std.specs.List.{filter_map}
 use Rattle.std.specs.Result.{result_ok}
 use Rattle.dns_octets.specs.declared.error.ParseError.{ParseError}
 use Rattle.dns_name.specs.Names.{Fault}
-use Rattle.dns_wire.specs.Pieces.{Rule}
+use Rattle.dns_wire.specs.Encoders.{Rule}
 use Rattle.dns_code.specs.Bits.{bit, bits}
 use Rattle.dns_question.specs.Questions.{QuestionItem}
 use Rattle.dns_section.specs.QuestionSection.{questions_left, to_come, position, octets_of}

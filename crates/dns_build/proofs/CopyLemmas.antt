@@ -3,7 +3,7 @@ use Rattle.std.proofs.Common.{◌≡◌, sym, refl, subst, ap, ℕ, ◌<◌, ◌
 use Rattle.std.specs.Prelude.{Option, Result, Ok, Err, OnOk, OnErr, IsTrue}
 use Rattle.dns_octets.specs.declared.error.ParseError.{ParseError}
 use Rattle.dns_name.specs.Names.{Fault, fault_of}
-use Rattle.dns_wire.specs.Pieces.{Rule}
+use Rattle.dns_wire.specs.Encoders.{Rule}
 use Rattle.dns_wire.specs.Targets.{Fits, Passes}
 use Rattle.dns_item.specs.Items.{RecordItem}
 use Rattle.dns_item.specs.ParsedRecord.{EncodedRecord}

@@ -3,7 +3,7 @@ use Rattle.std.proofs.Common.{◌≡◌, ◌∙◌, ap, sym, refl, subst, append
 use Rattle.std.proofs.lemmas.List.{append-nil}
 use Rattle.std.specs.Prelude.{Option, Some, None, option_map, Result, Ok}
 use Rattle.dns_name.specs.Names.{Fault}
-use Rattle.dns_wire.specs.Pieces.{Rule}
+use Rattle.dns_wire.specs.Encoders.{Rule}
 use Rattle.dns_item.specs.Items.{RecordItem}
 use Rattle.dns_item.specs.ParsedRecord.{EncodedRecord, encoded_record}
 use Rattle.dns_item.specs.declared.parsed_record.ParsedRecord.{ParsedRecord}

@@ -1,7 +1,7 @@
 -- The sections of a builder, and the encoding of a state with one more item or without the last section's items.
 use Rattle.std.proofs.Common.{◌≡◌, ℕ, ◌+◌, ◌*◌, ◌-◌, ◌<◌, List, [], ◌∷◌, ◌++◌, map, length, replicate, take, ap, sym, ◌∙◌, refl, arith}
 use Rattle.std.proofs.lemmas.List.{length-map, map-append}
-use Rattle.dns_wire.specs.Pieces.{IsGrowing, Rule, Piece}
+use Rattle.dns_wire.specs.Encoders.{IsGrowing, Rule, Encoder}
 use Rattle.dns_wire.specs.Targets.{Written, lay}
 use Rattle.dns_code.specs.Header.{header_octets}
 use Rattle.dns_question.specs.Questions.{QuestionItem, IsQuestion, put_question}
@@ -12,7 +12,7 @@ use Rattle.dns_build.specs.BuilderStates.{count_at, counted, emptied_from}
 use Rattle.dns_section.specs.declared.section.Section.{Section}
 use Rattle.dns_section.specs.declared.section.Section.TheVariants.{Answer, Authority, Additional}
 use Rattle.dns_build.specs.State.{fold, stage_of, Stage, InBuilder, InQuestion, InAnswer, InAuthority, State, Every, with_question, with_record, records_at, up_to}
-use Rattle.dns_build.proofs.theory.Folds.{pieces, message, sections_of, fold-message, sections_grow, between, every_map, count-message, size-more, message-more, message-less}
+use Rattle.dns_build.proofs.theory.Folds.{encoders, message, sections_of, fold-message, sections_grow, between, every_map, count-message, size-more, message-more, message-less}
 
 -- the question section, or a record section
 pub data Kind : Type 0 where
@@ -51,7 +51,7 @@ abbrev pub IsItem : (k : Kind) → Item k → Type 0
 IsItem Questions x = IsQuestion x
 IsItem (Records k) x = IsRecord x
 
-abbrev pub put : (k : Kind) → Rule → Item k → Piece
+abbrev pub put : (k : Kind) → Rule → Item k → Encoder
 put Questions rule x = put_question rule x
 put (Records k) rule x = put_record rule x
 
@@ -69,26 +69,26 @@ items_grow Questions rule x = questions_grow rule x
 items_grow (Records k) rule x = records_grow rule x
 
 -- the sections before it
-abbrev before : Kind → Rule → State → List (List Piece)
+abbrev before : Kind → Rule → State → List (List Encoder)
 before k rule s = take (number k) (sections_of rule s)
 
 -- the sections after it, which are empty
-abbrev empty : Kind → List (List Piece)
+abbrev empty : Kind → List (List Encoder)
 empty k = replicate (3 - number k) []
 
 -- the sections of a state, with these encodings as the section's own
-abbrev sections : Kind → Rule → State → List Piece → List (List Piece)
+abbrev sections : Kind → Rule → State → List Encoder → List (List Encoder)
 sections k rule s = between (before k rule s) (empty k)
 
 -- the encodings of a state without the sections after this one, and without this one's items
 record Splits (k : Kind) (rule : Rule) (s : State) : Type 0 where
   all : length (before k rule s) + length (empty k) ≡ 3
   number : length (before k rule s) ≡ number k
-  last : pieces (empty k) ≡ []
+  last : encoders (empty k) ≡ []
   whole : fold rule (up_to (at k) s) ≡ message (header_octets s.header) (sections k rule s (map (put k rule) (items k s)))
   less : fold rule (up_to (prior k) s) ≡ message (header_octets s.header) (sections k rule s [])
-  grow : Every IsGrowing (pieces (sections k rule s (map (put k rule) (items k s))))
-  front : Every IsGrowing (pieces (sections k rule s []))
+  grow : Every IsGrowing (encoders (sections k rule s (map (put k rule) (items k s))))
+  front : Every IsGrowing (encoders (sections k rule s []))
 
 splits : (k : Kind) (rule : Rule) (s : State) → Splits k rule s
 splits Questions rule s = record { all = refl; number = refl; last = refl; whole = fold-message rule _; less = fold-message rule _; grow = sections_grow rule (up_to InQuestion s); front = sections_grow rule (up_to InBuilder s) }

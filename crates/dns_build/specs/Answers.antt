@@ -2,7 +2,7 @@
 use Rattle.std.specs.Prelude.{◌≡◌, ◌<◌, ◌⊎◌, ℕ, Bool, true, List, [], ◌∷◌, ◌++◌, length, take, bit_and, bit_or, slice_index, Option, Result, Ok, Err}
 use Rattle.std.specs.List.{filter_map}
 use Rattle.std.specs.Result.{result_ok}
-use Rattle.dns_wire.specs.Pieces.{Rule}
+use Rattle.dns_wire.specs.Encoders.{Rule}
 use Rattle.dns_code.specs.Header.{header_octets, fields}
 use Rattle.dns_code.specs.HeaderSection.{header_size}
 use Rattle.dns_code.specs.declared.header.Header.{Header}

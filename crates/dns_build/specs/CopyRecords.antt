@@ -2,7 +2,7 @@
 use Rattle.std.specs.Prelude.{◌≡◌, ℕ, Bool, List, [], ◌∷◌, length, Option, Some, None, option_map, Result, Ok, Err}
 use Rattle.dns_octets.specs.declared.error.ParseError.{ParseError}
 use Rattle.dns_name.specs.Names.{Fault, fault_of}
-use Rattle.dns_wire.specs.Pieces.{Rule}
+use Rattle.dns_wire.specs.Encoders.{Rule}
 use Rattle.dns_item.specs.Items.{RecordItem}
 use Rattle.dns_item.specs.ParsedRecord.{EncodedRecord, encoded_record}
 use Rattle.dns_item.specs.declared.parsed_record.ParsedRecord.{ParsedRecord}

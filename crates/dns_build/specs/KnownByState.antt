@@ -1,6 +1,6 @@
 -- A builder is determined by the state that it represents, so items that were pushed and rewound leave no trace. RFC 1035 section 4.1.
 use Rattle.std.specs.Prelude.{◌≡◌, List}
-use Rattle.dns_wire.specs.Pieces.{Rule}
+use Rattle.dns_wire.specs.Encoders.{Rule}
 use Rattle.dns_build.specs.BuilderStates.{Built, Represents, MovesState}
 use Rattle.dns_build.specs.State.{Stage, InQuestion, State, with_questions, with_records, rewound}
 

@@ -4,7 +4,7 @@ use Rattle.std.specs.FinMap.{len}
 use Rattle.dns_name.specs.Names.{pointer_end}
 use Rattle.dns_wire.specs.Parts.{Part, Octets, CompressibleName, PartsNear, PartsPointed}
 use Rattle.dns_wire.specs.Spelling.{IsShortest, SharesAll}
-use Rattle.dns_wire.specs.Pieces.{Rule, IsAtOrAfter}
+use Rattle.dns_wire.specs.Encoders.{Rule, IsAtOrAfter}
 use Rattle.dns_wire.specs.Targets.{IsTarget}
 use Rattle.dns_code.specs.Header.{header_octets, fields}
 use Rattle.dns_code.specs.HeaderSection.{header_size}

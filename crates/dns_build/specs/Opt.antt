@@ -2,7 +2,7 @@
 use Rattle.std.specs.Prelude.{◌≡◌, ℕ, Bool, [], ◌∷◌, length, bit_and, bit_or, slice_index, slice_set, Option, OnOk, Result, Ok, Err}
 use Rattle.dns_octets.specs.declared.error.AppendError.{AppendError}
 use Rattle.dns_wire.specs.Parts.Part.{Octets}
-use Rattle.dns_wire.specs.Pieces.{Rule}
+use Rattle.dns_wire.specs.Encoders.{Rule}
 use Rattle.dns_code.specs.declared.header.Header.{Header}
 use Rattle.dns_opt.specs.OptHeader.{ttl_in}
 use Rattle.dns_opt.specs.Options.{put_options}

@@ -4,7 +4,7 @@ use Rattle.std.proofs.Math.Seq.{drop-cons}
 use Rattle.std.proofs.lemmas.List.{drop_all}
 use Rattle.std.specs.Prelude.{Bool, Option, Result, Err, None, IsTrue}
 use Rattle.dns_name.proofs.theory.NameTextFaults.{one_text_name}
-use Rattle.dns_wire.specs.Pieces.{Rule}
+use Rattle.dns_wire.specs.Encoders.{Rule}
 use Rattle.dns_octets.specs.declared.error.AppendError.{AppendError}
 use Rattle.dns_octets.specs.declared.error.AppendError.TheVariants as appending
 use Rattle.dns_wire.specs.Targets.{AppendReturns, Fits, Passes}

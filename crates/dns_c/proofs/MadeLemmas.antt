@@ -6,7 +6,7 @@ use Rattle.dns_wire.proofs.theory.CompressionTables.{get-insert_same}
 use Rattle.dns_name.specs.Names.{Labels, IsName, framed}
 use Rattle.dns_name.proofs.theory.LabelsLemmas.{length-uncompressed}
 use Rattle.dns_wire.specs.Parts.{Part, Octets, put_parts}
-use Rattle.dns_wire.specs.Pieces.{CompressionTable, Rule, Static, TableEntry, nothing, put_name, add_suffixes, spell, spell_label, is_kept, suffix_cmp}
+use Rattle.dns_wire.specs.Encoders.{CompressionTable, Rule, Static, TableEntry, nothing, put_name, add_suffixes, spell, spell_label, is_kept, suffix_cmp}
 use Rattle.dns_wire.specs.Targets.{Fits, Passes}
 use Rattle.dns_wire.proofs.theory.NameSizes.{names_are_short}
 use Rattle.dns_code.specs.Header.{header_octets}

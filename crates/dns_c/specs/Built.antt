@@ -6,7 +6,7 @@ use Rattle.dns_octets.specs.declared.error.AppendError.{AppendError}
 use Rattle.dns_name.specs.Names.{Labels}
 use Rattle.dns_name.specs.NameTexts.{SpellsName}
 use Rattle.dns_wire.specs.Parts.{Octets}
-use Rattle.dns_wire.specs.Pieces.{Rule}
+use Rattle.dns_wire.specs.Encoders.{Rule}
 use Rattle.dns_wire.specs.Targets.{AppendReturns}
 use Rattle.dns_code.specs.HeaderSection.{header_size}
 use Rattle.dns_code.specs.declared.header.Header.{Header}

@@ -3,7 +3,7 @@ use Rattle.std.specs.Prelude.{◌≡◌, ◌≢◌, ◌<◌, ◌≤◌, ◌⊎�
 use Rattle.dns_name.specs.Names.{Fault, FaultAt, Labels}
 use Rattle.dns_name.specs.NameTexts.{SpellsName}
 use Rattle.dns_wire.specs.Parts.{Octets}
-use Rattle.dns_wire.specs.Pieces.{Plain, Static}
+use Rattle.dns_wire.specs.Encoders.{Plain, Static}
 use Rattle.dns_code.specs.Header.{fields, fields_in}
 use Rattle.dns_code.specs.HeaderSection.{header_size}
 use Rattle.dns_code.specs.declared.header.Header.{Header}

@@ -2,7 +2,7 @@
 ghost use Rattle.std.specs.Prelude.{◌≡◌, ◌∷◌, List, [], None, true, IfOk, IfErr, OnOk};
 ghost use Rattle.dns_name.specs.NameReading.{name_labels};
 ghost use Rattle.dns_wire.specs.Parts.{Octets};
-ghost use Rattle.dns_wire.specs.Pieces.{Tree};
+ghost use Rattle.dns_wire.specs.Encoders.{Tree};
 ghost use Rattle.dns_data.specs.UnknownData.{unknown_rtype_of, unknown_octets};
 ghost use Rattle.dns_build.specs.State.{InQuestion, with_questions, with_records};
 ghost use Rattle.dns_build.specs.BuilderStates.{InEach, MovesState};

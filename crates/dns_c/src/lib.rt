@@ -17,7 +17,7 @@ mod words;
 ghost use Rattle.std.specs.Prelude.{◌≡◌, ◌≢◌, ◌<◌, ◌≤◌, ◌+◌, ◌++◌, ◌∷◌, [], length, take, get_or, None, true};
 ghost use Rattle.dns_name.specs.NameTexts.{name_text};
 ghost use Rattle.dns_name.specs.Names.{Labels, NameAt, uncompressed};
-ghost use Rattle.dns_wire.specs.Pieces.{Tree};
+ghost use Rattle.dns_wire.specs.Encoders.{Tree};
 ghost use Rattle.dns_code.specs.Header.{fields_in};
 ghost use Rattle.dns_code.specs.HeaderSection.{header_size};
 ghost use Rattle.dns_number.specs.Classes.{class_text};

@@ -23,7 +23,7 @@ impl Default for HeaderSection {
 
 impl HeaderSection {
     ghost use Rattle.dns_name.specs.Parsers.{seen, offset, Takes};
-    ghost use Rattle.dns_wire.specs.Pieces.{put_octets};
+    ghost use Rattle.dns_wire.specs.Encoders.{put_octets};
     ghost use Rattle.dns_wire.specs.Targets.{Appends};
     ghost use Rattle.dns_code.specs.Header.{header_octets};
     ghost use Rattle.dns_code.specs.HeaderCounts.{counts_octets};

@@ -4,9 +4,9 @@ use Rattle.std.specs.Prelude.{Ok, Err}
 use Rattle.std.proofs.lemmas.List.{append-nil}
 use Rattle.dns_name.specs.Names.{Labels, IsName}
 use Rattle.dns_wire.specs.Parts.{CompressibleName, put_part, put_parts}
-use Rattle.dns_wire.specs.Pieces.{put_octets}
+use Rattle.dns_wire.specs.Encoders.{put_octets}
 use Rattle.dns_wire.specs.Targets.{Written, Fits, lay}
-use Rattle.dns_wire.proofs.theory.PieceLaws.{appends_compose, composes_both, composes_first, same_written}
+use Rattle.dns_wire.proofs.theory.EncoderLaws.{appends_compose, composes_both, composes_first, same_written}
 use Rattle.dns_wire.proofs.theory.PutNames.{put_part_grows}
 use Rattle.dns_name.proofs.theory.LabelsLemmas.{length-uncompressed}
 use Rattle.dns_data.specs.RecordData.{IsData}

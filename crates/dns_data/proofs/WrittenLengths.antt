@@ -1,10 +1,10 @@
 -- Encodings after two octets into which their length is written.
 use Rattle.std.proofs.Common.{◌≡◌, ℕ, ◌+◌, ◌≤◌, ◌⊎◌, inl, inr, Bool, Option, Some, Result, Err, List, [], ◌∷◌, length, length-append, ap, sym, ◌∙◌, subst}
 use Rattle.std.specs.FinMap.{get}
-use Rattle.dns_wire.specs.Pieces.{TableEntry, IsClear, IsOldOrWithin, Extends, Piece, IsGrowing, put_octets, both, with_length}
+use Rattle.dns_wire.specs.Encoders.{TableEntry, IsClear, IsOldOrWithin, Extends, Encoder, IsGrowing, put_octets, both, with_length}
 use Rattle.dns_wire.specs.Targets.{Written, IsTarget, ComposeReturns, lay, Composes}
 use Rattle.dns_octets.specs.declared.error.AppendError.{AppendError}
-use Rattle.dns_wire.proofs.theory.PieceLaws.{composes_both}
+use Rattle.dns_wire.proofs.theory.EncoderLaws.{composes_both}
 use Rattle.dns_wire.proofs.theory.PutNames.{put_octets_grows, ends_within_content}
 
 -- the two octets before the length is known
@@ -20,7 +20,7 @@ one_clear before after w v (inr new) h y e =
     inr (subst (λ (z : TableEntry). w + 2 ≤ z.offset) is new.1.2)
 
 -- no suffix in the table has one of the two octets
-pub clear_length : (a : Piece) (t v u : Written) → IsGrowing a → IsTarget t → v ≡ lay (put_octets blank) t → u ≡ lay a v → IsClear u.table (length t.octets) 2
+pub clear_length : (a : Encoder) (t v u : Written) → IsGrowing a → IsTarget t → v ≡ lay (put_octets blank) t → u ≡ lay a v → IsClear u.table (length t.octets) 2
 clear_length a t v u grows is first second s x e =
     let start = length t.octets + 2 in
     let extends : Extends t.table (a t.table start).table start _ = grows.grows t.table start in
@@ -29,7 +29,7 @@ clear_length a t v u grows is first second s x e =
     ∙ ap (λ (w : Written). get w.table s) (sym (second ∙ ap (lay a) first)) ∙ e in
     inr (one_clear (get t.table s) _ (length t.octets) _ (extends.each s) (ends_within_content is s) x found)
 
-refused : (capacity : Option ℕ) (may_grow : Bool) (a : Piece) (t u : Written) (e : AppendError)
+refused : (capacity : Option ℕ) (may_grow : Bool) (a : Encoder) (t u : Written) (e : AppendError)
     → Composes capacity may_grow (both (put_octets blank) a) t u {X = Unit} (Err e) → Composes capacity may_grow (with_length a) t u {X = Unit} (Err e)
 refused capacity may_grow a t u e h = record {
   ok = tt;
@@ -40,7 +40,7 @@ refused capacity may_grow a t u e h = record {
 }
 
 -- if composing after the two octets fails, composing with the length fails
-pub piece_refused : (capacity : Option ℕ) (may_grow : Bool) (a : Piece) (t v u : Written) (r q : Result Unit AppendError) (e : AppendError)
+pub encoder_refused : (capacity : Option ℕ) (may_grow : Bool) (a : Encoder) (t v u : Written) (r q : Result Unit AppendError) (e : AppendError)
     → r ≡ Err e → q ≡ Err e → v ≡ lay (put_octets blank) t → Composes capacity may_grow a v u r → Composes capacity may_grow (with_length a) t u q
-piece_refused capacity may_grow a t v u r q e is out first h =
+encoder_refused capacity may_grow a t v u r q e is out first h =
     rw out (refused capacity may_grow a t u e (composes_both capacity may_grow (put_octets blank) a t v u (Err e) (put_octets_grows blank) first (rw is at h)))

@@ -1,7 +1,7 @@
 //! RDATA with its RDLENGTH (RFC 1035 section 4.1.3).
 ghost use Rattle.std.specs.Prelude.{◌≡◌, ◌+◌, ◌-◌, ◌≤◌, length, OnOk};
 ghost use Rattle.std.specs.Int.{to_be_bytes, w16};
-ghost use Rattle.dns_wire.specs.Pieces.{IsClear, with_length};
+ghost use Rattle.dns_wire.specs.Encoders.{IsClear, with_length};
 ghost use Rattle.dns_wire.specs.Parts.{put_parts};
 ghost use Rattle.dns_wire.specs.Targets.{Composes, overwrite};
 ghost use Rattle.dns_data.specs.RecordData.{IsData, canonical};

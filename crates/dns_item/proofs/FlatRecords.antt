@@ -8,9 +8,9 @@ use Rattle.std.proofs.lemmas.List.{append-nil, set-append_right}
 use Rattle.std.specs.Int.{to_be_bytes, w16}
 use Rattle.dns_octets.specs.declared.error.AppendError.{AppendError}
 use Rattle.dns_wire.specs.Parts.{Part, Octets, put_parts}
-use Rattle.dns_wire.specs.Pieces.{Rule, put_octets, both, with_length}
+use Rattle.dns_wire.specs.Encoders.{Rule, put_octets, both, with_length}
 use Rattle.dns_wire.specs.Targets.{Written, Appends, Composes}
-use Rattle.dns_wire.proofs.theory.PieceLaws.{appends_compose}
+use Rattle.dns_wire.proofs.theory.EncoderLaws.{appends_compose}
 
 -- fields, and octets after their length, are one encoding
 pub at_once : (rule : Rule) (fields octets : List ℕ)
@@ -26,7 +26,7 @@ pub composes_at_once : (capacity : Option ℕ) (grows : Bool) (rule : Rule) (fie
     → parts ≡ Octets octets ∷ [] → Appends capacity grows (put_octets (fields ++ (to_be_bytes w16 (length octets) ++ octets))) t u r
     → Composes capacity grows (both (put_octets fields) (with_length (put_parts rule parts))) t u r
 composes_at_once capacity grows rule fields octets parts t u r is h =
-    rw is (subst (λ piece. Composes capacity grows piece t u r) (at_once rule fields octets) (appends_compose _ _ _ _ _ _ h))
+    rw is (subst (λ encoder. Composes capacity grows encoder t u r) (at_once rule fields octets) (appends_compose _ _ _ _ _ _ h))
 
 -- fields, a length below 256 and octets, as they are copied into an array
 pub copied : (fields zeros octets f o : List ℕ) (k : ℕ) → length fields ≡ 8 → length octets ≤ 16 → f ≡ fields → o ≡ octets

@@ -4,7 +4,7 @@ use Rattle.std.specs.Int.{to_be_bytes, w16, w32}
 use Rattle.dns_name.specs.Names.{Labels, IsName, Fault, NameAt, Walked, ReadsOrFaults, EndsOrFaults}
 use Rattle.dns_name.specs.Parsers.{number_at}
 use Rattle.dns_wire.specs.Parts.{Part, AreParts, put_parts, parts_size, PartsAt}
-use Rattle.dns_wire.specs.Pieces.{Rule, Piece, put_octets, both, with_length, put_name, IsGrowing}
+use Rattle.dns_wire.specs.Encoders.{Rule, Encoder, put_octets, both, with_length, put_name, IsGrowing}
 use Rattle.dns_wire.specs.Targets.{Written, IsTarget, lay}
 use Rattle.dns_question.specs.AfterNames.{SkipsFields, FieldsFaultAt, FieldsSkipFaultAt}
 
@@ -30,7 +30,7 @@ abbrev pub record_fields : RecordItem → List ℕ
 record_fields x = to_be_bytes w16 x.rtype ++ to_be_bytes w16 x.class ++ to_be_bytes w32 x.ttl
 
 -- the encoding of a record: its owner, its fields, and its RDATA after RDLENGTH, which is the length of the RDATA as written
-unfoldable pub put_record : Rule → RecordItem → Piece
+unfoldable pub put_record : Rule → RecordItem → Encoder
 put_record rule x = both (put_name rule x.owner) (both (put_octets (record_fields x)) (with_length (put_parts rule x.parts)))
 
 -- Records in the octets of a message. RFC 1035 section 4.1.3.

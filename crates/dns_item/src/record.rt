@@ -1,7 +1,7 @@
 //! Records (RFC 1035 section 4.1.3).
 ghost use Rattle.std.specs.Prelude.{◌≡◌, ◌++◌, ◌≤◌, length, OnOk};
 ghost use Rattle.std.specs.Int.{to_be_bytes, w16, w32};
-ghost use Rattle.dns_wire.specs.Pieces.{put_octets};
+ghost use Rattle.dns_wire.specs.Encoders.{put_octets};
 ghost use Rattle.dns_wire.specs.Targets.{Appends, Composes};
 ghost use Rattle.dns_item.specs.Items.{RecordItem, IsRecord, put_record};
 ghost use Rattle.dns_item.specs.Record.{owner_of, class_of, ttl_of, data_of, HasFields, record_item, item_of_fields};

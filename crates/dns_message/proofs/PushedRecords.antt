@@ -1,7 +1,7 @@
 -- What the reply to the push of a record says, at each record section.
 use Rattle.std.proofs.Common.{◌≡◌, ℕ, ◌<◌, ◌≤◌, Bool, false, Option, Result, Ok, Err, length, sym, ◌∙◌, ap, subst, refl}
 use Rattle.std.specs.Prelude.{OnOk, OnErr, IsTrue, MatchResult}
-use Rattle.dns_wire.specs.Pieces.{Rule}
+use Rattle.dns_wire.specs.Encoders.{Rule}
 use Rattle.dns_wire.specs.Targets.{Fits, Passes}
 use Rattle.dns_question.specs.Questions.{QuestionItem}
 use Rattle.dns_item.specs.Items.{RecordItem}

@@ -1,7 +1,7 @@
 -- What a list of calls does to a builder, and the replies. RFC 1035 section 4.1.
 use Rattle.std.specs.Prelude.{◌≡◌, ℕ, Bool, true, false, Option, Result, Ok, Err, List, [], ◌∷◌, ◌++◌, length, ⊤}
 use Rattle.dns_octets.specs.declared.error.AppendError.{AppendError}
-use Rattle.dns_wire.specs.Pieces.{Rule}
+use Rattle.dns_wire.specs.Encoders.{Rule}
 use Rattle.dns_opt_builder.specs.Gathered.{Gathered, IsGathered}
 use Rattle.dns_question.specs.Questions.{QuestionItem}
 use Rattle.dns_item.specs.Items.{RecordItem}

@@ -3,7 +3,7 @@ use Rattle.std.specs.Prelude.{ℕ, ◌<◌, ◌^◌, List, ◌++◌, ◌≡◌, 
 use Rattle.std.specs.Int.{to_be_bytes, w16}
 use Rattle.dns_name.specs.Names.{Labels, IsName, Fault, NameAt, ReadsOrFaults, EndsOrFaults}
 use Rattle.dns_name.specs.Parsers.{number_at}
-use Rattle.dns_wire.specs.Pieces.{Rule, Piece, put_octets, both, put_name, IsGrowing}
+use Rattle.dns_wire.specs.Encoders.{Rule, Encoder, put_octets, both, put_name, IsGrowing}
 use Rattle.dns_wire.specs.Targets.{Written, IsTarget, lay}
 use Rattle.dns_question.specs.AfterNames.{SkipsFields, FieldsFaultAt, FieldsSkipFaultAt}
 
@@ -24,7 +24,7 @@ abbrev pub question_fields : QuestionItem → List ℕ
 question_fields x = to_be_bytes w16 x.rtype ++ to_be_bytes w16 x.class
 
 -- the encoding of a question: its name, and its fields
-unfoldable pub put_question : Rule → QuestionItem → Piece
+unfoldable pub put_question : Rule → QuestionItem → Encoder
 put_question rule x = both (put_name rule x.name) (put_octets (question_fields x))
 
 -- Questions in the octets of a message. RFC 1035 section 4.1.2.

@@ -3,7 +3,7 @@ use Rattle.std.proofs.Common.{◌≡◌, ◌≤◌, length, length-append, arith
 use Rattle.std.specs.Prelude.{Result, Ok, Err, IsOk}
 use Rattle.dns_name.specs.Names.{IsName}
 use Rattle.dns_name.proofs.theory.LabelsLemmas.{length-uncompressed}
-use Rattle.dns_wire.specs.Pieces.{Plain, put_name}
+use Rattle.dns_wire.specs.Encoders.{Plain, put_name}
 use Rattle.dns_code.specs.Header.{header_octets}
 use Rattle.dns_code.specs.declared.header.Header.{Header}
 use Rattle.dns_question.specs.Questions.{QuestionItem, put_question}

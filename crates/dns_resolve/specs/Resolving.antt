@@ -6,7 +6,7 @@ use Rattle.dns_name.specs.Names.{Fault, Labels, fault_of}
 use Rattle.dns_name.specs.NameOrders.{names_equal}
 use Rattle.dns_wire.specs.Parts.{Part}
 use Rattle.dns_wire.specs.Parts.Part.{Octets}
-use Rattle.dns_wire.specs.Pieces.{Plain}
+use Rattle.dns_wire.specs.Encoders.{Plain}
 use Rattle.dns_code.specs.Header.{HeaderFields, fields, fields_in}
 use Rattle.dns_code.specs.declared.header.Header.{Header}
 use Rattle.dns_data.specs.A.{address_of}

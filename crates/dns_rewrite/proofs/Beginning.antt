@@ -1,6 +1,6 @@
 -- How the message that is written begins.
 use Rattle.std.proofs.Common.{◌≡◌, ap, List, ℕ, subst, take}
-use Rattle.dns_wire.specs.Pieces.{Rule}
+use Rattle.dns_wire.specs.Encoders.{Rule}
 use Rattle.dns_code.specs.declared.header.Header.{Header}
 use Rattle.dns_code.specs.Header.{header_octets}
 use Rattle.dns_build.specs.Answers.{IsAnswer, answering, header_in, readable_questions}

@@ -8,7 +8,7 @@ use Rattle.dns_name.specs.ParsedName.{labels}
 use Rattle.dns_name.specs.declared.parsed_name.ParsedName.{ParsedName}
 use Rattle.dns_name.proofs.theory.LabelsLemmas.{length-uncompressed}
 use Rattle.dns_wire.specs.Parts.{parts_size}
-use Rattle.dns_wire.specs.Pieces.{Static}
+use Rattle.dns_wire.specs.Encoders.{Static}
 use Rattle.dns_code.specs.HeaderSection.{header_size}
 use Rattle.dns_question.specs.Questions.{QuestionItem, QuestionFaultAt, ReadsQuestion}
 use Rattle.dns_item.specs.Record.{record_item}

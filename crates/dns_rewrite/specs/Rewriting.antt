@@ -3,7 +3,7 @@ use Rattle.std.specs.Prelude.{◌≡◌, ◌==◌, if◌then◌else◌, Bool, no
 use Rattle.std.specs.List.{filter_map}
 use Rattle.std.specs.Result.{result_ok}
 use Rattle.dns_name.specs.Names.{Fault, fault_of}
-use Rattle.dns_wire.specs.Pieces.{Static}
+use Rattle.dns_wire.specs.Encoders.{Static}
 use Rattle.dns_code.specs.Header.{header_octets}
 use Rattle.dns_item.specs.Items.{RecordItem}
 use Rattle.dns_section.specs.AnyRecordIter.{every}

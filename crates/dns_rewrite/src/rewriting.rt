@@ -3,7 +3,7 @@
 ghost use Rattle.std.specs.Prelude.{◌≡◌, ◌≤◌, IfErr, IfOk, MatchResult, None, Some, option_map};
 ghost use Rattle.dns_name.specs.Names.{fault_of};
 ghost use Rattle.dns_name.specs.ParsedName.{labels};
-ghost use Rattle.dns_wire.specs.Pieces.{Static};
+ghost use Rattle.dns_wire.specs.Encoders.{Static};
 ghost use Rattle.dns_item.specs.ParsedRecord.{encoded_record};
 ghost use Rattle.dns_item.specs.Record.{record_item};
 ghost use Rattle.dns_item.specs.TypedRecords.{laid_out};

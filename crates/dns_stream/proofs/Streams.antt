@@ -1,11 +1,11 @@
 -- A message after its length: what calls of the wrapped target do to the message alone.
 use Rattle.std.proofs.Common.{◌≡◌, ℕ, suc, ◌+◌, ◌≤◌, Bool, Option, Some, None, Result, Err, List, [], ◌∷◌, ◌++◌, length, length-append, take, drop, ap, sym, ◌∙◌, refl, arith}
 use Rattle.std.proofs.lemmas.Grind.{common_steps}
-use Rattle.dns_wire.specs.Pieces.{put_octets}
+use Rattle.dns_wire.specs.Encoders.{put_octets}
 use Rattle.dns_wire.specs.Targets.{Written, Fits, Passes, AppendReturns, Appends, cut_to, overwrite, with_empty_table as plain}
 use Rattle.dns_octets.specs.declared.error.AppendError.{AppendError}
 use Rattle.dns_octets.specs.declared.error.AppendError.TheVariants.{ShortBuf, OutOfMemory}
-use Rattle.dns_wire.proofs.theory.PieceLaws.{same_written}
+use Rattle.dns_wire.proofs.theory.EncoderLaws.{same_written}
 use Rattle.dns_wire.proofs.theory.CompressionTables.{cut_nothing}
 use Rattle.dns_stream.specs.Stream.{stream_capacity}
 

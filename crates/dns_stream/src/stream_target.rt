@@ -1,6 +1,6 @@
 //! A target for messages over a stream.
 ghost use Rattle.std.specs.Prelude.{◌≡◌, [], refl, IfOk, IfErr, OnErr, IsTrue};
-ghost use Rattle.dns_wire.specs.Pieces.{Plain};
+ghost use Rattle.dns_wire.specs.Encoders.{Plain};
 ghost use Rattle.dns_wire.specs.Targets.{AppendReturns, with_empty_table};
 ghost use Rattle.dns_stream.specs.Stream.{stream_capacity, with_prefix};
 
@@ -138,7 +138,7 @@ impl<T: Composer> Composer for StreamTarget<T> {
         Ok(())
     }
 
-    #[tactic(auto, unfolding(dns_wire::specs::Pieces::put_name))]
+    #[tactic(auto, unfolding(dns_wire::specs::Encoders::put_name))]
     fn append_compressed_name<N: ToName>(&mut self, name: &N) -> Result<(), AppendError> {
         match name.as_flat_slice() {
             Some(octets) => self.append_slice(octets),

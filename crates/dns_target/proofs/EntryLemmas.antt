@@ -4,7 +4,7 @@ use Rattle.std.specs.Prelude.{is_some}
 use Rattle.std.proofs.lemmas.Bool.Decides.{nat_tests}
 use Rattle.std.specs.FinMap.{get, insert, len, from_entries, get-empty, len-empty, len-insert}
 use Rattle.dns_name.specs.Names.{Fault, Labels, name_size, max_size, NameAt, Faulty}
-use Rattle.dns_wire.specs.Pieces.{suffix_cmp, suffix_total, TableEntry, CompressionTable, cut, add_suffixes, IsWithin}
+use Rattle.dns_wire.specs.Encoders.{suffix_cmp, suffix_total, TableEntry, CompressionTable, cut, add_suffixes, IsWithin}
 use Rattle.dns_wire.specs.TargetLaws.{NameAtWithin}
 use Rattle.dns_wire.proofs.theory.Stability.{name_at_within}
 use Rattle.dns_wire.specs.Targets.{Labelled, IsTableOf}

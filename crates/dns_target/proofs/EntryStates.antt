@@ -4,10 +4,10 @@ use Rattle.std.specs.FinMap.{len, from_entries}
 use Rattle.dns_octets.specs.declared.error.AppendError.{AppendError}
 use Rattle.dns_octets.specs.declared.error.AppendError.TheVariants.{ShortBuf, OutOfMemory}
 use Rattle.dns_name.specs.Names.{Labels, IsName, name_size, max_size, uncompressed}
-use Rattle.dns_wire.specs.Pieces.{suffix_cmp, CompressionTable, TableEntry, IsClear, Plain, Rule, Static, Tree, put_octets, put_name}
+use Rattle.dns_wire.specs.Encoders.{suffix_cmp, CompressionTable, TableEntry, IsClear, Plain, Rule, Static, Tree, put_octets, put_name}
 use Rattle.dns_wire.specs.Choice.{first_suffixes}
 use Rattle.dns_wire.specs.Targets.{IsTableOf, Written, lay, cut_to, overwrite, Fits, Passes, AppendReturns, Appends, IsTarget}
-use Rattle.dns_wire.proofs.theory.PieceLaws.{same_written, puts_octets, puts_put_name}
+use Rattle.dns_wire.proofs.theory.EncoderLaws.{same_written, puts_octets, puts_put_name}
 use Rattle.dns_wire.proofs.theory.PutNames.{ends_within_content}
 use Rattle.dns_wire.proofs.theory.SpelledNames.{is_table_cut, is_table_over}
 use Rattle.dns_wire.proofs.theory.CompressionTables.{nothing_is_kept}

@@ -2,7 +2,7 @@
 use Rattle.std.proofs.Common.{◌≡◌, ◌≢◌, ℕ, suc, ◌+◌, ◌-◌, ◌<◌, ◌≤◌, List, [], ◌∷◌, length, take, get_or, ap, sym, ◌∙◌, refl, subst, arith, ◌++◌, reverse, set, length-append}
 use Rattle.std.proofs.lemmas.List.{length-map, length-set, map_push, map-set, get_or-map, get_or-set_same, get_or_default, take_all}
 use Rattle.dns_name.specs.Names.{Labels}
-use Rattle.dns_wire.specs.Pieces.{CompressionTable, TableEntry}
+use Rattle.dns_wire.specs.Encoders.{CompressionTable, TableEntry}
 use Rattle.dns_target.specs.declared.hashes.HashEntry.{HashEntry}
 use Rattle.dns_target.specs.HashedSuffixes.{hash_of, HashedSuffix, table_entry_at, table_entries_at, AreHashed, cut_hashed, hashed_of, all_hashed_of, bucket, buckets_of, olders_of, IsLinked}
 use Rattle.dns_target.specs.TableEntries.{name_in, cut_table_entries, table_in, AreNamesAt}

@@ -1,8 +1,8 @@
 -- Octets that are appended and removed again.
 use Rattle.std.proofs.Common.{◌≡◌, ℕ, List, length, ap, ◌∙◌}
-use Rattle.dns_wire.specs.Pieces.{put_octets}
+use Rattle.dns_wire.specs.Encoders.{put_octets}
 use Rattle.dns_wire.specs.Targets.{Written, IsTarget, lay, cut_to}
-use Rattle.dns_wire.proofs.theory.PieceLaws.{cut_undoes}
+use Rattle.dns_wire.proofs.theory.EncoderLaws.{cut_undoes}
 use Rattle.dns_wire.proofs.theory.PutNames.{put_octets_grows}
 
 -- if a second append fails, a cut removes the octets of the first

@@ -1,6 +1,6 @@
 //! A target that compresses names, over an index of the suffixes in its compression table.
 ghost use Rattle.std.specs.Prelude.{◌≡◌, ◌||◌, [], true, ℕ, List, IfOk, OnErr, IsTrue};
-ghost use Rattle.dns_wire.specs.Pieces.{nothing, Plain, put_octets, put_name};
+ghost use Rattle.dns_wire.specs.Encoders.{nothing, Plain, put_octets, put_name};
 ghost use Rattle.dns_target.specs.FlatNames.{flat_labels};
 ghost use Rattle.dns_wire.specs.Targets.{Appends};
 ghost use Rattle.dns_target.specs.Indexes.{compressing_not_plain};

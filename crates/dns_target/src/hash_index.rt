@@ -92,7 +92,7 @@ impl SuffixIndex for HashIndex {
     ghost use Rattle.std.specs.Prelude.{◌≡◌, ◌≤◌, ◌+◌, ◌<◌, ◌⊎◌, length, ℕ, true, refl};
     ghost use Rattle.dns_name.specs.Names.{pointer_end};
     ghost use Rattle.dns_wire.specs.Choice.{label_offset};
-    ghost use Rattle.dns_wire.specs.Pieces.{Hash};
+    ghost use Rattle.dns_wire.specs.Encoders.{Hash};
     ghost use Rattle.dns_target.specs.Table.{table_entries_in, AreKeyed, IsRest, keyed_again, rest_again};
 
     ghost rule = { Hash };

@@ -10,7 +10,7 @@ use Rattle.dns_name.specs.Names.{Fault, Labels, fault_of}
 use Rattle.dns_name.specs.ParsedName.{labels}
 use Rattle.dns_name.specs.declared.parsed_name.ParsedName.{ParsedName}
 use Rattle.dns_wire.specs.Parts.{Part, Octets, CompressibleName}
-use Rattle.dns_wire.specs.Pieces.{Rule}
+use Rattle.dns_wire.specs.Encoders.{Rule}
 use Rattle.dns_data.specs.Layout.{Layout, DomainName, Fixed, End}
 use Rattle.dns_data.specs.RecordData.{only}
 use Rattle.dns_item.specs.Items.{RecordItem}

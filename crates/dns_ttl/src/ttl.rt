@@ -2,7 +2,7 @@ ghost use Rattle.std.specs.Prelude.{◌≡◌, ◌↔◌, ℕ, ◌+◌, ◌-◌,
 ghost use Rattle.std.specs.Int.{to_be_bytes, w32};
 ghost use Rattle.std.specs.Duration.{as_nanos};
 ghost use Rattle.dns_name.specs.Parsers.{seen, offset, number_at, Takes};
-ghost use Rattle.dns_wire.specs.Pieces.{put_octets};
+ghost use Rattle.dns_wire.specs.Encoders.{put_octets};
 ghost use Rattle.dns_wire.specs.Targets.{Appends};
 ghost use Rattle.dns_ttl.specs.Ttl.{FitsTtl, most_seconds, cap_seconds, whole_seconds, nanos_of_seconds};
 

@@ -6,7 +6,7 @@ use Rattle.std.proofs.lemmas.Bool.{and_parts}
 use Rattle.std.proofs.lemmas.Grind.{common_steps}
 use Rattle.std.specs.FinMap.{get, len}
 use Rattle.dns_name.specs.Names.{Labels, framed}
-use Rattle.dns_wire.specs.Pieces.{CompressionTable, TableEntry, add_suffixes, Rule, Plain, Static, Tree, Hash, spell, is_kept, put_name, pointer}
+use Rattle.dns_wire.specs.Encoders.{CompressionTable, TableEntry, add_suffixes, Rule, Plain, Static, Tree, Hash, spell, is_kept, put_name, pointer}
 use Rattle.dns_wire.specs.Choice.{label_offset, first_suffixes, IsFirstInTable, IsFar, Chooses, IsAmong, NamesByChoice}
 use Rattle.dns_wire.specs.Choice.Chooses.{shared, written_out}
 use Rattle.dns_wire.proofs.theory.PutNames.{SpellsAs, spells_as}

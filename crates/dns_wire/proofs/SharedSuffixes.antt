@@ -6,7 +6,7 @@ use Rattle.std.proofs.lemmas.Grind.{common_steps}
 use Rattle.std.specs.FinMap.{get, insert, len, get-insert, len-insert, contains_key}
 use Rattle.std.specs.Ordering.{eq_by_cmp}
 use Rattle.dns_name.specs.Names.{Labels, IsName, uncompressed, name_size}
-use Rattle.dns_wire.specs.Pieces.{CompressionTable, TableEntry, add_suffixes, suffix_cmp, suffix_total, Rule, Plain, Static, Tree, Hash, spell, kept, is_kept}
+use Rattle.dns_wire.specs.Encoders.{CompressionTable, TableEntry, add_suffixes, suffix_cmp, suffix_total, Rule, Plain, Static, Tree, Hash, spell, kept, is_kept}
 use Rattle.dns_wire.specs.Targets.{At}
 use Rattle.dns_wire.specs.Spelling.{IsSuffix, IsShared, SharesAll}
 use Rattle.dns_wire.specs.Parts.{LabelsNear}

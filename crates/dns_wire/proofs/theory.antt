@@ -3,7 +3,7 @@ pub mod NameSizes
 pub mod CompressionTables
 pub mod SpelledNames
 pub mod PutNames
-pub mod PieceLaws
+pub mod EncoderLaws
 pub mod Stability
 pub mod TargetTheorems
-pub mod ShortestPieces
+pub mod ShortestEncoders

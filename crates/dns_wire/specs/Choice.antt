@@ -3,7 +3,7 @@ use Rattle.std.specs.Prelude.{◌≡◌, ℕ, zero, suc, ◌+◌, ◌<◌, ◌�
 use Rattle.std.specs.List.{flat_map}
 use Rattle.std.specs.FinMap.{get, len}
 use Rattle.dns_name.specs.Names.{Labels, framed, name_size, uncompressed, pointer_end}
-use Rattle.dns_wire.specs.Pieces.{CompressionTable, TableEntry, add_suffixes, Rule, Plain, Static, Tree, Hash, Laid, pointer, put_name}
+use Rattle.dns_wire.specs.Encoders.{CompressionTable, TableEntry, add_suffixes, Rule, Plain, Static, Tree, Hash, Laid, pointer, put_name}
 
 -- The offset of label i, if the name is written at offset w without pointers.
 abbrev pub label_offset : ℕ → Labels → ℕ → ℕ

@@ -1,4 +1,4 @@
-pub mod Pieces
+pub mod Encoders
 pub mod Parts
 pub mod Targets
 pub mod Choice

@@ -3,7 +3,7 @@ use Rattle.std.specs.Prelude.{◌≡◌, ℕ, ◌+◌, ◌≤◌, ◌⊎◌, Lis
 use Rattle.std.specs.FinMap.{len}
 use Rattle.dns_name.specs.Names.{Labels, name_size, pointer_end}
 use Rattle.dns_wire.specs.Parts.{Part, Octets, CompressibleName, AreParts, put_parts, PartsNear, PartsPointed}
-use Rattle.dns_wire.specs.Pieces.{static_entries, nothing, Rule, Plain, Static, Tree, Hash}
+use Rattle.dns_wire.specs.Encoders.{static_entries, nothing, Rule, Plain, Static, Tree, Hash}
 use Rattle.dns_wire.specs.Targets.{Written, IsTarget, lay}
 
 -- A suffix is a non-empty end of a name, perhaps the whole name.

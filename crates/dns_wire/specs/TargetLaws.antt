@@ -5,7 +5,7 @@ use Rattle.dns_octets.specs.declared.error.AppendError.{AppendError}
 use Rattle.dns_name.specs.Names.{Labels, name_size, max_size, head_at, label_at, IsName, uncompressed, pointer_end, NameAt, Walked}
 use Rattle.dns_name.specs.declared.head.Head.TheVariants.{Root, Label, Pointer}
 use Rattle.dns_wire.specs.Parts.{WellPointed, Part, PartsAt, AreParts, put_parts}
-use Rattle.dns_wire.specs.Pieces.{CompressionTable, TableEntry, nothing, IsAtOrAfter, IsClear, Rule, Piece, IsGrowing, put_octets, both, put_name}
+use Rattle.dns_wire.specs.Encoders.{CompressionTable, TableEntry, nothing, IsAtOrAfter, IsClear, Rule, Encoder, IsGrowing, put_octets, both, put_name}
 use Rattle.dns_wire.specs.Targets.{IsTableOf, Written, IsTarget, lay, cut_to, overwrite, Appends, Composes}
 
 -- Names encoded between two offsets, and octets that agree there. RFC 1035 section 4.1.4.
@@ -84,7 +84,7 @@ OverwriteKeeps = (t : Written) (offset : ℕ) (octets : List ℕ) → IsClear t.
 
 -- Truncating to the old length undoes the append of a growing encoding.
 abbrev pub CutUndoes : Type 0
-CutUndoes = (piece : Piece) (t : Written) → IsGrowing piece → IsTarget t → cut_to (length t.octets) (lay piece t) ≡ t
+CutUndoes = (encoder : Encoder) (t : Written) → IsGrowing encoder → IsTarget t → cut_to (length t.octets) (lay encoder t) ≡ t
 
 -- The encoding of a name is growing, under each rule.
 abbrev pub NamesGrow : Type 0
@@ -100,11 +100,11 @@ PartsGrow = (rule : Rule) (parts : List Part) → IsGrowing (put_parts rule part
 
 -- So are two growing encodings in order.
 abbrev pub BothGrow : Type 0
-BothGrow = (a b : Piece) → IsGrowing a → IsGrowing b → IsGrowing (both a b)
+BothGrow = (a b : Encoder) → IsGrowing a → IsGrowing b → IsGrowing (both a b)
 
 -- If all entries are at or after an offset within the content, they still are after a growing encoding is appended.
 abbrev pub EncodersStayAtOrAfter : Type 0
-EncodersStayAtOrAfter = (piece : Piece) (t : Written) (offset : ℕ) → IsGrowing piece → offset ≤ length t.octets → IsAtOrAfter t.table offset → IsAtOrAfter (lay piece t).table offset
+EncodersStayAtOrAfter = (encoder : Encoder) (t : Written) (offset : ℕ) → IsGrowing encoder → offset ≤ length t.octets → IsAtOrAfter t.table offset → IsAtOrAfter (lay encoder t).table offset
 
 -- They still are after a name is appended.
 abbrev pub NamesStayAtOrAfter : Type 0
@@ -132,15 +132,15 @@ NamesAreShort = (rule : Rule) (name : Labels) (m : CompressionTable) (w : ℕ) �
 
 -- One append of an encoding composes it.
 abbrev pub AppendsCompose : Type 0
-AppendsCompose = (capacity : Option ℕ) (grows : Bool) (piece : Piece) (t u : Written) (r : Result Unit AppendError)
-    → Appends capacity grows piece t u r → Composes capacity grows piece t u r
+AppendsCompose = (capacity : Option ℕ) (grows : Bool) (encoder : Encoder) (t u : Written) (r : Result Unit AppendError)
+    → Appends capacity grows encoder t u r → Composes capacity grows encoder t u r
 
 -- An encoding that is written, and another that is composed after it, with or without an error, compose both.
 abbrev pub ComposesBoth : Type 0
-ComposesBoth = (capacity : Option ℕ) (grows : Bool) (a b : Piece) (t u v : Written) (r : Result Unit AppendError)
+ComposesBoth = (capacity : Option ℕ) (grows : Bool) (a b : Encoder) (t u v : Written) (r : Result Unit AppendError)
     → IsGrowing a → u ≡ lay a t → Composes capacity grows b u v r → Composes capacity grows (both a b) t v r
 
 -- If composing the first of two encodings fails, composing both fails with the same error.
 abbrev pub ComposesFirst : Type 0
-ComposesFirst = (capacity : Option ℕ) (grows : Bool) (a b : Piece) (t u : Written) (r q : Result Unit AppendError) (e : AppendError)
+ComposesFirst = (capacity : Option ℕ) (grows : Bool) (a b : Encoder) (t u : Written) (r q : Result Unit AppendError) (e : AppendError)
     → r ≡ Err e → q ≡ Err e → Composes capacity grows a t u r → Composes capacity grows (both a b) t u q

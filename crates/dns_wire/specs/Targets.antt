@@ -6,7 +6,7 @@ use Rattle.dns_octets.specs.Octets.{overwritten}
 use Rattle.dns_octets.specs.declared.error.AppendError.{AppendError}
 use Rattle.dns_octets.specs.declared.error.AppendError.TheVariants.{ShortBuf, OutOfMemory}
 use Rattle.dns_name.specs.Names.{Labels, IsLabel, name_size, max_size, framed, pointer_end}
-use Rattle.dns_wire.specs.Pieces.{CompressionTable, TableEntry, nothing, pointer as pointer_octets, cut, Piece}
+use Rattle.dns_wire.specs.Encoders.{CompressionTable, TableEntry, nothing, pointer as pointer_octets, cut, Encoder}
 
 -- Names encoded in the content, and their entries in the compression table. RFC 1035 section 4.1.4.
 
@@ -50,8 +50,8 @@ abbrev pub IsTarget : Written → Type 0
 IsTarget t = IsTableOf t.octets t.table
 
 -- A target after an encoding is appended.
-abbrev pub lay : Piece → Written → Written
-lay piece t = let laid = piece t.table (length t.octets) in record { octets = t.octets ++ laid.octets; table = laid.table }
+abbrev pub lay : Encoder → Written → Written
+lay encoder t = let laid = encoder t.table (length t.octets) in record { octets = t.octets ++ laid.octets; table = laid.table }
 
 -- A target after its content is truncated to `len` octets.
 abbrev pub cut_to : ℕ → Written → Written
@@ -84,16 +84,16 @@ ComposeReturns capacity grows n (Err ShortBuf) = Passes capacity n
 ComposeReturns capacity grows n (Err OutOfMemory) = IsTrue grows
 
 -- One append of an encoding. On error nothing changes.
-pub record Appends (capacity : Option ℕ) (grows : Bool) (piece : Piece) (before after : Written) {X : Type 0} (result : Result X AppendError) : Type 0 where
-  pub ok : OnOk result (after ≡ lay piece before)
+pub record Appends (capacity : Option ℕ) (grows : Bool) (encoder : Encoder) (before after : Written) {X : Type 0} (result : Result X AppendError) : Type 0 where
+  pub ok : OnOk result (after ≡ lay encoder before)
   pub err : OnErr result (after ≡ before)
-  pub answer : AppendReturns capacity grows (length (lay piece before).octets) result
+  pub answer : AppendReturns capacity grows (length (lay encoder before).octets) result
 
 -- An encoding appended in several steps. On error, truncating to the old length undoes it.
-pub record Composes (capacity : Option ℕ) (grows : Bool) (piece : Piece) (before after : Written) {X : Type 0} (result : Result X AppendError) : Type 0 where
-  pub ok : OnOk result (after ≡ lay piece before)
+pub record Composes (capacity : Option ℕ) (grows : Bool) (encoder : Encoder) (before after : Written) {X : Type 0} (result : Result X AppendError) : Type 0 where
+  pub ok : OnOk result (after ≡ lay encoder before)
   pub err : OnErr result (cut_to (length before.octets) after ≡ cut_to (length before.octets) before)
-  pub answer : ComposeReturns capacity grows (length (lay piece before).octets) result
+  pub answer : ComposeReturns capacity grows (length (lay encoder before).octets) result
 
 -- What a target holds, coded as plain data, so that it can be the value of a model.
 

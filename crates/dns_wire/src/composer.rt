@@ -1,6 +1,6 @@
 ghost use Rattle.std.specs.Prelude.{◌≡◌, ◌+◌, ◌<◌, ◌≤◌, ℕ, Bool, Option, Some, None, true, false, length, refl, IfOk, OnErr, IsTrue, vec_len, vec_capacity};
 ghost use Rattle.dns_name.specs.Names.{uncompressed};
-ghost use Rattle.dns_wire.specs.Pieces.{IsClear, nothing, Rule, Plain, compresses, put_octets, put_name};
+ghost use Rattle.dns_wire.specs.Encoders.{IsClear, nothing, Rule, Plain, compresses, put_octets, put_name};
 ghost use Rattle.dns_wire.specs.Targets.{Written, IsTarget, Fits, Appends, cut_to, overwrite, with_empty_table};
 
 use arrayvec::ArrayVec;
@@ -113,7 +113,7 @@ impl Composer for Vec<u8> {
             .map_err(|_| AppendError::OutOfMemory)
     }
 
-    #[tactic(auto, unfolding(crate::specs::Pieces::put_name))]
+    #[tactic(auto, unfolding(crate::specs::Encoders::put_name))]
     fn append_compressed_name<N: ToName>(&mut self, name: &N) -> Result<(), AppendError>
         ensures appends { Appends None true (put_name Plain (N.name name.now))
             (with_empty_table self.old.items) (with_empty_table self.new.items) result }
@@ -174,7 +174,7 @@ impl<const N: usize> Composer for ArrayVec<u8, N> {
             .map_err(|_| AppendError::ShortBuf)
     }
 
-    #[tactic(auto, unfolding(crate::specs::Pieces::put_name))]
+    #[tactic(auto, unfolding(crate::specs::Encoders::put_name))]
     fn append_compressed_name<M: ToName>(&mut self, name: &M) -> Result<(), AppendError> {
         match name.as_flat_slice() {
             Some(octets) => self.append_slice(octets),

@@ -55,7 +55,7 @@ pub fn names_are_short()
 
 /// How appends compose: one append of an encoding composes it, encodings in order compose both, and
 /// an error in the first is an error of both.
-pub fn pieces_compose()
+pub fn encoders_compose()
     ensures one { AppendsCompose }
     ensures both { ComposesBoth }
     ensures first { ComposesFirst }

@@ -9,7 +9,7 @@ use std::cmp::Ordering;
 pub trait ToNameExt: ToName {
     ghost use Rattle.std.specs.Prelude.{◌≡◌, ◌↔◌, IsTrue};
     ghost use Rattle.dns_name.specs.Names.{lowered, uncompressed};
-    ghost use Rattle.dns_wire.specs.Pieces.{put_octets};
+    ghost use Rattle.dns_wire.specs.Encoders.{put_octets};
     ghost use Rattle.dns_wire.specs.Targets.{Appends};
     ghost use Rattle.dns_name.specs.NameOrders.{name_order, composed_order};
 

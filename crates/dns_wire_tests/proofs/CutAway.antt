@@ -1,9 +1,9 @@
 -- Cutting at a length undoes the appends after it.
 use Rattle.std.proofs.Common.{◌≡◌, ℕ, ◌≤◌, Bool, Option, Result, Ok, Err, [], length, length-append, append-nil, ap, sym, ◌∙◌, refl, subst, arith}
-use Rattle.dns_wire.specs.Pieces.{Piece, IsGrowing, put_octets}
+use Rattle.dns_wire.specs.Encoders.{Encoder, IsGrowing, put_octets}
 use Rattle.dns_wire.specs.Targets.{Written, IsTarget, Appends, cut_to}
 use Rattle.dns_octets.specs.declared.error.AppendError.{AppendError}
-use Rattle.dns_wire.proofs.theory.PieceLaws.{cut_to-lay, cut_undoes, same_written}
+use Rattle.dns_wire.proofs.theory.EncoderLaws.{cut_to-lay, cut_undoes, same_written}
 use Rattle.dns_wire.proofs.theory.PutNames.{put_octets_grows}
 
 -- cutting a target at its own length leaves it as it is
@@ -16,12 +16,12 @@ pub record GoesOn (len : ℕ) (t u : Written) : Type 0 where
   pub cut : cut_to len u ≡ t
 
 -- this holds after an append, whether or not it succeeds
-pub goes_on : (len : ℕ) (t u v : Written) (capacity : Option ℕ) (grows : Bool) (piece : Piece) (r : Result (Unit {0}) AppendError)
-    → IsGrowing piece → GoesOn len t u → Appends capacity grows piece u v r → GoesOn len t v
-goes_on len t u v capacity grows piece (Ok x) growing on appends =
+pub goes_on : (len : ℕ) (t u v : Written) (capacity : Option ℕ) (grows : Bool) (encoder : Encoder) (r : Result (Unit {0}) AppendError)
+    → IsGrowing encoder → GoesOn len t u → Appends capacity grows encoder u v r → GoesOn len t v
+goes_on len t u v capacity grows encoder (Ok x) growing on appends =
     let l = on.long in
     subst (GoesOn len t) (sym appends.ok) (record {
-      long = let n = length-append u.octets (piece u.table (length u.octets)).octets in omega arith;
-      cut = cut_to-lay piece u len growing l ∙ on.cut;
+      long = let n = length-append u.octets (encoder u.table (length u.octets)).octets in omega arith;
+      cut = cut_to-lay encoder u len growing l ∙ on.cut;
     })
-goes_on len t u v capacity grows piece (Err e) growing on appends = subst (GoesOn len t) (sym appends.err) on
+goes_on len t u v capacity grows encoder (Err e) growing on appends = subst (GoesOn len t) (sym appends.err) on

@@ -1,6 +1,6 @@
 //! Compressors: the example of RFC 1035 section 4.1.4, cuts, and names that are refused.
 ghost use Rattle.std.specs.Prelude.{◌≡◌};
-ghost use Rattle.dns_wire.specs.Pieces.{Plain};
+ghost use Rattle.dns_wire.specs.Encoders.{Plain};
 
 use crate::assertions::{assert_octets, assert_same};
 use crate::steps::{Step, assert_row, assert_steps, take};

@@ -1,6 +1,6 @@
 //! Targets: octets and names that are appended, cut and overwritten, and appends that fail.
 ghost use Rattle.std.specs.Prelude.{◌≤◌, length};
-ghost use Rattle.dns_wire.specs.Pieces.{IsClear};
+ghost use Rattle.dns_wire.specs.Encoders.{IsClear};
 
 use crate::assertions::{assert_same, in_memory};
 use crate::steps::{Step, assert_row, assert_steps};
@@ -97,7 +97,7 @@ pub(crate) struct Refusing;
 
 impl Composer for Refusing {
     ghost use Rattle.std.specs.Prelude.{None, true, [], refl};
-    ghost use Rattle.dns_wire.specs.Pieces.{nothing, Plain};
+    ghost use Rattle.dns_wire.specs.Encoders.{nothing, Plain};
 
     ghost rule = { Plain };
 

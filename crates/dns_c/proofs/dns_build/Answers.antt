@@ -1,5 +1,5 @@
 use Rattle.std.proofs.Common.{◌∙◌, ℕ, None, subst, sym, true}
-use Rattle.dns_wire.specs.Pieces.{Tree}
+use Rattle.dns_wire.specs.Encoders.{Tree}
 use Rattle.dns_c.specs.Built.{IsUnbuilt, header_of}
 use Rattle.dns_c.proofs.BuildLemmas.{unbuilt_full, unbuilt_otherwise}
 use Rattle.dns_c.proofs.dns_build.Goals as goal

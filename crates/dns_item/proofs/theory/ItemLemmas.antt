@@ -1,13 +1,13 @@
 -- Records that are written are at their offset, and are read there.
 use Rattle.std.proofs.Common.{◌≡◌, ℕ, ◌+◌, ◌-◌, ◌≤◌, ◌++◌, length, arith, sym, refl, subst}
 use Rattle.std.specs.Int.{to_be_bytes, w16, w32}
-use Rattle.dns_wire.specs.Pieces.{CompressionTable, Rule, put_octets, both, with_length, put_name}
+use Rattle.dns_wire.specs.Encoders.{CompressionTable, Rule, put_octets, both, with_length, put_name}
 use Rattle.dns_name.specs.Names.{name_size, max_size}
 use Rattle.dns_name.specs.Parsers.{number_at}
 use Rattle.dns_wire.specs.Parts.{PartsAt, put_parts}
 use Rattle.dns_wire.specs.Targets.{Written, IsTarget, lay}
 use Rattle.dns_wire.proofs.theory.PutNames.{put_name_grows, put_octets_grows, put_parts_grows, both_grows, with_length_grows}
-use Rattle.dns_wire.proofs.theory.PieceLaws.{number_16, number_32, HasLength, stable_length, puts_with_length, Puts, IsStable, Consecutive, stable_after, puts_both, HasOctets, stable_octets, puts_octets, HasName, stable_name, puts_put_name, HasParts, stable_parts, puts_parts, parts_rise, parts_within, parts_at}
+use Rattle.dns_wire.proofs.theory.EncoderLaws.{number_16, number_32, HasLength, stable_length, puts_with_length, Puts, IsStable, Consecutive, stable_after, puts_both, HasOctets, stable_octets, puts_octets, HasName, stable_name, puts_put_name, HasParts, stable_parts, puts_parts, parts_rise, parts_within, parts_at}
 use Rattle.dns_wire.proofs.theory.NameSizes.{parts_are_short}
 use Rattle.dns_wire.proofs.theory.SpelledNames.{at_first, at_second, at_offset, spelled_stands, spelled_walked}
 use Rattle.dns_item.specs.Items.{RecordEntry, ReadsRecordItem, RecordItem, IsRecord, record_fields, put_record, RecordsGrow, RecordsReadBack}

@@ -2,10 +2,10 @@
 use Rattle.std.proofs.Common.{ℕ, ◌+◌, ◌≤◌, length, arith, sym}
 use Rattle.std.specs.Int.{to_be_bytes, w16}
 use Rattle.dns_name.specs.Names.{name_size, max_size}
-use Rattle.dns_wire.specs.Pieces.{Rule, put_octets, put_name}
+use Rattle.dns_wire.specs.Encoders.{Rule, put_octets, put_name}
 use Rattle.dns_wire.specs.Targets.{Written, IsTarget, lay}
 use Rattle.dns_wire.proofs.theory.PutNames.{put_name_grows, put_octets_grows, both_grows}
-use Rattle.dns_wire.proofs.theory.PieceLaws.{number_16, Puts, IsStable, Consecutive, stable_after, puts_both, HasOctets, stable_octets, puts_octets, HasName, stable_name, puts_put_name}
+use Rattle.dns_wire.proofs.theory.EncoderLaws.{number_16, Puts, IsStable, Consecutive, stable_after, puts_both, HasOctets, stable_octets, puts_octets, HasName, stable_name, puts_put_name}
 use Rattle.dns_wire.proofs.theory.SpelledNames.{at_first, at_second, spelled_stands, spelled_walked}
 use Rattle.dns_question.specs.Questions.{ReadsQuestion, QuestionsGrow, QuestionsReadBack, QuestionItem, IsQuestion, question_fields, put_question}
 

@@ -1,7 +1,7 @@
 -- The octets that a written name takes.
 use Rattle.std.proofs.Common.{ℕ, ◌+◌, ◌≤◌, List, [], ◌∷◌, length, length-append, arith}
 use Rattle.dns_name.specs.Names.{Labels, uncompressed}
-use Rattle.dns_wire.specs.Pieces.{CompressionTable, Rule, Plain, Static, Tree, Hash, put_name}
+use Rattle.dns_wire.specs.Encoders.{CompressionTable, Rule, Plain, Static, Tree, Hash, put_name}
 use Rattle.dns_wire.specs.Parts.{Part, Octets, CompressibleName, put_part, put_parts, part_size, parts_size}
 use Rattle.dns_wire.specs.TargetLaws.{NamesAreShort}
 use Rattle.dns_name.proofs.theory.LabelsLemmas.{length-uncompressed}

@@ -8,7 +8,7 @@ use Rattle.std.proofs.lemmas.Grind.{common_steps}
 use Rattle.std.specs.Ordering.{eq_by_cmp}
 use Rattle.dns_name.specs.Names.{Labels, IsName, name_size, max_size, uncompressed, framed}
 use Rattle.dns_name.proofs.theory.Spelling.{name_tail}
-use Rattle.dns_wire.specs.Pieces.{TableEntry, CompressionTable, add_suffixes, Extends, IsGrowing, Rule, Plain, Static, Tree, Hash, Piece, put_octets, both, with_length, spell_label, spell, kept, pointer as put_pointer, put_name, IsWithin, suffix_cmp, suffix_total, is_kept}
+use Rattle.dns_wire.specs.Encoders.{TableEntry, CompressionTable, add_suffixes, Extends, IsGrowing, Rule, Plain, Static, Tree, Hash, Encoder, put_octets, both, with_length, spell_label, spell, kept, pointer as put_pointer, put_name, IsWithin, suffix_cmp, suffix_total, is_kept}
 use Rattle.dns_wire.specs.Parts.{Part, Octets, CompressibleName, put_part, put_parts}
 use Rattle.dns_wire.specs.Targets.{At, Spelled, Labelled, IsTableEntry, IsTableOf}
 use Rattle.dns_wire.specs.Targets.Spelled.{root, label, pointer}
@@ -93,7 +93,7 @@ pub put_octets_grows : (octets : List ℕ) → IsGrowing (put_octets octets)
 put_octets_grows octets = record { grows = λ m w. extends_refl m w _ }
 
 -- Two growing encodings in order are growing.
-pub both_grows : (a b : Piece) → IsGrowing a → IsGrowing b → IsGrowing (both a b)
+pub both_grows : (a b : Encoder) → IsGrowing a → IsGrowing b → IsGrowing (both a b)
 both_grows a b g h = record {
   grows = λ m w.
       let first = a m w in
@@ -107,7 +107,7 @@ both_grows a b g h = record {
 }
 
 -- A growing encoding preceded by its length is growing.
-pub with_length_grows : (a : Piece) → IsGrowing a → IsGrowing (with_length a)
+pub with_length_grows : (a : Encoder) → IsGrowing a → IsGrowing (with_length a)
 with_length_grows a g = record {
   grows = λ m w.
       let laid = a m (w + 2) in

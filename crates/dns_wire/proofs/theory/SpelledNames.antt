@@ -8,7 +8,7 @@ use Rattle.dns_octets.specs.Octets.{overwritten}
 use Rattle.dns_name.specs.Names.{IsLabel, framed, head_at, label_at, Labels, name_size, max_size, NameAt, NameContinues, Walked}
 use Rattle.dns_name.specs.declared.head.Head.TheVariants.{Root, Label, Pointer}
 use Rattle.dns_name.proofs.theory.Spelling.{get_drop}
-use Rattle.dns_wire.specs.Pieces.{pointer as pointer_octets, CompressionTable, TableEntry, cut, IsClear}
+use Rattle.dns_wire.specs.Encoders.{pointer as pointer_octets, CompressionTable, TableEntry, cut, IsClear}
 use Rattle.dns_wire.specs.Targets.{At, Spelled, Labelled, IsTableEntry, IsTableOf}
 use Rattle.dns_wire.specs.Targets.Spelled.{root, label, pointer}
 use Rattle.dns_wire.proofs.theory.CompressionTables.{get_in_cut, get_of_cut}

@@ -3,7 +3,7 @@ use Rattle.std.proofs.Common.{◌≡◌, ℕ, zero, suc, ◌+◌, ◌-◌, ◌<�
 use Rattle.std.specs.Prelude.{Option, Some, None, Ok, slice_get}
 use Rattle.std.specs.FinMap.{get}
 use Rattle.dns_name.specs.Names.{Labels, name_size, max_size, head_at, NameAt, label_at}
-use Rattle.dns_wire.specs.Pieces.{CompressionTable, TableEntry, IsAtOrAfter}
+use Rattle.dns_wire.specs.Encoders.{CompressionTable, TableEntry, IsAtOrAfter}
 use Rattle.dns_wire.specs.TargetLaws.{NameAtWithin, Agree, NamesStayWhenOverwritten, NamesAreAtOrAfter}
 use Rattle.dns_wire.specs.TargetLaws.NameAtWithin.{root, label, pointer}
 use Rattle.dns_octets.specs.Octets.{overwritten}

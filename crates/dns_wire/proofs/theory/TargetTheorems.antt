@@ -3,7 +3,7 @@ use Rattle.std.proofs.Common.{◌≡◌, ℕ, List, [], ◌∷◌, length, arith
 use Rattle.std.specs.Prelude.{Ok}
 use Rattle.dns_name.specs.Names.{Labels, head_at, NameContinues}
 use Rattle.dns_name.specs.declared.head.Head.TheVariants.{Label, Root, Pointer}
-use Rattle.dns_wire.specs.Pieces.{CompressionTable, Rule}
+use Rattle.dns_wire.specs.Encoders.{CompressionTable, Rule}
 use Rattle.dns_wire.specs.Parts.{put_parts, WellPointed, Part, Octets, CompressibleName, AreParts, PartsFill, LabelsNear}
 use Rattle.dns_wire.specs.Targets.{Spelled, Labelled, IsTableOf, lay, Written, IsTarget}
 use Rattle.dns_wire.specs.Targets.Spelled.{root, label, pointer}
@@ -12,7 +12,7 @@ use Rattle.dns_wire.specs.Spelling.{PartsPointToLabels, ShortPartsAreNear}
 use Rattle.dns_wire.proofs.theory.CompressionTables.{at_or_after_more, nothing_is_kept}
 use Rattle.dns_wire.proofs.theory.PutNames.{put_name_grows}
 use Rattle.dns_wire.proofs.theory.SpelledNames.{root_at, label_begins, pointer_at, spelled_long, kept_spelled, spelled_stands, spelled_walked, name_at_up_to}
-use Rattle.dns_wire.proofs.theory.PieceLaws.{puts_put_name, puts_parts, parts_at, HasName, HasParts}
+use Rattle.dns_wire.proofs.theory.EncoderLaws.{puts_put_name, puts_parts, parts_at, HasName, HasParts}
 
 -- A label begins where an encoded name begins with one.
 begins : (m : CompressionTable) (b : List ℕ) (q p : ℕ) (name : Labels) → Labelled m b q p name → (n : ℕ) × (head_at b p ≡ Ok (Label n))
@@ -49,7 +49,7 @@ nothing_is_target b = nothing_is_kept b
 
 -- A growing encoding keeps all entries at or after an offset.
 pub encoders_stay_at_or_after : EncodersStayAtOrAfter
-encoders_stay_at_or_after piece t offset grows l h = at_or_after_more offset l (grows.grows t.table (length t.octets)) h
+encoders_stay_at_or_after encoder t offset grows l h = at_or_after_more offset l (grows.grows t.table (length t.octets)) h
 
 -- So does a name.
 pub names_stay_at_or_after : NamesStayAtOrAfter

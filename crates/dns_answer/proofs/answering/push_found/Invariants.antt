@@ -2,7 +2,7 @@ use Rattle.dns_question.specs.Question.{parsed_question}
 use Rattle.dns_item.specs.Record.{record_item}
 use Rattle.dns_build.specs.State.{InAnswer}
 use Rattle.dns_build.specs.BuilderStates.{InEach}
-use Rattle.dns_wire.specs.Pieces.{Plain}
+use Rattle.dns_wire.specs.Encoders.{Plain}
 use Rattle.dns_answer.specs.Pushing.{MoreAnswers}
 use Rattle.dns_answer.proofs.Pushing.{first}
 use Rattle.dns_answer.proofs.answering.push_found.Given as goal

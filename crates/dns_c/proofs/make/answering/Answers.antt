@@ -2,7 +2,7 @@ use Rattle.std.proofs.Common.{◌≤◌, ℕ, List, length, ap, refl, subst, sym
 use Rattle.std.specs.Prelude.{Err}
 use Rattle.dns_name.proofs.theory.NameLemmas.{parsed_is}
 use Rattle.dns_name.specs.ParsedName.{labels}
-use Rattle.dns_wire.specs.Pieces.{Static}
+use Rattle.dns_wire.specs.Encoders.{Static}
 use Rattle.dns_wire.specs.Targets.{Written}
 use Rattle.dns_item.specs.Items.{RecordItem}
 use Rattle.dns_question.specs.Question.{parsed_question}

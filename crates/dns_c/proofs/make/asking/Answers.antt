@@ -1,6 +1,6 @@
 use Rattle.std.proofs.Common.{◌≤◌, ℕ, List, length, ap, refl, subst, sym, arith}
 use Rattle.std.specs.Prelude.{Err}
-use Rattle.dns_wire.specs.Pieces.{Plain}
+use Rattle.dns_wire.specs.Encoders.{Plain}
 use Rattle.dns_wire.specs.Targets.{Written}
 use Rattle.dns_name.specs.Unique.{encoded_name}
 use Rattle.dns_c.proofs.MadeLemmas.{asked_short, is_message, never_refused}

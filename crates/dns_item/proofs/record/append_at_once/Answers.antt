@@ -1,5 +1,5 @@
 use Rattle.std.proofs.Common.{◌≡◌, length, subst, rules, arith, List, ℕ}
-use Rattle.dns_wire.specs.Pieces.{put_octets}
+use Rattle.dns_wire.specs.Encoders.{put_octets}
 use Rattle.dns_wire.specs.Targets.{Appends}
 use Rattle.dns_item.proofs.FlatRecords.{copied}
 use Rattle.dns_item.proofs.record.append_at_once.Goals as goal

@@ -1,5 +1,5 @@
 use Rattle.std.proofs.Common.{◌≡◌, ◌<◌, arith, false, length, rules, true}
-use Rattle.dns_wire.specs.Pieces.{Plain}
+use Rattle.dns_wire.specs.Encoders.{Plain}
 use Rattle.dns_question.specs.Questions.{QuestionItem}
 use Rattle.dns_build.specs.BuilderStates.{Represents, fresh}
 use Rattle.dns_build.specs.State.{InBuilder, fold, no_limit}

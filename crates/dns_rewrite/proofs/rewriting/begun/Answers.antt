@@ -1,5 +1,5 @@
 use Rattle.std.proofs.lemmas.Result.{err_from_is_err_and}
-use Rattle.dns_wire.specs.Pieces.{Static}
+use Rattle.dns_wire.specs.Encoders.{Static}
 use Rattle.dns_rewrite.proofs.Beginning.{begins}
 use Rattle.dns_rewrite.proofs.Reasons.{not_begun}
 use Rattle.dns_rewrite.proofs.rewriting.begun.Goals as goal

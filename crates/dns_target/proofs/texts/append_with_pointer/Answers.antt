@@ -1,6 +1,6 @@
 use Rattle.std.proofs.Common.{◌≡◌, length, take, ap, arith, rules}
 use Rattle.std.proofs.lemmas.Grind.{common_steps}
-use Rattle.dns_wire.specs.Pieces.{put_octets}
+use Rattle.dns_wire.specs.Encoders.{put_octets}
 use Rattle.dns_wire.specs.Targets.{lay}
 use Rattle.dns_target.proofs.Starts.{before_fits}
 use Rattle.dns_target.proofs.TwoAppends.{octets_undone}

@@ -1,5 +1,5 @@
 use Rattle.dns_wire.proofs.theory.PutNames.{put_name_grows, put_octets_grows, put_parts_grows, both_grows}
-use Rattle.dns_wire.proofs.theory.PieceLaws.{puts_put_name, puts_octets, cut_undoes}
+use Rattle.dns_wire.proofs.theory.EncoderLaws.{puts_put_name, puts_octets, cut_undoes}
 use Rattle.dns_wire.proofs.theory.SpelledNames.{is_table_cut, is_table_over}
 use Rattle.dns_wire.proofs.theory.Stability.{names_are_at_or_after}
 use Rattle.dns_wire.proofs.theory.TargetTheorems.{entries_are_names, nothing_is_target, encoders_stay_at_or_after, names_stay_at_or_after}

@@ -1,9 +1,9 @@
 use Rattle.std.proofs.Common.{Err, ap, ◌∙◌}
 use Rattle.std.proofs.lemmas.Result.{err_from_is_err_and}
 use Rattle.dns_wire.specs.Parts.{put_parts}
-use Rattle.dns_wire.specs.Pieces.{put_octets, both, with_length, put_name}
+use Rattle.dns_wire.specs.Encoders.{put_octets, both, with_length, put_name}
 use Rattle.dns_wire.proofs.theory.PutNames.{put_name_grows, put_octets_grows}
-use Rattle.dns_wire.proofs.theory.PieceLaws.{appends_compose, composes_both, composes_first}
+use Rattle.dns_wire.proofs.theory.EncoderLaws.{appends_compose, composes_both, composes_first}
 use Rattle.dns_item.specs.Items.{put_record, record_fields}
 use Rattle.dns_item.specs.Record.{record_item}
 use Rattle.dns_item.proofs.FlatRecords.{composes_at_once}

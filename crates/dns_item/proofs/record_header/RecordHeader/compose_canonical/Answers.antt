@@ -1,8 +1,8 @@
 use Rattle.std.proofs.Common.{Err, ap, ◌∙◌}
 use Rattle.std.proofs.lemmas.Result.{err_from_is_err_and}
-use Rattle.dns_wire.specs.Pieces.{put_octets}
+use Rattle.dns_wire.specs.Encoders.{put_octets}
 use Rattle.dns_wire.proofs.theory.PutNames.{put_octets_grows}
-use Rattle.dns_wire.proofs.theory.PieceLaws.{appends_compose, composes_both, composes_first}
+use Rattle.dns_wire.proofs.theory.EncoderLaws.{appends_compose, composes_both, composes_first}
 use Rattle.dns_item.specs.RecordHeader.{header_item, header_fields}
 use Rattle.dns_item.specs.Canonical.{put_canonical_name, put_canonical_header}
 use Rattle.dns_item.proofs.record_header.RecordHeader.compose_canonical.Goals as goal

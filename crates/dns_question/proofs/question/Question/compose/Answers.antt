@@ -1,8 +1,8 @@
 use Rattle.std.proofs.Common.{Err, ap, ◌∙◌, arith}
 use Rattle.std.proofs.lemmas.Result.{err_from_is_err_and}
-use Rattle.dns_wire.specs.Pieces.{put_octets, put_name}
+use Rattle.dns_wire.specs.Encoders.{put_octets, put_name}
 use Rattle.dns_wire.proofs.theory.PutNames.{put_name_grows}
-use Rattle.dns_wire.proofs.theory.PieceLaws.{appends_compose, composes_both, composes_first}
+use Rattle.dns_wire.proofs.theory.EncoderLaws.{appends_compose, composes_both, composes_first}
 use Rattle.dns_question.specs.Questions.{put_question, question_fields}
 use Rattle.dns_question.specs.Question.{question_item}
 use Rattle.dns_question.proofs.question.Question.compose.Goals as goal

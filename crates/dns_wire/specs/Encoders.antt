@@ -90,29 +90,29 @@ pub record Laid : Type 0 where
   pub table : CompressionTable
 
 -- An encoding: what is appended, given the compression table and the offset.
-abbrev pub Piece : Type 0
-Piece = CompressionTable → ℕ → Laid
+abbrev pub Encoder : Type 0
+Encoder = CompressionTable → ℕ → Laid
 
 -- The encoding of octets as they are, which leaves the table unchanged.
-abbrev pub put_octets : List ℕ → Piece
+abbrev pub put_octets : List ℕ → Encoder
 put_octets octets m w = record { octets = octets; table = m }
 
 -- Two encodings, in order.
-abbrev pub both : Piece → Piece → Piece
+abbrev pub both : Encoder → Encoder → Encoder
 both a b m w =
     let first = a m w in
     let second = b first.table (w + length first.octets) in
     record { octets = first.octets ++ second.octets; table = second.table }
 
 -- An encoding preceded by its length, a big-endian number of 16 bits.
-abbrev pub with_length : Piece → Piece
-with_length piece m w =
-    let laid = piece m (w + 2) in
+abbrev pub with_length : Encoder → Encoder
+with_length encoder m w =
+    let laid = encoder m (w + 2) in
     record { octets = to_be_bytes w16 (length laid.octets) ++ laid.octets; table = laid.table }
 
 -- An encoding is growing if it only adds table entries, and only for suffixes within its own octets.
-pub record IsGrowing (piece : Piece) : Type 0 where
-  pub grows : (m : CompressionTable) (w : ℕ) → Extends m (piece m w).table w (w + length (piece m w).octets)
+pub record IsGrowing (encoder : Encoder) : Type 0 where
+  pub grows : (m : CompressionTable) (w : ℕ) → Extends m (encoder m w).table w (w + length (encoder m w).octets)
 
 -- How a name is compressed under each rule. RFC 1035 section 4.1.4; a pointer has 14 bits, and the table of the static rule holds 24 suffixes.
 
@@ -152,7 +152,7 @@ kept Static suffixes = suffixes
 kept Tree suffixes = suffixes
 
 -- The encoding of a name under a rule.
-unfoldable pub put_name : Rule → Labels → Piece
+unfoldable pub put_name : Rule → Labels → Encoder
 put_name Plain name m w = record { octets = uncompressed name; table = m }
 put_name rule name m w =
     let spelled = spell rule m w (len m) name in

@@ -4,14 +4,14 @@ use Rattle.std.specs.Prelude.{Some, None}
 use Rattle.std.specs.Int.{to_be_bytes, w16}
 use Rattle.std.specs.FinMap.{get, len, get-empty}
 use Rattle.dns_name.specs.Names.{Labels, IsName, name_size, max_size, Walked}
-use Rattle.dns_wire.specs.Pieces.{CompressionTable, TableEntry, nothing, suffix_cmp, add_suffixes, Rule, Plain, Static, Tree, Hash, Piece, Laid, put_octets, both, with_length, spell, kept, put_name}
+use Rattle.dns_wire.specs.Encoders.{CompressionTable, TableEntry, nothing, suffix_cmp, add_suffixes, Rule, Plain, Static, Tree, Hash, Encoder, Laid, put_octets, both, with_length, spell, kept, put_name}
 use Rattle.dns_wire.specs.Parts.{Part, Octets, CompressibleName, AreParts, put_parts, PartsNear}
 use Rattle.dns_wire.specs.Targets.{At, IsTableOf, Written, IsTarget, lay}
 use Rattle.dns_wire.specs.Spelling.{IsShared, Spelling, SharesAll, AddsShortest, PartsAreShortest}
 use Rattle.dns_wire.specs.Spelling.Spelling.{none, octets, whole, shared}
 use Rattle.dns_wire.proofs.theory.TargetTheorems.{near_end}
 use Rattle.dns_wire.proofs.theory.PutNames.{put_name_grows, spells_as}
-use Rattle.dns_wire.proofs.theory.PieceLaws.{length_of, lay-with_length, lay-both, puts_put_name, puts_octets}
+use Rattle.dns_wire.proofs.theory.EncoderLaws.{length_of, lay-with_length, lay-both, puts_put_name, puts_octets}
 use Rattle.dns_wire.proofs.theory.CompressionTables.{gets, nothing_is_kept}
 use Rattle.dns_wire.proofs.theory.SpelledNames.{at_append, at_end, spelled_walked, spelled_more, kept_more}
 use Rattle.dns_wire.proofs.SharedSuffixes.{Knows, Best, KeepsNear, tree_keeps_near, static_keeps_near, hash_keeps_near, best, knows_more, near_kept, near_suffixes, few_less, shared_some, len_spell, len_add_suffixes}
@@ -46,8 +46,8 @@ pub record AddsShort (rule : Rule) (parts : List Part) (t u : Written) : Type 0 
       → Short names parts rest (u.octets ++ c) (length t.octets) (length u.octets) end u.table
 
 -- An encoding adds these parts so, to each target.
-abbrev pub Shortens : Rule → Piece → List Part → Type 0
-Shortens rule piece parts = (t : Written) → AddsShort rule parts t (lay piece t)
+abbrev pub Shortens : Rule → Encoder → List Part → Type 0
+Shortens rule encoder parts = (t : Written) → AddsShort rule parts t (lay encoder t)
 
 -- Octets are written in one way.
 octets_parts : {names : List Labels} {xs : List ℕ} {parts : List Part} {n : ℕ} → Spelling names (Octets xs ∷ parts) n → (k : ℕ) × Spelling names parts k × (n ≡ length xs + k)
@@ -222,7 +222,7 @@ short_both names ps qs rest b d p q r end m n x y =
     }
 
 -- Two encodings appended in turn.
-adds_both : (rule : Rule) (a b : Piece) (ps qs : List Part) (t : Written) → Shortens rule a ps → Shortens rule b qs → AddsShort rule (ps ++ qs) t (lay b (lay a t))
+adds_both : (rule : Rule) (a b : Encoder) (ps qs : List Part) (t : Written) → Shortens rule a ps → Shortens rule b qs → AddsShort rule (ps ++ qs) t (lay b (lay a t))
 adds_both rule a b ps qs t x y =
     let u = lay a t in
     let v = lay b u in
@@ -243,7 +243,7 @@ adds_both rule a b ps qs t x y =
     }
 
 -- Two encodings in order.
-pub shortens_both : (rule : Rule) (a b : Piece) (ps qs : List Part) → Shortens rule a ps → Shortens rule b qs → Shortens rule (both a b) (ps ++ qs)
+pub shortens_both : (rule : Rule) (a b : Encoder) (ps qs : List Part) → Shortens rule a ps → Shortens rule b qs → Shortens rule (both a b) (ps ++ qs)
 shortens_both rule a b ps qs x y t = subst (λ (u : Written). AddsShort rule (ps ++ qs) t u) (lay-both a b t) (adds_both rule a b ps qs t x y)
 
 -- The encoding of parts is as short as possible.
@@ -254,7 +254,7 @@ shortens_parts rule (Octets xs ∷ parts) r is = shortens_both rule (put_octets 
 shortens_parts rule (CompressibleName name ∷ parts) r is = shortens_both rule (put_name rule name) (put_parts rule parts) (CompressibleName name ∷ []) parts (shortens_name rule name r is.0) (shortens_parts rule parts r is.1)
 
 -- The encoding of parts preceded by their length is as short as possible.
-pub shortens_with_length : (rule : Rule) (a : Piece) (parts : List Part) → Shortens rule a parts → Shortens rule (with_length a) (Octets (0 ∷ 0 ∷ []) ∷ parts)
+pub shortens_with_length : (rule : Rule) (a : Encoder) (parts : List Part) → Shortens rule a parts → Shortens rule (with_length a) (Octets (0 ∷ 0 ∷ []) ∷ parts)
 shortens_with_length rule a parts x t =
     let n = to_be_bytes w16 (length_of a t) in
     let two = shortens_both rule (put_octets n) a (Octets (0 ∷ 0 ∷ []) ∷ []) parts (shortens_octets rule n (0 ∷ 0 ∷ []) refl) x in

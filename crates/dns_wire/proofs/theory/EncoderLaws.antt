@@ -10,7 +10,7 @@ use Rattle.dns_octets.specs.declared.error.AppendError.{AppendError}
 use Rattle.dns_octets.specs.declared.error.AppendError.TheVariants.{ShortBuf, OutOfMemory}
 use Rattle.dns_name.specs.Names.{Labels, IsName}
 use Rattle.dns_name.specs.Parsers.{number_at}
-use Rattle.dns_wire.specs.Pieces.{Rule, Piece, IsGrowing, put_octets, both, put_name, CompressionTable, with_length, TableEntry, cut, ends_within}
+use Rattle.dns_wire.specs.Encoders.{Rule, Encoder, IsGrowing, put_octets, both, put_name, CompressionTable, with_length, TableEntry, cut, ends_within}
 use Rattle.dns_wire.specs.Parts.{Part, Octets, CompressibleName, PartsAt, AreParts, put_parts}
 use Rattle.dns_wire.specs.Targets.{At, Spelled, Written, IsTarget, lay, cut_to, Fits, Passes, ComposeReturns, Composes}
 use Rattle.dns_wire.specs.TargetLaws.{CutUndoes, AppendsCompose, ComposesBoth, ComposesFirst}
@@ -24,25 +24,25 @@ same_written t u p q = λ i. record { octets = p i; table = q i }
 
 -- Truncating to the length before a growing encoding undoes it.
 pub cut_undoes : CutUndoes
-cut_undoes piece t grows is =
-    let laid = piece t.table (length t.octets) in
+cut_undoes encoder t grows is =
+    let laid = encoder t.table (length t.octets) in
     same_written _ _ (take-append_seam t.octets laid.octets)
     (cut-extends t.table laid.table (length t.octets) (length t.octets + length laid.octets) (length t.octets) (omega arith) (grows.grows t.table (length t.octets))
     ∙ cut-within t.table (length t.octets) (ends_within_content is))
 
 -- Appending two encodings in turn appends both.
-pub lay-both : (a b : Piece) (t : Written) → lay b (lay a t) ≡ lay (both a b) t
+pub lay-both : (a b : Encoder) (t : Written) → lay b (lay a t) ≡ lay (both a b) t
 lay-both a b t = rw length-append (same_written _ _ (simp append_assoc) refl)
 
 -- Appending the encoding keeps the table sound, and P holds of the offsets where it begins and ends.
-pub record Puts (piece : Piece) (P : Written → ℕ → ℕ → Type 0) : Type 0 where
-  pub grows : IsGrowing piece
-  pub keeps : (t : Written) → IsTarget t → IsTarget (lay piece t)
-  pub puts : (t : Written) → IsTarget t → P (lay piece t) (length t.octets) (length (lay piece t).octets)
+pub record Puts (encoder : Encoder) (P : Written → ℕ → ℕ → Type 0) : Type 0 where
+  pub grows : IsGrowing encoder
+  pub keeps : (t : Written) → IsTarget t → IsTarget (lay encoder t)
+  pub puts : (t : Written) → IsTarget t → P (lay encoder t) (length t.octets) (length (lay encoder t).octets)
 
 -- P still holds after each growing encoding is appended.
 pub record IsStable (P : Written → ℕ → ℕ → Type 0) : Type 0 where
-  pub stays : (piece : Piece) (t : Written) (p q : ℕ) → IsGrowing piece → P t p q → P (lay piece t) p q
+  pub stays : (encoder : Encoder) (t : Written) (p q : ℕ) → IsGrowing encoder → P t p q → P (lay encoder t) p q
 
 -- P holds up to an offset, and Q from there on.
 abbrev pub Consecutive : (P Q : Written → ℕ → ℕ → Type 0) → Written → ℕ → ℕ → Type 0
@@ -50,10 +50,10 @@ Consecutive P Q t p q = (r : ℕ) × P t p r × Q t r q
 
 -- Both are stable if each is.
 pub stable_after : (P Q : Written → ℕ → ℕ → Type 0) → IsStable P → IsStable Q → IsStable (Consecutive P Q)
-stable_after P Q f g = record { stays = λ piece t p q grows h. (h.0, f.stays piece t p h.0 grows h.1, g.stays piece t h.0 q grows h.2) }
+stable_after P Q f g = record { stays = λ encoder t p q grows h. (h.0, f.stays encoder t p h.0 grows h.1, g.stays encoder t h.0 q grows h.2) }
 
 -- Two encodings in order write both.
-pub puts_both : (a b : Piece) (P Q : Written → ℕ → ℕ → Type 0) → IsStable P → Puts a P → Puts b Q → Puts (both a b) (Consecutive P Q)
+pub puts_both : (a b : Encoder) (P Q : Written → ℕ → ℕ → Type 0) → IsStable P → Puts a P → Puts b Q → Puts (both a b) (Consecutive P Q)
 puts_both a b P Q f x y = record {
   grows = both_grows a b x.grows y.grows;
   keeps = λ t h. subst (λ (u : Written). IsTarget u) (lay-both a b t) (y.keeps (lay a t) (x.keeps t h));
@@ -72,7 +72,7 @@ HasOctets xs t p q = At t.octets p xs × (q ≡ p + length xs)
 
 -- Octets are stable.
 pub stable_octets : (xs : List ℕ) → IsStable (HasOctets xs)
-stable_octets xs = record { stays = λ piece t p q grows h. (at_append _ h.0, h.1) }
+stable_octets xs = record { stays = λ encoder t p q grows h. (at_append _ h.0, h.1) }
 
 -- Octets are where they were written.
 pub puts_octets : (xs : List ℕ) → Puts (put_octets xs) (HasOctets xs)
@@ -88,7 +88,7 @@ HasName name t p q = Spelled t.table t.octets q p name
 
 -- Encoded names are stable.
 pub stable_name : (name : Labels) → IsStable (HasName name)
-stable_name name = record { stays = λ piece t p q grows h. spelled_more _ _ (gets (grows.grows t.table (length t.octets))) h }
+stable_name name = record { stays = λ encoder t p q grows h. spelled_more _ _ (gets (grows.grows t.table (length t.octets))) h }
 
 -- A name is encoded where it was written.
 pub puts_put_name : (rule : Rule) (name : Labels) → IsName name → Puts (put_name rule name) (HasName name)
@@ -109,7 +109,7 @@ HasParts (CompressibleName name ∷ parts) t p q = Consecutive (HasName name) (H
 
 -- Encoded parts are stable.
 pub stable_parts : (parts : List Part) → IsStable (HasParts parts)
-stable_parts [] = record { stays = λ piece t p q grows h. h }
+stable_parts [] = record { stays = λ encoder t p q grows h. h }
 stable_parts (Octets xs ∷ parts) = stable_after (HasOctets xs) (HasParts parts) (stable_octets xs) (stable_parts parts)
 stable_parts (CompressibleName name ∷ parts) = stable_after (HasName name) (HasParts parts) (stable_name name) (stable_parts parts)
 
@@ -165,18 +165,18 @@ HasLength P t p q = At t.octets p (to_be_bytes w16 (q - (p + 2))) × P t (p + 2)
 
 -- This is stable.
 pub stable_length : (P : Written → ℕ → ℕ → Type 0) → IsStable P → IsStable (HasLength P)
-stable_length P f = record { stays = λ piece t p q grows h. (at_append _ h.0, f.stays piece t (p + 2) q grows h.1, h.2) }
+stable_length P f = record { stays = λ encoder t p q grows h. (at_append _ h.0, f.stays encoder t (p + 2) q grows h.1, h.2) }
 
 -- The octets that an encoding takes after its length.
-pub length_of : Piece → Written → ℕ
+pub length_of : Encoder → Written → ℕ
 length_of a t = length (a t.table (length t.octets + 2)).octets
 
 -- An encoding preceded by its length is two encodings.
-pub lay-with_length : (a : Piece) (t : Written) → lay (both (put_octets (to_be_bytes w16 (length_of a t))) a) t ≡ lay (with_length a) t
+pub lay-with_length : (a : Encoder) (t : Written) → lay (both (put_octets (to_be_bytes w16 (length_of a t))) a) t ≡ lay (with_length a) t
 unfolding length_of
 lay-with_length a t = refl
 
-size-with_length : (a : Piece) (t : Written)
+size-with_length : (a : Encoder) (t : Written)
     → length (lay (both (put_octets (to_be_bytes w16 (length_of a t))) a) t).octets ≡ length t.octets + 2 + length_of a t
 unfolding length_of
 size-with_length a t =
@@ -184,12 +184,12 @@ size-with_length a t =
     let n = length-append t.octets (to_be_bytes w16 (length text) ++ text) in
     omega arith
 
-length_small : (a : Piece) (t : Written) → ((m : CompressionTable) (w : ℕ) → length (a m w).octets ≤ 65535) → length_of a t ≤ 65535
+length_small : (a : Encoder) (t : Written) → ((m : CompressionTable) (w : ℕ) → length (a m w).octets ≤ 65535) → length_of a t ≤ 65535
 unfolding length_of
 length_small a t small = small t.table (length t.octets + 2)
 
 -- An encoding of at most 65,535 octets is written after its length.
-pub puts_with_length : (a : Piece) (P : Written → ℕ → ℕ → Type 0) → ((m : CompressionTable) (w : ℕ) → length (a m w).octets ≤ 65535) → Puts a P → Puts (with_length a) (HasLength P)
+pub puts_with_length : (a : Encoder) (P : Written → ℕ → ℕ → Type 0) → ((m : CompressionTable) (w : ℕ) → length (a m w).octets ≤ 65535) → Puts a P → Puts (with_length a) (HasLength P)
 puts_with_length a P small x = record {
   grows = with_length_grows a x.grows;
   keeps = λ t h.
@@ -229,8 +229,8 @@ cut_to-cut_to : (t : Written) (d e : ℕ) → d ≤ e → cut_to d (cut_to e t) 
 cut_to-cut_to t d e l = same_written _ _ (grind (arith, common_steps)) (cut-cut t.table d e l)
 
 -- Truncating to or below the length before a growing encoding leaves nothing of it.
-pub cut_to-lay : (piece : Piece) (t : Written) (w : ℕ) → IsGrowing piece → w ≤ length t.octets → cut_to w (lay piece t) ≡ cut_to w t
-cut_to-lay piece t w g l = same_written _ _ (take-append-le w t.octets _ l) (cut-extends t.table _ (length t.octets) _ w l (g.grows t.table (length t.octets)))
+pub cut_to-lay : (encoder : Encoder) (t : Written) (w : ℕ) → IsGrowing encoder → w ≤ length t.octets → cut_to w (lay encoder t) ≡ cut_to w t
+cut_to-lay encoder t w g l = same_written _ _ (take-append-le w t.octets _ l) (cut-extends t.table _ (length t.octets) _ w l (g.grows t.table (length t.octets)))
 
 -- If n octets exceed the capacity, so do k ≥ n.
 passes_more : (capacity : Option ℕ) (n k : ℕ) → n ≤ k → Passes capacity n → Passes capacity k
@@ -260,7 +260,7 @@ composes_both capacity grows a b t u v (Err d) g e h = record {
 }
 
 -- An error in composing the first encoding is one in composing both.
-stopped : (capacity : Option ℕ) (grows : Bool) (a b : Piece) (t u : Written) (e : AppendError)
+stopped : (capacity : Option ℕ) (grows : Bool) (a b : Encoder) (t u : Written) (e : AppendError)
     → Composes capacity grows a t u {X = Unit} (Err e) → Composes capacity grows (both a b) t u {X = Unit} (Err e)
 stopped capacity grows a b t u ShortBuf h = record {
   ok = tt;
