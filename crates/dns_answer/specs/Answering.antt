@@ -10,7 +10,7 @@ use Rattle.dns_read.specs.OptSearches.{opt_of}
 use Rattle.dns_build.specs.Answers.{answer_header, header_in, readable_questions}
 use Rattle.dns_build.specs.MessageOf.{ReadsBack}
 use Rattle.dns_build.specs.BuilderStates.{fresh, size_after}
-use Rattle.dns_build.specs.State.{InAnswer, State, fold, tc_rewound}
+use Rattle.dns_build.specs.State.{InAnswer, State, encode, tc_rewound}
 use Rattle.dns_build.specs.declared.push_error.PushError.TheVariants.{CountOverflow, LimitExceeded, ShortBuf, OutOfMemory}
 use Rattle.dns_answer.specs.declared.answering.NoAnswer.{NoAnswer}
 use Rattle.dns_answer.specs.declared.answering.NoAnswer.TheVariants.{ShortQuery, Refused}
@@ -66,7 +66,7 @@ format_error query = reply 1 query
 
 -- the octets are the message of a state, and read back as that state
 pub record IsMessage (s : State) (b : List ℕ) : Type 0 where
-  pub octets : b ≡ (fold Plain s).octets
+  pub octets : b ≡ (encode Plain s).octets
   pub reads_back : ReadsBack s b
 
 -- Why a query has no answer: its header section is incomplete, an allocation failed, or the questions alone exceed what the client accepts.

@@ -2,7 +2,7 @@
 ghost use Rattle.std.specs.Prelude.{◌≡◌, ◌<◌, ◌≤◌, ◌∷◌, [], length};
 ghost use Rattle.dns_name.specs.Names.{IsName};
 ghost use Rattle.dns_name.specs.ParsedName.{labels};
-ghost use Rattle.dns_wire.specs.Parts.{Octets, CompressibleName, put_parts};
+ghost use Rattle.dns_wire.specs.Parts.{Octets, CompressibleName, encode_parts};
 ghost use Rattle.dns_wire.specs.Targets.{Composes};
 ghost use Rattle.dns_data.specs.Layout.{DomainName, End, Fixed};
 ghost use Rattle.dns_data.specs.RecordData.{ParsesLaidOut, canonical};
@@ -112,7 +112,7 @@ fn append_name<T: Composer>(
     target: &mut T,
 ) -> Result<(), AppendError>
     ensures composes { Composes T.capacity T.grows
-        (put_parts T.rule (Octets octets.now ∷ CompressibleName (labels name.now) ∷ []))
+        (encode_parts T.rule (Octets octets.now ∷ CompressibleName (labels name.now) ∷ []))
         (T.written target.old) (T.written target.new) result }
     ensures is_name { IsName (labels name.now) }
 {
@@ -128,7 +128,7 @@ fn append_names<T: Composer>(
     octets: &[u8],
     target: &mut T,
 ) -> Result<(), AppendError>
-    ensures composes { Composes T.capacity T.grows (put_parts T.rule
+    ensures composes { Composes T.capacity T.grows (encode_parts T.rule
         (CompressibleName (labels first.now) ∷ CompressibleName (labels second.now)
         ∷ Octets octets.now ∷ []))
         (T.written target.old) (T.written target.new) result }
@@ -147,7 +147,7 @@ fn append_canonical_name<T: Composer>(
     name: &ParsedName<'_>,
     target: &mut T,
 ) -> Result<(), AppendError>
-    ensures { Composes T.capacity T.grows (put_parts T.rule
+    ensures { Composes T.capacity T.grows (encode_parts T.rule
         (canonical (Octets octets.now ∷ CompressibleName (labels name.now) ∷ [])))
         (T.written target.old) (T.written target.new) result }
 {
@@ -163,7 +163,7 @@ fn append_canonical_names<T: Composer>(
     octets: &[u8],
     target: &mut T,
 ) -> Result<(), AppendError>
-    ensures { Composes T.capacity T.grows (put_parts T.rule
+    ensures { Composes T.capacity T.grows (encode_parts T.rule
         (canonical (CompressibleName (labels first.now) ∷ CompressibleName (labels second.now)
         ∷ Octets octets.now ∷ [])))
         (T.written target.old) (T.written target.new) result }

@@ -6,7 +6,7 @@ use Rattle.dns_octets.specs.declared.error.AppendError.{AppendError}
 use Rattle.dns_wire.specs.Parts.Part.{Octets}
 use Rattle.dns_wire.specs.Targets.{Fits, Passes}
 use Rattle.dns_opt.specs.OptHeader.{ttl_in}
-use Rattle.dns_opt.specs.Options.{OptionItem, AreOptions, put_options}
+use Rattle.dns_opt.specs.Options.{OptionItem, AreOptions, encode_options}
 use Rattle.dns_opt.specs.OptionsOf.{options_of}
 use Rattle.dns_opt.proofs.theory.OptionsLemmas.{options_of-holds}
 use Rattle.dns_opt_builder.specs.Gathered.{Gathered, IsGathered, gathered, option_octets}
@@ -19,7 +19,7 @@ use Rattle.dns_build.specs.declared.push_error.PushError.{PushError}
 use Rattle.dns_build.specs.declared.push_error.PushError.TheVariants.{CountOverflow, LimitExceeded, ShortBuf, OutOfMemory}
 
 -- a record with the fields of the OPT record of `g` is that record
-pub same_item : (x : RecordItem) (g : Gathered) → x.owner ≡ [] → x.rtype ≡ 41 → x.class ≡ g.fields.udp_payload_size → x.ttl ≡ ttl_in g.fields → x.parts ≡ Octets (put_options g.options) ∷ [] → x ≡ opt_record g
+pub same_item : (x : RecordItem) (g : Gathered) → x.owner ≡ [] → x.rtype ≡ 41 → x.class ≡ g.fields.udp_payload_size → x.ttl ≡ ttl_in g.fields → x.parts ≡ Octets (encode_options g.options) ∷ [] → x ≡ opt_record g
 same_item x g o r c t p = λ i. record { owner = o i; rtype = r i; class = c i; ttl = t i; parts = p i }
 
 -- the result of a failed push, from the cause of each error

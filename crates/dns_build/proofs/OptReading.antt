@@ -12,7 +12,7 @@ use Rattle.dns_wire.specs.Parts.Part.{Octets}
 use Rattle.dns_code.specs.Header.{header_octets, fields_in}
 use Rattle.dns_code.proofs.theory.HeaderLemmas.{rcode_changed}
 use Rattle.dns_opt.specs.OptHeader.{OptFields, ttl_in, fields_in as opt_fields_in}
-use Rattle.dns_opt.specs.Options.{OptionItem, put_options}
+use Rattle.dns_opt.specs.Options.{OptionItem, encode_options}
 use Rattle.dns_opt.specs.OptionsOf.{options_of}
 use Rattle.dns_opt.proofs.theory.OptionsLemmas.{options_of-is}
 use Rattle.dns_opt_builder.specs.Gathered.{Gathered, IsGathered}
@@ -68,9 +68,9 @@ data_filled b start end octets h =
     ap (λ (n : ℕ). drop start (take n b)) (sym h.1) ∙ drop-take start (length octets) b ∙ ap (λ (n : ℕ). take n (drop start b)) size ∙ h.0
 
 -- gathered options are valid RDATA of an OPT record
-gathered_accepted : (g : Gathered) → IsGathered g → IsTrue (is_opt_data (put_options g.options))
+gathered_accepted : (g : Gathered) → IsGathered g → IsTrue (is_opt_data (encode_options g.options))
 gathered_accepted g ok =
-    let e : options_of (put_options g.options) ≡ Some g.options = options_of-is (put_options g.options) g.options ok.listed in
+    let e : options_of (encode_options g.options) ≡ Some g.options = options_of-is (encode_options g.options) g.options ok.listed in
     let short = ok.short in
     rw e (search (rules, tests))
 
@@ -89,9 +89,9 @@ module _ (g : Gathered) (b : List ℕ) (p q : ℕ) (e : RecordEntry) (ok : IsGat
       record { start = omega arith; end = omega arith }
 
   -- its RDATA is the options, by the layout of OPT
-  data_at : HasData b e opt_layout (Octets (put_options g.options) ∷ [])
+  data_at : HasData b e opt_layout (Octets (encode_options g.options) ∷ [])
   data_at =
-      let filled = data_filled b e.rdata_start e.rdata_end (put_options g.options) reports.parts in
+      let filled = data_filled b e.rdata_start e.rdata_end (encode_options g.options) reports.parts in
       let within = data_within.end in
       let end : e.rdata_end ≡ length (take e.rdata_end b) = grind (arith, common_steps) in
       (end, ap (λ (octets : List ℕ). Octets octets ∷ []) (sym filled), rw filled (gathered_accepted g ok))
@@ -99,7 +99,7 @@ module _ (g : Gathered) (b : List ℕ) (p q : ℕ) (e : RecordEntry) (ok : IsGat
   -- so `Opt` reads it as the record that was pushed
   opt_answered : parsed_as (only 41 opt_layout) encoded ≡ Some (Ok (opt_record g))
   opt_answered =
-      let parts : List Part = Octets (put_options g.options) ∷ [] in
+      let parts : List Part = Octets (encode_options g.options) ∷ [] in
       ap (λ (rtype : ℕ). option_map (laid_out encoded) (only 41 opt_layout rtype)) reports.rtype
       ∙ ap (λ (r : Result (List Part) Fault). Some (with_parts e r)) (data_is_parsed.only encoded opt_layout (Ok parts) (whole data_within data_at))
       ∙ ap (λ (x : RecordItem). let r : Result RecordItem Fault = Ok x in Some r) (same_item (item_of e parts) g reports.owner reports.rtype reports.class reports.ttl refl)
@@ -151,7 +151,7 @@ fields_read f version z =
 said_gathered : (g : Gathered) → IsGathered g → opt_said (opt_record g) ≡ Some (said g)
 said_gathered g ok =
     let fields = fields_read g.fields ok.version ok.z in
-    let options = ap (λ (o : Option (List OptionItem)). option_map_or (λ (xs : List OptionItem). xs) o []) (options_of-is (put_options g.options) g.options ok.listed) in
+    let options = ap (λ (o : Option (List OptionItem)). option_map_or (λ (xs : List OptionItem). xs) o []) (options_of-is (encode_options g.options) g.options ok.listed) in
     λ i. Some (record { fields = fields i; options = options i })
 
 -- the OPT record that octets give back is the one that was pushed

@@ -2,17 +2,17 @@
 use Rattle.std.proofs.Common.{◌≡◌, ℕ, ◌+◌, ◌*◌, ◌-◌, ◌<◌, List, [], ◌∷◌, ◌++◌, map, length, replicate, take, ap, sym, ◌∙◌, refl, arith}
 use Rattle.std.proofs.lemmas.List.{length-map, map-append}
 use Rattle.dns_wire.specs.Encoders.{IsGrowing, Rule, Encoder}
-use Rattle.dns_wire.specs.Targets.{Written, lay}
+use Rattle.dns_wire.specs.Targets.{Written, append}
 use Rattle.dns_code.specs.Header.{header_octets}
-use Rattle.dns_question.specs.Questions.{QuestionItem, IsQuestion, put_question}
-use Rattle.dns_item.specs.Items.{RecordItem, IsRecord, put_record}
+use Rattle.dns_question.specs.Questions.{QuestionItem, IsQuestion, encode_question}
+use Rattle.dns_item.specs.Items.{RecordItem, IsRecord, encode_record}
 use Rattle.dns_question.proofs.theory.QuestionItemLemmas.{questions_grow}
 use Rattle.dns_item.proofs.theory.ItemLemmas.{records_grow}
 use Rattle.dns_build.specs.BuilderStates.{count_at, counted, emptied_from}
 use Rattle.dns_section.specs.declared.section.Section.{Section}
 use Rattle.dns_section.specs.declared.section.Section.TheVariants.{Answer, Authority, Additional}
-use Rattle.dns_build.specs.State.{fold, stage_of, Stage, InBuilder, InQuestion, InAnswer, InAuthority, State, Every, with_question, with_record, records_at, up_to}
-use Rattle.dns_build.proofs.theory.Folds.{encoders, message, sections_of, fold-message, sections_grow, between, every_map, count-message, size-more, message-more, message-less}
+use Rattle.dns_build.specs.State.{encode, stage_of, Stage, InBuilder, InQuestion, InAnswer, InAuthority, State, Every, with_question, with_record, records_at, up_to}
+use Rattle.dns_build.proofs.theory.Encodings.{encoders, message, sections_of, encode-message, sections_grow, between, every_map, count-message, size-more, message-more, message-less}
 
 -- the question section, or a record section
 pub data Kind : Type 0 where
@@ -51,9 +51,9 @@ abbrev pub IsItem : (k : Kind) → Item k → Type 0
 IsItem Questions x = IsQuestion x
 IsItem (Records k) x = IsRecord x
 
-abbrev pub put : (k : Kind) → Rule → Item k → Encoder
-put Questions rule x = put_question rule x
-put (Records k) rule x = put_record rule x
+abbrev pub encode_item : (k : Kind) → Rule → Item k → Encoder
+encode_item Questions rule x = encode_question rule x
+encode_item (Records k) rule x = encode_record rule x
 
 abbrev pub items : (k : Kind) → State → List (Item k)
 items Questions s = s.questions
@@ -64,7 +64,7 @@ with_item Questions x s = with_question x s
 with_item (Records k) x s = with_record (stage_of k) x s
 
 -- encoding an item only adds its own suffixes to the table
-items_grow : (k : Kind) (rule : Rule) (x : Item k) → IsGrowing (put k rule x)
+items_grow : (k : Kind) (rule : Rule) (x : Item k) → IsGrowing (encode_item k rule x)
 items_grow Questions rule x = questions_grow rule x
 items_grow (Records k) rule x = records_grow rule x
 
@@ -85,65 +85,65 @@ record Splits (k : Kind) (rule : Rule) (s : State) : Type 0 where
   all : length (before k rule s) + length (empty k) ≡ 3
   number : length (before k rule s) ≡ number k
   last : encoders (empty k) ≡ []
-  whole : fold rule (up_to (at k) s) ≡ message (header_octets s.header) (sections k rule s (map (put k rule) (items k s)))
-  less : fold rule (up_to (prior k) s) ≡ message (header_octets s.header) (sections k rule s [])
-  grow : Every IsGrowing (encoders (sections k rule s (map (put k rule) (items k s))))
+  whole : encode rule (up_to (at k) s) ≡ message (header_octets s.header) (sections k rule s (map (encode_item k rule) (items k s)))
+  less : encode rule (up_to (prior k) s) ≡ message (header_octets s.header) (sections k rule s [])
+  grow : Every IsGrowing (encoders (sections k rule s (map (encode_item k rule) (items k s))))
   front : Every IsGrowing (encoders (sections k rule s []))
 
 splits : (k : Kind) (rule : Rule) (s : State) → Splits k rule s
-splits Questions rule s = record { all = refl; number = refl; last = refl; whole = fold-message rule _; less = fold-message rule _; grow = sections_grow rule (up_to InQuestion s); front = sections_grow rule (up_to InBuilder s) }
-splits (Records Answer) rule s = record { all = refl; number = refl; last = refl; whole = fold-message rule _; less = fold-message rule _; grow = sections_grow rule (up_to InAnswer s); front = sections_grow rule (up_to InQuestion s) }
-splits (Records Authority) rule s = record { all = refl; number = refl; last = refl; whole = fold-message rule _; less = fold-message rule _; grow = sections_grow rule (up_to InAuthority s); front = sections_grow rule (up_to InAnswer s) }
-splits (Records Additional) rule s = record { all = refl; number = refl; last = refl; whole = fold-message rule _; less = fold-message rule _; grow = sections_grow rule s; front = sections_grow rule (up_to InAuthority s) }
+splits Questions rule s = record { all = refl; number = refl; last = refl; whole = encode-message rule _; less = encode-message rule _; grow = sections_grow rule (up_to InQuestion s); front = sections_grow rule (up_to InBuilder s) }
+splits (Records Answer) rule s = record { all = refl; number = refl; last = refl; whole = encode-message rule _; less = encode-message rule _; grow = sections_grow rule (up_to InAnswer s); front = sections_grow rule (up_to InQuestion s) }
+splits (Records Authority) rule s = record { all = refl; number = refl; last = refl; whole = encode-message rule _; less = encode-message rule _; grow = sections_grow rule (up_to InAuthority s); front = sections_grow rule (up_to InAnswer s) }
+splits (Records Additional) rule s = record { all = refl; number = refl; last = refl; whole = encode-message rule _; less = encode-message rule _; grow = sections_grow rule s; front = sections_grow rule (up_to InAuthority s) }
 
 -- the encoding of a state with one more item, without the sections after this one
-splits_more : (k : Kind) (rule : Rule) (s : State) (x : Item k) → fold rule (with_item k x (up_to (at k) s)) ≡ message (header_octets s.header) (sections k rule s (map (put k rule) (items k s ++ x ∷ [])))
-splits_more Questions rule s x = fold-message rule _
-splits_more (Records Answer) rule s x = fold-message rule _
-splits_more (Records Authority) rule s x = fold-message rule _
-splits_more (Records Additional) rule s x = fold-message rule _
+splits_more : (k : Kind) (rule : Rule) (s : State) (x : Item k) → encode rule (with_item k x (up_to (at k) s)) ≡ message (header_octets s.header) (sections k rule s (map (encode_item k rule) (items k s ++ x ∷ [])))
+splits_more Questions rule s x = encode-message rule _
+splits_more (Records Answer) rule s x = encode-message rule _
+splits_more (Records Authority) rule s x = encode-message rule _
+splits_more (Records Additional) rule s x = encode-message rule _
 
 module _ (k : Kind) (rule : Rule) (s : State) (four : length (header_octets s.header) ≡ 4) (last : s ≡ up_to (at k) s) where
   offset : 4 + 2 * length (before k rule s) ≡ count_offset_of k
   offset = let is = splits k rule s in ap (λ n. 4 + 2 * n) is.number
 
-  whole : fold rule s ≡ message (header_octets s.header) (sections k rule s (map (put k rule) (items k s)))
-  whole = let is = splits k rule s in ap (fold rule) last ∙ is.whole
+  whole : encode rule s ≡ message (header_octets s.header) (sections k rule s (map (encode_item k rule) (items k s)))
+  whole = let is = splits k rule s in ap (encode rule) last ∙ is.whole
 
-  more : (x : Item k) → fold rule (with_item k x s) ≡ message (header_octets s.header) (sections k rule s (map (put k rule) (items k s) ++ put k rule x ∷ []))
+  more : (x : Item k) → encode rule (with_item k x s) ≡ message (header_octets s.header) (sections k rule s (map (encode_item k rule) (items k s) ++ encode_item k rule x ∷ []))
   more x =
-      ap (λ (t : State). fold rule (with_item k x t)) last ∙ splits_more k rule s x
-      ∙ ap (λ ps. message (header_octets s.header) (sections k rule s ps)) (map-append (put k rule) (items k s) (x ∷ []))
+      ap (λ (t : State). encode rule (with_item k x t)) last ∙ splits_more k rule s x
+      ∙ ap (λ ps. message (header_octets s.header) (sections k rule s ps)) (map-append (encode_item k rule) (items k s) (x ∷ []))
 
   -- the section's count is the number of its items
-  pub fold-count : length (items k s) < 65536 → count_at (count_offset_of k) (fold rule s) ≡ length (items k s)
-  fold-count few =
+  pub encode-count : length (items k s) < 65536 → count_at (count_offset_of k) (encode rule s) ≡ length (items k s)
+  encode-count few =
       let is = splits k rule s in
-      let size = length-map (items k s) (put k rule) in
+      let size = length-map (items k s) (encode_item k rule) in
       (λ i. count_at (sym offset i) (whole i))
-      ∙ count-message (header_octets s.header) four (before k rule s) (empty k) is.all is.last (map (put k rule) (items k s)) is.grow (omega arith) ∙ size
+      ∙ count-message (header_octets s.header) four (before k rule s) (empty k) is.all is.last (map (encode_item k rule) (items k s)) is.grow (omega arith) ∙ size
 
   -- the length of an encoding with one more item, even one that can't be counted
-  pub fold-size : (x : Item k) → length (lay (put k rule x) (fold rule s)).octets ≡ length (fold rule (with_item k x s)).octets
-  fold-size x =
+  pub encode-size : (x : Item k) → length (append (encode_item k rule x) (encode rule s)).octets ≡ length (encode rule (with_item k x s)).octets
+  encode-size x =
       let is = splits k rule s in
-      ap (λ (w : Written). length (lay (put k rule x) w).octets) whole
-      ∙ size-more (header_octets s.header) four (before k rule s) (empty k) is.all is.last (map (put k rule) (items k s)) is.grow (put k rule x)
+      ap (λ (w : Written). length (append (encode_item k rule x) w).octets) whole
+      ∙ size-more (header_octets s.header) four (before k rule s) (empty k) is.all is.last (map (encode_item k rule) (items k s)) is.grow (encode_item k rule x)
       ∙ ap (λ (w : Written). length w.octets) (sym (more x))
 
   -- the encoding of a state with one more item
-  pub fold-more : (x : Item k) → length (items k s) < 65535 → counted (count_offset_of k) (lay (put k rule x) (fold rule s)) ≡ fold rule (with_item k x s)
-  fold-more x few =
+  pub encode-more : (x : Item k) → length (items k s) < 65535 → counted (count_offset_of k) (append (encode_item k rule x) (encode rule s)) ≡ encode rule (with_item k x s)
+  encode-more x few =
       let is = splits k rule s in
-      let size = length-map (items k s) (put k rule) in
-      (λ i. counted (sym offset i) (lay (put k rule x) (whole i)))
-      ∙ message-more (header_octets s.header) four (before k rule s) (empty k) is.all is.last (map (put k rule) (items k s)) is.grow (put k rule x) (omega arith)
+      let size = length-map (items k s) (encode_item k rule) in
+      (λ i. counted (sym offset i) (append (encode_item k rule x) (whole i)))
+      ∙ message-more (header_octets s.header) four (before k rule s) (empty k) is.all is.last (map (encode_item k rule) (items k s)) is.grow (encode_item k rule x) (omega arith)
       ∙ sym (more x)
 
   -- the encoding of a state without the section's items
-  pub fold-less : emptied_from (length (fold rule (up_to (prior k) s)).octets) (count_offset_of k) (fold rule s) ≡ fold rule (up_to (prior k) s)
-  fold-less =
+  pub encode-less : emptied_from (length (encode rule (up_to (prior k) s)).octets) (count_offset_of k) (encode rule s) ≡ encode rule (up_to (prior k) s)
+  encode-less =
       let is = splits k rule s in
       (λ i. emptied_from (length (is.less i).octets) (sym offset i) (whole i))
-      ∙ message-less (header_octets s.header) four (before k rule s) (empty k) is.all is.last (map (put k rule) (items k s)) is.grow is.front (every_map IsGrowing (put k rule) (items_grow k rule) (items k s))
+      ∙ message-less (header_octets s.header) four (before k rule s) (empty k) is.all is.last (map (encode_item k rule) (items k s)) is.grow is.front (every_map IsGrowing (encode_item k rule) (items_grow k rule) (items k s))
       ∙ sym is.less

@@ -63,8 +63,8 @@ module _ (x : RecordItem) (b : List ℕ) (p q : ℕ) (e : RecordEntry) (reads : 
 
   -- each layout that accepts the parts reads `x`
   reported : (layout : Layout) → IsLaidOut layout x.parts → laid_out (record { octets = b; entry = e }) layout ≡ Ok x
-  reported layout laid =
-      let represents = encoded_parts_read b e.rdata_end e.rdata_start layout x.parts data_within.end reports.parts laid in
+  reported layout fits_layout =
+      let represents = encoded_parts_read b e.rdata_end e.rdata_start layout x.parts data_within.end reports.parts fits_layout in
       ap (with_parts e) (data_is_parsed.only (record { octets = b; entry = e }) layout (Ok x.parts) (whole data_within represents))
       ∙ ap (λ (y : RecordItem). let r : Result RecordItem Fault = Ok y in r) (same_record e x reports.owner reports.rtype reports.class reports.ttl)
 
@@ -91,13 +91,13 @@ module _ (layouts : ℕ → Option Layout) (b : List ℕ) where
   -- what a data type yields of such a record
   answered : (x : RecordItem) (encoded : EncodedRecord) → EncodedAs b x encoded → IsLaidOutBy layouts x
       → parsed_as layouts encoded ≡ option_map (λ (layout : Layout). let r : Result RecordItem Fault = Ok x in r) (layouts x.rtype)
-  answered x encoded h laid =
-      ap (λ (y : RecordItem). option_map (laid_out encoded) (layouts y.rtype)) h.item ∙ by (layouts x.rtype) laid
+  answered x encoded h fits_layout =
+      ap (λ (y : RecordItem). option_map (laid_out encoded) (layouts y.rtype)) h.item ∙ by (layouts x.rtype) fits_layout
     where
       by : (o : Option Layout) → IfSome o (λ layout. IsLaidOut layout x.parts)
           → option_map (laid_out encoded) o ≡ option_map (λ (layout : Layout). let r : Result RecordItem Fault = Ok x in r) o
-      by None laid = refl
-      by (Some layout) laid = ap (λ (r : Result RecordItem Fault). Some r) (h.answer layout laid)
+      by None fits_layout = refl
+      by (Some layout) fits_layout = ap (λ (r : Result RecordItem Fault). Some r) (h.answer layout fits_layout)
 
   -- the first of the records that the data type accepts
   first_taken : (x : RecordItem) (xs : List RecordItem) (o : Option Layout)
@@ -108,18 +108,18 @@ module _ (layouts : ℕ → Option Layout) (b : List ℕ) where
   -- what it yields of all records
   all_answered : (xs : List RecordItem) (items : List (Result EncodedRecord Fault)) → AllEncodedAs b xs items → All (IsLaidOutBy layouts) xs
       → limited layouts items ≡ map Ok (taken layouts xs)
-  all_answered [] [] h laid = refl
-  all_answered [] (item ∷ items) h laid = absurd h
-  all_answered (x ∷ xs) [] h laid = absurd h
-  all_answered (x ∷ xs) (Err f ∷ items) h laid = absurd h.0
-  all_answered (x ∷ xs) (Ok encoded ∷ items) h laid =
-      let here = answered x encoded h.0 (All-head (IsLaidOutBy layouts) x xs laid) in
-      let others = all_answered xs items h.1 (All-tail (IsLaidOutBy layouts) x xs laid) in
+  all_answered [] [] h fits_layout = refl
+  all_answered [] (item ∷ items) h fits_layout = absurd h
+  all_answered (x ∷ xs) [] h fits_layout = absurd h
+  all_answered (x ∷ xs) (Err f ∷ items) h fits_layout = absurd h.0
+  all_answered (x ∷ xs) (Ok encoded ∷ items) h fits_layout =
+      let here = answered x encoded h.0 (All-head (IsLaidOutBy layouts) x xs fits_layout) in
+      let others = all_answered xs items h.1 (All-tail (IsLaidOutBy layouts) x xs fits_layout) in
       (λ i. cons_option (here i) (others i)) ∙ first_taken x (taken layouts xs) (layouts x.rtype)
 
 pub typed_records_read_back : TypedRecordsReadBack
-typed_records_read_back s b h which layouts laid =
-    all_answered layouts b (pushed which s) (records_of which b) (pushed_records_are_encoded s b h which) laid
+typed_records_read_back s b h which layouts fits_layout =
+    all_answered layouts b (pushed which s) (records_of which b) (pushed_records_are_encoded s b h which) fits_layout
 
 -- a data type that accepts every type accepts all records
 all_taken : (layouts : ℕ → Layout) (xs : List RecordItem) → taken (every layouts) xs ≡ xs
@@ -127,8 +127,8 @@ all_taken layouts [] = refl
 all_taken layouts (x ∷ xs) = ap (λ (ys : List RecordItem). x ∷ ys) (all_taken layouts xs)
 
 pub any_records_read_back : AnyRecordsReadBack
-any_records_read_back s b h which layouts laid =
-    typed_records_read_back s b h which (every layouts) laid ∙ ap (λ (xs : List RecordItem). map Ok xs) (all_taken layouts (pushed which s))
+any_records_read_back s b h which layouts fits_layout =
+    typed_records_read_back s b h which (every layouts) fits_layout ∙ ap (λ (xs : List RecordItem). map Ok xs) (all_taken layouts (pushed which s))
 
 -- the records of class IN are there as they were pushed
 in_class_encoded : (b : List ℕ) (xs : List RecordItem) (items : List (Result EncodedRecord Fault)) → AllEncodedAs b xs items → AllEncodedAs b (of_class_in xs) (in_class_in items)
@@ -148,8 +148,8 @@ in_class_encoded b (x ∷ xs) (Ok encoded ∷ items) h =
     by false others = others
 
 pub typed_records_in_read_back : TypedRecordsInReadBack
-typed_records_in_read_back s b h which layouts laid =
-    all_answered layouts b (of_class_in (pushed which s)) (in_class_in (records_of which b)) (in_class_encoded b (pushed which s) (records_of which b) (pushed_records_are_encoded s b h which)) laid
+typed_records_in_read_back s b h which layouts fits_layout =
+    all_answered layouts b (of_class_in (pushed which s)) (in_class_in (records_of which b)) (in_class_encoded b (pushed which s) (records_of which b) (pushed_records_are_encoded s b h which)) fits_layout
 
 module _ {D : Type 0} (rtype_of : D → ℕ) (parts_of : D → List Part) where
   -- a result that says the record `x` is a record that says it
@@ -167,18 +167,18 @@ module _ {D : Type 0} (rtype_of : D → ℕ) (parts_of : D → List Part) where
   -- what the layout of a record's type reads
   one_taken : (layouts : ℕ → Option Layout) (b : List ℕ) (x : RecordItem) (encoded : EncodedRecord) → EncodedAs b x encoded → IsTakenBy layouts x
       → parsed_as layouts encoded ≡ Some (Ok x)
-  one_taken layouts b x encoded h laid = ap (λ (y : RecordItem). option_map (laid_out encoded) (layouts y.rtype)) h.item ∙ by (layouts x.rtype) laid
+  one_taken layouts b x encoded h fits_layout = ap (λ (y : RecordItem). option_map (laid_out encoded) (layouts y.rtype)) h.item ∙ by (layouts x.rtype) fits_layout
     where
       by : (o : Option Layout) → IsSomeAnd o (λ layout. IsLaidOut layout x.parts) → option_map (laid_out encoded) o ≡ Some (Ok x)
-      by None laid = absurd laid
-      by (Some layout) laid = ap (λ (r : Result RecordItem Fault). Some r) (h.answer layout laid)
+      by None fits_layout = absurd fits_layout
+      by (Some layout) fits_layout = ap (λ (r : Result RecordItem Fault). Some r) (h.answer layout fits_layout)
 
   pub to_record_reads_back : (layouts : ℕ → Option Layout) → ToRecordReadsBack rtype_of parts_of layouts
-  to_record_reads_back layouts b x encoded result h laid returned =
-      is_taken x result (parsed_as-answered rtype_of parts_of encoded h.there (layouts encoded.entry.rtype) result returned ∙ one_taken layouts b x encoded h laid)
+  to_record_reads_back layouts b x encoded result h fits_layout returned =
+      is_taken x result (parsed_as-answered rtype_of parts_of encoded h.there (layouts encoded.entry.rtype) result returned ∙ one_taken layouts b x encoded h fits_layout)
 
   pub to_any_record_reads_back : (layouts : ℕ → Layout) → ToAnyRecordReadsBack rtype_of parts_of layouts
-  to_any_record_reads_back layouts b x encoded result h laid returned =
+  to_any_record_reads_back layouts b x encoded result h fits_layout returned =
       is_record x result
       (laid_out-answered rtype_of parts_of encoded h.there (layouts encoded.entry.rtype) result returned
-      ∙ ap (λ (y : RecordItem). laid_out encoded (layouts y.rtype)) h.item ∙ h.answer (layouts x.rtype) laid)
+      ∙ ap (λ (y : RecordItem). laid_out encoded (layouts y.rtype)) h.item ∙ h.answer (layouts x.rtype) fits_layout)

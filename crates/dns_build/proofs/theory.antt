@@ -1,4 +1,4 @@
 -- Lemmas that crates above cite. A change here is one for them too.
-pub mod Folds
-pub mod FoldReading
+pub mod Encodings
+pub mod EncodingReading
 pub mod Asking

@@ -14,7 +14,7 @@ use Rattle.dns_item.specs.Items.{SkipsRecord, RecordEntry, ReportsRecord, Record
 use Rattle.dns_section.specs.QuestionsFrom.{questions_from}
 use Rattle.dns_section.specs.Reading.{Passed}
 use Rattle.dns_section.specs.Sections.{question_count, answer_count, authority_count, additional_count, AnswersStart, AuthoritiesStart, AdditionalsStart, ReadingRecords}
-use Rattle.dns_build.specs.State.{State, fold, IsState, with_tc}
+use Rattle.dns_build.specs.State.{State, encode, IsState, with_tc}
 
 -- Reading the octets of a state gives back the state. RFC 1035 section 4.1.
 
@@ -84,26 +84,26 @@ IsShortestOf s b = (n : ℕ) × (length b ≡ header_size + n) × IsShortest (pa
 
 -- The octets are the encoding of the state and read back as it. Each pointer of a name leads to an earlier label below offset 16,384. While all labels begin below 16,384, as they do in at most 16,384 octets, no compression of the names is shorter: under the tree and the hash rule, and under the static rule while the table has fewer than 24 suffixes.
 pub record IsMessageOf (rule : Rule) (s : State) (b : List ℕ) : Type 0 where
-  pub octets : b ≡ (fold rule s).octets
+  pub octets : b ≡ (encode rule s).octets
   pub reads_back : ReadsBack s b
   pub pointers : PointsToLabels s b
-  pub shortest : SharesAll rule (len (fold rule s).table) → HasLabelsNear s b → IsShortestOf s b
+  pub shortest : SharesAll rule (len (encode rule s).table) → HasLabelsNear s b → IsShortestOf s b
   pub near : length b ≤ pointer_end → HasLabelsNear s b
 
 -- Theorems over all states, rules and headers. RFC 1035 section 4.1.
 
 -- the encoding of a state reads back as the state
-abbrev pub FoldsReadBack : Type 0
-FoldsReadBack = (rule : Rule) (s : State) → IsState s → ReadsBack s (fold rule s).octets
+abbrev pub EncodingsReadBack : Type 0
+EncodingsReadBack = (rule : Rule) (s : State) → IsState s → ReadsBack s (encode rule s).octets
 
 -- each suffix in its compression table is encoded at its offset, after the header section
-abbrev pub FoldsRemember : Type 0
-FoldsRemember = (rule : Rule) (s : State) → IsState s → IsTarget (fold rule s) × IsAtOrAfter (fold rule s).table header_size
+abbrev pub EncodingsAreTargets : Type 0
+EncodingsAreTargets = (rule : Rule) (s : State) → IsState s → IsTarget (encode rule s) × IsAtOrAfter (encode rule s).table header_size
 
 -- setting TC changes no other field of a header
 abbrev pub TcIsSet : Type 0
 TcIsSet = (header : Header) → length (header_octets header) ≡ 4 → fields (with_tc header) ≡ record (fields header) { tc = true }
 
 -- the encoding of a state is the octets of a message with the state's header and items
-abbrev pub FoldsAreMessages : Type 0
-FoldsAreMessages = (rule : Rule) (s : State) → IsState s → IsMessageOf rule s (fold rule s).octets
+abbrev pub EncodingsAreMessages : Type 0
+EncodingsAreMessages = (rule : Rule) (s : State) → IsState s → IsMessageOf rule s (encode rule s).octets

@@ -5,7 +5,7 @@ use Rattle.dns_wire.specs.Parts.Part.{Octets}
 use Rattle.dns_wire.specs.Encoders.{Rule}
 use Rattle.dns_code.specs.declared.header.Header.{Header}
 use Rattle.dns_opt.specs.OptHeader.{ttl_in}
-use Rattle.dns_opt.specs.Options.{put_options}
+use Rattle.dns_opt.specs.Options.{encode_options}
 use Rattle.dns_opt_builder.specs.Gathered.{Gathered, IsGathered, gathered, nothing_gathered}
 use Rattle.dns_opt_builder.specs.declared.builder.OptBuilder.{OptBuilder}
 use Rattle.dns_item.specs.Items.{RecordItem}
@@ -20,7 +20,7 @@ opt_record g = record {
   rtype = 41;
   class = g.fields.udp_payload_size;
   ttl = ttl_in g.fields;
-  parts = Octets (put_options g.options) ∷ [];
+  parts = Octets (encode_options g.options) ∷ [];
 }
 
 -- sets the rcode, the lower four bits of octet 3, and changes nothing else

@@ -3,7 +3,7 @@ ghost use Rattle.std.specs.Prelude.{◌≡◌, [], OnErr};
 ghost use Rattle.std.specs.Fn.{FnOnceReturnsAtMut};
 ghost use Rattle.dns_name.specs.NameReading.{name_labels};
 ghost use Rattle.dns_opt.specs.OptHeader.{ttl_in};
-ghost use Rattle.dns_opt.specs.Options.{put_options};
+ghost use Rattle.dns_opt.specs.Options.{encode_options};
 ghost use Rattle.dns_data.specs.Opt.{opt_octets};
 ghost use Rattle.dns_opt_builder.specs.Gathered.{IsGathered, gathered};
 ghost use Rattle.dns_item.specs.Record.{owner_of, class_of, ttl_of, data_of};
@@ -51,7 +51,7 @@ fn record_of(builder: &OptBuilder) -> Record<Name<&'static [u8]>, Opt<&[u8]>>
     ensures owner { name_labels (owner_of result) ≡ [] }
     ensures class { class_of result ≡ (gathered builder.now).fields.udp_payload_size }
     ensures ttl { ttl_of result ≡ ttl_in (gathered builder.now).fields }
-    ensures options { opt_octets (data_of result) ≡ put_options (gathered builder.now).options }
+    ensures options { opt_octets (data_of result) ≡ encode_options (gathered builder.now).options }
     ensures is_gathered { IsGathered (gathered builder.now) }
 {
     let header = builder.opt_header();

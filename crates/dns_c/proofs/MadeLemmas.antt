@@ -5,25 +5,25 @@ use Rattle.std.specs.FinMap.{get, len, get-empty, len-empty}
 use Rattle.dns_wire.proofs.theory.CompressionTables.{get-insert_same}
 use Rattle.dns_name.specs.Names.{Labels, IsName, framed}
 use Rattle.dns_name.proofs.theory.LabelsLemmas.{length-uncompressed}
-use Rattle.dns_wire.specs.Parts.{Part, Octets, put_parts}
-use Rattle.dns_wire.specs.Encoders.{CompressionTable, Rule, Static, TableEntry, nothing, put_name, add_suffixes, spell, spell_label, is_kept, suffix_cmp}
+use Rattle.dns_wire.specs.Parts.{Part, Octets, encode_parts}
+use Rattle.dns_wire.specs.Encoders.{CompressionTable, Rule, Static, TableEntry, nothing, encode_name, add_suffixes, spell, spell_label, is_kept, suffix_cmp}
 use Rattle.dns_wire.specs.Targets.{Fits, Passes}
 use Rattle.dns_wire.proofs.theory.NameSizes.{names_are_short}
 use Rattle.dns_code.specs.Header.{header_octets}
 use Rattle.dns_code.specs.declared.header.Header.{Header}
-use Rattle.dns_question.specs.Questions.{QuestionItem, put_question}
-use Rattle.dns_item.specs.Items.{RecordItem, put_record}
-use Rattle.dns_build.specs.State.{State, IsState, fold, no_limit, most_entries}
+use Rattle.dns_question.specs.Questions.{QuestionItem, encode_question}
+use Rattle.dns_item.specs.Items.{RecordItem, encode_record}
+use Rattle.dns_build.specs.State.{State, IsState, encode, no_limit, most_entries}
 use Rattle.dns_build.specs.MessageOf.{IsMessageOf}
 use Rattle.dns_build.specs.declared.push_error.PushError.{PushError}
 use Rattle.dns_build.specs.declared.push_error.PushError.TheVariants as pushing
-use Rattle.dns_build.proofs.theory.FoldReading.{folds_are_messages}
+use Rattle.dns_build.proofs.theory.EncodingReading.{encodings_are_messages}
 use Rattle.dns_c.specs.Made.{asking, answering, address_record}
 
 -- The octets of a finished builder are a message.
 
-pub is_message : (rule : Rule) (s : State) (octets : List ℕ) → IsState s → octets ≡ (fold rule s).octets → IsMessageOf rule s octets
-is_message rule s octets state folded = subst (IsMessageOf rule s) (sym folded) (folds_are_messages rule s state)
+pub is_message : (rule : Rule) (s : State) (octets : List ℕ) → IsState s → octets ≡ (encode rule s).octets → IsMessageOf rule s octets
+is_message rule s octets state encoded = subst (IsMessageOf rule s) (sym encoded) (encodings_are_messages rule s state)
 
 -- No push fails if the message fits.
 
@@ -37,12 +37,12 @@ never_refused pushing.CountOverflow n limit count small none few short memory ov
 
 -- How long they are.
 
-name_short : (rule : Rule) (name : Labels) (m : CompressionTable) (w : ℕ) → IsName name → length (put_name rule name m w).octets ≤ 255
+name_short : (rule : Rule) (name : Labels) (m : CompressionTable) (w : ℕ) → IsName name → length (encode_name rule name m w).octets ≤ 255
 name_short rule name m w is = let short = is.short in omega (arith, names_are_short rule name m w, length-uncompressed name)
 
 -- a header section and a question
-pub asked_short : (rule : Rule) (header : Header) (x : QuestionItem) → length (header_octets header) ≡ 4 → IsName x.name → length (fold rule (asking header x)).octets ≤ 512
-unfolding fold put_question
+pub asked_short : (rule : Rule) (header : Header) (x : QuestionItem) → length (header_octets header) ≡ 4 → IsName x.name → length (encode rule (asking header x)).octets ≤ 512
+unfolding encode encode_question
 asked_short rule header x four is =
     let name = name_short rule x.name nothing (length (header_octets header) + 8) is in
     simp length-append (omega (arith, name, four))
@@ -64,8 +64,8 @@ listed_first name p end ss rest is =
     ap (λ (xs : List (Labels × ℕ)). get (add_suffixes nothing xs end) name) is ∙ get-insert_same (add_suffixes nothing rest end) name (record { offset = p; end = end })
 
 -- the first name of a message takes 2 octets at most when it is written again
-again_at : (name : Labels) (v : ℕ) → length (put_name Static name (put_name Static name nothing 12).table v).octets ≤ 2
-unfolding put_name
+again_at : (name : Labels) (v : ℕ) → length (encode_name Static name (encode_name Static name nothing 12).table v).octets ≤ 2
+unfolding encode_name
 again_at [] v = omega arith
 again_at (label ∷ rest) v =
     let entry_count = len nothing in
@@ -78,17 +78,17 @@ again_at (label ∷ rest) v =
     entry_short label rest v (spell Static table (v + 1 + length label) (len table + 1) rest) (get table (label ∷ rest)) (is_kept Static v (len table))
     (record { offset = 12; end = end }) (listed_first (label ∷ rest) 12 end spelled.1 after.1 (ap (λ (s : List ℕ × List (Labels × ℕ)). s.1) first))
 
-again_short : (name : Labels) (w v : ℕ) → w ≡ 12 → length (put_name Static name (put_name Static name nothing w).table v).octets ≤ 2
-again_short name w v first = subst (λ k. length (put_name Static name (put_name Static name nothing k).table v).octets ≤ 2) (sym first) (again_at name v)
+again_short : (name : Labels) (w v : ℕ) → w ≡ 12 → length (encode_name Static name (encode_name Static name nothing w).table v).octets ≤ 2
+again_short name w v first = subst (λ k. length (encode_name Static name (encode_name Static name nothing k).table v).octets ≤ 2) (sym first) (again_at name v)
 
 -- a message with a question and an A record
 pub answered_short : (header : Header) (x : QuestionItem) (ttl : ℕ) (address : List ℕ) → length (header_octets header) ≡ 4 → length address ≡ 4 → IsName x.name
-    → length (fold Static (answering header x (address_record x ttl address))).octets ≤ 512
-unfolding fold put_question put_record put_parts
+    → length (encode Static (answering header x (address_record x ttl address))).octets ≤ 512
+unfolding encode encode_question encode_record encode_parts
 answered_short header x ttl address four quad is =
     let w = length (header_octets header) + 8 in
     let name = name_short Static x.name nothing w is in
-    let again = again_short x.name w (w + (length (put_name Static x.name nothing w).octets + 4)) (omega (arith, four)) in
+    let again = again_short x.name w (w + (length (encode_name Static x.name nothing w).octets + 4)) (omega (arith, four)) in
     simp length-append (omega (arith, name, again, four, quad))
 
 -- an A record, field by field

@@ -14,7 +14,7 @@ use Rattle.dns_name.specs.declared.name_error.FromStrError.{FromStrError}
 use Rattle.dns_name.specs.declared.name_error.FromStrError.TheVariants.{Presentation, ShortBuf, OutOfMemory}
 use Rattle.dns_name.proofs.theory.NameTextFaults.{text_name_or_fault_not_both}
 use Rattle.dns_build.specs.State.{Every}
-use Rattle.dns_build.proofs.theory.Folds.{every_append}
+use Rattle.dns_build.proofs.theory.Encodings.{every_append}
 use Rattle.dns_c.specs.Made.{SpellsNoName}
 
 -- an octet of ASCII

@@ -14,7 +14,9 @@ ghost use Rattle.dns_c.specs.Texts.{Holds, NoRecordAt, RecordAt, data_octets, da
 
 use crate::code::Fault;
 use crate::name_fault::fault_at;
-use crate::pieces::{End, START, append_after, put, put_hex, put_name, put_number};
+use crate::pieces::{
+    End, START, append_after, append_hex, append_name, append_number, append_octets,
+};
 use crate::walk::{Item, parser_at};
 use dns_data::{A, Cname, Ns, ParseRecordData, Soa};
 use dns_item::ParsedRecord;
@@ -50,23 +52,23 @@ fn data_as<'a, D: ParseRecordData<'a> + Drop>(found: &ParsedRecord<'a>) -> Optio
 }
 
 /// Writes an IPv4 address in dotted decimal.
-fn put_address(data: &A, out: &mut [u8]) -> End
+fn append_address(data: &A, out: &mut [u8]) -> End
     ensures { Holds out.new (address_octets_text (address_of «data».now)) result }
 {
     let [a, b, c, d] = data.octets();
-    let end = put_number(u64::from(a), out, START);
+    let end = append_number(u64::from(a), out, START);
     let end = append_after(b".", u64::from(b), out, end);
     let end = append_after(b".", u64::from(c), out, end);
     append_after(b".", u64::from(d), out, end)
 }
 
 /// Writes the RDATA of SOA: two names and five numbers, separated by single spaces.
-fn put_zone(data: &Soa<ParsedName<'_>>, out: &mut [u8]) -> End
+fn append_zone(data: &Soa<ParsedName<'_>>, out: &mut [u8]) -> End
     ensures { Holds out.new (parts_text (soa_parts labels «data».now)) result }
 {
-    let end = put_name(data.mname(), out, START);
-    let end = put(b" ", out, end);
-    let end = put_name(data.rname(), out, end);
+    let end = append_name(data.mname(), out, START);
+    let end = append_octets(b" ", out, end);
+    let end = append_name(data.rname(), out, end);
     let end = append_after(b" ", u64::from(data.serial()), out, end);
     let end = append_after(b" ", u64::from(data.refresh()), out, end);
     let end = append_after(b" ", u64::from(data.retry()), out, end);
@@ -76,38 +78,38 @@ fn put_zone(data: &Soa<ParsedName<'_>>, out: &mut [u8]) -> End
 
 /// Writes RDATA in the form of RFC 3597 section 5: `\#`, the length, and the octets in hexadecimal
 /// if there are any.
-fn put_opaque(octets: &[u8], out: &mut [u8]) -> End
+fn append_opaque(octets: &[u8], out: &mut [u8]) -> End
     ensures { Holds out.new (opaque_text octets.now) result }
 {
-    let end = put(b"\\#", out, START);
+    let end = append_octets(b"\\#", out, START);
     let end = append_after(b" ", octets.len() as u64, out, end);
     if octets.is_empty() {
         return end;
     }
-    let end = put(b" ", out, end);
-    put_hex(octets, out, end)
+    let end = append_octets(b" ", out, end);
+    append_hex(octets, out, end)
 }
 
 /// Writes RDATA by its fields if it is well-formed A, NS, CNAME or SOA data, otherwise as opaque
 /// octets.
-fn put_data(found: &ParsedRecord<'_>, opaque: &[u8], out: &mut [u8]) -> End
+fn append_data(found: &ParsedRecord<'_>, opaque: &[u8], out: &mut [u8]) -> End
     requires read { IsRead (encoded_record found.now) }
     requires opaque { opaque.now ≡ data_octets (octets_of found.now) (parsed_entry found.now) }
     ensures { Holds out.new (data_text (octets_of found.now) (parsed_entry found.now)) result }
 {
     if let Some(address) = data_as::<A>(found) {
-        return put_address(&address, out);
+        return append_address(&address, out);
     }
     if let Some(server) = data_as::<Ns<ParsedName<'_>>>(found) {
-        return put_name(server.nsdname(), out, START);
+        return append_name(server.nsdname(), out, START);
     }
     if let Some(alias) = data_as::<Cname<ParsedName<'_>>>(found) {
-        return put_name(alias.cname(), out, START);
+        return append_name(alias.cname(), out, START);
     }
     if let Some(zone) = data_as::<Soa<ParsedName<'_>>>(found) {
-        return put_zone(&zone, out);
+        return append_zone(&zone, out);
     }
-    put_opaque(opaque, out)
+    append_opaque(opaque, out)
 }
 
 /// Writes the RDATA of a record. A question has none.
@@ -122,7 +124,7 @@ pub(crate) fn data(octets: &[u8], item: &Item, out: &mut [u8]) -> Result<End, Fa
         return Err(Fault::BadSection);
     }
     match record_at(octets, item.place) {
-        Ok((found, opaque)) => Ok(put_data(&found, opaque, out)),
+        Ok((found, opaque)) => Ok(append_data(&found, opaque, out)),
         Err(error) => Err(fault_at(octets, item.place, error)),
     }
 }

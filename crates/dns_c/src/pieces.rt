@@ -17,7 +17,7 @@ pub(crate) type End = Option<usize>;
 pub(crate) const START: End = Some(0);
 
 /// Appends octets to the text in `out`.
-pub(crate) fn put(octets: &[u8], out: &mut [u8], end: End) -> End
+pub(crate) fn append_octets(octets: &[u8], out: &mut [u8], end: End) -> End
     ensures { (text : List ℕ) → Holds out.old text end
         → Holds out.new (text ++ octets.now) result }
 {
@@ -33,12 +33,12 @@ pub(crate) fn put(octets: &[u8], out: &mut [u8], end: End) -> End
 }
 
 /// Appends a number in decimal.
-pub(crate) fn put_number(number: u64, out: &mut [u8], end: End) -> End
+pub(crate) fn append_number(number: u64, out: &mut [u8], end: End) -> End
     ensures { (text : List ℕ) → Holds out.old text end
         → Holds out.new (text ++ decimal number) result }
 {
     let mut buffer = Buffer::new();
-    put(buffer.format(number).as_bytes(), out, end)
+    append_octets(buffer.format(number).as_bytes(), out, end)
 }
 
 /// Appends a separator and a number in decimal.
@@ -46,51 +46,51 @@ pub(crate) fn append_after(separator: &[u8], number: u64, out: &mut [u8], end: E
     ensures { (text : List ℕ) → Holds out.old text end
         → Holds out.new (text ++ separator.now ++ decimal number) result }
 {
-    let end = put(separator, out, end);
-    put_number(number, out, end)
+    let end = append_octets(separator, out, end);
+    append_number(number, out, end)
 }
 
 /// Appends one octet of a label in presentation format.
-fn put_octet(octet: u8, out: &mut [u8], end: End) -> End
+fn append_octet(octet: u8, out: &mut [u8], end: End) -> End
     ensures { (text : List ℕ) → Holds out.old text end
         → Holds out.new (text ++ octet_text octet) result }
 {
     if octet == b'.' || octet == b'\\' {
-        return put(&[b'\\', octet], out, end);
+        return append_octets(&[b'\\', octet], out, end);
     }
     if octet.is_ascii_graphic() {
-        return put(&[octet], out, end);
+        return append_octets(&[octet], out, end);
     }
     let hundreds = b'0' + octet / 100;
     let tens = b'0' + octet / 10 % 10;
-    put(&[b'\\', hundreds, tens, b'0' + octet % 10], out, end)
+    append_octets(&[b'\\', hundreds, tens, b'0' + octet % 10], out, end)
 }
 
 /// Appends a label in presentation format.
-fn put_label(label: &[u8], out: &mut [u8], end: End) -> End
+fn append_label(label: &[u8], out: &mut [u8], end: End) -> End
     ensures { (text : List ℕ) → Holds out.old text end
         → Holds out.new (text ++ label_text label.now) result }
 {
     let mut end = end;
     for octet in label {
-        end = put_octet(*octet, out, end);
+        end = append_octet(*octet, out, end);
     }
     end
 }
 
 /// Appends a name with a dot after each label. The root is a single dot.
-pub(crate) fn put_name(name: &ParsedName<'_>, out: &mut [u8], end: End) -> End
+pub(crate) fn append_name(name: &ParsedName<'_>, out: &mut [u8], end: End) -> End
     ensures { (text : List ℕ) → Holds out.old text end
         → Holds out.new (text ++ absolute_name (labels name.now)) result }
 {
     if name.is_root() {
-        return put(b".", out, end);
+        return append_octets(b".", out, end);
     }
     let mut end = end;
     for label in name.iter_labels() {
         if !label.is_root() {
-            end = put_label(label.as_slice(), out, end);
-            end = put(b".", out, end);
+            end = append_label(label.as_slice(), out, end);
+            end = append_octets(b".", out, end);
         }
     }
     end
@@ -109,13 +109,13 @@ fn hex_digit(number: u8) -> u8
 }
 
 /// Appends octets in hexadecimal, two digits each.
-pub(crate) fn put_hex(octets: &[u8], out: &mut [u8], end: End) -> End
+pub(crate) fn append_hex(octets: &[u8], out: &mut [u8], end: End) -> End
     ensures { (text : List ℕ) → Holds out.old text end
         → Holds out.new (text ++ hex_octets octets.now) result }
 {
     let mut end = end;
     for octet in octets {
-        end = put(&[hex_digit(*octet / 16), hex_digit(*octet % 16)], out, end);
+        end = append_octets(&[hex_digit(*octet / 16), hex_digit(*octet % 16)], out, end);
     }
     end
 }

@@ -7,7 +7,7 @@ ghost use Rattle.dns_c.specs.Texts.{Holds, absolute_name};
 
 use crate::code;
 use crate::code::Fault;
-use crate::pieces::{End, START, put_name};
+use crate::pieces::{End, START, append_name};
 use crate::walk::name_at;
 
 /// Writes the name at offset `place`, with a dot after each label.
@@ -17,7 +17,7 @@ pub(crate) fn name(octets: &[u8], place: usize, out: &mut [u8]) -> Result<End, F
     ensures none { IfErr result (λ fault. LacksName octets.now place (number_of fault)) }
 {
     let name = name_at(octets, place)?;
-    Ok(put_name(&name, out, START))
+    Ok(append_name(&name, out, START))
 }
 
 /// Terminates a text with a zero octet, sets `len` to its length, and returns the status.

@@ -7,7 +7,7 @@ ghost use Rattle.dns_number.specs.Tables.{table};
 ghost use Rattle.dns_number.specs.Types.{type_text};
 ghost use Rattle.dns_c.specs.Texts.{Holds};
 
-use crate::pieces::{End, START, put, put_number};
+use crate::pieces::{End, START, append_number, append_octets};
 use dns_number::{Class, Rtype};
 
 /// The mnemonic of a record type, if it has one.
@@ -46,15 +46,15 @@ fn class_word(class: Class) -> Option<&'static str>
 }
 
 /// Writes the mnemonic `word`, or `other` followed by the number if there is none.
-fn put_word(word: Option<&str>, other: &[u8], number: u16, out: &mut [u8]) -> End
+fn append_word(word: Option<&str>, other: &[u8], number: u16, out: &mut [u8]) -> End
     ensures { Holds out.new (unwrap_or (option_map (λ word. word.now) word.entry)
         (other.now ++ decimal number)) result }
 {
     match word {
-        Some(word) => put(word.as_bytes(), out, START),
+        Some(word) => append_octets(word.as_bytes(), out, START),
         None => {
-            let end = put(other, out, START);
-            put_number(u64::from(number), out, end)
+            let end = append_octets(other, out, START);
+            append_number(u64::from(number), out, end)
         }
     }
 }
@@ -63,12 +63,12 @@ fn put_word(word: Option<&str>, other: &[u8], number: u16, out: &mut [u8]) -> En
 pub(crate) fn rtype(number: u16, out: &mut [u8]) -> End
     ensures { Holds out.new (type_text number) result }
 {
-    put_word(type_word(Rtype::from_int(number)), b"TYPE", number, out)
+    append_word(type_word(Rtype::from_int(number)), b"TYPE", number, out)
 }
 
 /// Writes a class.
 pub(crate) fn class(number: u16, out: &mut [u8]) -> End
     ensures { Holds out.new (class_text number) result }
 {
-    put_word(class_word(Class::from_int(number)), b"CLASS", number, out)
+    append_word(class_word(Class::from_int(number)), b"CLASS", number, out)
 }

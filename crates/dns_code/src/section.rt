@@ -23,7 +23,7 @@ impl Default for HeaderSection {
 
 impl HeaderSection {
     ghost use Rattle.dns_name.specs.Parsers.{seen, offset, Takes};
-    ghost use Rattle.dns_wire.specs.Encoders.{put_octets};
+    ghost use Rattle.dns_wire.specs.Encoders.{encode_octets};
     ghost use Rattle.dns_wire.specs.Targets.{Appends};
     ghost use Rattle.dns_code.specs.Header.{header_octets};
     ghost use Rattle.dns_code.specs.HeaderCounts.{counts_octets};
@@ -60,7 +60,7 @@ impl HeaderSection {
 
     /// Appends the twelve octets. A failed append changes nothing.
     pub fn compose<T: Composer>(&self, target: &mut T) -> Result<(), AppendError>
-        ensures { Appends T.capacity T.grows (put_octets (section_octets self.now))
+        ensures { Appends T.capacity T.grows (encode_octets (section_octets self.now))
             (T.written target.old) (T.written target.new) result }
     {
         target.append_slice(&self.octets)

@@ -3,36 +3,36 @@ use Rattle.std.proofs.Common.{◌≡◌, [], ◌∷◌, length, arith, refl, sym
 use Rattle.std.specs.Prelude.{Ok, Err}
 use Rattle.std.proofs.lemmas.List.{append-nil}
 use Rattle.dns_name.specs.Names.{Labels, IsName}
-use Rattle.dns_wire.specs.Parts.{CompressibleName, put_part, put_parts}
-use Rattle.dns_wire.specs.Encoders.{put_octets}
-use Rattle.dns_wire.specs.Targets.{Written, Fits, lay}
+use Rattle.dns_wire.specs.Parts.{CompressibleName, encode_part, encode_parts}
+use Rattle.dns_wire.specs.Encoders.{encode_octets}
+use Rattle.dns_wire.specs.Targets.{Written, Fits, append}
 use Rattle.dns_wire.proofs.theory.EncoderLaws.{appends_compose, composes_both, composes_first, same_written}
-use Rattle.dns_wire.proofs.theory.PutNames.{put_part_grows}
+use Rattle.dns_wire.proofs.theory.EncodedNames.{encode_part_grows}
 use Rattle.dns_name.proofs.theory.LabelsLemmas.{length-uncompressed}
 use Rattle.dns_data.specs.RecordData.{IsData}
 use Rattle.dns_data.specs.Laws.{NoPartComposes, OnePartComposes, PartsComposeAfter, RefusedPartComposes, NamesAreBounded}
 
 -- appending no octets changes nothing
-lay-nothing : (t : Written) → t ≡ lay (put_octets []) t
-lay-nothing t = same_written _ _ (sym (append-nil t.octets)) refl
+append-nothing : (t : Written) → t ≡ append (encode_octets []) t
+append-nothing t = same_written _ _ (sym (append-nil t.octets)) refl
 
 -- composing no parts changes nothing
 pub no_part_composes : NoPartComposes
-unfolding put_parts
+unfolding encode_parts
 no_part_composes capacity grows rule t fits =
-    record { ok = lay-nothing t; err = tt; answer = subst (λ (u : Written). Fits capacity (length u.octets)) (lay-nothing t) fits }
+    record { ok = append-nothing t; err = tt; answer = subst (λ (u : Written). Fits capacity (length u.octets)) (append-nothing t) fits }
 
 -- parts composed after an appended part compose all
 pub parts_compose_after : PartsComposeAfter
-unfolding put_parts
+unfolding encode_parts
 parts_compose_after capacity grows rule part parts t u v r is h =
-    composes_both capacity grows (put_part rule part) (put_parts rule parts) t u v r (put_part_grows rule part) is h
+    composes_both capacity grows (encode_part rule part) (encode_parts rule parts) t u v r (encode_part_grows rule part) is h
 
 -- if the first part can't be appended, composing all parts fails
 pub refused_part_composes : RefusedPartComposes
-unfolding put_parts
+unfolding encode_parts
 refused_part_composes capacity grows rule part parts t u r q e is out h =
-    composes_first capacity grows (put_part rule part) (put_parts rule parts) t u r q e is out (appends_compose capacity grows (put_part rule part) t u r h)
+    composes_first capacity grows (encode_part rule part) (encode_parts rule parts) t u r q e is out (appends_compose capacity grows (encode_part rule part) t u r h)
 
 -- one append composes one part
 pub one_part_composes : OnePartComposes

@@ -1,11 +1,11 @@
 -- Encodings after two octets into which their length is written.
 use Rattle.std.proofs.Common.{◌≡◌, ℕ, ◌+◌, ◌≤◌, ◌⊎◌, inl, inr, Bool, Option, Some, Result, Err, List, [], ◌∷◌, length, length-append, ap, sym, ◌∙◌, subst}
 use Rattle.std.specs.FinMap.{get}
-use Rattle.dns_wire.specs.Encoders.{TableEntry, IsClear, IsOldOrWithin, Extends, Encoder, IsGrowing, put_octets, both, with_length}
-use Rattle.dns_wire.specs.Targets.{Written, IsTarget, ComposeReturns, lay, Composes}
+use Rattle.dns_wire.specs.Encoders.{TableEntry, IsClear, IsOldOrWithin, Extends, Encoder, IsGrowing, encode_octets, both, with_length}
+use Rattle.dns_wire.specs.Targets.{Written, IsTarget, ComposeReturns, append, Composes}
 use Rattle.dns_octets.specs.declared.error.AppendError.{AppendError}
 use Rattle.dns_wire.proofs.theory.EncoderLaws.{composes_both}
-use Rattle.dns_wire.proofs.theory.PutNames.{put_octets_grows, ends_within_content}
+use Rattle.dns_wire.proofs.theory.EncodedNames.{encode_octets_grows, ends_within_content}
 
 -- the two octets before the length is known
 abbrev blank : List ℕ
@@ -20,27 +20,27 @@ one_clear before after w v (inr new) h y e =
     inr (subst (λ (z : TableEntry). w + 2 ≤ z.offset) is new.1.2)
 
 -- no suffix in the table has one of the two octets
-pub clear_length : (a : Encoder) (t v u : Written) → IsGrowing a → IsTarget t → v ≡ lay (put_octets blank) t → u ≡ lay a v → IsClear u.table (length t.octets) 2
+pub clear_length : (a : Encoder) (t v u : Written) → IsGrowing a → IsTarget t → v ≡ append (encode_octets blank) t → u ≡ append a v → IsClear u.table (length t.octets) 2
 clear_length a t v u grows is first second s x e =
     let start = length t.octets + 2 in
     let extends : Extends t.table (a t.table start).table start _ = grows.grows t.table start in
     let found : get (a t.table start).table s ≡ Some x =
     ap (λ n. get (a t.table n).table s) (sym (length-append t.octets blank))
-    ∙ ap (λ (w : Written). get w.table s) (sym (second ∙ ap (lay a) first)) ∙ e in
+    ∙ ap (λ (w : Written). get w.table s) (sym (second ∙ ap (append a) first)) ∙ e in
     inr (one_clear (get t.table s) _ (length t.octets) _ (extends.each s) (ends_within_content is s) x found)
 
 refused : (capacity : Option ℕ) (may_grow : Bool) (a : Encoder) (t u : Written) (e : AppendError)
-    → Composes capacity may_grow (both (put_octets blank) a) t u {X = Unit} (Err e) → Composes capacity may_grow (with_length a) t u {X = Unit} (Err e)
+    → Composes capacity may_grow (both (encode_octets blank) a) t u {X = Unit} (Err e) → Composes capacity may_grow (with_length a) t u {X = Unit} (Err e)
 refused capacity may_grow a t u e h = record {
   ok = tt;
   err = h.err;
   answer =
-      let n : length (lay (both (put_octets blank) a) t).octets ≡ length (lay (with_length a) t).octets = length-append t.octets _ ∙ sym (length-append t.octets _) in
+      let n : length (append (both (encode_octets blank) a) t).octets ≡ length (append (with_length a) t).octets = length-append t.octets _ ∙ sym (length-append t.octets _) in
       subst (λ n. ComposeReturns {X = Unit} capacity may_grow n (Err e)) n h.answer;
 }
 
 -- if composing after the two octets fails, composing with the length fails
 pub encoder_refused : (capacity : Option ℕ) (may_grow : Bool) (a : Encoder) (t v u : Written) (r q : Result Unit AppendError) (e : AppendError)
-    → r ≡ Err e → q ≡ Err e → v ≡ lay (put_octets blank) t → Composes capacity may_grow a v u r → Composes capacity may_grow (with_length a) t u q
+    → r ≡ Err e → q ≡ Err e → v ≡ append (encode_octets blank) t → Composes capacity may_grow a v u r → Composes capacity may_grow (with_length a) t u q
 encoder_refused capacity may_grow a t v u r q e is out first h =
-    rw out (refused capacity may_grow a t u e (composes_both capacity may_grow (put_octets blank) a t v u (Err e) (put_octets_grows blank) first (rw is at h)))
+    rw out (refused capacity may_grow a t u e (composes_both capacity may_grow (encode_octets blank) a t v u (Err e) (encode_octets_grows blank) first (rw is at h)))

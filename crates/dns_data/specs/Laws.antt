@@ -1,31 +1,31 @@
 -- Theorems over all parts that are composed and all RDATA in all octets. RFC 1035 sections 3.3 and 4.1.4.
 use Rattle.std.specs.Prelude.{◌≡◌, ◌⊎◌, ℕ, ◌≤◌, List, [], ◌∷◌, length, take, Bool, Option, Result, Ok, Err}
 use Rattle.dns_name.specs.Names.{Fault, Labels, IsName, uncompressed}
-use Rattle.dns_wire.specs.Parts.{Part, PartsAt, put_part, put_parts}
+use Rattle.dns_wire.specs.Parts.{Part, PartsAt, encode_part, encode_parts}
 use Rattle.dns_wire.specs.Encoders.{Rule}
-use Rattle.dns_wire.specs.Targets.{Written, Fits, lay, Appends, Composes}
+use Rattle.dns_wire.specs.Targets.{Written, Fits, append, Appends, Composes}
 use Rattle.dns_octets.specs.declared.error.AppendError.{AppendError}
 use Rattle.dns_data.specs.Layout.{Layout, IsLaidOut, DataAt, DataFaultAt}
 
 -- composing no parts changes nothing
 abbrev pub NoPartComposes : Type 0
 NoPartComposes = (capacity : Option ℕ) (grows : Bool) (rule : Rule) (t : Written)
-    → Fits capacity (length t.octets) → Composes capacity grows (put_parts rule []) t t {X = Unit} (Ok tt)
+    → Fits capacity (length t.octets) → Composes capacity grows (encode_parts rule []) t t {X = Unit} (Ok tt)
 
 -- appending one part composes it
 abbrev pub OnePartComposes : Type 0
 OnePartComposes = (capacity : Option ℕ) (grows : Bool) (rule : Rule) (part : Part) (t u : Written) (r : Result Unit AppendError)
-    → Appends capacity grows (put_part rule part) t u r → Composes capacity grows (put_parts rule (part ∷ [])) t u r
+    → Appends capacity grows (encode_part rule part) t u r → Composes capacity grows (encode_parts rule (part ∷ [])) t u r
 
 -- after the first part is appended, composing the remaining parts composes all of them, whatever the result
 abbrev pub PartsComposeAfter : Type 0
 PartsComposeAfter = (capacity : Option ℕ) (grows : Bool) (rule : Rule) (part : Part) (parts : List Part) (t u v : Written) (r : Result Unit AppendError)
-    → u ≡ lay (put_part rule part) t → Composes capacity grows (put_parts rule parts) u v r → Composes capacity grows (put_parts rule (part ∷ parts)) t v r
+    → u ≡ append (encode_part rule part) t → Composes capacity grows (encode_parts rule parts) u v r → Composes capacity grows (encode_parts rule (part ∷ parts)) t v r
 
 -- if the first part can't be appended, composing all parts fails with the same error
 abbrev pub RefusedPartComposes : Type 0
 RefusedPartComposes = (capacity : Option ℕ) (grows : Bool) (rule : Rule) (part : Part) (parts : List Part) (t u : Written) (r q : Result Unit AppendError) (e : AppendError)
-    → r ≡ Err e → q ≡ Err e → Appends capacity grows (put_part rule part) t u r → Composes capacity grows (put_parts rule (part ∷ parts)) t u q
+    → r ≡ Err e → q ≡ Err e → Appends capacity grows (encode_part rule part) t u r → Composes capacity grows (encode_parts rule (part ∷ parts)) t u q
 
 -- an uncompressed name has at most 255 octets
 abbrev pub NamesAreBounded : Type 0

@@ -2,7 +2,7 @@
 ghost use Rattle.std.specs.Prelude.{◌≡◌, ◌+◌, ◌-◌, ◌≤◌, length, OnOk};
 ghost use Rattle.std.specs.Int.{to_be_bytes, w16};
 ghost use Rattle.dns_wire.specs.Encoders.{IsClear, with_length};
-ghost use Rattle.dns_wire.specs.Parts.{put_parts};
+ghost use Rattle.dns_wire.specs.Parts.{encode_parts};
 ghost use Rattle.dns_wire.specs.Targets.{Composes, overwrite};
 ghost use Rattle.dns_data.specs.RecordData.{IsData, canonical};
 
@@ -17,7 +17,7 @@ pub fn compose_len_rdata<D: ComposeRecordData, T: Composer>(
     data: &D,
     target: &mut T,
 ) -> Result<(), AppendError>
-    ensures composes { Composes T.capacity T.grows (with_length (put_parts T.rule (D.parts «data».now)))
+    ensures composes { Composes T.capacity T.grows (with_length (encode_parts T.rule (D.parts «data».now)))
         (T.written target.old) (T.written target.new) result }
     ensures is_data { OnOk result (IsData (D.parts «data».now)) }
 {
@@ -35,7 +35,7 @@ pub fn compose_canonical_len_rdata<D: ComposeRecordData, T: Composer>(
     target: &mut T,
 ) -> Result<(), AppendError>
     ensures { Composes T.capacity T.grows (with_length
-        (put_parts T.rule (canonical (D.parts «data».now)))) (T.written target.old)
+        (encode_parts T.rule (canonical (D.parts «data».now)))) (T.written target.old)
         (T.written target.new) result }
 {
     let offset = target.as_slice().len();

@@ -1,7 +1,7 @@
 //! RDATA that is one name (RFC 1035 sections 3.3.1 and 3.3.11).
 ghost use Rattle.std.specs.Prelude.{◌≡◌, [], ◌∷◌, refl};
 ghost use Rattle.dns_name.specs.Names.{lowered, uncompressed};
-ghost use Rattle.dns_wire.specs.Parts.{CompressibleName, Octets, put_parts};
+ghost use Rattle.dns_wire.specs.Parts.{CompressibleName, Octets, encode_parts};
 ghost use Rattle.dns_wire.specs.Targets.{Composes};
 ghost use Rattle.dns_data.specs.Layout.{DomainName, End};
 ghost use Rattle.dns_data.specs.NameData.{nsdname_of, cname_of};
@@ -13,7 +13,7 @@ use dns_wire::{AppendError, Composer, ParseError, ParsedName, Parser, ToName, To
 
 fn compose_name<N: ToName, T: Composer>(name: &N, target: &mut T) -> Result<(), AppendError>
     ensures composes { Composes T.capacity T.grows
-        (put_parts T.rule (CompressibleName (N.name name.now) ∷ [])) (T.written target.old)
+        (encode_parts T.rule (CompressibleName (N.name name.now) ∷ [])) (T.written target.old)
         (T.written target.new) result }
     ensures is_data { IsData (CompressibleName (N.name name.now) ∷ []) }
 {
@@ -24,7 +24,7 @@ fn compose_canonical_name<N: ToName, T: Composer>(
     name: &N,
     target: &mut T,
 ) -> Result<(), AppendError>
-    ensures { Composes T.capacity T.grows (put_parts T.rule
+    ensures { Composes T.capacity T.grows (encode_parts T.rule
         (Octets (uncompressed (lowered (N.name name.now))) ∷ [])) (T.written target.old)
         (T.written target.new) result }
 {

@@ -1,6 +1,6 @@
 //! The traits of RDATA types.
 ghost use Rattle.std.specs.Prelude.{◌≡◌, ℕ, List, [], ◌∷◌, Option, IsSomeAnd, IfSome};
-ghost use Rattle.dns_wire.specs.Parts.{Part, Octets, put_parts};
+ghost use Rattle.dns_wire.specs.Parts.{Part, Octets, encode_parts};
 ghost use Rattle.dns_wire.specs.Targets.{Composes};
 ghost use Rattle.dns_data.specs.Layout.{Layout, IsLaidOut};
 ghost use Rattle.dns_data.specs.RecordData.{IsData, canonical, ParsesLaidOut, ParsesTaken};
@@ -39,14 +39,14 @@ pub trait ComposeRecordData: RecordData {
     /// On error the content still begins with the old content. A `truncate` to the old length
     /// restores the old target.
     fn compose_rdata<T: Composer>(&self, target: &mut T) -> Result<(), AppendError>
-        ensures composes { Composes T.capacity T.grows (put_parts T.rule (Self.parts self.now))
+        ensures composes { Composes T.capacity T.grows (encode_parts T.rule (Self.parts self.now))
             (T.written target.old) (T.written target.new) result }
         ensures is_data { IsData (Self.parts self.now) };
 
     /// Appends the parts in canonical form: names lowercased and uncompressed (RFC 4034 section
     /// 6.2). Errors are as for `compose_rdata`.
     fn compose_canonical_rdata<T: Composer>(&self, target: &mut T) -> Result<(), AppendError>
-        ensures { Composes T.capacity T.grows (put_parts T.rule (canonical (Self.parts self.now)))
+        ensures { Composes T.capacity T.grows (encode_parts T.rule (canonical (Self.parts self.now)))
             (T.written target.old) (T.written target.new) result };
 }
 

@@ -7,15 +7,15 @@ use borrow.Rule.Slice.PartMut.{put_mid}
 use Rattle.std.proofs.lemmas.List.{append-nil, set-append_right}
 use Rattle.std.specs.Int.{to_be_bytes, w16}
 use Rattle.dns_octets.specs.declared.error.AppendError.{AppendError}
-use Rattle.dns_wire.specs.Parts.{Part, Octets, put_parts}
-use Rattle.dns_wire.specs.Encoders.{Rule, put_octets, both, with_length}
+use Rattle.dns_wire.specs.Parts.{Part, Octets, encode_parts}
+use Rattle.dns_wire.specs.Encoders.{Rule, encode_octets, both, with_length}
 use Rattle.dns_wire.specs.Targets.{Written, Appends, Composes}
 use Rattle.dns_wire.proofs.theory.EncoderLaws.{appends_compose}
 
 -- fields, and octets after their length, are one encoding
 pub at_once : (rule : Rule) (fields octets : List ℕ)
-    → put_octets (fields ++ (to_be_bytes w16 (length octets) ++ octets)) ≡ both (put_octets fields) (with_length (put_parts rule (Octets octets ∷ [])))
-unfolding put_parts
+    → encode_octets (fields ++ (to_be_bytes w16 (length octets) ++ octets)) ≡ both (encode_octets fields) (with_length (encode_parts rule (Octets octets ∷ [])))
+unfolding encode_parts
 at_once rule fields octets = λ i m w. record {
   octets = fields ++ (to_be_bytes w16 (length (sym (append-nil octets) i)) ++ sym (append-nil octets) i);
   table = m;
@@ -23,8 +23,8 @@ at_once rule fields octets = λ i m w. record {
 
 -- one append composes them
 pub composes_at_once : (capacity : Option ℕ) (grows : Bool) (rule : Rule) (fields octets : List ℕ) (parts : List Part) (t u : Written) (r : Result Unit AppendError)
-    → parts ≡ Octets octets ∷ [] → Appends capacity grows (put_octets (fields ++ (to_be_bytes w16 (length octets) ++ octets))) t u r
-    → Composes capacity grows (both (put_octets fields) (with_length (put_parts rule parts))) t u r
+    → parts ≡ Octets octets ∷ [] → Appends capacity grows (encode_octets (fields ++ (to_be_bytes w16 (length octets) ++ octets))) t u r
+    → Composes capacity grows (both (encode_octets fields) (with_length (encode_parts rule parts))) t u r
 composes_at_once capacity grows rule fields octets parts t u r is h =
     rw is (subst (λ encoder. Composes capacity grows encoder t u r) (at_once rule fields octets) (appends_compose _ _ _ _ _ _ h))
 

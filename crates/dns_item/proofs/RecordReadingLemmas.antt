@@ -50,7 +50,7 @@ module _ {D : Type 0} (rtype_of : D → ℕ) (parts_of : D → List Part) (b : L
 
   -- parts that fill the RDATA are read there by each layout that they have
   data_is_there : (layout : Layout) (parts : List Part) → IsThere b x → IsLaidOut layout parts → PartsAt b x.rdata_end x.rdata_start parts → HasData b x layout parts
-  data_is_there layout parts there laid encoded = encoded_parts_read b x.rdata_end x.rdata_start layout parts there encoded laid
+  data_is_there layout parts there fits_layout encoded = encoded_parts_read b x.rdata_end x.rdata_start layout parts there encoded fits_layout
 
   -- the parts that are read are those of the RDATA of the layout
   read_there : (layout : Layout) (parts : List Part) (r : Record ParsedName D) → IsThere b x → HasData b x layout parts → GivesLaidOut rtype_of parts_of b x layout (Ok r)
@@ -63,8 +63,8 @@ module _ {D : Type 0} (rtype_of : D → ℕ) (parts_of : D → List Part) (b : L
 
   -- parts that fill the RDATA are returned
   pub gives_back : (layout : Layout) (result : Result (Record ParsedName D) ParseError) → ReturnsLaidOut rtype_of parts_of b x layout result → GivesBack rtype_of parts_of b x layout result
-  gives_back layout (Ok r) h parts there laid encoded = read_there layout parts r there (data_is_there layout parts there laid encoded) (h.gives there)
-  gives_back layout (Err e) h parts there laid encoded = absurd (no_fault_there layout parts (fault_of e) there (data_is_there layout parts there laid encoded) (h.gives there))
+  gives_back layout (Ok r) h parts there fits_layout encoded = read_there layout parts r there (data_is_there layout parts there fits_layout encoded) (h.gives there)
+  gives_back layout (Err e) h parts there fits_layout encoded = absurd (no_fault_there layout parts (fault_of e) there (data_is_there layout parts there fits_layout encoded) (h.gives there))
 
   given_back : (layout : Layout) (result : Result (Option (Record ParsedName D)) ParseError) (parts : List Part) → IsThere b x → HasData b x layout parts
       → GivesTaken rtype_of parts_of b x (Some layout) result → IsOkAnd result (λ o. IsSomeAnd o (IsRecordOf rtype_of parts_of b x parts))
@@ -75,21 +75,21 @@ module _ {D : Type 0} (rtype_of : D → ℕ) (parts_of : D → List Part) (b : L
   -- as `gives_back`, for a type that may have no layout
   pub gives_back_taken : (taken : Option Layout) (result : Result (Option (Record ParsedName D)) ParseError) → ReturnsTaken rtype_of parts_of b x taken result
       → GivesBackTaken rtype_of parts_of b x taken result
-  gives_back_taken taken result h layout parts is there laid encoded =
-      given_back layout result parts there (data_is_there layout parts there laid encoded) (subst (λ (o : Option Layout). GivesTaken rtype_of parts_of b x o result) is (h.gives there))
+  gives_back_taken taken result h layout parts is there fits_layout encoded =
+      given_back layout result parts there (data_is_there layout parts there fits_layout encoded) (subst (λ (o : Option Layout). GivesTaken rtype_of parts_of b x o result) is (h.gives there))
 
 module _ {D : Type 0} (rtype_of : D → ℕ) (parts_of : D → List Part) (b : List ℕ) (x : RecordEntry) where
   -- a value of the RDATA type is returned, as its parts have the layout
   pub gives_value_back : (layout : ℕ → Layout) (result : Result (Record ParsedName D) ParseError) → ((value : D) → IsLaidOut (layout (rtype_of value)) (parts_of value))
       → GivesBack rtype_of parts_of b x (layout x.rtype) result → GivesValueBack rtype_of parts_of b x result
-  gives_value_back layout result laid back value is there encoded =
-      back (parts_of value) there (subst (λ n. IsLaidOut (layout n) (parts_of value)) is (laid value)) encoded
+  gives_value_back layout result fits_layout back value is there encoded =
+      back (parts_of value) there (subst (λ n. IsLaidOut (layout n) (parts_of value)) is (fits_layout value)) encoded
 
   -- as `gives_value_back`, for a type that may not be accepted
   pub gives_value_back_taken : (layout : ℕ → Option Layout) (result : Result (Option (Record ParsedName D)) ParseError)
       → ((value : D) → IsSomeAnd (layout (rtype_of value)) (λ l. IsLaidOut l (parts_of value)))
       → GivesBackTaken rtype_of parts_of b x (layout x.rtype) result → GivesValueBackTaken rtype_of parts_of b x result
-  gives_value_back_taken layout result laid back value is there encoded = by (layout x.rtype) refl (subst (λ n. IsSomeAnd (layout n) (λ l. IsLaidOut l (parts_of value))) is (laid value))
+  gives_value_back_taken layout result fits_layout back value is there encoded = by (layout x.rtype) refl (subst (λ n. IsSomeAnd (layout n) (λ l. IsLaidOut l (parts_of value))) is (fits_layout value))
     where
       by : (o : Option Layout) → layout x.rtype ≡ o → IsSomeAnd o (λ l. IsLaidOut l (parts_of value)) → IsOkAnd result (λ o. IsSomeAnd o (IsRecordOf rtype_of parts_of b x (parts_of value)))
       by None e h = absurd h

@@ -3,9 +3,9 @@ use Rattle.std.specs.Prelude.{ℕ, ◌<◌, ◌≤◌, ◌^◌, List, ◌++◌, 
 use Rattle.std.specs.Int.{to_be_bytes, w16, w32}
 use Rattle.dns_name.specs.Names.{Labels, IsName, Fault, NameAt, Walked, ReadsOrFaults, EndsOrFaults}
 use Rattle.dns_name.specs.Parsers.{number_at}
-use Rattle.dns_wire.specs.Parts.{Part, AreParts, put_parts, parts_size, PartsAt}
-use Rattle.dns_wire.specs.Encoders.{Rule, Encoder, put_octets, both, with_length, put_name, IsGrowing}
-use Rattle.dns_wire.specs.Targets.{Written, IsTarget, lay}
+use Rattle.dns_wire.specs.Parts.{Part, AreParts, encode_parts, parts_size, PartsAt}
+use Rattle.dns_wire.specs.Encoders.{Rule, Encoder, encode_octets, both, with_length, encode_name, IsGrowing}
+use Rattle.dns_wire.specs.Targets.{Written, IsTarget, append}
 use Rattle.dns_question.specs.AfterNames.{SkipsFields, FieldsFaultAt, FieldsSkipFaultAt}
 
 -- a record, with its RDATA as a list of parts
@@ -30,8 +30,8 @@ abbrev pub record_fields : RecordItem → List ℕ
 record_fields x = to_be_bytes w16 x.rtype ++ to_be_bytes w16 x.class ++ to_be_bytes w32 x.ttl
 
 -- the encoding of a record: its owner, its fields, and its RDATA after RDLENGTH, which is the length of the RDATA as written
-unfoldable pub put_record : Rule → RecordItem → Encoder
-put_record rule x = both (put_name rule x.owner) (both (put_octets (record_fields x)) (with_length (put_parts rule x.parts)))
+unfoldable pub encode_record : Rule → RecordItem → Encoder
+encode_record rule x = both (encode_name rule x.owner) (both (encode_octets (record_fields x)) (with_length (encode_parts rule x.parts)))
 
 -- Records in the octets of a message. RFC 1035 section 4.1.3.
 
@@ -130,9 +130,9 @@ pub record RecordSkipAgrees : Type 0 where
 
 -- writing a record adds only suffixes of its own names to the compression table, under each rule
 abbrev pub RecordsGrow : Type 0
-RecordsGrow = (rule : Rule) (x : RecordItem) → IsGrowing (put_record rule x)
+RecordsGrow = (rule : Rule) (x : RecordItem) → IsGrowing (encode_record rule x)
 
 -- a record that is written reads back at its offset, with its parts filling its RDATA, and every suffix in the table is still at its offset
 abbrev pub RecordsReadBack : Type 0
 RecordsReadBack = (rule : Rule) (t : Written) (x : RecordItem) → IsRecord x → IsTarget t
-    → let u = lay (put_record rule x) t in ReadsRecordItem u.octets (length t.octets) (length u.octets) x × IsTarget u
+    → let u = append (encode_record rule x) t in ReadsRecordItem u.octets (length t.octets) (length u.octets) x × IsTarget u

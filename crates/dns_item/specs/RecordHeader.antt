@@ -4,7 +4,7 @@ use Rattle.std.specs.Int.{to_be_bytes, w16, w32}
 use Rattle.dns_name.specs.Names.{fault_of, Labels}
 use Rattle.dns_name.specs.ParsedName.{labels}
 use Rattle.dns_name.specs.Parsers.{seen, offset, number_at, MovesTo}
-use Rattle.dns_wire.specs.Encoders.{Rule, Encoder, put_octets, both, put_name}
+use Rattle.dns_wire.specs.Encoders.{Rule, Encoder, encode_octets, both, encode_name}
 use Rattle.dns_octets.specs.declared.error.ParseError.{ParseError}
 use Rattle.dns_name.specs.declared.parsed_name.ParsedName.{ParsedName}
 use Rattle.dns_name.specs.declared.parser.Parser.{Parser}
@@ -41,8 +41,8 @@ abbrev pub header_fields : ℕ → ℕ → ℕ → ℕ → List ℕ
 header_fields rtype class ttl rdlen = to_be_bytes w16 rtype ++ to_be_bytes w16 class ++ to_be_bytes w32 ttl ++ to_be_bytes w16 rdlen
 
 -- the encoding of a header: its owner, and its fields
-unfoldable pub put_header : Rule → HeaderEntry → Encoder
-put_header rule x = both (put_name rule x.owner) (put_octets (header_fields x.rtype x.class x.ttl x.rdlen))
+unfoldable pub encode_header : Rule → HeaderEntry → Encoder
+encode_header rule x = both (encode_name rule x.owner) (encode_octets (header_fields x.rtype x.class x.ttl x.rdlen))
 
 -- the record of a header whose RDATA begins at offset `start`
 abbrev pub record_at : RecordHeader ParsedName → ℕ → RecordEntry

@@ -1,6 +1,6 @@
 //! Records and record headers in canonical form (RFC 4034 section 6.2).
 ghost use Rattle.dns_wire.specs.Targets.{Composes};
-ghost use Rattle.dns_item.specs.Canonical.{put_canonical_record, put_canonical_header};
+ghost use Rattle.dns_item.specs.Canonical.{encode_canonical_record, encode_canonical_header};
 ghost use Rattle.dns_item.specs.Record.{record_item};
 ghost use Rattle.dns_item.specs.RecordHeader.{header_item};
 
@@ -17,7 +17,7 @@ impl<N: ToName, D: ComposeRecordData> Record<N, D> {
     /// restores the old target.
     pub fn compose_canonical<T: Composer>(&self, target: &mut T) -> Result<(), AppendError>
         ensures { Composes T.capacity T.grows
-            (put_canonical_record T.rule (record_item N.name D.rtype_of D.parts self.now))
+            (encode_canonical_record T.rule (record_item N.name D.rtype_of D.parts self.now))
             (T.written target.old) (T.written target.new) result }
     {
         let fields = field_octets(self.rtype(), self.class(), self.ttl());
@@ -35,7 +35,7 @@ impl<N: ToName> RecordHeader<N> {
     /// restores the old target.
     pub fn compose_canonical<T: Composer>(&self, target: &mut T) -> Result<(), AppendError>
         ensures { Composes T.capacity T.grows
-            (put_canonical_header (header_item N.name self.now)) (T.written target.old)
+            (encode_canonical_header (header_item N.name self.now)) (T.written target.old)
             (T.written target.new) result }
     {
         let name = self.owner();

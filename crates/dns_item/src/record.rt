@@ -1,9 +1,9 @@
 //! Records (RFC 1035 section 4.1.3).
 ghost use Rattle.std.specs.Prelude.{◌≡◌, ◌++◌, ◌≤◌, length, OnOk};
 ghost use Rattle.std.specs.Int.{to_be_bytes, w16, w32};
-ghost use Rattle.dns_wire.specs.Encoders.{put_octets};
+ghost use Rattle.dns_wire.specs.Encoders.{encode_octets};
 ghost use Rattle.dns_wire.specs.Targets.{Appends, Composes};
-ghost use Rattle.dns_item.specs.Items.{RecordItem, IsRecord, put_record};
+ghost use Rattle.dns_item.specs.Items.{RecordItem, IsRecord, encode_record};
 ghost use Rattle.dns_item.specs.Record.{owner_of, class_of, ttl_of, data_of, HasFields, record_item, item_of_fields};
 
 pub use crate::opt_record::OptRecord;
@@ -191,7 +191,7 @@ impl<N: ToName, D: ComposeRecordData> Record<N, D> {
     #[inline(always)]
     pub fn compose<T: Composer>(&self, target: &mut T) -> Result<(), AppendError>
         ensures composes { Composes T.capacity T.grows
-            (put_record T.rule (record_item N.name D.rtype_of D.parts self.now))
+            (encode_record T.rule (record_item N.name D.rtype_of D.parts self.now))
             (T.written target.old) (T.written target.new) result }
         ensures is_record { OnOk result (IsRecord
             (record_item N.name D.rtype_of D.parts self.now)) }
@@ -216,7 +216,7 @@ fn append_at_once<T: Composer>(
     target: &mut T,
 ) -> Result<(), AppendError>
     requires { length octets.now ≤ MOST_AT_ONCE }
-    ensures { Appends T.capacity T.grows (put_octets (fields.now ++
+    ensures { Appends T.capacity T.grows (encode_octets (fields.now ++
         (to_be_bytes w16 (length octets.now) ++ octets.now)))
         (T.written target.old) (T.written target.new) result }
 {
@@ -249,7 +249,7 @@ pub trait ComposeRecord {
     /// On error the content still begins with the old content. A `truncate` to the old length
     /// restores the old target.
     fn compose_record<T: Composer>(&self, target: &mut T) -> Result<(), AppendError>
-        ensures composes { Composes T.capacity T.grows (put_record T.rule (item self.now))
+        ensures composes { Composes T.capacity T.grows (encode_record T.rule (item self.now))
             (T.written target.old) (T.written target.new) result }
         ensures is_record { OnOk result (IsRecord (item self.now)) };
 }

@@ -4,7 +4,7 @@ ghost use Rattle.dns_name.specs.NearNames.{IsNear};
 ghost use Rattle.dns_name.specs.Parsers.{seen, offset, Takes};
 ghost use Rattle.dns_wire.specs.Targets.{Composes};
 ghost use Rattle.dns_item.specs.Record.{HasFields};
-ghost use Rattle.dns_item.specs.RecordHeader.{owner_of, rtype_of, class_of, ttl_of, rdlen_of, AreFieldsAt, header_fields, header_item, put_header, ParsesHeader, ReadsAhead, ParsesAndSkips};
+ghost use Rattle.dns_item.specs.RecordHeader.{owner_of, rtype_of, class_of, ttl_of, rdlen_of, AreFieldsAt, header_fields, header_item, encode_header, ParsesHeader, ReadsAhead, ParsesAndSkips};
 
 use crate::record::Record;
 use dns_code::{Class, Rtype};
@@ -94,7 +94,7 @@ impl<N: ToName> RecordHeader<N> {
     /// On error the content still begins with the old content. A `truncate` to the old length
     /// restores the old target.
     pub fn compose<T: Composer>(&self, target: &mut T) -> Result<(), AppendError>
-        ensures { Composes T.capacity T.grows (put_header T.rule (header_item N.name self.now))
+        ensures { Composes T.capacity T.grows (encode_header T.rule (header_item N.name self.now))
             (T.written target.old) (T.written target.new) result }
     {
         target.append_compressed_name(&self.owner)?;

@@ -6,7 +6,7 @@ use Rattle.dns_wire.specs.Encoders.{Rule}
 use Rattle.dns_wire.specs.Targets.{Written}
 use Rattle.dns_question.specs.Questions.{QuestionItem}
 use Rattle.dns_item.specs.Items.{RecordItem}
-use Rattle.dns_build.specs.MessageOf.{FoldsAreMessages, IsMessageOf}
+use Rattle.dns_build.specs.MessageOf.{EncodingsAreMessages, IsMessageOf}
 use Rattle.dns_build.specs.State.{State}
 use Rattle.dns_message.specs.declared.script.Stage.{Stage}
 use Rattle.dns_message.specs.declared.script.Stage.TheVariants.{Builder, Question, Answer, Authority, Additional}
@@ -62,22 +62,22 @@ module _ {Q R : Type 0} (capacity : Option ℕ) (grows : Bool) (question : Q →
       subst (λ (xs : List (Call Q R)). GoesOn old xs before items' new) (sym e) one_more
 
   -- the octets of a stage are a message if the stage represents a state
-  represents_message : {T : Type 0} → (s : State) (stage : Stage T) → FoldsAreMessages → StageRepresents rule s stage → IsMessageOf rule s (octets_of stage)
-  represents_message s (Builder b) folds h = subst (λ (w : Written). IsMessageOf rule s w.octets) (sym h.written) (folds rule s h.state)
-  represents_message s (Question b) folds h = subst (λ (w : Written). IsMessageOf rule s w.octets) (sym h.written) (folds rule s h.state)
-  represents_message s (Answer b) folds h = subst (λ (w : Written). IsMessageOf rule s w.octets) (sym h.written) (folds rule s h.state)
-  represents_message s (Authority b) folds h = subst (λ (w : Written). IsMessageOf rule s w.octets) (sym h.written) (folds rule s h.state)
-  represents_message s (Additional b) folds h = subst (λ (w : Written). IsMessageOf rule s w.octets) (sym h.written) (folds rule s h.state)
+  represents_message : {T : Type 0} → (s : State) (stage : Stage T) → EncodingsAreMessages → StageRepresents rule s stage → IsMessageOf rule s (octets_of stage)
+  represents_message s (Builder b) encodings h = subst (λ (w : Written). IsMessageOf rule s w.octets) (sym h.written) (encodings rule s h.state)
+  represents_message s (Question b) encodings h = subst (λ (w : Written). IsMessageOf rule s w.octets) (sym h.written) (encodings rule s h.state)
+  represents_message s (Answer b) encodings h = subst (λ (w : Written). IsMessageOf rule s w.octets) (sym h.written) (encodings rule s h.state)
+  represents_message s (Authority b) encodings h = subst (λ (w : Written). IsMessageOf rule s w.octets) (sym h.written) (encodings rule s h.state)
+  represents_message s (Additional b) encodings h = subst (λ (w : Written). IsMessageOf rule s w.octets) (sym h.written) (encodings rule s h.state)
 
   -- once all calls are made, this is a run
-  pub runs_all : {T : Type 0} → (old new : Stage T) (calls : List (Call Q R)) (index : ℕ) (before items : List Reply) → index ≤ length calls → length calls ≤ index → FoldsAreMessages
+  pub runs_all : {T : Type 0} → (old new : Stage T) (calls : List (Call Q R)) (index : ℕ) (before items : List Reply) → index ≤ length calls → length calls ≤ index → EncodingsAreMessages
       → GoesOn old (take index calls) before items new → RunsAll capacity grows question item rule old calls before items new
-  runs_all old new calls index before items l k folds so_far =
+  runs_all old new calls index before items l k encodings so_far =
       let e : take index calls ≡ calls = grind (arith, common_steps) in
       let all = subst (λ (xs : List (Call Q R)). GoesOn old xs before items new) e so_far in
       record {
         reported = all.reported;
         appended = all.appended;
         one_each = all.one_each;
-        runs = λ s h. let went = all.goes s h in record { replied = went.0; represents = went.1; message = represents_message _ new folds went.1 };
+        runs = λ s h. let went = all.goes s h in record { replied = went.0; represents = went.1; message = represents_message _ new encodings went.1 };
       }

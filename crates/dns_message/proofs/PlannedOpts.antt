@@ -6,7 +6,7 @@ use Rattle.dns_octets.specs.declared.error.AppendError.{AppendError}
 use Rattle.dns_octets.specs.declared.error.AppendError.TheVariants.{ShortBuf, OutOfMemory}
 use Rattle.dns_wire.specs.Encoders.{Rule}
 use Rattle.dns_question.specs.Questions.{QuestionItem}
-use Rattle.dns_opt.specs.Options.{OptionItem, put_option, put_options}
+use Rattle.dns_opt.specs.Options.{OptionItem, encode_option, encode_options}
 use Rattle.dns_opt_builder.specs.Additions.{Adds}
 use Rattle.dns_opt_builder.specs.Gathered.{Gathered, IsGathered, gathered, nothing_gathered}
 use Rattle.dns_opt_builder.specs.declared.builder.OptBuilder.{OptBuilder}
@@ -27,10 +27,10 @@ use Rattle.dns_message.specs.Script.{lacks, Stays}
 pub added_first : (x : OptionItem) (old new : OptBuilder) (xs : List OptionItem) (answer : Result (Unit {0}) AppendError) → Adds x old new (Ok tt)
     → AddsAll (gathered_size (gathered new)) xs answer → AddsAll (gathered_size (gathered old)) (x ∷ xs) answer
 added_first x old new xs answer h rest =
-    let put = ap length (flat_map-append put_option (gathered old).options (x ∷ [])) in
-    let sum = length-append (put_options (gathered old).options) (put_options (x ∷ [])) in
-    let one = ap length (append-nil (put_option x)) in
-    let size : gathered_size (gathered new) ≡ gathered_size (gathered old) + 4 + length x.octets = omega (arith, ap gathered_size h.0, put, sum, one) in
+    let encoding = ap length (flat_map-append encode_option (gathered old).options (x ∷ [])) in
+    let sum = length-append (encode_options (gathered old).options) (encode_options (x ∷ [])) in
+    let one = ap length (append-nil (encode_option x)) in
+    let size : gathered_size (gathered new) ≡ gathered_size (gathered old) + 4 + length x.octets = omega (arith, ap gathered_size h.0, encoding, sum, one) in
     inr (h.1, inr (subst (λ (n : ℕ). AddsAll n xs answer) size rest))
 
 -- adding the first option fails

@@ -4,7 +4,7 @@ use Rattle.dns_octets.specs.declared.error.AppendError.{AppendError}
 use Rattle.dns_octets.specs.declared.error.AppendError.TheVariants.{ShortBuf, OutOfMemory}
 use Rattle.dns_code.specs.declared.header.Header.{Header}
 use Rattle.dns_opt.specs.OptData.{option_of}
-use Rattle.dns_opt.specs.Options.{OptionItem, put_options}
+use Rattle.dns_opt.specs.Options.{OptionItem, encode_options}
 use Rattle.dns_opt_builder.specs.Gathered.{Gathered, gathered, nothing_gathered, with_rcode}
 use Rattle.dns_opt_builder.specs.declared.builder.OptBuilder.{OptBuilder}
 use Rattle.dns_message.specs.declared.opt_plan.OptPlan.{OptPlan}
@@ -44,7 +44,7 @@ AddsAll n (x ∷ xs) answer = let m = n + 4 + length x.octets in
 
 -- the octets that the gathered options take
 abbrev pub gathered_size : Gathered → ℕ
-gathered_size g = length (put_options g.options)
+gathered_size g = length (encode_options g.options)
 
 -- a plan is carried out on a builder: on success everything in it is gathered, and the result is that of adding its options
 pub record CarriesOut (plan : OptPlan) (old new : OptBuilder) (answer : Result (Unit {0}) AppendError) : Type 0 where

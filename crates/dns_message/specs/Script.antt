@@ -6,7 +6,7 @@ use Rattle.dns_opt_builder.specs.Gathered.{Gathered, IsGathered}
 use Rattle.dns_question.specs.Questions.{QuestionItem}
 use Rattle.dns_item.specs.Items.{RecordItem}
 use Rattle.dns_build.specs.BuilderStates.{Built, PushReturns, Represents}
-use Rattle.dns_build.specs.State.{fold, State, InBuilder, InQuestion, InAnswer, InAuthority, InAdditional, with_question, with_record, records_at, with_header, with_limit, no_limit, rewound, tc_rewound, move_to}
+use Rattle.dns_build.specs.State.{encode, State, InBuilder, InQuestion, InAnswer, InAuthority, InAdditional, with_question, with_record, records_at, with_header, with_limit, no_limit, rewound, tc_rewound, move_to}
 use Rattle.dns_build.specs.MessageOf.{IsMessageOf}
 use Rattle.dns_build.specs.Opt.{opt_record, with_opt, OptReturns}
 use Rattle.dns_build.specs.declared.push_error.PushError.{PushError}
@@ -126,9 +126,9 @@ module _ (capacity : Option ℕ) (grows : Bool) where
   module _ {Q R : Type 0} (question : Q → QuestionItem) (item : R → RecordItem) (rule : Rule) where
     -- the reply to a call that the stage has
     abbrev pub IsAnswer : State → Call Q R → Reply → Type 0
-    IsAnswer s (PushQuestion x) reply = IsPushReply s.limit (length (fold rule (with_question (question x) s)).octets) (length s.questions) reply
-    IsAnswer s (PushRecord x) reply = IsPushReply s.limit (length (fold rule (with_record s.stage (item x) s)).octets) (length (records_at s.stage s)) reply
-    IsAnswer s (PushOpt plan) reply = let g = planned_beside s.header plan in IsOptReply g s.limit (length (fold rule (with_record InAdditional (opt_record g) s)).octets) (length s.additionals) reply
+    IsAnswer s (PushQuestion x) reply = IsPushReply s.limit (length (encode rule (with_question (question x) s)).octets) (length s.questions) reply
+    IsAnswer s (PushRecord x) reply = IsPushReply s.limit (length (encode rule (with_record s.stage (item x) s)).octets) (length (records_at s.stage s)) reply
+    IsAnswer s (PushOpt plan) reply = let g = planned_beside s.header plan in IsOptReply g s.limit (length (encode rule (with_record InAdditional (opt_record g) s)).octets) (length s.additionals) reply
     IsAnswer s call reply = reply ≡ Done
 
     -- the reply to a call: `Misplaced` exactly if the stage lacks the call

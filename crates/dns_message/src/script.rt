@@ -4,7 +4,7 @@ ghost use Rattle.dns_build.specs.State.{InQuestion, InAdditional};
 ghost use Rattle.dns_message.specs.Script.{Steps, StepsFrom, Stays, is_move, is_setting, has_opt, RunsAll, octets_of};
 
 pub use crate::opt_plan::OptPlan;
-use dns_build::laws::folds_are_messages;
+use dns_build::laws::encodings_are_messages;
 use dns_build::{
     AdditionalBuilder, AnswerBuilder, AuthorityBuilder, Builder, BuilderStage, MessageBuilder,
     PushError, QuestionBuilder, RecordStage,
@@ -291,6 +291,6 @@ pub fn run<T: Composer, Q: ComposeQuestion, R: ComposeRecord>(
         stage = next;
         replies.push_reserved(reply);
     }
-    folds_are_messages();
+    encodings_are_messages();
     Ok(stage)
 }

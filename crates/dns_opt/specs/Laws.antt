@@ -1,7 +1,7 @@
 -- Theorems over all lists of options. RFC 6891 section 6.1.2.
 use Rattle.std.specs.Prelude.{◌≡◌, ◌↔◌, ◌<◌, ℕ, List, length, Some}
 use Rattle.std.specs.List.{All}
-use Rattle.dns_opt.specs.Options.{OptionItem, AreOptions, put_options}
+use Rattle.dns_opt.specs.Options.{OptionItem, AreOptions, encode_options}
 use Rattle.dns_opt.specs.OptionsOf.{options_of}
 
 -- `options_of` returns exactly the list of options that the octets are
@@ -15,4 +15,4 @@ pub record IsOption (x : OptionItem) : Type 0 where
 
 -- options that are written are read back
 abbrev pub OptionsAreReadBack : Type 0
-OptionsAreReadBack = (xs : List OptionItem) → All IsOption xs → options_of (put_options xs) ≡ Some xs
+OptionsAreReadBack = (xs : List OptionItem) → All IsOption xs → options_of (encode_options xs) ≡ Some xs

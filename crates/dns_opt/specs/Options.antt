@@ -22,8 +22,8 @@ AreOptions b [] = b ≡ []
 AreOptions b (x ∷ xs) = (after : List ℕ) × OptionBegins x b after × AreOptions after xs
 
 -- the octets of an option, and those of options in order
-abbrev pub put_option : OptionItem → List ℕ
-put_option x = to_be_bytes w16 x.code ++ to_be_bytes w16 (length x.octets) ++ x.octets
+abbrev pub encode_option : OptionItem → List ℕ
+encode_option x = to_be_bytes w16 x.code ++ to_be_bytes w16 (length x.octets) ++ x.octets
 
-abbrev pub put_options : List OptionItem → List ℕ
-put_options = flat_map put_option
+abbrev pub encode_options : List OptionItem → List ℕ
+encode_options = flat_map encode_option

@@ -3,7 +3,7 @@ use Rattle.std.specs.Prelude.{vec_capacity, ℕ, ◌/◌, ◌%◌, ◌<◌, ◌�
 use Rattle.dns_code.specs.Header.{HeaderFields, fields as header_fields}
 use Rattle.dns_code.specs.declared.header.Header.{Header}
 use Rattle.dns_opt.specs.OptHeader.{OptFields, fields as opt_fields}
-use Rattle.dns_opt.specs.Options.{OptionItem, AreOptions, put_options}
+use Rattle.dns_opt.specs.Options.{OptionItem, AreOptions, encode_options}
 use Rattle.dns_opt.specs.OptionsOf.{options_in}
 use Rattle.dns_opt_builder.specs.declared.builder.OptBuilder.{OptBuilder}
 
@@ -47,5 +47,5 @@ pub record IsGathered (g : Gathered) : Type 0 where
   pub ext : g.fields.ext < 256
   pub version : g.fields.version < 256
   pub z : g.fields.z < 32768
-  pub listed : AreOptions (put_options g.options) g.options
-  pub short : length (put_options g.options) ≤ 65535
+  pub listed : AreOptions (encode_options g.options) g.options
+  pub short : length (encode_options g.options) ≤ 65535

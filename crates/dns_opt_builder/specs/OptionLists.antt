@@ -3,11 +3,11 @@ use Rattle.std.specs.Prelude.{◌≡◌, ℕ, ◌+◌, ◌<◌, List, ◌++◌, 
 use Rattle.dns_octets.specs.declared.error.AppendError.{AppendError}
 use Rattle.dns_octets.specs.declared.error.AppendError.TheVariants.{OutOfMemory}
 use Rattle.dns_wire.specs.Targets.{AppendReturns}
-use Rattle.dns_opt.specs.Options.{OptionItem, put_option}
+use Rattle.dns_opt.specs.Options.{OptionItem, encode_option}
 
 -- The option is appended to the list. On error the list stays: `ShortBuf` if it would have more than 65,535 octets, else `OutOfMemory`, only if it would exceed its capacity.
 pub record AppendsOption (x : OptionItem) (capacity : ℕ) (before after : List ℕ) (result : Result Unit AppendError) : Type 0 where
-  pub ok : OnOk result (after ≡ before ++ put_option x)
+  pub ok : OnOk result (after ≡ before ++ encode_option x)
   pub err : OnErr result (after ≡ before)
   pub answer : AppendReturns (Some 65535) true (length before + 4 + length x.octets) result
   pub full : result ≡ Err OutOfMemory → capacity < length before + 4 + length x.octets

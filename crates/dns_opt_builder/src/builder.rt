@@ -1,6 +1,6 @@
 //! A builder of OPT records (RFC 6891 section 6.1).
 ghost use Rattle.std.specs.Prelude.{◌≡◌, ◌≤◌, length, IsTrue};
-ghost use Rattle.dns_opt.specs.Options.{put_options};
+ghost use Rattle.dns_opt.specs.Options.{encode_options};
 ghost use Rattle.dns_opt.specs.OptionsOf.{are_options, options_in};
 
 use crate::options::{
@@ -23,7 +23,7 @@ pub struct OptBuilder {
     opt_header: OptHeader,
     octets: Vec<u8>,
     ghost listed: { IsTrue (are_options octets.items) },
-    ghost whole: { put_options (options_in octets.items) ≡ octets.items },
+    ghost whole: { encode_options (options_in octets.items) ≡ octets.items },
     ghost short: { length octets.items ≤ 65535 },
 }
 
@@ -67,7 +67,7 @@ impl OptBuilder {
     /// The options in wire format, which is the RDATA of the record.
     pub fn option_octets(&self) -> &[u8]
         ensures octets { result.now ≡ option_octets self.now }
-        ensures options { result.now ≡ put_options (gathered self.now).options }
+        ensures options { result.now ≡ encode_options (gathered self.now).options }
         ensures short { length result.now ≤ 65535 }
     {
         self.octets.as_slice()
@@ -157,7 +157,7 @@ impl OptBuilder {
         ensures added { OnOk result (gathered self.new ≡ record (gathered self.old) {
           options = (gathered self.old).options ++ options_left options.entry;
         }) }
-        ensures short { result ≡ Err AppendError.ShortBuf → 65535 < length (put_options
+        ensures short { result ≡ Err AppendError.ShortBuf → 65535 < length (encode_options
             ((gathered self.old).options ++ options_left options.entry)) }
     {
         for (code, octets) in options {

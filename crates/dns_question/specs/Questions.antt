@@ -3,8 +3,8 @@ use Rattle.std.specs.Prelude.{ℕ, ◌<◌, ◌^◌, List, ◌++◌, ◌≡◌, 
 use Rattle.std.specs.Int.{to_be_bytes, w16}
 use Rattle.dns_name.specs.Names.{Labels, IsName, Fault, NameAt, ReadsOrFaults, EndsOrFaults}
 use Rattle.dns_name.specs.Parsers.{number_at}
-use Rattle.dns_wire.specs.Encoders.{Rule, Encoder, put_octets, both, put_name, IsGrowing}
-use Rattle.dns_wire.specs.Targets.{Written, IsTarget, lay}
+use Rattle.dns_wire.specs.Encoders.{Rule, Encoder, encode_octets, both, encode_name, IsGrowing}
+use Rattle.dns_wire.specs.Targets.{Written, IsTarget, append}
 use Rattle.dns_question.specs.AfterNames.{SkipsFields, FieldsFaultAt, FieldsSkipFaultAt}
 
 -- a question: name, type and class
@@ -24,8 +24,8 @@ abbrev pub question_fields : QuestionItem → List ℕ
 question_fields x = to_be_bytes w16 x.rtype ++ to_be_bytes w16 x.class
 
 -- the encoding of a question: its name, and its fields
-unfoldable pub put_question : Rule → QuestionItem → Encoder
-put_question rule x = both (put_name rule x.name) (put_octets (question_fields x))
+unfoldable pub encode_question : Rule → QuestionItem → Encoder
+encode_question rule x = both (encode_name rule x.name) (encode_octets (question_fields x))
 
 -- Questions in the octets of a message. RFC 1035 section 4.1.2.
 
@@ -65,9 +65,9 @@ pub record QuestionSkipAgrees : Type 0 where
 
 -- writing a question adds only suffixes of its own name to the compression table, under each rule
 abbrev pub QuestionsGrow : Type 0
-QuestionsGrow = (rule : Rule) (x : QuestionItem) → IsGrowing (put_question rule x)
+QuestionsGrow = (rule : Rule) (x : QuestionItem) → IsGrowing (encode_question rule x)
 
 -- a question that is written reads back at its offset, and every suffix in the table is still at its offset
 abbrev pub QuestionsReadBack : Type 0
 QuestionsReadBack = (rule : Rule) (t : Written) (x : QuestionItem) → IsQuestion x → IsTarget t
-    → let u = lay (put_question rule x) t in ReadsQuestion u.octets (length t.octets) (length u.octets) x × IsTarget u
+    → let u = append (encode_question rule x) t in ReadsQuestion u.octets (length t.octets) (length u.octets) x × IsTarget u

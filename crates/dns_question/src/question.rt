@@ -1,7 +1,7 @@
 //! Questions (RFC 1035 section 4.1.2).
 ghost use Rattle.std.specs.Prelude.{◌≡◌};
 ghost use Rattle.dns_wire.specs.Targets.{Composes};
-ghost use Rattle.dns_question.specs.Questions.{QuestionItem, IsQuestion, put_question};
+ghost use Rattle.dns_question.specs.Questions.{QuestionItem, IsQuestion, encode_question};
 ghost use Rattle.dns_question.specs.Question.{qname_of, qtype_of, qclass_of, HasFields, question_item, ParsesQuestion, SkipsOverQuestion};
 
 pub use crate::question_error::{FromStrError, PresentationError, PresentationErrorEnum};
@@ -128,7 +128,7 @@ impl<N: ToName> Question<N> {
     #[inline(always)]
     pub fn compose<T: Composer>(&self, target: &mut T) -> Result<(), AppendError>
         ensures composes { Composes T.capacity T.grows
-            (put_question T.rule (question_item N.name self.now)) (T.written target.old)
+            (encode_question T.rule (question_item N.name self.now)) (T.written target.old)
             (T.written target.new) result }
         ensures item { IsQuestion (question_item N.name self.now) }
     {
@@ -146,7 +146,7 @@ pub trait ComposeQuestion {
 
     /// Appends the question, as `Question::compose` does.
     fn compose_question<T: Composer>(&self, target: &mut T) -> Result<(), AppendError>
-        ensures composes { Composes T.capacity T.grows (put_question T.rule (question self.now))
+        ensures composes { Composes T.capacity T.grows (encode_question T.rule (question self.now))
             (T.written target.old) (T.written target.new) result }
         ensures item { IsQuestion (question self.now) };
 }

@@ -1,6 +1,6 @@
 //! RDATA of which all fields are octets.
 ghost use Rattle.std.specs.Prelude.{◌∷◌, map};
-ghost use Rattle.dns_wire.specs.Parts.{Octets, put_parts};
+ghost use Rattle.dns_wire.specs.Parts.{Octets, encode_parts};
 ghost use Rattle.dns_wire.specs.Targets.{Composes};
 
 use dns_message::data::laws::parts_compose;
@@ -13,7 +13,7 @@ pub fn compose_fields<T: Composer>(
     after: &[&[u8]],
     target: &mut T,
 ) -> Result<(), AppendError>
-    ensures { Composes T.capacity T.grows (put_parts T.rule (Octets first.now
+    ensures { Composes T.capacity T.grows (encode_parts T.rule (Octets first.now
         ∷ map (λ field. Octets field.now) after.now)) (T.written target.old)
         (T.written target.new) result }
 {

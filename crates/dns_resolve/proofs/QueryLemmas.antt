@@ -3,18 +3,18 @@ use Rattle.std.proofs.Common.{◌≡◌, ◌≤◌, length, length-append, arith
 use Rattle.std.specs.Prelude.{Result, Ok, Err, IsOk}
 use Rattle.dns_name.specs.Names.{IsName}
 use Rattle.dns_name.proofs.theory.LabelsLemmas.{length-uncompressed}
-use Rattle.dns_wire.specs.Encoders.{Plain, put_name}
+use Rattle.dns_wire.specs.Encoders.{Plain, encode_name}
 use Rattle.dns_code.specs.Header.{header_octets}
 use Rattle.dns_code.specs.declared.header.Header.{Header}
-use Rattle.dns_question.specs.Questions.{QuestionItem, put_question}
-use Rattle.dns_build.specs.State.{fold}
+use Rattle.dns_question.specs.Questions.{QuestionItem, encode_question}
+use Rattle.dns_build.specs.State.{encode}
 use Rattle.dns_build.specs.declared.push_error.PushError.{PushError}
 use Rattle.dns_build.specs.declared.push_error.PushError.TheVariants as errors
 use Rattle.dns_resolve.specs.Resolving.{asking}
 
 -- the header section, the name and four octets
-pub query_size : (header : Header) (asked : QuestionItem) → length (header_octets header) ≡ 4 → IsName asked.name → length (fold Plain (asking header asked)).octets ≤ 271
-unfolding fold put_question put_name
+pub query_size : (header : Header) (asked : QuestionItem) → length (header_octets header) ≡ 4 → IsName asked.name → length (encode Plain (asking header asked)).octets ≤ 271
+unfolding encode encode_question encode_name
 query_size header asked four is =
     let name = length-uncompressed asked.name in
     let few = is.short in

@@ -23,7 +23,7 @@ use Rattle.dns_read.specs.RecordSearches.{CanonicalName, cname_layout}
 use Rattle.dns_read.specs.Searches.{answers_query, asked_first}
 use Rattle.dns_read.specs.SectionStarts.{records_of}
 use Rattle.dns_build.specs.MessageOf.{ReadsBack}
-use Rattle.dns_build.specs.State.{InQuestion, State, fold, no_limit}
+use Rattle.dns_build.specs.State.{InQuestion, State, encode, no_limit}
 use Rattle.dns_resolve.specs.declared.resolving.NoAddresses.{NoAddresses}
 use Rattle.dns_resolve.specs.declared.resolving.NoAddresses.TheVariants.{OtherMessage, Failed, Truncated, OtherType, NoName, Unreadable, OutOfMemory}
 
@@ -61,7 +61,7 @@ asking header asked = record {
 pub record IsQuery (id : ℕ) (asked : QuestionItem) (b : List ℕ) : Type 0 where
   pub header : Header
   pub fields : fields header ≡ query_fields id
-  pub octets : b ≡ (fold Plain (asking header asked)).octets
+  pub octets : b ≡ (encode Plain (asking header asked)).octets
   pub reads_back : ReadsBack (asking header asked) b
 
 -- Addresses.

@@ -25,7 +25,7 @@ use Rattle.dns_build.specs.declared.copy_records_error.CopyRecordsError.{CopyRec
 use Rattle.dns_build.specs.declared.copy_records_error.CopyRecordsError.TheVariants.{Push}
 use Rattle.dns_build.specs.declared.push_error.PushError.{PushError}
 use Rattle.dns_build.specs.declared.push_error.PushError.TheVariants.{CountOverflow, LimitExceeded, ShortBuf, OutOfMemory}
-use Rattle.dns_build.proofs.theory.Folds.{every_append}
+use Rattle.dns_build.proofs.theory.Encodings.{every_append}
 use Rattle.dns_rewrite.proofs.Sizes.{HasShortItems, IsNamed, IsShort, items_of, short_message}
 
 -- a state without a limit, with short items, each section within the greatest count

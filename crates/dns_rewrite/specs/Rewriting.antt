@@ -15,7 +15,7 @@ use Rattle.dns_section.specs.declared.section.Section.TheVariants.{Answer, Autho
 use Rattle.dns_read.specs.Searches.{questions_of}
 use Rattle.dns_build.specs.MessageOf.{ReadsBack}
 use Rattle.dns_build.specs.Answers.{header_in, readable_questions}
-use Rattle.dns_build.specs.State.{InAnswer, State, fold, no_limit}
+use Rattle.dns_build.specs.State.{InAnswer, State, encode, no_limit}
 use Rattle.dns_build.specs.declared.copy_records_error.CopyRecordsError.{CopyRecordsError}
 use Rattle.dns_build.specs.declared.copy_records_error.CopyRecordsError.TheVariants.{Parse, Push}
 use Rattle.dns_build.specs.declared.push_error.PushError.TheVariants.{OutOfMemory}
@@ -71,7 +71,7 @@ pub record CutsSection (most : ℕ) (b : List ℕ) (section : Section) (items : 
 pub record IsCut (most : ℕ) (b new : List ℕ) : Type 0 where
   pub readable : MessageReads b
   pub state : State
-  pub octets : new ≡ (fold Static state).octets
+  pub octets : new ≡ (encode Static state).octets
   pub reads_back : ReadsBack state new
   pub header : header_octets state.header ≡ take 4 b
   pub questions : state.questions ≡ values (questions_of b)

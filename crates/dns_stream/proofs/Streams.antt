@@ -1,7 +1,7 @@
 -- A message after its length: what calls of the wrapped target do to the message alone.
 use Rattle.std.proofs.Common.{◌≡◌, ℕ, suc, ◌+◌, ◌≤◌, Bool, Option, Some, None, Result, Err, List, [], ◌∷◌, ◌++◌, length, length-append, take, drop, ap, sym, ◌∙◌, refl, arith}
 use Rattle.std.proofs.lemmas.Grind.{common_steps}
-use Rattle.dns_wire.specs.Encoders.{put_octets}
+use Rattle.dns_wire.specs.Encoders.{encode_octets}
 use Rattle.dns_wire.specs.Targets.{Written, Fits, Passes, AppendReturns, Appends, cut_to, overwrite, with_empty_table as plain}
 use Rattle.dns_octets.specs.declared.error.AppendError.{AppendError}
 use Rattle.dns_octets.specs.declared.error.AppendError.TheVariants.{ShortBuf, OutOfMemory}
@@ -51,12 +51,12 @@ answers capacity grows t xs ShortBuf l f few h = passes capacity t xs l f h
 answers capacity grows t xs OutOfMemory l f few h = (fits_stream capacity t xs l few h.0, h.1)
 
 refuses : (capacity : Option ℕ) (grows : Bool) (xs : List ℕ) (t u : Written) (e : AppendError) → 2 ≤ length t.octets → Fits capacity (length t.octets) → length (drop 2 t.octets ++ xs) ≤ 65535
-    → Appends capacity grows (put_octets xs) t u {X = Unit {0}} (Err e) → Appends (stream_capacity capacity) grows (put_octets xs) (plain (drop 2 t.octets)) (plain (drop 2 u.octets)) {X = Unit {0}} (Err e)
+    → Appends capacity grows (encode_octets xs) t u {X = Unit {0}} (Err e) → Appends (stream_capacity capacity) grows (encode_octets xs) (plain (drop 2 t.octets)) (plain (drop 2 u.octets)) {X = Unit {0}} (Err e)
 refuses capacity grows xs t u e l f few h = record { ok = tt; err = ap (λ (w : Written). plain (drop 2 w.octets)) h.err; answer = answers capacity grows t xs e l f few h.answer }
 
 -- An error in appending to the wrapped target is one in appending to the message.
 pub refused : (capacity : Option ℕ) (grows : Bool) (xs : List ℕ) (t u : Written) (v : List ℕ) (r : Result (Unit {0}) AppendError) (e : AppendError) → 2 ≤ length t.octets → Fits capacity (length t.octets) → drop 2 t.octets ≡ v → length v + length xs ≤ 65535 → r ≡ Err e
-    → Appends capacity grows (put_octets xs) t u {X = Unit {0}} (Err e) → Appends (stream_capacity capacity) grows (put_octets xs) (plain v) (plain (drop 2 u.octets)) r
+    → Appends capacity grows (encode_octets xs) t u {X = Unit {0}} (Err e) → Appends (stream_capacity capacity) grows (encode_octets xs) (plain v) (plain (drop 2 u.octets)) r
 refused capacity grows xs t u v r e l f is few out h =
     rw (out, ← is) (refuses capacity grows xs t u e l f (rw (length-append, is) few) h)
 

@@ -4,17 +4,17 @@ use Rattle.std.specs.FinMap.{len, from_entries}
 use Rattle.dns_octets.specs.declared.error.AppendError.{AppendError}
 use Rattle.dns_octets.specs.declared.error.AppendError.TheVariants.{ShortBuf, OutOfMemory}
 use Rattle.dns_name.specs.Names.{Labels, IsName, name_size, max_size, uncompressed}
-use Rattle.dns_wire.specs.Encoders.{suffix_cmp, CompressionTable, TableEntry, IsClear, Plain, Rule, Static, Tree, put_octets, put_name}
+use Rattle.dns_wire.specs.Encoders.{suffix_cmp, CompressionTable, TableEntry, IsClear, Plain, Rule, Static, Tree, encode_octets, encode_name}
 use Rattle.dns_wire.specs.Choice.{first_suffixes}
-use Rattle.dns_wire.specs.Targets.{IsTableOf, Written, lay, cut_to, overwrite, Fits, Passes, AppendReturns, Appends, IsTarget}
-use Rattle.dns_wire.proofs.theory.EncoderLaws.{same_written, puts_octets, puts_put_name}
-use Rattle.dns_wire.proofs.theory.PutNames.{ends_within_content}
+use Rattle.dns_wire.specs.Targets.{IsTableOf, Written, append, cut_to, overwrite, Fits, Passes, AppendReturns, Appends, IsTarget}
+use Rattle.dns_wire.proofs.theory.EncoderLaws.{same_written, encodes_octets, encodes_name}
+use Rattle.dns_wire.proofs.theory.EncodedNames.{ends_within_content}
 use Rattle.dns_wire.proofs.theory.SpelledNames.{is_table_cut, is_table_over}
 use Rattle.dns_wire.proofs.theory.CompressionTables.{nothing_is_kept}
-use Rattle.dns_target.specs.Indexes.{IsFound, IsReachable, IsThere, Enters, IsPut, planned_octets, AreTableEntries, IsToAdd, Plans}
+use Rattle.dns_target.specs.Indexes.{IsFound, IsReachable, IsThere, Enters, IsEncoded, planned_octets, AreTableEntries, IsToAdd, Plans}
 use Rattle.dns_target.specs.TableEntries.{with_names, named, table_in, AreNew, last_end, AreOrdered, cut_table_entries, with_suffixes, with_table_entries, HasTableEntries}
 use Rattle.dns_target.proofs.EntryLemmas.{all_get, named_again, named-table_entries, table_entries-named, last_within, cut-table, cut-new, cut-ordered, table_entries-with_names, entries-with_names, with_names-new, with_suffixes-ordered, len-table}
-use Rattle.dns_target.proofs.Choosing.{planned_put}
+use Rattle.dns_target.proofs.Choosing.{planned_encoded}
 use Rattle.std.specs.Prelude.{◌||◌}
 use Rattle.std.proofs.lemmas.Grind.{common_steps}
 use Rattle.dns_name.proofs.theory.LabelsLemmas.{length-uncompressed}
@@ -47,45 +47,45 @@ same_entries rule w v xs h r = ap (λ (ps : List (Labels × TableEntry)). from_e
 pub entries_new : (rule : Rule) (w : Written) (xs : List TableEntry) → rule ≡ Plain → xs ≡ [] → HasTableEntries rule w xs
 entries_new rule w xs p e = rw e (record { plain = p; new = tt; ordered = tt; target = nothing_is_kept w.octets })
 
-octets_kept : (rule : Rule) (w v : Written) (xs : List TableEntry) (ys : List ℕ) → HasTableEntries rule w xs → v ≡ lay (put_octets ys) w → IsTableOf v.octets (table_in w.octets xs)
+octets_kept : (rule : Rule) (w v : Written) (xs : List TableEntry) (ys : List ℕ) → HasTableEntries rule w xs → v ≡ append (encode_octets ys) w → IsTableOf v.octets (table_in w.octets xs)
 octets_kept rule w v xs ys h e =
-    subst (λ (b : List ℕ). IsTableOf b (table_in w.octets xs)) (ap (λ (x : Written). x.octets) (sym e)) ((puts_octets ys).keeps (with_table_entries w xs) h.target)
+    subst (λ (b : List ℕ). IsTableOf b (table_in w.octets xs)) (ap (λ (x : Written). x.octets) (sym e)) ((encodes_octets ys).keeps (with_table_entries w xs) h.target)
 
 -- the names stay if octets are appended
-pub grown_names : (rule : Rule) (w v : Written) (xs : List TableEntry) (ys : List ℕ) → HasTableEntries rule w xs → v ≡ lay (put_octets ys) w → named v.octets xs ≡ named w.octets xs
+pub grown_names : (rule : Rule) (w v : Written) (xs : List TableEntry) (ys : List ℕ) → HasTableEntries rule w xs → v ≡ append (encode_octets ys) w → named v.octets xs ≡ named w.octets xs
 grown_names rule w v xs ys h e = same_names rule w xs v.octets h (octets_kept rule w v xs ys h e)
 
 -- the same for an append with any result
 pub octets_names : (rule : Rule) (capacity : Option ℕ) (grows : Bool) (w v : Written) (xs : List TableEntry) (ys : List ℕ) (r : Result (Unit {0}) AppendError)
-    → HasTableEntries rule w xs → Appends capacity grows (put_octets ys) w v r → named v.octets xs ≡ named w.octets xs
+    → HasTableEntries rule w xs → Appends capacity grows (encode_octets ys) w v r → named v.octets xs ≡ named w.octets xs
 octets_names rule capacity grows w v xs ys (Ok x) h a = grown_names rule w v xs ys h a.ok
 octets_names rule capacity grows w v xs ys (Err e) h a = ap (λ (t : Written). named t.octets xs) a.err
 
 -- an append of octets keeps the invariant, whatever its result
 pub entries_appended : (rule : Rule) (capacity : Option ℕ) (grows : Bool) (w v : Written) (xs : List TableEntry) (ys : List ℕ) (r : Result (Unit {0}) AppendError)
-    → HasTableEntries rule w xs → Appends capacity grows (put_octets ys) w v r → HasTableEntries rule v xs
+    → HasTableEntries rule w xs → Appends capacity grows (encode_octets ys) w v r → HasTableEntries rule v xs
 entries_appended rule capacity grows w v xs ys (Ok x) h a = same_state rule w v xs h (octets_kept rule w v xs ys h a.ok)
 entries_appended rule capacity grows w v xs ys (Err e) h a = rw a.err h
 
 -- octets are appended, and the table stays
 pub octets_appended : (rule : Rule) (capacity : Option ℕ) (grows all_grow : Bool) (w v now : Written) (xs : List TableEntry) (ys : List ℕ) (r : Result (Unit {0}) AppendError)
-    → HasTableEntries rule w xs → (grows ≡ true → all_grow ≡ true) → with_table_entries w xs ≡ now → Appends capacity grows (put_octets ys) w v r
-    → Appends capacity all_grow (put_octets ys) now (with_table_entries v xs) r
+    → HasTableEntries rule w xs → (grows ≡ true → all_grow ≡ true) → with_table_entries w xs ≡ now → Appends capacity grows (encode_octets ys) w v r
+    → Appends capacity all_grow (encode_octets ys) now (with_table_entries v xs) r
 octets_appended rule capacity grows all_grow w v now xs ys (Ok x) h more s a =
-    subst (λ (t : Written). Appends capacity all_grow (put_octets ys) t (with_table_entries v xs) {X = Unit {0}} (Ok x)) s (record {
+    subst (λ (t : Written). Appends capacity all_grow (encode_octets ys) t (with_table_entries v xs) {X = Unit {0}} (Ok x)) s (record {
       ok = same_written _ _ (ap (λ (t : Written). t.octets) a.ok) (same_entries rule w v xs h (octets_kept rule w v xs ys h a.ok));
       err = tt;
       answer = a.answer;
     })
 octets_appended rule capacity grows all_grow w v now xs ys (Err e) h more s a =
-    subst (λ (t : Written). Appends capacity all_grow (put_octets ys) t (with_table_entries v xs) {X = Unit {0}} (Err e)) s (record {
+    subst (λ (t : Written). Appends capacity all_grow (encode_octets ys) t (with_table_entries v xs) {X = Unit {0}} (Err e)) s (record {
       ok = tt;
       err = ap (λ (t : Written). with_table_entries t xs) a.err;
       answer = result_by e a.answer;
     })
   where
-    result_by : (e : AppendError) → AppendReturns {X = Unit {0}} capacity grows (length (lay (put_octets ys) w).octets) (Err e)
-        → AppendReturns {X = Unit {0}} capacity all_grow (length (lay (put_octets ys) (with_table_entries w xs)).octets) (Err e)
+    result_by : (e : AppendError) → AppendReturns {X = Unit {0}} capacity grows (length (append (encode_octets ys) w).octets) (Err e)
+        → AppendReturns {X = Unit {0}} capacity all_grow (length (append (encode_octets ys) (with_table_entries w xs)).octets) (Err e)
     result_by ShortBuf k = k
     result_by OutOfMemory k = (k.0, more k.1)
 
@@ -148,97 +148,97 @@ entries_reachable rule w xs content name from offset h e f =
     reachable_by (Some p) t = (t.0, let k = h.target.each _ t.1.0 t.1.1 in let l = k.near in let z = t.1.2 in omega arith)
 
 -- the names once the suffixes of a name are added
-pub put_names : (rule compressing : Rule) (w v : Written) (xs : List TableEntry) (name : Labels) (text : List ℕ) (ss : List (Labels × ℕ)) → IsName name → HasTableEntries rule w xs
-    → v ≡ lay (put_octets text) w → IsPut compressing name (table_in w.octets xs) (length w.octets) text ss
+pub encode_names : (rule compressing : Rule) (w v : Written) (xs : List TableEntry) (name : Labels) (text : List ℕ) (ss : List (Labels × ℕ)) → IsName name → HasTableEntries rule w xs
+    → v ≡ append (encode_octets text) w → IsEncoded compressing name (table_in w.octets xs) (length w.octets) text ss
     → let ps = with_names (named w.octets xs) ss (length w.octets + length text) in
     AreNew ps × (named v.octets (with_suffixes xs ss (length w.octets + length text)) ≡ ps) × IsTableOf v.octets (from_entries {R = suffix_cmp} ps)
-put_names rule compressing w v xs name text ss is h e put =
+encode_names rule compressing w v xs name text ss is h e encoding =
     let m = table_in w.octets xs in
     let end = length w.octets + length text in
     let ps = with_names (named w.octets xs) ss end in
-    let new : AreNew ps = with_names-new (named w.octets xs) ss end h.new put.new in
-    let all : from_entries {R = suffix_cmp} ps ≡ (put_name compressing name m (length w.octets)).table = entries-with_names (named w.octets xs) ss end ∙ sym put.table in
-    let target = (puts_put_name compressing name is).keeps (with_table_entries w xs) h.target in
-    let content : v.octets ≡ w.octets ++ (put_name compressing name m (length w.octets)).octets = ap (λ (x : Written). x.octets) e ∙ ap (λ (ys : List ℕ). w.octets ++ ys) (sym put.octets) in
+    let new : AreNew ps = with_names-new (named w.octets xs) ss end h.new encoding.new in
+    let all : from_entries {R = suffix_cmp} ps ≡ (encode_name compressing name m (length w.octets)).table = entries-with_names (named w.octets xs) ss end ∙ sym encoding.table in
+    let target = (encodes_name compressing name is).keeps (with_table_entries w xs) h.target in
+    let content : v.octets ≡ w.octets ++ (encode_name compressing name m (length w.octets)).octets = ap (λ (x : Written). x.octets) e ∙ ap (λ (ys : List ℕ). w.octets ++ ys) (sym encoding.octets) in
     let r : IsTableOf v.octets (from_entries {R = suffix_cmp} ps) =
     subst (λ (b : List ℕ). IsTableOf b (from_entries {R = suffix_cmp} ps)) (sym content)
-    (subst (λ (q : CompressionTable). IsTableOf (w.octets ++ (put_name compressing name m (length w.octets)).octets) q) (sym all) target) in
+    (subst (λ (q : CompressionTable). IsTableOf (w.octets ++ (encode_name compressing name m (length w.octets)).octets) q) (sym all) target) in
     (new, ap (named v.octets) (sym (table_entries-with_names (named w.octets xs) ss end ∙ ap (λ ys. with_suffixes ys ss end) (table_entries-named w.octets xs))) ∙ named-table_entries v.octets (from_entries ps) ps r (all_get ps new), r)
 
 -- the invariant once the suffixes of a name are added
 pub entries_put : (rule compressing : Rule) (w v : Written) (xs us : List TableEntry) (name : Labels) (text : List ℕ) (ss : List (Labels × ℕ)) → IsName name → HasTableEntries rule w xs
-    → v ≡ lay (put_octets text) w → IsPut compressing name (table_in w.octets xs) (length w.octets) text ss → us ≡ with_suffixes xs ss (length w.octets + length text)
+    → v ≡ append (encode_octets text) w → IsEncoded compressing name (table_in w.octets xs) (length w.octets) text ss → us ≡ with_suffixes xs ss (length w.octets + length text)
     → HasTableEntries rule v us
-entries_put rule compressing w v xs us name text ss is h e put f =
+entries_put rule compressing w v xs us name text ss is h e encoding f =
     let end = length w.octets + length text in
-    let names = put_names rule compressing w v xs name text ss is h e put in
+    let names = encode_names rule compressing w v xs name text ss is h e encoding in
     let last : last_end xs ≤ length w.octets = last_within w.octets xs (length w.octets) (ends_within_content h.target) in
     rw f (by_names rule v (with_suffixes xs ss end) _ h.plain names.1 names.0 (with_suffixes-ordered xs ss end h.ordered (omega arith)).0 names.2)
 
 -- octets and table are then those that the rule gives
 pub put_entries : (rule compressing : Rule) (w v now : Written) (xs us : List TableEntry) (name : Labels) (text : List ℕ) (ss : List (Labels × ℕ)) → IsName name → HasTableEntries rule w xs
-    → v ≡ lay (put_octets text) w → IsPut compressing name (table_in w.octets xs) (length w.octets) text ss → us ≡ with_suffixes xs ss (length w.octets + length text)
-    → with_table_entries w xs ≡ now → with_table_entries v us ≡ lay (put_name compressing name) now
-put_entries rule compressing w v now xs us name text ss is h e put f s =
+    → v ≡ append (encode_octets text) w → IsEncoded compressing name (table_in w.octets xs) (length w.octets) text ss → us ≡ with_suffixes xs ss (length w.octets + length text)
+    → with_table_entries w xs ≡ now → with_table_entries v us ≡ append (encode_name compressing name) now
+put_entries rule compressing w v now xs us name text ss is h e encoding f s =
     let end = length w.octets + length text in
-    let names = put_names rule compressing w v xs name text ss is h e put in
+    let names = encode_names rule compressing w v xs name text ss is h e encoding in
     ap (with_table_entries v) f
-    ∙ same_written (with_table_entries v (with_suffixes xs ss end)) (lay (put_name compressing name) (with_table_entries w xs))
-    (ap (λ (x : Written). x.octets) e ∙ ap (λ (ys : List ℕ). w.octets ++ ys) (sym put.octets))
-    (ap (λ (ps : List (Labels × TableEntry)). from_entries {R = suffix_cmp} ps) names.1 ∙ entries-with_names (named w.octets xs) ss end ∙ sym put.table)
-    ∙ ap (lay (put_name compressing name)) s
+    ∙ same_written (with_table_entries v (with_suffixes xs ss end)) (append (encode_name compressing name) (with_table_entries w xs))
+    (ap (λ (x : Written). x.octets) e ∙ ap (λ (ys : List ℕ). w.octets ++ ys) (sym encoding.octets))
+    (ap (λ (ps : List (Labels × TableEntry)). from_entries {R = suffix_cmp} ps) names.1 ∙ entries-with_names (named w.octets xs) ss end ∙ sym encoding.table)
+    ∙ ap (append (encode_name compressing name)) s
 
 -- a static compressor writes and adds what its rule says
-pub static_put : (m : CompressionTable) (w entry_count : ℕ) (name : Labels) (from count : ℕ) (offset : Option ℕ) → entry_count ≡ len m → IsFound m name from offset → Enters Static w entry_count name from count
-    → IsPut Static name m w (planned_octets (nat_lt count from) name from offset) (first_suffixes count name w)
-static_put m w entry_count name from count offset e f k = planned_put Static m w name from count offset (λ e. cc) refl f (subst (λ (h : ℕ). Enters Static w h name from count) e k)
+pub static_encoded : (m : CompressionTable) (w entry_count : ℕ) (name : Labels) (from count : ℕ) (offset : Option ℕ) → entry_count ≡ len m → IsFound m name from offset → Enters Static w entry_count name from count
+    → IsEncoded Static name m w (planned_octets (nat_lt count from) name from offset) (first_suffixes count name w)
+static_encoded m w entry_count name from count offset e f k = planned_encoded Static m w name from count offset (λ e. cc) refl f (subst (λ (h : ℕ). Enters Static w h name from count) e k)
 
 -- so does a tree compressor, however many suffixes are in its table
-pub tree_put : (m : CompressionTable) (w : ℕ) (name : Labels) (from count : ℕ) (offset : Option ℕ) → IsFound m name from offset → Enters Tree w 0 name from count
-    → IsPut Tree name m w (planned_octets (nat_lt count from) name from offset) (first_suffixes count name w)
-tree_put m w name from count offset f k =
-    planned_put Tree m w name from count offset (λ e. cc) refl f (record { within = k.within; near = λ i l. k.near i l; far = λ l. k.far l })
+pub tree_encoded : (m : CompressionTable) (w : ℕ) (name : Labels) (from count : ℕ) (offset : Option ℕ) → IsFound m name from offset → Enters Tree w 0 name from count
+    → IsEncoded Tree name m w (planned_octets (nat_lt count from) name from offset) (first_suffixes count name w)
+tree_encoded m w name from count offset f k =
+    planned_encoded Tree m w name from count offset (λ e. cc) refl f (record { within = k.within; near = λ i l. k.near i l; far = λ l. k.far l })
 
 -- the length of the octets after an append
-pub ending : (w v : Written) (text content : List ℕ) → content ≡ v.octets → v ≡ lay (put_octets text) w → length content ≡ length w.octets + length text
+pub ending : (w v : Written) (text content : List ℕ) → content ≡ v.octets → v ≡ append (encode_octets text) w → length content ≡ length w.octets + length text
 ending w v text content e o = ap length e ∙ ap (λ (x : Written). length x.octets) o ∙ length-append w.octets text
 
 -- if the octets of a name are appended, the name fits the capacity
 pub name_fits : (compressing : Rule) (capacity : Option ℕ) (grows : Bool) (w v now : Written) (xs : List TableEntry) (name : Labels) (text : List ℕ) (ss : List (Labels × ℕ))
-    → Appends capacity grows (put_octets text) w v {X = Unit {0}} (Ok tt) → IsPut compressing name (table_in w.octets xs) (length w.octets) text ss → with_table_entries w xs ≡ now
-    → Fits capacity (length (lay (put_name compressing name) now).octets)
-name_fits compressing capacity grows w v now xs name text ss a put s =
-    subst (λ (t : Written). Fits capacity (length (lay (put_name compressing name) t).octets)) s
-    (subst (λ (ys : List ℕ). Fits capacity (length (w.octets ++ ys))) (sym put.octets) a.answer)
+    → Appends capacity grows (encode_octets text) w v {X = Unit {0}} (Ok tt) → IsEncoded compressing name (table_in w.octets xs) (length w.octets) text ss → with_table_entries w xs ≡ now
+    → Fits capacity (length (append (encode_name compressing name) now).octets)
+name_fits compressing capacity grows w v now xs name text ss a encoding s =
+    subst (λ (t : Written). Fits capacity (length (append (encode_name compressing name) t).octets)) s
+    (subst (λ (ys : List ℕ). Fits capacity (length (w.octets ++ ys))) (sym encoding.octets) a.answer)
 
 -- a name is appended
 pub name_appended : (rule compressing : Rule) (capacity : Option ℕ) (grows all_grow : Bool) (w v now : Written) (xs us : List TableEntry) (name : Labels) (text : List ℕ) (ss : List (Labels × ℕ))
-    → IsName name → HasTableEntries rule w xs → Appends capacity grows (put_octets text) w v {X = Unit {0}} (Ok tt)
-    → IsPut compressing name (table_in w.octets xs) (length w.octets) text ss → us ≡ with_suffixes xs ss (length w.octets + length text) → with_table_entries w xs ≡ now
-    → Appends capacity all_grow (put_name compressing name) now (with_table_entries v us) {X = Unit {0}} (Ok tt)
-name_appended rule compressing capacity grows all_grow w v now xs us name text ss is h a put f s = record {
-  ok = put_entries rule compressing w v now xs us name text ss is h a.ok put f s;
+    → IsName name → HasTableEntries rule w xs → Appends capacity grows (encode_octets text) w v {X = Unit {0}} (Ok tt)
+    → IsEncoded compressing name (table_in w.octets xs) (length w.octets) text ss → us ≡ with_suffixes xs ss (length w.octets + length text) → with_table_entries w xs ≡ now
+    → Appends capacity all_grow (encode_name compressing name) now (with_table_entries v us) {X = Unit {0}} (Ok tt)
+name_appended rule compressing capacity grows all_grow w v now xs us name text ss is h a encoding f s = record {
+  ok = put_entries rule compressing w v now xs us name text ss is h a.ok encoding f s;
   err = tt;
-  answer = name_fits compressing capacity grows w v now xs name text ss a put s;
+  answer = name_fits compressing capacity grows w v now xs name text ss a encoding s;
 }
 
 -- an append of a name fails
 pub name_refused : (compressing : Rule) (capacity : Option ℕ) (grows all_grow : Bool) (w v now : Written) (xs us : List TableEntry) (name : Labels) (text : List ℕ) (ss : List (Labels × ℕ))
-    (r : Result (Unit {0}) AppendError) (e : AppendError) → r ≡ Err e → (grows ≡ true → all_grow ≡ true) → Appends capacity grows (put_octets text) w v {X = Unit {0}} (Err e)
-    → IsPut compressing name (table_in w.octets xs) (length w.octets) text ss → us ≡ xs → with_table_entries w xs ≡ now
-    → Appends capacity all_grow (put_name compressing name) now (with_table_entries v us) r
-name_refused compressing capacity grows all_grow w v now xs us name text ss r e out more a put f s =
+    (r : Result (Unit {0}) AppendError) (e : AppendError) → r ≡ Err e → (grows ≡ true → all_grow ≡ true) → Appends capacity grows (encode_octets text) w v {X = Unit {0}} (Err e)
+    → IsEncoded compressing name (table_in w.octets xs) (length w.octets) text ss → us ≡ xs → with_table_entries w xs ≡ now
+    → Appends capacity all_grow (encode_name compressing name) now (with_table_entries v us) r
+name_refused compressing capacity grows all_grow w v now xs us name text ss r e out more a encoding f s =
     rw (out, f)
-    (subst (λ (t : Written). Appends capacity all_grow (put_name compressing name) t (with_table_entries v xs) {X = Unit {0}} (Err e)) s (record {
+    (subst (λ (t : Written). Appends capacity all_grow (encode_name compressing name) t (with_table_entries v xs) {X = Unit {0}} (Err e)) s (record {
       ok = tt;
       err = ap (λ (t : Written). with_table_entries t xs) a.err;
       answer = result_by e a.answer;
     }))
   where
-    result_by : (e : AppendError) → AppendReturns {X = Unit {0}} capacity grows (length (lay (put_octets text) w).octets) (Err e)
-        → AppendReturns {X = Unit {0}} capacity all_grow (length (lay (put_name compressing name) (with_table_entries w xs)).octets) (Err e)
-    result_by ShortBuf k = subst (λ (ys : List ℕ). Passes capacity (length (w.octets ++ ys))) (sym put.octets) k
-    result_by OutOfMemory k = (subst (λ (ys : List ℕ). Fits capacity (length (w.octets ++ ys))) (sym put.octets) k.0, more k.1)
+    result_by : (e : AppendError) → AppendReturns {X = Unit {0}} capacity grows (length (append (encode_octets text) w).octets) (Err e)
+        → AppendReturns {X = Unit {0}} capacity all_grow (length (append (encode_name compressing name) (with_table_entries w xs)).octets) (Err e)
+    result_by ShortBuf k = subst (λ (ys : List ℕ). Passes capacity (length (w.octets ++ ys))) (sym encoding.octets) k
+    result_by OutOfMemory k = (subst (λ (ys : List ℕ). Fits capacity (length (w.octets ++ ys))) (sym encoding.octets) k.0, more k.1)
 
 -- if one of two may allocate, both together may
 pub or_first : (a b : Bool) → a ≡ true → (a || b) ≡ true
@@ -254,22 +254,22 @@ pub are_table_entries : (rule : Rule) (w : Written) (xs : List TableEntry) (cont
 are_table_entries rule w xs content h e = subst (λ (b : List ℕ). AreTableEntries b xs) (sym e) (record { new = h.new; is_table = h.target })
 
 -- a planned name is written as its rule says
-pub plan_put : (rule compressing : Rule) (w : Written) (xs : List TableEntry) (name labels : Labels) (content text : List ℕ) (from count : ℕ) (offset : Option ℕ) (whole : Bool)
+pub plan_encoded : (rule compressing : Rule) (w : Written) (xs : List TableEntry) (name labels : Labels) (content text : List ℕ) (from count : ℕ) (offset : Option ℕ) (whole : Bool)
     → HasTableEntries rule w xs → labels ≡ name → content ≡ w.octets → IsFound (table_in content xs) labels from offset
     → Plans compressing (length xs) labels (length content) from offset whole count → text ≡ planned_octets whole labels from offset
-    → IsPut compressing name (table_in w.octets xs) (length w.octets) text (first_suffixes count name (length w.octets))
-plan_put rule compressing w xs name labels content text from count offset whole h l p f plans t =
+    → IsEncoded compressing name (table_in w.octets xs) (length w.octets) text (first_suffixes count name (length w.octets))
+plan_encoded rule compressing w xs name labels content text from count offset whole h l p f plans t =
     let m = table_in w.octets xs in
     let found : IsFound m labels from offset = subst (λ (b : List ℕ). IsFound (table_in b xs) labels from offset) p f in
-    let put : IsPut compressing labels m (length content) (planned_octets whole labels from offset) (first_suffixes count labels (length content)) = plans m (len-table w.octets xs h.new) found in
-    let made : IsPut compressing labels m (length content) text (first_suffixes count labels (length content)) =
-    subst (λ (ys : List ℕ). IsPut compressing labels m (length content) ys (first_suffixes count labels (length content))) (sym t) put in
-    subst (λ (n : Labels). IsPut compressing n m (length w.octets) text (first_suffixes count n (length w.octets))) l
-    (subst (λ (b : List ℕ). IsPut compressing labels m (length b) text (first_suffixes count labels (length b))) p made)
+    let encoding : IsEncoded compressing labels m (length content) (planned_octets whole labels from offset) (first_suffixes count labels (length content)) = plans m (len-table w.octets xs h.new) found in
+    let made : IsEncoded compressing labels m (length content) text (first_suffixes count labels (length content)) =
+    subst (λ (ys : List ℕ). IsEncoded compressing labels m (length content) ys (first_suffixes count labels (length content))) (sym t) encoding in
+    subst (λ (n : Labels). IsEncoded compressing n m (length w.octets) text (first_suffixes count n (length w.octets))) l
+    (subst (λ (b : List ℕ). IsEncoded compressing labels m (length b) text (first_suffixes count labels (length b))) p made)
 
 -- the entries after it
 pub plan_table_entries : (w v : Written) (xs us : List TableEntry) (name labels : Labels) (content text after : List ℕ) (count : ℕ) → labels ≡ name → content ≡ w.octets
-    → after ≡ v.octets → v ≡ lay (put_octets text) w → us ≡ with_suffixes xs (first_suffixes count labels (length content)) (length after)
+    → after ≡ v.octets → v ≡ append (encode_octets text) w → us ≡ with_suffixes xs (first_suffixes count labels (length content)) (length after)
     → us ≡ with_suffixes xs (first_suffixes count name (length w.octets)) (length w.octets + length text)
 plan_table_entries w v xs us name labels content text after count l p e o f =
     let end = ending w v text after e o in
@@ -277,16 +277,16 @@ plan_table_entries w v xs us name labels content text after count l p e o f =
 
 -- after the append the names of the entries are encoded in the octets
 pub still_entries : (rule : Rule) (capacity : Option ℕ) (grows : Bool) (w v : Written) (xs : List TableEntry) (text after : List ℕ) (r : Result (Unit {0}) AppendError) → HasTableEntries rule w xs → after ≡ v.octets
-    → Appends capacity grows (put_octets text) w v r → AreTableEntries after xs
+    → Appends capacity grows (encode_octets text) w v r → AreTableEntries after xs
 still_entries rule capacity grows w v xs text after r h e a = are_table_entries rule v xs after (entries_appended rule capacity grows w v xs text r h a) e
 
 -- the suffixes to add
 pub to_add : (rule compressing : Rule) (w v : Written) (xs : List TableEntry) (name labels : Labels) (content text after : List ℕ) (from count : ℕ) (offset : Option ℕ)
-    → IsName name → HasTableEntries rule w xs → labels ≡ name → content ≡ w.octets → after ≡ v.octets → v ≡ lay (put_octets text) w
-    → IsPut compressing name (table_in w.octets xs) (length w.octets) text (first_suffixes count name (length w.octets))
+    → IsName name → HasTableEntries rule w xs → labels ≡ name → content ≡ w.octets → after ≡ v.octets → v ≡ append (encode_octets text) w
+    → IsEncoded compressing name (table_in w.octets xs) (length w.octets) text (first_suffixes count name (length w.octets))
     → IsFound (table_in content xs) labels from offset → count ≤ from → name_size (take from labels) < length text → length text ≤ max_size + 2 → IsToAdd after xs labels (length content) from offset count
-to_add rule compressing w v xs name labels content text after from count offset is h l p e o put f c g few =
-    let names = put_names rule compressing w v xs name text (first_suffixes count name (length w.octets)) is h o put in
+to_add rule compressing w v xs name labels content text after from count offset is h l p e o encoding f c g few =
+    let names = encode_names rule compressing w v xs name text (first_suffixes count name (length w.octets)) is h o encoding in
     let old : named v.octets xs ≡ named w.octets xs = grown_names rule w v xs text h o in
     let ss : List (Labels × ℕ) = first_suffixes count name (length w.octets) in
     let found : IsFound (table_in w.octets xs) name from offset =
@@ -311,7 +311,7 @@ pub names_cut : (rule : Rule) (w v : Written) (xs us : List TableEntry) (n : ℕ
 names_cut rule w v xs us n h e f = ap (λ (b : List ℕ). named b us) (ap (λ (x : Written). x.octets) (sym e)) ∙ ap (named v.octets) f ∙ (cut_names rule w v xs n h e).1 ∙ ap (named w.octets) (sym f)
 
 -- an append makes the octets no shorter
-pub no_shorter : (capacity : Option ℕ) (grows : Bool) (w v : Written) (ys : List ℕ) (r : Result (Unit {0}) AppendError) → Appends capacity grows (put_octets ys) w v r → length w.octets ≤ length v.octets
+pub no_shorter : (capacity : Option ℕ) (grows : Bool) (w v : Written) (ys : List ℕ) (r : Result (Unit {0}) AppendError) → Appends capacity grows (encode_octets ys) w v r → length w.octets ≤ length v.octets
 no_shorter capacity grows w v ys (Ok x) a = let z : length v.octets ≡ length (w.octets ++ ys) = ap (λ (x : Written). length x.octets) a.ok in omega (arith, length-append w.octets ys)
 no_shorter capacity grows w v ys (Err e) a = let z : length v.octets ≡ length w.octets = ap (λ (x : Written). length x.octets) a.err in omega arith
 
@@ -341,7 +341,7 @@ planned_short false name from (Some p) is l =
     rw length-append (let k : length (take (name_size (take from name)) (uncompressed name)) ≡ name_size (take from name) = length-take-le (name_size (take from name)) (uncompressed name) (omega arith) in omega arith)
 
 -- a target that is cut back after an append has the octets that it had
-pub cut_back : (w v u : Written) (text content : List ℕ) → content ≡ w.octets → v ≡ lay (put_octets text) w → u ≡ cut_to (length content) v → u.octets ≡ w.octets
+pub cut_back : (w v u : Written) (text content : List ℕ) → content ≡ w.octets → v ≡ append (encode_octets text) w → u ≡ cut_to (length content) v → u.octets ≡ w.octets
 cut_back w v u text content p o e =
     ap (λ (t : Written). t.octets) e ∙ (λ i. take (length (p i)) (o i).octets) ∙ take-length-append w.octets text
   where
@@ -361,8 +361,8 @@ entries_again rule w u xs us h o e = record {
     names = λ i. named (o i) (e i)
 
 -- a name whose suffixes can't be added because an allocation fails
-pub name_forgotten : (compressing : Rule) (capacity : Option ℕ) (all_grow : Bool) (w u now : Written) (xs us : List TableEntry) (name : Labels) → Fits capacity (length (lay (put_name compressing name) now).octets) → all_grow ≡ true
-    → u.octets ≡ w.octets → us ≡ xs → with_table_entries w xs ≡ now → Appends capacity all_grow (put_name compressing name) now (with_table_entries u us) {X = Unit {0}} (Err OutOfMemory)
+pub name_forgotten : (compressing : Rule) (capacity : Option ℕ) (all_grow : Bool) (w u now : Written) (xs us : List TableEntry) (name : Labels) → Fits capacity (length (append (encode_name compressing name) now).octets) → all_grow ≡ true
+    → u.octets ≡ w.octets → us ≡ xs → with_table_entries w xs ≡ now → Appends capacity all_grow (encode_name compressing name) now (with_table_entries u us) {X = Unit {0}} (Err OutOfMemory)
 name_forgotten compressing capacity all_grow w u now xs us name fits more o e s = record {
   ok = tt;
   err = (λ i. record { octets = o i; table = table_in (o i) (e i) }) ∙ s;

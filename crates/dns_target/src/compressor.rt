@@ -1,6 +1,6 @@
 //! A target that compresses names, over an index of the suffixes in its compression table.
 ghost use Rattle.std.specs.Prelude.{◌≡◌, ◌||◌, [], true, ℕ, List, IfOk, OnErr, IsTrue};
-ghost use Rattle.dns_wire.specs.Encoders.{nothing, Plain, put_octets, put_name};
+ghost use Rattle.dns_wire.specs.Encoders.{nothing, Plain, encode_octets, encode_name};
 ghost use Rattle.dns_target.specs.FlatNames.{flat_labels};
 ghost use Rattle.dns_wire.specs.Targets.{Appends};
 ghost use Rattle.dns_target.specs.Indexes.{compressing_not_plain};
@@ -147,7 +147,7 @@ impl<Target: Composer, Index: SuffixIndex> Compressor<Target, Index> {
     /// Appends a name and adds its new suffixes to the table. Nothing changes on error.
     fn append_name(&mut self, name: FlatName<'_>) -> Result<(), AppendError>
         ensures { Appends Target.capacity (Index.takes_memory || Target.grows)
-            (put_name Index.rule (flat_labels name.entry)) self.old self.new result }
+            (encode_name Index.rule (flat_labels name.entry)) self.old self.new result }
     {
         let octets = name.octets();
         let mut starts = ArrayVec::new();
@@ -201,7 +201,7 @@ impl<Target: Composer, Index: SuffixIndex> Composer for Compressor<Target, Index
     }
 
     fn append_slice(&mut self, octets: &[u8]) -> Result<(), AppendError>
-        ensures { Appends Target.capacity Target.grows (put_octets octets.now)
+        ensures { Appends Target.capacity Target.grows (encode_octets octets.now)
             self.old self.new result }
     {
         self.target.append_slice(octets)

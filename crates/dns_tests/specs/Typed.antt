@@ -32,4 +32,4 @@ pub record WasPushedFirst (layouts : ℕ → Option Layout) (b : List ℕ) (x : 
   pub reads_back : ReadsBack s b
   pub after : List RecordItem
   pub first : s.answers ≡ x ∷ after
-  pub laid : IsTakenBy layouts x
+  pub fits_layout : IsTakenBy layouts x

@@ -2,7 +2,7 @@ ghost use Rattle.std.specs.Prelude.{◌≡◌, ◌↔◌, ℕ, ◌+◌, ◌-◌,
 ghost use Rattle.std.specs.Int.{to_be_bytes, w32};
 ghost use Rattle.std.specs.Duration.{as_nanos};
 ghost use Rattle.dns_name.specs.Parsers.{seen, offset, number_at, Takes};
-ghost use Rattle.dns_wire.specs.Encoders.{put_octets};
+ghost use Rattle.dns_wire.specs.Encoders.{encode_octets};
 ghost use Rattle.dns_wire.specs.Targets.{Appends};
 ghost use Rattle.dns_ttl.specs.Ttl.{FitsTtl, most_seconds, cap_seconds, whole_seconds, nanos_of_seconds};
 
@@ -220,7 +220,7 @@ impl Ttl {
     /// Appends the number of seconds as four octets, big-endian (RFC 1035 section 4.1.3). A failed
     /// append changes nothing.
     pub fn compose<T: Composer>(&self, target: &mut T) -> Result<(), AppendError>
-        ensures { Appends T.capacity T.grows (put_octets (to_be_bytes w32 self.now))
+        ensures { Appends T.capacity T.grows (encode_octets (to_be_bytes w32 self.now))
             (T.written target.old) (T.written target.new) result }
     {
         target.append_slice(&self.0.to_be_bytes())

@@ -6,11 +6,11 @@ use Rattle.std.proofs.lemmas.Bool.{and_parts}
 use Rattle.std.proofs.lemmas.Grind.{common_steps}
 use Rattle.std.specs.FinMap.{get, len}
 use Rattle.dns_name.specs.Names.{Labels, framed}
-use Rattle.dns_wire.specs.Encoders.{CompressionTable, TableEntry, add_suffixes, Rule, Plain, Static, Tree, Hash, spell, is_kept, put_name, pointer}
+use Rattle.dns_wire.specs.Encoders.{CompressionTable, TableEntry, add_suffixes, Rule, Plain, Static, Tree, Hash, spell, is_kept, encode_name, pointer}
 use Rattle.dns_wire.specs.Choice.{label_offset, first_suffixes, IsFirstInTable, IsFar, Chooses, IsAmong, NamesByChoice}
 use Rattle.dns_wire.specs.Choice.Chooses.{shared, written_out}
-use Rattle.dns_wire.proofs.theory.PutNames.{SpellsAs, spells_as}
-use Rattle.dns_wire.proofs.theory.PutNames.SpellsAs.{at_root, at_entry, at_kept, at_far}
+use Rattle.dns_wire.proofs.theory.EncodedNames.{SpellsAs, spells_as}
+use Rattle.dns_wire.proofs.theory.EncodedNames.SpellsAs.{at_root, at_entry, at_kept, at_far}
 
 -- A suffix that may enter the table isn't too far.
 far_not : (rule : Rule) (entry_count offset : ℕ) → is_kept rule offset entry_count ≡ true → IsFar rule entry_count offset → ⊥
@@ -137,7 +137,7 @@ hash_table m ss q false e = inr (some_far ss e, refl)
 
 -- The octets of a name and the table after it are as chosen, under each rule of compression.
 pub names_by_choice : NamesByChoice
-unfolding put_name
+unfolding encode_name
 names_by_choice = record {
   static = λ m w name. record { suffixes = (spell Static m w (len m) name).1; chooses = chosen (spells_as Static m w (len m) name); table = refl };
   tree = λ m w name. record { suffixes = (spell Tree m w (len m) name).1; chooses = chosen (spells_as Tree m w (len m) name); table = refl };

@@ -13,8 +13,8 @@ use Rattle.dns_wire.specs.Parts.{LabelsNear}
 use Rattle.dns_wire.proofs.theory.TargetTheorems.{near_label}
 use Rattle.dns_wire.proofs.theory.SpelledNames.{label_begins, label_part, after_label}
 use Rattle.dns_wire.proofs.theory.CompressionTables.{get-insert_same}
-use Rattle.dns_wire.proofs.theory.PutNames.{Each, found, SpellsAs, spells_as}
-use Rattle.dns_wire.proofs.theory.PutNames.SpellsAs.{at_root, at_entry, at_kept, at_far}
+use Rattle.dns_wire.proofs.theory.EncodedNames.{Each, found, SpellsAs, spells_as}
+use Rattle.dns_wire.proofs.theory.EncodedNames.SpellsAs.{at_root, at_entry, at_kept, at_far}
 use Rattle.dns_name.proofs.theory.Spelling.{name_tail}
 
 -- The table has exactly the suffixes of these names.

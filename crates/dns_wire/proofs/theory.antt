@@ -2,7 +2,7 @@
 pub mod NameSizes
 pub mod CompressionTables
 pub mod SpelledNames
-pub mod PutNames
+pub mod EncodedNames
 pub mod EncoderLaws
 pub mod Stability
 pub mod TargetTheorems

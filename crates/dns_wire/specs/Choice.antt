@@ -1,9 +1,9 @@
--- How a name is compressed, by the indices of its labels. It agrees with the recursion of `put_name`. RFC 1035 section 4.1.4.
+-- How a name is compressed, by the indices of its labels. It agrees with the recursion of `encode_name`. RFC 1035 section 4.1.4.
 use Rattle.std.specs.Prelude.{◌≡◌, ℕ, zero, suc, ◌+◌, ◌<◌, ◌≤◌, ◌⊎◌, Some, None, List, [], ◌∷◌, ◌++◌, length, take, drop}
 use Rattle.std.specs.List.{flat_map}
 use Rattle.std.specs.FinMap.{get, len}
 use Rattle.dns_name.specs.Names.{Labels, framed, name_size, uncompressed, pointer_end}
-use Rattle.dns_wire.specs.Encoders.{CompressionTable, TableEntry, add_suffixes, Rule, Plain, Static, Tree, Hash, Laid, pointer, put_name}
+use Rattle.dns_wire.specs.Encoders.{CompressionTable, TableEntry, add_suffixes, Rule, Plain, Static, Tree, Hash, Encoded, pointer, encode_name}
 
 -- The offset of label i, if the name is written at offset w without pointers.
 abbrev pub label_offset : ℕ → Labels → ℕ → ℕ
@@ -49,20 +49,20 @@ IsAmong t [] = ⊥
 IsAmong t (s ∷ ss) = (t ≡ s) ⊎ IsAmong t ss
 
 -- The static or tree rule: the name is written as chosen, and the suffixes enter the table.
-pub record PutsByChoice (rule : Rule) (m : CompressionTable) (w : ℕ) (name : Labels) (laid : Laid) : Type 0 where
+pub record EncodesByChoice (rule : Rule) (m : CompressionTable) (w : ℕ) (name : Labels) (encoded : Encoded) : Type 0 where
   pub suffixes : List (Labels × ℕ)
-  pub chooses : Chooses rule m w (len m) name laid.octets suffixes
-  pub table : laid.table ≡ add_suffixes m suffixes (w + length laid.octets)
+  pub chooses : Chooses rule m w (len m) name encoded.octets suffixes
+  pub table : encoded.table ≡ add_suffixes m suffixes (w + length encoded.octets)
 
 -- The hash rule: the name is written as chosen, and the suffixes enter the table only if all are within pointer range.
-pub record PutsByHash (m : CompressionTable) (w : ℕ) (name : Labels) (laid : Laid) : Type 0 where
+pub record EncodesByHash (m : CompressionTable) (w : ℕ) (name : Labels) (encoded : Encoded) : Type 0 where
   pub suffixes : List (Labels × ℕ)
-  pub chooses : Chooses Hash m w (len m) name laid.octets suffixes
-  pub table : (((s : Labels × ℕ) → IsAmong s suffixes → s.1 < pointer_end) × (laid.table ≡ add_suffixes m suffixes (w + length laid.octets)))
-      ⊎ (((s : Labels × ℕ) × IsAmong s suffixes × (pointer_end ≤ s.1)) × (laid.table ≡ m))
+  pub chooses : Chooses Hash m w (len m) name encoded.octets suffixes
+  pub table : (((s : Labels × ℕ) → IsAmong s suffixes → s.1 < pointer_end) × (encoded.table ≡ add_suffixes m suffixes (w + length encoded.octets)))
+      ⊎ (((s : Labels × ℕ) × IsAmong s suffixes × (pointer_end ≤ s.1)) × (encoded.table ≡ m))
 
 -- Each compressor writes a name as chosen by the first suffix in the table and the first suffix that can't enter it.
 pub record NamesByChoice : Type 0 where
-  pub static : (m : CompressionTable) (w : ℕ) (name : Labels) → PutsByChoice Static m w name (put_name Static name m w)
-  pub tree : (m : CompressionTable) (w : ℕ) (name : Labels) → PutsByChoice Tree m w name (put_name Tree name m w)
-  pub hash : (m : CompressionTable) (w : ℕ) (name : Labels) → PutsByHash m w name (put_name Hash name m w)
+  pub static : (m : CompressionTable) (w : ℕ) (name : Labels) → EncodesByChoice Static m w name (encode_name Static name m w)
+  pub tree : (m : CompressionTable) (w : ℕ) (name : Labels) → EncodesByChoice Tree m w name (encode_name Tree name m w)
+  pub hash : (m : CompressionTable) (w : ℕ) (name : Labels) → EncodesByHash m w name (encode_name Hash name m w)

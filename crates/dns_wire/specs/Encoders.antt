@@ -85,17 +85,17 @@ compresses Tree = true
 compresses Hash = true
 
 -- Encoded octets, and the compression table after them.
-pub record Laid : Type 0 where
+pub record Encoded : Type 0 where
   pub octets : List ℕ
   pub table : CompressionTable
 
 -- An encoding: what is appended, given the compression table and the offset.
 abbrev pub Encoder : Type 0
-Encoder = CompressionTable → ℕ → Laid
+Encoder = CompressionTable → ℕ → Encoded
 
 -- The encoding of octets as they are, which leaves the table unchanged.
-abbrev pub put_octets : List ℕ → Encoder
-put_octets octets m w = record { octets = octets; table = m }
+abbrev pub encode_octets : List ℕ → Encoder
+encode_octets octets m w = record { octets = octets; table = m }
 
 -- Two encodings, in order.
 abbrev pub both : Encoder → Encoder → Encoder
@@ -107,8 +107,8 @@ both a b m w =
 -- An encoding preceded by its length, a big-endian number of 16 bits.
 abbrev pub with_length : Encoder → Encoder
 with_length encoder m w =
-    let laid = encoder m (w + 2) in
-    record { octets = to_be_bytes w16 (length laid.octets) ++ laid.octets; table = laid.table }
+    let encoded = encoder m (w + 2) in
+    record { octets = to_be_bytes w16 (length encoded.octets) ++ encoded.octets; table = encoded.table }
 
 -- An encoding is growing if it only adds table entries, and only for suffixes within its own octets.
 pub record IsGrowing (encoder : Encoder) : Type 0 where
@@ -152,8 +152,8 @@ kept Static suffixes = suffixes
 kept Tree suffixes = suffixes
 
 -- The encoding of a name under a rule.
-unfoldable pub put_name : Rule → Labels → Encoder
-put_name Plain name m w = record { octets = uncompressed name; table = m }
-put_name rule name m w =
+unfoldable pub encode_name : Rule → Labels → Encoder
+encode_name Plain name m w = record { octets = uncompressed name; table = m }
+encode_name rule name m w =
     let spelled = spell rule m w (len m) name in
     record { octets = spelled.0; table = add_suffixes m (kept rule spelled.1) (w + length spelled.0) }

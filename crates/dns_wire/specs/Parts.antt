@@ -2,7 +2,7 @@
 use Rattle.std.specs.Prelude.{◌≡◌, ℕ, ◌+◌, List, [], ◌∷◌, length, take, slice_range, ◌<◌, Ok}
 use Rattle.dns_name.specs.Names.{Labels, IsName, uncompressed, NameAt, Walked, head_at, pointer_end}
 use Rattle.dns_name.specs.declared.head.Head.TheVariants.{Root, Label, Pointer}
-use Rattle.dns_wire.specs.Encoders.{Rule, Encoder, put_octets, both, put_name}
+use Rattle.dns_wire.specs.Encoders.{Rule, Encoder, encode_octets, both, encode_name}
 
 -- A part of RDATA: octets, or a name that may be compressed.
 pub data Part : Type 0 where
@@ -10,14 +10,14 @@ pub data Part : Type 0 where
   CompressibleName : Labels → Part
 
 -- The encoding of a part.
-abbrev pub put_part : Rule → Part → Encoder
-put_part rule (Octets octets) = put_octets octets
-put_part rule (CompressibleName name) = put_name rule name
+abbrev pub encode_part : Rule → Part → Encoder
+encode_part rule (Octets octets) = encode_octets octets
+encode_part rule (CompressibleName name) = encode_name rule name
 
 -- The encoding of parts, in order.
-unfoldable pub put_parts : Rule → List Part → Encoder
-put_parts rule [] = put_octets []
-put_parts rule (part ∷ parts) = both (put_part rule part) (put_parts rule parts)
+unfoldable pub encode_parts : Rule → List Part → Encoder
+encode_parts rule [] = encode_octets []
+encode_parts rule (part ∷ parts) = both (encode_part rule part) (encode_parts rule parts)
 
 -- The octets that a part takes uncompressed.
 abbrev pub part_size : Part → ℕ

@@ -2,9 +2,9 @@
 use Rattle.std.specs.Prelude.{◌≡◌, ℕ, ◌+◌, ◌≤◌, ◌⊎◌, List, [], ◌∷◌, ◌++◌, length, ◌<◌}
 use Rattle.std.specs.FinMap.{len}
 use Rattle.dns_name.specs.Names.{Labels, name_size, pointer_end}
-use Rattle.dns_wire.specs.Parts.{Part, Octets, CompressibleName, AreParts, put_parts, PartsNear, PartsPointed}
+use Rattle.dns_wire.specs.Parts.{Part, Octets, CompressibleName, AreParts, encode_parts, PartsNear, PartsPointed}
 use Rattle.dns_wire.specs.Encoders.{static_entries, nothing, Rule, Plain, Static, Tree, Hash}
-use Rattle.dns_wire.specs.Targets.{Written, IsTarget, lay}
+use Rattle.dns_wire.specs.Targets.{Written, IsTarget, append}
 
 -- A suffix is a non-empty end of a name, perhaps the whole name.
 pub record IsSuffix (suffix name : Labels) : Type 0 where
@@ -44,12 +44,12 @@ SharesAll Hash entry_count = Unit {0}
 -- Each pointer in written parts leads to a label at an earlier offset below 16,384.
 abbrev pub PartsPointToLabels : Type 0
 PartsPointToLabels = (rule : Rule) (t : Written) (parts : List Part) → AreParts parts → IsTarget t
-    → let u = lay (put_parts rule parts) t in PartsPointed u.octets (length u.octets) (length t.octets) parts
+    → let u = append (encode_parts rule parts) t in PartsPointed u.octets (length u.octets) (length t.octets) parts
 
 -- If the content has at most 16,384 octets, every label in written parts is within pointer range.
 abbrev pub ShortPartsAreNear : Type 0
 ShortPartsAreNear = (rule : Rule) (t : Written) (parts : List Part) → AreParts parts → IsTarget t
-    → let u = lay (put_parts rule parts) t in length u.octets ≤ pointer_end → PartsNear u.octets (length u.octets) (length t.octets) parts
+    → let u = append (encode_parts rule parts) t in length u.octets ≤ pointer_end → PartsNear u.octets (length u.octets) (length t.octets) parts
 
 -- These parts are added to a target, in as many octets as a shortest compression of them takes.
 abbrev pub AddsShortest : List Part → Written → Written → Type 0
@@ -59,5 +59,5 @@ AddsShortest parts before after = (n : ℕ) × (length after.octets ≡ length b
 abbrev pub PartsAreShortest : Type 0
 PartsAreShortest = (rule : Rule) (b : List ℕ) (parts : List Part) → AreParts parts
     → let t : Written = record { octets = b; table = nothing } in
-    let u = lay (put_parts rule parts) t in
+    let u = append (encode_parts rule parts) t in
     SharesAll rule (len u.table) → PartsNear u.octets (length u.octets) (length b) parts → AddsShortest parts t u

@@ -4,9 +4,9 @@ use Rattle.std.specs.FinMap.{get}
 use Rattle.dns_octets.specs.declared.error.AppendError.{AppendError}
 use Rattle.dns_name.specs.Names.{Labels, name_size, max_size, head_at, label_at, IsName, uncompressed, pointer_end, NameAt, Walked}
 use Rattle.dns_name.specs.declared.head.Head.TheVariants.{Root, Label, Pointer}
-use Rattle.dns_wire.specs.Parts.{WellPointed, Part, PartsAt, AreParts, put_parts}
-use Rattle.dns_wire.specs.Encoders.{CompressionTable, TableEntry, nothing, IsAtOrAfter, IsClear, Rule, Encoder, IsGrowing, put_octets, both, put_name}
-use Rattle.dns_wire.specs.Targets.{IsTableOf, Written, IsTarget, lay, cut_to, overwrite, Appends, Composes}
+use Rattle.dns_wire.specs.Parts.{WellPointed, Part, PartsAt, AreParts, encode_parts}
+use Rattle.dns_wire.specs.Encoders.{CompressionTable, TableEntry, nothing, IsAtOrAfter, IsClear, Rule, Encoder, IsGrowing, encode_octets, both, encode_name}
+use Rattle.dns_wire.specs.Targets.{IsTableOf, Written, IsTarget, append, cut_to, overwrite, Appends, Composes}
 
 -- Names encoded between two offsets, and octets that agree there. RFC 1035 section 4.1.4.
 
@@ -68,11 +68,11 @@ NothingIsTarget = (b : List ℕ) → IsTableOf b nothing
 
 -- Appending a name keeps the table sound, under each rule.
 abbrev pub NameKeeps : Type 0
-NameKeeps = (rule : Rule) (t : Written) (name : Labels) → IsName name → IsTarget t → IsTarget (lay (put_name rule name) t)
+NameKeeps = (rule : Rule) (t : Written) (name : Labels) → IsName name → IsTarget t → IsTarget (append (encode_name rule name) t)
 
 -- So does appending octets.
 abbrev pub OctetsKeep : Type 0
-OctetsKeep = (t : Written) (octets : List ℕ) → IsTarget t → IsTarget (lay (put_octets octets) t)
+OctetsKeep = (t : Written) (octets : List ℕ) → IsTarget t → IsTarget (append (encode_octets octets) t)
 
 -- So does truncating.
 abbrev pub CutKeeps : Type 0
@@ -84,19 +84,19 @@ OverwriteKeeps = (t : Written) (offset : ℕ) (octets : List ℕ) → IsClear t.
 
 -- Truncating to the old length undoes the append of a growing encoding.
 abbrev pub CutUndoes : Type 0
-CutUndoes = (encoder : Encoder) (t : Written) → IsGrowing encoder → IsTarget t → cut_to (length t.octets) (lay encoder t) ≡ t
+CutUndoes = (encoder : Encoder) (t : Written) → IsGrowing encoder → IsTarget t → cut_to (length t.octets) (append encoder t) ≡ t
 
 -- The encoding of a name is growing, under each rule.
 abbrev pub NamesGrow : Type 0
-NamesGrow = (rule : Rule) (name : Labels) → IsGrowing (put_name rule name)
+NamesGrow = (rule : Rule) (name : Labels) → IsGrowing (encode_name rule name)
 
 -- So is the encoding of octets.
 abbrev pub OctetsGrow : Type 0
-OctetsGrow = (octets : List ℕ) → IsGrowing (put_octets octets)
+OctetsGrow = (octets : List ℕ) → IsGrowing (encode_octets octets)
 
 -- So is the encoding of parts.
 abbrev pub PartsGrow : Type 0
-PartsGrow = (rule : Rule) (parts : List Part) → IsGrowing (put_parts rule parts)
+PartsGrow = (rule : Rule) (parts : List Part) → IsGrowing (encode_parts rule parts)
 
 -- So are two growing encodings in order.
 abbrev pub BothGrow : Type 0
@@ -104,11 +104,11 @@ BothGrow = (a b : Encoder) → IsGrowing a → IsGrowing b → IsGrowing (both a
 
 -- If all entries are at or after an offset within the content, they still are after a growing encoding is appended.
 abbrev pub EncodersStayAtOrAfter : Type 0
-EncodersStayAtOrAfter = (encoder : Encoder) (t : Written) (offset : ℕ) → IsGrowing encoder → offset ≤ length t.octets → IsAtOrAfter t.table offset → IsAtOrAfter (lay encoder t).table offset
+EncodersStayAtOrAfter = (encoder : Encoder) (t : Written) (offset : ℕ) → IsGrowing encoder → offset ≤ length t.octets → IsAtOrAfter t.table offset → IsAtOrAfter (append encoder t).table offset
 
 -- They still are after a name is appended.
 abbrev pub NamesStayAtOrAfter : Type 0
-NamesStayAtOrAfter = (rule : Rule) (t : Written) (name : Labels) (offset : ℕ) → offset ≤ length t.octets → IsAtOrAfter t.table offset → IsAtOrAfter (lay (put_name rule name) t).table offset
+NamesStayAtOrAfter = (rule : Rule) (t : Written) (name : Labels) (offset : ℕ) → offset ≤ length t.octets → IsAtOrAfter t.table offset → IsAtOrAfter (append (encode_name rule name) t).table offset
 
 -- A name is encoded at offset p, its encoding takes the octets p..q, and a pointer there leads to an earlier label below offset 16,384.
 pub record ReadsName (b : List ℕ) (p q : ℕ) (name : Labels) : Type 0 where
@@ -119,16 +119,16 @@ pub record ReadsName (b : List ℕ) (p q : ℕ) (name : Labels) : Type 0 where
 -- A written name is encoded where it was written, and its encoding is exactly what was written.
 abbrev pub NamesReadBack : Type 0
 NamesReadBack = (rule : Rule) (t : Written) (name : Labels) → IsName name → IsTarget t
-    → let u = lay (put_name rule name) t in ReadsName u.octets (length t.octets) (length u.octets) name
+    → let u = append (encode_name rule name) t in ReadsName u.octets (length t.octets) (length u.octets) name
 
 -- Written parts are encoded where they were written, up to the end of the content.
 abbrev pub PartsReadBack : Type 0
 PartsReadBack = (rule : Rule) (t : Written) (parts : List Part) → AreParts parts → IsTarget t
-    → let u = lay (put_parts rule parts) t in PartsAt u.octets (length u.octets) (length t.octets) parts × IsTarget u
+    → let u = append (encode_parts rule parts) t in PartsAt u.octets (length u.octets) (length t.octets) parts × IsTarget u
 
 -- A written name takes at most as many octets as it does uncompressed.
 abbrev pub NamesAreShort : Type 0
-NamesAreShort = (rule : Rule) (name : Labels) (m : CompressionTable) (w : ℕ) → length (put_name rule name m w).octets ≤ length (uncompressed name)
+NamesAreShort = (rule : Rule) (name : Labels) (m : CompressionTable) (w : ℕ) → length (encode_name rule name m w).octets ≤ length (uncompressed name)
 
 -- One append of an encoding composes it.
 abbrev pub AppendsCompose : Type 0
@@ -138,7 +138,7 @@ AppendsCompose = (capacity : Option ℕ) (grows : Bool) (encoder : Encoder) (t u
 -- An encoding that is written, and another that is composed after it, with or without an error, compose both.
 abbrev pub ComposesBoth : Type 0
 ComposesBoth = (capacity : Option ℕ) (grows : Bool) (a b : Encoder) (t u v : Written) (r : Result Unit AppendError)
-    → IsGrowing a → u ≡ lay a t → Composes capacity grows b u v r → Composes capacity grows (both a b) t v r
+    → IsGrowing a → u ≡ append a t → Composes capacity grows b u v r → Composes capacity grows (both a b) t v r
 
 -- If composing the first of two encodings fails, composing both fails with the same error.
 abbrev pub ComposesFirst : Type 0

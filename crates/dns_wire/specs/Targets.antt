@@ -50,8 +50,8 @@ abbrev pub IsTarget : Written → Type 0
 IsTarget t = IsTableOf t.octets t.table
 
 -- A target after an encoding is appended.
-abbrev pub lay : Encoder → Written → Written
-lay encoder t = let laid = encoder t.table (length t.octets) in record { octets = t.octets ++ laid.octets; table = laid.table }
+abbrev pub append : Encoder → Written → Written
+append encoder t = let encoded = encoder t.table (length t.octets) in record { octets = t.octets ++ encoded.octets; table = encoded.table }
 
 -- A target after its content is truncated to `len` octets.
 abbrev pub cut_to : ℕ → Written → Written
@@ -85,15 +85,15 @@ ComposeReturns capacity grows n (Err OutOfMemory) = IsTrue grows
 
 -- One append of an encoding. On error nothing changes.
 pub record Appends (capacity : Option ℕ) (grows : Bool) (encoder : Encoder) (before after : Written) {X : Type 0} (result : Result X AppendError) : Type 0 where
-  pub ok : OnOk result (after ≡ lay encoder before)
+  pub ok : OnOk result (after ≡ append encoder before)
   pub err : OnErr result (after ≡ before)
-  pub answer : AppendReturns capacity grows (length (lay encoder before).octets) result
+  pub answer : AppendReturns capacity grows (length (append encoder before).octets) result
 
 -- An encoding appended in several steps. On error, truncating to the old length undoes it.
 pub record Composes (capacity : Option ℕ) (grows : Bool) (encoder : Encoder) (before after : Written) {X : Type 0} (result : Result X AppendError) : Type 0 where
-  pub ok : OnOk result (after ≡ lay encoder before)
+  pub ok : OnOk result (after ≡ append encoder before)
   pub err : OnErr result (cut_to (length before.octets) after ≡ cut_to (length before.octets) before)
-  pub answer : ComposeReturns capacity grows (length (lay encoder before).octets) result
+  pub answer : ComposeReturns capacity grows (length (append encoder before).octets) result
 
 -- What a target holds, coded as plain data, so that it can be the value of a model.
 

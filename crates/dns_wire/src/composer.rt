@@ -1,6 +1,6 @@
 ghost use Rattle.std.specs.Prelude.{◌≡◌, ◌+◌, ◌<◌, ◌≤◌, ℕ, Bool, Option, Some, None, true, false, length, refl, IfOk, OnErr, IsTrue, vec_len, vec_capacity};
 ghost use Rattle.dns_name.specs.Names.{uncompressed};
-ghost use Rattle.dns_wire.specs.Encoders.{IsClear, nothing, Rule, Plain, compresses, put_octets, put_name};
+ghost use Rattle.dns_wire.specs.Encoders.{IsClear, nothing, Rule, Plain, compresses, encode_octets, encode_name};
 ghost use Rattle.dns_wire.specs.Targets.{Written, IsTarget, Fits, Appends, cut_to, overwrite, with_empty_table};
 
 use arrayvec::ArrayVec;
@@ -34,12 +34,12 @@ pub trait Composer: Drop {
 
     /// Appends octets as they are. The compression table doesn't change.
     fn append_slice(&mut self, octets: &[u8]) -> Result<(), AppendError>
-        ensures { Appends capacity grows (put_octets octets.now) (written self.old) (written self.new)
+        ensures { Appends capacity grows (encode_octets octets.now) (written self.old) (written self.new)
             result };
 
     /// Appends a name, compressed by the target's rule (RFC 1035 section 4.1.4).
     fn append_compressed_name<N: ToName>(&mut self, name: &N) -> Result<(), AppendError>
-        ensures { Appends capacity grows (put_name rule (N.name name.now)) (written self.old)
+        ensures { Appends capacity grows (encode_name rule (N.name name.now)) (written self.old)
             (written self.new) result };
 
     /// Returns whether names are compressed.
@@ -100,7 +100,7 @@ impl Composer for Vec<u8> {
     }
 
     fn append_slice(&mut self, octets: &[u8]) -> Result<(), AppendError>
-        ensures appends { Appends None true (put_octets octets.now)
+        ensures appends { Appends None true (encode_octets octets.now)
             (with_empty_table self.old.items) (with_empty_table self.new.items) result }
         ensures full { result ≡ Err AppendError.OutOfMemory
             → vec_capacity self.old < vec_len self.old + length octets.now }
@@ -113,9 +113,9 @@ impl Composer for Vec<u8> {
             .map_err(|_| AppendError::OutOfMemory)
     }
 
-    #[tactic(auto, unfolding(crate::specs::Encoders::put_name))]
+    #[tactic(auto, unfolding(crate::specs::Encoders::encode_name))]
     fn append_compressed_name<N: ToName>(&mut self, name: &N) -> Result<(), AppendError>
-        ensures appends { Appends None true (put_name Plain (N.name name.now))
+        ensures appends { Appends None true (encode_name Plain (N.name name.now))
             (with_empty_table self.old.items) (with_empty_table self.new.items) result }
         ensures full { result ≡ Err AppendError.OutOfMemory → vec_capacity self.old
             < vec_len self.old + length (uncompressed (N.name name.now)) }
@@ -174,7 +174,7 @@ impl<const N: usize> Composer for ArrayVec<u8, N> {
             .map_err(|_| AppendError::ShortBuf)
     }
 
-    #[tactic(auto, unfolding(crate::specs::Encoders::put_name))]
+    #[tactic(auto, unfolding(crate::specs::Encoders::encode_name))]
     fn append_compressed_name<M: ToName>(&mut self, name: &M) -> Result<(), AppendError> {
         match name.as_flat_slice() {
             Some(octets) => self.append_slice(octets),

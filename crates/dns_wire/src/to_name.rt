@@ -9,7 +9,7 @@ use std::cmp::Ordering;
 pub trait ToNameExt: ToName {
     ghost use Rattle.std.specs.Prelude.{◌≡◌, ◌↔◌, IsTrue};
     ghost use Rattle.dns_name.specs.Names.{lowered, uncompressed};
-    ghost use Rattle.dns_wire.specs.Encoders.{put_octets};
+    ghost use Rattle.dns_wire.specs.Encoders.{encode_octets};
     ghost use Rattle.dns_wire.specs.Targets.{Appends};
     ghost use Rattle.dns_name.specs.NameOrders.{name_order, composed_order};
 
@@ -46,7 +46,7 @@ pub trait ToNameExt: ToName {
     /// Appends the uncompressed octets of the name, with ASCII letters lowercased (RFC 4034 section
     /// 6.2). Nothing changes on error.
     fn compose_canonical<T: Composer>(&self, target: &mut T) -> Result<(), AppendError>
-        ensures { Appends T.capacity T.grows (put_octets (uncompressed (lowered (Self.name self.now))))
+        ensures { Appends T.capacity T.grows (encode_octets (uncompressed (lowered (Self.name self.now))))
             (T.written target.old) (T.written target.new) result }
     {
         target.append_slice(self.as_parsed().lowercased().as_slice())

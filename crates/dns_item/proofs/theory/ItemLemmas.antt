@@ -1,22 +1,22 @@
 -- Records that are written are at their offset, and are read there.
 use Rattle.std.proofs.Common.{◌≡◌, ℕ, ◌+◌, ◌-◌, ◌≤◌, ◌++◌, length, arith, sym, refl, subst}
 use Rattle.std.specs.Int.{to_be_bytes, w16, w32}
-use Rattle.dns_wire.specs.Encoders.{CompressionTable, Rule, put_octets, both, with_length, put_name}
+use Rattle.dns_wire.specs.Encoders.{CompressionTable, Rule, encode_octets, both, with_length, encode_name}
 use Rattle.dns_name.specs.Names.{name_size, max_size}
 use Rattle.dns_name.specs.Parsers.{number_at}
-use Rattle.dns_wire.specs.Parts.{PartsAt, put_parts}
-use Rattle.dns_wire.specs.Targets.{Written, IsTarget, lay}
-use Rattle.dns_wire.proofs.theory.PutNames.{put_name_grows, put_octets_grows, put_parts_grows, both_grows, with_length_grows}
-use Rattle.dns_wire.proofs.theory.EncoderLaws.{number_16, number_32, HasLength, stable_length, puts_with_length, Puts, IsStable, Consecutive, stable_after, puts_both, HasOctets, stable_octets, puts_octets, HasName, stable_name, puts_put_name, HasParts, stable_parts, puts_parts, parts_rise, parts_within, parts_at}
+use Rattle.dns_wire.specs.Parts.{PartsAt, encode_parts}
+use Rattle.dns_wire.specs.Targets.{Written, IsTarget, append}
+use Rattle.dns_wire.proofs.theory.EncodedNames.{encode_name_grows, encode_octets_grows, encode_parts_grows, both_grows, with_length_grows}
+use Rattle.dns_wire.proofs.theory.EncoderLaws.{number_16, number_32, HasLength, stable_length, encodes_with_length, Encodes, IsStable, Consecutive, stable_after, encodes_both, HasOctets, stable_octets, encodes_octets, HasName, stable_name, encodes_name, HasParts, stable_parts, encodes_parts, parts_rise, parts_within, parts_at}
 use Rattle.dns_wire.proofs.theory.NameSizes.{parts_are_short}
 use Rattle.dns_wire.proofs.theory.SpelledNames.{at_first, at_second, at_offset, spelled_stands, spelled_walked}
-use Rattle.dns_item.specs.Items.{RecordEntry, ReadsRecordItem, RecordItem, IsRecord, record_fields, put_record, RecordsGrow, RecordsReadBack}
+use Rattle.dns_item.specs.Items.{RecordEntry, ReadsRecordItem, RecordItem, IsRecord, record_fields, encode_record, RecordsGrow, RecordsReadBack}
 
 -- writing a record adds only its own suffixes to the compression table
 pub records_grow : RecordsGrow
-unfolding put_record
+unfolding encode_record
 records_grow rule x =
-    both_grows _ _ (put_name_grows rule x.owner) (both_grows _ _ (put_octets_grows (record_fields x)) (with_length_grows _ (put_parts_grows rule x.parts)))
+    both_grows _ _ (encode_name_grows rule x.owner) (both_grows _ _ (encode_octets_grows (record_fields x)) (with_length_grows _ (encode_parts_grows rule x.parts)))
 
 -- the octets of a record go from p to q
 abbrev pub HasRecord : RecordItem → Written → ℕ → ℕ → Type 0
@@ -29,15 +29,15 @@ stable_record x =
     (stable_after (HasOctets (record_fields x)) (HasLength (HasParts x.parts)) (stable_octets (record_fields x)) (stable_length (HasParts x.parts) (stable_parts x.parts)))
 
 -- a record is at the offset where it was written
-pub puts_record : (rule : Rule) (x : RecordItem) → IsRecord x → Puts (put_record rule x) (HasRecord x)
-unfolding put_record
-puts_record rule x is =
-    let inner = put_parts rule x.parts in
+pub encodes_record : (rule : Rule) (x : RecordItem) → IsRecord x → Encodes (encode_record rule x) (HasRecord x)
+unfolding encode_record
+encodes_record rule x is =
+    let inner = encode_parts rule x.parts in
     let small : (m : CompressionTable) (w : ℕ) → length (inner m w).octets ≤ 65535 = λ m w. let a = parts_are_short rule x.parts m w in let b = is.short in omega arith in
-    let last = puts_with_length inner (HasParts x.parts) small (puts_parts rule x.parts is.parts) in
-    let after = puts_both (put_octets (record_fields x)) (with_length inner) (HasOctets (record_fields x)) (HasLength (HasParts x.parts)) (stable_octets (record_fields x)) (puts_octets (record_fields x)) last in
-    puts_both (put_name rule x.owner) (both (put_octets (record_fields x)) (with_length inner)) (HasName x.owner) (Consecutive (HasOctets (record_fields x)) (HasLength (HasParts x.parts)))
-    (stable_name x.owner) (puts_put_name rule x.owner is.owner) after
+    let last = encodes_with_length inner (HasParts x.parts) small (encodes_parts rule x.parts is.parts) in
+    let after = encodes_both (encode_octets (record_fields x)) (with_length inner) (HasOctets (record_fields x)) (HasLength (HasParts x.parts)) (stable_octets (record_fields x)) (encodes_octets (record_fields x)) last in
+    encodes_both (encode_name rule x.owner) (both (encode_octets (record_fields x)) (with_length inner)) (HasName x.owner) (Consecutive (HasOctets (record_fields x)) (HasLength (HasParts x.parts)))
+    (stable_name x.owner) (encodes_name rule x.owner is.owner) after
 
 -- what is read of a record whose RDATA goes from one offset to another
 entry_of : RecordItem → ℕ → ℕ → RecordEntry
@@ -79,6 +79,6 @@ reads_record x t p q is good h =
 
 pub records_read_back : RecordsReadBack
 records_read_back rule t x is h =
-    let p = puts_record rule x is in
-    let u = lay (put_record rule x) t in
-    (reads_record x u (length t.octets) (length u.octets) is (p.keeps t h) (p.puts t h), p.keeps t h)
+    let p = encodes_record rule x is in
+    let u = append (encode_record rule x) t in
+    (reads_record x u (length t.octets) (length u.octets) is (p.keeps t h) (p.encodes t h), p.keeps t h)

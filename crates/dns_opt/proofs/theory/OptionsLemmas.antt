@@ -6,7 +6,7 @@ use Rattle.std.proofs.lemmas.List.Elements.{All-head, All-tail}
 use Rattle.std.proofs.lemmas.Nat.{from_be_bytes-to_be_bytes_2}
 use Rattle.std.specs.List.{All}
 use Rattle.dns_opt.specs.Laws.{IsOption}
-use Rattle.dns_opt.specs.Options.{OptionItem, OptionBegins, AreOptions, put_option, put_options}
+use Rattle.dns_opt.specs.Options.{OptionItem, OptionBegins, AreOptions, encode_option, encode_options}
 use Rattle.dns_opt.specs.OptionsOf.{one_or_none, one_list, chosen, options_of, are_options, options_in, one_first, none_at_all}
 
 chosen-is : {b : List ℕ} (r : ((xs : List OptionItem) × AreOptions b xs) ⊎ ((xs : List OptionItem) → AreOptions b xs → ⊥)) (xs : List OptionItem) → AreOptions b xs → chosen r ≡ Some xs
@@ -91,17 +91,17 @@ pub reported_none : (b : List ℕ) → 0 < length b → ((x : OptionItem) (after
 reported_none b there never = ap (λ (o : Option (List OptionItem)). is_some o) (options_of-none b (none_at_all b there never))
 
 -- an encoded option is at the start
-put_begins : (x : OptionItem) (after : List ℕ) → IsOption x → OptionBegins x (put_option x ++ after) after
-put_begins x after h = record {
+encoding_begins : (x : OptionItem) (after : List ℕ) → IsOption x → OptionBegins x (encode_option x ++ after) after
+encoding_begins x after h = record {
   there = omega arith;
   code = from_be_bytes-to_be_bytes_2 x.code h.code;
   size = from_be_bytes-to_be_bytes_2 (length x.octets) h.short;
   octets = refl;
 }
 
-pub options_put : (xs : List OptionItem) → All IsOption xs → AreOptions (put_options xs) xs
-options_put [] each = refl
-options_put (x ∷ xs) each = (put_options xs, put_begins x (put_options xs) (All-head IsOption x xs each), options_put xs (All-tail IsOption x xs each))
+pub options_encoded : (xs : List OptionItem) → All IsOption xs → AreOptions (encode_options xs) xs
+options_encoded [] each = refl
+options_encoded (x ∷ xs) each = (encode_options xs, encoding_begins x (encode_options xs) (All-head IsOption x xs each), options_encoded xs (All-tail IsOption x xs each))
 
 -- octets that begin with an option still do with others appended
 begins_longer : (x : OptionItem) (b after c : List ℕ) → OptionBegins x b after → OptionBegins x (b ++ c) (after ++ c)
@@ -129,20 +129,20 @@ listed_are b some =
     subst (λ (xs : List OptionItem). AreOptions b xs) (sym e) all.1
 
 -- an option appended to a list becomes its last
-pub one_more : (b : List ℕ) (x : OptionItem) → IsSome (options_of b) → IsOption x → options_of (b ++ put_option x) ≡ Some (options_in b ++ x ∷ [])
+pub one_more : (b : List ℕ) (x : OptionItem) → IsSome (options_of b) → IsOption x → options_of (b ++ encode_option x) ≡ Some (options_in b ++ x ∷ [])
 one_more b x some is =
-    let one : AreOptions (put_option x) (x ∷ []) = subst (λ (c : List ℕ). AreOptions c (x ∷ [])) (append-nil (put_option x)) ([], put_begins x [] is, refl) in
-    options_of-is (b ++ put_option x) (options_in b ++ x ∷ []) (options_joined b (put_option x) (options_in b) (x ∷ []) (listed_are b some) one)
+    let one : AreOptions (encode_option x) (x ∷ []) = subst (λ (c : List ℕ). AreOptions c (x ∷ [])) (append-nil (encode_option x)) ([], encoding_begins x [] is, refl) in
+    options_of-is (b ++ encode_option x) (options_in b ++ x ∷ []) (options_joined b (encode_option x) (options_in b) (x ∷ []) (listed_are b some) one)
 
 -- options have as many octets as those that they are read from
-put_length : (b : List ℕ) (xs : List OptionItem) → AreOptions b xs → length (put_options xs) ≡ length b
-put_length b [] h = sym (ap length h)
-put_length b (x ∷ xs) h =
-    let rest = put_length h.0 xs h.2 in
+encode_length : (b : List ℕ) (xs : List OptionItem) → AreOptions b xs → length (encode_options xs) ≡ length b
+encode_length b [] h = sym (ap length h)
+encode_length b (x ∷ xs) h =
+    let rest = encode_length h.0 xs h.2 in
     let there = h.1.there in
     let after = ap length h.1.octets ∙ length-append x.octets h.0 in
-    omega (arith, rest, there, after, length-drop 4 b, length-append (put_option x) (put_options xs))
+    omega (arith, rest, there, after, length-drop 4 b, length-append (encode_option x) (encode_options xs))
 
--- as `put_length`, of the options in octets that are a list of options
-pub options_length : (b : List ℕ) → IsSome (options_of b) → length (put_options (options_in b)) ≡ length b
-options_length b some = put_length b (options_in b) (listed_are b some)
+-- as `encode_length`, of the options in octets that are a list of options
+pub options_length : (b : List ℕ) → IsSome (options_of b) → length (encode_options (options_in b)) ≡ length b
+options_length b some = encode_length b (options_in b) (listed_are b some)

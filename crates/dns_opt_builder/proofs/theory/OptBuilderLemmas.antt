@@ -7,7 +7,7 @@ use Rattle.dns_code.specs.Header.{fields as header_fields}
 use Rattle.dns_code.specs.declared.header.Header.{Header}
 use Rattle.dns_octets.specs.declared.error.AppendError.{AppendError}
 use Rattle.dns_octets.specs.declared.error.AppendError.TheVariants.{ShortBuf, OutOfMemory}
-use Rattle.dns_opt.specs.Options.{OptionItem, put_option, put_options}
+use Rattle.dns_opt.specs.Options.{OptionItem, encode_option, encode_options}
 use Rattle.dns_opt.specs.OptionsOf.{options_of, are_options, options_in}
 use Rattle.dns_opt.specs.OptHeader.{fields_in}
 use Rattle.dns_opt.proofs.theory.OptionsLemmas.{one_more, options_of-nil}
@@ -19,7 +19,7 @@ use Rattle.dns_opt_builder.specs.Additions.{Adds}
 -- what a builder keeps true of the octets of its options
 pub record AreKept (b : List ℕ) : Type 0 where
   pub listed : IsTrue (are_options b)
-  pub whole : put_options (options_in b) ≡ b
+  pub whole : encode_options (options_in b) ≡ b
   pub short : length b ≤ 65535
 
 -- the octets `c` keep this, and have one more option than `b`
@@ -27,20 +27,20 @@ record Grown (x : OptionItem) (b c : List ℕ) : Type 0 where
   kept : AreKept c
   options : options_in c ≡ options_in b ++ x ∷ []
 
-grown : (x : OptionItem) (b c : List ℕ) → AreKept b → x.code < 65536 → length b + 4 + length x.octets ≤ 65535 → c ≡ b ++ put_option x → Grown x b c
+grown : (x : OptionItem) (b c : List ℕ) → AreKept b → x.code < 65536 → length b + 4 + length x.octets ≤ 65535 → c ≡ b ++ encode_option x → Grown x b c
 grown x b c h code fits is =
-    let long = ap length is ∙ length-append b (put_option x) in
+    let long = ap length is ∙ length-append b (encode_option x) in
     let e = ap options_of is ∙ one_more b x h.listed (record { code = code; short = omega (arith, fits) }) in
     let options : options_in c ≡ options_in b ++ x ∷ [] =
     ap (λ (o : Option (List OptionItem)). option_map_or (λ (xs : List OptionItem). xs) o []) e in
-    let put : put_options (options_in b ++ x ∷ []) ≡ b ++ put_option x =
-    flat_map-append put_option (options_in b) (x ∷ [])
-    ∙ ap (λ (ys : List ℕ). put_options (options_in b) ++ ys) (append-nil (put_option x))
-    ∙ ap (λ (ys : List ℕ). ys ++ put_option x) h.whole in
+    let encoding : encode_options (options_in b ++ x ∷ []) ≡ b ++ encode_option x =
+    flat_map-append encode_option (options_in b) (x ∷ [])
+    ∙ ap (λ (ys : List ℕ). encode_options (options_in b) ++ ys) (append-nil (encode_option x))
+    ∙ ap (λ (ys : List ℕ). ys ++ encode_option x) h.whole in
     record {
       kept = record {
         listed = ap (λ (o : Option (List OptionItem)). is_some o) e;
-        whole = ap put_options options ∙ put ∙ sym is;
+        whole = ap encode_options options ∙ encoding ∙ sym is;
         short = omega (arith, long, fits);
       };
       options = options;
@@ -98,12 +98,12 @@ none_left builder left none =
 
 -- if the first of the remaining options exceeds the limit, so do all of them
 pub too_many : (x : OptionItem) (old new : OptBuilder) (left after : List OptionItem) (r : Result (Unit {0}) AppendError) → Adds x old new r → r ≡ Err ShortBuf → left ≡ x ∷ after
-    → 65535 < length (put_options (with_left old left).options)
+    → 65535 < length (encode_options (with_left old left).options)
 too_many x old new left after (Err ShortBuf) h e first =
-    let all = ap (λ (xs : List OptionItem). length (put_options ((gathered old).options ++ xs))) first in
-    let parts = ap length (flat_map-append put_option (gathered old).options (x ∷ after)) in
-    let sums = length-append (put_options (gathered old).options) (put_options (x ∷ after)) in
-    let more = length-append (put_option x) (put_options after) in
+    let all = ap (λ (xs : List OptionItem). length (encode_options ((gathered old).options ++ xs))) first in
+    let parts = ap length (flat_map-append encode_option (gathered old).options (x ∷ after)) in
+    let sums = length-append (encode_options (gathered old).options) (encode_options (x ∷ after)) in
+    let more = length-append (encode_option x) (encode_options after) in
     omega (arith, h.0, all, parts, sums, more)
 too_many x old new left after (Ok _) h e first = absurd (cc)
 too_many x old new left after (Err OutOfMemory) h e first = absurd (cc)

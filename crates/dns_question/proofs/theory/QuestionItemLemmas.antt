@@ -2,17 +2,17 @@
 use Rattle.std.proofs.Common.{ℕ, ◌+◌, ◌≤◌, length, arith, sym}
 use Rattle.std.specs.Int.{to_be_bytes, w16}
 use Rattle.dns_name.specs.Names.{name_size, max_size}
-use Rattle.dns_wire.specs.Encoders.{Rule, put_octets, put_name}
-use Rattle.dns_wire.specs.Targets.{Written, IsTarget, lay}
-use Rattle.dns_wire.proofs.theory.PutNames.{put_name_grows, put_octets_grows, both_grows}
-use Rattle.dns_wire.proofs.theory.EncoderLaws.{number_16, Puts, IsStable, Consecutive, stable_after, puts_both, HasOctets, stable_octets, puts_octets, HasName, stable_name, puts_put_name}
+use Rattle.dns_wire.specs.Encoders.{Rule, encode_octets, encode_name}
+use Rattle.dns_wire.specs.Targets.{Written, IsTarget, append}
+use Rattle.dns_wire.proofs.theory.EncodedNames.{encode_name_grows, encode_octets_grows, both_grows}
+use Rattle.dns_wire.proofs.theory.EncoderLaws.{number_16, Encodes, IsStable, Consecutive, stable_after, encodes_both, HasOctets, stable_octets, encodes_octets, HasName, stable_name, encodes_name}
 use Rattle.dns_wire.proofs.theory.SpelledNames.{at_first, at_second, spelled_stands, spelled_walked}
-use Rattle.dns_question.specs.Questions.{ReadsQuestion, QuestionsGrow, QuestionsReadBack, QuestionItem, IsQuestion, question_fields, put_question}
+use Rattle.dns_question.specs.Questions.{ReadsQuestion, QuestionsGrow, QuestionsReadBack, QuestionItem, IsQuestion, question_fields, encode_question}
 
 -- writing a question adds only its own suffixes to the compression table
 pub questions_grow : QuestionsGrow
-unfolding put_question
-questions_grow rule x = both_grows _ _ (put_name_grows rule x.name) (put_octets_grows (question_fields x))
+unfolding encode_question
+questions_grow rule x = both_grows _ _ (encode_name_grows rule x.name) (encode_octets_grows (question_fields x))
 
 -- the octets of a question go from p to q
 abbrev pub HasQuestion : QuestionItem → Written → ℕ → ℕ → Type 0
@@ -23,11 +23,11 @@ pub stable_question : (x : QuestionItem) → IsStable (HasQuestion x)
 stable_question x = stable_after (HasName x.name) (HasOctets (question_fields x)) (stable_name x.name) (stable_octets (question_fields x))
 
 -- a question is at the offset where it was written
-pub puts_question : (rule : Rule) (x : QuestionItem) → IsQuestion x → Puts (put_question rule x) (HasQuestion x)
-unfolding put_question
-puts_question rule x is =
-    puts_both (put_name rule x.name) (put_octets (question_fields x)) (HasName x.name) (HasOctets (question_fields x)) (stable_name x.name)
-    (puts_put_name rule x.name is.name) (puts_octets (question_fields x))
+pub encodes_question : (rule : Rule) (x : QuestionItem) → IsQuestion x → Encodes (encode_question rule x) (HasQuestion x)
+unfolding encode_question
+encodes_question rule x is =
+    encodes_both (encode_name rule x.name) (encode_octets (question_fields x)) (HasName x.name) (HasOctets (question_fields x)) (stable_name x.name)
+    (encodes_name rule x.name is.name) (encodes_octets (question_fields x))
 
 -- a question is read there
 pub reads_question : (x : QuestionItem) (t : Written) (p q : ℕ) → IsQuestion x → IsTarget t → HasQuestion x t p q → ReadsQuestion t.octets p q x
@@ -47,6 +47,6 @@ reads_question x t p q is good h =
 
 pub questions_read_back : QuestionsReadBack
 questions_read_back rule t x is h =
-    let p = puts_question rule x is in
-    let u = lay (put_question rule x) t in
-    (reads_question x u (length t.octets) (length u.octets) is (p.keeps t h) (p.puts t h), p.keeps t h)
+    let p = encodes_question rule x is in
+    let u = append (encode_question rule x) t in
+    (reads_question x u (length t.octets) (length u.octets) is (p.keeps t h) (p.encodes t h), p.keeps t h)

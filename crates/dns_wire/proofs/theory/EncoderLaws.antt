@@ -10,12 +10,12 @@ use Rattle.dns_octets.specs.declared.error.AppendError.{AppendError}
 use Rattle.dns_octets.specs.declared.error.AppendError.TheVariants.{ShortBuf, OutOfMemory}
 use Rattle.dns_name.specs.Names.{Labels, IsName}
 use Rattle.dns_name.specs.Parsers.{number_at}
-use Rattle.dns_wire.specs.Encoders.{Rule, Encoder, IsGrowing, put_octets, both, put_name, CompressionTable, with_length, TableEntry, cut, ends_within}
-use Rattle.dns_wire.specs.Parts.{Part, Octets, CompressibleName, PartsAt, AreParts, put_parts}
-use Rattle.dns_wire.specs.Targets.{At, Spelled, Written, IsTarget, lay, cut_to, Fits, Passes, ComposeReturns, Composes}
+use Rattle.dns_wire.specs.Encoders.{Rule, Encoder, IsGrowing, encode_octets, both, encode_name, CompressionTable, with_length, TableEntry, cut, ends_within}
+use Rattle.dns_wire.specs.Parts.{Part, Octets, CompressibleName, PartsAt, AreParts, encode_parts}
+use Rattle.dns_wire.specs.Targets.{At, Spelled, Written, IsTarget, append, cut_to, Fits, Passes, ComposeReturns, Composes}
 use Rattle.dns_wire.specs.TargetLaws.{CutUndoes, AppendsCompose, ComposesBoth, ComposesFirst}
 use Rattle.dns_wire.proofs.theory.CompressionTables.{cut-extends, cut-within, gets, get-cut, same_table}
-use Rattle.dns_wire.proofs.theory.PutNames.{put_name_grows, put_octets_grows, both_grows, with_length_grows, ends_within_content, puts_name}
+use Rattle.dns_wire.proofs.theory.EncodedNames.{encode_name_grows, encode_octets_grows, both_grows, with_length_grows, ends_within_content, encodes_compressed_name}
 use Rattle.dns_wire.proofs.theory.SpelledNames.{at_append, at_end, spelled_long, spelled_more, kept_more, name_at_up_to, walked_within}
 
 -- Targets with the same octets and the same table are the same.
@@ -25,24 +25,24 @@ same_written t u p q = λ i. record { octets = p i; table = q i }
 -- Truncating to the length before a growing encoding undoes it.
 pub cut_undoes : CutUndoes
 cut_undoes encoder t grows is =
-    let laid = encoder t.table (length t.octets) in
-    same_written _ _ (take-append_seam t.octets laid.octets)
-    (cut-extends t.table laid.table (length t.octets) (length t.octets + length laid.octets) (length t.octets) (omega arith) (grows.grows t.table (length t.octets))
+    let encoded = encoder t.table (length t.octets) in
+    same_written _ _ (take-append_seam t.octets encoded.octets)
+    (cut-extends t.table encoded.table (length t.octets) (length t.octets + length encoded.octets) (length t.octets) (omega arith) (grows.grows t.table (length t.octets))
     ∙ cut-within t.table (length t.octets) (ends_within_content is))
 
 -- Appending two encodings in turn appends both.
-pub lay-both : (a b : Encoder) (t : Written) → lay b (lay a t) ≡ lay (both a b) t
-lay-both a b t = rw length-append (same_written _ _ (simp append_assoc) refl)
+pub append-both : (a b : Encoder) (t : Written) → append b (append a t) ≡ append (both a b) t
+append-both a b t = rw length-append (same_written _ _ (simp append_assoc) refl)
 
 -- Appending the encoding keeps the table sound, and P holds of the offsets where it begins and ends.
-pub record Puts (encoder : Encoder) (P : Written → ℕ → ℕ → Type 0) : Type 0 where
+pub record Encodes (encoder : Encoder) (P : Written → ℕ → ℕ → Type 0) : Type 0 where
   pub grows : IsGrowing encoder
-  pub keeps : (t : Written) → IsTarget t → IsTarget (lay encoder t)
-  pub puts : (t : Written) → IsTarget t → P (lay encoder t) (length t.octets) (length (lay encoder t).octets)
+  pub keeps : (t : Written) → IsTarget t → IsTarget (append encoder t)
+  pub encodes : (t : Written) → IsTarget t → P (append encoder t) (length t.octets) (length (append encoder t).octets)
 
 -- P still holds after each growing encoding is appended.
 pub record IsStable (P : Written → ℕ → ℕ → Type 0) : Type 0 where
-  pub stays : (encoder : Encoder) (t : Written) (p q : ℕ) → IsGrowing encoder → P t p q → P (lay encoder t) p q
+  pub stays : (encoder : Encoder) (t : Written) (p q : ℕ) → IsGrowing encoder → P t p q → P (append encoder t) p q
 
 -- P holds up to an offset, and Q from there on.
 abbrev pub Consecutive : (P Q : Written → ℕ → ℕ → Type 0) → Written → ℕ → ℕ → Type 0
@@ -53,17 +53,17 @@ pub stable_after : (P Q : Written → ℕ → ℕ → Type 0) → IsStable P →
 stable_after P Q f g = record { stays = λ encoder t p q grows h. (h.0, f.stays encoder t p h.0 grows h.1, g.stays encoder t h.0 q grows h.2) }
 
 -- Two encodings in order write both.
-pub puts_both : (a b : Encoder) (P Q : Written → ℕ → ℕ → Type 0) → IsStable P → Puts a P → Puts b Q → Puts (both a b) (Consecutive P Q)
-puts_both a b P Q f x y = record {
+pub encodes_both : (a b : Encoder) (P Q : Written → ℕ → ℕ → Type 0) → IsStable P → Encodes a P → Encodes b Q → Encodes (both a b) (Consecutive P Q)
+encodes_both a b P Q f x y = record {
   grows = both_grows a b x.grows y.grows;
-  keeps = λ t h. subst (λ (u : Written). IsTarget u) (lay-both a b t) (y.keeps (lay a t) (x.keeps t h));
-  puts = λ t h.
-      let first = lay a t in
-      let second = lay b first in
+  keeps = λ t h. subst (λ (u : Written). IsTarget u) (append-both a b t) (y.keeps (append a t) (x.keeps t h));
+  encodes = λ t h.
+      let first = append a t in
+      let second = append b first in
       let start = length t.octets in
       let middle = length first.octets in
-      let two : Consecutive P Q second start (length second.octets) = (middle, f.stays b first start middle y.grows (x.puts t h), y.puts first (x.keeps t h)) in
-      subst (λ (u : Written). Consecutive P Q u start (length u.octets)) (lay-both a b t) two;
+      let two : Consecutive P Q second start (length second.octets) = (middle, f.stays b first start middle y.grows (x.encodes t h), y.encodes first (x.keeps t h)) in
+      subst (λ (u : Written). Consecutive P Q u start (length u.octets)) (append-both a b t) two;
 }
 
 -- The octets are between the offsets.
@@ -75,11 +75,11 @@ pub stable_octets : (xs : List ℕ) → IsStable (HasOctets xs)
 stable_octets xs = record { stays = λ encoder t p q grows h. (at_append _ h.0, h.1) }
 
 -- Octets are where they were written.
-pub puts_octets : (xs : List ℕ) → Puts (put_octets xs) (HasOctets xs)
-puts_octets xs = record {
-  grows = put_octets_grows xs;
+pub encodes_octets : (xs : List ℕ) → Encodes (encode_octets xs) (HasOctets xs)
+encodes_octets xs = record {
+  grows = encode_octets_grows xs;
   keeps = λ t h. record { each = λ s x e. kept_more t.table xs s x (λ s x e. e) (h.each s x e) };
-  puts = λ t h. (at_end t.octets xs, length-append t.octets xs);
+  encodes = λ t h. (at_end t.octets xs, length-append t.octets xs);
 }
 
 -- The name is encoded between the offsets.
@@ -91,14 +91,14 @@ pub stable_name : (name : Labels) → IsStable (HasName name)
 stable_name name = record { stays = λ encoder t p q grows h. spelled_more _ _ (gets (grows.grows t.table (length t.octets))) h }
 
 -- A name is encoded where it was written.
-pub puts_put_name : (rule : Rule) (name : Labels) → IsName name → Puts (put_name rule name) (HasName name)
-puts_put_name rule name is = record {
-  grows = put_name_grows rule name;
-  keeps = λ t h. (puts_name rule t.table t.octets name is h).is_table;
-  puts = λ t h.
-      let laid = put_name rule name t.table (length t.octets) in
-      let e : length t.octets + length laid.octets ≡ length (t.octets ++ laid.octets) = sym (length-append t.octets laid.octets) in
-      subst (λ q. Spelled laid.table (t.octets ++ laid.octets) q (length t.octets) name) e (puts_name rule t.table t.octets name is h).spelled;
+pub encodes_name : (rule : Rule) (name : Labels) → IsName name → Encodes (encode_name rule name) (HasName name)
+encodes_name rule name is = record {
+  grows = encode_name_grows rule name;
+  keeps = λ t h. (encodes_compressed_name rule t.table t.octets name is h).is_table;
+  encodes = λ t h.
+      let encoded = encode_name rule name t.table (length t.octets) in
+      let e : length t.octets + length encoded.octets ≡ length (t.octets ++ encoded.octets) = sym (length-append t.octets encoded.octets) in
+      subst (λ q. Spelled encoded.table (t.octets ++ encoded.octets) q (length t.octets) name) e (encodes_compressed_name rule t.table t.octets name is h).spelled;
 }
 
 -- The parts are encoded between the offsets, in order.
@@ -114,19 +114,19 @@ stable_parts (Octets xs ∷ parts) = stable_after (HasOctets xs) (HasParts parts
 stable_parts (CompressibleName name ∷ parts) = stable_after (HasName name) (HasParts parts) (stable_name name) (stable_parts parts)
 
 -- No parts are written.
-puts_none : Puts (put_octets []) (HasParts [])
-puts_none =
-    let none = puts_octets [] in
-    record { grows = none.grows; keeps = λ t h. none.keeps t h; puts = λ t h. let e = (none.puts t h).1 in omega arith }
+encodes_none : Encodes (encode_octets []) (HasParts [])
+encodes_none =
+    let none = encodes_octets [] in
+    record { grows = none.grows; keeps = λ t h. none.keeps t h; encodes = λ t h. let e = (none.encodes t h).1 in omega arith }
 
 -- Parts are encoded where they were written.
-pub puts_parts : (rule : Rule) (parts : List Part) → AreParts parts → Puts (put_parts rule parts) (HasParts parts)
-unfolding put_parts
-puts_parts rule [] is = puts_none
-puts_parts rule (Octets xs ∷ parts) is =
-    puts_both (put_octets xs) (put_parts rule parts) (HasOctets xs) (HasParts parts) (stable_octets xs) (puts_octets xs) (puts_parts rule parts is)
-puts_parts rule (CompressibleName name ∷ parts) is =
-    puts_both (put_name rule name) (put_parts rule parts) (HasName name) (HasParts parts) (stable_name name) (puts_put_name rule name is.0) (puts_parts rule parts is.1)
+pub encodes_parts : (rule : Rule) (parts : List Part) → AreParts parts → Encodes (encode_parts rule parts) (HasParts parts)
+unfolding encode_parts
+encodes_parts rule [] is = encodes_none
+encodes_parts rule (Octets xs ∷ parts) is =
+    encodes_both (encode_octets xs) (encode_parts rule parts) (HasOctets xs) (HasParts parts) (stable_octets xs) (encodes_octets xs) (encodes_parts rule parts is)
+encodes_parts rule (CompressibleName name ∷ parts) is =
+    encodes_both (encode_name rule name) (encode_parts rule parts) (HasName name) (HasParts parts) (stable_name name) (encodes_name rule name is.0) (encodes_parts rule parts is.1)
 
 -- Parts end at or after their beginning.
 pub parts_rise : (parts : List Part) (t : Written) (p q : ℕ) → HasParts parts t p q → p ≤ q
@@ -172,12 +172,12 @@ pub length_of : Encoder → Written → ℕ
 length_of a t = length (a t.table (length t.octets + 2)).octets
 
 -- An encoding preceded by its length is two encodings.
-pub lay-with_length : (a : Encoder) (t : Written) → lay (both (put_octets (to_be_bytes w16 (length_of a t))) a) t ≡ lay (with_length a) t
+pub append-with_length : (a : Encoder) (t : Written) → append (both (encode_octets (to_be_bytes w16 (length_of a t))) a) t ≡ append (with_length a) t
 unfolding length_of
-lay-with_length a t = refl
+append-with_length a t = refl
 
 size-with_length : (a : Encoder) (t : Written)
-    → length (lay (both (put_octets (to_be_bytes w16 (length_of a t))) a) t).octets ≡ length t.octets + 2 + length_of a t
+    → length (append (both (encode_octets (to_be_bytes w16 (length_of a t))) a) t).octets ≡ length t.octets + 2 + length_of a t
 unfolding length_of
 size-with_length a t =
     let text = (a t.table (length t.octets + 2)).octets in
@@ -189,22 +189,22 @@ unfolding length_of
 length_small a t small = small t.table (length t.octets + 2)
 
 -- An encoding of at most 65,535 octets is written after its length.
-pub puts_with_length : (a : Encoder) (P : Written → ℕ → ℕ → Type 0) → ((m : CompressionTable) (w : ℕ) → length (a m w).octets ≤ 65535) → Puts a P → Puts (with_length a) (HasLength P)
-puts_with_length a P small x = record {
+pub encodes_with_length : (a : Encoder) (P : Written → ℕ → ℕ → Type 0) → ((m : CompressionTable) (w : ℕ) → length (a m w).octets ≤ 65535) → Encodes a P → Encodes (with_length a) (HasLength P)
+encodes_with_length a P small x = record {
   grows = with_length_grows a x.grows;
   keeps = λ t h.
       let length_octets = to_be_bytes w16 (length_of a t) in
-      subst (λ (u : Written). IsTarget u) (lay-with_length a t)
-      ((puts_both (put_octets length_octets) a (HasOctets length_octets) P (stable_octets length_octets) (puts_octets length_octets) x).keeps t h);
-  puts = λ t h.
+      subst (λ (u : Written). IsTarget u) (append-with_length a t)
+      ((encodes_both (encode_octets length_octets) a (HasOctets length_octets) P (stable_octets length_octets) (encodes_octets length_octets) x).keeps t h);
+  encodes = λ t h.
       let n = length_of a t in
-      let u = lay (both (put_octets (to_be_bytes w16 n)) a) t in
+      let u = append (both (encode_octets (to_be_bytes w16 n)) a) t in
       let p = length t.octets in
-      let two = (puts_both (put_octets (to_be_bytes w16 n)) a (HasOctets (to_be_bytes w16 n)) P (stable_octets (to_be_bytes w16 n)) (puts_octets (to_be_bytes w16 n)) x).puts t h in
+      let two = (encodes_both (encode_octets (to_be_bytes w16 n)) a (HasOctets (to_be_bytes w16 n)) P (stable_octets (to_be_bytes w16 n)) (encodes_octets (to_be_bytes w16 n)) x).encodes t h in
       let size = size-with_length a t in
       let is : n ≡ length u.octets - (p + 2) = omega arith in
       let few : n ≤ 65535 = length_small a t small in
-      subst (λ (v : Written). HasLength P v p (length v.octets)) (lay-with_length a t)
+      subst (λ (v : Written). HasLength P v p (length v.octets)) (append-with_length a t)
       (subst (λ k. At u.octets p (to_be_bytes w16 k)) is two.1.0, subst (λ r. P u r (length u.octets)) two.1.1 two.2, omega arith);
 }
 
@@ -229,8 +229,8 @@ cut_to-cut_to : (t : Written) (d e : ℕ) → d ≤ e → cut_to d (cut_to e t) 
 cut_to-cut_to t d e l = same_written _ _ (grind (arith, common_steps)) (cut-cut t.table d e l)
 
 -- Truncating to or below the length before a growing encoding leaves nothing of it.
-pub cut_to-lay : (encoder : Encoder) (t : Written) (w : ℕ) → IsGrowing encoder → w ≤ length t.octets → cut_to w (lay encoder t) ≡ cut_to w t
-cut_to-lay encoder t w g l = same_written _ _ (take-append-le w t.octets _ l) (cut-extends t.table _ (length t.octets) _ w l (g.grows t.table (length t.octets)))
+pub cut_to-append : (encoder : Encoder) (t : Written) (w : ℕ) → IsGrowing encoder → w ≤ length t.octets → cut_to w (append encoder t) ≡ cut_to w t
+cut_to-append encoder t w g l = same_written _ _ (take-append-le w t.octets _ l) (cut-extends t.table _ (length t.octets) _ w l (g.grows t.table (length t.octets)))
 
 -- If n octets exceed the capacity, so do k ≥ n.
 passes_more : (capacity : Option ℕ) (n k : ℕ) → n ≤ k → Passes capacity n → Passes capacity k
@@ -246,17 +246,17 @@ appends_compose capacity grows a t u (Err OutOfMemory) h = record { ok = h.ok; e
 -- An encoding that is composed after a written one composes both.
 pub composes_both : ComposesBoth
 composes_both capacity grows a b t u v (Ok x) g e h = record {
-  ok = h.ok ∙ (ap (lay b) e ∙ lay-both a b t);
+  ok = h.ok ∙ (ap (append b) e ∙ append-both a b t);
   err = tt;
-  answer = subst (λ w. Fits capacity (length w.octets)) (ap (lay b) e ∙ lay-both a b t) h.answer;
+  answer = subst (λ w. Fits capacity (length w.octets)) (ap (append b) e ∙ append-both a b t) h.answer;
 }
 composes_both capacity grows a b t u v (Err d) g e h = record {
   ok = tt;
   err =
       let longer : length t.octets ≤ length u.octets = rw e (rw length-append (omega arith)) in
       sym (cut_to-cut_to v (length t.octets) (length u.octets) longer) ∙ ap (cut_to (length t.octets)) h.err
-      ∙ cut_to-cut_to u _ _ longer ∙ ap (cut_to (length t.octets)) e ∙ cut_to-lay a t (length t.octets) g (omega arith);
-  answer = subst (λ w. ComposeReturns {X = Unit} capacity grows (length w.octets) (Err d)) (ap (lay b) e ∙ lay-both a b t) h.answer;
+      ∙ cut_to-cut_to u _ _ longer ∙ ap (cut_to (length t.octets)) e ∙ cut_to-append a t (length t.octets) g (omega arith);
+  answer = subst (λ w. ComposeReturns {X = Unit} capacity grows (length w.octets) (Err d)) (ap (append b) e ∙ append-both a b t) h.answer;
 }
 
 -- An error in composing the first encoding is one in composing both.
@@ -265,7 +265,7 @@ stopped : (capacity : Option ℕ) (grows : Bool) (a b : Encoder) (t u : Written)
 stopped capacity grows a b t u ShortBuf h = record {
   ok = tt;
   err = h.err;
-  answer = passes_more capacity (length (lay a t).octets) (length (lay (both a b) t).octets) (rw (length-append, length-append, length-append) (omega arith)) h.answer;
+  answer = passes_more capacity (length (append a t).octets) (length (append (both a b) t).octets) (rw (length-append, length-append, length-append) (omega arith)) h.answer;
 }
 stopped capacity grows a b t u OutOfMemory h = record { ok = tt; err = h.err; answer = h.answer }
 

@@ -1,12 +1,12 @@
 -- The octets that a written name takes.
 use Rattle.std.proofs.Common.{ℕ, ◌+◌, ◌≤◌, List, [], ◌∷◌, length, length-append, arith}
 use Rattle.dns_name.specs.Names.{Labels, uncompressed}
-use Rattle.dns_wire.specs.Encoders.{CompressionTable, Rule, Plain, Static, Tree, Hash, put_name}
-use Rattle.dns_wire.specs.Parts.{Part, Octets, CompressibleName, put_part, put_parts, part_size, parts_size}
+use Rattle.dns_wire.specs.Encoders.{CompressionTable, Rule, Plain, Static, Tree, Hash, encode_name}
+use Rattle.dns_wire.specs.Parts.{Part, Octets, CompressibleName, encode_part, encode_parts, part_size, parts_size}
 use Rattle.dns_wire.specs.TargetLaws.{NamesAreShort}
 use Rattle.dns_name.proofs.theory.LabelsLemmas.{length-uncompressed}
-use Rattle.dns_wire.proofs.theory.PutNames.{SpellsAs, spells_as}
-use Rattle.dns_wire.proofs.theory.PutNames.SpellsAs.{at_root, at_entry, at_kept, at_far}
+use Rattle.dns_wire.proofs.theory.EncodedNames.{SpellsAs, spells_as}
+use Rattle.dns_wire.proofs.theory.EncodedNames.SpellsAs.{at_root, at_entry, at_kept, at_far}
 
 -- A written name takes at most as many octets as it does uncompressed: a pointer takes two, and a length octet and the root's zero octet take as many.
 spell_short : {rule : Rule} {m : CompressionTable} {p entry_count : ℕ} {name : Labels} {text : List ℕ} {ss : List (Labels × ℕ)} → SpellsAs rule m p entry_count name text ss → length text ≤ length (uncompressed name)
@@ -24,22 +24,22 @@ spell_short (at_far e k) = omega arith
 
 -- This holds under each rule.
 pub names_are_short : NamesAreShort
-unfolding put_name
+unfolding encode_name
 names_are_short Plain name m w = omega arith
 names_are_short Static name m w = spell_short (spells_as Static m w _ name)
 names_are_short Tree name m w = spell_short (spells_as Tree m w _ name)
 names_are_short Hash name m w = spell_short (spells_as Hash m w _ name)
 
-part_short : (rule : Rule) (part : Part) (m : CompressionTable) (w : ℕ) → length (put_part rule part m w).octets ≤ part_size part
+part_short : (rule : Rule) (part : Part) (m : CompressionTable) (w : ℕ) → length (encode_part rule part m w).octets ≤ part_size part
 part_short rule (Octets octets) m w = omega arith
 part_short rule (CompressibleName name) m w = names_are_short rule name m w
 
 -- Written parts take at most as many octets as they do uncompressed.
-pub parts_are_short : (rule : Rule) (parts : List Part) (m : CompressionTable) (w : ℕ) → length (put_parts rule parts m w).octets ≤ parts_size parts
-unfolding put_parts
+pub parts_are_short : (rule : Rule) (parts : List Part) (m : CompressionTable) (w : ℕ) → length (encode_parts rule parts m w).octets ≤ parts_size parts
+unfolding encode_parts
 parts_are_short rule [] m w = omega arith
 parts_are_short rule (part ∷ parts) m w =
-    let first = put_part rule part m w in
+    let first = encode_part rule part m w in
     let a = part_short rule part m w in
     let b = parts_are_short rule parts first.table (w + length first.octets) in
     rw length-append (omega (arith, a, b))

@@ -4,14 +4,14 @@ use Rattle.std.specs.Prelude.{Some, None}
 use Rattle.std.specs.Int.{to_be_bytes, w16}
 use Rattle.std.specs.FinMap.{get, len, get-empty}
 use Rattle.dns_name.specs.Names.{Labels, IsName, name_size, max_size, Walked}
-use Rattle.dns_wire.specs.Encoders.{CompressionTable, TableEntry, nothing, suffix_cmp, add_suffixes, Rule, Plain, Static, Tree, Hash, Encoder, Laid, put_octets, both, with_length, spell, kept, put_name}
-use Rattle.dns_wire.specs.Parts.{Part, Octets, CompressibleName, AreParts, put_parts, PartsNear}
-use Rattle.dns_wire.specs.Targets.{At, IsTableOf, Written, IsTarget, lay}
+use Rattle.dns_wire.specs.Encoders.{CompressionTable, TableEntry, nothing, suffix_cmp, add_suffixes, Rule, Plain, Static, Tree, Hash, Encoder, Encoded, encode_octets, both, with_length, spell, kept, encode_name}
+use Rattle.dns_wire.specs.Parts.{Part, Octets, CompressibleName, AreParts, encode_parts, PartsNear}
+use Rattle.dns_wire.specs.Targets.{At, IsTableOf, Written, IsTarget, append}
 use Rattle.dns_wire.specs.Spelling.{IsShared, Spelling, SharesAll, AddsShortest, PartsAreShortest}
 use Rattle.dns_wire.specs.Spelling.Spelling.{none, octets, whole, shared}
 use Rattle.dns_wire.proofs.theory.TargetTheorems.{near_end}
-use Rattle.dns_wire.proofs.theory.PutNames.{put_name_grows, spells_as}
-use Rattle.dns_wire.proofs.theory.EncoderLaws.{length_of, lay-with_length, lay-both, puts_put_name, puts_octets}
+use Rattle.dns_wire.proofs.theory.EncodedNames.{encode_name_grows, spells_as}
+use Rattle.dns_wire.proofs.theory.EncoderLaws.{length_of, append-with_length, append-both, encodes_name, encodes_octets}
 use Rattle.dns_wire.proofs.theory.CompressionTables.{gets, nothing_is_kept}
 use Rattle.dns_wire.proofs.theory.SpelledNames.{at_append, at_end, spelled_walked, spelled_more, kept_more}
 use Rattle.dns_wire.proofs.SharedSuffixes.{Knows, Best, KeepsNear, tree_keeps_near, static_keeps_near, hash_keeps_near, best, knows_more, near_kept, near_suffixes, few_less, shared_some, len_spell, len_add_suffixes}
@@ -47,17 +47,17 @@ pub record AddsShort (rule : Rule) (parts : List Part) (t u : Written) : Type 0 
 
 -- An encoding adds these parts so, to each target.
 abbrev pub Shortens : Rule → Encoder → List Part → Type 0
-Shortens rule encoder parts = (t : Written) → AddsShort rule parts t (lay encoder t)
+Shortens rule encoder parts = (t : Written) → AddsShort rule parts t (append encoder t)
 
 -- Octets are written in one way.
 octets_parts : {names : List Labels} {xs : List ℕ} {parts : List Part} {n : ℕ} → Spelling names (Octets xs ∷ parts) n → (k : ℕ) × Spelling names parts k × (n ≡ length xs + k)
 octets_parts (octets {n = k} s) = (k, s, refl)
 
 -- An empty encoding adds no parts.
-pub shortens_none : (rule : Rule) → Shortens rule (put_octets []) []
+pub shortens_none : (rule : Rule) → Shortens rule (encode_octets []) []
 shortens_none rule t = record {
   longer = omega arith;
-  keeps = (puts_octets []).keeps t;
+  keeps = (encodes_octets []).keeps t;
   short = λ c names rest end h knows near few.
       let e : length (t.octets ++ []) ≡ length t.octets = ap length (append-nil t.octets) in
       record {
@@ -70,10 +70,10 @@ shortens_none rule t = record {
 }
 
 -- The encoding of octets adds a part of equally many octets.
-pub shortens_octets : (rule : Rule) (xs ys : List ℕ) → length ys ≡ length xs → Shortens rule (put_octets xs) (Octets ys ∷ [])
+pub shortens_octets : (rule : Rule) (xs ys : List ℕ) → length ys ≡ length xs → Shortens rule (encode_octets xs) (Octets ys ∷ [])
 shortens_octets rule xs ys same t = record {
   longer = omega arith;
-  keeps = (puts_octets xs).keeps t;
+  keeps = (encodes_octets xs).keeps t;
   short = λ c names rest end h knows near few.
       let e : length (t.octets ++ xs) ≡ length t.octets + length ys = length-append t.octets xs ∙ ap (λ n. length t.octets + n) (sym same) in
       record {
@@ -119,17 +119,17 @@ least_name names name rest l n (inr a) (inr b) = let m = a.5 b.0 b.1 b.2 b.3 in 
 -- A rule that writes names as `spell` does, and by which each suffix within pointer range enters the table while `SharesAll` holds.
 pub record Spells (rule : Rule) : Type 0 where
   pub near : KeepsNear rule
-  pub few : (name : Labels) (m : CompressionTable) (w : ℕ) → SharesAll rule (len (put_name rule name m w).table) → SharesAll rule (len m + length (spell rule m w (len m) name).1)
-  pub writes : (name : Labels) (m : CompressionTable) (w : ℕ) → let spelled = spell rule m w (len m) name in put_name rule name m w ≡ record { octets = spelled.0; table = add_suffixes m (kept rule spelled.1) (w + length spelled.0) }
+  pub few : (name : Labels) (m : CompressionTable) (w : ℕ) → SharesAll rule (len (encode_name rule name m w).table) → SharesAll rule (len m + length (spell rule m w (len m) name).1)
+  pub writes : (name : Labels) (m : CompressionTable) (w : ℕ) → let spelled = spell rule m w (len m) name in encode_name rule name m w ≡ record { octets = spelled.0; table = add_suffixes m (kept rule spelled.1) (w + length spelled.0) }
 
 -- The tree rule is one.
 spells_tree : Spells Tree
-unfolding put_name
+unfolding encode_name
 spells_tree = record { near = tree_keeps_near; few = λ name m w h. tt; writes = λ name m w. refl }
 
 -- The static rule is one.
 spells_static : Spells Static
-unfolding put_name
+unfolding encode_name
 spells_static = record {
   near = static_keeps_near;
   few = λ name m w h. let spelled = spell Static m w (len m) name in let e = len_spell (w + length spelled.0) (spells_as Static m w (len m) name) in omega arith;
@@ -138,7 +138,7 @@ spells_static = record {
 
 -- The hash rule is one.
 spells_hash : Spells Hash
-unfolding put_name
+unfolding encode_name
 spells_hash = record { near = hash_keeps_near; few = λ name m w h. tt; writes = λ name m w. refl }
 
 -- Every rule with `SharesAll` is one.
@@ -149,32 +149,32 @@ spells Tree n few = spells_tree
 spells Hash n few = spells_hash
 
 -- A name written with the octets and the suffixes that `spell` gives is as short as possible.
-name_short : (rule : Rule) (name : Labels) (t : Written) (laid : Laid) (c : List ℕ) (names : List Labels) (rest : List Part) (end : ℕ) → KeepsNear rule → IsName name → Knows t.table names
-    → let spelled = spell rule t.table (length t.octets) (len t.table) name in laid ≡ record { octets = spelled.0; table = add_suffixes t.table (kept rule spelled.1) (length t.octets + length spelled.0) }
-    → ((s : Labels) (x : TableEntry) → get t.table s ≡ Some x → get laid.table s ≡ Some x)
-    → Walked ((t.octets ++ laid.octets) ++ c) (length t.octets) (length (t.octets ++ laid.octets))
-    → PartsNear ((t.octets ++ laid.octets) ++ c) end (length t.octets) (CompressibleName name ∷ rest)
+name_short : (rule : Rule) (name : Labels) (t : Written) (encoded : Encoded) (c : List ℕ) (names : List Labels) (rest : List Part) (end : ℕ) → KeepsNear rule → IsName name → Knows t.table names
+    → let spelled = spell rule t.table (length t.octets) (len t.table) name in encoded ≡ record { octets = spelled.0; table = add_suffixes t.table (kept rule spelled.1) (length t.octets + length spelled.0) }
+    → ((s : Labels) (x : TableEntry) → get t.table s ≡ Some x → get encoded.table s ≡ Some x)
+    → Walked ((t.octets ++ encoded.octets) ++ c) (length t.octets) (length (t.octets ++ encoded.octets))
+    → PartsNear ((t.octets ++ encoded.octets) ++ c) end (length t.octets) (CompressibleName name ∷ rest)
     → SharesAll rule (len t.table + length (spell rule t.table (length t.octets) (len t.table) name).1)
-    → Short names (CompressibleName name ∷ []) rest ((t.octets ++ laid.octets) ++ c) (length t.octets) (length (t.octets ++ laid.octets)) end laid.table
-name_short rule name t laid c names rest end r is knows e g walked near few =
+    → Short names (CompressibleName name ∷ []) rest ((t.octets ++ encoded.octets) ++ c) (length t.octets) (length (t.octets ++ encoded.octets)) end encoded.table
+name_short rule name t encoded c names rest end r is knows e g walked near few =
     let m = t.table in
     let w = length t.octets in
     let spelled = spell rule m w (len m) name in
-    let b = (t.octets ++ laid.octets) ++ c in
-    let text : laid.octets ≡ spelled.0 = ap (λ (x : Laid). x.octets) e in
-    let at = subst (λ (xs : List ℕ). At b w xs) text (at_append c (at_end t.octets laid.octets)) in
+    let b = (t.octets ++ encoded.octets) ++ c in
+    let text : encoded.octets ≡ spelled.0 = ap (λ (x : Encoded). x.octets) e in
+    let at = subst (λ (xs : List ℕ). At b w xs) text (at_append c (at_end t.octets encoded.octets)) in
     let all = near_kept r b near.0 (spells_as rule m w (len m) name) is near.1 at few in
     let chosen = near_suffixes b near.0 (spells_as rule m w (len m) name) is near.1 at in
     let q = w + length spelled.0 in
-    let table : laid.table ≡ add_suffixes m spelled.1 q = ap (λ (x : Laid). x.table) e ∙ ap (λ (ss : List (Labels × ℕ)). add_suffixes m ss q) (r.chosen spelled.1 chosen) in
+    let table : encoded.table ≡ add_suffixes m spelled.1 q = ap (λ (x : Encoded). x.table) e ∙ ap (λ (ss : List (Labels × ℕ)). add_suffixes m ss q) (r.chosen spelled.1 chosen) in
     let shortest : Best names name (length spelled.0) = best names knows (spells_as rule m w (len m) name) all in
-    let long : length (t.octets ++ laid.octets) ≡ w + length spelled.0 = length-append t.octets laid.octets ∙ ap (λ (xs : List ℕ). w + length xs) text in
+    let long : length (t.octets ++ encoded.octets) ≡ w + length spelled.0 = length-append t.octets encoded.octets ∙ ap (λ (xs : List ℕ). w + length xs) text in
     record {
-      knows = knows_more rule m laid.table names w (len m) q name knows all table g;
+      knows = knows_more rule m encoded.table names w (len m) q name knows all table g;
       near = subst (λ k. PartsNear b end k rest) (near_end walked near.1) near.2;
       rises = omega arith;
       attains = λ n s.
-          let k : length spelled.0 + n ≡ length (t.octets ++ laid.octets) - w + n = omega arith in
+          let k : length spelled.0 + n ≡ length (t.octets ++ encoded.octets) - w + n = omega arith in
           subst (λ k. Spelling names (CompressibleName name ∷ rest) k) k (attains_name names name rest (length spelled.0) n shortest s);
       least = λ n s. let l = least_name names name rest (length spelled.0) n shortest (name_parts s) in (l.0, l.1, omega (arith, l.2));
     }
@@ -184,20 +184,20 @@ is_table_more : (m : CompressionTable) (b c : List ℕ) → IsTableOf b m → Is
 is_table_more m b c r = record { each = λ s x e. kept_more m c s x (λ s x e. e) (r.each s x e) }
 
 -- The encoding of a name is as short as possible.
-pub shortens_name : (rule : Rule) (name : Labels) → Spells rule → IsName name → Shortens rule (put_name rule name) (CompressibleName name ∷ [])
+pub shortens_name : (rule : Rule) (name : Labels) → Spells rule → IsName name → Shortens rule (encode_name rule name) (CompressibleName name ∷ [])
 shortens_name rule name r is t =
     let w = length t.octets in
-    let laid = put_name rule name t.table w in
+    let encoded = encode_name rule name t.table w in
     let spelled = spell rule t.table w (len t.table) name in
-    let p = puts_put_name rule name is in
+    let p = encodes_name rule name is in
     record {
-      longer = subst (λ (x : Laid). len t.table ≤ len x.table) (sym (r.writes name t.table w)) (len_add_suffixes t.table (kept rule spelled.1) (w + length spelled.0));
+      longer = subst (λ (x : Encoded). len t.table ≤ len x.table) (sym (r.writes name t.table w)) (len_add_suffixes t.table (kept rule spelled.1) (w + length spelled.0));
       keeps = p.keeps t;
       short = λ c names rest end h knows near few.
-          let after = is_table_more laid.table (t.octets ++ laid.octets) c (p.keeps t h) in
+          let after = is_table_more encoded.table (t.octets ++ encoded.octets) c (p.keeps t h) in
           let small : 0 + name_size name ≤ max_size = let k = is.short in omega arith in
-          name_short rule name t laid c names rest end r.near is knows (r.writes name t.table w) (gets ((put_name_grows rule name).grows t.table w))
-          (spelled_walked 0 after small (spelled_more laid.table c (λ s x e. e) (p.puts t h))) near (r.few name t.table w few);
+          name_short rule name t encoded c names rest end r.near is knows (r.writes name t.table w) (gets ((encode_name_grows rule name).grows t.table w))
+          (spelled_walked 0 after small (spelled_more encoded.table c (λ s x e. e) (p.encodes t h))) near (r.few name t.table w few);
     }
 
 -- Parts and those after them are as short as possible if both are.
@@ -222,10 +222,10 @@ short_both names ps qs rest b d p q r end m n x y =
     }
 
 -- Two encodings appended in turn.
-adds_both : (rule : Rule) (a b : Encoder) (ps qs : List Part) (t : Written) → Shortens rule a ps → Shortens rule b qs → AddsShort rule (ps ++ qs) t (lay b (lay a t))
+adds_both : (rule : Rule) (a b : Encoder) (ps qs : List Part) (t : Written) → Shortens rule a ps → Shortens rule b qs → AddsShort rule (ps ++ qs) t (append b (append a t))
 adds_both rule a b ps qs t x y =
-    let u = lay a t in
-    let v = lay b u in
+    let u = append a t in
+    let v = append b u in
     let first = x t in
     let second = y u in
     let up = first.longer in
@@ -244,21 +244,21 @@ adds_both rule a b ps qs t x y =
 
 -- Two encodings in order.
 pub shortens_both : (rule : Rule) (a b : Encoder) (ps qs : List Part) → Shortens rule a ps → Shortens rule b qs → Shortens rule (both a b) (ps ++ qs)
-shortens_both rule a b ps qs x y t = subst (λ (u : Written). AddsShort rule (ps ++ qs) t u) (lay-both a b t) (adds_both rule a b ps qs t x y)
+shortens_both rule a b ps qs x y t = subst (λ (u : Written). AddsShort rule (ps ++ qs) t u) (append-both a b t) (adds_both rule a b ps qs t x y)
 
 -- The encoding of parts is as short as possible.
-pub shortens_parts : (rule : Rule) (parts : List Part) → Spells rule → AreParts parts → Shortens rule (put_parts rule parts) parts
-unfolding put_parts
+pub shortens_parts : (rule : Rule) (parts : List Part) → Spells rule → AreParts parts → Shortens rule (encode_parts rule parts) parts
+unfolding encode_parts
 shortens_parts rule [] r is = shortens_none rule
-shortens_parts rule (Octets xs ∷ parts) r is = shortens_both rule (put_octets xs) (put_parts rule parts) (Octets xs ∷ []) parts (shortens_octets rule xs xs refl) (shortens_parts rule parts r is)
-shortens_parts rule (CompressibleName name ∷ parts) r is = shortens_both rule (put_name rule name) (put_parts rule parts) (CompressibleName name ∷ []) parts (shortens_name rule name r is.0) (shortens_parts rule parts r is.1)
+shortens_parts rule (Octets xs ∷ parts) r is = shortens_both rule (encode_octets xs) (encode_parts rule parts) (Octets xs ∷ []) parts (shortens_octets rule xs xs refl) (shortens_parts rule parts r is)
+shortens_parts rule (CompressibleName name ∷ parts) r is = shortens_both rule (encode_name rule name) (encode_parts rule parts) (CompressibleName name ∷ []) parts (shortens_name rule name r is.0) (shortens_parts rule parts r is.1)
 
 -- The encoding of parts preceded by their length is as short as possible.
 pub shortens_with_length : (rule : Rule) (a : Encoder) (parts : List Part) → Shortens rule a parts → Shortens rule (with_length a) (Octets (0 ∷ 0 ∷ []) ∷ parts)
 shortens_with_length rule a parts x t =
     let n = to_be_bytes w16 (length_of a t) in
-    let two = shortens_both rule (put_octets n) a (Octets (0 ∷ 0 ∷ []) ∷ []) parts (shortens_octets rule n (0 ∷ 0 ∷ []) refl) x in
-    subst (λ (u : Written). AddsShort rule (Octets (0 ∷ 0 ∷ []) ∷ parts) t u) (lay-with_length a t) (two t)
+    let two = shortens_both rule (encode_octets n) a (Octets (0 ∷ 0 ∷ []) ∷ []) parts (shortens_octets rule n (0 ∷ 0 ∷ []) refl) x in
+    subst (λ (u : Written). AddsShort rule (Octets (0 ∷ 0 ∷ []) ∷ parts) t u) (append-with_length a t) (two t)
 
 -- An empty table has exactly the suffixes of no names.
 pub knows_nothing : Knows nothing []
@@ -268,9 +268,9 @@ knows_nothing = record {
 }
 
 -- Parts added to a target with an empty table take the octets of a shortest compression.
-pub laid_shortest : (rule : Rule) (parts : List Part) (t u : Written) → AddsShort rule parts t u → IsTarget t → Knows t.table [] → PartsNear u.octets (length u.octets) (length t.octets) parts → SharesAll rule (len u.table)
+pub encoded_shortest : (rule : Rule) (parts : List Part) (t u : Written) → AddsShort rule parts t u → IsTarget t → Knows t.table [] → PartsNear u.octets (length u.octets) (length t.octets) parts → SharesAll rule (len u.table)
     → AddsShortest parts t u
-laid_shortest rule parts t u x h knows near few =
+encoded_shortest rule parts t u x h knows near few =
     let end = length u.octets in
     let w = length t.octets in
     let near' : PartsNear (u.octets ++ []) end w (parts ++ []) =
@@ -290,5 +290,5 @@ laid_shortest rule parts t u x h knows near few =
 pub parts_are_shortest : PartsAreShortest
 parts_are_shortest rule b parts is few near =
     let t : Written = record { octets = b; table = nothing } in
-    let u = lay (put_parts rule parts) t in
-    laid_shortest rule parts t u (shortens_parts rule parts (spells rule (len u.table) few) is t) (nothing_is_kept b) knows_nothing near few
+    let u = append (encode_parts rule parts) t in
+    encoded_shortest rule parts t u (shortens_parts rule parts (spells rule (len u.table) few) is t) (nothing_is_kept b) knows_nothing near few

@@ -4,15 +4,15 @@ use Rattle.std.specs.Prelude.{Ok}
 use Rattle.dns_name.specs.Names.{Labels, head_at, NameContinues}
 use Rattle.dns_name.specs.declared.head.Head.TheVariants.{Label, Root, Pointer}
 use Rattle.dns_wire.specs.Encoders.{CompressionTable, Rule}
-use Rattle.dns_wire.specs.Parts.{put_parts, WellPointed, Part, Octets, CompressibleName, AreParts, PartsFill, LabelsNear}
-use Rattle.dns_wire.specs.Targets.{Spelled, Labelled, IsTableOf, lay, Written, IsTarget}
+use Rattle.dns_wire.specs.Parts.{encode_parts, WellPointed, Part, Octets, CompressibleName, AreParts, PartsFill, LabelsNear}
+use Rattle.dns_wire.specs.Targets.{Spelled, Labelled, IsTableOf, append, Written, IsTarget}
 use Rattle.dns_wire.specs.Targets.Spelled.{root, label, pointer}
 use Rattle.dns_wire.specs.TargetLaws.{EntriesAreNames, NothingIsTarget, EncodersStayAtOrAfter, NamesStayAtOrAfter, NamesReadBack, PartsReadBack}
 use Rattle.dns_wire.specs.Spelling.{PartsPointToLabels, ShortPartsAreNear}
 use Rattle.dns_wire.proofs.theory.CompressionTables.{at_or_after_more, nothing_is_kept}
-use Rattle.dns_wire.proofs.theory.PutNames.{put_name_grows}
+use Rattle.dns_wire.proofs.theory.EncodedNames.{encode_name_grows}
 use Rattle.dns_wire.proofs.theory.SpelledNames.{root_at, label_begins, pointer_at, spelled_long, kept_spelled, spelled_stands, spelled_walked, name_at_up_to}
-use Rattle.dns_wire.proofs.theory.EncoderLaws.{puts_put_name, puts_parts, parts_at, HasName, HasParts}
+use Rattle.dns_wire.proofs.theory.EncoderLaws.{encodes_name, encodes_parts, parts_at, HasName, HasParts}
 
 -- A label begins where an encoded name begins with one.
 begins : (m : CompressionTable) (b : List ℕ) (q p : ℕ) (name : Labels) → Labelled m b q p name → (n : ℕ) × (head_at b p ≡ Ok (Label n))
@@ -53,22 +53,22 @@ encoders_stay_at_or_after encoder t offset grows l h = at_or_after_more offset l
 
 -- So does a name.
 pub names_stay_at_or_after : NamesStayAtOrAfter
-names_stay_at_or_after rule t name offset l h = encoders_stay_at_or_after _ t offset (put_name_grows rule name) l h
+names_stay_at_or_after rule t name offset l h = encoders_stay_at_or_after _ t offset (encode_name_grows rule name) l h
 
 -- A written name reads back.
 pub names_read_back : NamesReadBack
 names_read_back rule t name is h =
-    let p = puts_put_name rule name is in
+    let p = encodes_name rule name is in
     let u = p.keeps t h in
-    let s = p.puts t h in
+    let s = p.encodes t h in
     record { encoded = spelled_stands u is.short s; walked = spelled_walked 0 u (omega (arith, is.short)) s; pointed = pointed u s }
 
 -- Written parts read back.
 pub parts_read_back : PartsReadBack
 parts_read_back rule t parts is h =
-    let p = puts_parts rule parts is in
-    let u = lay (put_parts rule parts) t in
-    (parts_at parts u (length t.octets) (length u.octets) is (p.keeps t h) (p.puts t h), p.keeps t h)
+    let p = encodes_parts rule parts is in
+    let u = append (encode_parts rule parts) t in
+    (parts_at parts u (length t.octets) (length u.octets) is (p.keeps t h) (p.encodes t h), p.keeps t h)
 
 -- The labels and the pointers of written parts.
 
@@ -85,18 +85,18 @@ parts_fill {IsWritten} t each (Octets xs ∷ parts) rest p q end h more =
 parts_fill t each (CompressibleName name ∷ parts) rest p q end h more = (h.0, each p h.0 name h.1, parts_fill t each parts rest h.0 q end h.2 more)
 
 -- Parts that are written at the end fill the octets there.
-put_parts_fill : {IsWritten : ℕ → ℕ → Type 0} (rule : Rule) (t : Written) (parts : List Part) → AreParts parts → IsTarget t
-    → let u = lay (put_parts rule parts) t in OfEachName u IsWritten → PartsFill IsWritten (length u.octets) (length t.octets) parts
-put_parts_fill {IsWritten} rule t parts is good each =
-    let u = lay (put_parts rule parts) t in
+encode_parts_fill : {IsWritten : ℕ → ℕ → Type 0} (rule : Rule) (t : Written) (parts : List Part) → AreParts parts → IsTarget t
+    → let u = append (encode_parts rule parts) t in OfEachName u IsWritten → PartsFill IsWritten (length u.octets) (length t.octets) parts
+encode_parts_fill {IsWritten} rule t parts is good each =
+    let u = append (encode_parts rule parts) t in
     let end = length u.octets in
     subst (λ (l : List Part). PartsFill IsWritten end (length t.octets) l) (append-nil parts)
-    (parts_fill u each parts [] (length t.octets) end end ((puts_parts rule parts is).puts t good) refl)
+    (parts_fill u each parts [] (length t.octets) end end ((encodes_parts rule parts is).encodes t good) refl)
 
 -- Each pointer in written parts leads to an earlier label.
 pub parts_point_to_labels : PartsPointToLabels
 parts_point_to_labels rule t parts is good =
-    let keeps = (puts_parts rule parts is).keeps t good in put_parts_fill rule t parts is good (λ p q name h. pointed keeps h)
+    let keeps = (encodes_parts rule parts is).keeps t good in encode_parts_fill rule t parts is good (λ p q name h. pointed keeps h)
 
 -- In at most 16,384 octets, the labels of a name are within pointer range.
 pub spelled_near : {m : CompressionTable} {b : List ℕ} {q p : ℕ} {name : Labels} → length b ≤ 16384 → IsTableOf b m → Spelled m b q p name → LabelsNear b q p
@@ -107,7 +107,7 @@ spelled_near l r (pointer {name = name} {x = x} e before h is) = LabelsNear.poin
 -- So are those of parts.
 pub short_parts_are_near : ShortPartsAreNear
 short_parts_are_near rule t parts is good l =
-    let keeps = (puts_parts rule parts is).keeps t good in put_parts_fill rule t parts is good (λ p q name h. spelled_near l keeps h)
+    let keeps = (encodes_parts rule parts is).keeps t good in encode_parts_fill rule t parts is good (λ p q name h. spelled_near l keeps h)
 
 -- If labels are within pointer range, the first one is, and so are the labels after it.
 pub near_label : {b : List ℕ} {q p n : ℕ} → LabelsNear b q p → head_at b p ≡ Ok (Label n) → (p < 16384) × LabelsNear b q (p + 1 + n)

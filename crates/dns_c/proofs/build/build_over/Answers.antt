@@ -65,5 +65,5 @@ returns-clause-made g c =
       mean = m.1;
       message =
           subst (λ (h : Header). IsMessageOf t.rule (holding h m.0) octets) c.header_of.ensures
-          (is_message t.rule _ octets represents.state (ap (λ (w : Written). w.octets) (c.finish.ensures.fold _ represents)));
+          (is_message t.rule _ octets represents.state (ap (λ (w : Written). w.octets) (c.finish.ensures.encode _ represents)));
     }

@@ -7,7 +7,7 @@ use Rattle.dns_wire.specs.Targets.{Written}
 use Rattle.dns_item.specs.Items.{RecordItem}
 use Rattle.dns_question.specs.Question.{parsed_question}
 use Rattle.dns_build.specs.MessageOf.{IsMessageOf}
-use Rattle.dns_build.specs.State.{fold}
+use Rattle.dns_build.specs.State.{encode}
 use Rattle.dns_c.specs.Made.{answering}
 use Rattle.dns_c.proofs.MadeLemmas.{address_item, answered_short, asked_short, is_message, never_refused}
 use Rattle.dns_c.proofs.make.answering.Goals as goal
@@ -28,7 +28,7 @@ returns-in_err-push-2 c =
     let third = c.in_ok-push.ensures.accepted _ second in
     let fourth = c.answer-builder.ensures _ third in
     let item = address_item x _ c.args.ttl _ c.args.address.now (ap labels c.qname.ensures) refl c.qclass.ensures c.from_secs.ensures refl c.address_of.ensures.value in
-    let size = subst (λ (y : RecordItem). length (fold Static (answering c.args.header x y)).octets ≤ 512) (sym item) (answered_short c.args.header x c.args.ttl c.args.address.now first.state.header c.address_of.ensures.four (parsed_is c.args.question.qname)) in
+    let size = subst (λ (y : RecordItem). length (encode Static (answering c.args.header x y)).octets ≤ 512) (sym item) (answered_short c.args.header x c.args.ttl c.args.address.now first.state.header c.address_of.ensures.four (parsed_is c.args.question.qname)) in
     let e = c.in_err-push-2.ensures in
     absurd (never_refused c.in_err-push-2.field-0.0 _ _ _ size refl (omega arith) (λ is. e.short (ap Err is) _ fourth) (λ is. e.memory (ap Err is)) (λ is. e.limit (ap Err is) _ fourth) (λ is. e.count (ap Err is) _ fourth))
 
@@ -41,9 +41,9 @@ returns c =
     let fourth = c.answer-builder.ensures _ third in
     let represents = c.in_ok-push-2.ensures.accepted _ fourth in
     let item = address_item x _ c.args.ttl _ c.args.address.now (ap labels c.qname.ensures) refl c.qclass.ensures c.from_secs.ensures refl c.address_of.ensures.value in
-    let folded = ap (λ (w : Written). w.octets) (c.finish.ensures.fold _ represents) in
+    let encoded = ap (λ (w : Written). w.octets) (c.finish.ensures.encode _ represents) in
     let sized = answered_short c.args.header x c.args.ttl c.args.address.now first.state.header c.address_of.ensures.four (parsed_is c.args.question.qname) in
-    let size = subst (λ (y : RecordItem). length (fold Static (answering c.args.header x y)).octets ≤ 512) (sym item) sized in (
-      subst (λ (y : RecordItem). IsMessageOf Static (answering c.args.header x y) c.finish.result.octets) item (is_message Static _ c.finish.result.octets represents.state folded),
-      subst (λ (octets : List ℕ). length octets ≤ 512) (sym folded) size,
+    let size = subst (λ (y : RecordItem). length (encode Static (answering c.args.header x y)).octets ≤ 512) (sym item) sized in (
+      subst (λ (y : RecordItem). IsMessageOf Static (answering c.args.header x y) c.finish.result.octets) item (is_message Static _ c.finish.result.octets represents.state encoded),
+      subst (λ (octets : List ℕ). length octets ≤ 512) (sym encoded) size,
     )

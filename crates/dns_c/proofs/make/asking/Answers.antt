@@ -19,6 +19,6 @@ returns c =
     let first = c.set_header.ensures _ c.in_ok-builder.ensures.fresh in
     let second = c.question-builder.ensures _ first in
     let represents = c.in_ok-push.ensures.accepted _ second in
-    let folded = ap (λ (w : Written). w.octets) (c.finish.ensures.fold _ represents) in
+    let encoded = ap (λ (w : Written). w.octets) (c.finish.ensures.encode _ represents) in
     let size = asked_short Plain c.args.header _ first.state.header (encoded_name c.args.name.whole.0.1) in
-    (is_message Plain _ c.finish.result.items represents.state folded, subst (λ (octets : List ℕ). length octets ≤ 512) (sym folded) size)
+    (is_message Plain _ c.finish.result.items represents.state encoded, subst (λ (octets : List ℕ). length octets ≤ 512) (sym encoded) size)

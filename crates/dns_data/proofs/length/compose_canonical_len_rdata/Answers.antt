@@ -1,7 +1,7 @@
 use Rattle.std.proofs.Common.{Err, ap, ◌∙◌}
 use Rattle.std.proofs.lemmas.Result.{err_from_is_err_and}
-use Rattle.dns_wire.specs.Parts.{put_parts}
-use Rattle.dns_wire.proofs.theory.PutNames.{put_parts_grows}
+use Rattle.dns_wire.specs.Parts.{encode_parts}
+use Rattle.dns_wire.proofs.theory.EncodedNames.{encode_parts_grows}
 use Rattle.dns_data.specs.RecordData.{canonical}
 use Rattle.dns_data.proofs.WrittenLengths.{clear_length, encoder_refused}
 use Rattle.dns_data.proofs.length.compose_canonical_len_rdata.Goals as goal
@@ -9,10 +9,10 @@ use Rattle.dns_data.proofs.length.compose_canonical_len_rdata.Goals as goal
 pub returns-in_err-compose_canonical_rdata : goal.returns-in_err-compose_canonical_rdata
 returns-in_err-compose_canonical_rdata g c =
     let p = err_from_is_err_and c.from_residual-in_err-compose_canonical_rdata.result c.from_residual-in_err-compose_canonical_rdata.ensures.1 in
-    encoder_refused _ _ (put_parts g.T.Composer.rule (canonical (g.D.RecordData.parts c.args.data.now))) _ _ _ c.compose_canonical_rdata.result c.from_residual-in_err-compose_canonical_rdata.result
+    encoder_refused _ _ (encode_parts g.T.Composer.rule (canonical (g.D.RecordData.parts c.args.data.now))) _ _ _ c.compose_canonical_rdata.result c.from_residual-in_err-compose_canonical_rdata.result
     c.in_err-compose_canonical_rdata.field-0.0 c.in_err-compose_canonical_rdata.was (p.1 ∙ ap Err p.2) c.in_ok-append_slice.ensures.ok c.compose_canonical_rdata.ensures
 
 pub write_length-requires-clause-clear : goal.write_length-requires-clause-clear
 write_length-requires-clause-clear g c =
     rw c.as_slice-offset.ensures.octets
-    (clear_length (put_parts g.T.Composer.rule (canonical (g.D.RecordData.parts c.args.data.now))) _ _ _ (put_parts_grows _ _) c.as_slice-offset.ensures.is_target c.in_ok-append_slice.ensures.ok c.in_ok-compose_canonical_rdata.ensures.ok)
+    (clear_length (encode_parts g.T.Composer.rule (canonical (g.D.RecordData.parts c.args.data.now))) _ _ _ (encode_parts_grows _ _) c.as_slice-offset.ensures.is_target c.in_ok-append_slice.ensures.ok c.in_ok-compose_canonical_rdata.ensures.ok)

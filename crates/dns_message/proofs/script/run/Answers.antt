@@ -10,4 +10,4 @@ loop-call-preserved g c = record {
 
 pub returns-clause-ran : goal.returns-clause-ran
 returns-clause-ran g c =
-    runs_all _ _ _ _ _ _ _ _ _ _ _ c.loop-call.auto.call-index-end c.loop-call-test.false c.folds_are_messages.ensures c.loop-call.invariant.goes_on
+    runs_all _ _ _ _ _ _ _ _ _ _ _ c.loop-call.auto.call-index-end c.loop-call-test.false c.encodings_are_messages.ensures c.loop-call.invariant.goes_on

@@ -2,7 +2,7 @@ use Rattle.std.proofs.Common.{◌≡◌, ◌<◌, arith, false, length, rules, t
 use Rattle.dns_wire.specs.Encoders.{Plain}
 use Rattle.dns_question.specs.Questions.{QuestionItem}
 use Rattle.dns_build.specs.BuilderStates.{Represents, fresh}
-use Rattle.dns_build.specs.State.{InBuilder, fold, no_limit}
+use Rattle.dns_build.specs.State.{InBuilder, encode, no_limit}
 use Rattle.dns_resolve.specs.Resolving.{asking}
 use Rattle.dns_resolve.proofs.QueryLemmas.{accepted, query_size}
 use Rattle.dns_resolve.proofs.resolving.query.Goals as goal
@@ -16,7 +16,7 @@ unwrap-requires g c =
     let few = query_size header asked represents.state.header (g.met.N.ToName.is_name c.args.name.now) in
     let e = c.push.ensures in
     accepted c.push.result
-    (λ h. let n : 512 < length (fold Plain (asking header asked)).octets = e.short h _ represents in omega (arith, n, few))
+    (λ h. let n : 512 < length (encode Plain (asking header asked)).octets = e.short h _ represents in omega (arith, n, few))
     (λ h. let n : false ≡ true = e.memory h in cc)
-    (λ h. let n : no_limit < length (fold Plain (asking header asked)).octets = (e.limit h _ represents).1 in omega (arith, n, few))
+    (λ h. let n : no_limit < length (encode Plain (asking header asked)).octets = (e.limit h _ represents).1 in omega (arith, n, few))
     (λ h. let n : 0 ≡ 65535 = (e.count h _ represents).2 in omega (arith, n))

@@ -15,7 +15,7 @@ first_pushed-found-requires c κs =
     let entered = c.answer-builder.ensures fresh c.in_ok-new_vec.ensures.fresh in
     let represents = c.in_ok-push.ensures.accepted (move_to InAnswer fresh) entered in
     let h = c.as_message-message.ensures.reads_back s represents in
-    ((refl, tt), (x, record { s = s; reads_back = h; after = []; first = refl; laid = (c.args.address.four, refl) }))
+    ((refl, tt), (x, record { s = s; reads_back = h; after = []; first = refl; fits_layout = (c.args.address.four, refl) }))
 
 pub returns : goal.returns
 returns c =
@@ -24,5 +24,5 @@ returns c =
     let entered = c.answer-builder.ensures fresh c.in_ok-new_vec.ensures.fresh in
     let represents = c.in_ok-push.ensures.accepted (move_to InAnswer fresh) entered in
     let h = c.as_message-message.ensures.reads_back s represents in
-    let read = c.first_pushed-found.ensures x (record { s = s; reads_back = h; after = []; first = refl; laid = (c.args.address.four, refl) }) in
+    let read = c.first_pushed-found.ensures x (record { s = s; reads_back = h; after = []; first = refl; fits_layout = (c.args.address.four, refl) }) in
     ap address_of c.into_data.ensures ∙ ap (λ (x : RecordItem). octets_first x.parts) read

@@ -37,7 +37,7 @@ unwrap-requires-2 g c =
     let given = pushed_first c.records_read_back.ensures.encoded c.starts_are_found.ensures g.D.ParseRecordData.layout b c.requires.0 c.unwrap-answers.result c.next.new.self c.next.result c.requires.1 begins c.next.ensures.steps in
     let answer = subst (λ o. IsSomeAnd o (λ answer. IsOkAnd answer (λ r. EncodedAs b c.requires.0 (encoded_record r)))) c.unwrap.ensures given in
     let represents = subst (λ o. IsOkAnd o (λ r. EncodedAs b c.requires.0 (encoded_record r))) c.unwrap-first.ensures answer in
-    let read = c.to_record_reads_back.ensures b c.requires.0 (encoded_record c.unwrap-first.result) c.to_record.result represents c.requires.1.laid c.to_record.ensures.returned in
+    let read = c.to_record_reads_back.ensures b c.requires.0 (encoded_record c.unwrap-first.result) c.to_record.result represents c.requires.1.fits_layout c.to_record.ensures.returned in
     ok_given c.to_record.result _ read
 
 pub unwrap-requires-3 : goal.unwrap-requires-3
@@ -47,7 +47,7 @@ unwrap-requires-3 g c =
     let given = pushed_first c.records_read_back.ensures.encoded c.starts_are_found.ensures g.D.ParseRecordData.layout b c.requires.0 c.unwrap-answers.result c.next.new.self c.next.result c.requires.1 begins c.next.ensures.steps in
     let answer = subst (λ o. IsSomeAnd o (λ answer. IsOkAnd answer (λ r. EncodedAs b c.requires.0 (encoded_record r)))) c.unwrap.ensures given in
     let represents = subst (λ o. IsOkAnd o (λ r. EncodedAs b c.requires.0 (encoded_record r))) c.unwrap-first.ensures answer in
-    let read = c.to_record_reads_back.ensures b c.requires.0 (encoded_record c.unwrap-first.result) c.to_record.result represents c.requires.1.laid c.to_record.ensures.returned in
+    let read = c.to_record_reads_back.ensures b c.requires.0 (encoded_record c.unwrap-first.result) c.to_record.result represents c.requires.1.fits_layout c.to_record.ensures.returned in
     let some = subst (λ o. IsOkAnd o (λ o. IsSomeAnd o (λ r. record_item labels g.D.RecordData.rtype_of g.D.RecordData.parts r ≡ c.requires.0))) c.unwrap-2.ensures read in
     some_given c.unwrap-2.result _ some
 
@@ -58,6 +58,6 @@ returns g c x was =
     let given = pushed_first c.records_read_back.ensures.encoded c.starts_are_found.ensures g.D.ParseRecordData.layout b x c.unwrap-answers.result c.next.new.self c.next.result was begins c.next.ensures.steps in
     let answer = subst (λ o. IsSomeAnd o (λ answer. IsOkAnd answer (λ r. EncodedAs b x (encoded_record r)))) c.unwrap.ensures given in
     let represents = subst (λ o. IsOkAnd o (λ r. EncodedAs b x (encoded_record r))) c.unwrap-first.ensures answer in
-    let read = c.to_record_reads_back.ensures b x (encoded_record c.unwrap-first.result) c.to_record.result represents was.laid c.to_record.ensures.returned in
+    let read = c.to_record_reads_back.ensures b x (encoded_record c.unwrap-first.result) c.to_record.result represents was.fits_layout c.to_record.ensures.returned in
     let some = subst (λ o. IsOkAnd o (λ o. IsSomeAnd o (λ r. record_item labels g.D.RecordData.rtype_of g.D.RecordData.parts r ≡ x))) c.unwrap-2.ensures read in
     subst (λ o. IsSomeAnd o (λ r. record_item labels g.D.RecordData.rtype_of g.D.RecordData.parts r ≡ x)) c.unwrap-3.ensures some

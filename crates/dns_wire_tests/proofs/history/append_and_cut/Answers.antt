@@ -1,6 +1,6 @@
 use Rattle.std.proofs.Common.{◌∙◌, ap, arith, length}
 use Rattle.dns_wire.specs.Targets.{cut_to}
-use Rattle.dns_wire.proofs.theory.PutNames.{put_name_grows, put_octets_grows}
+use Rattle.dns_wire.proofs.theory.EncodedNames.{encode_name_grows, encode_octets_grows}
 use Rattle.dns_wire_tests.proofs.CutAway.{whole, goes_on}
 use Rattle.dns_wire_tests.proofs.history.append_and_cut.Goals as goal
 
@@ -9,8 +9,8 @@ loop-name-init g c = record { long = omega arith; cut = whole _ c.as_slice-len.e
 
 pub loop-name-preserved : goal.loop-name-preserved
 loop-name-preserved g c =
-    goes_on _ _ _ _ _ _ _ _ (put_octets_grows c.args.octets.now)
-    (goes_on _ _ _ _ _ _ _ _ (put_name_grows _ _) c.loop-name.invariant c.append_compressed_name-name.ensures)
+    goes_on _ _ _ _ _ _ _ _ (encode_octets_grows c.args.octets.now)
+    (goes_on _ _ _ _ _ _ _ _ (encode_name_grows _ _) c.loop-name.invariant c.append_compressed_name-name.ensures)
     c.append_slice-octets.ensures
 
 pub returns : goal.returns

@@ -1,7 +1,7 @@
 use Rattle.std.proofs.Common.{◌∙◌, ap, sym, length, Err, arith}
 use Rattle.std.proofs.lemmas.Result.{err_from_is_err_and}
 use Rattle.dns_opt.specs.OptionIter.{options_left}
-use Rattle.dns_opt.specs.Options.{put_options}
+use Rattle.dns_opt.specs.Options.{encode_options}
 use Rattle.dns_opt.specs.declared.options.OptionIter.{OptionIter}
 use Rattle.dns_opt_builder.specs.Gathered.{Gathered}
 use Rattle.dns_opt_builder.proofs.theory.OptBuilderLemmas.{with_left, one_added, none_left, too_many}
@@ -18,7 +18,7 @@ returns-in_err-push_raw_option-clause-short c = λ short.
     let p = err_from_is_err_and c.from_residual.result c.from_residual.ensures.1 in
     let refused = c.in_err-push_raw_option.was ∙ sym (p.1 ∙ ap Err p.2) ∙ short in
     let long = too_many _ c.loop-code.self c.push_raw_option.new.self _ _ _ c.push_raw_option.ensures refused c.in-Some.ensures.steps in
-    omega (arith, long, ap (λ (all : Gathered). length (put_options all.options)) c.loop-code.invariant)
+    omega (arith, long, ap (λ (all : Gathered). length (encode_options all.options)) c.loop-code.invariant)
 
 pub returns-clause-added : goal.returns-clause-added
 returns-clause-added c = sym (none_left c.loop-code.self _ c.in-None.ensures.steps.0) ∙ c.loop-code.invariant

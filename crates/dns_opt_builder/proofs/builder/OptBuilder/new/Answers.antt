@@ -1,7 +1,7 @@
 use Rattle.std.proofs.Common.{◌∙◌, ap, sym, [], List, length, arith}
 use Rattle.std.specs.Option.{option_map_or}
 use Rattle.std.specs.Prelude.{Option, is_some}
-use Rattle.dns_opt.specs.Options.{OptionItem, put_options}
+use Rattle.dns_opt.specs.Options.{OptionItem, encode_options}
 use Rattle.dns_opt.specs.OptionsOf.{options_of}
 use Rattle.dns_opt.proofs.theory.OptionsLemmas.{options_of-nil}
 use Rattle.dns_opt_builder.proofs.theory.OptBuilderLemmas.{nothing_yet}
@@ -12,7 +12,7 @@ invariant_of-result c =
     let e = ap options_of c.new.ensures.items ∙ options_of-nil in
     record {
       listed = ap (λ (o : Option (List OptionItem)). is_some o) e;
-      whole = ap (λ (o : Option (List OptionItem)). put_options (option_map_or (λ (xs : List OptionItem). xs) o [])) e ∙ sym c.new.ensures.items;
+      whole = ap (λ (o : Option (List OptionItem)). encode_options (option_map_or (λ (xs : List OptionItem). xs) o [])) e ∙ sym c.new.ensures.items;
       short = omega (arith, ap length c.new.ensures.items);
     }
 

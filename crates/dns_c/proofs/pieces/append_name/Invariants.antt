@@ -2,7 +2,7 @@ use Rattle.std.proofs.Common.{◌≡◌, ◌++◌, List, ℕ}
 use Rattle.dns_name.specs.ParsedName.{labels_left, labels}
 use Rattle.dns_c.specs.Texts.{Holds, absolute_name}
 use Rattle.dns_c.proofs.PieceLemmas.{dotted}
-use Rattle.dns_c.proofs.pieces.put_name.Given as goal
+use Rattle.dns_c.proofs.pieces.append_name.Given as goal
 
 abbrev pub invariant-loop-label : goal.invariant-loop-label
 invariant-loop-label l =

@@ -5,12 +5,12 @@ use Rattle.dns_name.specs.NameTexts.{label_text}
 use Rattle.dns_name.proofs.theory.NameLemmas.{parsed_is}
 use Rattle.dns_c.specs.Texts.{absolute_name}
 use Rattle.dns_c.proofs.PieceLemmas.{dotted, holds_as, name_dotted, one_dotted, root_passed}
-use Rattle.dns_c.proofs.pieces.put_name.Goals as goal
+use Rattle.dns_c.proofs.pieces.append_name.Goals as goal
 
 pub returns-then-is_root : goal.returns-then-is_root
 returns-then-is_root c =
     let root : labels c.args.name.now ≡ [] = c.is_root.ensures.0 c.if-is_root.true in
-    λ text h. holds_as _ _ _ _ (ap (λ (name : List (List ℕ)). text ++ absolute_name name) (sym root)) (c.put.ensures text h)
+    λ text h. holds_as _ _ _ _ (ap (λ (name : List (List ℕ)). text ++ absolute_name name) (sym root)) (c.append_octets.ensures text h)
 
 pub loop-label-init : goal.loop-label-init
 loop-label-init c =
@@ -28,7 +28,7 @@ loop-label-preserved-then-not-is_root c = (
       let so_far = c.loop-label.invariant.2 text h in
       let left : labels_left c.loop-label.label-iterator ≡ label_octets c.in-Some.label ∷ labels_left c.next.new.self = search rules in (
         (so_far.0 ++ label_text (label_octets c.in-Some.label)) ++ 46 ∷ [],
-        c.put-end.ensures _ (rw c.as_slice.ensures at (c.put_label-end.ensures _ so_far.1)),
+        c.append_octets-end.ensures _ (rw c.as_slice.ensures at (c.append_label-end.ensures _ so_far.1)),
         one_dotted so_far.0 _ _ _ (λ e. let root : c.is_root-in-loop-label.result ≡ true = c.is_root-in-loop-label.ensures.1 e in let no = c.if-not-is_root.true in cc) (ap (λ (ls : List (List ℕ)). so_far.0 ++ dotted ls) (sym left) ∙ so_far.2),
       ),
 )

@@ -1,11 +1,11 @@
 use Rattle.std.proofs.Common.{◌∙◌, ◌++◌, ℕ, List, [], ap, sym, refl, decimal, Option, option_map, unwrap_or, arith}
 use Rattle.std.specs.Borrow.{Bor}
 use Rattle.dns_c.proofs.PieceLemmas.{holds_as}
-use Rattle.dns_c.proofs.words.put_word.Goals as goal
+use Rattle.dns_c.proofs.words.append_word.Goals as goal
 
 pub returns-in-None : goal.returns-in-None
 returns-in-None c =
     holds_as _ _ _ _
     (ap (λ (n : ℕ). c.args.other.now ++ decimal n) c.from.ensures
     ∙ ap (λ (word : Option (Bor (List ℕ))). unwrap_or (option_map (λ (w : Bor (List ℕ)). w.now) word) (c.args.other.now ++ decimal c.args.number)) (sym c.in-None.is))
-    (c.put_number.ensures c.args.other.now (c.put-end.ensures [] (omega arith, refl)))
+    (c.append_number.ensures c.args.other.now (c.append_octets-end.ensures [] (omega arith, refl)))

@@ -8,8 +8,8 @@ use Rattle.std.proofs.lemmas.Grind.{common_steps}
 use Rattle.std.specs.Ordering.{eq_by_cmp}
 use Rattle.dns_name.specs.Names.{Labels, IsName, name_size, max_size, uncompressed, framed}
 use Rattle.dns_name.proofs.theory.Spelling.{name_tail}
-use Rattle.dns_wire.specs.Encoders.{TableEntry, CompressionTable, add_suffixes, Extends, IsGrowing, Rule, Plain, Static, Tree, Hash, Encoder, put_octets, both, with_length, spell_label, spell, kept, pointer as put_pointer, put_name, IsWithin, suffix_cmp, suffix_total, is_kept}
-use Rattle.dns_wire.specs.Parts.{Part, Octets, CompressibleName, put_part, put_parts}
+use Rattle.dns_wire.specs.Encoders.{TableEntry, CompressionTable, add_suffixes, Extends, IsGrowing, Rule, Plain, Static, Tree, Hash, Encoder, encode_octets, both, with_length, spell_label, spell, kept, pointer as encode_pointer, encode_name, IsWithin, suffix_cmp, suffix_total, is_kept}
+use Rattle.dns_wire.specs.Parts.{Part, Octets, CompressibleName, encode_part, encode_parts}
 use Rattle.dns_wire.specs.Targets.{At, Spelled, Labelled, IsTableEntry, IsTableOf}
 use Rattle.dns_wire.specs.Targets.Spelled.{root, label, pointer}
 use Rattle.dns_wire.proofs.theory.CompressionTables.{extends_refl, extends_wider, extends_join, inserted, gets, tied}
@@ -29,7 +29,7 @@ newer m w w' (s ∷ ss) l h = (h.0, omega (arith, h.1), newer m w w' ss l h.2)
 -- How a name is encoded: its octets, and the suffixes that are written out.
 pub data SpellsAs (rule : Rule) (m : CompressionTable) : ℕ → ℕ → Labels → List ℕ → List (Labels × ℕ) → Type 0 where
   at_root : {p entry_count : ℕ} → SpellsAs rule m p entry_count [] (0 ∷ []) []
-  at_entry : {p entry_count : ℕ} {first : List ℕ} {rest : Labels} {x : TableEntry} → get m (first ∷ rest) ≡ Some x → SpellsAs rule m p entry_count (first ∷ rest) (put_pointer x.offset) []
+  at_entry : {p entry_count : ℕ} {first : List ℕ} {rest : Labels} {x : TableEntry} → get m (first ∷ rest) ≡ Some x → SpellsAs rule m p entry_count (first ∷ rest) (encode_pointer x.offset) []
   at_kept : {p entry_count : ℕ} {first : List ℕ} {rest : Labels} {text : List ℕ} {ss : List (Labels × ℕ)} → get m (first ∷ rest) ≡ None → is_kept rule p entry_count ≡ true
       → SpellsAs rule m (p + 1 + length first) (entry_count + 1) rest text ss → SpellsAs rule m p entry_count (first ∷ rest) (framed first ++ text) ((first ∷ rest, p) ∷ ss)
   at_far : {p entry_count : ℕ} {first : List ℕ} {rest : Labels} → get m (first ∷ rest) ≡ None → is_kept rule p entry_count ≡ false → SpellsAs rule m p entry_count (first ∷ rest) (uncompressed (first ∷ rest)) []
@@ -81,16 +81,16 @@ named : (rule : Rule) (name : Labels) (m : CompressionTable) (w entry_count : �
 named rule name m w entry_count = let long = spell_long (spells_as rule m w entry_count name) in extends-add_suffixes m _ w _ (omega arith) (kept_new rule m w _ (spell_new (spells_as rule m w entry_count name)))
 
 -- The encoding of a name is growing.
-pub put_name_grows : (rule : Rule) (name : Labels) → IsGrowing (put_name rule name)
-unfolding put_name
-put_name_grows Plain name = record { grows = λ m w. extends_refl m w _ }
-put_name_grows Static name = record { grows = λ m w. named Static name m w _ }
-put_name_grows Tree name = record { grows = λ m w. named Tree name m w _ }
-put_name_grows Hash name = record { grows = λ m w. named Hash name m w _ }
+pub encode_name_grows : (rule : Rule) (name : Labels) → IsGrowing (encode_name rule name)
+unfolding encode_name
+encode_name_grows Plain name = record { grows = λ m w. extends_refl m w _ }
+encode_name_grows Static name = record { grows = λ m w. named Static name m w _ }
+encode_name_grows Tree name = record { grows = λ m w. named Tree name m w _ }
+encode_name_grows Hash name = record { grows = λ m w. named Hash name m w _ }
 
 -- The encoding of octets is growing.
-pub put_octets_grows : (octets : List ℕ) → IsGrowing (put_octets octets)
-put_octets_grows octets = record { grows = λ m w. extends_refl m w _ }
+pub encode_octets_grows : (octets : List ℕ) → IsGrowing (encode_octets octets)
+encode_octets_grows octets = record { grows = λ m w. extends_refl m w _ }
 
 -- Two growing encodings in order are growing.
 pub both_grows : (a b : Encoder) → IsGrowing a → IsGrowing b → IsGrowing (both a b)
@@ -110,20 +110,20 @@ both_grows a b g h = record {
 pub with_length_grows : (a : Encoder) → IsGrowing a → IsGrowing (with_length a)
 with_length_grows a g = record {
   grows = λ m w.
-      let laid = a m (w + 2) in
-      extends_wider m laid.table (w + 2) (w + 2 + length laid.octets) w _ (omega arith) (omega arith) (g.grows m (w + 2));
+      let encoded = a m (w + 2) in
+      extends_wider m encoded.table (w + 2) (w + 2 + length encoded.octets) w _ (omega arith) (omega arith) (g.grows m (w + 2));
 }
 
 -- The encoding of a part is growing.
-pub put_part_grows : (rule : Rule) (part : Part) → IsGrowing (put_part rule part)
-put_part_grows rule (Octets octets) = put_octets_grows octets
-put_part_grows rule (CompressibleName name) = put_name_grows rule name
+pub encode_part_grows : (rule : Rule) (part : Part) → IsGrowing (encode_part rule part)
+encode_part_grows rule (Octets octets) = encode_octets_grows octets
+encode_part_grows rule (CompressibleName name) = encode_name_grows rule name
 
 -- The encoding of parts is growing.
-pub put_parts_grows : (rule : Rule) (parts : List Part) → IsGrowing (put_parts rule parts)
-unfolding put_parts
-put_parts_grows rule [] = put_octets_grows []
-put_parts_grows rule (part ∷ parts) = both_grows _ _ (put_part_grows rule part) (put_parts_grows rule parts)
+pub encode_parts_grows : (rule : Rule) (parts : List Part) → IsGrowing (encode_parts rule parts)
+unfolding encode_parts
+encode_parts_grows rule [] = encode_octets_grows []
+encode_parts_grows rule (part ∷ parts) = both_grows _ _ (encode_part_grows rule part) (encode_parts_grows rule parts)
 
 -- P holds of each suffix.
 abbrev pub Each : (Labels × ℕ → Type 0) → List (Labels × ℕ) → Type 0
@@ -240,14 +240,14 @@ new_kept m n b s x g h =
     kept_moved m n b b s x (λ p xs l fits h. h) (λ t y e less. g t y e) (record { near = h.near; short = h.short; spelled = h.spelled })
 
 -- Octets after a content encode a name, and the table after them is sound.
-pub record PutsName (b : List ℕ) (name : Labels) (text : List ℕ) (n : CompressionTable) : Type 0 where
+pub record EncodesName (b : List ℕ) (name : Labels) (text : List ℕ) (n : CompressionTable) : Type 0 where
   pub spelled : Spelled n (b ++ text) (length b + length text) (length b) name
   pub is_table : IsTableOf (b ++ text) n
 
 by_rule : (rule : Rule) (m n : CompressionTable) (b : List ℕ) (name : Labels) (entry_count : ℕ) → IsName name → IsTableOf b m
     → n ≡ add_suffixes m (kept rule (spell rule m (length b) entry_count name).1) (length b + length (spell rule m (length b) entry_count name).0)
     → ((s : Labels) (x : TableEntry) → get m s ≡ Some x → get n s ≡ Some x)
-    → PutsName b name (spell rule m (length b) entry_count name).0 n
+    → EncodesName b name (spell rule m (length b) entry_count name).0 n
 by_rule rule m n b name entry_count l r is g =
     let w = length b in
     let written = spell rule m w entry_count name in
@@ -268,13 +268,13 @@ by_rule rule m n b name entry_count l r is g =
     }
 
 -- This holds of the encoding of a name under each rule.
-pub puts_name : (rule : Rule) (m : CompressionTable) (b : List ℕ) (name : Labels) → IsName name → IsTableOf b m
-    → PutsName b name (put_name rule name m (length b)).octets (put_name rule name m (length b)).table
-unfolding put_name
-puts_name Plain m b name is r = record {
+pub encodes_compressed_name : (rule : Rule) (m : CompressionTable) (b : List ℕ) (name : Labels) → IsName name → IsTableOf b m
+    → EncodesName b name (encode_name rule name m (length b)).octets (encode_name rule name m (length b)).table
+unfolding encode_name
+encodes_compressed_name Plain m b name is r = record {
   spelled = spelled_full m (b ++ uncompressed name) (length b + length (uncompressed name)) (length b) name is (at_end b (uncompressed name)) refl;
   is_table = record { each = λ s x e. kept_more m (uncompressed name) s x (λ s x e. e) (r.each s x e) };
 }
-puts_name Static m b name is r = by_rule Static m _ b name (len m) is r refl (gets ((put_name_grows Static name).grows m (length b)))
-puts_name Tree m b name is r = by_rule Tree m _ b name (len m) is r refl (gets ((put_name_grows Tree name).grows m (length b)))
-puts_name Hash m b name is r = by_rule Hash m _ b name (len m) is r refl (gets ((put_name_grows Hash name).grows m (length b)))
+encodes_compressed_name Static m b name is r = by_rule Static m _ b name (len m) is r refl (gets ((encode_name_grows Static name).grows m (length b)))
+encodes_compressed_name Tree m b name is r = by_rule Tree m _ b name (len m) is r refl (gets ((encode_name_grows Tree name).grows m (length b)))
+encodes_compressed_name Hash m b name is r = by_rule Hash m _ b name (len m) is r refl (gets ((encode_name_grows Hash name).grows m (length b)))

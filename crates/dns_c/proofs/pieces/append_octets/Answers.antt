@@ -2,7 +2,7 @@ use Rattle.std.proofs.Common.{◌∙◌, ◌+◌, ◌++◌, ℕ, List, ap, arith
 use Rattle.std.proofs.lemmas.List.{places}
 use Rattle.std.proofs.lemmas.Slice.{take-put_mid}
 use Rattle.dns_c.proofs.PieceLemmas.{written}
-use Rattle.dns_c.proofs.pieces.put.Goals as goal
+use Rattle.dns_c.proofs.pieces.append_octets.Goals as goal
 
 pub returns : goal.returns
 returns c =
