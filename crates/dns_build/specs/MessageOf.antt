@@ -3,7 +3,7 @@ use Rattle.std.specs.Prelude.{◌≡◌, ℕ, List, [], ◌∷◌, length, map, 
 use Rattle.std.specs.FinMap.{len}
 use Rattle.dns_name.specs.Names.{pointer_end}
 use Rattle.dns_wire.specs.Parts.{Part, Octets, CompressibleName, PartsNear, PartsPointed}
-use Rattle.dns_wire.specs.Spelling.{IsShortest, SharesAll}
+use Rattle.dns_wire.specs.Compression.{IsShortest, SharesAll}
 use Rattle.dns_wire.specs.Encoders.{Rule, IsAtOrAfter}
 use Rattle.dns_wire.specs.Targets.{IsTarget}
 use Rattle.dns_code.specs.Header.{header_octets, fields}

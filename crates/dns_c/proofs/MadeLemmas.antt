@@ -6,7 +6,7 @@ use Rattle.dns_wire.proofs.theory.CompressionTables.{get-insert_same}
 use Rattle.dns_name.specs.Names.{Labels, IsName, framed}
 use Rattle.dns_name.proofs.theory.LabelsLemmas.{length-uncompressed}
 use Rattle.dns_wire.specs.Parts.{Part, Octets, encode_parts}
-use Rattle.dns_wire.specs.Encoders.{CompressionTable, Rule, Static, TableEntry, nothing, encode_name, add_suffixes, spell, spell_label, is_kept, suffix_cmp}
+use Rattle.dns_wire.specs.Encoders.{CompressionTable, Rule, Static, TableEntry, nothing, encode_name, add_suffixes, compress, compress_label, is_kept, suffix_cmp}
 use Rattle.dns_wire.specs.Targets.{Fits, Passes}
 use Rattle.dns_wire.proofs.theory.NameSizes.{names_are_short}
 use Rattle.dns_code.specs.Header.{header_octets}
@@ -48,15 +48,15 @@ asked_short rule header x four is =
     simp length-append (omega (arith, name, four))
 
 -- if its first label isn't in the table, the name is written uncompressed and enters the table
-first_spelled : (label : List ℕ) (rest : Labels) (p : ℕ) (after : List ℕ × List (Labels × ℕ)) (o : Option TableEntry) (k : Bool) → o ≡ None → k ≡ true
-    → spell_label o k label rest p after ≡ (framed label ++ after.0, (label ∷ rest, p) ∷ after.1)
-first_spelled label rest p after o k none kept = λ i. spell_label (none i) (kept i) label rest p after
+first_compressed : (label : List ℕ) (rest : Labels) (p : ℕ) (after : List ℕ × List (Labels × ℕ)) (o : Option TableEntry) (k : Bool) → o ≡ None → k ≡ true
+    → compress_label o k label rest p after ≡ (framed label ++ after.0, (label ∷ rest, p) ∷ after.1)
+first_compressed label rest p after o k none kept = λ i. compress_label (none i) (kept i) label rest p after
 
 -- a name in the table takes 2 octets at most
 entry_short : (label : List ℕ) (rest : Labels) (p : ℕ) (after : List ℕ × List (Labels × ℕ)) (o : Option TableEntry) (k : Bool) (x : TableEntry) → o ≡ Some x
-    → length (spell_label o k label rest p after).0 ≤ 2
+    → length (compress_label o k label rest p after).0 ≤ 2
 entry_short label rest p after o k x known =
-    let two : length (spell_label o k label rest p after).0 ≡ 2 = λ i. length (spell_label (known i) k label rest p after).0 in omega arith
+    let two : length (compress_label o k label rest p after).0 ≡ 2 = λ i. length (compress_label (known i) k label rest p after).0 in omega arith
 
 -- the table entry of a name that was written uncompressed
 listed_first : (name : Labels) (p end : ℕ) (ss rest : List (Labels × ℕ)) → ss ≡ (name, p) ∷ rest → get (add_suffixes nothing ss end) name ≡ Some (record { offset = p; end = end })
@@ -69,14 +69,14 @@ unfolding encode_name
 again_at [] v = omega arith
 again_at (label ∷ rest) v =
     let entry_count = len nothing in
-    let after = spell Static nothing (12 + 1 + length label) (entry_count + 1) rest in
-    let spelled = spell Static nothing 12 entry_count (label ∷ rest) in
+    let after = compress Static nothing (12 + 1 + length label) (entry_count + 1) rest in
+    let compressed = compress Static nothing 12 entry_count (label ∷ rest) in
     let kept : is_kept Static 12 entry_count ≡ true = ap (is_kept Static 12) (len-empty suffix_cmp TableEntry) in
-    let first = first_spelled label rest 12 after (get nothing (label ∷ rest)) (is_kept Static 12 entry_count) (get-empty suffix_cmp (label ∷ rest)) kept in
-    let end = 12 + length spelled.0 in
-    let table = add_suffixes nothing spelled.1 end in
-    entry_short label rest v (spell Static table (v + 1 + length label) (len table + 1) rest) (get table (label ∷ rest)) (is_kept Static v (len table))
-    (record { offset = 12; end = end }) (listed_first (label ∷ rest) 12 end spelled.1 after.1 (ap (λ (s : List ℕ × List (Labels × ℕ)). s.1) first))
+    let first = first_compressed label rest 12 after (get nothing (label ∷ rest)) (is_kept Static 12 entry_count) (get-empty suffix_cmp (label ∷ rest)) kept in
+    let end = 12 + length compressed.0 in
+    let table = add_suffixes nothing compressed.1 end in
+    entry_short label rest v (compress Static table (v + 1 + length label) (len table + 1) rest) (get table (label ∷ rest)) (is_kept Static v (len table))
+    (record { offset = 12; end = end }) (listed_first (label ∷ rest) 12 end compressed.1 after.1 (ap (λ (s : List ℕ × List (Labels × ℕ)). s.1) first))
 
 again_short : (name : Labels) (w v : ℕ) → w ≡ 12 → length (encode_name Static name (encode_name Static name nothing w).table v).octets ≤ 2
 again_short name w v first = subst (λ k. length (encode_name Static name (encode_name Static name nothing k).table v).octets ≤ 2) (sym first) (again_at name v)

@@ -4,7 +4,7 @@ pub mod NearNames
 pub mod NameOrFaultLaws
 pub mod WalkLaws
 pub mod LabelsLemmas
-pub mod Spelling
+pub mod UncompressedNames
 pub mod Steps
 pub mod NameLemmas
 pub mod NameTextFaults

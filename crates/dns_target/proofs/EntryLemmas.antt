@@ -93,7 +93,7 @@ names_at_by : (b : List ℕ) (m : CompressionTable) (xs : List TableEntry) → I
 names_at_by b m [] r h = tt
 names_at_by b m (x ∷ xs) r h = (
   record {
-    label = first_label_at m b x.end x.offset (name_in b x.offset) (r.each (name_in b x.offset) x h.0).spelled;
+    label = first_label_at m b x.end x.offset (name_in b x.offset) (r.each (name_in b x.offset) x h.0).compressed;
     encoded = (entries_are_names b m (name_in b x.offset) x r h.0).encoded;
   },
   names_at_by b m xs r h.1,

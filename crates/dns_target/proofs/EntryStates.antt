@@ -9,7 +9,7 @@ use Rattle.dns_wire.specs.Choice.{first_suffixes}
 use Rattle.dns_wire.specs.Targets.{IsTableOf, Written, append, cut_to, overwrite, Fits, Passes, AppendReturns, Appends, IsTarget}
 use Rattle.dns_wire.proofs.theory.EncoderLaws.{same_written, encodes_octets, encodes_name}
 use Rattle.dns_wire.proofs.theory.EncodedNames.{ends_within_content}
-use Rattle.dns_wire.proofs.theory.SpelledNames.{is_table_cut, is_table_over}
+use Rattle.dns_wire.proofs.theory.CompressedNames.{is_table_cut, is_table_over}
 use Rattle.dns_wire.proofs.theory.CompressionTables.{nothing_is_kept}
 use Rattle.dns_target.specs.Indexes.{IsFound, IsReachable, IsThere, Enters, IsEncoded, planned_octets, AreTableEntries, IsToAdd, Plans}
 use Rattle.dns_target.specs.TableEntries.{with_names, named, table_in, AreNew, last_end, AreOrdered, cut_table_entries, with_suffixes, with_table_entries, HasTableEntries}

@@ -2,7 +2,7 @@
 use Rattle.std.proofs.Common.{◌≡◌, ◌∙◌}
 use Rattle.dns_name.specs.Names.{IsName, Labels, uncompressed}
 use Rattle.dns_name.specs.Unique.{same_name, encoded_name}
-use Rattle.dns_name.proofs.theory.Spelling.{name_at_uncompressed}
+use Rattle.dns_name.proofs.theory.UncompressedNames.{name_at_uncompressed}
 use Rattle.dns_target.specs.FlatNames.{flat_labels}
 use Rattle.dns_target.specs.declared.flat_name.FlatName.{FlatName}
 

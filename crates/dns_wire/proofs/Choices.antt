@@ -6,11 +6,11 @@ use Rattle.std.proofs.lemmas.Bool.{and_parts}
 use Rattle.std.proofs.lemmas.Grind.{common_steps}
 use Rattle.std.specs.FinMap.{get, len}
 use Rattle.dns_name.specs.Names.{Labels, framed}
-use Rattle.dns_wire.specs.Encoders.{CompressionTable, TableEntry, add_suffixes, Rule, Plain, Static, Tree, Hash, spell, is_kept, encode_name, pointer}
+use Rattle.dns_wire.specs.Encoders.{CompressionTable, TableEntry, add_suffixes, Rule, Plain, Static, Tree, Hash, compress, is_kept, encode_name, pointer}
 use Rattle.dns_wire.specs.Choice.{label_offset, first_suffixes, IsFirstInTable, IsFar, Chooses, IsAmong, NamesByChoice}
 use Rattle.dns_wire.specs.Choice.Chooses.{shared, written_out}
-use Rattle.dns_wire.proofs.theory.EncodedNames.{SpellsAs, spells_as}
-use Rattle.dns_wire.proofs.theory.EncodedNames.SpellsAs.{at_root, at_entry, at_kept, at_far}
+use Rattle.dns_wire.proofs.theory.EncodedNames.{CompressesAs, compresses_as}
+use Rattle.dns_wire.proofs.theory.EncodedNames.CompressesAs.{at_root, at_entry, at_kept, at_far}
 
 -- A suffix that may enter the table isn't too far.
 far_not : (rule : Rule) (entry_count offset : ℕ) → is_kept rule offset entry_count ≡ true → IsFar rule entry_count offset → ⊥
@@ -88,7 +88,7 @@ chooses_step rule m w entry_count label rest e here (written_out c j known less 
     (not_far_step rule w entry_count label rest c here near)
 
 -- The octets of a name and the suffixes written out are as chosen.
-chosen : {rule : Rule} {m : CompressionTable} {p entry_count : ℕ} {name : Labels} {text : List ℕ} {ss : List (Labels × ℕ)} → SpellsAs rule m p entry_count name text ss → Chooses rule m p entry_count name text ss
+chosen : {rule : Rule} {m : CompressionTable} {p entry_count : ℕ} {name : Labels} {text : List ℕ} {ss : List (Labels × ℕ)} → CompressesAs rule m p entry_count name text ss → Chooses rule m p entry_count name text ss
 chosen {m = m} at_root = shared 0 (0 ∷ []) (none_in_table m) (inl (refl, refl)) (λ i l far. omega arith)
 chosen {m = m} (at_entry {first = first} {rest = rest} {x = x} e) = shared 0 (pointer x.offset) (here_in_table m first rest x e) (inr (x, e, refl)) (λ i l far. omega arith)
 chosen {rule = rule} {m = m} (at_kept {p = p} {entry_count = entry_count} {first = first} {rest = rest} e k s) = chooses_step rule m p entry_count first rest e (far_not rule entry_count p k) (chosen s)
@@ -139,13 +139,13 @@ hash_table m ss q false e = inr (some_far ss e, refl)
 pub names_by_choice : NamesByChoice
 unfolding encode_name
 names_by_choice = record {
-  static = λ m w name. record { suffixes = (spell Static m w (len m) name).1; chooses = chosen (spells_as Static m w (len m) name); table = refl };
-  tree = λ m w name. record { suffixes = (spell Tree m w (len m) name).1; chooses = chosen (spells_as Tree m w (len m) name); table = refl };
+  static = λ m w name. record { suffixes = (compress Static m w (len m) name).1; chooses = chosen (compresses_as Static m w (len m) name); table = refl };
+  tree = λ m w name. record { suffixes = (compress Tree m w (len m) name).1; chooses = chosen (compresses_as Tree m w (len m) name); table = refl };
   hash = λ m w name.
-      let spelled = spell Hash m w (len m) name in
+      let compressed = compress Hash m w (len m) name in
       record {
-        suffixes = spelled.1;
-        chooses = chosen (spells_as Hash m w (len m) name);
-        table = hash_table m spelled.1 (w + length spelled.0) (list_all (λ s. near_test s) spelled.1) refl;
+        suffixes = compressed.1;
+        chooses = chosen (compresses_as Hash m w (len m) name);
+        table = hash_table m compressed.1 (w + length compressed.0) (list_all (λ s. near_test s) compressed.1) refl;
       };
 }

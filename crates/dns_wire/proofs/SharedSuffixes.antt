@@ -6,16 +6,16 @@ use Rattle.std.proofs.lemmas.Grind.{common_steps}
 use Rattle.std.specs.FinMap.{get, insert, len, get-insert, len-insert, contains_key}
 use Rattle.std.specs.Ordering.{eq_by_cmp}
 use Rattle.dns_name.specs.Names.{Labels, IsName, uncompressed, name_size}
-use Rattle.dns_wire.specs.Encoders.{CompressionTable, TableEntry, add_suffixes, suffix_cmp, suffix_total, Rule, Plain, Static, Tree, Hash, spell, kept, is_kept}
+use Rattle.dns_wire.specs.Encoders.{CompressionTable, TableEntry, add_suffixes, suffix_cmp, suffix_total, Rule, Plain, Static, Tree, Hash, compress, kept, is_kept}
 use Rattle.dns_wire.specs.Targets.{At}
-use Rattle.dns_wire.specs.Spelling.{IsSuffix, IsShared, SharesAll}
+use Rattle.dns_wire.specs.Compression.{IsSuffix, IsShared, SharesAll}
 use Rattle.dns_wire.specs.Parts.{LabelsNear}
 use Rattle.dns_wire.proofs.theory.TargetTheorems.{near_label}
-use Rattle.dns_wire.proofs.theory.SpelledNames.{label_begins, label_part, after_label}
+use Rattle.dns_wire.proofs.theory.CompressedNames.{label_begins, label_part, after_label}
 use Rattle.dns_wire.proofs.theory.CompressionTables.{get-insert_same}
-use Rattle.dns_wire.proofs.theory.EncodedNames.{Each, found, SpellsAs, spells_as}
-use Rattle.dns_wire.proofs.theory.EncodedNames.SpellsAs.{at_root, at_entry, at_kept, at_far}
-use Rattle.dns_name.proofs.theory.Spelling.{name_tail}
+use Rattle.dns_wire.proofs.theory.EncodedNames.{Each, found, CompressesAs, compresses_as}
+use Rattle.dns_wire.proofs.theory.EncodedNames.CompressesAs.{at_root, at_entry, at_kept, at_far}
+use Rattle.dns_name.proofs.theory.UncompressedNames.{name_tail}
 
 -- The table has exactly the suffixes of these names.
 pub record Knows (m : CompressionTable) (names : List Labels) : Type 0 where
@@ -39,7 +39,7 @@ shared_some (name ∷ names) s (inl h) = h.some
 shared_some (name ∷ names) s (inr h) = shared_some names s h
 
 -- Each suffix before the one in the table can enter the table.
-abbrev pub AllKept : {rule : Rule} {m : CompressionTable} {p entry_count : ℕ} {name : Labels} {text : List ℕ} {ss : List (Labels × ℕ)} → SpellsAs rule m p entry_count name text ss → Type 0
+abbrev pub AllKept : {rule : Rule} {m : CompressionTable} {p entry_count : ℕ} {name : Labels} {text : List ℕ} {ss : List (Labels × ℕ)} → CompressesAs rule m p entry_count name text ss → Type 0
 AllKept at_root = Unit {0}
 AllKept (at_entry e) = Unit {0}
 AllKept (at_kept e k s) = AllKept s
@@ -80,7 +80,7 @@ best_label names label others n without (inr a) =
     )
 
 -- A name is written as short as possible.
-pub best : {rule : Rule} {m : CompressionTable} {p entry_count : ℕ} {name : Labels} {text : List ℕ} {ss : List (Labels × ℕ)} (names : List Labels) → Knows m names → (s : SpellsAs rule m p entry_count name text ss) → AllKept s → Best names name (length text)
+pub best : {rule : Rule} {m : CompressionTable} {p entry_count : ℕ} {name : Labels} {text : List ℕ} {ss : List (Labels × ℕ)} (names : List Labels) → Knows m names → (s : CompressesAs rule m p entry_count name text ss) → AllKept s → Best names name (length text)
 best names knows at_root k = best_root names
 best names knows (at_entry {first = first} {rest = rest} {x = x} e) k = inr ([], first ∷ rest, refl, knows.only (first ∷ rest) x e, refl, λ f r e s. omega arith)
 best names knows (at_kept {first = first} {rest = rest} {text = text} e is s) k =
@@ -103,11 +103,11 @@ each_others label others [] h = tt
 each_others label others (s ∷ ss) h = (suffix_others s.0 label others h.0, each_others label others ss h.1)
 
 -- The suffixes that are written out are suffixes of the name.
-spell_suffixes : {rule : Rule} {m : CompressionTable} {p entry_count : ℕ} {name : Labels} {text : List ℕ} {ss : List (Labels × ℕ)} → SpellsAs rule m p entry_count name text ss → Each (λ s. IsSuffix s.0 name) ss
-spell_suffixes at_root = tt
-spell_suffixes (at_entry e) = tt
-spell_suffixes (at_kept {first = first} {rest = rest} {ss = ss} e k s) = (suffix_whole first rest, each_others first rest ss (spell_suffixes s))
-spell_suffixes (at_far e k) = tt
+compress_suffixes : {rule : Rule} {m : CompressionTable} {p entry_count : ℕ} {name : Labels} {text : List ℕ} {ss : List (Labels × ℕ)} → CompressesAs rule m p entry_count name text ss → Each (λ s. IsSuffix s.0 name) ss
+compress_suffixes at_root = tt
+compress_suffixes (at_entry e) = tt
+compress_suffixes (at_kept {first = first} {rest = rest} {ss = ss} e k s) = (suffix_whole first rest, each_others first rest ss (compress_suffixes s))
+compress_suffixes (at_far e k) = tt
 
 -- A suffix is in the list.
 abbrev Listed : Labels → List (Labels × ℕ) → Type 0
@@ -124,7 +124,7 @@ no_suffix : (s : Labels) → IsSuffix s [] → ⊥
 no_suffix s h = let some = h.some in let l : 0 ≡ length h.first + length s = ap length h.whole ∙ length-append h.first s in omega arith
 
 -- Each suffix of the name was shared, or is written out.
-listed : {rule : Rule} {m : CompressionTable} {p entry_count : ℕ} {name : Labels} {text : List ℕ} {ss : List (Labels × ℕ)} (names : List Labels) (t : Labels) → Knows m names → (s : SpellsAs rule m p entry_count name text ss) → AllKept s → IsSuffix t name → IsShared names t ⊎ Listed t ss
+listed : {rule : Rule} {m : CompressionTable} {p entry_count : ℕ} {name : Labels} {text : List ℕ} {ss : List (Labels × ℕ)} (names : List Labels) (t : Labels) → Knows m names → (s : CompressesAs rule m p entry_count name text ss) → AllKept s → IsSuffix t name → IsShared names t ⊎ Listed t ss
 listed names t knows at_root k h = absurd (no_suffix t h)
 listed names t knows (at_entry {first = first} {rest = rest} {x = x} e) k h = inl (shared_suffix names t (first ∷ rest) h (knows.only (first ∷ rest) x e))
 listed names t knows (at_kept {first = first} {rest = rest} e is s) k h =
@@ -154,22 +154,22 @@ listed_found m t q (s ∷ ss) (inr h) =
     (o.0, get-insert suffix_total (add_suffixes m ss q) s.0 v t ∙ o.1)
 
 -- After the name is written, the table has exactly the suffixes of this name and of the earlier ones.
-pub knows_more : (rule : Rule) (m n : CompressionTable) (names : List Labels) (p entry_count q : ℕ) (name : Labels) → Knows m names → AllKept (spells_as rule m p entry_count name)
-    → n ≡ add_suffixes m (spell rule m p entry_count name).1 q → ((s : Labels) (x : TableEntry) → get m s ≡ Some x → get n s ≡ Some x) → Knows n (name ∷ names)
+pub knows_more : (rule : Rule) (m n : CompressionTable) (names : List Labels) (p entry_count q : ℕ) (name : Labels) → Knows m names → AllKept (compresses_as rule m p entry_count name)
+    → n ≡ add_suffixes m (compress rule m p entry_count name).1 q → ((s : Labels) (x : TableEntry) → get m s ≡ Some x → get n s ≡ Some x) → Knows n (name ∷ names)
 knows_more rule m n names p entry_count q name knows k is g =
-    let ss = (spell rule m p entry_count name).1 in
+    let ss = (compress rule m p entry_count name).1 in
     let old : (s : Labels) → IsShared names s → (x : TableEntry) × (get n s ≡ Some x) = λ s h. let f = knows.has s h in (f.0, g s f.0 f.1) in
     record {
       has = λ s h.
           elim h [
-            | inl a ↦ elim (listed names s knows (spells_as rule m p entry_count name) k a) [
+            | inl a ↦ elim (listed names s knows (compresses_as rule m p entry_count name) k a) [
               | inl b ↦ old s b
               | inr b ↦ let f = listed_found m s q ss b in (f.0, ap (λ (r : CompressionTable). get r s) is ∙ f.1)
             ]
             | inr a ↦ old s a
           ];
       only = λ s x e.
-          elim (found m ss q (λ t. IsSuffix t.0 name) s x (spell_suffixes (spells_as rule m p entry_count name)) (ap (λ (r : CompressionTable). get r s) (sym is) ∙ e)) [
+          elim (found m ss q (λ t. IsSuffix t.0 name) s x (compress_suffixes (compresses_as rule m p entry_count name)) (ap (λ (r : CompressionTable). get r s) (sym is) ∙ e)) [
             | inl a ↦ inr (knows.only s x a)
             | inr a ↦ inl a.0
           ];
@@ -207,7 +207,7 @@ pub hash_keeps_near : KeepsNear Hash
 hash_keeps_near = record { keeps = λ p entry_count h few. refl; chosen = λ ss h. ap (λ (b : Bool). cond b ss []) h }
 
 -- If every written label is within pointer range, each suffix before the one in the table can enter the table.
-pub near_kept : {rule : Rule} {m : CompressionTable} {p entry_count : ℕ} {name : Labels} {text : List ℕ} {ss : List (Labels × ℕ)} (r : KeepsNear rule) (b : List ℕ) (q : ℕ) (s : SpellsAs rule m p entry_count name text ss) → IsName name → LabelsNear b q p → At b p text → SharesAll rule (entry_count + length ss) → AllKept s
+pub near_kept : {rule : Rule} {m : CompressionTable} {p entry_count : ℕ} {name : Labels} {text : List ℕ} {ss : List (Labels × ℕ)} (r : KeepsNear rule) (b : List ℕ) (q : ℕ) (s : CompressesAs rule m p entry_count name text ss) → IsName name → LabelsNear b q p → At b p text → SharesAll rule (entry_count + length ss) → AllKept s
 near_kept r b q at_root is near h few = tt
 near_kept r b q (at_entry e) is near h few = tt
 near_kept {rule = rule} r b q (at_kept {entry_count = entry_count} {first = first} {rest = rest} {text = text} {ss = ss} e k s) is near h few =
@@ -220,7 +220,7 @@ near_kept {rule = rule} r b q (at_far {p = p} {entry_count = entry_count} {first
     absurd (cc)
 
 -- If every written label is within pointer range, so is each suffix that is written out.
-pub near_suffixes : {rule : Rule} {m : CompressionTable} {p entry_count : ℕ} {name : Labels} {text : List ℕ} {ss : List (Labels × ℕ)} (b : List ℕ) (q : ℕ) → SpellsAs rule m p entry_count name text ss → IsName name → LabelsNear b q p → At b p text → list_all (λ s. nat_lt s.1 16384) ss ≡ true
+pub near_suffixes : {rule : Rule} {m : CompressionTable} {p entry_count : ℕ} {name : Labels} {text : List ℕ} {ss : List (Labels × ℕ)} (b : List ℕ) (q : ℕ) → CompressesAs rule m p entry_count name text ss → IsName name → LabelsNear b q p → At b p text → list_all (λ s. nat_lt s.1 16384) ss ≡ true
 near_suffixes b q at_root is near h = refl
 near_suffixes b q (at_entry e) is near h = refl
 near_suffixes b q (at_kept {p = p} {first = first} {rest = rest} {text = text} e k s) is near h =
@@ -260,16 +260,16 @@ len_new : (r : CompressionTable) (k : Labels) (v : TableEntry) → get r k ≡ N
 len_new r k v e = len-insert suffix_total r k v ∙ ap (λ (o : Option TableEntry). cond (is_some o) (len r) (len r + 1)) e
 
 -- Each suffix that is written out adds one entry.
-pub len_spell : {rule : Rule} {m : CompressionTable} {p entry_count : ℕ} {name : Labels} {text : List ℕ} {ss : List (Labels × ℕ)} (q : ℕ) → SpellsAs rule m p entry_count name text ss → len (add_suffixes m ss q) ≡ len m + length ss
-len_spell q at_root = omega arith
-len_spell q (at_entry e) = omega arith
-len_spell {m = m} q (at_kept {p = p} {first = first} {rest = rest} {ss = ss} e k s) =
+pub len_compress : {rule : Rule} {m : CompressionTable} {p entry_count : ℕ} {name : Labels} {text : List ℕ} {ss : List (Labels × ℕ)} (q : ℕ) → CompressesAs rule m p entry_count name text ss → len (add_suffixes m ss q) ≡ len m + length ss
+len_compress q at_root = omega arith
+len_compress q (at_entry e) = omega arith
+len_compress {m = m} q (at_kept {p = p} {first = first} {rest = rest} {ss = ss} e k s) =
     let r = add_suffixes m ss q in
-    let rec = len_spell q s in
+    let rec = len_compress q s in
     let new : get r (first ∷ rest) ≡ None = none_of (get r (first ∷ rest)) (λ x f.
-    elim (found m ss q (λ t. IsSuffix t.0 rest) (first ∷ rest) x (spell_suffixes s) f) [
+    elim (found m ss q (λ t. IsSuffix t.0 rest) (first ∷ rest) x (compress_suffixes s) f) [
       | inl a ↦ let k : None ≡ Some x = sym e ∙ a in cc
       | inr a ↦ longer first rest a.0
     ]) in
     len_new r (first ∷ rest) (record { offset = p; end = q }) new ∙ omega arith
-len_spell q (at_far e k) = omega arith
+len_compress q (at_far e k) = omega arith

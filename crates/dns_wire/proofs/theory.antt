@@ -1,7 +1,7 @@
 -- Lemmas that other crates cite, so a change here affects them too.
 pub mod NameSizes
 pub mod CompressionTables
-pub mod SpelledNames
+pub mod CompressedNames
 pub mod EncodedNames
 pub mod EncoderLaws
 pub mod Stability

@@ -133,16 +133,16 @@ is_kept Hash offset entry_count = true
 
 -- A suffix in the table: a pointer. Else, if the table may take it here: the label, then its parent encoded after it. Else: the whole name uncompressed.
 -- The second component lists the suffixes that are written as labels and may enter the table, each with its offset.
-abbrev pub spell_label : Option TableEntry → Bool → List ℕ → Labels → ℕ → List ℕ × List (Labels × ℕ) → List ℕ × List (Labels × ℕ)
-spell_label (Some table_entry) keep label rest offset after = (pointer table_entry.offset, [])
-spell_label None true label rest offset after = (framed label ++ after.0, (label ∷ rest, offset) ∷ after.1)
-spell_label None false label rest offset after = (uncompressed (label ∷ rest), [])
+abbrev pub compress_label : Option TableEntry → Bool → List ℕ → Labels → ℕ → List ℕ × List (Labels × ℕ) → List ℕ × List (Labels × ℕ)
+compress_label (Some table_entry) keep label rest offset after = (pointer table_entry.offset, [])
+compress_label None true label rest offset after = (framed label ++ after.0, (label ∷ rest, offset) ∷ after.1)
+compress_label None false label rest offset after = (uncompressed (label ∷ rest), [])
 
 -- A name encoded at offset `offset`, with `entry_count` entries in the table.
-abbrev pub spell : Rule → CompressionTable → ℕ → ℕ → Labels → List ℕ × List (Labels × ℕ)
-spell rule m offset entry_count [] = (0 ∷ [], [])
-spell rule m offset entry_count (label ∷ rest) =
-    spell_label (get m (label ∷ rest)) (is_kept rule offset entry_count) label rest offset (spell rule m (offset + 1 + length label) (entry_count + 1) rest)
+abbrev pub compress : Rule → CompressionTable → ℕ → ℕ → Labels → List ℕ × List (Labels × ℕ)
+compress rule m offset entry_count [] = (0 ∷ [], [])
+compress rule m offset entry_count (label ∷ rest) =
+    compress_label (get m (label ∷ rest)) (is_kept rule offset entry_count) label rest offset (compress rule m (offset + 1 + length label) (entry_count + 1) rest)
 
 -- The suffixes that enter the table. Under the hash rule it is all or none: none if one of them is past pointer range.
 abbrev pub kept : Rule → List (Labels × ℕ) → List (Labels × ℕ)
@@ -155,5 +155,5 @@ kept Tree suffixes = suffixes
 unfoldable pub encode_name : Rule → Labels → Encoder
 encode_name Plain name m w = record { octets = uncompressed name; table = m }
 encode_name rule name m w =
-    let spelled = spell rule m w (len m) name in
-    record { octets = spelled.0; table = add_suffixes m (kept rule spelled.1) (w + length spelled.0) }
+    let compressed = compress rule m w (len m) name in
+    record { octets = compressed.0; table = add_suffixes m (kept rule compressed.1) (w + length compressed.0) }

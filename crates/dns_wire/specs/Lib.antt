@@ -3,4 +3,4 @@ pub mod Parts
 pub mod Targets
 pub mod Choice
 pub mod TargetLaws
-pub mod Spelling
+pub mod Compression

@@ -16,21 +16,21 @@ pub record At (b : List ℕ) (p : ℕ) (xs : List ℕ) : Type 0 where
   pub same : slice_range b p (p + length xs) ≡ xs
 
 -- The octets from offset p to q encode a name: labels, then a zero octet or a pointer to the table's entry for the remaining labels.
-pub data Spelled (m : CompressionTable) (b : List ℕ) (q : ℕ) : ℕ → Labels → Type 0 where
-  root : {p : ℕ} → At b p (0 ∷ []) → q ≡ p + 1 → Spelled m b q p []
-  label : {p : ℕ} {first : List ℕ} {rest : Labels} → IsLabel first → At b p (framed first) → Spelled m b q (p + 1 + length first) rest → Spelled m b q p (first ∷ rest)
-  pointer : {p : ℕ} {name : Labels} {x : TableEntry} → get m name ≡ Some x → x.end ≤ p → At b p (pointer_octets x.offset) → q ≡ p + 2 → Spelled m b q p name
+pub data Compressed (m : CompressionTable) (b : List ℕ) (q : ℕ) : ℕ → Labels → Type 0 where
+  root : {p : ℕ} → At b p (0 ∷ []) → q ≡ p + 1 → Compressed m b q p []
+  label : {p : ℕ} {first : List ℕ} {rest : Labels} → IsLabel first → At b p (framed first) → Compressed m b q (p + 1 + length first) rest → Compressed m b q p (first ∷ rest)
+  pointer : {p : ℕ} {name : Labels} {x : TableEntry} → get m name ≡ Some x → x.end ≤ p → At b p (pointer_octets x.offset) → q ≡ p + 2 → Compressed m b q p name
 
 -- The octets encode a name, and begin with a label.
 abbrev pub Labelled : CompressionTable → List ℕ → ℕ → ℕ → Labels → Type 0
 Labelled m b q p [] = ⊥
-Labelled m b q p (first ∷ rest) = IsLabel first × At b p (framed first) × Spelled m b q (p + 1 + length first) rest
+Labelled m b q p (first ∷ rest) = IsLabel first × At b p (framed first) × Compressed m b q (p + 1 + length first) rest
 
 -- An entry of the table is sound: a pointer can lead to it, a label begins there, and the octets up to the name's end encode the suffix.
 pub record IsTableEntry (b : List ℕ) (m : CompressionTable) (s : Labels) (x : TableEntry) : Type 0 where
   pub near : x.offset < pointer_end
   pub short : name_size s ≤ max_size
-  pub spelled : Labelled m b x.end x.offset s
+  pub compressed : Labelled m b x.end x.offset s
 
 -- Every entry of the table is sound.
 pub record IsTableOf (b : List ℕ) (m : CompressionTable) : Type 0 where

@@ -10,6 +10,8 @@ mod assertions;
 #[cfg(test)]
 mod codes;
 #[cfg(test)]
+mod compressions;
+#[cfg(test)]
 mod compressors;
 #[cfg(test)]
 mod errors;
@@ -27,8 +29,6 @@ mod octets;
 mod orders;
 #[cfg(test)]
 mod parser;
-#[cfg(test)]
-mod spellings;
 #[cfg(test)]
 mod steps;
 #[cfg(test)]

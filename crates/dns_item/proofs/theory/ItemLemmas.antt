@@ -9,7 +9,7 @@ use Rattle.dns_wire.specs.Targets.{Written, IsTarget, append}
 use Rattle.dns_wire.proofs.theory.EncodedNames.{encode_name_grows, encode_octets_grows, encode_parts_grows, both_grows, with_length_grows}
 use Rattle.dns_wire.proofs.theory.EncoderLaws.{number_16, number_32, HasLength, stable_length, encodes_with_length, Encodes, IsStable, Consecutive, stable_after, encodes_both, HasOctets, stable_octets, encodes_octets, HasName, stable_name, encodes_name, HasParts, stable_parts, encodes_parts, parts_rise, parts_within, parts_at}
 use Rattle.dns_wire.proofs.theory.NameSizes.{parts_are_short}
-use Rattle.dns_wire.proofs.theory.SpelledNames.{at_first, at_second, at_offset, spelled_stands, spelled_walked}
+use Rattle.dns_wire.proofs.theory.CompressedNames.{at_first, at_second, at_offset, compressed_name_at, compressed_ends}
 use Rattle.dns_item.specs.Items.{RecordEntry, ReadsRecordItem, RecordItem, IsRecord, record_fields, encode_record, RecordsGrow, RecordsReadBack}
 
 -- writing a record adds only its own suffixes to the compression table
@@ -60,8 +60,8 @@ reads_record x t p q is good h =
     record {
       entry = entry_of x (r + 10) q;
       reads = record {
-        skips = record { name_end = r; walked = spelled_walked 0 good short h.1; end = omega arith; within = within };
-        owner = spelled_stands good is.owner.short h.1;
+        skips = record { name_end = r; walked = compressed_ends 0 good short h.1; end = omega arith; within = within };
+        owner = compressed_name_at good is.owner.short h.1;
         rtype = sym (number_16 t.octets r x.rtype is.rtype (at_first {xs = to_be_bytes w16 x.rtype} (to_be_bytes w16 x.class ++ to_be_bytes w32 x.ttl) here));
         class = sym (number_16 t.octets (r + 2) x.class is.class (at_first {xs = to_be_bytes w16 x.class} (to_be_bytes w32 x.ttl) rest));
         ttl = sym (number_32 t.octets (r + 4) x.ttl is.ttl (at_offset (omega arith) (at_second (to_be_bytes w16 x.class) {ys = to_be_bytes w32 x.ttl} rest)));

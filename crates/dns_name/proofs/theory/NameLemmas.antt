@@ -16,7 +16,7 @@ use Rattle.dns_name.specs.declared.parsed_name.ParsedName.{ParsedName}
 use Rattle.dns_name.specs.Unique.{encoded_name}
 use Rattle.dns_name.proofs.theory.LabelsLemmas.{length-uncompressed}
 use Rattle.dns_name.proofs.NameOrderLemmas.{uncompressed-injective}
-use Rattle.dns_name.proofs.theory.Spelling.{name_at_uncompressed}
+use Rattle.dns_name.proofs.theory.UncompressedNames.{name_at_uncompressed}
 
 -- A name is encoded at the start of its uncompressed octets.
 name_at_in_own : (name : Labels) → IsName name → NameAt (uncompressed name) 0 name

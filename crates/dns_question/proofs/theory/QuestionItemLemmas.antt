@@ -6,7 +6,7 @@ use Rattle.dns_wire.specs.Encoders.{Rule, encode_octets, encode_name}
 use Rattle.dns_wire.specs.Targets.{Written, IsTarget, append}
 use Rattle.dns_wire.proofs.theory.EncodedNames.{encode_name_grows, encode_octets_grows, both_grows}
 use Rattle.dns_wire.proofs.theory.EncoderLaws.{number_16, Encodes, IsStable, Consecutive, stable_after, encodes_both, HasOctets, stable_octets, encodes_octets, HasName, stable_name, encodes_name}
-use Rattle.dns_wire.proofs.theory.SpelledNames.{at_first, at_second, spelled_stands, spelled_walked}
+use Rattle.dns_wire.proofs.theory.CompressedNames.{at_first, at_second, compressed_name_at, compressed_ends}
 use Rattle.dns_question.specs.Questions.{ReadsQuestion, QuestionsGrow, QuestionsReadBack, QuestionItem, IsQuestion, question_fields, encode_question}
 
 -- writing a question adds only its own suffixes to the compression table
@@ -39,8 +39,8 @@ reads_question x t p q is good h =
     let within = h.2.0.within in
     let short : 0 + name_size x.name ≤ max_size = let s = is.name.short in omega arith in
     record {
-      skips = record { name_end = r; walked = spelled_walked 0 good short h.1; end = end; within = omega arith };
-      name = spelled_stands good is.name.short h.1;
+      skips = record { name_end = r; walked = compressed_ends 0 good short h.1; end = end; within = omega arith };
+      name = compressed_name_at good is.name.short h.1;
       rtype = sym (number_16 t.octets r x.rtype is.rtype first);
       class = sym (number_16 t.octets (r + 2) x.class is.class second);
     }

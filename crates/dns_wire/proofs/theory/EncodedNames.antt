@@ -7,13 +7,13 @@ use Rattle.std.proofs.lemmas.Bool.{and_parts}
 use Rattle.std.proofs.lemmas.Grind.{common_steps}
 use Rattle.std.specs.Ordering.{eq_by_cmp}
 use Rattle.dns_name.specs.Names.{Labels, IsName, name_size, max_size, uncompressed, framed}
-use Rattle.dns_name.proofs.theory.Spelling.{name_tail}
-use Rattle.dns_wire.specs.Encoders.{TableEntry, CompressionTable, add_suffixes, Extends, IsGrowing, Rule, Plain, Static, Tree, Hash, Encoder, encode_octets, both, with_length, spell_label, spell, kept, pointer as encode_pointer, encode_name, IsWithin, suffix_cmp, suffix_total, is_kept}
+use Rattle.dns_name.proofs.theory.UncompressedNames.{name_tail}
+use Rattle.dns_wire.specs.Encoders.{TableEntry, CompressionTable, add_suffixes, Extends, IsGrowing, Rule, Plain, Static, Tree, Hash, Encoder, encode_octets, both, with_length, compress_label, compress, kept, pointer as encode_pointer, encode_name, IsWithin, suffix_cmp, suffix_total, is_kept}
 use Rattle.dns_wire.specs.Parts.{Part, Octets, CompressibleName, encode_part, encode_parts}
-use Rattle.dns_wire.specs.Targets.{At, Spelled, Labelled, IsTableEntry, IsTableOf}
-use Rattle.dns_wire.specs.Targets.Spelled.{root, label, pointer}
+use Rattle.dns_wire.specs.Targets.{At, Compressed, Labelled, IsTableEntry, IsTableOf}
+use Rattle.dns_wire.specs.Targets.Compressed.{root, label, pointer}
 use Rattle.dns_wire.proofs.theory.CompressionTables.{extends_refl, extends_wider, extends_join, inserted, gets, tied}
-use Rattle.dns_wire.proofs.theory.SpelledNames.{at_end, label_part, after_label, moved, kept_moved, kept_more, kept_spelled, spelled_long}
+use Rattle.dns_wire.proofs.theory.CompressedNames.{at_end, label_part, after_label, moved, kept_moved, kept_more, kept_compressed, compressed_long}
 
 -- The encodings of names, octets and parts add only suffixes of their own octets.
 
@@ -27,29 +27,29 @@ newer m w w' [] l h = tt
 newer m w w' (s ∷ ss) l h = (h.0, omega (arith, h.1), newer m w w' ss l h.2)
 
 -- How a name is encoded: its octets, and the suffixes that are written out.
-pub data SpellsAs (rule : Rule) (m : CompressionTable) : ℕ → ℕ → Labels → List ℕ → List (Labels × ℕ) → Type 0 where
-  at_root : {p entry_count : ℕ} → SpellsAs rule m p entry_count [] (0 ∷ []) []
-  at_entry : {p entry_count : ℕ} {first : List ℕ} {rest : Labels} {x : TableEntry} → get m (first ∷ rest) ≡ Some x → SpellsAs rule m p entry_count (first ∷ rest) (encode_pointer x.offset) []
+pub data CompressesAs (rule : Rule) (m : CompressionTable) : ℕ → ℕ → Labels → List ℕ → List (Labels × ℕ) → Type 0 where
+  at_root : {p entry_count : ℕ} → CompressesAs rule m p entry_count [] (0 ∷ []) []
+  at_entry : {p entry_count : ℕ} {first : List ℕ} {rest : Labels} {x : TableEntry} → get m (first ∷ rest) ≡ Some x → CompressesAs rule m p entry_count (first ∷ rest) (encode_pointer x.offset) []
   at_kept : {p entry_count : ℕ} {first : List ℕ} {rest : Labels} {text : List ℕ} {ss : List (Labels × ℕ)} → get m (first ∷ rest) ≡ None → is_kept rule p entry_count ≡ true
-      → SpellsAs rule m (p + 1 + length first) (entry_count + 1) rest text ss → SpellsAs rule m p entry_count (first ∷ rest) (framed first ++ text) ((first ∷ rest, p) ∷ ss)
-  at_far : {p entry_count : ℕ} {first : List ℕ} {rest : Labels} → get m (first ∷ rest) ≡ None → is_kept rule p entry_count ≡ false → SpellsAs rule m p entry_count (first ∷ rest) (uncompressed (first ∷ rest)) []
+      → CompressesAs rule m (p + 1 + length first) (entry_count + 1) rest text ss → CompressesAs rule m p entry_count (first ∷ rest) (framed first ++ text) ((first ∷ rest, p) ∷ ss)
+  at_far : {p entry_count : ℕ} {first : List ℕ} {rest : Labels} → get m (first ∷ rest) ≡ None → is_kept rule p entry_count ≡ false → CompressesAs rule m p entry_count (first ∷ rest) (uncompressed (first ∷ rest)) []
 
 label_as : (rule : Rule) (m : CompressionTable) (p entry_count : ℕ) (o : Option TableEntry) (keep : Bool) (first : List ℕ) (rest : Labels) (after : List ℕ × List (Labels × ℕ)) → get m (first ∷ rest) ≡ o → is_kept rule p entry_count ≡ keep
-    → SpellsAs rule m (p + 1 + length first) (entry_count + 1) rest after.0 after.1 → let spelled = spell_label o keep first rest p after in SpellsAs rule m p entry_count (first ∷ rest) spelled.0 spelled.1
+    → CompressesAs rule m (p + 1 + length first) (entry_count + 1) rest after.0 after.1 → let compressed = compress_label o keep first rest p after in CompressesAs rule m p entry_count (first ∷ rest) compressed.0 compressed.1
 label_as rule m p entry_count (Some x) keep first rest after e k s = at_entry e
 label_as rule m p entry_count None true first rest after e k s = at_kept e k s
 label_as rule m p entry_count None false first rest after e k s = at_far e k
 
-pub spells_as : (rule : Rule) (m : CompressionTable) (p entry_count : ℕ) (name : Labels) → let spelled = spell rule m p entry_count name in SpellsAs rule m p entry_count name spelled.0 spelled.1
-spells_as rule m p entry_count [] = at_root
-spells_as rule m p entry_count (first ∷ rest) = label_as rule m p entry_count _ _ first rest _ refl refl (spells_as rule m (p + 1 + length first) (entry_count + 1) rest)
+pub compresses_as : (rule : Rule) (m : CompressionTable) (p entry_count : ℕ) (name : Labels) → let compressed = compress rule m p entry_count name in CompressesAs rule m p entry_count name compressed.0 compressed.1
+compresses_as rule m p entry_count [] = at_root
+compresses_as rule m p entry_count (first ∷ rest) = label_as rule m p entry_count _ _ first rest _ refl refl (compresses_as rule m (p + 1 + length first) (entry_count + 1) rest)
 
 -- The suffixes that are written out are new.
-spell_new : {rule : Rule} {m : CompressionTable} {p entry_count : ℕ} {name : Labels} {text : List ℕ} {ss : List (Labels × ℕ)} → SpellsAs rule m p entry_count name text ss → AreNew m p ss
-spell_new at_root = tt
-spell_new (at_entry e) = tt
-spell_new {m = m} (at_kept {p = p} {first = first} {ss = ss} e k s) = (e, omega arith, newer m (p + 1 + length first) p ss (omega arith) (spell_new s))
-spell_new (at_far e k) = tt
+compress_new : {rule : Rule} {m : CompressionTable} {p entry_count : ℕ} {name : Labels} {text : List ℕ} {ss : List (Labels × ℕ)} → CompressesAs rule m p entry_count name text ss → AreNew m p ss
+compress_new at_root = tt
+compress_new (at_entry e) = tt
+compress_new {m = m} (at_kept {p = p} {first = first} {ss = ss} e k s) = (e, omega arith, newer m (p + 1 + length first) p ss (omega arith) (compress_new s))
+compress_new (at_far e k) = tt
 
 chosen_new : (m : CompressionTable) (w : ℕ) (b : Bool) (ss : List (Labels × ℕ)) → AreNew m w ss → AreNew m w (cond b ss [])
 chosen_new m w true ss h = h
@@ -69,16 +69,16 @@ extends-add_suffixes m (s ∷ ss) w end l h =
     inserted m (add_suffixes m ss end) s.0 (record { offset = s.1; end = end }) w end (extends-add_suffixes m ss w end l h.2) h.0 h.1 l (omega arith)
 
 -- A written name takes at least one octet.
-spell_long : {rule : Rule} {m : CompressionTable} {p entry_count : ℕ} {name : Labels} {text : List ℕ} {ss : List (Labels × ℕ)} → SpellsAs rule m p entry_count name text ss → 0 < length text
-spell_long at_root = omega arith
-spell_long (at_entry e) = omega arith
-spell_long (at_kept e k s) = omega arith
-spell_long (at_far e k) = omega arith
+compress_long : {rule : Rule} {m : CompressionTable} {p entry_count : ℕ} {name : Labels} {text : List ℕ} {ss : List (Labels × ℕ)} → CompressesAs rule m p entry_count name text ss → 0 < length text
+compress_long at_root = omega arith
+compress_long (at_entry e) = omega arith
+compress_long (at_kept e k s) = omega arith
+compress_long (at_far e k) = omega arith
 
 -- Adding the suffixes of a name extends the table.
 named : (rule : Rule) (name : Labels) (m : CompressionTable) (w entry_count : ℕ)
-    → let spelled = spell rule m w entry_count name in Extends m (add_suffixes m (kept rule spelled.1) (w + length spelled.0)) w (w + length spelled.0)
-named rule name m w entry_count = let long = spell_long (spells_as rule m w entry_count name) in extends-add_suffixes m _ w _ (omega arith) (kept_new rule m w _ (spell_new (spells_as rule m w entry_count name)))
+    → let compressed = compress rule m w entry_count name in Extends m (add_suffixes m (kept rule compressed.1) (w + length compressed.0)) w (w + length compressed.0)
+named rule name m w entry_count = let long = compress_long (compresses_as rule m w entry_count name) in extends-add_suffixes m _ w _ (omega arith) (kept_new rule m w _ (compress_new (compresses_as rule m w entry_count name)))
 
 -- The encoding of a name is growing.
 pub encode_name_grows : (rule : Rule) (name : Labels) → IsGrowing (encode_name rule name)
@@ -131,28 +131,28 @@ Each P [] = Unit {0}
 Each P (s ∷ ss) = P s × Each P ss
 
 -- The uncompressed octets of a name encode it.
-spelled_full : (m : CompressionTable) (b : List ℕ) (q p : ℕ) (name : Labels) → IsName name → At b p (uncompressed name) → q ≡ p + length (uncompressed name) → Spelled m b q p name
-spelled_full m b q p [] is h e = root h e
-spelled_full m b q p (first ∷ rest) is h e =
+compressed_full : (m : CompressionTable) (b : List ℕ) (q p : ℕ) (name : Labels) → IsName name → At b p (uncompressed name) → q ≡ p + length (uncompressed name) → Compressed m b q p name
+compressed_full m b q p [] is h e = root h e
+compressed_full m b q p (first ∷ rest) is h e =
     let t = name_tail first rest is in
     let n = length-append first (uncompressed rest) in
     label t.0 (label_part first (uncompressed rest) h)
-    (spelled_full m b q (p + 1 + length first) rest t.1 (after_label first (uncompressed rest) h) (omega arith))
+    (compressed_full m b q (p + 1 + length first) rest t.1 (after_label first (uncompressed rest) h) (omega arith))
 
 -- Names that end within p octets end within q ≥ p octets.
 later : (m : CompressionTable) (p q : ℕ) → p ≤ q → IsWithin m p → IsWithin m q
 later m p q l ends s x e = omega (arith, ends s x e)
 
 -- The written octets of a name encode it.
-spelled_by : {rule : Rule} {m : CompressionTable} {p entry_count : ℕ} {name : Labels} {text : List ℕ} {ss : List (Labels × ℕ)} (b : List ℕ) (q : ℕ) → SpellsAs rule m p entry_count name text ss → IsName name → IsWithin m p
-    → At b p text → q ≡ p + length text → Spelled m b q p name
-spelled_by b q at_root is ends h e = root h e
-spelled_by b q (at_entry {first = first} {rest = rest} {x = x} g) is ends h e = pointer g (ends (first ∷ rest) x g) h (omega arith)
-spelled_by {m = m} b q (at_kept {p = p} {first = first} {rest = rest} {text = text} g k s) is ends h e =
+compressed_by : {rule : Rule} {m : CompressionTable} {p entry_count : ℕ} {name : Labels} {text : List ℕ} {ss : List (Labels × ℕ)} (b : List ℕ) (q : ℕ) → CompressesAs rule m p entry_count name text ss → IsName name → IsWithin m p
+    → At b p text → q ≡ p + length text → Compressed m b q p name
+compressed_by b q at_root is ends h e = root h e
+compressed_by b q (at_entry {first = first} {rest = rest} {x = x} g) is ends h e = pointer g (ends (first ∷ rest) x g) h (omega arith)
+compressed_by {m = m} b q (at_kept {p = p} {first = first} {rest = rest} {text = text} g k s) is ends h e =
     let n = length-append first text in
     let tail = name_tail first rest is in
-    label tail.0 (label_part first text h) (spelled_by b q s tail.1 (later m p (p + 1 + length first) (omega arith) ends) (after_label first text h) (omega arith))
-spelled_by {m = m} b q (at_far {p = p} {first = first} {rest = rest} g k) is ends h e = spelled_full m b q p (first ∷ rest) is h e
+    label tail.0 (label_part first text h) (compressed_by b q s tail.1 (later m p (p + 1 + length first) (omega arith) ends) (after_label first text h) (omega arith))
+compressed_by {m = m} b q (at_far {p = p} {first = first} {rest = rest} g k) is ends h e = compressed_full m b q p (first ∷ rest) is h e
 
 -- An offset is within pointer range.
 abbrev IsNear : ℕ → Type 0
@@ -174,12 +174,12 @@ near_for Hash p entry_count e = tt
 
 -- A suffix that is written out is encoded at its offset, of which `Near` holds.
 record Out (Near : ℕ → Type 0) (m : CompressionTable) (b : List ℕ) (q : ℕ) (s : Labels × ℕ) : Type 0 where
-  spelled : Labelled m b q s.1 s.0
+  compressed : Labelled m b q s.1 s.0
   short : name_size s.0 ≤ max_size
   near : Near s.1
 
 -- Each suffix that is written out is encoded at its offset.
-all_out : {rule : Rule} {m : CompressionTable} {p entry_count : ℕ} {name : Labels} {text : List ℕ} {ss : List (Labels × ℕ)} (b : List ℕ) (q : ℕ) → SpellsAs rule m p entry_count name text ss → IsName name → IsWithin m p
+all_out : {rule : Rule} {m : CompressionTable} {p entry_count : ℕ} {name : Labels} {text : List ℕ} {ss : List (Labels × ℕ)} (b : List ℕ) (q : ℕ) → CompressesAs rule m p entry_count name text ss → IsName name → IsWithin m p
     → At b p text → q ≡ p + length text → Each (Out (NearFor rule) m b q) ss
 all_out b q at_root is ends h e = tt
 all_out b q (at_entry g) is ends h e = tt
@@ -189,7 +189,7 @@ all_out {rule = rule} {m = m} b q (at_kept {p = p} {entry_count = entry_count} {
     let ends' : IsWithin m (p + 1 + length first) = later m p (p + 1 + length first) (omega arith) ends in
     let after = after_label first text h in
     let end : q ≡ p + 1 + length first + length text = omega arith in
-    (record { spelled = (tail.0, label_part first text h, spelled_by b q s tail.1 ends' after end); short = is.short; near = near_for rule p entry_count k }, all_out b q s tail.1 ends' after end)
+    (record { compressed = (tail.0, label_part first text h, compressed_by b q s tail.1 ends' after end); short = is.short; near = near_for rule p entry_count k }, all_out b q s tail.1 ends' after end)
 all_out b q (at_far g k) is ends h e = tt
 
 near_tested : (m : CompressionTable) (b : List ℕ) (q : ℕ) (ss : List (Labels × ℕ)) → list_all (λ s. nat_lt s.1 16384) ss ≡ true
@@ -197,7 +197,7 @@ near_tested : (m : CompressionTable) (b : List ℕ) (q : ℕ) (ss : List (Labels
 near_tested m b q [] t h = tt
 near_tested m b q (s ∷ ss) t h =
     let both = and_parts (nat_lt s.1 16384) (list_all (λ (s : Labels × ℕ). nat_lt s.1 16384) ss) t in
-    (record { spelled = h.0.spelled; short = h.0.short; near = let small = both.0 in grind (arith, common_steps) }, near_tested m b q ss both.1 h.1)
+    (record { compressed = h.0.compressed; short = h.0.short; near = let small = both.0 in grind (arith, common_steps) }, near_tested m b q ss both.1 h.1)
 
 near_chosen : (m : CompressionTable) (b : List ℕ) (q : ℕ) (ss : List (Labels × ℕ)) (test : Bool) → list_all (λ s. nat_lt s.1 16384) ss ≡ test
     → Each (Out (NearFor Hash) m b q) ss → Each (Out IsNear m b q) (cond test ss [])
@@ -231,33 +231,33 @@ found m (s ∷ ss) q P k x all e =
 
 -- Each name in a sound table ends within the content.
 pub ends_within_content : {m : CompressionTable} {b : List ℕ} → IsTableOf b m → IsWithin m (length b)
-ends_within_content r s x e = (spelled_long (kept_spelled s x (r.each s x e))).1
+ends_within_content r s x e = (compressed_long (kept_compressed s x (r.each s x e))).1
 
 -- The entry of a suffix that was written out within pointer range is sound.
 new_kept : (m n : CompressionTable) (b : List ℕ) (s : Labels) (x : TableEntry) → ((s : Labels) (x : TableEntry) → get m s ≡ Some x → get n s ≡ Some x)
     → Out IsNear m b x.end (s, x.offset) → IsTableEntry b n s x
 new_kept m n b s x g h =
-    kept_moved m n b b s x (λ p xs l fits h. h) (λ t y e less. g t y e) (record { near = h.near; short = h.short; spelled = h.spelled })
+    kept_moved m n b b s x (λ p xs l fits h. h) (λ t y e less. g t y e) (record { near = h.near; short = h.short; compressed = h.compressed })
 
 -- Octets after a content encode a name, and the table after them is sound.
 pub record EncodesName (b : List ℕ) (name : Labels) (text : List ℕ) (n : CompressionTable) : Type 0 where
-  pub spelled : Spelled n (b ++ text) (length b + length text) (length b) name
+  pub compressed : Compressed n (b ++ text) (length b + length text) (length b) name
   pub is_table : IsTableOf (b ++ text) n
 
 by_rule : (rule : Rule) (m n : CompressionTable) (b : List ℕ) (name : Labels) (entry_count : ℕ) → IsName name → IsTableOf b m
-    → n ≡ add_suffixes m (kept rule (spell rule m (length b) entry_count name).1) (length b + length (spell rule m (length b) entry_count name).0)
+    → n ≡ add_suffixes m (kept rule (compress rule m (length b) entry_count name).1) (length b + length (compress rule m (length b) entry_count name).0)
     → ((s : Labels) (x : TableEntry) → get m s ≡ Some x → get n s ≡ Some x)
-    → EncodesName b name (spell rule m (length b) entry_count name).0 n
+    → EncodesName b name (compress rule m (length b) entry_count name).0 n
 by_rule rule m n b name entry_count l r is g =
     let w = length b in
-    let written = spell rule m w entry_count name in
+    let written = compress rule m w entry_count name in
     let text = written.0 in
     let q = w + length text in
     let h = at_end b text in
     let within = ends_within_content r in
-    let all = near_kept rule m (b ++ text) q written.1 (all_out (b ++ text) q (spells_as rule m w entry_count name) l within h refl) in
+    let all = near_kept rule m (b ++ text) q written.1 (all_out (b ++ text) q (compresses_as rule m w entry_count name) l within h refl) in
     record {
-      spelled = moved m n (b ++ text) (b ++ text) 0 q (λ p xs low fits h. h) (λ t x e less. g t x e) (omega arith) (spelled_by (b ++ text) q (spells_as rule m w entry_count name) l within h refl);
+      compressed = moved m n (b ++ text) (b ++ text) 0 q (λ p xs low fits h. h) (λ t x e less. g t x e) (omega arith) (compressed_by (b ++ text) q (compresses_as rule m w entry_count name) l within h refl);
       is_table = record {
         each = λ s x e.
             elim (found m (kept rule written.1) q (Out IsNear m (b ++ text) q) s x all (ap (λ (n : CompressionTable). get n s) (sym is) ∙ e)) [
@@ -272,7 +272,7 @@ pub encodes_compressed_name : (rule : Rule) (m : CompressionTable) (b : List ℕ
     → EncodesName b name (encode_name rule name m (length b)).octets (encode_name rule name m (length b)).table
 unfolding encode_name
 encodes_compressed_name Plain m b name is r = record {
-  spelled = spelled_full m (b ++ uncompressed name) (length b + length (uncompressed name)) (length b) name is (at_end b (uncompressed name)) refl;
+  compressed = compressed_full m (b ++ uncompressed name) (length b + length (uncompressed name)) (length b) name is (at_end b (uncompressed name)) refl;
   is_table = record { each = λ s x e. kept_more m (uncompressed name) s x (λ s x e. e) (r.each s x e) };
 }
 encodes_compressed_name Static m b name is r = by_rule Static m _ b name (len m) is r refl (gets ((encode_name_grows Static name).grows m (length b)))

@@ -12,11 +12,11 @@ use Rattle.dns_name.specs.Names.{Labels, IsName}
 use Rattle.dns_name.specs.Parsers.{number_at}
 use Rattle.dns_wire.specs.Encoders.{Rule, Encoder, IsGrowing, encode_octets, both, encode_name, CompressionTable, with_length, TableEntry, cut, ends_within}
 use Rattle.dns_wire.specs.Parts.{Part, Octets, CompressibleName, PartsAt, AreParts, encode_parts}
-use Rattle.dns_wire.specs.Targets.{At, Spelled, Written, IsTarget, append, cut_to, Fits, Passes, ComposeReturns, Composes}
+use Rattle.dns_wire.specs.Targets.{At, Compressed, Written, IsTarget, append, cut_to, Fits, Passes, ComposeReturns, Composes}
 use Rattle.dns_wire.specs.TargetLaws.{CutUndoes, AppendsCompose, ComposesBoth, ComposesFirst}
 use Rattle.dns_wire.proofs.theory.CompressionTables.{cut-extends, cut-within, gets, get-cut, same_table}
 use Rattle.dns_wire.proofs.theory.EncodedNames.{encode_name_grows, encode_octets_grows, both_grows, with_length_grows, ends_within_content, encodes_compressed_name}
-use Rattle.dns_wire.proofs.theory.SpelledNames.{at_append, at_end, spelled_long, spelled_more, kept_more, name_at_up_to, walked_within}
+use Rattle.dns_wire.proofs.theory.CompressedNames.{at_append, at_end, compressed_long, compressed_more, kept_more, name_at_up_to, walked_within}
 
 -- Targets with the same octets and the same table are the same.
 pub same_written : (t u : Written) → t.octets ≡ u.octets → t.table ≡ u.table → t ≡ u
@@ -84,11 +84,11 @@ encodes_octets xs = record {
 
 -- The name is encoded between the offsets.
 abbrev pub HasName : Labels → Written → ℕ → ℕ → Type 0
-HasName name t p q = Spelled t.table t.octets q p name
+HasName name t p q = Compressed t.table t.octets q p name
 
 -- Encoded names are stable.
 pub stable_name : (name : Labels) → IsStable (HasName name)
-stable_name name = record { stays = λ encoder t p q grows h. spelled_more _ _ (gets (grows.grows t.table (length t.octets))) h }
+stable_name name = record { stays = λ encoder t p q grows h. compressed_more _ _ (gets (grows.grows t.table (length t.octets))) h }
 
 -- A name is encoded where it was written.
 pub encodes_name : (rule : Rule) (name : Labels) → IsName name → Encodes (encode_name rule name) (HasName name)
@@ -98,7 +98,7 @@ encodes_name rule name is = record {
   encodes = λ t h.
       let encoded = encode_name rule name t.table (length t.octets) in
       let e : length t.octets + length encoded.octets ≡ length (t.octets ++ encoded.octets) = sym (length-append t.octets encoded.octets) in
-      subst (λ q. Spelled encoded.table (t.octets ++ encoded.octets) q (length t.octets) name) e (encodes_compressed_name rule t.table t.octets name is h).spelled;
+      subst (λ q. Compressed encoded.table (t.octets ++ encoded.octets) q (length t.octets) name) e (encodes_compressed_name rule t.table t.octets name is h).compressed;
 }
 
 -- The parts are encoded between the offsets, in order.
@@ -132,13 +132,13 @@ encodes_parts rule (CompressibleName name ∷ parts) is =
 pub parts_rise : (parts : List Part) (t : Written) (p q : ℕ) → HasParts parts t p q → p ≤ q
 parts_rise [] t p q h = omega arith
 parts_rise (Octets xs ∷ parts) t p q h = let r = parts_rise parts t h.0 q h.2 in let e = h.1.1 in omega arith
-parts_rise (CompressibleName name ∷ parts) t p q h = let r = parts_rise parts t h.0 q h.2 in let w = spelled_long h.1 in omega arith
+parts_rise (CompressibleName name ∷ parts) t p q h = let r = parts_rise parts t h.0 q h.2 in let w = compressed_long h.1 in omega arith
 
 -- Parts end within the content.
 pub parts_within : (parts : List Part) (t : Written) (p q : ℕ) → p ≤ length t.octets → HasParts parts t p q → q ≤ length t.octets
 parts_within [] t p q l h = omega arith
 parts_within (Octets xs ∷ parts) t p q l h = let w = h.1.0.within in let e = h.1.1 in parts_within parts t h.0 q (omega arith) h.2
-parts_within (CompressibleName name ∷ parts) t p q l h = let w = spelled_long h.1 in parts_within parts t h.0 q w.1 h.2
+parts_within (CompressibleName name ∷ parts) t p q l h = let w = compressed_long h.1 in parts_within parts t h.0 q w.1 h.2
 
 -- Parts encoded in a target satisfy `PartsAt`.
 pub parts_at : (parts : List Part) (t : Written) (p q : ℕ) → AreParts parts → IsTarget t → HasParts parts t p q → PartsAt t.octets q p parts

@@ -5,30 +5,30 @@ use Rattle.dns_wire.specs.Encoders.{CompressionTable, Rule, Plain, Static, Tree,
 use Rattle.dns_wire.specs.Parts.{Part, Octets, CompressibleName, encode_part, encode_parts, part_size, parts_size}
 use Rattle.dns_wire.specs.TargetLaws.{NamesAreShort}
 use Rattle.dns_name.proofs.theory.LabelsLemmas.{length-uncompressed}
-use Rattle.dns_wire.proofs.theory.EncodedNames.{SpellsAs, spells_as}
-use Rattle.dns_wire.proofs.theory.EncodedNames.SpellsAs.{at_root, at_entry, at_kept, at_far}
+use Rattle.dns_wire.proofs.theory.EncodedNames.{CompressesAs, compresses_as}
+use Rattle.dns_wire.proofs.theory.EncodedNames.CompressesAs.{at_root, at_entry, at_kept, at_far}
 
 -- A written name takes at most as many octets as it does uncompressed: a pointer takes two, and a length octet and the root's zero octet take as many.
-spell_short : {rule : Rule} {m : CompressionTable} {p entry_count : ℕ} {name : Labels} {text : List ℕ} {ss : List (Labels × ℕ)} → SpellsAs rule m p entry_count name text ss → length text ≤ length (uncompressed name)
-spell_short at_root = omega arith
-spell_short (at_entry {first = first} {rest = rest} e) =
+compress_short : {rule : Rule} {m : CompressionTable} {p entry_count : ℕ} {name : Labels} {text : List ℕ} {ss : List (Labels × ℕ)} → CompressesAs rule m p entry_count name text ss → length text ≤ length (uncompressed name)
+compress_short at_root = omega arith
+compress_short (at_entry {first = first} {rest = rest} e) =
     let size = length-uncompressed rest in
     let both = length-append first (uncompressed rest) in
     omega arith
-spell_short (at_kept {first = first} {rest = rest} {text = text} e k s) =
+compress_short (at_kept {first = first} {rest = rest} {text = text} e k s) =
     let written = length-append first text in
     let whole = length-append first (uncompressed rest) in
-    let less = spell_short s in
+    let less = compress_short s in
     omega arith
-spell_short (at_far e k) = omega arith
+compress_short (at_far e k) = omega arith
 
 -- This holds under each rule.
 pub names_are_short : NamesAreShort
 unfolding encode_name
 names_are_short Plain name m w = omega arith
-names_are_short Static name m w = spell_short (spells_as Static m w _ name)
-names_are_short Tree name m w = spell_short (spells_as Tree m w _ name)
-names_are_short Hash name m w = spell_short (spells_as Hash m w _ name)
+names_are_short Static name m w = compress_short (compresses_as Static m w _ name)
+names_are_short Tree name m w = compress_short (compresses_as Tree m w _ name)
+names_are_short Hash name m w = compress_short (compresses_as Hash m w _ name)
 
 part_short : (rule : Rule) (part : Part) (m : CompressionTable) (w : ℕ) → length (encode_part rule part m w).octets ≤ part_size part
 part_short rule (Octets octets) m w = omega arith

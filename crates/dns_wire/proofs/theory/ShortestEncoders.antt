@@ -4,17 +4,17 @@ use Rattle.std.specs.Prelude.{Some, None}
 use Rattle.std.specs.Int.{to_be_bytes, w16}
 use Rattle.std.specs.FinMap.{get, len, get-empty}
 use Rattle.dns_name.specs.Names.{Labels, IsName, name_size, max_size, Walked}
-use Rattle.dns_wire.specs.Encoders.{CompressionTable, TableEntry, nothing, suffix_cmp, add_suffixes, Rule, Plain, Static, Tree, Hash, Encoder, Encoded, encode_octets, both, with_length, spell, kept, encode_name}
+use Rattle.dns_wire.specs.Encoders.{CompressionTable, TableEntry, nothing, suffix_cmp, add_suffixes, Rule, Plain, Static, Tree, Hash, Encoder, Encoded, encode_octets, both, with_length, compress, kept, encode_name}
 use Rattle.dns_wire.specs.Parts.{Part, Octets, CompressibleName, AreParts, encode_parts, PartsNear}
 use Rattle.dns_wire.specs.Targets.{At, IsTableOf, Written, IsTarget, append}
-use Rattle.dns_wire.specs.Spelling.{IsShared, Spelling, SharesAll, AddsShortest, PartsAreShortest}
-use Rattle.dns_wire.specs.Spelling.Spelling.{none, octets, whole, shared}
+use Rattle.dns_wire.specs.Compression.{IsShared, Compression, SharesAll, AddsShortest, PartsAreShortest}
+use Rattle.dns_wire.specs.Compression.Compression.{none, octets, whole, shared}
 use Rattle.dns_wire.proofs.theory.TargetTheorems.{near_end}
-use Rattle.dns_wire.proofs.theory.EncodedNames.{encode_name_grows, spells_as}
+use Rattle.dns_wire.proofs.theory.EncodedNames.{encode_name_grows, compresses_as}
 use Rattle.dns_wire.proofs.theory.EncoderLaws.{length_of, append-with_length, append-both, encodes_name, encodes_octets}
 use Rattle.dns_wire.proofs.theory.CompressionTables.{gets, nothing_is_kept}
-use Rattle.dns_wire.proofs.theory.SpelledNames.{at_append, at_end, spelled_walked, spelled_more, kept_more}
-use Rattle.dns_wire.proofs.SharedSuffixes.{Knows, Best, KeepsNear, tree_keeps_near, static_keeps_near, hash_keeps_near, best, knows_more, near_kept, near_suffixes, few_less, shared_some, len_spell, len_add_suffixes}
+use Rattle.dns_wire.proofs.theory.CompressedNames.{at_append, at_end, compressed_ends, compressed_more, kept_more}
+use Rattle.dns_wire.proofs.SharedSuffixes.{Knows, Best, KeepsNear, tree_keeps_near, static_keeps_near, hash_keeps_near, best, knows_more, near_kept, near_suffixes, few_less, shared_some, len_compress, len_add_suffixes}
 use Rattle.dns_name.proofs.theory.Steps.{name_size-append}
 
 -- The names among these parts, before other names.
@@ -34,8 +34,8 @@ pub record Short (names : List Labels) (parts rest : List Part) (b : List ℕ) (
   pub knows : Knows m (added parts names)
   pub near : PartsNear b end q rest
   pub rises : p ≤ q
-  pub attains : (n : ℕ) → Spelling (added parts names) rest n → Spelling names (parts ++ rest) (q - p + n)
-  pub least : (n : ℕ) → Spelling names (parts ++ rest) n → (k : ℕ) × Spelling (added parts names) rest k × (q + k ≤ p + n)
+  pub attains : (n : ℕ) → Compression (added parts names) rest n → Compression names (parts ++ rest) (q - p + n)
+  pub least : (n : ℕ) → Compression names (parts ++ rest) n → (k : ℕ) × Compression (added parts names) rest k × (q + k ≤ p + n)
 
 -- Parts are added to a target. They are as short as possible if the table had exactly the suffixes of earlier names, and every label is within pointer range, those of the following parts included.
 pub record AddsShort (rule : Rule) (parts : List Part) (t u : Written) : Type 0 where
@@ -50,7 +50,7 @@ abbrev pub Shortens : Rule → Encoder → List Part → Type 0
 Shortens rule encoder parts = (t : Written) → AddsShort rule parts t (append encoder t)
 
 -- Octets are written in one way.
-octets_parts : {names : List Labels} {xs : List ℕ} {parts : List Part} {n : ℕ} → Spelling names (Octets xs ∷ parts) n → (k : ℕ) × Spelling names parts k × (n ≡ length xs + k)
+octets_parts : {names : List Labels} {xs : List ℕ} {parts : List Part} {n : ℕ} → Compression names (Octets xs ∷ parts) n → (k : ℕ) × Compression names parts k × (n ≡ length xs + k)
 octets_parts (octets {n = k} s) = (k, s, refl)
 
 -- An empty encoding adds no parts.
@@ -64,7 +64,7 @@ shortens_none rule t = record {
         knows = knows;
         near = subst (λ q. PartsNear ((t.octets ++ []) ++ c) end q rest) (sym e) near;
         rises = omega arith;
-        attains = λ n s. subst (λ k. Spelling names rest k) (omega arith) s;
+        attains = λ n s. subst (λ k. Compression names rest k) (omega arith) s;
         least = λ n s. (n, s, omega arith);
       };
 }
@@ -80,7 +80,7 @@ shortens_octets rule xs ys same t = record {
         knows = knows;
         near = subst (λ q. PartsNear ((t.octets ++ xs) ++ c) end q rest) (sym e) near;
         rises = omega arith;
-        attains = λ n s. let o : Spelling names (Octets ys ∷ rest) (length ys + n) = octets s in subst (λ k. Spelling names (Octets ys ∷ rest) k) (omega arith) o;
+        attains = λ n s. let o : Compression names (Octets ys ∷ rest) (length ys + n) = octets s in subst (λ k. Compression names (Octets ys ∷ rest) k) (omega arith) o;
         least = λ n s. let o = octets_parts s in (o.0, o.1, omega (arith, o.2));
       };
 }
@@ -93,21 +93,21 @@ size_some (l ∷ a) h = omega arith
 -- The two ways to write a name before other parts, and the octets that each takes.
 abbrev AtName : List Labels → Labels → List Part → ℕ → Type 0
 AtName names name parts n =
-    ((k : ℕ) × Spelling (name ∷ names) parts k × (n ≡ name_size name + 1 + k))
-    ⊎ ((first : Labels) × (rest : Labels) × (name ≡ first ++ rest) × IsShared names rest × ((k : ℕ) × Spelling (name ∷ names) parts k × (n ≡ name_size first + 2 + k)))
+    ((k : ℕ) × Compression (name ∷ names) parts k × (n ≡ name_size name + 1 + k))
+    ⊎ ((first : Labels) × (rest : Labels) × (name ≡ first ++ rest) × IsShared names rest × ((k : ℕ) × Compression (name ∷ names) parts k × (n ≡ name_size first + 2 + k)))
 
 -- A name before other parts is written in one of these ways.
-name_parts : {names : List Labels} {name : Labels} {parts : List Part} {n : ℕ} → Spelling names (CompressibleName name ∷ parts) n → AtName names name parts n
+name_parts : {names : List Labels} {name : Labels} {parts : List Part} {n : ℕ} → Compression names (CompressibleName name ∷ parts) n → AtName names name parts n
 name_parts (whole {n = k} s) = inl (k, s, refl)
 name_parts (shared {n = k} first rest e h s) = inr (first, rest, e, h, (k, s, refl))
 
 -- A shortest name is written in one of these ways.
-attains_name : (names : List Labels) (name : Labels) (rest : List Part) (l n : ℕ) → Best names name l → Spelling (name ∷ names) rest n → Spelling names (CompressibleName name ∷ rest) (l + n)
-attains_name names name rest l n (inl a) s = subst (λ k. Spelling names (CompressibleName name ∷ rest) (k + n)) (sym a.0) (whole s)
-attains_name names name rest l n (inr a) s = subst (λ k. Spelling names (CompressibleName name ∷ rest) (k + n)) (sym a.4) (shared a.0 a.1 a.2 a.3 s)
+attains_name : (names : List Labels) (name : Labels) (rest : List Part) (l n : ℕ) → Best names name l → Compression (name ∷ names) rest n → Compression names (CompressibleName name ∷ rest) (l + n)
+attains_name names name rest l n (inl a) s = subst (λ k. Compression names (CompressibleName name ∷ rest) (k + n)) (sym a.0) (whole s)
+attains_name names name rest l n (inr a) s = subst (λ k. Compression names (CompressibleName name ∷ rest) (k + n)) (sym a.4) (shared a.0 a.1 a.2 a.3 s)
 
 -- No way is shorter.
-least_name : (names : List Labels) (name : Labels) (rest : List Part) (l n : ℕ) → Best names name l → AtName names name rest n → (k : ℕ) × Spelling (name ∷ names) rest k × (l + k ≤ n)
+least_name : (names : List Labels) (name : Labels) (rest : List Part) (l n : ℕ) → Best names name l → AtName names name rest n → (k : ℕ) × Compression (name ∷ names) rest k × (l + k ≤ n)
 least_name names name rest l n (inl a) (inl b) = (b.0, b.1, omega (arith, a.0, b.2))
 least_name names name rest l n (inl a) (inr b) = absurd (a.1 b.0 b.1 b.2 b.3)
 least_name names name rest l n (inr a) (inl b) =
@@ -116,67 +116,67 @@ least_name names name rest l n (inr a) (inl b) =
     (b.0, b.1, omega (arith, a.4, b.2))
 least_name names name rest l n (inr a) (inr b) = let m = a.5 b.0 b.1 b.2 b.3 in (b.4.0, b.4.1, omega (arith, a.4, b.4.2))
 
--- A rule that writes names as `spell` does, and by which each suffix within pointer range enters the table while `SharesAll` holds.
-pub record Spells (rule : Rule) : Type 0 where
+-- A rule that writes names as `compress` does, and by which each suffix within pointer range enters the table while `SharesAll` holds.
+pub record CompressesShortest (rule : Rule) : Type 0 where
   pub near : KeepsNear rule
-  pub few : (name : Labels) (m : CompressionTable) (w : ℕ) → SharesAll rule (len (encode_name rule name m w).table) → SharesAll rule (len m + length (spell rule m w (len m) name).1)
-  pub writes : (name : Labels) (m : CompressionTable) (w : ℕ) → let spelled = spell rule m w (len m) name in encode_name rule name m w ≡ record { octets = spelled.0; table = add_suffixes m (kept rule spelled.1) (w + length spelled.0) }
+  pub few : (name : Labels) (m : CompressionTable) (w : ℕ) → SharesAll rule (len (encode_name rule name m w).table) → SharesAll rule (len m + length (compress rule m w (len m) name).1)
+  pub writes : (name : Labels) (m : CompressionTable) (w : ℕ) → let compressed = compress rule m w (len m) name in encode_name rule name m w ≡ record { octets = compressed.0; table = add_suffixes m (kept rule compressed.1) (w + length compressed.0) }
 
 -- The tree rule is one.
-spells_tree : Spells Tree
+compresses_tree : CompressesShortest Tree
 unfolding encode_name
-spells_tree = record { near = tree_keeps_near; few = λ name m w h. tt; writes = λ name m w. refl }
+compresses_tree = record { near = tree_keeps_near; few = λ name m w h. tt; writes = λ name m w. refl }
 
 -- The static rule is one.
-spells_static : Spells Static
+compresses_static : CompressesShortest Static
 unfolding encode_name
-spells_static = record {
+compresses_static = record {
   near = static_keeps_near;
-  few = λ name m w h. let spelled = spell Static m w (len m) name in let e = len_spell (w + length spelled.0) (spells_as Static m w (len m) name) in omega arith;
+  few = λ name m w h. let compressed = compress Static m w (len m) name in let e = len_compress (w + length compressed.0) (compresses_as Static m w (len m) name) in omega arith;
   writes = λ name m w. refl;
 }
 
 -- The hash rule is one.
-spells_hash : Spells Hash
+compresses_hash : CompressesShortest Hash
 unfolding encode_name
-spells_hash = record { near = hash_keeps_near; few = λ name m w h. tt; writes = λ name m w. refl }
+compresses_hash = record { near = hash_keeps_near; few = λ name m w h. tt; writes = λ name m w. refl }
 
 -- Every rule with `SharesAll` is one.
-pub spells : (rule : Rule) (n : ℕ) → SharesAll rule n → Spells rule
-spells Plain n few = absurd few
-spells Static n few = spells_static
-spells Tree n few = spells_tree
-spells Hash n few = spells_hash
+pub compresses_shortest : (rule : Rule) (n : ℕ) → SharesAll rule n → CompressesShortest rule
+compresses_shortest Plain n few = absurd few
+compresses_shortest Static n few = compresses_static
+compresses_shortest Tree n few = compresses_tree
+compresses_shortest Hash n few = compresses_hash
 
--- A name written with the octets and the suffixes that `spell` gives is as short as possible.
+-- A name written with the octets and the suffixes that `compress` gives is as short as possible.
 name_short : (rule : Rule) (name : Labels) (t : Written) (encoded : Encoded) (c : List ℕ) (names : List Labels) (rest : List Part) (end : ℕ) → KeepsNear rule → IsName name → Knows t.table names
-    → let spelled = spell rule t.table (length t.octets) (len t.table) name in encoded ≡ record { octets = spelled.0; table = add_suffixes t.table (kept rule spelled.1) (length t.octets + length spelled.0) }
+    → let compressed = compress rule t.table (length t.octets) (len t.table) name in encoded ≡ record { octets = compressed.0; table = add_suffixes t.table (kept rule compressed.1) (length t.octets + length compressed.0) }
     → ((s : Labels) (x : TableEntry) → get t.table s ≡ Some x → get encoded.table s ≡ Some x)
     → Walked ((t.octets ++ encoded.octets) ++ c) (length t.octets) (length (t.octets ++ encoded.octets))
     → PartsNear ((t.octets ++ encoded.octets) ++ c) end (length t.octets) (CompressibleName name ∷ rest)
-    → SharesAll rule (len t.table + length (spell rule t.table (length t.octets) (len t.table) name).1)
+    → SharesAll rule (len t.table + length (compress rule t.table (length t.octets) (len t.table) name).1)
     → Short names (CompressibleName name ∷ []) rest ((t.octets ++ encoded.octets) ++ c) (length t.octets) (length (t.octets ++ encoded.octets)) end encoded.table
 name_short rule name t encoded c names rest end r is knows e g walked near few =
     let m = t.table in
     let w = length t.octets in
-    let spelled = spell rule m w (len m) name in
+    let compressed = compress rule m w (len m) name in
     let b = (t.octets ++ encoded.octets) ++ c in
-    let text : encoded.octets ≡ spelled.0 = ap (λ (x : Encoded). x.octets) e in
+    let text : encoded.octets ≡ compressed.0 = ap (λ (x : Encoded). x.octets) e in
     let at = subst (λ (xs : List ℕ). At b w xs) text (at_append c (at_end t.octets encoded.octets)) in
-    let all = near_kept r b near.0 (spells_as rule m w (len m) name) is near.1 at few in
-    let chosen = near_suffixes b near.0 (spells_as rule m w (len m) name) is near.1 at in
-    let q = w + length spelled.0 in
-    let table : encoded.table ≡ add_suffixes m spelled.1 q = ap (λ (x : Encoded). x.table) e ∙ ap (λ (ss : List (Labels × ℕ)). add_suffixes m ss q) (r.chosen spelled.1 chosen) in
-    let shortest : Best names name (length spelled.0) = best names knows (spells_as rule m w (len m) name) all in
-    let long : length (t.octets ++ encoded.octets) ≡ w + length spelled.0 = length-append t.octets encoded.octets ∙ ap (λ (xs : List ℕ). w + length xs) text in
+    let all = near_kept r b near.0 (compresses_as rule m w (len m) name) is near.1 at few in
+    let chosen = near_suffixes b near.0 (compresses_as rule m w (len m) name) is near.1 at in
+    let q = w + length compressed.0 in
+    let table : encoded.table ≡ add_suffixes m compressed.1 q = ap (λ (x : Encoded). x.table) e ∙ ap (λ (ss : List (Labels × ℕ)). add_suffixes m ss q) (r.chosen compressed.1 chosen) in
+    let shortest : Best names name (length compressed.0) = best names knows (compresses_as rule m w (len m) name) all in
+    let long : length (t.octets ++ encoded.octets) ≡ w + length compressed.0 = length-append t.octets encoded.octets ∙ ap (λ (xs : List ℕ). w + length xs) text in
     record {
       knows = knows_more rule m encoded.table names w (len m) q name knows all table g;
       near = subst (λ k. PartsNear b end k rest) (near_end walked near.1) near.2;
       rises = omega arith;
       attains = λ n s.
-          let k : length spelled.0 + n ≡ length (t.octets ++ encoded.octets) - w + n = omega arith in
-          subst (λ k. Spelling names (CompressibleName name ∷ rest) k) k (attains_name names name rest (length spelled.0) n shortest s);
-      least = λ n s. let l = least_name names name rest (length spelled.0) n shortest (name_parts s) in (l.0, l.1, omega (arith, l.2));
+          let k : length compressed.0 + n ≡ length (t.octets ++ encoded.octets) - w + n = omega arith in
+          subst (λ k. Compression names (CompressibleName name ∷ rest) k) k (attains_name names name rest (length compressed.0) n shortest s);
+      least = λ n s. let l = least_name names name rest (length compressed.0) n shortest (name_parts s) in (l.0, l.1, omega (arith, l.2));
     }
 
 -- A sound table is sound for more octets.
@@ -184,20 +184,20 @@ is_table_more : (m : CompressionTable) (b c : List ℕ) → IsTableOf b m → Is
 is_table_more m b c r = record { each = λ s x e. kept_more m c s x (λ s x e. e) (r.each s x e) }
 
 -- The encoding of a name is as short as possible.
-pub shortens_name : (rule : Rule) (name : Labels) → Spells rule → IsName name → Shortens rule (encode_name rule name) (CompressibleName name ∷ [])
+pub shortens_name : (rule : Rule) (name : Labels) → CompressesShortest rule → IsName name → Shortens rule (encode_name rule name) (CompressibleName name ∷ [])
 shortens_name rule name r is t =
     let w = length t.octets in
     let encoded = encode_name rule name t.table w in
-    let spelled = spell rule t.table w (len t.table) name in
+    let compressed = compress rule t.table w (len t.table) name in
     let p = encodes_name rule name is in
     record {
-      longer = subst (λ (x : Encoded). len t.table ≤ len x.table) (sym (r.writes name t.table w)) (len_add_suffixes t.table (kept rule spelled.1) (w + length spelled.0));
+      longer = subst (λ (x : Encoded). len t.table ≤ len x.table) (sym (r.writes name t.table w)) (len_add_suffixes t.table (kept rule compressed.1) (w + length compressed.0));
       keeps = p.keeps t;
       short = λ c names rest end h knows near few.
           let after = is_table_more encoded.table (t.octets ++ encoded.octets) c (p.keeps t h) in
           let small : 0 + name_size name ≤ max_size = let k = is.short in omega arith in
           name_short rule name t encoded c names rest end r.near is knows (r.writes name t.table w) (gets ((encode_name_grows rule name).grows t.table w))
-          (spelled_walked 0 after small (spelled_more encoded.table c (λ s x e. e) (p.encodes t h))) near (r.few name t.table w few);
+          (compressed_ends 0 after small (compressed_more encoded.table c (λ s x e. e) (p.encodes t h))) near (r.few name t.table w few);
     }
 
 -- Parts and those after them are as short as possible if both are.
@@ -212,13 +212,13 @@ short_both names ps qs rest b d p q r end m n x y =
       near = y.near;
       rises = omega arith;
       attains = λ k s.
-          let s' : Spelling (added qs (added ps names)) rest k = subst (λ (l : List Labels). Spelling l rest k) (sym (added-append ps qs names)) s in
+          let s' : Compression (added qs (added ps names)) rest k = subst (λ (l : List Labels). Compression l rest k) (sym (added-append ps qs names)) s in
           let total : q - p + (r - q + k) ≡ r - p + k = omega arith in
-          subst (λ (l : List Part). Spelling names l (r - p + k)) (sym all) (subst (λ i. Spelling names (ps ++ (qs ++ rest)) i) total (x.attains (r - q + k) (y.attains k s')));
+          subst (λ (l : List Part). Compression names l (r - p + k)) (sym all) (subst (λ i. Compression names (ps ++ (qs ++ rest)) i) total (x.attains (r - q + k) (y.attains k s')));
       least = λ k s.
-          let first = x.least k (subst (λ (l : List Part). Spelling names l k) all s) in
+          let first = x.least k (subst (λ (l : List Part). Compression names l k) all s) in
           let second = y.least first.0 first.1 in
-          (second.0, subst (λ (l : List Labels). Spelling l rest second.0) (added-append ps qs names) second.1, omega (arith, first.2, second.2));
+          (second.0, subst (λ (l : List Labels). Compression l rest second.0) (added-append ps qs names) second.1, omega (arith, first.2, second.2));
     }
 
 -- Two encodings appended in turn.
@@ -247,7 +247,7 @@ pub shortens_both : (rule : Rule) (a b : Encoder) (ps qs : List Part) → Shorte
 shortens_both rule a b ps qs x y t = subst (λ (u : Written). AddsShort rule (ps ++ qs) t u) (append-both a b t) (adds_both rule a b ps qs t x y)
 
 -- The encoding of parts is as short as possible.
-pub shortens_parts : (rule : Rule) (parts : List Part) → Spells rule → AreParts parts → Shortens rule (encode_parts rule parts) parts
+pub shortens_parts : (rule : Rule) (parts : List Part) → CompressesShortest rule → AreParts parts → Shortens rule (encode_parts rule parts) parts
 unfolding encode_parts
 shortens_parts rule [] r is = shortens_none rule
 shortens_parts rule (Octets xs ∷ parts) r is = shortens_both rule (encode_octets xs) (encode_parts rule parts) (Octets xs ∷ []) parts (shortens_octets rule xs xs refl) (shortens_parts rule parts r is)
@@ -280,9 +280,9 @@ encoded_shortest rule parts t u x h knows near few =
       end - w,
       omega arith,
       record {
-        spelling = subst (λ (l : List Part). Spelling [] l (end - w)) (append-nil parts)
-            (subst (λ k. Spelling [] (parts ++ []) k) (let e : end - w + 0 ≡ end - w = omega arith in e) (s.attains 0 none));
-        least = λ n sp. let l = s.least n (subst (λ (l : List Part). Spelling [] l n) (sym (append-nil parts)) sp) in omega (arith, l.2);
+        compression = subst (λ (l : List Part). Compression [] l (end - w)) (append-nil parts)
+            (subst (λ k. Compression [] (parts ++ []) k) (let e : end - w + 0 ≡ end - w = omega arith in e) (s.attains 0 none));
+        least = λ n sp. let l = s.least n (subst (λ (l : List Part). Compression [] l n) (sym (append-nil parts)) sp) in omega (arith, l.2);
       },
     )
 
@@ -291,4 +291,4 @@ pub parts_are_shortest : PartsAreShortest
 parts_are_shortest rule b parts is few near =
     let t : Written = record { octets = b; table = nothing } in
     let u = append (encode_parts rule parts) t in
-    encoded_shortest rule parts t u (shortens_parts rule parts (spells rule (len u.table) few) is t) (nothing_is_kept b) knows_nothing near few
+    encoded_shortest rule parts t u (shortens_parts rule parts (compresses_shortest rule (len u.table) few) is t) (nothing_is_kept b) knows_nothing near few

@@ -7,12 +7,12 @@ use Rattle.dns_wire.specs.Encoders.{CompressionTable, TableEntry, IsAtOrAfter}
 use Rattle.dns_wire.specs.TargetLaws.{NameAtWithin, Agree, NamesStayWhenOverwritten, NamesAreAtOrAfter}
 use Rattle.dns_wire.specs.TargetLaws.NameAtWithin.{root, label, pointer}
 use Rattle.dns_octets.specs.Octets.{overwritten}
-use Rattle.dns_wire.specs.Targets.{Spelled, IsTableOf}
+use Rattle.dns_wire.specs.Targets.{Compressed, IsTableOf}
 use Rattle.dns_name.specs.declared.head.Head.TheVariants.{Root, Label, Pointer}
 use Rattle.dns_name.specs.Unique.{label_head}
 use Rattle.dns_name.proofs.theory.HeadLemmas.{label_there, root_there, root_begins, label_begins, same_head, root_within, pointer_within}
-use Rattle.dns_wire.proofs.theory.SpelledNames as octets_at
-use Rattle.dns_wire.proofs.theory.SpelledNames.{spelled_long, kept_spelled}
+use Rattle.dns_wire.proofs.theory.CompressedNames as octets_at
+use Rattle.dns_wire.proofs.theory.CompressedNames.{compressed_long, kept_compressed}
 
 -- An encoded name uses only octets of its content.
 pub name_at_within : {b : List ℕ} {p : ℕ} {name : Labels} → NameAt b p name → NameAtWithin b 0 (length b) p name
@@ -156,26 +156,26 @@ wider_in l (pointer low high h back x) = pointer low (omega arith) h back (wider
 
 -- A name encoded up to q uses no octet before lo, if the same holds for each entry of the table whose name ends before q.
 in_if : {m : CompressionTable} {b : List ℕ} {lo q : ℕ} → IsTableOf b m → ((s : Labels) (x : TableEntry) → get m s ≡ Some x → x.end < q → NameAtWithin b lo x.end x.offset s)
-    → {p : ℕ} {name : Labels} → lo ≤ p → name_size name ≤ max_size → Spelled m b q p name → NameAtWithin b lo q p name
-in_if r ih low short (Spelled.root h e) = root low (omega arith) (octets_at.root_at h)
-in_if {b = b} {lo = lo} {q = q} r ih low short (Spelled.label {p = p} {first = first} {rest = rest} l h x) =
-    let w = spelled_long x in
+    → {p : ℕ} {name : Labels} → lo ≤ p → name_size name ≤ max_size → Compressed m b q p name → NameAtWithin b lo q p name
+in_if r ih low short (Compressed.root h e) = root low (omega arith) (octets_at.root_at h)
+in_if {b = b} {lo = lo} {q = q} r ih low short (Compressed.label {p = p} {first = first} {rest = rest} l h x) =
+    let w = compressed_long x in
     let P : List ℕ → Type 0 = λ first. NameAtWithin b lo q p (first ∷ rest) in
     subst P (octets_at.label_octets h) (label low (omega arith) (octets_at.label_begins l h) (in_if r ih (omega arith) (omega arith) x) (omega arith))
-in_if r ih low short (Spelled.pointer {p = p} {name = name} {x = x} e before h is) =
+in_if r ih low short (Compressed.pointer {p = p} {name = name} {x = x} e before h is) =
     let k = r.each name x e in
-    let w = spelled_long (kept_spelled name x k) in
+    let w = compressed_long (kept_compressed name x k) in
     pointer low (omega arith) (octets_at.pointer_at x.offset k.near h) (omega (arith, w.0)) (wider_in (omega arith) (ih name x e (omega arith)))
 
 -- By induction on the end.
 in_below : {m : CompressionTable} {b : List ℕ} {lo : ℕ} → IsTableOf b m → IsAtOrAfter m lo → (k q p : ℕ) (name : Labels) → q < k → lo ≤ p → name_size name ≤ max_size
-    → Spelled m b q p name → NameAtWithin b lo q p name
+    → Compressed m b q p name → NameAtWithin b lo q p name
 in_below r all zero q p name h low short s = absurd (omega arith)
 in_below r all (suc k) q p name h low short s =
-    in_if r (λ t x e less. let kept = r.each t x e in in_below r all k x.end x.offset t (omega arith) (all.each t x e) kept.short (kept_spelled t x kept)) low short s
+    in_if r (λ t x e less. let kept = r.each t x e in in_below r all k x.end x.offset t (omega arith) (all.each t x e) kept.short (kept_compressed t x kept)) low short s
 
 -- If all entries of the table are at or after an offset, their suffixes use no octet before it.
 pub names_are_at_or_after : NamesAreAtOrAfter
 names_are_at_or_after b m lo s x r all e =
     let kept = r.each s x e in
-    in_below r all (x.end + 1) x.end x.offset s (omega arith) (all.each s x e) kept.short (kept_spelled s x kept)
+    in_below r all (x.end + 1) x.end x.offset s (omega arith) (all.each s x e) kept.short (kept_compressed s x kept)

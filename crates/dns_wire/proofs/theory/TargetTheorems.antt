@@ -5,13 +5,13 @@ use Rattle.dns_name.specs.Names.{Labels, head_at, NameContinues}
 use Rattle.dns_name.specs.declared.head.Head.TheVariants.{Label, Root, Pointer}
 use Rattle.dns_wire.specs.Encoders.{CompressionTable, Rule}
 use Rattle.dns_wire.specs.Parts.{encode_parts, WellPointed, Part, Octets, CompressibleName, AreParts, PartsFill, LabelsNear}
-use Rattle.dns_wire.specs.Targets.{Spelled, Labelled, IsTableOf, append, Written, IsTarget}
-use Rattle.dns_wire.specs.Targets.Spelled.{root, label, pointer}
+use Rattle.dns_wire.specs.Targets.{Compressed, Labelled, IsTableOf, append, Written, IsTarget}
+use Rattle.dns_wire.specs.Targets.Compressed.{root, label, pointer}
 use Rattle.dns_wire.specs.TargetLaws.{EntriesAreNames, NothingIsTarget, EncodersStayAtOrAfter, NamesStayAtOrAfter, NamesReadBack, PartsReadBack}
-use Rattle.dns_wire.specs.Spelling.{PartsPointToLabels, ShortPartsAreNear}
+use Rattle.dns_wire.specs.Compression.{PartsPointToLabels, ShortPartsAreNear}
 use Rattle.dns_wire.proofs.theory.CompressionTables.{at_or_after_more, nothing_is_kept}
 use Rattle.dns_wire.proofs.theory.EncodedNames.{encode_name_grows}
-use Rattle.dns_wire.proofs.theory.SpelledNames.{root_at, label_begins, pointer_at, spelled_long, kept_spelled, spelled_stands, spelled_walked, name_at_up_to}
+use Rattle.dns_wire.proofs.theory.CompressedNames.{root_at, label_begins, pointer_at, compressed_long, kept_compressed, compressed_name_at, compressed_ends, name_at_up_to}
 use Rattle.dns_wire.proofs.theory.EncoderLaws.{encodes_name, encodes_parts, parts_at, HasName, HasParts}
 
 -- A label begins where an encoded name begins with one.
@@ -20,26 +20,26 @@ begins m b q p [] h = absurd h
 begins m b q p (first ∷ rest) h = (length first, label_begins h.0 h.1)
 
 -- The pointers of an encoded name lead to earlier labels.
-pub pointed : {m : CompressionTable} {b : List ℕ} {q p : ℕ} {name : Labels} → IsTableOf b m → Spelled m b q p name → WellPointed b q p
+pub pointed : {m : CompressionTable} {b : List ℕ} {q p : ℕ} {name : Labels} → IsTableOf b m → Compressed m b q p name → WellPointed b q p
 pointed r (root h e) = WellPointed.root (root_at h) e
 pointed r (label l h x) = WellPointed.label (label_begins l h) (pointed r x)
 pointed {m = m} {b = b} r (pointer {name = name} {x = x} e before h is) =
     let k = r.each name x e in
-    let w = spelled_long (kept_spelled name x k) in
-    WellPointed.pointer (pointer_at x.offset k.near h) (omega (arith, w.0)) k.near (begins m b x.end x.offset name k.spelled).1 is
+    let w = compressed_long (kept_compressed name x k) in
+    WellPointed.pointer (pointer_at x.offset k.near h) (omega (arith, w.0)) k.near (begins m b x.end x.offset name k.compressed).1 is
 
 -- Suffixes in the table are encoded where it says.
 pub entries_are_names : EntriesAreNames
 entries_are_names b m s x r e =
     let k = r.each s x e in
-    let h = kept_spelled s x k in
-    let w = spelled_long h in
+    let h = kept_compressed s x k in
+    let w = compressed_long h in
     record {
       near = k.near;
       ordered = w.0;
       within = w.1;
-      labelled = begins m b x.end x.offset s k.spelled;
-      encoded = spelled_stands r k.short h;
+      labelled = begins m b x.end x.offset s k.compressed;
+      encoded = compressed_name_at r k.short h;
       name_at_up_to = name_at_up_to x.end r (omega arith) k.short h;
     }
 
@@ -61,7 +61,7 @@ names_read_back rule t name is h =
     let p = encodes_name rule name is in
     let u = p.keeps t h in
     let s = p.encodes t h in
-    record { encoded = spelled_stands u is.short s; walked = spelled_walked 0 u (omega (arith, is.short)) s; pointed = pointed u s }
+    record { encoded = compressed_name_at u is.short s; walked = compressed_ends 0 u (omega (arith, is.short)) s; pointed = pointed u s }
 
 -- Written parts read back.
 pub parts_read_back : PartsReadBack
@@ -99,15 +99,15 @@ parts_point_to_labels rule t parts is good =
     let keeps = (encodes_parts rule parts is).keeps t good in encode_parts_fill rule t parts is good (λ p q name h. pointed keeps h)
 
 -- In at most 16,384 octets, the labels of a name are within pointer range.
-pub spelled_near : {m : CompressionTable} {b : List ℕ} {q p : ℕ} {name : Labels} → length b ≤ 16384 → IsTableOf b m → Spelled m b q p name → LabelsNear b q p
-spelled_near l r (root h e) = LabelsNear.root (root_at h) e
-spelled_near l r (label is h x) = let w = spelled_long x in LabelsNear.label (label_begins is h) (omega (arith, w)) (spelled_near l r x)
-spelled_near l r (pointer {name = name} {x = x} e before h is) = LabelsNear.pointer (pointer_at x.offset (r.each name x e).near h) is
+pub compressed_near : {m : CompressionTable} {b : List ℕ} {q p : ℕ} {name : Labels} → length b ≤ 16384 → IsTableOf b m → Compressed m b q p name → LabelsNear b q p
+compressed_near l r (root h e) = LabelsNear.root (root_at h) e
+compressed_near l r (label is h x) = let w = compressed_long x in LabelsNear.label (label_begins is h) (omega (arith, w)) (compressed_near l r x)
+compressed_near l r (pointer {name = name} {x = x} e before h is) = LabelsNear.pointer (pointer_at x.offset (r.each name x e).near h) is
 
 -- So are those of parts.
 pub short_parts_are_near : ShortPartsAreNear
 short_parts_are_near rule t parts is good l =
-    let keeps = (encodes_parts rule parts is).keeps t good in encode_parts_fill rule t parts is good (λ p q name h. spelled_near l keeps h)
+    let keeps = (encodes_parts rule parts is).keeps t good in encode_parts_fill rule t parts is good (λ p q name h. compressed_near l keeps h)
 
 -- If labels are within pointer range, the first one is, and so are the labels after it.
 pub near_label : {b : List ℕ} {q p n : ℕ} → LabelsNear b q p → head_at b p ≡ Ok (Label n) → (p < 16384) × LabelsNear b q (p + 1 + n)

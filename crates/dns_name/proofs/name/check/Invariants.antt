@@ -1,9 +1,9 @@
 use Rattle.std.proofs.Common.{◌-◌}
-use Rattle.dns_name.proofs.theory.Spelling.{Spells}
+use Rattle.dns_name.proofs.theory.UncompressedNames.{UncompressedUpTo}
 use Rattle.dns_name.proofs.name.check.Given as goal
 
 abbrev pub invariant-walk : goal.invariant-walk
-invariant-walk l = Spells l.octets l.size
+invariant-walk l = UncompressedUpTo l.octets l.size
 
 abbrev pub decreases-walk : goal.decreases-walk
 decreases-walk l = 255 - l.size

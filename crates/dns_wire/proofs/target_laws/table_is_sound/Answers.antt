@@ -1,6 +1,6 @@
 use Rattle.dns_wire.proofs.theory.EncodedNames.{encode_name_grows, encode_octets_grows, encode_parts_grows, both_grows}
 use Rattle.dns_wire.proofs.theory.EncoderLaws.{encodes_name, encodes_octets, cut_undoes}
-use Rattle.dns_wire.proofs.theory.SpelledNames.{is_table_cut, is_table_over}
+use Rattle.dns_wire.proofs.theory.CompressedNames.{is_table_cut, is_table_over}
 use Rattle.dns_wire.proofs.theory.Stability.{names_are_at_or_after}
 use Rattle.dns_wire.proofs.theory.TargetTheorems.{entries_are_names, nothing_is_target, encoders_stay_at_or_after, names_stay_at_or_after}
 use Rattle.dns_wire.proofs.target_laws.table_is_sound.Goals as goal

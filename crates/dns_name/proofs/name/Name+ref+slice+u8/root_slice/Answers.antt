@@ -1,5 +1,5 @@
 use Rattle.std.proofs.Common.{rules}
-use Rattle.dns_name.proofs.theory.Spelling.{root_whole, whole_is_root}
+use Rattle.dns_name.proofs.theory.UncompressedNames.{root_whole, whole_is_root}
 use Rattle.dns_name.proofs.name.Name+ref+slice+u8.root_slice.Goals as goal
 
 pub invariant_of-result : goal.invariant_of-result

@@ -1,5 +1,5 @@
 use Rattle.std.proofs.Common.{arith}
-use Rattle.dns_name.proofs.theory.Spelling.{counted_none, counted_begins, counted_root, counted_label}
+use Rattle.dns_name.proofs.theory.UncompressedNames.{counted_none, counted_begins, counted_root, counted_label}
 use Rattle.dns_name.proofs.parsed_name.ParsedName.count_whole.Goals as goal
 
 pub walk-init : goal.walk-init

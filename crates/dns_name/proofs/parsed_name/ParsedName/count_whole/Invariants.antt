@@ -1,5 +1,5 @@
 use Rattle.std.proofs.Common.{length, ◌-◌}
-use Rattle.dns_name.proofs.theory.Spelling.{Counted}
+use Rattle.dns_name.proofs.theory.UncompressedNames.{Counted}
 use Rattle.dns_name.proofs.parsed_name.ParsedName.count_whole.Given as goal
 
 abbrev pub invariant-walk : goal.invariant-walk

@@ -18,19 +18,19 @@ IsShared [] suffix = ⊥
 IsShared (name ∷ names) suffix = IsSuffix suffix name ⊎ IsShared names suffix
 
 -- One way to write the parts after the `earlier` names (newest first), and its length in octets. Octets are written as they are. A name is written whole, as its labels and the zero octet, or as k ≥ 0 labels and a 2-octet pointer to a suffix of an earlier name.
-pub data Spelling : List Labels → List Part → ℕ → Type 0 where
-  none : {earlier : List Labels} → Spelling earlier [] 0
-  octets : {earlier : List Labels} {xs : List ℕ} {parts : List Part} {n : ℕ} → Spelling earlier parts n
-      → Spelling earlier (Octets xs ∷ parts) (length xs + n)
-  whole : {earlier : List Labels} {name : Labels} {parts : List Part} {n : ℕ} → Spelling (name ∷ earlier) parts n
-      → Spelling earlier (CompressibleName name ∷ parts) (name_size name + 1 + n)
+pub data Compression : List Labels → List Part → ℕ → Type 0 where
+  none : {earlier : List Labels} → Compression earlier [] 0
+  octets : {earlier : List Labels} {xs : List ℕ} {parts : List Part} {n : ℕ} → Compression earlier parts n
+      → Compression earlier (Octets xs ∷ parts) (length xs + n)
+  whole : {earlier : List Labels} {name : Labels} {parts : List Part} {n : ℕ} → Compression (name ∷ earlier) parts n
+      → Compression earlier (CompressibleName name ∷ parts) (name_size name + 1 + n)
   shared : {earlier : List Labels} {name : Labels} {parts : List Part} {n : ℕ} (first rest : Labels) → name ≡ first ++ rest → IsShared earlier rest
-      → Spelling (name ∷ earlier) parts n → Spelling earlier (CompressibleName name ∷ parts) (name_size first + 2 + n)
+      → Compression (name ∷ earlier) parts n → Compression earlier (CompressibleName name ∷ parts) (name_size first + 2 + n)
 
 -- Some compression of the parts takes n octets, and none takes fewer.
 pub record IsShortest (parts : List Part) (n : ℕ) : Type 0 where
-  pub spelling : Spelling [] parts n
-  pub least : (k : ℕ) → Spelling [] parts k → n ≤ k
+  pub compression : Compression [] parts n
+  pub least : (k : ℕ) → Compression [] parts k → n ≤ k
 
 -- How parts are written: where their pointers lead, and how short they are if the table was empty. RFC 1035 section 4.1.4.
 

@@ -93,13 +93,13 @@ pub record Rest (b : List ℕ) (at : ℕ) : Type 0 where
   pub short : at + name_size name ≤ max_size
 
 -- The progress of a test whether the octets are one whole name: labels take all octets before `at`.
-pub record Spells (b : List ℕ) (at : ℕ) : Type 0 where
+pub record UncompressedUpTo (b : List ℕ) (at : ℕ) : Type 0 where
   pub passes : Passes b 0 at at
   pub whole : (name : Labels) → NameAt b at name → at + name_size name ≤ max_size → uncompressed name ≡ drop at b → WholeName b
   pub rest : IsUncompressed b → Rest b at
 
-pub spells_none : (b : List ℕ) → Spells b 0
-spells_none b = record {
+pub up_to_none : (b : List ℕ) → UncompressedUpTo b 0
+up_to_none b = record {
   passes = passes_none b 0;
   whole = λ name s small e. ((name, s), e);
   rest = λ u. record { name = u.0; is_name = u.1; octets = u.2; short = omega (arith, u.1.short) };
@@ -119,8 +119,8 @@ rest_label b at n at' r h e = go r.name r.is_name r.octets r.short
         record { name = name; is_name = t.1; octets = subst Q offset l.after; short = omega arith }
 
 -- The test continues after a label.
-pub spells_label : (b : List ℕ) (at n at' : ℕ) → Spells b at → Begins b at at (Label n) → at' ≡ at + 1 + n → Spells b at'
-spells_label b at n at' s h e =
+pub up_to_label : (b : List ℕ) (at n at' : ℕ) → UncompressedUpTo b at → Begins b at at (Label n) → at' ≡ at + 1 + n → UncompressedUpTo b at'
+up_to_label b at n at' s h e =
     let fits : at + 1 + n ≤ length b = h.fits n refl in
     let same : length (label_at b at n) ≡ n = length_label b at n fits in
     record {
@@ -134,8 +134,8 @@ spells_label b at n at' s h e =
     }
 
 -- If the octets end with the root label, they are one whole name.
-pub spells_root : (b : List ℕ) (at : ℕ) → Spells b at → head_at b at ≡ Ok Root → length b ≡ at + 1 → WholeName b
-spells_root b at s h e =
+pub up_to_root : (b : List ℕ) (at : ℕ) → UncompressedUpTo b at → head_at b at ≡ Ok Root → length b ≡ at + 1 → WholeName b
+up_to_root b at s h e =
     let none : length (drop (at + 1) b) ≡ 0 = length-drop (at + 1) b ∙ omega arith in
     let small = s.passes.within in
     s.whole [] (NameAt.root h) (omega arith) (sym (drop_at b at 0 (root_there b at h) ∙ ap (λ (c : List ℕ). 0 ∷ c) (empty (drop (at + 1) b) none)))
@@ -145,24 +145,24 @@ spells_root b at s h e =
     empty (x ∷ xs) h = absurd (omega arith)
 
 -- If octets follow the root label, they aren't one.
-pub spells_more : (b : List ℕ) (at : ℕ) → Spells b at → head_at b at ≡ Ok Root → at + 1 < length b → IsUncompressed b → ⊥
-spells_more b at s h more u = go (s.rest u).name (s.rest u).is_name (s.rest u).octets
+pub up_to_more : (b : List ℕ) (at : ℕ) → UncompressedUpTo b at → head_at b at ≡ Ok Root → at + 1 < length b → IsUncompressed b → ⊥
+up_to_more b at s h more u = go (s.rest u).name (s.rest u).is_name (s.rest u).octets
   where
     go : (name : Labels) → IsName name → uncompressed name ≡ drop at b → ⊥
     go [] is o = let r = rooted b at o in omega (arith, r.1)
     go (label ∷ name) is o = let l = labelled b at label name (name_tail label name is).0 o in cc (l.begins, h)
 
 -- If there is a pointer, they aren't one.
-pub spells_pointer : (b : List ℕ) (at t : ℕ) → Spells b at → head_at b at ≡ Ok (Pointer t) → IsUncompressed b → ⊥
-spells_pointer b at t s h u = go (s.rest u).name (s.rest u).is_name (s.rest u).octets
+pub up_to_pointer : (b : List ℕ) (at t : ℕ) → UncompressedUpTo b at → head_at b at ≡ Ok (Pointer t) → IsUncompressed b → ⊥
+up_to_pointer b at t s h u = go (s.rest u).name (s.rest u).is_name (s.rest u).octets
   where
     go : (name : Labels) → IsName name → uncompressed name ≡ drop at b → ⊥
     go [] is o = let r = rooted b at o in cc (r.0, h)
     go (label ∷ name) is o = let l = labelled b at label name (name_tail label name is).0 o in cc (l.begins, h)
 
 -- If skipping fails, they aren't one.
-pub spells_fault : (b : List ℕ) (at : ℕ) (f : Fault) → Spells b at → SkipFaulty b at at f → IsUncompressed b → ⊥
-spells_fault b at f s h u =
+pub up_to_fault : (b : List ℕ) (at : ℕ) (f : Fault) → UncompressedUpTo b at → SkipFaulty b at at f → IsUncompressed b → ⊥
+up_to_fault b at f s h u =
     let r = s.rest u in
     not_both b (skip_fault b h) r.name (name_at_uncompressed b at r.name r.is_name r.octets) r.short
 

@@ -72,7 +72,7 @@ fn longer_lens(alloc: Global, lens: &[usize], choices: &[usize]) -> Result<Vec<u
 }
 
 /// The octets of each compression of a list of names: one choice for each name.
-fn spelling_lens(alloc: Global, names: &[&[u8]]) -> Result<Vec<usize>, AllocError> {
+fn compression_lens(alloc: Global, names: &[&[u8]]) -> Result<Vec<usize>, AllocError> {
     let mut lens = vec![in alloc; 0]?;
     for count in 0..names.len() {
         let choices = choice_lens(alloc, &names[..count], names[count])?;
@@ -99,7 +99,7 @@ fn assert_written<T: Composer>(
 /// Checks that each compressor writes the names in as many octets as their shortest compression
 /// has. Returns the number of compressions.
 fn assert_shortest(rt: &impl Abort, alloc: Global, names: &[&[u8]]) -> Result<usize, AllocError> {
-    let lens = spelling_lens(alloc, names)?;
+    let lens = compression_lens(alloc, names)?;
     let least = lens.iter().min().copied();
     assert_written(rt, StaticCompressor::new(Vec::new(alloc)), names, least);
     assert_written(
@@ -175,9 +175,9 @@ const BY_HAND: &[(&[&[u8]], &[usize])] = &[
 ];
 
 #[test]
-fn spellings_by_hand(rt: HostRuntime) -> Result<(), Fail> {
+fn compressions_by_hand(rt: HostRuntime) -> Result<(), Fail> {
     for &(names, expected) in BY_HAND {
-        let lens = spelling_lens(rt.alloc(), names)?;
+        let lens = compression_lens(rt.alloc(), names)?;
         assert_same(&rt, "spellings by hand", lens.as_slice(), expected);
     }
     Ok(())

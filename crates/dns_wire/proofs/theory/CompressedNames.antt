@@ -7,10 +7,10 @@ use Rattle.std.specs.FinMap.{get}
 use Rattle.dns_octets.specs.Octets.{overwritten}
 use Rattle.dns_name.specs.Names.{IsLabel, framed, head_at, label_at, Labels, name_size, max_size, NameAt, NameContinues, Walked}
 use Rattle.dns_name.specs.declared.head.Head.TheVariants.{Root, Label, Pointer}
-use Rattle.dns_name.proofs.theory.Spelling.{get_drop}
+use Rattle.dns_name.proofs.theory.UncompressedNames.{get_drop}
 use Rattle.dns_wire.specs.Encoders.{pointer as pointer_octets, CompressionTable, TableEntry, cut, IsClear}
-use Rattle.dns_wire.specs.Targets.{At, Spelled, Labelled, IsTableEntry, IsTableOf}
-use Rattle.dns_wire.specs.Targets.Spelled.{root, label, pointer}
+use Rattle.dns_wire.specs.Targets.{At, Compressed, Labelled, IsTableEntry, IsTableOf}
+use Rattle.dns_wire.specs.Targets.Compressed.{root, label, pointer}
 use Rattle.dns_wire.proofs.theory.CompressionTables.{get_in_cut, get_of_cut}
 use Rattle.dns_name.proofs.theory.HeadLemmas as heads
 
@@ -145,19 +145,19 @@ pub after_label : {b : List ℕ} {p : ℕ} (first later : List ℕ) → At b p (
 after_label first later h = at_offset (omega arith) (at_second (framed first) {ys = later} h)
 
 -- An encoded name takes at least one octet, and ends within the content.
-pub spelled_long : {m : CompressionTable} {b : List ℕ} {q p : ℕ} {name : Labels} → Spelled m b q p name → (p < q) × (q ≤ length b)
-spelled_long (root h e) = let w = h.within in (omega arith, omega arith)
-spelled_long (label {first = first} l h x) = let w = spelled_long x in (omega (arith, w.0), w.1)
-spelled_long (pointer g before h e) = let w = h.within in (omega arith, omega arith)
+pub compressed_long : {m : CompressionTable} {b : List ℕ} {q p : ℕ} {name : Labels} → Compressed m b q p name → (p < q) × (q ≤ length b)
+compressed_long (root h e) = let w = h.within in (omega arith, omega arith)
+compressed_long (label {first = first} l h x) = let w = compressed_long x in (omega (arith, w.0), w.1)
+compressed_long (pointer g before h e) = let w = h.within in (omega arith, omega arith)
 
 -- A name encoded between two offsets is encoded in other octets that agree there, with another table that has the entries of all names ending before the second offset.
 pub moved : (m n : CompressionTable) (b c : List ℕ) (lo q : ℕ)
     → ((p : ℕ) (xs : List ℕ) → lo ≤ p → p + length xs ≤ q → At b p xs → At c p xs)
     → ((s : Labels) (x : TableEntry) → get m s ≡ Some x → x.end < q → get n s ≡ Some x)
-    → {p : ℕ} {name : Labels} → lo ≤ p → Spelled m b q p name → Spelled n c q p name
+    → {p : ℕ} {name : Labels} → lo ≤ p → Compressed m b q p name → Compressed n c q p name
 moved m n b c lo q f g low (root {p = p} h e) = root (f p (0 ∷ []) low (omega arith) h) e
 moved m n b c lo q f g low (label {p = p} {first = first} l h x) =
-    let w = spelled_long x in
+    let w = compressed_long x in
     label l (f p (framed first) low (omega (arith, w.0)) h) (moved m n b c lo q f g (omega arith) x)
 moved m n b c lo q f g low (pointer {p = p} {name = name} {x = x} e before h is) =
     pointer (g name x e (omega arith)) before (f p (pointer_octets x.offset) low (omega arith) h) is
@@ -169,70 +169,70 @@ labelled_moved : (m n : CompressionTable) (b c : List ℕ) (lo q : ℕ)
     → (p : ℕ) (name : Labels) → lo ≤ p → Labelled m b q p name → Labelled n c q p name
 labelled_moved m n b c lo q f g p [] low h = absurd h
 labelled_moved m n b c lo q f g p (first ∷ rest) low h =
-    let w = spelled_long h.2 in
+    let w = compressed_long h.2 in
     (h.0, f p (framed first) low (omega (arith, w.0)) h.1, moved m n b c lo q f g (omega arith) h.2)
 
 -- A name that is encoded and begins with a label is encoded.
-pub labelled_spelled : {m : CompressionTable} {b : List ℕ} {q : ℕ} (p : ℕ) (name : Labels) → Labelled m b q p name → Spelled m b q p name
-labelled_spelled p [] h = absurd h
-labelled_spelled p (first ∷ rest) h = label h.0 h.1 h.2
+pub labelled_compressed : {m : CompressionTable} {b : List ℕ} {q : ℕ} (p : ℕ) (name : Labels) → Labelled m b q p name → Compressed m b q p name
+labelled_compressed p [] h = absurd h
+labelled_compressed p (first ∷ rest) h = label h.0 h.1 h.2
 
 -- A suffix with a sound entry is encoded at its offset, up to the end of its name.
-pub kept_spelled : {m : CompressionTable} {b : List ℕ} (s : Labels) (x : TableEntry) → IsTableEntry b m s x → Spelled m b x.end x.offset s
-kept_spelled s x k = labelled_spelled x.offset s k.spelled
+pub kept_compressed : {m : CompressionTable} {b : List ℕ} (s : Labels) (x : TableEntry) → IsTableEntry b m s x → Compressed m b x.end x.offset s
+kept_compressed s x k = labelled_compressed x.offset s k.compressed
 
 -- The same as `moved` for a sound entry.
 pub kept_moved : (m n : CompressionTable) (b c : List ℕ) (s : Labels) (x : TableEntry)
     → ((p : ℕ) (xs : List ℕ) → x.offset ≤ p → p + length xs ≤ x.end → At b p xs → At c p xs)
     → ((s : Labels) (y : TableEntry) → get m s ≡ Some y → y.end < x.end → get n s ≡ Some y)
     → IsTableEntry b m s x → IsTableEntry c n s x
-kept_moved m n b c s x f g k = record { near = k.near; short = k.short; spelled = labelled_moved m n b c x.offset x.end f g x.offset s (omega arith) k.spelled }
+kept_moved m n b c s x f g k = record { near = k.near; short = k.short; compressed = labelled_moved m n b c x.offset x.end f g x.offset s (omega arith) k.compressed }
 
 -- An encoded name is encoded in more octets, with a larger table.
-pub spelled_more : {m : CompressionTable} {b : List ℕ} {q p : ℕ} {name : Labels} (n : CompressionTable) (c : List ℕ)
-    → ((s : Labels) (x : TableEntry) → get m s ≡ Some x → get n s ≡ Some x) → Spelled m b q p name → Spelled n (b ++ c) q p name
-spelled_more {m = m} {b = b} {q = q} n c g s = moved m n b (b ++ c) 0 q (λ p xs low fits h. at_append c h) (λ t x e less. g t x e) (omega arith) s
+pub compressed_more : {m : CompressionTable} {b : List ℕ} {q p : ℕ} {name : Labels} (n : CompressionTable) (c : List ℕ)
+    → ((s : Labels) (x : TableEntry) → get m s ≡ Some x → get n s ≡ Some x) → Compressed m b q p name → Compressed n (b ++ c) q p name
+compressed_more {m = m} {b = b} {q = q} n c g s = moved m n b (b ++ c) 0 q (λ p xs low fits h. at_append c h) (λ t x e less. g t x e) (omega arith) s
 
 -- A sound entry is sound there.
 pub kept_more : {m : CompressionTable} {b : List ℕ} (n : CompressionTable) (c : List ℕ) (s : Labels) (x : TableEntry)
     → ((s : Labels) (x : TableEntry) → get m s ≡ Some x → get n s ≡ Some x) → IsTableEntry b m s x → IsTableEntry (b ++ c) n s x
 kept_more {m = m} {b = b} n c s x g k = kept_moved m n b (b ++ c) s x (λ p xs low fits h. at_append c h) (λ t y e less. g t y e) k
 
--- A written name (`Spelled`) is encoded in the sense of `NameAt`, if so is each entry of the table whose name ends before q.
+-- A written name (`Compressed`) is encoded in the sense of `NameAt`, if so is each entry of the table whose name ends before q.
 name_at_if : {m : CompressionTable} {b : List ℕ} {q : ℕ} → IsTableOf b m → ((s : Labels) (x : TableEntry) → get m s ≡ Some x → x.end < q → NameAt b x.offset s)
-    → {p : ℕ} {name : Labels} → name_size name ≤ max_size → Spelled m b q p name → NameAt b p name
+    → {p : ℕ} {name : Labels} → name_size name ≤ max_size → Compressed m b q p name → NameAt b p name
 name_at_if r ih short (root h e) = NameAt.root (root_at h)
 name_at_if {b = b} {q = q} r ih short (label {p = p} {first = first} {rest = rest} l h x) =
-    let w = spelled_long x in
+    let w = compressed_long x in
     let P : List ℕ → Type 0 = λ first. NameAt b p (first ∷ rest) in
     subst P (label_octets h) (NameAt.label (label_begins l h) (omega arith) (name_at_if r ih (omega arith) x) (omega arith))
 name_at_if r ih short (pointer {p = p} {name = name} {x = x} e before h is) =
     let k = r.each name x e in
-    let w = spelled_long (kept_spelled name x k) in
+    let w = compressed_long (kept_compressed name x k) in
     NameAt.pointer (pointer_at x.offset k.near h) (omega (arith, w.0)) (ih name x e (omega arith))
 
 -- By induction on the end.
-name_at_below : {m : CompressionTable} {b : List ℕ} → IsTableOf b m → (k q p : ℕ) (name : Labels) → q < k → name_size name ≤ max_size → Spelled m b q p name → NameAt b p name
+name_at_below : {m : CompressionTable} {b : List ℕ} → IsTableOf b m → (k q p : ℕ) (name : Labels) → q < k → name_size name ≤ max_size → Compressed m b q p name → NameAt b p name
 name_at_below r zero q p name h short s = absurd (omega arith)
 name_at_below r (suc k) q p name h short s =
-    name_at_if r (λ t x e less. let kept = r.each t x e in name_at_below r k x.end x.offset t (omega arith) kept.short (kept_spelled t x kept)) short s
+    name_at_if r (λ t x e less. let kept = r.each t x e in name_at_below r k x.end x.offset t (omega arith) kept.short (kept_compressed t x kept)) short s
 
 -- A written name that is short enough is encoded in the sense of `NameAt`.
-pub spelled_stands : {m : CompressionTable} {b : List ℕ} {q p : ℕ} {name : Labels} → IsTableOf b m → name_size name ≤ max_size → Spelled m b q p name → NameAt b p name
-spelled_stands {q = q} {p = p} {name = name} r short s = name_at_below r (q + 1) q p name (omega arith) short s
+pub compressed_name_at : {m : CompressionTable} {b : List ℕ} {q p : ℕ} {name : Labels} → IsTableOf b m → name_size name ≤ max_size → Compressed m b q p name → NameAt b p name
+compressed_name_at {q = q} {p = p} {name = name} r short s = name_at_below r (q + 1) q p name (omega arith) short s
 
 -- Its encoding ends at q.
-pub spelled_walked : {m : CompressionTable} {b : List ℕ} {q p : ℕ} {name : Labels} (s : ℕ) → IsTableOf b m → s + name_size name ≤ max_size → Spelled m b q p name → NameContinues b p s q
-spelled_walked {b = b} s r small (root {p = p} h e) = subst (λ q. NameContinues b p s q) (sym e) (NameContinues.root (root_at h))
-spelled_walked s r small (label {p = p} {first = first} l h x) =
-    let w = spelled_long x in
-    NameContinues.label (label_begins l h) (omega arith) (omega arith) (spelled_walked (s + length first + 1) r (omega arith) x)
-spelled_walked {b = b} s r small (pointer {p = p} {name = name} {x = x} e before h is) =
+pub compressed_ends : {m : CompressionTable} {b : List ℕ} {q p : ℕ} {name : Labels} (s : ℕ) → IsTableOf b m → s + name_size name ≤ max_size → Compressed m b q p name → NameContinues b p s q
+compressed_ends {b = b} s r small (root {p = p} h e) = subst (λ q. NameContinues b p s q) (sym e) (NameContinues.root (root_at h))
+compressed_ends s r small (label {p = p} {first = first} l h x) =
+    let w = compressed_long x in
+    NameContinues.label (label_begins l h) (omega arith) (omega arith) (compressed_ends (s + length first + 1) r (omega arith) x)
+compressed_ends {b = b} s r small (pointer {p = p} {name = name} {x = x} e before h is) =
     subst (λ q. NameContinues b p s q) (sym is) (NameContinues.pointer (pointer_at x.offset (r.each name x e).near h))
 
 -- A name that ends within the first `len` octets is encoded after truncation.
-spelled_cut : {m : CompressionTable} {b : List ℕ} {q p : ℕ} {name : Labels} (len : ℕ) → q ≤ len → Spelled m b q p name → Spelled (cut m len) (take len b) q p name
-spelled_cut {m = m} {b = b} {q = q} len l s =
+compressed_cut : {m : CompressionTable} {b : List ℕ} {q p : ℕ} {name : Labels} (len : ℕ) → q ≤ len → Compressed m b q p name → Compressed (cut m len) (take len b) q p name
+compressed_cut {m = m} {b = b} {q = q} len l s =
     moved m (cut m len) b (take len b) 0 q (λ p xs low fits h. at_take len (omega arith) h) (λ t x e less. get_in_cut m len t x e (omega arith)) (omega arith) s
 
 -- Truncating keeps the table sound.
@@ -263,10 +263,10 @@ is_table_over {m = m} {b = b} offset over clear r = record {
 
 -- A written name is encoded in the sense of `NameAt` in the octets up to any later end.
 pub name_at_up_to : {m : CompressionTable} {b : List ℕ} {q p : ℕ} {name : Labels} (end : ℕ) → IsTableOf b m → q ≤ end → name_size name ≤ max_size
-    → Spelled m b q p name → NameAt (take end b) p name
-name_at_up_to end r l short s = spelled_stands (is_table_cut end r) short (spelled_cut end l s)
+    → Compressed m b q p name → NameAt (take end b) p name
+name_at_up_to end r l short s = compressed_name_at (is_table_cut end r) short (compressed_cut end l s)
 
 -- Its encoding ends at the same offset there.
 pub walked_within : {m : CompressionTable} {b : List ℕ} {q p : ℕ} {name : Labels} (end : ℕ) → IsTableOf b m → q ≤ end → name_size name ≤ max_size
-    → Spelled m b q p name → Walked (take end b) p q
-walked_within end r l short s = spelled_walked 0 (is_table_cut end r) (omega arith) (spelled_cut end l s)
+    → Compressed m b q p name → Walked (take end b) p q
+walked_within end r l short s = compressed_ends 0 (is_table_cut end r) (omega arith) (compressed_cut end l s)
