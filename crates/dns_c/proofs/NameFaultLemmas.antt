@@ -166,4 +166,4 @@ reports_form b p fault h = record { kind = misformed_number h; form = λ is. (fa
 -- what begins with a name is malformed only if the name is
 pub form_in_name : (b : List ℕ) (Lacks : ℕ → Type 0) (p : ℕ) (f : FaultThere) → FieldsFaultAt b Lacks p f → f ≡ Form → FaultAt b p Form
 form_in_name b Lacks p f (in_name h) is = subst (FaultAt b p) is h
-form_in_name b Lacks p f (after_name encoded walked lacks) is = absurd (cc)
+form_in_name b Lacks p f (after_name encoded name_ends lacks) is = absurd (cc)

@@ -2,7 +2,7 @@
 --
 -- `b` is the octets that are seen: those of the message up to the end of the RDATA.
 use Rattle.std.specs.Prelude.{◌≡◌, ◌⊎◌, ℕ, ◌+◌, ◌<◌, ◌≤◌, Bool, IsTrue, List, [], ◌∷◌, length, drop, slice_index, slice_range}
-use Rattle.dns_name.specs.Names.{Fault, Labels, NameAt, FaultAt, Walked}
+use Rattle.dns_name.specs.Names.{Fault, Labels, NameAt, FaultAt, NameEndsAt}
 use Rattle.dns_name.specs.Names.Fault.{ShortInput}
 use Rattle.dns_wire.specs.Parts.{Part}
 use Rattle.dns_wire.specs.Parts.Part.{Octets, CompressibleName}
@@ -53,7 +53,7 @@ DataAt b (CharacterString layout) p q (CompressibleName name ∷ parts) = ⊥
 DataAt b (DomainName layout) p q [] = ⊥
 DataAt b (DomainName layout) p q (Octets octets ∷ parts) = ⊥
 DataAt b (DomainName layout) p q (CompressibleName name ∷ parts) =
-    (r : ℕ) × NameAt b p name × Walked b p r × DataAt b layout r q parts
+    (r : ℕ) × NameAt b p name × NameEndsAt b p r × DataAt b layout r q parts
 
 -- why the fields aren't at offset p: the first field that isn't there lacks octets, or its name has a fault
 abbrev pub DataFaultAt : List ℕ → Layout → ℕ → Fault → Type 0
@@ -63,4 +63,4 @@ DataFaultAt b (Fixed n layout) p f = ((f ≡ ShortInput) × (length b < p + n)) 
 DataFaultAt b (CharacterString layout) p f =
     let n = string_size b p in ((f ≡ ShortInput) × (length b < p + n)) ⊎ ((p + n ≤ length b) × DataFaultAt b layout (p + n) f)
 DataFaultAt b (DomainName layout) p f =
-    FaultAt b p f ⊎ ((name : Labels) × (q : ℕ) × NameAt b p name × Walked b p q × DataFaultAt b layout q f)
+    FaultAt b p f ⊎ ((name : Labels) × (q : ℕ) × NameAt b p name × NameEndsAt b p q × DataFaultAt b layout q f)

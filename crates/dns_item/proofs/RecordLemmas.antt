@@ -41,7 +41,7 @@ with_data old mid new header n parses is long to =
     let d = reads.rdlen in
     let end = to.offset in (
       record {
-        skips = record { name_end = reads.name_end; walked = reads.walked; end = omega arith; within = omega arith };
+        skips = record { name_end = reads.name_end; name_ends = reads.name_ends; end = omega arith; within = omega arith };
         owner = reads.owner;
         rtype = reads.rtype;
         class = reads.class;
@@ -61,7 +61,7 @@ without_data old mid header n e parses is l short_input =
     let end = reads.end in
     let within = reads.within in
     let d = reads.rdlen in
-    subst (λ e. RecordFaultAt (seen old) (offset old) (fault_of e)) (sym short_input) (short_fields reads.owner reads.walked (rdata (omega arith) (omega arith)))
+    subst (λ e. RecordFaultAt (seen old) (offset old) (fault_of e)) (sym short_input) (short_fields reads.owner reads.name_ends (rdata (omega arith) (omega arith)))
 
 -- some of the ten octets after a skipped owner aren't there
 pub without_fields : (old mid : Parser) (n : ℕ) (e : ParseError) → MovesPastName old mid → n < offset mid + 10 → n ≡ length (seen mid) → e ≡ ShortInput

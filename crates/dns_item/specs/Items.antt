@@ -1,7 +1,7 @@
 -- A record as a value, and its encoding. RFC 1035 section 4.1.3.
 use Rattle.std.specs.Prelude.{ℕ, ◌<◌, ◌≤◌, ◌^◌, List, ◌++◌, ◌≡◌, ◌+◌, length}
 use Rattle.std.specs.Int.{to_be_bytes, w16, w32}
-use Rattle.dns_name.specs.Names.{Labels, IsName, Fault, NameAt, Walked, ReadsOrFaults, EndsOrFaults}
+use Rattle.dns_name.specs.Names.{Labels, IsName, Fault, NameAt, NameEndsAt, ReadsOrFaults, EndsOrFaults}
 use Rattle.dns_name.specs.Parsers.{number_at}
 use Rattle.dns_wire.specs.Parts.{Part, AreParts, encode_parts, parts_size, PartsAt}
 use Rattle.dns_wire.specs.Encoders.{Rule, Encoder, encode_octets, both, with_length, encode_name, IsGrowing}
@@ -50,7 +50,7 @@ pub record HeaderEntry : Type 0 where
 -- the record header `x` is encoded from p to q; the RDATA after it needn't be there
 pub record ReadsHeader (b : List ℕ) (p q : ℕ) (x : HeaderEntry) : Type 0 where
   pub name_end : ℕ
-  pub walked : Walked b p name_end
+  pub name_ends : NameEndsAt b p name_end
   pub end : q ≡ name_end + 10
   pub within : q ≤ length b
   pub owner : NameAt b p x.owner

@@ -2,7 +2,7 @@
 pub mod HeadLemmas
 pub mod NearNames
 pub mod NameOrFaultLaws
-pub mod WalkLaws
+pub mod ExtentLaws
 pub mod LabelsLemmas
 pub mod UncompressedNames
 pub mod Steps

@@ -2,7 +2,7 @@
 use Rattle.std.specs.Prelude.{◌≡◌, ◌↔◌, ℕ, ◌⊎◌, List, Result, Ok, Err, IsOk, IsErrAnd}
 use Rattle.std.specs.Cmp.{IsTotalOrder}
 use Rattle.std.specs.declared.cmp.Ordering.TheVariants.{Equal}
-use Rattle.dns_name.specs.Names.{Fault, fault_of, Labels, IsName, lowered, NameAt, FaultAt, Walked, SkipFaultAt}
+use Rattle.dns_name.specs.Names.{Fault, fault_of, Labels, IsName, lowered, NameAt, FaultAt, NameEndsAt, SkipFaultAt}
 use Rattle.dns_name.specs.NameOrders.{name_order, composed_order, name_hash_input}
 use Rattle.dns_name.specs.Parsers.{offset}
 use Rattle.dns_name.specs.ParsedName.{ParsesName, SkipsName}
@@ -32,19 +32,19 @@ EncodedNamesAreNames = (b : List ℕ) (p : ℕ) (name : Labels) → NameAt b p n
 
 -- At each offset the encoding of a name has an end, or skipping fails.
 abbrev pub EndOrSkipFault : Type 0
-EndOrSkipFault = (b : List ℕ) (p : ℕ) → ((q : ℕ) × Walked b p q) ⊎ ((f : Fault) × SkipFaultAt b p f)
+EndOrSkipFault = (b : List ℕ) (p : ℕ) → ((q : ℕ) × NameEndsAt b p q) ⊎ ((f : Fault) × SkipFaultAt b p f)
 
 -- Never both.
 abbrev pub EndOrSkipFaultNotBoth : Type 0
-EndOrSkipFaultNotBoth = (b : List ℕ) (p q : ℕ) (f : Fault) → Walked b p q → SkipFaultAt b p f → ⊥
+EndOrSkipFaultNotBoth = (b : List ℕ) (p q : ℕ) (f : Fault) → NameEndsAt b p q → SkipFaultAt b p f → ⊥
 
 -- The encoding at an offset has at most one end.
 abbrev pub OneEnd : Type 0
-OneEnd = (b : List ℕ) (p q r : ℕ) → Walked b p q → Walked b p r → q ≡ r
+OneEnd = (b : List ℕ) (p q r : ℕ) → NameEndsAt b p q → NameEndsAt b p r → q ≡ r
 
 -- The encoding of a name has an end.
 abbrev pub EncodedNamesEnd : Type 0
-EncodedNamesEnd = (b : List ℕ) (p : ℕ) (name : Labels) → NameAt b p name → (q : ℕ) × Walked b p q
+EncodedNamesEnd = (b : List ℕ) (p : ℕ) (name : Labels) → NameAt b p name → (q : ℕ) × NameEndsAt b p q
 
 -- If skipping fails, reading fails with the same fault.
 abbrev pub SkipFaultsAreFaults : Type 0

@@ -139,8 +139,8 @@ pub data NameContinues (b : List ℕ) : ℕ → ℕ → ℕ → Type 0 where
       → NameContinues b (p + 1 + n) (s + n + 1) q → NameContinues b p s q
 
 -- The encoding of a name at offset p takes the octets p..q.
-abbrev pub Walked : List ℕ → ℕ → ℕ → Type 0
-Walked b p q = NameContinues b p 0 q
+abbrev pub NameEndsAt : List ℕ → ℕ → ℕ → Type 0
+NameEndsAt b p q = NameContinues b p 0 q
 
 -- In a name whose labels so far take s octets, skipping on at offset p fails with this fault. Skipping doesn't follow pointers.
 pub data SkipFaulty (b : List ℕ) : ℕ → ℕ → Fault → Type 0 where

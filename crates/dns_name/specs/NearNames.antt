@@ -1,7 +1,7 @@
 -- A cached name, which was read before, and how names that point to it are read. RFC 1035 section 4.1.4.
 use Rattle.std.specs.Prelude.{◌≡◌, ◌+◌, ◌-◌, ◌<◌, ◌≤◌, ⊤, ℕ, List, length, Option, Some, None, Result, Ok, Err}
 use Rattle.dns_octets.specs.declared.error.ParseError.{ParseError}
-use Rattle.dns_name.specs.Names.{head_at, Faulty, FaultAt, Walked, fault_of, max_size, pointer_end}
+use Rattle.dns_name.specs.Names.{head_at, Faulty, FaultAt, NameEndsAt, fault_of, max_size, pointer_end}
 use Rattle.dns_name.specs.Unique.{NameOfSizeAndCount, NameOfSizeAndCount-prop}
 use Rattle.dns_name.specs.declared.head.Head.{Head}
 use Rattle.dns_name.specs.declared.head.Head.TheVariants.{Root, Label, Pointer}
@@ -75,7 +75,7 @@ MeasuresOrFails b p s (Err e) = Faulty b p s (fault_of e)
 -- A name of this size and number of labels is encoded at offset p, and its encoding takes the octets p..end.
 pub record Arrives (b : List ℕ) (p end size count : ℕ) : Type 0 where
   pub name : NameOfSizeAndCount b p size count
-  pub walked : Walked b p end
+  pub name_ends : NameEndsAt b p end
   pub within : end ≤ length b
 
 -- The result is this extent, or its fault is that of reading a name there.

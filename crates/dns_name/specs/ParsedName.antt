@@ -1,7 +1,7 @@
 -- What parsing and skipping a name return. RFC 1035 section 4.1.4.
 use Rattle.std.specs.Prelude.{◌≡◌, ℕ, List, ◌++◌, drop, Result, Ok, Err, IsOkAnd, [], ◌∷◌, take}
 use Rattle.dns_octets.specs.declared.error.ParseError.{ParseError}
-use Rattle.dns_name.specs.Names.{fault_of, Labels, uncompressed, NameAt, FaultAt, Walked, SkipFaultAt, with_root}
+use Rattle.dns_name.specs.Names.{fault_of, Labels, uncompressed, NameAt, FaultAt, NameEndsAt, SkipFaultAt, with_root}
 use Rattle.dns_name.specs.Parsers.{seen, offset, MovesTo}
 use Rattle.dns_name.specs.declared.parser.Parser.{Parser}
 use Rattle.dns_name.specs.declared.parsed_name.ParsedName.{ParsedName}
@@ -18,7 +18,7 @@ IsFlat name = (after : List ℕ) × (drop name.pos name.octets.now ≡ uncompres
 
 -- The parser moved past the encoding of the name at its old offset, and sees the same octets.
 abbrev pub MovesPastName : Parser → Parser → Type 0
-MovesPastName old new = Walked (seen old) (offset old) (offset new) × MovesTo old new (offset new)
+MovesPastName old new = NameEndsAt (seen old) (offset old) (offset new) × MovesTo old new (offset new)
 
 -- The result is the name encoded at the parser's offset, and the parser moved past its encoding; or it is the fault there, and the parser is unchanged.
 abbrev pub ParsesName : Parser → Parser → Result ParsedName ParseError → Type 0

@@ -35,7 +35,7 @@ reads_fields old mid after new x encoded moves first rtype long second class =
     let p = first.offset in
     let q = second.offset in (
       record {
-        skips = record { name_end = offset mid; walked = moves.0; end = omega arith; within = omega arith };
+        skips = record { name_end = offset mid; name_ends = moves.0; end = omega arith; within = omega arith };
         name = encoded;
         rtype = rtype ∙ ap (λ (b : List ℕ). number_at w16 b (offset mid)) moves.1.seen;
         class = class ∙ ap (λ (b : List ℕ). number_at w16 b (offset after)) there ∙ ap (number_at w16 (seen old)) p;

@@ -53,7 +53,7 @@ name_then of shape stop old mid new h k =
     record {
       rows = h.rows ++ k.rows;
       adds = k.adds ∙ ap (λ rows. rows ++ k.rows) h.adds.rows ∙ append_assoc old.rows.items h.rows k.rows;
-      shows = name h.rows k.rows h.encoded h.walked h.shows after;
+      shows = name h.rows k.rows h.encoded h.name_ends h.shows after;
     }
 
 -- a name that can't be read

@@ -56,7 +56,7 @@ question_unnamed number old new fault h = marks_stop Question number h.rows old 
 after_name : (of : NameOf) (after : ℕ → List Row) (row : Row) (old mid new : Walk) (fault : RowFault) (h : PassesItemName of row old mid) (k : CutsFields (after (at mid)) mid new fault)
     → LacksItem (octets old) of after (at old) ShortInput (at new) fault (h.rows ++ k.rows)
 after_name of after row old mid new fault h k =
-    fields_lack h.rows k.rows h.encoded h.walked h.shows (subst (λ b. CutRows b (after (at mid)) (at new) fault k.rows) h.adds.seen k.cut)
+    fields_lack h.rows k.rows h.encoded h.name_ends h.shows (subst (λ b. CutRows b (after (at mid)) (at new) fault k.rows) h.adds.seen k.cut)
 
 -- the rows of an item up to the incomplete field
 rows_there : (of : NameOf) (row : Row) (after : List Row) (old mid new : Walk) (fault : RowFault) (h : PassesItemName of row old mid) (k : CutsFields after mid new fault)
@@ -71,7 +71,7 @@ question_short number old mid new fault h k short =
     let short_there : length (octets old) < at mid + 4 = subst (λ (b : List ℕ). length b < at mid + 4) h.adds.seen short in
     let lacks = after_name names.Question (λ r. question_rows r) row old mid new fault h k in
     marks_stop Question number (h.rows ++ k.rows) old new fault (rows_there names.Question row (question_rows (at mid)) old mid new fault h k)
-    (Err ShortInput, (short_fields h.encoded h.walked short_there, lacks))
+    (Err ShortInput, (short_fields h.encoded h.name_ends short_there, lacks))
 
 -- the class of a question is incomplete
 pub class_cut : (old mid new : Walk) (fault : RowFault) → Adds (field_row (at old) (at old + 2) fields.Type ∷ []) (at old + 2) old mid → LacksField fields.Class (octets mid) (at mid + 2) fault → new ≡ mid
@@ -99,7 +99,7 @@ marks_question number old a b new h k l within =
     let whole = rows ++ type_row ∷ class_row ∷ [] in
     let x : QuestionItem = record { name = h.labels; rtype = number_at w16 (octets old) r; class = number_at w16 (octets old) (r + 2) } in
     let shows : ShowsQuestion (octets old) number x (at old) (r + 4) whole = record {
-      reads = record { skips = record { name_end = r; walked = h.walked; end = refl; within = there }; name = h.encoded; rtype = refl; class = refl };
+      reads = record { skips = record { name_end = r; name_ends = h.name_ends; end = refl; within = there }; name = h.encoded; rtype = refl; class = refl };
       name_rows = h.rows;
       name = h.shows;
       made = refl;
@@ -141,7 +141,7 @@ record_short part number old mid new fault records h k short =
     let cut : CutsFields (record_rows b (at mid)) mid new fault = subst (λ b. CutsFields (record_rows b (at mid)) mid new fault) h.adds.seen k in
     let lacks = after_name names.Owner (record_rows b) row old mid new fault h cut in
     marks_stop part number (h.rows ++ cut.rows) old new fault (rows_there names.Owner row (record_rows b (at mid)) old mid new fault h cut)
-    (record_stops b part (at old) (at new) fault (h.rows ++ cut.rows) records (Err ShortInput, (short_fields h.encoded h.walked short_there, lacks)))
+    (record_stops b part (at old) (at new) fault (h.rows ++ cut.rows) records (Err ShortInput, (short_fields h.encoded h.name_ends short_there, lacks)))
 
 pub numbers_short : (part : Part) (number : ℕ) (old mid new : Walk) (fault : RowFault) → IsTrue (holds_records part) → PassesItemName names.Owner (item_row part number (at old)) old mid
     → LacksFields (octets mid) (at mid + 10) fault → CutsFields (number_rows (number_at w16 (octets mid) (at mid)) (at mid)) mid new fault → MarksStop part number old new fault
@@ -231,7 +231,7 @@ reads_record row rtype len old a b h k there =
     let rtype_there : rtype ≡ number_at w16 (octets old) (at a) = subst (λ b. rtype ≡ number_at w16 b (at a)) h.adds.seen k.rtype_there in
     let len_there : len ≡ number_at w16 (octets old) (at a + 8) = subst (λ b. len ≡ number_at w16 b (at a + 8)) h.adds.seen k.len_there in
     let end : at a + 10 + len ≡ at a + (10 + number_at w16 (octets old) (at a + 8)) = omega (arith, len_there) in
-    record { skips = record { name_end = at a; walked = h.walked; end = end; within = there }; owner = h.encoded; rtype = rtype_there; class = refl; ttl = refl; rdata_start = refl; rdata_end = refl }
+    record { skips = record { name_end = at a; name_ends = h.name_ends; end = end; within = there }; owner = h.encoded; rtype = rtype_there; class = refl; ttl = refl; rdata_start = refl; rdata_end = refl }
 
 -- the RDATA of a record is incomplete
 data_cut : (rtype len : ℕ) (a b new : Walk) → PassesNumbers rtype len a b → length (octets b) < at b + len → new ≡ b → CutsFields (record_rows (octets a) (at a)) a new (Short fields.Data)

@@ -4,7 +4,7 @@ use Rattle.dns_rows.specs.Named.LabelRows.{none as no_labels, label as row_label
 use Rattle.std.proofs.Common.{◌≡◌, ℕ, ◌+◌, ◌-◌, ◌<◌, ◌≤◌, OnOk, Result, Err, ◌⊎◌, inl, inr, List, [], ◌∷◌, ◌++◌, length, slice_get, Option, Some, None, Ok, ◌∙◌, ap, subst, sym, refl, arith, append_assoc, append-nil}
 use Rattle.dns_name.specs.Names.{head_at, max_size, Fault, Faulty, NameContinues}
 use Rattle.dns_name.specs.Names.Faulty.{head as head_fault, long as long_fault, cut as cut_fault, ahead as ahead_fault, label as label_fault, pointer as pointer_fault}
-use Rattle.dns_name.specs.Names.NameContinues.{root as root_walked, pointer as pointer_walked, label as label_walked}
+use Rattle.dns_name.specs.Names.NameContinues.{root as root_ends, pointer as pointer_ends, label as label_ends}
 use Rattle.dns_name.specs.declared.head.Head.TheVariants.{Label}
 use Rattle.dns_name.specs.Unique.{label_of}
 use Rattle.dns_name.proofs.theory.HeadLemmas.{label_there, root_there, root_begins}
@@ -49,9 +49,9 @@ no_label b p size m h wrong n label =
 
 -- the encoded length of a name, past the label at p
 label_after : (b : List ℕ) (p s n q : ℕ) → head_at b p ≡ Ok (Label n) → NameContinues b p s q → NameContinues b (p + 1 + n) (s + n + 1) q
-label_after b p s n q h (root_walked k) = cc
-label_after b p s n q h (pointer_walked k) = cc
-label_after b p s n q h (label_walked {n = m} k short fits w) =
+label_after b p s n q h (root_ends k) = cc
+label_after b p s n q h (pointer_ends k) = cc
+label_after b p s n q h (label_ends {n = m} k short fits w) =
     let same : m ≡ n = cc in
     subst (λ n. NameContinues b (p + 1 + n) (s + n + 1) q) same w
 
@@ -79,9 +79,9 @@ labels_then b of (row_label k w x l) r = label_rows k (labels_then b of l r)
 
 -- the name ends where no label begins
 end_here : (b : List ℕ) (p s q : ℕ) → ((n : ℕ) → IsLabelAt b p s n → ⊥) → NameContinues b p s q → IsEnd b p q
-end_here b p s q none (root_walked k) = root_end k
-end_here b p s q none (pointer_walked k) = pointer_end k
-end_here b p s q none (label_walked {n = n} k short fits w) = absurd (none n (record { begins = k; short = short; fits = fits }))
+end_here b p s q none (root_ends k) = root_end k
+end_here b p s q none (pointer_ends k) = pointer_end k
+end_here b p s q none (label_ends {n = n} k short fits w) = absurd (none n (record { begins = k; short = short; fits = fits }))
 
 -- a walk that went over no label yet
 pub none_passed : (of : NameOf) (old : Walk) → PassesLabels of 0 old old

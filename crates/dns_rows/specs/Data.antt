@@ -4,7 +4,7 @@
 use Rattle.dns_name.specs.Parsers.{number_at}
 use Rattle.std.specs.Int.{w16}
 use Rattle.std.specs.Prelude.{◌≡◌, ℕ, ◌+◌, ◌<◌, ◌≤◌, ◌==◌, if◌then◌else◌, List, [], ◌∷◌, ◌++◌, length, slice_get, Option, Some, None, nat_lt}
-use Rattle.dns_name.specs.Names.{Fault, Labels, NameAt, Walked}
+use Rattle.dns_name.specs.Names.{Fault, Labels, NameAt, NameEndsAt}
 use Rattle.dns_rows.specs.Faults.{LacksName}
 use Rattle.dns_rows.specs.Fields.{field_row, CutRows}
 use Rattle.dns_rows.specs.Named.{NameRows}
@@ -95,7 +95,7 @@ pub data ShowsData (b : List ℕ) : Shape → Option rows.Fault → ℕ → ℕ 
   octets : {n p q : ℕ} {field : Field} {shape : Shape} {stop : Option rows.Fault} {rows : List Row} → p + n ≤ length b → ShowsData b shape stop (p + n) q rows
       → ShowsData b (Octets n field shape) stop p q (field_row p (p + n) field ∷ rows)
   short : {n p : ℕ} {field : Field} {shape : Shape} → length b < p + n → ShowsData b (Octets n field shape) (Some (Short field)) p p []
-  name : {p q r : ℕ} {of : NameOf} {shape : Shape} {stop : Option rows.Fault} {labels : Labels} (names rows : List Row) → NameAt b p labels → Walked b p r → NameRows b of p p r names
+  name : {p q r : ℕ} {of : NameOf} {shape : Shape} {stop : Option rows.Fault} {labels : Labels} (names rows : List Row) → NameAt b p labels → NameEndsAt b p r → NameRows b of p p r names
       → ShowsData b shape stop r q rows → ShowsData b (Named of shape) stop p q (names ++ rows)
   no_name : {p q : ℕ} {of : NameOf} {shape : Shape} {f : Fault} {fault : rows.Fault} {rows : List Row} → LacksName b of p f q fault rows → ShowsData b (Named of shape) (Some fault) p q rows
   texts : {p q : ℕ} {rows : List Row} → TextRows b p q rows → length b ≤ q → ShowsData b Texts None p q rows

@@ -3,7 +3,7 @@
 -- `b` is the octets of the message.
 use Rattle.std.specs.Prelude.{◌≡◌, ℕ, suc, ◌+◌, ◌<◌, ◌==◌, Bool, true, false, if◌then◌else◌, List, [], ◌∷◌, ◌++◌, Option, Some, None, Result, Ok, Err}
 use Rattle.std.specs.Int.{w16}
-use Rattle.dns_name.specs.Names.{Fault, Labels, NameAt, Walked}
+use Rattle.dns_name.specs.Names.{Fault, Labels, NameAt, NameEndsAt}
 use Rattle.dns_name.specs.Names.Fault.{ShortInput}
 use Rattle.dns_name.specs.Parsers.{number_at}
 use Rattle.dns_code.specs.HeaderSection.{header_size}
@@ -89,7 +89,7 @@ pub record DataStops (b : List ℕ) (x : RecordEntry) (p offset : ℕ) (fault : 
 -- An item at p, which is a name and the fields after it, can't be read: its name can't be, or a field is incomplete. The rows are those up to there, after the row where the item begins. RFC 1035 sections 4.1.2 to 4.1.4.
 pub data LacksItem (b : List ℕ) (of : NameOf) (after : ℕ → List Row) (p : ℕ) : Fault → ℕ → rows.Fault → List Row → Type 0 where
   name : {f : Fault} {offset : ℕ} {fault : rows.Fault} {shown : List Row} → LacksName b of p f offset fault shown → LacksItem b of after p f offset fault shown
-  short : {name : Labels} {r offset : ℕ} {fault : rows.Fault} (name_rows others : List Row) → NameAt b p name → Walked b p r → NameRows b of p p r name_rows
+  short : {name : Labels} {r offset : ℕ} {fault : rows.Fault} (name_rows others : List Row) → NameAt b p name → NameEndsAt b p r → NameRows b of p p r name_rows
       → CutRows b (after r) offset fault others → LacksItem b of after p ShortInput offset fault (name_rows ++ others)
 
 -- the rows of the fields after the owner of a record, which ends at r: its numbers, and its RDATA as a whole. RFC 1035 section 4.1.3.

@@ -3,7 +3,7 @@ use Rattle.dns_rows.specs.Data.{option_rows, shape_of, Shape, ShowsData, TextRow
 use Rattle.dns_rows.specs.Named.{LabelRows, NameRows}
 use Rattle.std.specs.Prelude.{◌<◌, ◌≡◌, suc, Bool, true, false, ℕ, ◌+◌, ◌-◌, ◌≤◌, List, ◌++◌, ◌∷◌, length, ⊤, Option, Some, None, Result, Ok, Err, take}
 use Rattle.std.specs.Int.{w16}
-use Rattle.dns_name.specs.Names.{head_at, max_size, Fault, FaultAt, Faulty, Labels, NameAt, Walked, NameContinues}
+use Rattle.dns_name.specs.Names.{head_at, max_size, Fault, FaultAt, Faulty, Labels, NameAt, NameEndsAt, NameContinues}
 use Rattle.dns_name.specs.Parsers.{input, offset, number_at, seen}
 use Rattle.dns_name.specs.declared.head.Head.TheVariants.{Root, Label, Pointer}
 use Rattle.dns_code.specs.HeaderSection.{header_size}
@@ -110,7 +110,7 @@ pub record PassesLabels (of : NameOf) (size : ℕ) (old new : Walk) : Type 0 whe
   pub rows : List Row
   pub adds : Adds rows (at new) old new
   pub shown : LabelRows (octets old) of (at old) (at old) (at new) rows
-  pub ends : (q : ℕ) → Walked (octets old) (at old) q → NameContinues (octets old) (at new) size q
+  pub ends : (q : ℕ) → NameEndsAt (octets old) (at old) q → NameContinues (octets old) (at new) size q
   pub faults : (f : Fault) → FaultAt (octets old) (at old) f → Faulty (octets old) (at new) size f
   pub sizes : at new ≡ at old + size
 
@@ -120,7 +120,7 @@ pub record PassesAllLabels (of : NameOf) (old new : Walk) : Type 0 where
   pub adds : Adds rows (at new) old new
   pub shown : LabelRows (octets old) of (at old) (at old) (at new) rows
   pub labels : AreLabelRows (octets old) of (at old) (at new) rows
-  pub ends : (q : ℕ) → Walked (octets old) (at old) q → IsEnd (octets old) (at new) q
+  pub ends : (q : ℕ) → NameEndsAt (octets old) (at old) q → IsEnd (octets old) (at new) q
   pub order : at old ≤ at new
   pub faults : (f : Fault) → FaultAt (octets old) (at old) f → Faulty (octets old) (at new) (at new - at old) f
   pub none : (n : ℕ) → IsLabelAt (octets old) (at new) (at new - at old) n → ⊥
@@ -137,7 +137,7 @@ pub record PassesName (of : NameOf) (old new : Walk) : Type 0 where
   pub adds : Adds rows (at new) old new
   pub labels : Labels
   pub encoded : NameAt (octets old) (at old) labels
-  pub walked : Walked (octets old) (at old) (at new)
+  pub name_ends : NameEndsAt (octets old) (at old) (at new)
   pub shows : NameRows (octets old) of (at old) (at old) (at new) rows
 
 -- the walk stopped in a name
@@ -153,7 +153,7 @@ pub record PassesItemName (of : NameOf) (row : Row) (old new : Walk) : Type 0 wh
   pub adds : Adds (row ∷ rows) (at new) old new
   pub labels : Labels
   pub encoded : NameAt (octets old) (at old) labels
-  pub walked : Walked (octets old) (at old) (at new)
+  pub name_ends : NameEndsAt (octets old) (at old) (at new)
   pub shows : NameRows (octets old) of (at old) (at old) (at new) rows
 
 -- the walk added the row where an item begins, and stopped in the item's name

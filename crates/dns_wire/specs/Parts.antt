@@ -1,6 +1,6 @@
 -- What RDATA consists of, how it is written, and where it is encoded. RFC 1035 sections 3.3 and 4.1.4.
 use Rattle.std.specs.Prelude.{◌≡◌, ℕ, ◌+◌, List, [], ◌∷◌, length, take, slice_range, ◌<◌, Ok}
-use Rattle.dns_name.specs.Names.{Labels, IsName, uncompressed, NameAt, Walked, head_at, pointer_end}
+use Rattle.dns_name.specs.Names.{Labels, IsName, uncompressed, NameAt, NameEndsAt, head_at, pointer_end}
 use Rattle.dns_name.specs.declared.head.Head.TheVariants.{Root, Label, Pointer}
 use Rattle.dns_wire.specs.Encoders.{Rule, Encoder, encode_octets, both, encode_name}
 
@@ -33,7 +33,7 @@ parts_size (part ∷ parts) = part_size part + parts_size parts
 abbrev pub PartsAt : List ℕ → ℕ → ℕ → List Part → Type 0
 PartsAt b end p [] = p ≡ end
 PartsAt b end p (Octets octets ∷ parts) = (slice_range b p (p + length octets) ≡ octets) × PartsAt b end (p + length octets) parts
-PartsAt b end p (CompressibleName name ∷ parts) = (r : ℕ) × NameAt (take end b) p name × Walked (take end b) p r × PartsAt b end r parts
+PartsAt b end p (CompressibleName name ∷ parts) = (r : ℕ) × NameAt (take end b) p name × NameEndsAt (take end b) p r × PartsAt b end r parts
 
 -- The names among the parts are names.
 abbrev pub AreParts : List Part → Type 0

@@ -2,7 +2,7 @@
 use Rattle.std.specs.Prelude.{◌≡◌, ℕ, ◌+◌, ◌<◌, ◌≤◌, List, [], ◌∷◌, length, Ok, slice_get, Some, ◌++◌, take, ◌⊎◌, Bool, Option, Result, Err}
 use Rattle.std.specs.FinMap.{get}
 use Rattle.dns_octets.specs.declared.error.AppendError.{AppendError}
-use Rattle.dns_name.specs.Names.{Labels, name_size, max_size, head_at, label_at, IsName, uncompressed, pointer_end, NameAt, Walked}
+use Rattle.dns_name.specs.Names.{Labels, name_size, max_size, head_at, label_at, IsName, uncompressed, pointer_end, NameAt, NameEndsAt}
 use Rattle.dns_name.specs.declared.head.Head.TheVariants.{Root, Label, Pointer}
 use Rattle.dns_wire.specs.Parts.{WellPointed, Part, PartsAt, AreParts, encode_parts}
 use Rattle.dns_wire.specs.Encoders.{CompressionTable, TableEntry, nothing, IsAtOrAfter, IsClear, Rule, Encoder, IsGrowing, encode_octets, both, encode_name}
@@ -113,7 +113,7 @@ NamesStayAtOrAfter = (rule : Rule) (t : Written) (name : Labels) (offset : ℕ) 
 -- A name is encoded at offset p, its encoding takes the octets p..q, and a pointer there leads to an earlier label below offset 16,384.
 pub record ReadsName (b : List ℕ) (p q : ℕ) (name : Labels) : Type 0 where
   pub encoded : NameAt b p name
-  pub walked : Walked b p q
+  pub name_ends : NameEndsAt b p q
   pub pointed : WellPointed b q p
 
 -- A written name is encoded where it was written, and its encoding is exactly what was written.

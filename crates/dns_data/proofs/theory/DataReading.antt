@@ -9,7 +9,7 @@ use Rattle.dns_wire.specs.Parts.Part.{Octets, CompressibleName}
 use Rattle.dns_name.specs.Unique.{same_name, encoded_short}
 use Rattle.dns_name.proofs.theory.NameOrFaultLaws.{one_answer}
 use Rattle.dns_name.proofs.theory.NameOrFaultLaws as names
-use Rattle.dns_name.proofs.theory.WalkLaws.{one_end, encoded_end, walked_in_octets}
+use Rattle.dns_name.proofs.theory.ExtentLaws.{one_end, encoded_end, ends_in_octets}
 use Rattle.dns_data.specs.Layout.{Layout, string_size, DataAt, DataFaultAt}
 use Rattle.dns_data.specs.Layout.Layout.{End, Rest, Fixed, CharacterString, DomainName}
 use Rattle.dns_data.specs.Laws.{OneRdataOrFault}
@@ -43,7 +43,7 @@ module _ (b : List ℕ) where
       let n = string_size b p in data_within layout (p + n) q parts (range_within p n x l h.0 h.1) h.2
   data_within (DomainName layout) p q [] l h = absurd h
   data_within (DomainName layout) p q (Octets x ∷ parts) l h = absurd h
-  data_within (DomainName layout) p q (CompressibleName x ∷ parts) l h = data_within layout h.0 q parts (walked_in_octets h.2) h.3
+  data_within (DomainName layout) p q (CompressibleName x ∷ parts) l h = data_within layout h.0 q parts (ends_in_octets h.2) h.3
 
   rdata_or_fault : (layout : Layout) (p : ℕ) → ((q : ℕ) × (parts : List Part) × DataAt b layout p q parts) ⊎ ((f : Fault) × DataFaultAt b layout p f)
   rdata_or_fault End p = inl (p, [], (refl, refl))
@@ -125,7 +125,7 @@ module _ (b : List ℕ) where
   not_both (DomainName layout) p q (CompressibleName x ∷ parts) f l h (inl k) = name_or_fault h.1 k
   not_both (DomainName layout) p q (CompressibleName x ∷ parts) f l h (inr k) =
       let end : k.1 ≡ h.0 = one_end b k.3 h.2 in
-      not_both layout h.0 q parts f (walked_in_octets h.2) h.3 (subst (λ e. DataFaultAt b layout e f) end k.4)
+      not_both layout h.0 q parts f (ends_in_octets h.2) h.3 (subst (λ e. DataFaultAt b layout e f) end k.4)
 
   one_fault : (layout : Layout) (p : ℕ) (f g : Fault) → DataFaultAt b layout p f → DataFaultAt b layout p g → f ≡ g
   one_fault End p f g h k = absurd h

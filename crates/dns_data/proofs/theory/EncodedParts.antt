@@ -4,7 +4,7 @@ use Rattle.std.specs.Prelude.{IsTrue}
 use Rattle.std.proofs.lemmas.List.{drop-take, take-take, length-take-le, get_or-take, get_or-drop}
 use Rattle.dns_wire.specs.Parts.{Part, PartsAt}
 use Rattle.dns_wire.specs.Parts.Part.{Octets, CompressibleName}
-use Rattle.dns_name.proofs.theory.WalkLaws.{walked_rises}
+use Rattle.dns_name.proofs.theory.ExtentLaws.{ends_after}
 use Rattle.dns_data.specs.Layout.{string_size, DataAt}
 use Rattle.dns_data.specs.Layout.Layout.{End, Rest, Fixed, CharacterString, DomainName}
 use Rattle.dns_data.specs.Laws.{EncodedPartsRead}
@@ -13,7 +13,7 @@ use Rattle.dns_data.specs.Laws.{EncodedPartsRead}
 parts_rise : (b : List ℕ) (end p : ℕ) (parts : List Part) → PartsAt b end p parts → p ≤ end
 parts_rise b end p [] h = omega arith
 parts_rise b end p (Octets octets ∷ parts) h = let l = parts_rise b end (p + length octets) parts h.1 in omega arith
-parts_rise b end p (CompressibleName name ∷ parts) h = let l = parts_rise b end h.0 parts h.3 in let w = walked_rises h.2 in omega arith
+parts_rise b end p (CompressibleName name ∷ parts) h = let l = parts_rise b end h.0 parts h.3 in let w = ends_after h.2 in omega arith
 
 -- octets before an end are the same if only the octets up to it are seen
 range_before : (b : List ℕ) (end p n : ℕ) → p + n ≤ end → slice_range (take end b) p (p + n) ≡ slice_range b p (p + n)

@@ -10,7 +10,7 @@ use Rattle.dns_item.specs.Items.LacksRecord.{fields, rdata}
 module _ (b : List ℕ) where
   same_header : (p q r : ℕ) (x y : HeaderEntry) → ReadsHeader b p q x → ReadsHeader b p r y → x ≡ y
   same_header p q r x y h k =
-      let e = one_end b p _ _ h.walked k.walked in
+      let e = one_end b p _ _ h.name_ends k.name_ends in
       let owner : x.owner ≡ y.owner = one_name b p _ _ h.owner k.owner in
       let rtype : x.rtype ≡ y.rtype = h.rtype ∙ ap (number_at w16 b) e ∙ sym k.rtype in
       let class : x.class ≡ y.class = h.class ∙ ap (λ n. number_at w16 b (n + 2)) e ∙ sym k.class in
@@ -46,10 +46,10 @@ module _ (b : List ℕ) where
 pub header_or_fault : HeaderOrFault
 header_or_fault b =
     reads_or_faults b (λ r. 10) (λ r. length b < r + 10) (λ r. long_or_short b (r + 10)) (λ r l. l) (ReadsHeader b) (λ x. x.owner)
-    (λ p q x h. (record { name_end = h.name_end; walked = h.walked; end = h.end; within = h.within }, h.owner))
+    (λ p q x h. (record { name_end = h.name_end; name_ends = h.name_ends; end = h.end; within = h.within }, h.owner))
     (λ p r name s w l. (
       record { owner = name; rtype = number_at w16 b r; class = number_at w16 b (r + 2); ttl = number_at w32 b (r + 4); rdlen = number_at w16 b (r + 8) },
-      record { name_end = r; walked = w; end = refl; within = l; owner = s; rtype = refl; class = refl; ttl = refl; rdlen = refl },
+      record { name_end = r; name_ends = w; end = refl; within = l; owner = s; rtype = refl; class = refl; ttl = refl; rdlen = refl },
     ))
     (same_header b)
 

@@ -60,7 +60,7 @@ reads_record x t p q is good h =
     record {
       entry = entry_of x (r + 10) q;
       reads = record {
-        skips = record { name_end = r; walked = compressed_ends 0 good short h.1; end = omega arith; within = within };
+        skips = record { name_end = r; name_ends = compressed_ends 0 good short h.1; end = omega arith; within = within };
         owner = compressed_name_at good is.owner.short h.1;
         rtype = sym (number_16 t.octets r x.rtype is.rtype (at_first {xs = to_be_bytes w16 x.rtype} (to_be_bytes w16 x.class ++ to_be_bytes w32 x.ttl) here));
         class = sym (number_16 t.octets (r + 2) x.class is.class (at_first {xs = to_be_bytes w16 x.class} (to_be_bytes w32 x.ttl) rest));

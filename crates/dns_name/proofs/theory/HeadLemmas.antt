@@ -4,7 +4,7 @@ use Rattle.std.specs.Prelude.{Option, Some, None, Ok, IsOk, slice_get}
 use Rattle.std.proofs.lemmas.Option.{slice_get_within}
 use Rattle.std.proofs.lemmas.Bool.Decides.{nat_tests}
 use Rattle.std.proofs.lemmas.Grind.{common_steps}
-use Rattle.dns_name.specs.Names.{head_of, head_at, Fault, Labels, name_size, max_size, Begins, NameAt, label_at, NameContinues, Walked, SkipFaulty, SkipFaultAt}
+use Rattle.dns_name.specs.Names.{head_of, head_at, Fault, Labels, name_size, max_size, Begins, NameAt, label_at, NameContinues, NameEndsAt, SkipFaulty, SkipFaultAt}
 use Rattle.dns_name.specs.declared.head.Head.TheVariants.{Root, Label, Pointer}
 use Rattle.dns_name.specs.Unique.{EncodedName, label_of, label_head}
 use Rattle.dns_name.specs.Names.NameAt.{root, label, pointer}
@@ -74,7 +74,7 @@ same_head b c p first second = λ i. head_of (first i) (second i)
 -- Labels of this size lead from `start` to `at`. So the end or the fault of a walk from `at` is that of the walk from `start`.
 pub record Passes (b : List ℕ) (start at size : ℕ) : Type 0 where
   pub within : size ≤ max_size
-  pub ends : (q : ℕ) → NameContinues b at size q → Walked b start q
+  pub ends : (q : ℕ) → NameContinues b at size q → NameEndsAt b start q
   pub faults : (f : Fault) → SkipFaulty b at size f → SkipFaultAt b start f
 
 pub passes_none : (b : List ℕ) (p : ℕ) → Passes b p p 0
@@ -94,16 +94,16 @@ passes_label b start at size n at' size' l h es ea =
     }))
 
 pub passes_root : (b : List ℕ) (start at size q : ℕ) → Passes b start at size → head_at b at ≡ Ok Root → q ≡ at + 1
-    → Walked b start q × (q ≤ length b)
+    → NameEndsAt b start q × (q ≤ length b)
 passes_root b start at size q l h e =
     let w : at < length b = root_within b at h in
-    (subst (λ q. Walked b start q) (sym e) (l.ends (at + 1) (NameContinues.root h)), omega arith)
+    (subst (λ q. NameEndsAt b start q) (sym e) (l.ends (at + 1) (NameContinues.root h)), omega arith)
 
 pub passes_pointer : (b : List ℕ) (start at size t q : ℕ) → Passes b start at size → head_at b at ≡ Ok (Pointer t) → q ≡ at + 2
-    → Walked b start q × (q ≤ length b)
+    → NameEndsAt b start q × (q ≤ length b)
 passes_pointer b start at size t q l h e =
     let w : at + 1 < length b = pointer_within b at t h in
-    (subst (λ q. Walked b start q) (sym e) (l.ends (at + 2) (NameContinues.pointer h)), omega arith)
+    (subst (λ q. NameEndsAt b start q) (sym e) (l.ends (at + 2) (NameContinues.pointer h)), omega arith)
 
 -- What a name encoded at an offset is, by what begins there.
 

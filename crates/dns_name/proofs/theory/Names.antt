@@ -4,7 +4,7 @@ use Rattle.dns_name.specs.Laws.{NameOrFault, NameOrFaultNotBoth, OneName, OneFau
 use Rattle.dns_name.specs.Parsers.{seen}
 use Rattle.dns_name.specs.Unique.{same_name as same, encoded_short}
 use Rattle.dns_name.proofs.theory.NameOrFaultLaws as answers
-use Rattle.dns_name.proofs.theory.WalkLaws as walks
+use Rattle.dns_name.proofs.theory.ExtentLaws as walks
 
 pub name_or_fault : NameOrFault
 name_or_fault b p = elim (answers.one_answer b p) [ inl a ↦ inl (a.0, a.1) | inr a ↦ inr a ]

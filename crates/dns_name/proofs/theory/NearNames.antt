@@ -157,7 +157,7 @@ arrives_root b p q n x =
     let w = row_names b x.row [] (NameAt.root x.there) (omega (arith, x.short)) in
     record {
       name = ((w.0, w.1), omega (arith, w.2), omega (arith, w.3, x.counted));
-      walked = row_ends b x.row (q + 1) (NameContinues.root x.there);
+      name_ends = row_ends b x.row (q + 1) (NameContinues.root x.there);
       within = omega (arith, x.within);
     }
 
@@ -168,7 +168,7 @@ arrives_pointer b p q n t size count all number x back name short size_is count_
     let inside : q + 1 < length b = pointer_within b q t x.there in
     record {
       name = ((w.0, w.1), omega (arith, w.2, name.1), omega (arith, w.3, name.2, x.counted));
-      walked = row_ends b x.row (q + 2) (NameContinues.pointer x.there);
+      name_ends = row_ends b x.row (q + 2) (NameContinues.pointer x.there);
       within = omega arith;
     }
 
@@ -196,4 +196,4 @@ pub arrives_back : (b : List ℕ) (p : ℕ) (near : NearName) → LeadsBackTo b 
 arrives_back b p near x is =
     let n = is x.known in
     let inside : p + 1 < length b = pointer_within b p near.pos x.there in
-    record { name = ((n.0.0, NameAt.pointer x.there x.back n.0.1), n.1, n.2); walked = NameContinues.pointer x.there; within = omega arith }
+    record { name = ((n.0.0, NameAt.pointer x.there x.back n.0.1), n.1, n.2); name_ends = NameContinues.pointer x.there; within = omega arith }

@@ -11,7 +11,7 @@ use Rattle.dns_name.specs.declared.head.Head.TheVariants.{Root, Label, Pointer}
 use Rattle.dns_name.specs.Unique.{EncodedName, same_name, name_size-label_at, length_label, encoded_name}
 use Rattle.dns_name.proofs.theory.HeadLemmas.{label_there, root_there, root_begins, label_begins, name_begins, Passes, passes_none, passes_label}
 use Rattle.dns_name.proofs.theory.NameOrFaultLaws.{not_both}
-use Rattle.dns_name.proofs.theory.WalkLaws.{skip_fault}
+use Rattle.dns_name.proofs.theory.ExtentLaws.{skip_fault}
 
 -- The octets from offset p on begin with the octet at p.
 drop_at : (b : List ℕ) (p x : ℕ) → slice_get b p ≡ Some x → drop p b ≡ x ∷ drop (p + 1) b

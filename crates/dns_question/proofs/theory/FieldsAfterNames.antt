@@ -1,7 +1,7 @@
 -- At each offset a name and the fields after it are read, or there is one fault.
 use Rattle.std.proofs.Common.{◌≡◌, ℕ, ◌+◌, ◌<◌, ◌≤◌, ◌⊎◌, inl, inr, List, length, arith, ap, sym, ◌∙◌, refl}
 use Rattle.std.proofs.lemmas.Bool.Decides.{leb_tells}
-use Rattle.dns_name.specs.Names.{Labels, Fault, NameAt, Walked, ReadsOrFaults, EndsOrFaults}
+use Rattle.dns_name.specs.Names.{Labels, Fault, NameAt, NameEndsAt, ReadsOrFaults, EndsOrFaults}
 use Rattle.dns_name.specs.Names.Fault.{ShortInput}
 use Rattle.dns_name.proofs.theory.Names.{name_or_fault, not_both, one_fault, end_or_skip_fault, end_not_both, one_end, names_end, skip_faults}
 use Rattle.dns_question.specs.AfterNames.{SkipsFields, FieldsFaultAt, FieldsSkipFaultAt}
@@ -15,24 +15,24 @@ long_or_short b n = elim (leb_tells n (length b)) [ inl l ↦ inl l.1 | inr l �
 module _ (b : List ℕ) (size : ℕ → ℕ) where
   -- the end of the name decides the end of the fields
   pub one_name_end : {p q r : ℕ} (h : SkipsFields b size p q) (k : SkipsFields b size p r) → h.name_end ≡ k.name_end
-  one_name_end h k = one_end b _ _ _ h.walked k.walked
+  one_name_end h k = one_end b _ _ _ h.name_ends k.name_ends
 
   pub one_fields_end : {p q r : ℕ} → SkipsFields b size p q → SkipsFields b size p r → q ≡ r
   one_fields_end h k = h.end ∙ ap (λ n. n + size n) (one_name_end h k) ∙ sym k.end
 
   -- the fields after a name that ends at r, if they are within the octets
-  abbrev pub fields_from : {p r : ℕ} → Walked b p r → r + size r ≤ length b → SkipsFields b size p (r + size r)
-  fields_from {r = r} w l = record { name_end = r; walked = w; end = refl; within = l }
+  abbrev pub fields_from : {p r : ℕ} → NameEndsAt b p r → r + size r ≤ length b → SkipsFields b size p (r + size r)
+  fields_from {r = r} w l = record { name_end = r; name_ends = w; end = refl; within = l }
 
   module _ (Lacks : ℕ → Type 0) (long : (r : ℕ) → (r + size r ≤ length b) ⊎ Lacks r) (lacks : (r : ℕ) → Lacks r → length b < r + size r) where
     -- the fields after a name can't be all there and lack octets
-    lacking : (p q r : ℕ) → SkipsFields b size p q → Walked b p r → Lacks r → ⊥
+    lacking : (p q r : ℕ) → SkipsFields b size p q → NameEndsAt b p r → Lacks r → ⊥
     lacking p q r h w l =
-        let e : h.name_end + size h.name_end ≡ r + size r = ap (λ n. n + size n) (one_end b p _ _ h.walked w) in
+        let e : h.name_end + size h.name_end ≡ r + size r = ap (λ n. n + size n) (one_end b p _ _ h.name_ends w) in
         let a = h.end in let m = h.within in omega (arith, lacks r l)
 
     only_end : (p q : ℕ) (f : Fault) → SkipsFields b size p q → FieldsSkipFaultAt b Lacks p f → ⊥
-    only_end p q f h (name_skip_fault g) = end_not_both b p h.name_end f h.walked g
+    only_end p q f h (name_skip_fault g) = end_not_both b p h.name_end f h.name_ends g
     only_end p q f h (unended_fields {r = r} w l) = lacking p q r h w l
 
     one_skip_fault : (p : ℕ) (f g : Fault) → FieldsSkipFaultAt b Lacks p f → FieldsSkipFaultAt b Lacks p g → f ≡ g
@@ -61,7 +61,7 @@ module _ (b : List ℕ) (size : ℕ → ℕ) where
     -- entries that are a name and the fields after it
     module _ {X : Type 0} (Reads : ℕ → ℕ → X → Type 0) (labels : X → Labels)
         (skips : (p q : ℕ) (x : X) → Reads p q x → SkipsFields b size p q × NameAt b p (labels x))
-        (read : (p r : ℕ) (name : Labels) → NameAt b p name → Walked b p r → r + size r ≤ length b → (x : X) × Reads p (r + size r) x)
+        (read : (p r : ℕ) (name : Labels) → NameAt b p name → NameEndsAt b p r → r + size r ≤ length b → (x : X) × Reads p (r + size r) x)
         (one : (p q r : ℕ) (x y : X) → Reads p q x → Reads p r y → x ≡ y)
       where
         only_read : (p q : ℕ) (x : X) (f : Fault) → Reads p q x → FieldsFaultAt b Lacks p f → ⊥

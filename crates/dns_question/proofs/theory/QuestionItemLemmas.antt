@@ -39,7 +39,7 @@ reads_question x t p q is good h =
     let within = h.2.0.within in
     let short : 0 + name_size x.name ≤ max_size = let s = is.name.short in omega arith in
     record {
-      skips = record { name_end = r; walked = compressed_ends 0 good short h.1; end = end; within = omega arith };
+      skips = record { name_end = r; name_ends = compressed_ends 0 good short h.1; end = end; within = omega arith };
       name = compressed_name_at good is.name.short h.1;
       rtype = sym (number_16 t.octets r x.rtype is.rtype first);
       class = sym (number_16 t.octets (r + 2) x.class is.class second);

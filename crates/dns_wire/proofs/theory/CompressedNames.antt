@@ -5,7 +5,7 @@ use Rattle.std.proofs.lemmas.List.{drop-append-le, take-append-drop, nil_from_le
 use Rattle.std.proofs.Math.Seq.{take-append_seam, drop-append_seam, take-append-add}
 use Rattle.std.specs.FinMap.{get}
 use Rattle.dns_octets.specs.Octets.{overwritten}
-use Rattle.dns_name.specs.Names.{IsLabel, framed, head_at, label_at, Labels, name_size, max_size, NameAt, NameContinues, Walked}
+use Rattle.dns_name.specs.Names.{IsLabel, framed, head_at, label_at, Labels, name_size, max_size, NameAt, NameContinues, NameEndsAt}
 use Rattle.dns_name.specs.declared.head.Head.TheVariants.{Root, Label, Pointer}
 use Rattle.dns_name.proofs.theory.UncompressedNames.{get_drop}
 use Rattle.dns_wire.specs.Encoders.{pointer as pointer_octets, CompressionTable, TableEntry, cut, IsClear}
@@ -267,6 +267,6 @@ pub name_at_up_to : {m : CompressionTable} {b : List ℕ} {q p : ℕ} {name : La
 name_at_up_to end r l short s = compressed_name_at (is_table_cut end r) short (compressed_cut end l s)
 
 -- Its encoding ends at the same offset there.
-pub walked_within : {m : CompressionTable} {b : List ℕ} {q p : ℕ} {name : Labels} (end : ℕ) → IsTableOf b m → q ≤ end → name_size name ≤ max_size
-    → Compressed m b q p name → Walked (take end b) p q
-walked_within end r l short s = compressed_ends 0 (is_table_cut end r) (omega arith) (compressed_cut end l s)
+pub ends_within_octets : {m : CompressionTable} {b : List ℕ} {q p : ℕ} {name : Labels} (end : ℕ) → IsTableOf b m → q ≤ end → name_size name ≤ max_size
+    → Compressed m b q p name → NameEndsAt (take end b) p q
+ends_within_octets end r l short s = compressed_ends 0 (is_table_cut end r) (omega arith) (compressed_cut end l s)

@@ -16,7 +16,7 @@ use Rattle.dns_wire.specs.Targets.{At, Compressed, Written, IsTarget, append, cu
 use Rattle.dns_wire.specs.TargetLaws.{CutUndoes, AppendsCompose, ComposesBoth, ComposesFirst}
 use Rattle.dns_wire.proofs.theory.CompressionTables.{cut-extends, cut-within, gets, get-cut, same_table}
 use Rattle.dns_wire.proofs.theory.EncodedNames.{encode_name_grows, encode_octets_grows, both_grows, with_length_grows, ends_within_content, encodes_compressed_name}
-use Rattle.dns_wire.proofs.theory.CompressedNames.{at_append, at_end, compressed_long, compressed_more, kept_more, name_at_up_to, walked_within}
+use Rattle.dns_wire.proofs.theory.CompressedNames.{at_append, at_end, compressed_long, compressed_more, kept_more, name_at_up_to, ends_within_octets}
 
 -- Targets with the same octets and the same table are the same.
 pub same_written : (t u : Written) → t.octets ≡ u.octets → t.table ≡ u.table → t ≡ u
@@ -147,7 +147,7 @@ parts_at (Octets xs ∷ parts) t p q is good h =
     (h.1.0.same, subst (λ r. PartsAt t.octets q r parts) h.1.1 (parts_at parts t h.0 q is good h.2))
 parts_at (CompressibleName name ∷ parts) t p q is good h =
     let l = parts_rise parts t h.0 q h.2 in
-    (h.0, name_at_up_to q good l is.0.short h.1, walked_within q good l is.0.short h.1, parts_at parts t h.0 q is.1 good h.2)
+    (h.0, name_at_up_to q good l is.0.short h.1, ends_within_octets q good l is.0.short h.1, parts_at parts t h.0 q is.1 good h.2)
 
 -- Numbers at offsets, and encodings preceded by their length.
 

@@ -3,7 +3,7 @@ use Rattle.std.proofs.Common.{◌≡◌, ℕ, ◌+◌, ◌-◌, ◌≤◌, ◌�
 use Rattle.std.specs.Prelude.{Some, None}
 use Rattle.std.specs.Int.{to_be_bytes, w16}
 use Rattle.std.specs.FinMap.{get, len, get-empty}
-use Rattle.dns_name.specs.Names.{Labels, IsName, name_size, max_size, Walked}
+use Rattle.dns_name.specs.Names.{Labels, IsName, name_size, max_size, NameEndsAt}
 use Rattle.dns_wire.specs.Encoders.{CompressionTable, TableEntry, nothing, suffix_cmp, add_suffixes, Rule, Plain, Static, Tree, Hash, Encoder, Encoded, encode_octets, both, with_length, compress, kept, encode_name}
 use Rattle.dns_wire.specs.Parts.{Part, Octets, CompressibleName, AreParts, encode_parts, PartsNear}
 use Rattle.dns_wire.specs.Targets.{At, IsTableOf, Written, IsTarget, append}
@@ -152,11 +152,11 @@ compresses_shortest Hash n few = compresses_hash
 name_short : (rule : Rule) (name : Labels) (t : Written) (encoded : Encoded) (c : List ℕ) (names : List Labels) (rest : List Part) (end : ℕ) → KeepsNear rule → IsName name → Knows t.table names
     → let compressed = compress rule t.table (length t.octets) (len t.table) name in encoded ≡ record { octets = compressed.0; table = add_suffixes t.table (kept rule compressed.1) (length t.octets + length compressed.0) }
     → ((s : Labels) (x : TableEntry) → get t.table s ≡ Some x → get encoded.table s ≡ Some x)
-    → Walked ((t.octets ++ encoded.octets) ++ c) (length t.octets) (length (t.octets ++ encoded.octets))
+    → NameEndsAt ((t.octets ++ encoded.octets) ++ c) (length t.octets) (length (t.octets ++ encoded.octets))
     → PartsNear ((t.octets ++ encoded.octets) ++ c) end (length t.octets) (CompressibleName name ∷ rest)
     → SharesAll rule (len t.table + length (compress rule t.table (length t.octets) (len t.table) name).1)
     → Short names (CompressibleName name ∷ []) rest ((t.octets ++ encoded.octets) ++ c) (length t.octets) (length (t.octets ++ encoded.octets)) end encoded.table
-name_short rule name t encoded c names rest end r is knows e g walked near few =
+name_short rule name t encoded c names rest end r is knows e g name_ends near few =
     let m = t.table in
     let w = length t.octets in
     let compressed = compress rule m w (len m) name in
@@ -171,7 +171,7 @@ name_short rule name t encoded c names rest end r is knows e g walked near few =
     let long : length (t.octets ++ encoded.octets) ≡ w + length compressed.0 = length-append t.octets encoded.octets ∙ ap (λ (xs : List ℕ). w + length xs) text in
     record {
       knows = knows_more rule m encoded.table names w (len m) q name knows all table g;
-      near = subst (λ k. PartsNear b end k rest) (near_end walked near.1) near.2;
+      near = subst (λ k. PartsNear b end k rest) (near_end name_ends near.1) near.2;
       rises = omega arith;
       attains = λ n s.
           let k : length compressed.0 + n ≡ length (t.octets ++ encoded.octets) - w + n = omega arith in

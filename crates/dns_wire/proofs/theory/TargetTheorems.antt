@@ -61,7 +61,7 @@ names_read_back rule t name is h =
     let p = encodes_name rule name is in
     let u = p.keeps t h in
     let s = p.encodes t h in
-    record { encoded = compressed_name_at u is.short s; walked = compressed_ends 0 u (omega (arith, is.short)) s; pointed = pointed u s }
+    record { encoded = compressed_name_at u is.short s; name_ends = compressed_ends 0 u (omega (arith, is.short)) s; pointed = pointed u s }
 
 -- Written parts read back.
 pub parts_read_back : PartsReadBack

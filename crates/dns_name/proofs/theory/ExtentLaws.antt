@@ -85,16 +85,16 @@ module _ (b : List ℕ) where
   end_or_skip_fault p = answer 256 p 0 (omega arith)
 
 -- An encoding ends at or after its offset.
-pub walked_rises : {b : List ℕ} {p s q : ℕ} → NameContinues b p s q → p ≤ q
-walked_rises (NameContinues.root h) = omega arith
-walked_rises (NameContinues.pointer h) = omega arith
-walked_rises (NameContinues.label h small fits x) = let l = walked_rises x in omega arith
+pub ends_after : {b : List ℕ} {p s q : ℕ} → NameContinues b p s q → p ≤ q
+ends_after (NameContinues.root h) = omega arith
+ends_after (NameContinues.pointer h) = omega arith
+ends_after (NameContinues.label h small fits x) = let l = ends_after x in omega arith
 
 -- An encoding ends within the octets.
-pub walked_in_octets : {b : List ℕ} {p s q : ℕ} → NameContinues b p s q → q ≤ length b
-walked_in_octets {b = b} (NameContinues.root {p = p} h) = let l = root_within b p h in omega arith
-walked_in_octets {b = b} (NameContinues.pointer {p = p} {t = t} h) = let l = pointer_within b p t h in omega arith
-walked_in_octets (NameContinues.label h small fits x) = walked_in_octets x
+pub ends_in_octets : {b : List ℕ} {p s q : ℕ} → NameContinues b p s q → q ≤ length b
+ends_in_octets {b = b} (NameContinues.root {p = p} h) = let l = root_within b p h in omega arith
+ends_in_octets {b = b} (NameContinues.pointer {p = p} {t = t} h) = let l = pointer_within b p t h in omega arith
+ends_in_octets (NameContinues.label h small fits x) = ends_in_octets x
 
 -- The encoding of a name has an end.
 pub encoded_end : {b : List ℕ} {p : ℕ} {name : Labels} (s : ℕ) → NameAt b p name → s + name_size name ≤ max_size → (q : ℕ) × NameContinues b p s q
