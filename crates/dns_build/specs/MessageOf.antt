@@ -2,7 +2,7 @@
 use Rattle.std.specs.Prelude.{◌≡◌, ℕ, List, [], ◌∷◌, length, map, take, Ok, ◌+◌, ◌++◌, ◌≤◌, true}
 use Rattle.std.specs.FinMap.{len}
 use Rattle.dns_name.specs.Names.{pointer_end}
-use Rattle.dns_wire.specs.Parts.{Part, Octets, CompressibleName, PartsNear, PartsPointed}
+use Rattle.dns_wire.specs.Parts.{Part, Octets, CompressibleName, PartsInPointerRange, PartsPointed}
 use Rattle.dns_wire.specs.Compression.{IsShortest, SharesAll}
 use Rattle.dns_wire.specs.Encoders.{Rule, IsAtOrAfter}
 use Rattle.dns_wire.specs.Targets.{IsTarget}
@@ -75,8 +75,8 @@ abbrev pub PointsToLabels : State → List ℕ → Type 0
 PointsToLabels s b = PartsPointed b (length b) header_size (parts_of s)
 
 -- in these octets, each label of a name begins below offset 16,384
-abbrev pub HasLabelsNear : State → List ℕ → Type 0
-HasLabelsNear s b = PartsNear b (length b) header_size (parts_of s)
+abbrev pub HasLabelsInPointerRange : State → List ℕ → Type 0
+HasLabelsInPointerRange s b = PartsInPointerRange b (length b) header_size (parts_of s)
 
 -- these octets are as many as a header section and the items, in the shortest compression of their names
 abbrev pub IsShortestOf : State → List ℕ → Type 0
@@ -87,8 +87,8 @@ pub record IsMessageOf (rule : Rule) (s : State) (b : List ℕ) : Type 0 where
   pub octets : b ≡ (encode rule s).octets
   pub reads_back : ReadsBack s b
   pub pointers : PointsToLabels s b
-  pub shortest : SharesAll rule (len (encode rule s).table) → HasLabelsNear s b → IsShortestOf s b
-  pub near : length b ≤ pointer_end → HasLabelsNear s b
+  pub shortest : SharesAll rule (len (encode rule s).table) → HasLabelsInPointerRange s b → IsShortestOf s b
+  pub in_range : length b ≤ pointer_end → HasLabelsInPointerRange s b
 
 -- Theorems over all states, rules and headers. RFC 1035 section 4.1.
 

@@ -25,6 +25,6 @@ mod record_reading;
 pub use dns_question::{ComposeQuestion, Question, question};
 pub use dns_ttl::Ttl;
 pub use opt_record::OptRecord;
-pub use parsed_record::{ParsedRecord, parse_record_near};
+pub use parsed_record::{ParsedRecord, parse_record_cached};
 pub use record::{ComposeRecord, Record};
 pub use record_header::RecordHeader;

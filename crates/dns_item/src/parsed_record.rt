@@ -1,13 +1,13 @@
 //! Records whose RDATA isn't parsed yet (RFC 1035 section 4.1.3).
 ghost use Rattle.std.specs.Prelude.{◌≡◌};
-ghost use Rattle.dns_name.specs.NearNames.{IsNear};
+ghost use Rattle.dns_name.specs.CachedNames.{IsCached};
 ghost use Rattle.dns_name.specs.Parsers.{seen};
 ghost use Rattle.dns_item.specs.RecordHeader.{owner_of, rtype_of, class_of, ttl_of, rdlen_of};
 ghost use Rattle.dns_item.specs.ParsedRecord.{header_of, data_parser, ParsesRecord, SkipsOverRecord};
 
 use crate::record_header::RecordHeader;
 use dns_code::{Class, Rtype};
-use dns_name::NearName;
+use dns_name::CachedName;
 use dns_ttl::Ttl;
 use dns_wire::{ParseError, ParsedName, Parser};
 
@@ -71,7 +71,7 @@ impl<'a> ParsedRecord<'a> {
     pub fn parse(parser: &mut Parser<'a>) -> Result<Self, ParseError>
         ensures { ParsesRecord parser.old parser.new result }
     {
-        parse_record_near(parser, &mut NearName::new())
+        parse_record_cached(parser, &mut CachedName::new())
     }
 
     /// Skips a record without following a pointer in its owner and without parsing its RDATA.
@@ -91,18 +91,18 @@ impl<'a> ParsedRecord<'a> {
     }
 }
 
-/// As [`ParsedRecord::parse`], with the owner read by `parse_near` of `dns_name`, which uses the
-/// cached name `near`.
+/// As [`ParsedRecord::parse`], with the owner read by `parse_cached` of `dns_name`, which uses the
+/// cached name `cached`.
 #[inline(always)]
-pub fn parse_record_near<'a>(
+pub fn parse_record_cached<'a>(
     parser: &mut Parser<'a>,
-    near: &mut NearName,
+    cached: &mut CachedName,
 ) -> Result<ParsedRecord<'a>, ParseError>
-    requires near { IsNear (seen parser.old) near.old }
+    requires cached { IsCached (seen parser.old) cached.old }
     ensures parses { ParsesRecord parser.old parser.new result }
-    ensures near { IsNear (seen parser.old) near.new }
+    ensures cached { IsCached (seen parser.old) cached.new }
 {
-    let (header, data) = RecordHeader::read(*parser, near)?;
+    let (header, data) = RecordHeader::read(*parser, cached)?;
     let mut after = data;
     after.advance(usize::from(header.rdlen()))?;
     *parser = after;

@@ -1,6 +1,6 @@
 //! Record headers (RFC 1035 section 4.1.3).
 ghost use Rattle.std.specs.Prelude.{◌≡◌};
-ghost use Rattle.dns_name.specs.NearNames.{IsNear};
+ghost use Rattle.dns_name.specs.CachedNames.{IsCached};
 ghost use Rattle.dns_name.specs.Parsers.{seen, offset, Takes};
 ghost use Rattle.dns_wire.specs.Targets.{Composes};
 ghost use Rattle.dns_item.specs.Record.{HasFields};
@@ -8,7 +8,7 @@ ghost use Rattle.dns_item.specs.RecordHeader.{owner_of, rtype_of, class_of, ttl_
 
 use crate::record::Record;
 use dns_code::{Class, Rtype};
-use dns_name::{NearName, parse_near};
+use dns_name::{CachedName, parse_cached};
 use dns_ttl::Ttl;
 use dns_wire::{AppendError, Composer, ParseError, ParsedName, Parser, ToName};
 
@@ -125,7 +125,7 @@ impl<'a> RecordHeader<ParsedName<'a>> {
     pub fn parse(parser: &mut Parser<'a>) -> Result<Self, ParseError>
         ensures { ParsesHeader parser.old parser.new result }
     {
-        let (header, after) = RecordHeader::read(*parser, &mut NearName::new())?;
+        let (header, after) = RecordHeader::read(*parser, &mut CachedName::new())?;
         *parser = after;
         Ok(header)
     }
@@ -144,24 +144,24 @@ impl<'a> RecordHeader<ParsedName<'a>> {
     pub fn parse_and_skip(parser: &mut Parser<'a>) -> Result<Self, ParseError>
         ensures { ParsesAndSkips parser.old parser.new result }
     {
-        let (header, mut after) = RecordHeader::read(*parser, &mut NearName::new())?;
+        let (header, mut after) = RecordHeader::read(*parser, &mut CachedName::new())?;
         after.advance(usize::from(header.rdlen))?;
         *parser = after;
         Ok(header)
     }
 
     /// The header at the parser's offset, and the parser after it, at the RDATA. The owner is read
-    /// by `parse_near`, which uses the cached name `near`.
+    /// by `parse_cached`, which uses the cached name `cached`.
     #[inline(always)]
     pub(crate) fn read(
         mut parser: Parser<'a>,
-        near: &mut NearName,
+        cached: &mut CachedName,
     ) -> Result<(Self, Parser<'a>), ParseError>
-        requires near { IsNear (seen parser) near.old }
+        requires cached { IsCached (seen parser) cached.old }
         ensures reads { ReadsAhead parser.entry result }
-        ensures near { IsNear (seen parser.entry) near.new }
+        ensures cached { IsCached (seen parser.entry) cached.new }
     {
-        let owner = parse_near(&mut parser, near)?;
+        let owner = parse_cached(&mut parser, cached)?;
         let (rtype, class, ttl, rdlen) = read_fields(&mut parser)?;
         Ok((RecordHeader::new(owner, rtype, class, ttl, rdlen), parser))
     }

@@ -1,6 +1,6 @@
 -- Lemmas that other crates cite, so a change here affects them too.
 pub mod HeadLemmas
-pub mod NearNames
+pub mod CachedNames
 pub mod NameOrFaultLaws
 pub mod ExtentLaws
 pub mod LabelsLemmas

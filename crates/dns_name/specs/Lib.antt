@@ -1,6 +1,6 @@
 pub mod Names
 pub mod Unique
-pub mod NearNames
+pub mod CachedNames
 pub mod Laws
 pub mod Parsers
 pub mod ParsedName

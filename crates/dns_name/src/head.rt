@@ -29,7 +29,7 @@ pub(crate) struct LabelRow {
 
 impl Head {
     ghost use Rattle.dns_name.specs.Names.{head_at, Reads, BeginsOrFails};
-    ghost use Rattle.dns_name.specs.NearNames.{IsInReach, PassesLabelsOrFails};
+    ghost use Rattle.dns_name.specs.CachedNames.{IsInReach, PassesLabelsOrFails};
 
     /// Returns what begins at offset `offset`.
     #[tactic(auto, unfolding(crate::specs::Names::head_at))]

@@ -5,6 +5,8 @@
 //! text represents (RFC 1035 section 5.1).
 #![tactic(auto)]
 
+mod cached_name;
+mod cached_reading;
 pub mod compare;
 mod flatten;
 mod head;
@@ -16,19 +18,17 @@ mod name_error;
 mod name_octets;
 mod name_print;
 mod name_text;
-mod near_name;
-mod near_reading;
 mod parsed_name;
 mod parser;
 mod to_name;
 
+pub use cached_name::CachedName;
+pub use cached_reading::{cached_at, parse_cached};
 pub use flatten::FlattenInto;
 pub use head::Head;
 pub use label::Label;
 pub use label_iter::LabelIter;
 pub use name::Name;
-pub use near_name::NearName;
-pub use near_reading::{near_at, parse_near};
 pub use parsed_name::ParsedName;
 pub use parser::Parser;
 pub use to_name::ToName;

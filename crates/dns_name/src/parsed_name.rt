@@ -1,10 +1,10 @@
 ghost use Rattle.std.specs.Prelude.{◌≡◌, ℕ, List, ◌+◌, ◌↔◌, ◌≤◌, IsTrue, IsSome, IfSome, [], length};
 ghost use Rattle.dns_name.specs.Unique.{NameOfSizeAndCount, NameOfSizeAndCount-prop};
 
+use crate::cached_name::CachedName;
+use crate::cached_reading::parse_cached;
 use crate::head::{Head, MAX_SIZE};
 use crate::label_iter::LabelIter;
-use crate::near_name::NearName;
-use crate::near_reading::parse_near;
 use crate::parser::Parser;
 use dns_octets::{FormError, ParseError};
 
@@ -34,7 +34,7 @@ pub(crate) struct NameExtent {
 impl<'a> ParsedName<'a> {
     ghost use Rattle.dns_name.specs.Names.{Labels, uncompressed, with_root, NameAt};
     ghost use Rattle.dns_name.specs.Parsers.{seen, offset};
-    ghost use Rattle.dns_name.specs.NearNames.{IsNear, ArrivesOrFails, MeasuresOrFails};
+    ghost use Rattle.dns_name.specs.CachedNames.{IsCached, ArrivesOrFails, MeasuresOrFails};
     ghost use Rattle.dns_name.specs.ParsedName.{labels, ParsesName, SkipsName, ReadsEncoded, IsFlat, labels_left};
     ghost use Rattle.dns_name.specs.Uncompressed.{WholeName};
 
@@ -50,27 +50,27 @@ impl<'a> ParsedName<'a> {
         ensures reads { ParsesName parser.old parser.new result }
         ensures name { ReadsEncoded (seen parser.old) (offset parser.old) result }
     {
-        parse_near(parser, &mut NearName::new())
+        parse_cached(parser, &mut CachedName::new())
     }
 
     /// Returns the end of the name at offset `start`, the octets that its labels take, and the
-    /// number of its labels. Uses and updates the cached name `near`.
+    /// number of its labels. Uses and updates the cached name `cached`.
     #[inline(always)]
     pub(crate) fn walk(
         octets: &[u8],
         start: usize,
-        near: &mut NearName,
+        cached: &mut CachedName,
     ) -> Result<NameExtent, ParseError>
         requires within { start ≤ length octets.now }
-        requires near { IsNear octets.now near.old }
+        requires cached { IsCached octets.now cached.old }
         ensures arrives { ArrivesOrFails octets.now start result }
-        ensures near { IsNear octets.now near.new }
+        ensures cached { IsCached octets.now cached.new }
     {
-        if near.is_pointed_to(octets, start) {
+        if cached.is_pointed_to(octets, start) {
             return Ok(NameExtent {
                 end: start + 2,
-                size: usize::from(near.size),
-                count: usize::from(near.count),
+                size: usize::from(cached.size),
+                count: usize::from(cached.count),
             });
         }
         let row = Head::after_labels(octets, start, 0)?;
@@ -85,16 +85,16 @@ impl<'a> ParsedName<'a> {
         if usize::from(target) >= row.end {
             return Err(ParseError::Form(FormError::BAD_POINTER));
         }
-        let known = before + usize::from(near.size);
-        if target == near.pos && known <= MAX_SIZE {
+        let known = before + usize::from(cached.size);
+        if target == cached.pos && known <= MAX_SIZE {
             return Ok(NameExtent {
                 end: row.end + 2,
                 size: known,
-                count: row.count + usize::from(near.count),
+                count: row.count + usize::from(cached.count),
             });
         }
         let (size, count) = ParsedName::size_at(octets, target, before)?;
-        *near = NearName::at(octets, target, size, count);
+        *cached = CachedName::at(octets, target, size, count);
         Ok(NameExtent {
             end: row.end + 2,
             size: before + size,

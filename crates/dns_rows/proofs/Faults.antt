@@ -119,10 +119,10 @@ past_end m n h = omega (arith, h)
 
 pub stops_cut : (b : List ℕ) (of : NameOf) (start p n : ℕ) → slice_get b p ≡ Some n → n < 64 → (head_at b p ≡ Ok Root → ⊥) → ((n : ℕ) → IsLabelAt b p (p - start) n → ⊥)
     → (p - start) + n < 254 → StopsName b of start p (faults.Short (fields.Label of))
-stops_cut b of start p zero there small unlike none near = absurd (unlike (root_begins b p there))
-stops_cut b of start p (suc n) there small unlike none near =
+stops_cut b of start p zero there small unlike none in_range = absurd (unlike (root_begins b p there))
+stops_cut b of start p (suc n) there small unlike none in_range =
     let begins = label_begins b p (suc n) (omega arith) (omega (arith, small)) there in
-    let short : (p - start) + suc n + 1 ≤ max_size = omega (arith, near) in
+    let short : (p - start) + suc n + 1 ≤ max_size = omega (arith, in_range) in
     cut_label begins short (past_end (length b) (p + 1 + suc n) (λ fits. none (suc n) (record { begins = begins; short = short; fits = fits })))
 
 -- the fault that a row reports belongs to the fault that reading the name meets

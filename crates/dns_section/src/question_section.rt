@@ -1,5 +1,5 @@
 ghost use Rattle.std.specs.Prelude.{◌≡◌, ◌≤◌, length, Ok};
-ghost use Rattle.dns_name.specs.NearNames.{IsNear, IsNear-prop};
+ghost use Rattle.dns_name.specs.CachedNames.{IsCached, IsCached-prop};
 ghost use Rattle.dns_name.specs.Parsers.{input, seen};
 ghost use Rattle.dns_code.specs.HeaderSection.{header_size};
 ghost use Rattle.dns_question.specs.Questions.{SkipsQuestion, QuestionSkipFaultAt};
@@ -10,7 +10,7 @@ use crate::record_section::RecordSection;
 use crate::section::Section;
 use dns_code::HeaderCounts;
 use dns_item::Question;
-use dns_name::{NearName, near_at};
+use dns_name::{CachedName, cached_at};
 use dns_wire::{ParseError, ParsedName, Parser};
 
 /// A cursor over the questions of a message (RFC 1035 section 4.1.2).
@@ -23,10 +23,10 @@ pub struct QuestionSection<'a> {
     /// The count of questions that may still come, or the error that was yielded.
     left: Result<u16, ParseError>,
     /// A cached name: that of the last question yielded, if any. Owner names may point to it.
-    near: NearName,
+    cached: CachedName,
     ghost long: { header_size ≤ length (input parser) },
     ghost whole: { seen parser ≡ input parser },
-    ghost met: { IsNear (seen parser) near } by { IsNear-prop (seen parser) near },
+    ghost met: { IsCached (seen parser) cached } by { IsCached-prop (seen parser) cached },
 }
 
 impl<'a> QuestionSection<'a> {
@@ -50,7 +50,7 @@ impl<'a> QuestionSection<'a> {
         QuestionSection {
             parser,
             left: Ok(HeaderCounts::for_message_slice(octets).qdcount()),
-            near: NearName::new(),
+            cached: CachedName::new(),
         }
     }
 
@@ -77,7 +77,7 @@ impl<'a> QuestionSection<'a> {
         match Question::parse(&mut self.parser) {
             Ok(question) => {
                 self.left = Ok(left);
-                self.near = near_at(question.qname(), start);
+                self.cached = cached_at(question.qname(), start);
                 Some(Ok(question))
             }
             Err(error) => {
@@ -96,7 +96,7 @@ impl<'a> QuestionSection<'a> {
     {
         let mut parser = self.parser;
         skip_questions(&mut parser, self.left?)?;
-        Ok(RecordSection::at(Section::Answer, parser, self.near))
+        Ok(RecordSection::at(Section::Answer, parser, self.cached))
     }
 
     /// The same as `answer`.

@@ -1,5 +1,5 @@
 ghost use Rattle.std.specs.Prelude.{◌≡◌, ◌≤◌, length};
-ghost use Rattle.dns_name.specs.NearNames.{IsNear, IsNear-prop};
+ghost use Rattle.dns_name.specs.CachedNames.{IsCached, IsCached-prop};
 ghost use Rattle.dns_name.specs.Parsers.{input, seen, offset};
 ghost use Rattle.dns_code.specs.HeaderSection.{header_size};
 ghost use Rattle.dns_item.specs.Items.{SkipsRecord, RecordSkipFaultAt};
@@ -7,8 +7,8 @@ ghost use Rattle.dns_section.specs.Skipping.{SkipsAll};
 
 use crate::section::Section;
 use dns_code::HeaderCounts;
-use dns_item::{ParsedRecord, parse_record_near};
-use dns_name::NearName;
+use dns_item::{ParsedRecord, parse_record_cached};
+use dns_name::CachedName;
 use dns_wire::{ParseError, Parser};
 
 /// A cursor over the records of a section of a message (RFC 1035 section 4.1.3).
@@ -24,10 +24,10 @@ pub struct RecordSection<'a> {
     /// A cached name: where the first pointer of the last owner with a pointer led. Before the
     /// first such owner of the answer section, it is the name of the last question yielded, if any.
     /// The next owner may point to it too.
-    near: NearName,
+    cached: CachedName,
     ghost long: { header_size ≤ length (input parser) },
     ghost whole: { seen parser ≡ input parser },
-    ghost met: { IsNear (seen parser) near } by { IsNear-prop (seen parser) near },
+    ghost met: { IsCached (seen parser) cached } by { IsCached-prop (seen parser) cached },
 }
 
 impl<'a> RecordSection<'a> {
@@ -37,10 +37,10 @@ impl<'a> RecordSection<'a> {
 
     /// The section that begins at the parser's offset, with all of its records to come.
     #[inline(always)]
-    pub(crate) fn at(section: Section, parser: Parser<'a>, near: NearName) -> Self
+    pub(crate) fn at(section: Section, parser: Parser<'a>, cached: CachedName) -> Self
         requires long { header_size ≤ length (input parser) }
         requires whole { seen parser ≡ input parser }
-        requires near { IsNear (seen parser) near }
+        requires cached { IsCached (seen parser) cached }
         ensures fresh { IsFresh section (seen parser.entry) result }
         ensures position { position result ≡ offset parser.entry }
     {
@@ -54,7 +54,7 @@ impl<'a> RecordSection<'a> {
             parser,
             section,
             left: Ok(count),
-            near,
+            cached,
         }
     }
 
@@ -85,7 +85,7 @@ impl<'a> RecordSection<'a> {
         ensures section { section_of self.new ≡ section_of self.old }
     {
         let left = self.left.ok()?.checked_sub(1)?;
-        match parse_record_near(&mut self.parser, &mut self.near) {
+        match parse_record_cached(&mut self.parser, &mut self.cached) {
             Ok(record) => {
                 self.left = Ok(left);
                 Some(Ok(record))
@@ -112,7 +112,7 @@ impl<'a> RecordSection<'a> {
         };
         let mut parser = self.parser;
         skip_records(&mut parser, self.left?)?;
-        Ok(Some(RecordSection::at(section, parser, NearName::new())))
+        Ok(Some(RecordSection::at(section, parser, CachedName::new())))
     }
 }
 

@@ -145,7 +145,7 @@ entries_reachable rule w xs content name from offset h e f =
   where
     reachable_by : (offset : Option ℕ) → IsThere (table_in w.octets xs) name from offset → IsReachable name from offset
     reachable_by None t = tt
-    reachable_by (Some p) t = (t.0, let k = h.target.each _ t.1.0 t.1.1 in let l = k.near in let z = t.1.2 in omega arith)
+    reachable_by (Some p) t = (t.0, let k = h.target.each _ t.1.0 t.1.1 in let l = k.in_range in let z = t.1.2 in omega arith)
 
 -- the names once the suffixes of a name are added
 pub encode_names : (rule compressing : Rule) (w v : Written) (xs : List TableEntry) (name : Labels) (text : List ℕ) (ss : List (Labels × ℕ)) → IsName name → HasTableEntries rule w xs
@@ -197,7 +197,7 @@ static_encoded m w entry_count name from count offset e f k = planned_encoded St
 pub tree_encoded : (m : CompressionTable) (w : ℕ) (name : Labels) (from count : ℕ) (offset : Option ℕ) → IsFound m name from offset → Enters Tree w 0 name from count
     → IsEncoded Tree name m w (planned_octets (nat_lt count from) name from offset) (first_suffixes count name w)
 tree_encoded m w name from count offset f k =
-    planned_encoded Tree m w name from count offset (λ e. cc) refl f (record { within = k.within; near = λ i l. k.near i l; far = λ l. k.far l })
+    planned_encoded Tree m w name from count offset (λ e. cc) refl f (record { within = k.within; in_range = λ i l. k.in_range i l; far = λ l. k.far l })
 
 -- the length of the octets after an append
 pub ending : (w v : Written) (text content : List ℕ) → content ≡ v.octets → v ≡ append (encode_octets text) w → length content ≡ length w.octets + length text

@@ -3,7 +3,7 @@
 ghost use Rattle.std.specs.Prelude.{◌≡◌, ◌≤◌, [], None, length, drop};
 ghost use Rattle.dns_target.specs.TableEntries.{table_in};
 ghost use Rattle.dns_target.specs.Indexes.{AreTableEntries};
-ghost use Rattle.dns_target.specs.Table.{IsRest, RestIsName, table_entries_in, near_count as near_count_of};
+ghost use Rattle.dns_target.specs.Table.{IsRest, RestIsName, table_entries_in, in_range_count as in_range_count_of};
 
 use crate::index::{Plan, SuffixIndex};
 use crate::label_starts::LabelStarts;
@@ -64,9 +64,9 @@ impl HashIndex {
 
 /// The number of suffixes to add for a name at offset `offset`, whose new suffixes begin at the
 /// labels before `from`: all of these, or none if one begins at 16,384 or above.
-fn near_count(labels: &LabelStarts<'_>, offset: usize, from: usize) -> usize
+fn in_range_count(labels: &LabelStarts<'_>, offset: usize, from: usize) -> usize
     requires { from ≤ length labels.now }
-    ensures { result ≡ near_count_of offset labels.now from }
+    ensures { result ≡ in_range_count_of offset labels.now from }
 {
     if reaches(labels, offset, from) {
         from
@@ -136,7 +136,7 @@ impl SuffixIndex for HashIndex {
     fn plan(&self, content: &[u8], labels: &LabelStarts<'_>, found: Found) -> Plan {
         Plan {
             whole: false,
-            count: near_count(labels, content.len(), found.from),
+            count: in_range_count(labels, content.len(), found.from),
         }
     }
 

@@ -78,14 +78,14 @@ first_in_table m (label ∷ rest) = one_in_table m label rest (get m (label ∷ 
 chooses_step : (rule : Rule) (m : CompressionTable) (w entry_count : ℕ) (label : List ℕ) (rest : Labels) {text : List ℕ} {ss : List (Labels × ℕ)}
     → get m (label ∷ rest) ≡ None → (IsFar rule entry_count w → ⊥)
     → Chooses rule m (w + 1 + length label) (entry_count + 1) rest text ss → Chooses rule m w entry_count (label ∷ rest) (framed label ++ text) ((label ∷ rest, w) ∷ ss)
-chooses_step rule m w entry_count label rest e here (shared j end known ends near) =
+chooses_step rule m w entry_count label rest e here (shared j end known ends in_range) =
     let P : List ℕ → Type 0 = λ text. Chooses rule m w entry_count (label ∷ rest) text (first_suffixes (suc j) (label ∷ rest) w) in
     subst P (append_assoc (framed label) (flat_map framed (take j rest)) end)
-    (shared (suc j) end (step_in_table m label rest j e known) ends (not_far_step rule w entry_count label rest j here near))
-chooses_step rule m w entry_count label rest e here (written_out c j known less far near) =
+    (shared (suc j) end (step_in_table m label rest j e known) ends (not_far_step rule w entry_count label rest j here in_range))
+chooses_step rule m w entry_count label rest e here (written_out c j known less far in_range) =
     written_out (suc c) (suc j) (step_in_table m label rest j e known) (omega arith)
     (far_same rule (entry_count + 1 + c) (entry_count + suc c) (label_offset (w + 1 + length label) rest c) (label_offset w (label ∷ rest) (suc c)) (omega arith) (omega arith) far)
-    (not_far_step rule w entry_count label rest c here near)
+    (not_far_step rule w entry_count label rest c here in_range)
 
 -- The octets of a name and the suffixes written out are as chosen.
 chosen : {rule : Rule} {m : CompressionTable} {p entry_count : ℕ} {name : Labels} {text : List ℕ} {ss : List (Labels × ℕ)} → CompressesAs rule m p entry_count name text ss → Chooses rule m p entry_count name text ss
@@ -98,41 +98,41 @@ chosen {rule = rule} {m = m} (at_far {p = p} {entry_count = entry_count} {first 
     (far_same rule entry_count (entry_count + 0) p (p + 0) (omega arith) (omega arith) (far_is rule entry_count p k)) (λ i l far. omega arith)
 
 -- Whether a suffix is within pointer range.
-abbrev near_test : Labels × ℕ → Bool
-near_test s = nat_lt s.1 16384
+abbrev in_range_test : Labels × ℕ → Bool
+in_range_test s = nat_lt s.1 16384
 
 -- Each suffix is within pointer range.
-abbrev AreNear : List (Labels × ℕ) → Type 0
-AreNear ss = (s : Labels × ℕ) → IsAmong s ss → s.1 < 16384
+abbrev AreInPointerRange : List (Labels × ℕ) → Type 0
+AreInPointerRange ss = (s : Labels × ℕ) → IsAmong s ss → s.1 < 16384
 
 -- One suffix is past pointer range.
 abbrev OneIsFar : List (Labels × ℕ) → Type 0
 OneIsFar ss = (s : Labels × ℕ) × IsAmong s ss × (16384 ≤ s.1)
 
 -- If the test is true of all suffixes, each is within pointer range.
-all_near : (ss : List (Labels × ℕ)) → list_all (λ s. near_test s) ss ≡ true → AreNear ss
-all_near [] e s h = absurd h
-all_near (t ∷ ss) e s (inl h) =
-    let small = (and_parts (near_test t) (list_all (λ s. near_test s) ss) e).0 in
+all_in_range : (ss : List (Labels × ℕ)) → list_all (λ s. in_range_test s) ss ≡ true → AreInPointerRange ss
+all_in_range [] e s h = absurd h
+all_in_range (t ∷ ss) e s (inl h) =
+    let small = (and_parts (in_range_test t) (list_all (λ s. in_range_test s) ss) e).0 in
     let l : t.1 < 16384 = grind (arith, common_steps) in
     let p : s.1 ≡ t.1 = ap (λ (x : Labels × ℕ). x.1) h in
     omega arith
-all_near (t ∷ ss) e s (inr h) = all_near ss (and_parts (near_test t) (list_all (λ s. near_test s) ss) e).1 s h
+all_in_range (t ∷ ss) e s (inr h) = all_in_range ss (and_parts (in_range_test t) (list_all (λ s. in_range_test s) ss) e).1 s h
 
-some_far_one : (t : Labels × ℕ) (ss : List (Labels × ℕ)) (b : Bool) → near_test t ≡ b → b && list_all (λ s. near_test s) ss ≡ false
-    → (list_all (λ s. near_test s) ss ≡ false → OneIsFar ss) → OneIsFar (t ∷ ss)
+some_far_one : (t : Labels × ℕ) (ss : List (Labels × ℕ)) (b : Bool) → in_range_test t ≡ b → b && list_all (λ s. in_range_test s) ss ≡ false
+    → (list_all (λ s. in_range_test s) ss ≡ false → OneIsFar ss) → OneIsFar (t ∷ ss)
 some_far_one t ss true small e rec = let r = rec e in (r.0, inr r.1, r.2)
 some_far_one t ss false small e rec = (t, inl refl, grind (arith, common_steps))
 
 -- If it isn't, one suffix is past pointer range.
-some_far : (ss : List (Labels × ℕ)) → list_all (λ s. near_test s) ss ≡ false → OneIsFar ss
+some_far : (ss : List (Labels × ℕ)) → list_all (λ s. in_range_test s) ss ≡ false → OneIsFar ss
 some_far [] e = cc
-some_far (t ∷ ss) e = some_far_one t ss (near_test t) refl e (some_far ss)
+some_far (t ∷ ss) e = some_far_one t ss (in_range_test t) refl e (some_far ss)
 
 -- All suffixes enter the table, or none does because one is past pointer range.
-hash_table : (m : CompressionTable) (ss : List (Labels × ℕ)) (q : ℕ) (b : Bool) → list_all (λ s. near_test s) ss ≡ b
-    → (AreNear ss × (add_suffixes m (cond b ss []) q ≡ add_suffixes m ss q)) ⊎ (OneIsFar ss × (add_suffixes m (cond b ss []) q ≡ m))
-hash_table m ss q true e = inl (all_near ss e, refl)
+hash_table : (m : CompressionTable) (ss : List (Labels × ℕ)) (q : ℕ) (b : Bool) → list_all (λ s. in_range_test s) ss ≡ b
+    → (AreInPointerRange ss × (add_suffixes m (cond b ss []) q ≡ add_suffixes m ss q)) ⊎ (OneIsFar ss × (add_suffixes m (cond b ss []) q ≡ m))
+hash_table m ss q true e = inl (all_in_range ss e, refl)
 hash_table m ss q false e = inr (some_far ss e, refl)
 
 -- The octets of a name and the table after it are as chosen, under each rule of compression.
@@ -146,6 +146,6 @@ names_by_choice = record {
       record {
         suffixes = compressed.1;
         chooses = chosen (compresses_as Hash m w (len m) name);
-        table = hash_table m compressed.1 (w + length compressed.0) (list_all (λ s. near_test s) compressed.1) refl;
+        table = hash_table m compressed.1 (w + length compressed.0) (list_all (λ s. in_range_test s) compressed.1) refl;
       };
 }

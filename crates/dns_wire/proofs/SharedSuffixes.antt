@@ -9,8 +9,8 @@ use Rattle.dns_name.specs.Names.{Labels, IsName, uncompressed, name_size}
 use Rattle.dns_wire.specs.Encoders.{CompressionTable, TableEntry, add_suffixes, suffix_cmp, suffix_total, Rule, Plain, Static, Tree, Hash, compress, kept, is_kept}
 use Rattle.dns_wire.specs.Targets.{At}
 use Rattle.dns_wire.specs.Compression.{IsSuffix, IsShared, SharesAll}
-use Rattle.dns_wire.specs.Parts.{LabelsNear}
-use Rattle.dns_wire.proofs.theory.TargetTheorems.{near_label}
+use Rattle.dns_wire.specs.Parts.{LabelsInPointerRange}
+use Rattle.dns_wire.proofs.theory.TargetTheorems.{in_range_label}
 use Rattle.dns_wire.proofs.theory.CompressedNames.{label_begins, label_part, after_label}
 use Rattle.dns_wire.proofs.theory.CompressionTables.{get-insert_same}
 use Rattle.dns_wire.proofs.theory.EncodedNames.{Each, found, CompressesAs, compresses_as}
@@ -183,13 +183,13 @@ few_less Tree k n l h = tt
 few_less Hash k n l h = tt
 
 -- A rule by which each suffix within pointer range enters the table, while `SharesAll` holds.
-pub record KeepsNear (rule : Rule) : Type 0 where
+pub record KeepsInPointerRange (rule : Rule) : Type 0 where
   pub keeps : (p entry_count : ℕ) → p < 16384 → SharesAll rule entry_count → is_kept rule p entry_count ≡ true
   pub chosen : (ss : List (Labels × ℕ)) → list_all (λ s. nat_lt s.1 16384) ss ≡ true → kept rule ss ≡ ss
 
 -- The tree rule is one.
-pub tree_keeps_near : KeepsNear Tree
-tree_keeps_near = record { keeps = λ p entry_count h few. grind (arith, common_steps); chosen = λ ss h. refl }
+pub tree_keeps_in_range : KeepsInPointerRange Tree
+tree_keeps_in_range = record { keeps = λ p entry_count h few. grind (arith, common_steps); chosen = λ ss h. refl }
 
 -- The test of the static rule: the offset is within pointer range, and the table has fewer than 24 entries.
 static_keeps : (p entry_count : ℕ) → p < 16384 → entry_count < 24 → nat_lt p 16384 && nat_lt entry_count 24 ≡ true
@@ -199,37 +199,37 @@ static_keeps p entry_count l h =
     rw (a, b) refl
 
 -- The static rule is one.
-pub static_keeps_near : KeepsNear Static
-static_keeps_near = record { keeps = λ p entry_count h few. static_keeps p entry_count h few; chosen = λ ss h. refl }
+pub static_keeps_in_range : KeepsInPointerRange Static
+static_keeps_in_range = record { keeps = λ p entry_count h few. static_keeps p entry_count h few; chosen = λ ss h. refl }
 
 -- The hash rule is one.
-pub hash_keeps_near : KeepsNear Hash
-hash_keeps_near = record { keeps = λ p entry_count h few. refl; chosen = λ ss h. ap (λ (b : Bool). cond b ss []) h }
+pub hash_keeps_in_range : KeepsInPointerRange Hash
+hash_keeps_in_range = record { keeps = λ p entry_count h few. refl; chosen = λ ss h. ap (λ (b : Bool). cond b ss []) h }
 
 -- If every written label is within pointer range, each suffix before the one in the table can enter the table.
-pub near_kept : {rule : Rule} {m : CompressionTable} {p entry_count : ℕ} {name : Labels} {text : List ℕ} {ss : List (Labels × ℕ)} (r : KeepsNear rule) (b : List ℕ) (q : ℕ) (s : CompressesAs rule m p entry_count name text ss) → IsName name → LabelsNear b q p → At b p text → SharesAll rule (entry_count + length ss) → AllKept s
-near_kept r b q at_root is near h few = tt
-near_kept r b q (at_entry e) is near h few = tt
-near_kept {rule = rule} r b q (at_kept {entry_count = entry_count} {first = first} {rest = rest} {text = text} {ss = ss} e k s) is near h few =
+pub in_range_kept : {rule : Rule} {m : CompressionTable} {p entry_count : ℕ} {name : Labels} {text : List ℕ} {ss : List (Labels × ℕ)} (r : KeepsInPointerRange rule) (b : List ℕ) (q : ℕ) (s : CompressesAs rule m p entry_count name text ss) → IsName name → LabelsInPointerRange b q p → At b p text → SharesAll rule (entry_count + length ss) → AllKept s
+in_range_kept r b q at_root is in_range h few = tt
+in_range_kept r b q (at_entry e) is in_range h few = tt
+in_range_kept {rule = rule} r b q (at_kept {entry_count = entry_count} {first = first} {rest = rest} {text = text} {ss = ss} e k s) is in_range h few =
     let tail = name_tail first rest is in
-    let a = near_label near (label_begins tail.0 (label_part first text h)) in
-    near_kept r b q s tail.1 a.1 (after_label first text h) (few_less rule (entry_count + 1 + length ss) (entry_count + suc (length ss)) (omega arith) few)
-near_kept {rule = rule} r b q (at_far {p = p} {entry_count = entry_count} {first = first} {rest = rest} e k) is near h few =
-    let a = near_label near (label_begins (name_tail first rest is).0 (label_part first (uncompressed rest) h)) in
+    let a = in_range_label in_range (label_begins tail.0 (label_part first text h)) in
+    in_range_kept r b q s tail.1 a.1 (after_label first text h) (few_less rule (entry_count + 1 + length ss) (entry_count + suc (length ss)) (omega arith) few)
+in_range_kept {rule = rule} r b q (at_far {p = p} {entry_count = entry_count} {first = first} {rest = rest} e k) is in_range h few =
+    let a = in_range_label in_range (label_begins (name_tail first rest is).0 (label_part first (uncompressed rest) h)) in
     let t : true ≡ false = sym (r.keeps p entry_count a.0 (few_less rule entry_count (entry_count + 0) (omega arith) few)) ∙ k in
     absurd (cc)
 
 -- If every written label is within pointer range, so is each suffix that is written out.
-pub near_suffixes : {rule : Rule} {m : CompressionTable} {p entry_count : ℕ} {name : Labels} {text : List ℕ} {ss : List (Labels × ℕ)} (b : List ℕ) (q : ℕ) → CompressesAs rule m p entry_count name text ss → IsName name → LabelsNear b q p → At b p text → list_all (λ s. nat_lt s.1 16384) ss ≡ true
-near_suffixes b q at_root is near h = refl
-near_suffixes b q (at_entry e) is near h = refl
-near_suffixes b q (at_kept {p = p} {first = first} {rest = rest} {text = text} e k s) is near h =
+pub in_range_suffixes : {rule : Rule} {m : CompressionTable} {p entry_count : ℕ} {name : Labels} {text : List ℕ} {ss : List (Labels × ℕ)} (b : List ℕ) (q : ℕ) → CompressesAs rule m p entry_count name text ss → IsName name → LabelsInPointerRange b q p → At b p text → list_all (λ s. nat_lt s.1 16384) ss ≡ true
+in_range_suffixes b q at_root is in_range h = refl
+in_range_suffixes b q (at_entry e) is in_range h = refl
+in_range_suffixes b q (at_kept {p = p} {first = first} {rest = rest} {text = text} e k s) is in_range h =
     let tail = name_tail first rest is in
-    let a = near_label near (label_begins tail.0 (label_part first text h)) in
+    let a = in_range_label in_range (label_begins tail.0 (label_part first text h)) in
     let small : nat_lt p 16384 ≡ true = let k = a.0 in grind (arith, common_steps) in
-    let after = near_suffixes b q s tail.1 a.1 (after_label first text h) in
+    let after = in_range_suffixes b q s tail.1 a.1 (after_label first text h) in
     rw (small, after) refl
-near_suffixes b q (at_far e k) is near h = refl
+in_range_suffixes b q (at_far e k) is in_range h = refl
 
 -- An insertion never removes an entry.
 len_more : (m : CompressionTable) (k : Labels) (v : TableEntry) (b : Bool) → len (insert m k v) ≡ cond b (len m) (len m + 1) → len m ≤ len (insert m k v)

@@ -2,7 +2,7 @@
 use Rattle.std.specs.Prelude.{◌≡◌, ℕ, ◌+◌, ◌≤◌, ◌⊎◌, List, [], ◌∷◌, ◌++◌, length, ◌<◌}
 use Rattle.std.specs.FinMap.{len}
 use Rattle.dns_name.specs.Names.{Labels, name_size, pointer_end}
-use Rattle.dns_wire.specs.Parts.{Part, Octets, CompressibleName, AreParts, encode_parts, PartsNear, PartsPointed}
+use Rattle.dns_wire.specs.Parts.{Part, Octets, CompressibleName, AreParts, encode_parts, PartsInPointerRange, PartsPointed}
 use Rattle.dns_wire.specs.Encoders.{static_entries, nothing, Rule, Plain, Static, Tree, Hash}
 use Rattle.dns_wire.specs.Targets.{Written, IsTarget, append}
 
@@ -47,9 +47,9 @@ PartsPointToLabels = (rule : Rule) (t : Written) (parts : List Part) → ArePart
     → let u = append (encode_parts rule parts) t in PartsPointed u.octets (length u.octets) (length t.octets) parts
 
 -- If the content has at most 16,384 octets, every label in written parts is within pointer range.
-abbrev pub ShortPartsAreNear : Type 0
-ShortPartsAreNear = (rule : Rule) (t : Written) (parts : List Part) → AreParts parts → IsTarget t
-    → let u = append (encode_parts rule parts) t in length u.octets ≤ pointer_end → PartsNear u.octets (length u.octets) (length t.octets) parts
+abbrev pub ShortPartsAreInPointerRange : Type 0
+ShortPartsAreInPointerRange = (rule : Rule) (t : Written) (parts : List Part) → AreParts parts → IsTarget t
+    → let u = append (encode_parts rule parts) t in length u.octets ≤ pointer_end → PartsInPointerRange u.octets (length u.octets) (length t.octets) parts
 
 -- These parts are added to a target, in as many octets as a shortest compression of them takes.
 abbrev pub AddsShortest : List Part → Written → Written → Type 0
@@ -60,4 +60,4 @@ abbrev pub PartsAreShortest : Type 0
 PartsAreShortest = (rule : Rule) (b : List ℕ) (parts : List Part) → AreParts parts
     → let t : Written = record { octets = b; table = nothing } in
     let u = append (encode_parts rule parts) t in
-    SharesAll rule (len u.table) → PartsNear u.octets (length u.octets) (length b) parts → AddsShortest parts t u
+    SharesAll rule (len u.table) → PartsInPointerRange u.octets (length u.octets) (length b) parts → AddsShortest parts t u

@@ -58,14 +58,14 @@ PartsFill IsWritten end p (Octets octets ∷ parts) = PartsFill IsWritten end (p
 PartsFill IsWritten end p (CompressibleName name ∷ parts) = (q : ℕ) × IsWritten p q × PartsFill IsWritten end q parts
 
 -- From offset p to q there are labels within pointer range, that is, each begins below offset 16,384. Then follows a zero octet or a pointer.
-pub data LabelsNear (b : List ℕ) (q : ℕ) : ℕ → Type 0 where
-  root : {p : ℕ} → head_at b p ≡ Ok Root → q ≡ p + 1 → LabelsNear b q p
-  label : {p n : ℕ} → head_at b p ≡ Ok (Label n) → p < pointer_end → LabelsNear b q (p + 1 + n) → LabelsNear b q p
-  pointer : {p t : ℕ} → head_at b p ≡ Ok (Pointer t) → q ≡ p + 2 → LabelsNear b q p
+pub data LabelsInPointerRange (b : List ℕ) (q : ℕ) : ℕ → Type 0 where
+  root : {p : ℕ} → head_at b p ≡ Ok Root → q ≡ p + 1 → LabelsInPointerRange b q p
+  label : {p n : ℕ} → head_at b p ≡ Ok (Label n) → p < pointer_end → LabelsInPointerRange b q (p + 1 + n) → LabelsInPointerRange b q p
+  pointer : {p t : ℕ} → head_at b p ≡ Ok (Pointer t) → q ≡ p + 2 → LabelsInPointerRange b q p
 
 -- Every label of the names among the parts is within pointer range.
-abbrev pub PartsNear : List ℕ → ℕ → ℕ → List Part → Type 0
-PartsNear b end p parts = PartsFill (λ p q. LabelsNear b q p) end p parts
+abbrev pub PartsInPointerRange : List ℕ → ℕ → ℕ → List Part → Type 0
+PartsInPointerRange b end p parts = PartsFill (λ p q. LabelsInPointerRange b q p) end p parts
 
 -- Every pointer of the names among the parts leads to a label at an earlier offset below 16,384.
 abbrev pub PartsPointed : List ℕ → ℕ → ℕ → List Part → Type 0

@@ -47,7 +47,7 @@ NamesStayWhenOverwritten = (t : Written) (offset : ℕ) (octets : List ℕ) (lo 
 
 -- What holds of a table entry: a pointer can lead to it, a label begins there, and the suffix is encoded there within the octets before its name's end.
 pub record Recalled (b : List ℕ) (s : Labels) (x : TableEntry) : Type 0 where
-  pub near : x.offset < pointer_end
+  pub in_range : x.offset < pointer_end
   pub ordered : x.offset < x.end
   pub within : x.end ≤ length b
   pub labelled : (n : ℕ) × (head_at b x.offset ≡ Ok (Label n))

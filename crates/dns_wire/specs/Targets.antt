@@ -28,7 +28,7 @@ Labelled m b q p (first ∷ rest) = IsLabel first × At b p (framed first) × Co
 
 -- An entry of the table is sound: a pointer can lead to it, a label begins there, and the octets up to the name's end encode the suffix.
 pub record IsTableEntry (b : List ℕ) (m : CompressionTable) (s : Labels) (x : TableEntry) : Type 0 where
-  pub near : x.offset < pointer_end
+  pub in_range : x.offset < pointer_end
   pub short : name_size s ≤ max_size
   pub compressed : Labelled m b x.end x.offset s
 

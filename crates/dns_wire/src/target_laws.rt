@@ -1,7 +1,7 @@
 //! Theorems on targets and what is written to them. The functions do nothing: each contract is a
 //! theorem over all contents, names and parts.
 ghost use Rattle.dns_wire.specs.Choice.{NamesByChoice};
-ghost use Rattle.dns_wire.specs.Compression.{PartsAreShortest, PartsPointToLabels, ShortPartsAreNear};
+ghost use Rattle.dns_wire.specs.Compression.{PartsAreShortest, PartsPointToLabels, ShortPartsAreInPointerRange};
 ghost use Rattle.dns_wire.specs.TargetLaws.{NamesAreWhereAgreed, NamesStayWithMore, NamesAreWithinAll, NamesOfWithin, NamesStayWhenOverwritten};
 ghost use Rattle.dns_wire.specs.TargetLaws.{EntriesAreNames, NamesAreAtOrAfter, NothingIsTarget, NameKeeps, OctetsKeep, CutKeeps, OverwriteKeeps};
 ghost use Rattle.dns_wire.specs.TargetLaws.{CutUndoes, NamesGrow, OctetsGrow, PartsGrow, BothGrow, EncodersStayAtOrAfter, NamesStayAtOrAfter};
@@ -72,5 +72,5 @@ pub fn parts_point_to_labels()
 /// static rule while its table has fewer than 24 suffixes.
 pub fn parts_are_shortest()
     ensures shortest { PartsAreShortest }
-    ensures near { ShortPartsAreNear }
+    ensures in_range { ShortPartsAreInPointerRange }
 {}

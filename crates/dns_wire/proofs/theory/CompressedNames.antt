@@ -186,7 +186,7 @@ pub kept_moved : (m n : CompressionTable) (b c : List ℕ) (s : Labels) (x : Tab
     → ((p : ℕ) (xs : List ℕ) → x.offset ≤ p → p + length xs ≤ x.end → At b p xs → At c p xs)
     → ((s : Labels) (y : TableEntry) → get m s ≡ Some y → y.end < x.end → get n s ≡ Some y)
     → IsTableEntry b m s x → IsTableEntry c n s x
-kept_moved m n b c s x f g k = record { near = k.near; short = k.short; compressed = labelled_moved m n b c x.offset x.end f g x.offset s (omega arith) k.compressed }
+kept_moved m n b c s x f g k = record { in_range = k.in_range; short = k.short; compressed = labelled_moved m n b c x.offset x.end f g x.offset s (omega arith) k.compressed }
 
 -- An encoded name is encoded in more octets, with a larger table.
 pub compressed_more : {m : CompressionTable} {b : List ℕ} {q p : ℕ} {name : Labels} (n : CompressionTable) (c : List ℕ)
@@ -209,7 +209,7 @@ name_at_if {b = b} {q = q} r ih short (label {p = p} {first = first} {rest = res
 name_at_if r ih short (pointer {p = p} {name = name} {x = x} e before h is) =
     let k = r.each name x e in
     let w = compressed_long (kept_compressed name x k) in
-    NameAt.pointer (pointer_at x.offset k.near h) (omega (arith, w.0)) (ih name x e (omega arith))
+    NameAt.pointer (pointer_at x.offset k.in_range h) (omega (arith, w.0)) (ih name x e (omega arith))
 
 -- By induction on the end.
 name_at_below : {m : CompressionTable} {b : List ℕ} → IsTableOf b m → (k q p : ℕ) (name : Labels) → q < k → name_size name ≤ max_size → Compressed m b q p name → NameAt b p name
@@ -228,7 +228,7 @@ compressed_ends s r small (label {p = p} {first = first} l h x) =
     let w = compressed_long x in
     NameContinues.label (label_begins l h) (omega arith) (omega arith) (compressed_ends (s + length first + 1) r (omega arith) x)
 compressed_ends {b = b} s r small (pointer {p = p} {name = name} {x = x} e before h is) =
-    subst (λ q. NameContinues b p s q) (sym is) (NameContinues.pointer (pointer_at x.offset (r.each name x e).near h))
+    subst (λ q. NameContinues b p s q) (sym is) (NameContinues.pointer (pointer_at x.offset (r.each name x e).in_range h))
 
 -- A name that ends within the first `len` octets is encoded after truncation.
 compressed_cut : {m : CompressionTable} {b : List ℕ} {q p : ℕ} {name : Labels} (len : ℕ) → q ≤ len → Compressed m b q p name → Compressed (cut m len) (take len b) q p name

@@ -155,32 +155,32 @@ compressed_by {m = m} b q (at_kept {p = p} {first = first} {rest = rest} {text =
 compressed_by {m = m} b q (at_far {p = p} {first = first} {rest = rest} g k) is ends h e = compressed_full m b q p (first ∷ rest) is h e
 
 -- An offset is within pointer range.
-abbrev IsNear : ℕ → Type 0
-IsNear p = p < 16384
+abbrev IsInPointerRange : ℕ → Type 0
+IsInPointerRange p = p < 16384
 
 -- What a rule says of the offset of a suffix that is written out.
-abbrev NearFor : Rule → ℕ → Type 0
-NearFor Plain p = Unit {0}
-NearFor Static p = IsNear p
-NearFor Tree p = IsNear p
-NearFor Hash p = Unit {0}
+abbrev InRangeFor : Rule → ℕ → Type 0
+InRangeFor Plain p = Unit {0}
+InRangeFor Static p = IsInPointerRange p
+InRangeFor Tree p = IsInPointerRange p
+InRangeFor Hash p = Unit {0}
 
 -- This holds of a suffix that may enter the table.
-near_for : (rule : Rule) (p entry_count : ℕ) → is_kept rule p entry_count ≡ true → NearFor rule p
-near_for Plain p entry_count e = tt
-near_for Static p entry_count e = grind (arith, common_steps)
-near_for Tree p entry_count e = grind (arith, common_steps)
-near_for Hash p entry_count e = tt
+in_range_for : (rule : Rule) (p entry_count : ℕ) → is_kept rule p entry_count ≡ true → InRangeFor rule p
+in_range_for Plain p entry_count e = tt
+in_range_for Static p entry_count e = grind (arith, common_steps)
+in_range_for Tree p entry_count e = grind (arith, common_steps)
+in_range_for Hash p entry_count e = tt
 
--- A suffix that is written out is encoded at its offset, of which `Near` holds.
-record Out (Near : ℕ → Type 0) (m : CompressionTable) (b : List ℕ) (q : ℕ) (s : Labels × ℕ) : Type 0 where
+-- A suffix that is written out is encoded at its offset, of which `InRange` holds.
+record Out (InRange : ℕ → Type 0) (m : CompressionTable) (b : List ℕ) (q : ℕ) (s : Labels × ℕ) : Type 0 where
   compressed : Labelled m b q s.1 s.0
   short : name_size s.0 ≤ max_size
-  near : Near s.1
+  in_range : InRange s.1
 
 -- Each suffix that is written out is encoded at its offset.
 all_out : {rule : Rule} {m : CompressionTable} {p entry_count : ℕ} {name : Labels} {text : List ℕ} {ss : List (Labels × ℕ)} (b : List ℕ) (q : ℕ) → CompressesAs rule m p entry_count name text ss → IsName name → IsWithin m p
-    → At b p text → q ≡ p + length text → Each (Out (NearFor rule) m b q) ss
+    → At b p text → q ≡ p + length text → Each (Out (InRangeFor rule) m b q) ss
 all_out b q at_root is ends h e = tt
 all_out b q (at_entry g) is ends h e = tt
 all_out {rule = rule} {m = m} b q (at_kept {p = p} {entry_count = entry_count} {first = first} {rest = rest} {text = text} g k s) is ends h e =
@@ -189,27 +189,27 @@ all_out {rule = rule} {m = m} b q (at_kept {p = p} {entry_count = entry_count} {
     let ends' : IsWithin m (p + 1 + length first) = later m p (p + 1 + length first) (omega arith) ends in
     let after = after_label first text h in
     let end : q ≡ p + 1 + length first + length text = omega arith in
-    (record { compressed = (tail.0, label_part first text h, compressed_by b q s tail.1 ends' after end); short = is.short; near = near_for rule p entry_count k }, all_out b q s tail.1 ends' after end)
+    (record { compressed = (tail.0, label_part first text h, compressed_by b q s tail.1 ends' after end); short = is.short; in_range = in_range_for rule p entry_count k }, all_out b q s tail.1 ends' after end)
 all_out b q (at_far g k) is ends h e = tt
 
-near_tested : (m : CompressionTable) (b : List ℕ) (q : ℕ) (ss : List (Labels × ℕ)) → list_all (λ s. nat_lt s.1 16384) ss ≡ true
-    → Each (Out (NearFor Hash) m b q) ss → Each (Out IsNear m b q) ss
-near_tested m b q [] t h = tt
-near_tested m b q (s ∷ ss) t h =
+in_range_tested : (m : CompressionTable) (b : List ℕ) (q : ℕ) (ss : List (Labels × ℕ)) → list_all (λ s. nat_lt s.1 16384) ss ≡ true
+    → Each (Out (InRangeFor Hash) m b q) ss → Each (Out IsInPointerRange m b q) ss
+in_range_tested m b q [] t h = tt
+in_range_tested m b q (s ∷ ss) t h =
     let both = and_parts (nat_lt s.1 16384) (list_all (λ (s : Labels × ℕ). nat_lt s.1 16384) ss) t in
-    (record { compressed = h.0.compressed; short = h.0.short; near = let small = both.0 in grind (arith, common_steps) }, near_tested m b q ss both.1 h.1)
+    (record { compressed = h.0.compressed; short = h.0.short; in_range = let small = both.0 in grind (arith, common_steps) }, in_range_tested m b q ss both.1 h.1)
 
-near_chosen : (m : CompressionTable) (b : List ℕ) (q : ℕ) (ss : List (Labels × ℕ)) (test : Bool) → list_all (λ s. nat_lt s.1 16384) ss ≡ test
-    → Each (Out (NearFor Hash) m b q) ss → Each (Out IsNear m b q) (cond test ss [])
-near_chosen m b q ss true t h = near_tested m b q ss t h
-near_chosen m b q ss false t h = tt
+in_range_chosen : (m : CompressionTable) (b : List ℕ) (q : ℕ) (ss : List (Labels × ℕ)) (test : Bool) → list_all (λ s. nat_lt s.1 16384) ss ≡ test
+    → Each (Out (InRangeFor Hash) m b q) ss → Each (Out IsInPointerRange m b q) (cond test ss [])
+in_range_chosen m b q ss true t h = in_range_tested m b q ss t h
+in_range_chosen m b q ss false t h = tt
 
 -- Each suffix that enters the table is within pointer range.
-near_kept : (rule : Rule) (m : CompressionTable) (b : List ℕ) (q : ℕ) (ss : List (Labels × ℕ)) → Each (Out (NearFor rule) m b q) ss → Each (Out IsNear m b q) (kept rule ss)
-near_kept Plain m b q ss h = tt
-near_kept Static m b q ss h = h
-near_kept Tree m b q ss h = h
-near_kept Hash m b q ss h = near_chosen m b q ss (list_all (λ s. nat_lt s.1 16384) ss) refl h
+in_range_kept : (rule : Rule) (m : CompressionTable) (b : List ℕ) (q : ℕ) (ss : List (Labels × ℕ)) → Each (Out (InRangeFor rule) m b q) ss → Each (Out IsInPointerRange m b q) (kept rule ss)
+in_range_kept Plain m b q ss h = tt
+in_range_kept Static m b q ss h = h
+in_range_kept Tree m b q ss h = h
+in_range_kept Hash m b q ss h = in_range_chosen m b q ss (list_all (λ s. nat_lt s.1 16384) ss) refl h
 
 found_one : (m r : CompressionTable) (s : Labels × ℕ) (q : ℕ) (P : Labels × ℕ → Type 0) (k : Labels) (x : TableEntry) (same : Bool)
     → (same ≡ true → k ≡ s.0) → P s
@@ -235,9 +235,9 @@ ends_within_content r s x e = (compressed_long (kept_compressed s x (r.each s x 
 
 -- The entry of a suffix that was written out within pointer range is sound.
 new_kept : (m n : CompressionTable) (b : List ℕ) (s : Labels) (x : TableEntry) → ((s : Labels) (x : TableEntry) → get m s ≡ Some x → get n s ≡ Some x)
-    → Out IsNear m b x.end (s, x.offset) → IsTableEntry b n s x
+    → Out IsInPointerRange m b x.end (s, x.offset) → IsTableEntry b n s x
 new_kept m n b s x g h =
-    kept_moved m n b b s x (λ p xs l fits h. h) (λ t y e less. g t y e) (record { near = h.near; short = h.short; compressed = h.compressed })
+    kept_moved m n b b s x (λ p xs l fits h. h) (λ t y e less. g t y e) (record { in_range = h.in_range; short = h.short; compressed = h.compressed })
 
 -- Octets after a content encode a name, and the table after them is sound.
 pub record EncodesName (b : List ℕ) (name : Labels) (text : List ℕ) (n : CompressionTable) : Type 0 where
@@ -255,14 +255,14 @@ by_rule rule m n b name entry_count l r is g =
     let q = w + length text in
     let h = at_end b text in
     let within = ends_within_content r in
-    let all = near_kept rule m (b ++ text) q written.1 (all_out (b ++ text) q (compresses_as rule m w entry_count name) l within h refl) in
+    let all = in_range_kept rule m (b ++ text) q written.1 (all_out (b ++ text) q (compresses_as rule m w entry_count name) l within h refl) in
     record {
       compressed = moved m n (b ++ text) (b ++ text) 0 q (λ p xs low fits h. h) (λ t x e less. g t x e) (omega arith) (compressed_by (b ++ text) q (compresses_as rule m w entry_count name) l within h refl);
       is_table = record {
         each = λ s x e.
-            elim (found m (kept rule written.1) q (Out IsNear m (b ++ text) q) s x all (ap (λ (n : CompressionTable). get n s) (sym is) ∙ e)) [
+            elim (found m (kept rule written.1) q (Out IsInPointerRange m (b ++ text) q) s x all (ap (λ (n : CompressionTable). get n s) (sym is) ∙ e)) [
               | inl old ↦ kept_more n text s x g (r.each s x old)
-              | inr new ↦ new_kept m n (b ++ text) s x g (subst (λ q. Out IsNear m (b ++ text) q (s, x.offset)) (sym new.1) new.0)
+              | inr new ↦ new_kept m n (b ++ text) s x g (subst (λ q. Out IsInPointerRange m (b ++ text) q (s, x.offset)) (sym new.1) new.0)
             ];
       };
     }

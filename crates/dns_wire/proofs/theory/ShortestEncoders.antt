@@ -5,16 +5,16 @@ use Rattle.std.specs.Int.{to_be_bytes, w16}
 use Rattle.std.specs.FinMap.{get, len, get-empty}
 use Rattle.dns_name.specs.Names.{Labels, IsName, name_size, max_size, NameEndsAt}
 use Rattle.dns_wire.specs.Encoders.{CompressionTable, TableEntry, nothing, suffix_cmp, add_suffixes, Rule, Plain, Static, Tree, Hash, Encoder, Encoded, encode_octets, both, with_length, compress, kept, encode_name}
-use Rattle.dns_wire.specs.Parts.{Part, Octets, CompressibleName, AreParts, encode_parts, PartsNear}
+use Rattle.dns_wire.specs.Parts.{Part, Octets, CompressibleName, AreParts, encode_parts, PartsInPointerRange}
 use Rattle.dns_wire.specs.Targets.{At, IsTableOf, Written, IsTarget, append}
 use Rattle.dns_wire.specs.Compression.{IsShared, Compression, SharesAll, AddsShortest, PartsAreShortest}
 use Rattle.dns_wire.specs.Compression.Compression.{none, octets, whole, shared}
-use Rattle.dns_wire.proofs.theory.TargetTheorems.{near_end}
+use Rattle.dns_wire.proofs.theory.TargetTheorems.{in_range_end}
 use Rattle.dns_wire.proofs.theory.EncodedNames.{encode_name_grows, compresses_as}
 use Rattle.dns_wire.proofs.theory.EncoderLaws.{length_of, append-with_length, append-both, encodes_name, encodes_octets}
 use Rattle.dns_wire.proofs.theory.CompressionTables.{gets, nothing_is_kept}
 use Rattle.dns_wire.proofs.theory.CompressedNames.{at_append, at_end, compressed_ends, compressed_more, kept_more}
-use Rattle.dns_wire.proofs.SharedSuffixes.{Knows, Best, KeepsNear, tree_keeps_near, static_keeps_near, hash_keeps_near, best, knows_more, near_kept, near_suffixes, few_less, shared_some, len_compress, len_add_suffixes}
+use Rattle.dns_wire.proofs.SharedSuffixes.{Knows, Best, KeepsInPointerRange, tree_keeps_in_range, static_keeps_in_range, hash_keeps_in_range, best, knows_more, in_range_kept, in_range_suffixes, few_less, shared_some, len_compress, len_add_suffixes}
 use Rattle.dns_name.proofs.theory.Steps.{name_size-append}
 
 -- The names among these parts, before other names.
@@ -32,7 +32,7 @@ added-append (CompressibleName name ∷ ps) qs names = added-append ps qs (name 
 -- After the earlier `names`, the parts are written from p to q as short as possible, whichever parts `rest` follow them up to `end`. The table has exactly the suffixes of all these names.
 pub record Short (names : List Labels) (parts rest : List Part) (b : List ℕ) (p q end : ℕ) (m : CompressionTable) : Type 0 where
   pub knows : Knows m (added parts names)
-  pub near : PartsNear b end q rest
+  pub in_range : PartsInPointerRange b end q rest
   pub rises : p ≤ q
   pub attains : (n : ℕ) → Compression (added parts names) rest n → Compression names (parts ++ rest) (q - p + n)
   pub least : (n : ℕ) → Compression names (parts ++ rest) n → (k : ℕ) × Compression (added parts names) rest k × (q + k ≤ p + n)
@@ -42,7 +42,7 @@ pub record AddsShort (rule : Rule) (parts : List Part) (t u : Written) : Type 0 
   pub longer : len t.table ≤ len u.table
   pub keeps : IsTarget t → IsTarget u
   pub short : (c : List ℕ) (names : List Labels) (rest : List Part) (end : ℕ) → IsTarget t → Knows t.table names
-      → PartsNear (u.octets ++ c) end (length t.octets) (parts ++ rest) → SharesAll rule (len u.table)
+      → PartsInPointerRange (u.octets ++ c) end (length t.octets) (parts ++ rest) → SharesAll rule (len u.table)
       → Short names parts rest (u.octets ++ c) (length t.octets) (length u.octets) end u.table
 
 -- An encoding adds these parts so, to each target.
@@ -58,11 +58,11 @@ pub shortens_none : (rule : Rule) → Shortens rule (encode_octets []) []
 shortens_none rule t = record {
   longer = omega arith;
   keeps = (encodes_octets []).keeps t;
-  short = λ c names rest end h knows near few.
+  short = λ c names rest end h knows in_range few.
       let e : length (t.octets ++ []) ≡ length t.octets = ap length (append-nil t.octets) in
       record {
         knows = knows;
-        near = subst (λ q. PartsNear ((t.octets ++ []) ++ c) end q rest) (sym e) near;
+        in_range = subst (λ q. PartsInPointerRange ((t.octets ++ []) ++ c) end q rest) (sym e) in_range;
         rises = omega arith;
         attains = λ n s. subst (λ k. Compression names rest k) (omega arith) s;
         least = λ n s. (n, s, omega arith);
@@ -74,11 +74,11 @@ pub shortens_octets : (rule : Rule) (xs ys : List ℕ) → length ys ≡ length 
 shortens_octets rule xs ys same t = record {
   longer = omega arith;
   keeps = (encodes_octets xs).keeps t;
-  short = λ c names rest end h knows near few.
+  short = λ c names rest end h knows in_range few.
       let e : length (t.octets ++ xs) ≡ length t.octets + length ys = length-append t.octets xs ∙ ap (λ n. length t.octets + n) (sym same) in
       record {
         knows = knows;
-        near = subst (λ q. PartsNear ((t.octets ++ xs) ++ c) end q rest) (sym e) near;
+        in_range = subst (λ q. PartsInPointerRange ((t.octets ++ xs) ++ c) end q rest) (sym e) in_range;
         rises = omega arith;
         attains = λ n s. let o : Compression names (Octets ys ∷ rest) (length ys + n) = octets s in subst (λ k. Compression names (Octets ys ∷ rest) k) (omega arith) o;
         least = λ n s. let o = octets_parts s in (o.0, o.1, omega (arith, o.2));
@@ -118,20 +118,20 @@ least_name names name rest l n (inr a) (inr b) = let m = a.5 b.0 b.1 b.2 b.3 in 
 
 -- A rule that writes names as `compress` does, and by which each suffix within pointer range enters the table while `SharesAll` holds.
 pub record CompressesShortest (rule : Rule) : Type 0 where
-  pub near : KeepsNear rule
+  pub in_range : KeepsInPointerRange rule
   pub few : (name : Labels) (m : CompressionTable) (w : ℕ) → SharesAll rule (len (encode_name rule name m w).table) → SharesAll rule (len m + length (compress rule m w (len m) name).1)
   pub writes : (name : Labels) (m : CompressionTable) (w : ℕ) → let compressed = compress rule m w (len m) name in encode_name rule name m w ≡ record { octets = compressed.0; table = add_suffixes m (kept rule compressed.1) (w + length compressed.0) }
 
 -- The tree rule is one.
 compresses_tree : CompressesShortest Tree
 unfolding encode_name
-compresses_tree = record { near = tree_keeps_near; few = λ name m w h. tt; writes = λ name m w. refl }
+compresses_tree = record { in_range = tree_keeps_in_range; few = λ name m w h. tt; writes = λ name m w. refl }
 
 -- The static rule is one.
 compresses_static : CompressesShortest Static
 unfolding encode_name
 compresses_static = record {
-  near = static_keeps_near;
+  in_range = static_keeps_in_range;
   few = λ name m w h. let compressed = compress Static m w (len m) name in let e = len_compress (w + length compressed.0) (compresses_as Static m w (len m) name) in omega arith;
   writes = λ name m w. refl;
 }
@@ -139,7 +139,7 @@ compresses_static = record {
 -- The hash rule is one.
 compresses_hash : CompressesShortest Hash
 unfolding encode_name
-compresses_hash = record { near = hash_keeps_near; few = λ name m w h. tt; writes = λ name m w. refl }
+compresses_hash = record { in_range = hash_keeps_in_range; few = λ name m w h. tt; writes = λ name m w. refl }
 
 -- Every rule with `SharesAll` is one.
 pub compresses_shortest : (rule : Rule) (n : ℕ) → SharesAll rule n → CompressesShortest rule
@@ -149,29 +149,29 @@ compresses_shortest Tree n few = compresses_tree
 compresses_shortest Hash n few = compresses_hash
 
 -- A name written with the octets and the suffixes that `compress` gives is as short as possible.
-name_short : (rule : Rule) (name : Labels) (t : Written) (encoded : Encoded) (c : List ℕ) (names : List Labels) (rest : List Part) (end : ℕ) → KeepsNear rule → IsName name → Knows t.table names
+name_short : (rule : Rule) (name : Labels) (t : Written) (encoded : Encoded) (c : List ℕ) (names : List Labels) (rest : List Part) (end : ℕ) → KeepsInPointerRange rule → IsName name → Knows t.table names
     → let compressed = compress rule t.table (length t.octets) (len t.table) name in encoded ≡ record { octets = compressed.0; table = add_suffixes t.table (kept rule compressed.1) (length t.octets + length compressed.0) }
     → ((s : Labels) (x : TableEntry) → get t.table s ≡ Some x → get encoded.table s ≡ Some x)
     → NameEndsAt ((t.octets ++ encoded.octets) ++ c) (length t.octets) (length (t.octets ++ encoded.octets))
-    → PartsNear ((t.octets ++ encoded.octets) ++ c) end (length t.octets) (CompressibleName name ∷ rest)
+    → PartsInPointerRange ((t.octets ++ encoded.octets) ++ c) end (length t.octets) (CompressibleName name ∷ rest)
     → SharesAll rule (len t.table + length (compress rule t.table (length t.octets) (len t.table) name).1)
     → Short names (CompressibleName name ∷ []) rest ((t.octets ++ encoded.octets) ++ c) (length t.octets) (length (t.octets ++ encoded.octets)) end encoded.table
-name_short rule name t encoded c names rest end r is knows e g name_ends near few =
+name_short rule name t encoded c names rest end r is knows e g name_ends in_range few =
     let m = t.table in
     let w = length t.octets in
     let compressed = compress rule m w (len m) name in
     let b = (t.octets ++ encoded.octets) ++ c in
     let text : encoded.octets ≡ compressed.0 = ap (λ (x : Encoded). x.octets) e in
     let at = subst (λ (xs : List ℕ). At b w xs) text (at_append c (at_end t.octets encoded.octets)) in
-    let all = near_kept r b near.0 (compresses_as rule m w (len m) name) is near.1 at few in
-    let chosen = near_suffixes b near.0 (compresses_as rule m w (len m) name) is near.1 at in
+    let all = in_range_kept r b in_range.0 (compresses_as rule m w (len m) name) is in_range.1 at few in
+    let chosen = in_range_suffixes b in_range.0 (compresses_as rule m w (len m) name) is in_range.1 at in
     let q = w + length compressed.0 in
     let table : encoded.table ≡ add_suffixes m compressed.1 q = ap (λ (x : Encoded). x.table) e ∙ ap (λ (ss : List (Labels × ℕ)). add_suffixes m ss q) (r.chosen compressed.1 chosen) in
     let shortest : Best names name (length compressed.0) = best names knows (compresses_as rule m w (len m) name) all in
     let long : length (t.octets ++ encoded.octets) ≡ w + length compressed.0 = length-append t.octets encoded.octets ∙ ap (λ (xs : List ℕ). w + length xs) text in
     record {
       knows = knows_more rule m encoded.table names w (len m) q name knows all table g;
-      near = subst (λ k. PartsNear b end k rest) (near_end name_ends near.1) near.2;
+      in_range = subst (λ k. PartsInPointerRange b end k rest) (in_range_end name_ends in_range.1) in_range.2;
       rises = omega arith;
       attains = λ n s.
           let k : length compressed.0 + n ≡ length (t.octets ++ encoded.octets) - w + n = omega arith in
@@ -193,11 +193,11 @@ shortens_name rule name r is t =
     record {
       longer = subst (λ (x : Encoded). len t.table ≤ len x.table) (sym (r.writes name t.table w)) (len_add_suffixes t.table (kept rule compressed.1) (w + length compressed.0));
       keeps = p.keeps t;
-      short = λ c names rest end h knows near few.
+      short = λ c names rest end h knows in_range few.
           let after = is_table_more encoded.table (t.octets ++ encoded.octets) c (p.keeps t h) in
           let small : 0 + name_size name ≤ max_size = let k = is.short in omega arith in
-          name_short rule name t encoded c names rest end r.near is knows (r.writes name t.table w) (gets ((encode_name_grows rule name).grows t.table w))
-          (compressed_ends 0 after small (compressed_more encoded.table c (λ s x e. e) (p.encodes t h))) near (r.few name t.table w few);
+          name_short rule name t encoded c names rest end r.in_range is knows (r.writes name t.table w) (gets ((encode_name_grows rule name).grows t.table w))
+          (compressed_ends 0 after small (compressed_more encoded.table c (λ s x e. e) (p.encodes t h))) in_range (r.few name t.table w few);
     }
 
 -- Parts and those after them are as short as possible if both are.
@@ -209,7 +209,7 @@ short_both names ps qs rest b d p q r end m n x y =
     let on = y.rises in
     record {
       knows = subst (λ (l : List Labels). Knows n l) (added-append ps qs names) y.knows;
-      near = y.near;
+      in_range = y.in_range;
       rises = omega arith;
       attains = λ k s.
           let s' : Compression (added qs (added ps names)) rest k = subst (λ (l : List Labels). Compression l rest k) (sym (added-append ps qs names)) s in
@@ -233,12 +233,12 @@ adds_both rule a b ps qs t x y =
     record {
       longer = omega arith;
       keeps = λ h. second.keeps (first.keeps h);
-      short = λ c names rest end h knows near few.
+      short = λ c names rest end h knows in_range few.
           let text = (b u.table (length u.octets)).octets in
           let e : v.octets ++ c ≡ u.octets ++ (text ++ c) = append_assoc u.octets text c in
-          let near' = subst (λ (l : List Part). PartsNear (v.octets ++ c) end (length t.octets) l) (append_assoc ps qs rest) near in
-          let one = first.short (text ++ c) names (qs ++ rest) end h knows (subst (λ (o : List ℕ). PartsNear o end (length t.octets) (ps ++ (qs ++ rest))) e near') (few_less rule (len u.table) (len v.table) on few) in
-          let two = second.short c (added ps names) rest end (first.keeps h) one.knows (subst (λ (o : List ℕ). PartsNear o end (length u.octets) (qs ++ rest)) (sym e) one.near) few in
+          let in_range' = subst (λ (l : List Part). PartsInPointerRange (v.octets ++ c) end (length t.octets) l) (append_assoc ps qs rest) in_range in
+          let one = first.short (text ++ c) names (qs ++ rest) end h knows (subst (λ (o : List ℕ). PartsInPointerRange o end (length t.octets) (ps ++ (qs ++ rest))) e in_range') (few_less rule (len u.table) (len v.table) on few) in
+          let two = second.short c (added ps names) rest end (first.keeps h) one.knows (subst (λ (o : List ℕ). PartsInPointerRange o end (length u.octets) (qs ++ rest)) (sym e) one.in_range) few in
           short_both names ps qs rest (v.octets ++ c) (u.octets ++ (text ++ c)) (length t.octets) (length u.octets) (length v.octets) end u.table v.table one two;
     }
 
@@ -268,14 +268,14 @@ knows_nothing = record {
 }
 
 -- Parts added to a target with an empty table take the octets of a shortest compression.
-pub encoded_shortest : (rule : Rule) (parts : List Part) (t u : Written) → AddsShort rule parts t u → IsTarget t → Knows t.table [] → PartsNear u.octets (length u.octets) (length t.octets) parts → SharesAll rule (len u.table)
+pub encoded_shortest : (rule : Rule) (parts : List Part) (t u : Written) → AddsShort rule parts t u → IsTarget t → Knows t.table [] → PartsInPointerRange u.octets (length u.octets) (length t.octets) parts → SharesAll rule (len u.table)
     → AddsShortest parts t u
-encoded_shortest rule parts t u x h knows near few =
+encoded_shortest rule parts t u x h knows in_range few =
     let end = length u.octets in
     let w = length t.octets in
-    let near' : PartsNear (u.octets ++ []) end w (parts ++ []) =
-    subst (λ (l : List Part). PartsNear (u.octets ++ []) end w l) (sym (append-nil parts)) (subst (λ (o : List ℕ). PartsNear o end w parts) (sym (append-nil u.octets)) near) in
-    let s = x.short [] [] [] end h knows near' few in
+    let in_range' : PartsInPointerRange (u.octets ++ []) end w (parts ++ []) =
+    subst (λ (l : List Part). PartsInPointerRange (u.octets ++ []) end w l) (sym (append-nil parts)) (subst (λ (o : List ℕ). PartsInPointerRange o end w parts) (sym (append-nil u.octets)) in_range) in
+    let s = x.short [] [] [] end h knows in_range' few in
     let up = s.rises in (
       end - w,
       omega arith,
@@ -288,7 +288,7 @@ encoded_shortest rule parts t u x h knows near few =
 
 -- Parts written to a target with an empty table take the octets of a shortest compression.
 pub parts_are_shortest : PartsAreShortest
-parts_are_shortest rule b parts is few near =
+parts_are_shortest rule b parts is few in_range =
     let t : Written = record { octets = b; table = nothing } in
     let u = append (encode_parts rule parts) t in
-    encoded_shortest rule parts t u (shortens_parts rule parts (compresses_shortest rule (len u.table) few) is t) (nothing_is_kept b) knows_nothing near few
+    encoded_shortest rule parts t u (shortens_parts rule parts (compresses_shortest rule (len u.table) few) is t) (nothing_is_kept b) knows_nothing in_range few

@@ -165,7 +165,7 @@ in_if {b = b} {lo = lo} {q = q} r ih low short (Compressed.label {p = p} {first 
 in_if r ih low short (Compressed.pointer {p = p} {name = name} {x = x} e before h is) =
     let k = r.each name x e in
     let w = compressed_long (kept_compressed name x k) in
-    pointer low (omega arith) (octets_at.pointer_at x.offset k.near h) (omega (arith, w.0)) (wider_in (omega arith) (ih name x e (omega arith)))
+    pointer low (omega arith) (octets_at.pointer_at x.offset k.in_range h) (omega (arith, w.0)) (wider_in (omega arith) (ih name x e (omega arith)))
 
 -- By induction on the end.
 in_below : {m : CompressionTable} {b : List ℕ} {lo : ℕ} → IsTableOf b m → IsAtOrAfter m lo → (k q p : ℕ) (name : Labels) → q < k → lo ≤ p → name_size name ≤ max_size

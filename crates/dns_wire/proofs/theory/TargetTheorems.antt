@@ -4,11 +4,11 @@ use Rattle.std.specs.Prelude.{Ok}
 use Rattle.dns_name.specs.Names.{Labels, head_at, NameContinues}
 use Rattle.dns_name.specs.declared.head.Head.TheVariants.{Label, Root, Pointer}
 use Rattle.dns_wire.specs.Encoders.{CompressionTable, Rule}
-use Rattle.dns_wire.specs.Parts.{encode_parts, WellPointed, Part, Octets, CompressibleName, AreParts, PartsFill, LabelsNear}
+use Rattle.dns_wire.specs.Parts.{encode_parts, WellPointed, Part, Octets, CompressibleName, AreParts, PartsFill, LabelsInPointerRange}
 use Rattle.dns_wire.specs.Targets.{Compressed, Labelled, IsTableOf, append, Written, IsTarget}
 use Rattle.dns_wire.specs.Targets.Compressed.{root, label, pointer}
 use Rattle.dns_wire.specs.TargetLaws.{EntriesAreNames, NothingIsTarget, EncodersStayAtOrAfter, NamesStayAtOrAfter, NamesReadBack, PartsReadBack}
-use Rattle.dns_wire.specs.Compression.{PartsPointToLabels, ShortPartsAreNear}
+use Rattle.dns_wire.specs.Compression.{PartsPointToLabels, ShortPartsAreInPointerRange}
 use Rattle.dns_wire.proofs.theory.CompressionTables.{at_or_after_more, nothing_is_kept}
 use Rattle.dns_wire.proofs.theory.EncodedNames.{encode_name_grows}
 use Rattle.dns_wire.proofs.theory.CompressedNames.{root_at, label_begins, pointer_at, compressed_long, kept_compressed, compressed_name_at, compressed_ends, name_at_up_to}
@@ -26,7 +26,7 @@ pointed r (label l h x) = WellPointed.label (label_begins l h) (pointed r x)
 pointed {m = m} {b = b} r (pointer {name = name} {x = x} e before h is) =
     let k = r.each name x e in
     let w = compressed_long (kept_compressed name x k) in
-    WellPointed.pointer (pointer_at x.offset k.near h) (omega (arith, w.0)) k.near (begins m b x.end x.offset name k.compressed).1 is
+    WellPointed.pointer (pointer_at x.offset k.in_range h) (omega (arith, w.0)) k.in_range (begins m b x.end x.offset name k.compressed).1 is
 
 -- Suffixes in the table are encoded where it says.
 pub entries_are_names : EntriesAreNames
@@ -35,7 +35,7 @@ entries_are_names b m s x r e =
     let h = kept_compressed s x k in
     let w = compressed_long h in
     record {
-      near = k.near;
+      in_range = k.in_range;
       ordered = w.0;
       within = w.1;
       labelled = begins m b x.end x.offset s k.compressed;
@@ -99,37 +99,37 @@ parts_point_to_labels rule t parts is good =
     let keeps = (encodes_parts rule parts is).keeps t good in encode_parts_fill rule t parts is good (λ p q name h. pointed keeps h)
 
 -- In at most 16,384 octets, the labels of a name are within pointer range.
-pub compressed_near : {m : CompressionTable} {b : List ℕ} {q p : ℕ} {name : Labels} → length b ≤ 16384 → IsTableOf b m → Compressed m b q p name → LabelsNear b q p
-compressed_near l r (root h e) = LabelsNear.root (root_at h) e
-compressed_near l r (label is h x) = let w = compressed_long x in LabelsNear.label (label_begins is h) (omega (arith, w)) (compressed_near l r x)
-compressed_near l r (pointer {name = name} {x = x} e before h is) = LabelsNear.pointer (pointer_at x.offset (r.each name x e).near h) is
+pub compressed_near : {m : CompressionTable} {b : List ℕ} {q p : ℕ} {name : Labels} → length b ≤ 16384 → IsTableOf b m → Compressed m b q p name → LabelsInPointerRange b q p
+compressed_near l r (root h e) = LabelsInPointerRange.root (root_at h) e
+compressed_near l r (label is h x) = let w = compressed_long x in LabelsInPointerRange.label (label_begins is h) (omega (arith, w)) (compressed_near l r x)
+compressed_near l r (pointer {name = name} {x = x} e before h is) = LabelsInPointerRange.pointer (pointer_at x.offset (r.each name x e).in_range h) is
 
 -- So are those of parts.
-pub short_parts_are_near : ShortPartsAreNear
-short_parts_are_near rule t parts is good l =
+pub short_parts_are_in_pointer_range : ShortPartsAreInPointerRange
+short_parts_are_in_pointer_range rule t parts is good l =
     let keeps = (encodes_parts rule parts is).keeps t good in encode_parts_fill rule t parts is good (λ p q name h. compressed_near l keeps h)
 
 -- If labels are within pointer range, the first one is, and so are the labels after it.
-pub near_label : {b : List ℕ} {q p n : ℕ} → LabelsNear b q p → head_at b p ≡ Ok (Label n) → (p < 16384) × LabelsNear b q (p + 1 + n)
-near_label (LabelsNear.root h end) e = cc
-near_label (LabelsNear.pointer h end) e = cc
-near_label {b = b} {q = q} {p = p} (LabelsNear.label {n = k} h near x) e =
-    let P : ℕ → Type 0 = λ n. (p < 16384) × LabelsNear b q (p + 1 + n) in subst P (cc) (near, x)
+pub in_range_label : {b : List ℕ} {q p n : ℕ} → LabelsInPointerRange b q p → head_at b p ≡ Ok (Label n) → (p < 16384) × LabelsInPointerRange b q (p + 1 + n)
+in_range_label (LabelsInPointerRange.root h end) e = cc
+in_range_label (LabelsInPointerRange.pointer h end) e = cc
+in_range_label {b = b} {q = q} {p = p} (LabelsInPointerRange.label {n = k} h in_range x) e =
+    let P : ℕ → Type 0 = λ n. (p < 16384) × LabelsInPointerRange b q (p + 1 + n) in subst P (cc) (in_range, x)
 
 -- At a zero octet they end after it.
-near_root : {b : List ℕ} {q p : ℕ} → LabelsNear b q p → head_at b p ≡ Ok Root → q ≡ p + 1
-near_root (LabelsNear.root h end) e = end
-near_root (LabelsNear.label h near x) e = cc
-near_root (LabelsNear.pointer h end) e = cc
+in_range_root : {b : List ℕ} {q p : ℕ} → LabelsInPointerRange b q p → head_at b p ≡ Ok Root → q ≡ p + 1
+in_range_root (LabelsInPointerRange.root h end) e = end
+in_range_root (LabelsInPointerRange.label h in_range x) e = cc
+in_range_root (LabelsInPointerRange.pointer h end) e = cc
 
 -- At a pointer they end after its two octets.
-near_pointer : {b : List ℕ} {q p t : ℕ} → LabelsNear b q p → head_at b p ≡ Ok (Pointer t) → q ≡ p + 2
-near_pointer (LabelsNear.root h end) e = cc
-near_pointer (LabelsNear.label h near x) e = cc
-near_pointer (LabelsNear.pointer h end) e = end
+in_range_pointer : {b : List ℕ} {q p t : ℕ} → LabelsInPointerRange b q p → head_at b p ≡ Ok (Pointer t) → q ≡ p + 2
+in_range_pointer (LabelsInPointerRange.root h end) e = cc
+in_range_pointer (LabelsInPointerRange.label h in_range x) e = cc
+in_range_pointer (LabelsInPointerRange.pointer h end) e = end
 
 -- They end where the encoding of the name does.
-pub near_end : {b : List ℕ} {q r p s : ℕ} → NameContinues b p s r → LabelsNear b q p → q ≡ r
-near_end (NameContinues.root h) near = near_root near h
-near_end (NameContinues.pointer h) near = near_pointer near h
-near_end (NameContinues.label h small fits x) near = near_end x (near_label near h).1
+pub in_range_end : {b : List ℕ} {q r p s : ℕ} → NameContinues b p s r → LabelsInPointerRange b q p → q ≡ r
+in_range_end (NameContinues.root h) in_range = in_range_root in_range h
+in_range_end (NameContinues.pointer h) in_range = in_range_pointer in_range h
+in_range_end (NameContinues.label h small fits x) in_range = in_range_end x (in_range_label in_range h).1

@@ -3,7 +3,7 @@ use Rattle.std.specs.Prelude.{Ok}
 use Rattle.std.proofs.lemmas.Result.{err_from_is_err_and}
 use Rattle.dns_name.specs.Names.{head_at, Faulty}
 use Rattle.dns_name.specs.declared.head.Head.TheVariants.{Root, Label, Pointer}
-use Rattle.dns_name.proofs.theory.NearNames.{passing_none, passing_label, passing_long, passing_row}
+use Rattle.dns_name.proofs.theory.CachedNames.{passing_none, passing_label, passing_long, passing_row}
 use Rattle.dns_name.proofs.head.Head.after_labels.Goals as goal
 
 pub walk-init : goal.walk-init

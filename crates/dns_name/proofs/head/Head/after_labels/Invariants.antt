@@ -1,5 +1,5 @@
 use Rattle.std.proofs.Common.{length, ◌+◌, ◌-◌}
-use Rattle.dns_name.proofs.theory.NearNames.{Passing}
+use Rattle.dns_name.proofs.theory.CachedNames.{Passing}
 use Rattle.dns_name.proofs.head.Head.after_labels.Given as goal
 
 abbrev pub invariant-walk : goal.invariant-walk

@@ -1,7 +1,7 @@
 use Rattle.std.proofs.Common.{arith}
 use Rattle.dns_name.specs.Names.{Faulty}
 use Rattle.dns_name.specs.Names.Fault.{Form}
-use Rattle.dns_name.proofs.theory.NearNames.{leading_row, leading_pointer, leading_root}
+use Rattle.dns_name.proofs.theory.CachedNames.{leading_row, leading_pointer, leading_root}
 use Rattle.dns_name.proofs.parsed_name.ParsedName.size_at.Goals as goal
 
 pub returns-in_default : goal.returns-in_default

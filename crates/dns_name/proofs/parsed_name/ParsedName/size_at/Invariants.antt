@@ -1,5 +1,5 @@
 use Rattle.std.proofs.Common.{◌+◌, ◌-◌}
-use Rattle.dns_name.proofs.theory.NearNames.{Leading}
+use Rattle.dns_name.proofs.theory.CachedNames.{Leading}
 use Rattle.dns_name.proofs.parsed_name.ParsedName.size_at.Given as goal
 
 abbrev pub invariant-walk : goal.invariant-walk

@@ -1,11 +1,11 @@
 use Rattle.std.proofs.Common.{◌+◌, ◌-◌, ◌≤◌, arith}
 use Rattle.std.proofs.lemmas.Result.{err_from_is_err_and}
-use Rattle.dns_name.proofs.theory.NearNames.{arrives_root, arrives_pointer, arrives_back, fails_ahead, fails_after}
+use Rattle.dns_name.proofs.theory.CachedNames.{arrives_root, arrives_pointer, arrives_back, fails_ahead, fails_after}
 use Rattle.dns_name.proofs.parsed_name.ParsedName.walk.Goals as goal
 
 pub returns-then-is_pointed_to-clause-arrives : goal.returns-then-is_pointed_to-clause-arrives
 returns-then-is_pointed_to-clause-arrives c =
-    rw (c.from.ensures, c.from-then-is_pointed_to.ensures) (arrives_back _ _ c.args.near.now (c.is_pointed_to.ensures c.if-is_pointed_to.true) c.requires.near)
+    rw (c.from.ensures, c.from-then-is_pointed_to.ensures) (arrives_back _ _ c.args.cached.now (c.is_pointed_to.ensures c.if-is_pointed_to.true) c.requires.cached)
 
 pub returns-in_default-clause-arrives : goal.returns-in_default-clause-arrives
 returns-in_default-clause-arrives c = arrives_root _ _ _ _ (rw c.in_default.is at c.in_ok-row.ensures)
@@ -18,9 +18,9 @@ returns-then-from-row-clause-arrives c =
 pub returns-then-known-le-MAX_SIZE-clause-arrives : goal.returns-then-known-le-MAX_SIZE-clause-arrives
 returns-then-known-le-MAX_SIZE-clause-arrives c =
     let row = rw c.in-Some.is at c.in_ok-row.ensures in
-    let small : (c.in_ok-row.row.end - c.args.start) + c.args.near.now.size ≤ 254 = omega (arith, c.if-known-le-MAX_SIZE.true, c.from-3.ensures) in
-    let known = c.requires.near (omega (arith, small)) in
-    arrives_pointer _ _ _ _ _ c.args.near.now.size c.args.near.now.count _ _ row (omega arith) (rw c.if-target-near.true known) small (omega arith) (omega arith)
+    let small : (c.in_ok-row.row.end - c.args.start) + c.args.cached.now.size ≤ 254 = omega (arith, c.if-known-le-MAX_SIZE.true, c.from-3.ensures) in
+    let known = c.requires.cached (omega (arith, small)) in
+    arrives_pointer _ _ _ _ _ c.args.cached.now.size c.args.cached.now.count _ _ row (omega arith) (rw c.if-target-cached.true known) small (omega arith) (omega arith)
 
 pub returns-in_err-size-clause-arrives : goal.returns-in_err-size-clause-arrives
 returns-in_err-size-clause-arrives c =

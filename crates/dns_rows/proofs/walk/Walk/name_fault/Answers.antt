@@ -24,8 +24,8 @@ returns-in_default c =
     let p = at c.args.self.now in
     let there : slice_get b p ≡ Some c.in-Some.len = c.first.ensures ∙ c.in-Some.is in
     let small : c.in-Some.len < 64 = omega arith in
-    let near : (p - c.args.start) + c.in-Some.len < 254 = omega arith in
-    stops_cut b c.args.name c.args.start p c.in-Some.len there small c.requires.no_root c.requires.none near
+    let in_range : (p - c.args.start) + c.in-Some.len < 254 = omega arith in
+    stops_cut b c.args.name c.args.start p c.in-Some.len there small c.requires.no_root c.requires.none in_range
 
 pub returns-in_default-2 : goal.returns-in_default-2
 returns-in_default-2 c = none (no_octet_there (octets c.args.self.now) (at c.args.self.now) (c.first.ensures ∙ c.in_default.is))

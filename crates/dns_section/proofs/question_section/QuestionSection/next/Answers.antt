@@ -30,7 +30,7 @@ returns-in-Err-clause-steps c =
 pub invariant_of-self-clause-met : goal.invariant_of-self-clause-met
 invariant_of-self-clause-met c =
     let reads = c.in-Ok.ensures in
-    c.near_at-self.ensures (seen c.parse.new.parser) (rw (reads.1.seen, c.pos-start.ensures, c.qname.ensures) reads.0.name)
+    c.cached_at-self.ensures (seen c.parse.new.parser) (rw (reads.1.seen, c.pos-start.ensures, c.qname.ensures) reads.0.name)
 
 pub invariant_of-self-in-Err-clause-met : goal.invariant_of-self-in-Err-clause-met
 invariant_of-self-in-Err-clause-met c = rw c.in-Err.ensures.1 c.args.self.now.met

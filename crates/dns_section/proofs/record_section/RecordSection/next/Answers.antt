@@ -29,7 +29,7 @@ pub returns-in-Ok-clause-steps : goal.returns-in-Ok-clause-steps
 unfolding records_in
 returns-in-Ok-clause-steps c =
     let old = c.args.self.now in
-    let new = c.parse_record_near.new.parser in
+    let new = c.parse_record_cached.new.parser in
     let reads = c.in-Ok.ensures.parses in
     let entry = parsed_entry c.in-Ok.record in
     left_in (octets_of old) (position old) (to_come old) _
@@ -43,7 +43,7 @@ returns-in-Err-clause-steps c =
     (gives_fault (records_from_are_read (octets_of old)) (position old) (to_come old) _ c.in_ok-ok.ensures.value _ _ c.in_ok-left.ensures c.in-Err.ensures.parses.0)
 
 pub invariant_of-self-clause-met : goal.invariant_of-self-clause-met
-invariant_of-self-clause-met c = rw c.in-Ok.ensures.parses.1.seen c.parse_record_near.ensures.near
+invariant_of-self-clause-met c = rw c.in-Ok.ensures.parses.1.seen c.parse_record_cached.ensures.cached
 
 pub invariant_of-self-in-Err-clause-met : goal.invariant_of-self-in-Err-clause-met
-invariant_of-self-in-Err-clause-met c = rw c.in-Err.ensures.parses.1 c.parse_record_near.ensures.near
+invariant_of-self-in-Err-clause-met c = rw c.in-Err.ensures.parses.1 c.parse_record_cached.ensures.cached

@@ -1,7 +1,7 @@
 use Rattle.std.proofs.Common.{rules, arith}
 use Rattle.dns_name.proofs.theory.LabelsLemmas.{name_encoded, short_and_few}
 use Rattle.dns_name.proofs.theory.Names.{one_name, not_both}
-use Rattle.dns_name.proofs.near_reading.parse_near.Goals as goal
+use Rattle.dns_name.proofs.cached_reading.parse_cached.Goals as goal
 
 pub returns-in_err-extent-clause-name : goal.returns-in_err-extent-clause-name
 returns-in_err-extent-clause-name c other x = absurd (not_both _ _ other _ x c.in_err-extent.ensures.arrives)

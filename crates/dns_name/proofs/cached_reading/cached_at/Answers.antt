@@ -1,7 +1,7 @@
 use Rattle.std.proofs.Common.{arith}
 use Rattle.dns_name.specs.ParsedName.{labels}
 use Rattle.dns_name.proofs.theory.LabelsLemmas.{short_and_few}
-use Rattle.dns_name.proofs.near_reading.near_at.Goals as goal
+use Rattle.dns_name.proofs.cached_reading.cached_at.Goals as goal
 
 pub overflow_cast-result-2 : goal.overflow_cast-result-2
 overflow_cast-result-2 c = let n = short_and_few _ _ _ _ c.args.name.now.name_at in omega (arith, n.0)

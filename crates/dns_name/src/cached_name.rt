@@ -4,10 +4,10 @@ ghost use Rattle.dns_name.specs.Names.{max_size, pointer_end};
 /// A name read before in the same octets: its offset, the size of its labels, and the number of its
 /// labels.
 ///
-/// The names of a message often point to one offset. With the name there cached, `parse_near` reads
+/// The names of a message often point to one offset. With the name there cached, `parse_cached` reads
 /// them without walking over it again.
 #[derive(Clone, Copy, Debug)]
-pub struct NearName {
+pub struct CachedName {
     pub(crate) pos: u16,
     /// The size of the labels in octets; 255 if no name is cached, as no name has that size.
     pub(crate) size: u8,
@@ -16,18 +16,18 @@ pub struct NearName {
     ghost reachable: { pos < pointer_end },
 }
 
-impl NearName {
-    ghost use Rattle.dns_name.specs.NearNames.{IsNear, LeadsBackTo};
+impl CachedName {
+    ghost use Rattle.dns_name.specs.CachedNames.{IsCached, LeadsBackTo};
     ghost use Rattle.dns_name.specs.Unique.{NameOfSizeAndCount};
 
     /// Pointers lead to offsets below this one.
     pub(crate) const POINTER_END: usize = 16_384;
 
     /// Caches no name.
-    pub fn new() -> NearName
-        ensures { (b : List ℕ) → IsNear b result }
+    pub fn new() -> CachedName
+        ensures { (b : List ℕ) → IsCached b result }
     {
-        NearName {
+        CachedName {
             pos: 0,
             size: u8::MAX,
             count: 0,
@@ -35,13 +35,13 @@ impl NearName {
     }
 
     /// Caches the name at offset `pos`, whose `count` labels take `size` octets.
-    pub(crate) fn at(octets: &[u8], pos: u16, size: usize, count: usize) -> NearName
+    pub(crate) fn at(octets: &[u8], pos: u16, size: usize, count: usize) -> CachedName
         requires encoded { NameOfSizeAndCount octets.now pos size count }
         requires short { size ≤ max_size }
         requires reachable { pos < pointer_end }
-        ensures { IsNear octets.now result }
+        ensures { IsCached octets.now result }
     {
-        NearName {
+        CachedName {
             pos,
             size: size as u8,
             count: count as u8,

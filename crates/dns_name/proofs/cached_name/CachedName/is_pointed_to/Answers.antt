@@ -1,7 +1,7 @@
 use Rattle.std.proofs.Common.{◌+◌, ◌<◌, length, get_or, sym, ◌∙◌, eqb-true, ltb-true, arith}
-use Rattle.dns_name.proofs.theory.NearNames.{pointer_number}
-use Rattle.dns_name.proofs.near_name.NearName.is_pointed_to.Goals as goal
-use Rattle.dns_name.proofs.near_name.NearName.is_pointed_to.Goals.{then-word-self, else-word-self}
+use Rattle.dns_name.proofs.theory.CachedNames.{pointer_number}
+use Rattle.dns_name.proofs.cached_name.CachedName.is_pointed_to.Goals as goal
+use Rattle.dns_name.proofs.cached_name.CachedName.is_pointed_to.Goals.{then-word-self, else-word-self}
 
 pub returns-then-self-lt255 : goal.returns-then-self-lt255
 returns-then-self-lt255 c = λ back.

@@ -7,11 +7,11 @@ use Rattle.std.specs.Prelude.{bit_or}
 use Rattle.std.proofs.lemmas.Bool.Decides.{leb_tells}
 use Rattle.dns_name.specs.Names.{Fault, Labels, name_size, max_size, head_of, head_at, label_at, NameAt, Faulty, FaultAt, NameContinues}
 use Rattle.dns_name.specs.Names.Fault.{ShortInput, Form}
-use Rattle.dns_name.specs.NearNames.{IsNear, LabelsTo, row_count, PassesLabels, Measures, Arrives, LeadsBackTo}
-use Rattle.dns_name.specs.NearNames.LabelsTo.{none, label}
+use Rattle.dns_name.specs.CachedNames.{IsCached, LabelsTo, row_count, PassesLabels, Measures, Arrives, LeadsBackTo}
+use Rattle.dns_name.specs.CachedNames.LabelsTo.{none, label}
 use Rattle.dns_name.specs.Unique.{NameOfSizeAndCount, name_size-label_at, label_head}
 use Rattle.dns_name.specs.declared.head.Head.TheVariants.{Root, Label, Pointer}
-use Rattle.dns_name.specs.declared.near_name.NearName.{NearName}
+use Rattle.dns_name.specs.declared.cached_name.CachedName.{CachedName}
 use Rattle.dns_name.proofs.theory.HeadLemmas.{pointer_within, pointer_begins}
 
 -- Nothing begins past the end.
@@ -192,8 +192,8 @@ pointer_number b p t word within first second small read same =
     pointer_begins b p t small (slice_get-get_or b p 0 (omega arith) ∙ ap Some high) (slice_get-get_or b (p + 1) 0 within ∙ ap Some low)
 
 -- The extent of a name that is only a pointer to the cached name.
-pub arrives_back : (b : List ℕ) (p : ℕ) (near : NearName) → LeadsBackTo b p near → IsNear b near → Arrives b p (p + 2) near.size near.count
-arrives_back b p near x is =
+pub arrives_back : (b : List ℕ) (p : ℕ) (cached : CachedName) → LeadsBackTo b p cached → IsCached b cached → Arrives b p (p + 2) cached.size cached.count
+arrives_back b p cached x is =
     let n = is x.known in
-    let inside : p + 1 < length b = pointer_within b p near.pos x.there in
+    let inside : p + 1 < length b = pointer_within b p cached.pos x.there in
     record { name = ((n.0.0, NameAt.pointer x.there x.back n.0.1), n.1, n.2); name_ends = NameContinues.pointer x.there; within = omega arith }

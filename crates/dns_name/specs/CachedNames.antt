@@ -6,22 +6,22 @@ use Rattle.dns_name.specs.Unique.{NameOfSizeAndCount, NameOfSizeAndCount-prop}
 use Rattle.dns_name.specs.declared.head.Head.{Head}
 use Rattle.dns_name.specs.declared.head.Head.TheVariants.{Root, Label, Pointer}
 use Rattle.dns_name.specs.declared.head.LabelRow.{LabelRow}
-use Rattle.dns_name.specs.declared.near_name.NearName.{NearName}
+use Rattle.dns_name.specs.declared.cached_name.CachedName.{CachedName}
 use Rattle.dns_name.specs.declared.parsed_name.NameExtent.{NameExtent}
 use Rattle.std.proofs.Props.{props}
 
 -- The cached name is encoded at its offset with its size and number of labels. A size above `max_size` means that no name is cached.
-abbrev pub IsNear : List ℕ → NearName → Type 0
-IsNear b near = near.size ≤ max_size → NameOfSizeAndCount b near.pos near.size near.count
+abbrev pub IsCached : List ℕ → CachedName → Type 0
+IsCached b cached = cached.size ≤ max_size → NameOfSizeAndCount b cached.pos cached.size cached.count
 
-pub IsNear-prop : (b : List ℕ) (near : NearName) → IsProp (IsNear b near)
-IsNear-prop b near = hlevel (props, NameOfSizeAndCount-prop b near.pos near.size near.count)
+pub IsCached-prop : (b : List ℕ) (cached : CachedName) → IsProp (IsCached b cached)
+IsCached-prop b cached = hlevel (props, NameOfSizeAndCount-prop b cached.pos cached.size cached.count)
 
 -- A pointer back to the cached name is at offset p, and a name is cached.
-pub record LeadsBackTo (b : List ℕ) (p : ℕ) (near : NearName) : Type 0 where
-  pub there : head_at b p ≡ Ok (Pointer near.pos)
-  pub back : near.pos < p
-  pub known : near.size ≤ max_size
+pub record LeadsBackTo (b : List ℕ) (p : ℕ) (cached : CachedName) : Type 0 where
+  pub there : head_at b p ≡ Ok (Pointer cached.pos)
+  pub back : cached.pos < p
+  pub known : cached.size ≤ max_size
 
 -- A pointer leads to an offset that 14 bits can hold.
 abbrev pub IsInReach : Head → Type 0

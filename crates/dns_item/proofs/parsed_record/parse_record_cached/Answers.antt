@@ -1,7 +1,7 @@
 use Rattle.std.proofs.Common.{◌∙◌, refl}
 use Rattle.std.proofs.lemmas.Result.{err_from_is_err_and}
 use Rattle.dns_item.proofs.RecordLemmas.{with_data, without_data, without_header}
-use Rattle.dns_item.proofs.parsed_record.parse_record_near.Goals as goal
+use Rattle.dns_item.proofs.parsed_record.parse_record_cached.Goals as goal
 
 pub returns-in_err-header-clause-parses : goal.returns-in_err-header-clause-parses
 returns-in_err-header-clause-parses c =
