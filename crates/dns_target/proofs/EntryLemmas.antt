@@ -161,13 +161,13 @@ with_suffixes-ordered xs (s ∷ ss) end h l = let more = with_suffixes-ordered x
 shorter_suffixes : (c : ℕ) (name : Labels) (w n : ℕ) → length name < n → AreShorter n (first_suffixes c name w)
 shorter_suffixes zero name w n l = tt
 shorter_suffixes (suc c) [] w n l = tt
-shorter_suffixes (suc c) (label ∷ rest) w n l = (l, shorter_suffixes c rest (w + 1 + length label) n (omega arith))
+shorter_suffixes (suc c) (label ∷ parent) w n l = (l, shorter_suffixes c parent (w + 1 + length label) n (omega arith))
 
 -- the first suffixes of a name are new if none of them is in the table
 pub first_suffixes-new : (m : CompressionTable) (c : ℕ) (name : Labels) (w end : ℕ) → ((k : ℕ) → k < c → get m (drop k name) ≡ None) → AreAdded m (first_suffixes c name w) end
 first_suffixes-new m zero name w end h = tt
 first_suffixes-new m (suc c) [] w end h = tt
-first_suffixes-new m (suc c) (label ∷ rest) w end h = (
-  get-add_suffixes_longer m (first_suffixes c rest (w + 1 + length label)) end (label ∷ rest) (h 0 (omega arith)) (shorter_suffixes c rest (w + 1 + length label) (length (label ∷ rest)) (omega arith)),
-  first_suffixes-new m c rest (w + 1 + length label) end (λ k l. h (suc k) (omega arith)),
+first_suffixes-new m (suc c) (label ∷ parent) w end h = (
+  get-add_suffixes_longer m (first_suffixes c parent (w + 1 + length label)) end (label ∷ parent) (h 0 (omega arith)) (shorter_suffixes c parent (w + 1 + length label) (length (label ∷ parent)) (omega arith)),
+  first_suffixes-new m c parent (w + 1 + length label) end (λ k l. h (suc k) (omega arith)),
 )

@@ -38,15 +38,15 @@ pub past : {A : Type 0} (end : A → ℕ) (len : ℕ) (x : A) (xs : List A) → 
 past end len x xs l = let b : nat_le (end x) len ≡ false = grind (arith, nat_tests) in ap (λ c. cond c (x ∷ xs) (cut_by end len xs)) b
 
 -- the last entry, as it is read and then removed
-popped : {A : Type 0} (all list rest : List A) (x last : A) → all ≡ rest ++ x ∷ [] → list ≡ all → Some last ≡ slice_get list (length list - 1) → last ≡ x
-popped all list rest x last e same is =
-    let whole : list ≡ rest ++ x ∷ [] = same ∙ e in
-    let size : length list ≡ length rest + 1 = ap length whole ∙ length-append rest (x ∷ []) in
-    sym (get_or_from_slice_get list (length list - 1) last last (sym is)) ∙ ap (λ ys. get_or ys (length list - 1) last) whole ∙ get_or_push rest x last (length list - 1) (omega arith)
+popped : {A : Type 0} (all list parent : List A) (x last : A) → all ≡ parent ++ x ∷ [] → list ≡ all → Some last ≡ slice_get list (length list - 1) → last ≡ x
+popped all list parent x last e same is =
+    let whole : list ≡ parent ++ x ∷ [] = same ∙ e in
+    let size : length list ≡ length parent + 1 = ap length whole ∙ length-append parent (x ∷ []) in
+    sym (get_or_from_slice_get list (length list - 1) last last (sym is)) ∙ ap (λ ys. get_or ys (length list - 1) last) whole ∙ get_or_push parent x last (length list - 1) (omega arith)
 
 -- so the others are cut as all are
-pub cut-popped : {A B : Type 0} (f : A → B) (end : B → ℕ) (len : ℕ) (all list rest : List A) (x last : A) → all ≡ rest ++ x ∷ [] → list ≡ all
-    → Some last ≡ slice_get list (length list - 1) → len < end (f last) → cut_by end len (reverse (map f rest)) ≡ cut_by end len (reverse (map f all))
-cut-popped f end len all list rest x last e same is l =
-    let late : len < end (f x) = subst (λ y. len < end (f y)) (popped all list rest x last e same is) l in
-    sym (ap (λ ys. cut_by end len (reverse (map f ys))) e ∙ ap (cut_by end len) (pushed f rest x) ∙ past end len (f x) (reverse (map f rest)) late)
+pub cut-popped : {A B : Type 0} (f : A → B) (end : B → ℕ) (len : ℕ) (all list parent : List A) (x last : A) → all ≡ parent ++ x ∷ [] → list ≡ all
+    → Some last ≡ slice_get list (length list - 1) → len < end (f last) → cut_by end len (reverse (map f parent)) ≡ cut_by end len (reverse (map f all))
+cut-popped f end len all list parent x last e same is l =
+    let late : len < end (f x) = subst (λ y. len < end (f y)) (popped all list parent x last e same is) l in
+    sym (ap (λ ys. cut_by end len (reverse (map f ys))) e ∙ ap (cut_by end len) (pushed f parent x) ∙ past end len (f x) (reverse (map f parent)) late)

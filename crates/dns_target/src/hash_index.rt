@@ -3,7 +3,7 @@
 ghost use Rattle.std.specs.Prelude.{◌≡◌, ◌≤◌, [], None, length, drop};
 ghost use Rattle.dns_target.specs.TableEntries.{table_in};
 ghost use Rattle.dns_target.specs.Indexes.{AreTableEntries};
-ghost use Rattle.dns_target.specs.Table.{IsRest, RestIsName, table_entries_in, in_range_count as in_range_count_of};
+ghost use Rattle.dns_target.specs.Table.{IsRest, ParentIsName, table_entries_in, in_range_count as in_range_count_of};
 
 use crate::index::{Plan, SuffixIndex};
 use crate::label_starts::LabelStarts;
@@ -41,7 +41,7 @@ impl HashIndex {
         requires entries { AreTableEntries content.now (table_entries_in self.now.suffixes.suffixes) }
         requires recent { IsRest content.now self.now.suffixes.suffixes self.now.recent }
         ensures within { result.from ≤ length labels.now }
-        ensures there { RestIsName (table_in content.now (table_entries_in self.now.suffixes.suffixes))
+        ensures there { ParentIsName (table_in content.now (table_entries_in self.now.suffixes.suffixes))
             result.offset (drop result.from labels.now) }
     {
         let Some(offset) = self.recent else {
@@ -150,16 +150,16 @@ impl SuffixIndex for HashIndex {
         count: usize,
     ) -> Result<(), AllocError> {
         self.suffixes.reserve(count)?;
-        let mut rest = found.offset;
+        let mut parent = found.offset;
         let mut index = count;
         while index > 0 {
             index -= 1;
             let here = (offset + labels.start(index)) as u16;
             self.suffixes
-                .push(labels.label(index), rest, here, content.len());
-            rest = Some(here);
+                .push(labels.label(index), parent, here, content.len());
+            parent = Some(here);
         }
-        self.recent = found.offset.or(rest);
+        self.recent = found.offset.or(parent);
         self.recent_labels = labels.len() - shared_from(found);
         Ok(())
     }

@@ -134,15 +134,15 @@ is_kept Hash offset entry_count = true
 -- A suffix in the table: a pointer. Else, if the table may take it here: the label, then its parent encoded after it. Else: the whole name uncompressed.
 -- The second component lists the suffixes that are written as labels and may enter the table, each with its offset.
 abbrev pub compress_label : Option TableEntry → Bool → List ℕ → Labels → ℕ → List ℕ × List (Labels × ℕ) → List ℕ × List (Labels × ℕ)
-compress_label (Some table_entry) keep label rest offset after = (pointer table_entry.offset, [])
-compress_label None true label rest offset after = (framed label ++ after.0, (label ∷ rest, offset) ∷ after.1)
-compress_label None false label rest offset after = (uncompressed (label ∷ rest), [])
+compress_label (Some table_entry) keep label parent offset after = (pointer table_entry.offset, [])
+compress_label None true label parent offset after = (framed label ++ after.0, (label ∷ parent, offset) ∷ after.1)
+compress_label None false label parent offset after = (uncompressed (label ∷ parent), [])
 
 -- A name encoded at offset `offset`, with `entry_count` entries in the table.
 abbrev pub compress : Rule → CompressionTable → ℕ → ℕ → Labels → List ℕ × List (Labels × ℕ)
 compress rule m offset entry_count [] = (0 ∷ [], [])
-compress rule m offset entry_count (label ∷ rest) =
-    compress_label (get m (label ∷ rest)) (is_kept rule offset entry_count) label rest offset (compress rule m (offset + 1 + length label) (entry_count + 1) rest)
+compress rule m offset entry_count (label ∷ parent) =
+    compress_label (get m (label ∷ parent)) (is_kept rule offset entry_count) label parent offset (compress rule m (offset + 1 + length label) (entry_count + 1) parent)
 
 -- The suffixes that enter the table. Under the hash rule it is all or none: none if one of them is past pointer range.
 abbrev pub kept : Rule → List (Labels × ℕ) → List (Labels × ℕ)

@@ -1,9 +1,9 @@
 use Rattle.std.proofs.Common.{Option, ℕ, List, length, ap, ◌∙◌, sym, subst, ◌≡◌, ◌≤◌, ◌+◌, ◌-◌, drop, arith}
 use Rattle.dns_target.specs.TableEntries.{table_in}
-use Rattle.dns_target.specs.Table.{Suffix, AreKeyed, IsRest, table_entries_in, RestIsName}
+use Rattle.dns_target.specs.Table.{Suffix, AreKeyed, IsRest, table_entries_in, ParentIsName}
 use Rattle.dns_target.proofs.Choosing.{found_within}
 use Rattle.dns_target.proofs.EntryLists.{none_added, one_added}
-use Rattle.dns_target.proofs.KeyedNames.{key_next, first_rest, first_of_rests, found_refers}
+use Rattle.dns_target.proofs.KeyedNames.{key_next, first_parent, first_of_rests, found_refers}
 use Rattle.dns_target.proofs.hash_index.HashIndexSuffixIndex.add_suffixes.Goals as goal
 
 pub loop-index-init : goal.loop-index-init
@@ -17,7 +17,7 @@ loop-index-init c =
       keyed = subst (λ (ss : List Suffix). AreKeyed c.args.content.now ss) (sym same) c.requires.is_of.0;
       found = there;
       last = there;
-      rest = λ some. subst (λ (ss : List Suffix). RestIsName (table_in c.args.content.now (table_entries_in ss)) c.args.found.offset (drop c.args.count c.args.labels.now)) (sym same) (first_rest _ c.args.labels.now c.args.found.from c.args.count c.args.found.offset c.requires.planned.0 some c.requires.add.found.there);
+      parent = λ some. subst (λ (ss : List Suffix). ParentIsName (table_in c.args.content.now (table_entries_in ss)) c.args.found.offset (drop c.args.count c.args.labels.now)) (sym same) (first_parent _ c.args.labels.now c.args.found.from c.args.count c.args.found.offset c.requires.planned.0 some c.requires.add.found.there);
     }
 
 pub start-requires : goal.start-requires
@@ -29,13 +29,13 @@ start-requires c =
 pub push-requires-clause-new : goal.push-requires-clause-new
 push-requires-clause-new c =
     let k : c.loop-index.index ≡ c.loop-index.index - 1 + 1 = omega arith in
-    (key_next c.args.content.now _ c.loop-index.self.suffixes.suffixes c.args.labels.now c.args.offset _ _ c.args.count c.loop-index.index (c.loop-index.index - 1) c.start.result c.loop-index.rest c.label.result.now k c.loop-index.invariant.within c.requires.add c.loop-index.invariant.entries c.loop-index.invariant.keyed (c.loop-index.invariant.rest (let l = c.loop-index.invariant.within in omega arith)) c.label.ensures.label c.start.ensures.start).0
+    (key_next c.args.content.now _ c.loop-index.self.suffixes.suffixes c.args.labels.now c.args.offset _ _ c.args.count c.loop-index.index (c.loop-index.index - 1) c.start.result c.loop-index.parent c.label.result.now k c.loop-index.invariant.within c.requires.add c.loop-index.invariant.entries c.loop-index.invariant.keyed (c.loop-index.invariant.parent (let l = c.loop-index.invariant.within in omega arith)) c.label.ensures.label c.start.ensures.start).0
 
 pub loop-index-preserved : goal.loop-index-preserved
 loop-index-preserved c =
     let k : c.loop-index.index ≡ c.loop-index.index - 1 + 1 = omega arith in
     let within : c.args.count ≤ length c.args.labels.now = let a = c.requires.add.within in let f = found_within _ c.args.labels.now _ _ c.requires.add.found.there in omega arith in
-    let all = key_next c.args.content.now _ c.loop-index.self.suffixes.suffixes c.args.labels.now c.args.offset _ _ c.args.count c.loop-index.index (c.loop-index.index - 1) c.start.result c.loop-index.rest c.label.result.now k c.loop-index.invariant.within c.requires.add c.loop-index.invariant.entries c.loop-index.invariant.keyed (c.loop-index.invariant.rest (let l = c.loop-index.invariant.within in omega arith)) c.label.ensures.label c.start.ensures.start in
+    let all = key_next c.args.content.now _ c.loop-index.self.suffixes.suffixes c.args.labels.now c.args.offset _ _ c.args.count c.loop-index.index (c.loop-index.index - 1) c.start.result c.loop-index.parent c.label.result.now k c.loop-index.invariant.within c.requires.add c.loop-index.invariant.entries c.loop-index.invariant.keyed (c.loop-index.invariant.parent (let l = c.loop-index.invariant.within in omega arith)) c.label.ensures.label c.start.ensures.start in
     record {
       within = let l = c.loop-index.invariant.within in omega arith;
       capacity = let r = c.push.ensures.capacity in let s = c.loop-index.invariant.capacity in omega arith;
@@ -43,7 +43,7 @@ loop-index-preserved c =
       keyed = rw c.push.ensures.suffixes all.1;
       found = rw c.push.ensures.suffixes (all.3 _ c.loop-index.invariant.found);
       last = rw c.push.ensures.suffixes (_, all.2);
-      rest = λ some. rw c.push.ensures.suffixes all.2;
+      parent = λ some. rw c.push.ensures.suffixes all.2;
     }
 
 pub returns-clause-ok : goal.returns-clause-ok
@@ -51,5 +51,5 @@ returns-clause-ok c = let none : c.loop-index.index ≡ 0 = omega arith in rw no
 
 pub returns-clause-is_of : goal.returns-clause-is_of
 returns-clause-is_of c =
-    let recent = first_of_rests c.args.content.now c.loop-index.self.suffixes.suffixes c.args.found.offset c.loop-index.rest c.loop-index.invariant.found c.loop-index.invariant.last in
+    let recent = first_of_rests c.args.content.now c.loop-index.self.suffixes.suffixes c.args.found.offset c.loop-index.parent c.loop-index.invariant.found c.loop-index.invariant.last in
     (c.loop-index.invariant.keyed, subst (λ (r : Option ℕ). IsRest c.args.content.now c.loop-index.self.suffixes.suffixes r) (sym c.or-self.ensures) recent)

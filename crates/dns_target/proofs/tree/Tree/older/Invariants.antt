@@ -5,7 +5,7 @@ use Rattle.dns_target.proofs.tree.Tree.older.Given as goal
 
 abbrev pub invariant-loop-at : goal.invariant-loop-at
 invariant-loop-at l = record {
-  walk : IsWalk l.self.entries (entry_at l.self.entries l.fn.newer).rest (l.label ∷ name_at l.self.entries (entry_at l.self.entries l.fn.newer).rest) (Some l.at);
+  walk : IsWalk l.self.entries (entry_at l.self.entries l.fn.newer).parent (l.label ∷ name_at l.self.entries (entry_at l.self.entries l.fn.newer).parent) (Some l.at);
   other : bytes_eq (entry_at l.self.entries l.at).label l.label ≡ false;
   within : l.at ≤ l.fn.newer;
 }

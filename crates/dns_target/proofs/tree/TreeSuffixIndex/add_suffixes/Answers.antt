@@ -5,13 +5,13 @@ use Rattle.dns_target.proofs.tree.TreeSuffixIndex.add_suffixes.Goals as goal
 
 pub grow-requires-clause-capacity : goal.grow-requires-clause-capacity
 grow-requires-clause-capacity c =
-    let same = same_from c.args.content.now c.args.self.now.entries c.args.labels.now c.args.offset c.args.found.from c.args.count c.args.found.offset c.args.lookup.from c.args.lookup.rest c.requires.is_of (c.requires.planned c.if-count-gt0.true) c.if-count-gt0.true c.requires.add.found c.requires.hint.path c.requires.hint.end in
+    let same = same_from c.args.content.now c.args.self.now.entries c.args.labels.now c.args.offset c.args.found.from c.args.count c.args.found.offset c.args.lookup.from c.args.lookup.parent c.requires.is_of (c.requires.planned c.if-count-gt0.true) c.if-count-gt0.true c.requires.add.found c.requires.hint.path c.requires.hint.end in
     let capacity = c.in_ok-reserve.ensures.ok in
     omega arith
 
 pub grow-requires-clause-long : goal.grow-requires-clause-long
 grow-requires-clause-long c =
-    let same = same_from c.args.content.now c.args.self.now.entries c.args.labels.now c.args.offset c.args.found.from c.args.count c.args.found.offset c.args.lookup.from c.args.lookup.rest c.requires.is_of (c.requires.planned c.if-count-gt0.true) c.if-count-gt0.true c.requires.add.found c.requires.hint.path c.requires.hint.end in
+    let same = same_from c.args.content.now c.args.self.now.entries c.args.labels.now c.args.offset c.args.found.from c.args.count c.args.found.offset c.args.lookup.from c.args.lookup.parent c.requires.is_of (c.requires.planned c.if-count-gt0.true) c.if-count-gt0.true c.requires.add.found c.requires.hint.path c.requires.hint.end in
     let long = c.requires.add.long in
     let size : name_size (take c.args.lookup.from c.args.labels.now) ≡ name_size (take c.args.found.from c.args.labels.now) = ap (λ (n : ℕ). name_size (take n c.args.labels.now)) same in
     omega arith
