@@ -6,7 +6,7 @@ use Rattle.std.proofs.lemmas.List.{take_more, append-nil, map-append, take-appen
 use Rattle.std.proofs.lemmas.List.Elements.{filter-append}
 use Rattle.std.specs.Prelude.{map, nat_le, Result, Ok, Err}
 use Rattle.dns_wire.specs.Encoders.{Plain}
-use Rattle.dns_wire.specs.Targets.{Fits, Passes}
+use Rattle.dns_wire.specs.Targets.{Fits, Exceeds}
 use Rattle.dns_question.specs.Questions.{QuestionItem}
 use Rattle.dns_item.specs.Items.{RecordItem}
 use Rattle.dns_build.specs.BuilderStates.{Built, Represents, MovesState, InEach, size_after}
@@ -27,11 +27,11 @@ none_more s b h =
 abbrev HasCapacity : RecordItem → State → Type 0
 HasCapacity x t = let n = size_after Plain (with_record InAnswer x) t in Fits None n × (n ≤ t.limit) × (length t.answers < most_entries)
 
-abbrev PassesLimit : RecordItem → State → Type 0
-PassesLimit x t = let n = size_after Plain (with_record InAnswer x) t in Fits None n × (t.limit < n)
+abbrev ExceedsLimit : RecordItem → State → Type 0
+ExceedsLimit x t = let n = size_after Plain (with_record InAnswer x) t in Fits None n × (t.limit < n)
 
-abbrev PassesCount : RecordItem → State → Type 0
-PassesCount x t = let n = size_after Plain (with_record InAnswer x) t in Fits None n × (n ≤ t.limit) × (length t.answers ≡ most_entries)
+abbrev ExceedsCount : RecordItem → State → Type 0
+ExceedsCount x t = let n = size_after Plain (with_record InAnswer x) t in Fits None n × (n ≤ t.limit) × (length t.answers ≡ most_entries)
 
 -- one further answer after others
 one_more : (s : State) (xs : List RecordItem) (x : RecordItem) (mid new : Built) → MoreAnswers s mid xs
@@ -49,19 +49,19 @@ some_within s b h xs ys =
     subst (λ (t : State). size (with_answers xs t) ≤ size (with_answers (xs ++ ys) t)) (sym h.last) (longer_answers s xs ys h.state.header)
 
 -- if one answer exceeds the limit, all of them do
-limit_passed : (s : State) (xs : List RecordItem) (x : RecordItem) (ys : List RecordItem) (b mid : Built) → Represents InAnswer Plain s b → MoreAnswers s mid xs
-    → InEach InAnswer Plain mid (PassesLimit x) → s.limit < size (with_answers ((xs ++ x ∷ []) ++ ys) s)
-limit_passed s xs x ys b mid h more passes =
+limit_exceeded : (s : State) (xs : List RecordItem) (x : RecordItem) (ys : List RecordItem) (b mid : Built) → Represents InAnswer Plain s b → MoreAnswers s mid xs
+    → InEach InAnswer Plain mid (ExceedsLimit x) → s.limit < size (with_answers ((xs ++ x ∷ []) ++ ys) s)
+limit_exceeded s xs x ys b mid h more exceeds =
     let e : with_record InAnswer x (with_answers xs s) ≡ with_answers (xs ++ x ∷ []) s = λ i. record s { answers = append_assoc s.answers xs (x ∷ []) i } in
-    let l : s.limit < size (with_answers (xs ++ x ∷ []) s) = subst (λ (t : State). s.limit < size t) e (passes (with_answers xs s) more.represents).1 in
+    let l : s.limit < size (with_answers (xs ++ x ∷ []) s) = subst (λ (t : State). s.limit < size t) e (exceeds (with_answers xs s) more.represents).1 in
     let m = some_within s b h (xs ++ x ∷ []) ys in
     omega (arith, l, m)
 
 -- if an answer can't be counted, the limit exceeds the greatest count
-count_passed : (s : State) (xs : List RecordItem) (x : RecordItem) (mid : Built) → MoreAnswers s mid xs → InEach InAnswer Plain mid (PassesCount x) → most_entries < s.limit
-count_passed s xs x mid more passes =
+count_exceeded : (s : State) (xs : List RecordItem) (x : RecordItem) (mid : Built) → MoreAnswers s mid xs → InEach InAnswer Plain mid (ExceedsCount x) → most_entries < s.limit
+count_exceeded s xs x mid more exceeds =
     let t = with_answers xs s in
-    let p = passes t more.represents in
+    let p = exceeds t more.represents in
     let k = items_within (with_record InAnswer x t) more.represents.state.header in
     let n = length-append t.answers (x ∷ []) in
     omega (arith, p, k, n)
@@ -82,8 +82,8 @@ module _ {R : Type 0} (item : R → RecordItem) (asked : QuestionItem) (table : 
   next_taken : (i : ℕ) (x : R) (d : R) → i < length table → x ≡ get_or table i d → is_asked asked (item x) ≡ true → first (i + 1) ≡ first i ++ item x ∷ []
   next_taken i x d l is asks = next i x d l is ∙ ap (λ (b : Bool). first i ++ cond b (item x ∷ []) []) asks
 
-  next_passed : (i : ℕ) (x : R) (d : R) → i < length table → x ≡ get_or table i d → is_asked asked (item x) ≡ false → first (i + 1) ≡ first i
-  next_passed i x d l is other = next i x d l is ∙ ap (λ (b : Bool). first i ++ cond b (item x ∷ []) []) other ∙ append-nil (first i)
+  next_exceeded : (i : ℕ) (x : R) (d : R) → i < length table → x ≡ get_or table i d → is_asked asked (item x) ≡ false → first (i + 1) ≡ first i
+  next_exceeded i x d l is other = next i x d l is ∙ ap (λ (b : Bool). first i ++ cond b (item x ∷ []) []) other ∙ append-nil (first i)
 
   -- the matches among the first records, followed by those among the remaining ones, are all matches
   first_then : (i : ℕ) → first i ++ asked_records asked (map item (drop i table)) ≡ asked_records asked (map item table)
@@ -104,27 +104,27 @@ module _ {R : Type 0} (item : R → RecordItem) (asked : QuestionItem) (table : 
       subst (MoreAnswers s new) (sym (next_taken i x d l is asks)) (one_more s (first i) (item x) mid new (so_far s h) moves capacity)
 
   -- a record that doesn't match is skipped
-  pub passes_next : (i : ℕ) (x d : R) → i < length table → x ≡ get_or table i d → is_asked asked (item x) ≡ false → (old mid : Built)
+  pub exceeds_next : (i : ℕ) (x d : R) → i < length table → x ≡ get_or table i d → is_asked asked (item x) ≡ false → (old mid : Built)
       → InEach InAnswer Plain old (λ s. MoreAnswers s mid (first i)) → InEach InAnswer Plain old (λ s. MoreAnswers s mid (first (i + 1)))
-  passes_next i x d l is other old mid so_far s h = subst (MoreAnswers s mid) (sym (next_passed i x d l is other)) (so_far s h)
+  exceeds_next i x d l is other old mid so_far s h = subst (MoreAnswers s mid) (sym (next_exceeded i x d l is other)) (so_far s h)
 
   -- if a push fails, the reason is one for all matches, or the matches before it have been pushed
   pub refused_next : (i : ℕ) (x d : R) → i < length table → x ≡ get_or table i d → is_asked asked (item x) ≡ true → (old mid : Built)
       → InEach InAnswer Plain old (λ s. MoreAnswers s mid (first i)) → (result : Result (Unit {0}) PushError)
-      → (result ≡ Err ShortBuf → InEach InAnswer Plain mid (λ t. Passes None (size_after Plain (with_record InAnswer (item x)) t)))
-      → (result ≡ Err LimitExceeded → InEach InAnswer Plain mid (PassesLimit (item x)))
-      → (result ≡ Err CountOverflow → InEach InAnswer Plain mid (PassesCount (item x)))
+      → (result ≡ Err ShortBuf → InEach InAnswer Plain mid (λ t. Exceeds None (size_after Plain (with_record InAnswer (item x)) t)))
+      → (result ≡ Err LimitExceeded → InEach InAnswer Plain mid (ExceedsLimit (item x)))
+      → (result ≡ Err CountOverflow → InEach InAnswer Plain mid (ExceedsCount (item x)))
       → (e : PushError) → result ≡ Err e → InEach InAnswer Plain old (λ s. PushesEach (asked_records asked (map item table)) s (Err e) mid)
   refused_next i x d l is asks old mid so_far result short limit count ShortBuf was s h = short was (with_answers (first i) s) (so_far s h).represents
   refused_next i x d l is asks old mid so_far result short limit count OutOfMemory was s h = tt
-  refused_next i x d l is asks old mid so_far result short limit count CountOverflow was s h = count_passed s (first i) (item x) mid (so_far s h) (count was)
+  refused_next i x d l is asks old mid so_far result short limit count CountOverflow was s h = count_exceeded s (first i) (item x) mid (so_far s h) (count was)
   refused_next i x d l is asks old mid so_far result short limit count LimitExceeded was s h =
       let others = asked_records asked (map item (drop (i + 1) table)) in
       let all : (first i ++ item x ∷ []) ++ others ≡ asked_records asked (map item table) =
       ap (λ (ys : List RecordItem). ys ++ others) (sym (next_taken i x d l is asks)) ∙ first_then (i + 1) in (
         first i,
         so_far s h,
-        subst (λ (ys : List RecordItem). s.limit < size (with_answers ys s)) all (limit_passed s (first i) (item x) others old mid h (so_far s h) (limit was)),
+        subst (λ (ys : List RecordItem). s.limit < size (with_answers ys s)) all (limit_exceeded s (first i) (item x) others old mid h (so_far s h) (limit was)),
       )
 
   -- at the end all matches are pushed

@@ -4,7 +4,7 @@ use Rattle.std.specs.Prelude.{Option, Result, Ok, Err, OnOk, OnErr, IsTrue}
 use Rattle.dns_octets.specs.declared.error.ParseError.{ParseError}
 use Rattle.dns_name.specs.Names.{Fault, fault_of}
 use Rattle.dns_wire.specs.Encoders.{Rule}
-use Rattle.dns_wire.specs.Targets.{Fits, Passes}
+use Rattle.dns_wire.specs.Targets.{Fits, Exceeds}
 use Rattle.dns_item.specs.Items.{RecordItem}
 use Rattle.dns_item.specs.ParsedRecord.{EncodedRecord}
 use Rattle.dns_item.specs.declared.parsed_record.ParsedRecord.{ParsedRecord}
@@ -22,7 +22,7 @@ use Rattle.dns_build.proofs.OptLemmas.{refused_returns}
 pub pushes_record : (capacity : Option ℕ) (grows : Bool) (rule : Rule) (stage : Stage) (x : RecordItem) (s : State) (old new : Built) (result : Result (Unit {0}) PushError)
     → Represents stage rule s old → OnOk result (MovesState stage stage rule (with_record stage x) old new) → OnErr result (new ≡ old)
     → OnOk result (InEach stage rule old (λ t. Fits capacity (size_after rule (with_record stage x) t) × (size_after rule (with_record stage x) t ≤ t.limit) × (length (records_at stage t) < most_entries)))
-    → (result ≡ Err ShortBuf → InEach stage rule old (λ t. Passes capacity (size_after rule (with_record stage x) t)))
+    → (result ≡ Err ShortBuf → InEach stage rule old (λ t. Exceeds capacity (size_after rule (with_record stage x) t)))
     → (result ≡ Err OutOfMemory → IsTrue grows)
     → (result ≡ Err LimitExceeded → InEach stage rule old (λ t. Fits capacity (size_after rule (with_record stage x) t) × (t.limit < size_after rule (with_record stage x) t)))
     → (result ≡ Err CountOverflow → InEach stage rule old (λ t. Fits capacity (size_after rule (with_record stage x) t) × (size_after rule (with_record stage x) t ≤ t.limit) × (length (records_at stage t) ≡ most_entries)))

@@ -7,7 +7,7 @@ use Rattle.dns_wire.specs.Encoders.{Rule}
 use Rattle.dns_item.specs.Items.{RecordItem, SkipsRecord, RecordSkipFaultAt}
 use Rattle.dns_item.specs.ParsedRecord.{EncodedRecord}
 use Rattle.dns_item.specs.declared.parsed_record.ParsedRecord.{ParsedRecord}
-use Rattle.dns_section.specs.Reading.{StopsPassing}
+use Rattle.dns_section.specs.Reading.{StopsSkipping}
 use Rattle.dns_section.specs.RecordSection.{octets_of, position, to_come, records_left, BeginsSection}
 use Rattle.dns_section.specs.Sections.{record_count, StartFault, StartsAt, section_after}
 use Rattle.dns_section.specs.Skipping.{StopsInRest}
@@ -27,7 +27,7 @@ in_answer_already : (s : State) → s.stage ≡ InAnswer → s ≡ up_to InAnswe
 in_answer_already s here last = (λ i. record s { stage = here i }) ∙ ap (λ (t : State). record t { stage = InAnswer }) last
 
 -- the fault of a record that can't be skipped is why the next section has no start
-start_fault : (which next : Section) (b : List ℕ) (p : ℕ) (f : Fault) → section_after which ≡ Some next → (StartsAt which b p) → StopsPassing (SkipsRecord b) (RecordSkipFaultAt b) (record_count which b) p f → StartFault next b f
+start_fault : (which next : Section) (b : List ℕ) (p : ℕ) (f : Fault) → section_after which ≡ Some next → (StartsAt which b p) → StopsSkipping (SkipsRecord b) (RecordSkipFaultAt b) (record_count which b) p f → StartFault next b f
 start_fault Answer next b p f after start stops = let e : Authority ≡ next = cc in subst (λ k. StartFault k b f) e (inr (p, start, stops))
 start_fault Authority next b p f after start stops = let e : Additional ≡ next = cc in subst (λ k. StartFault k b f) e (inr (p, start, stops))
 start_fault Additional next b p f after start stops = absurd (cc)

@@ -4,7 +4,7 @@ use Rattle.std.specs.Option.{option_map_or}
 use Rattle.std.specs.Prelude.{Option, Some, None, is_some, Result, Ok, Err, IsTrue}
 use Rattle.dns_octets.specs.declared.error.AppendError.{AppendError}
 use Rattle.dns_wire.specs.Parts.Part.{Octets}
-use Rattle.dns_wire.specs.Targets.{Fits, Passes}
+use Rattle.dns_wire.specs.Targets.{Fits, Exceeds}
 use Rattle.dns_opt.specs.OptHeader.{ttl_in}
 use Rattle.dns_opt.specs.Options.{OptionItem, AreOptions, encode_options}
 use Rattle.dns_opt.specs.OptionsOf.{options_of}
@@ -23,7 +23,7 @@ pub same_item : (x : RecordItem) (g : Gathered) → x.owner ≡ [] → x.rtype �
 same_item x g o r c t p = λ i. record { owner = o i; rtype = r i; class = c i; ttl = t i; parts = p i }
 
 -- the result of a failed push, from the cause of each error
-pub refused_returns : (capacity : Option ℕ) (grows : Bool) (limit n count : ℕ) (e : PushError) → (e ≡ ShortBuf → Passes capacity n) → (e ≡ OutOfMemory → IsTrue grows) → (e ≡ LimitExceeded → Fits capacity n × (limit < n)) → (e ≡ CountOverflow → Fits capacity n × (n ≤ limit) × (count ≡ most_entries)) → PushReturns capacity grows limit n count (Err e)
+pub refused_returns : (capacity : Option ℕ) (grows : Bool) (limit n count : ℕ) (e : PushError) → (e ≡ ShortBuf → Exceeds capacity n) → (e ≡ OutOfMemory → IsTrue grows) → (e ≡ LimitExceeded → Fits capacity n × (limit < n)) → (e ≡ CountOverflow → Fits capacity n × (n ≤ limit) × (count ≡ most_entries)) → PushReturns capacity grows limit n count (Err e)
 refused_returns capacity grows limit n count CountOverflow s m l c = c refl
 refused_returns capacity grows limit n count LimitExceeded s m l c = l refl
 refused_returns capacity grows limit n count ShortBuf s m l c = s refl

@@ -12,7 +12,7 @@ use Rattle.dns_code.specs.declared.header.Header.{Header}
 use Rattle.dns_question.specs.Questions.{QuestionItem, question_fields}
 use Rattle.dns_item.specs.Items.{SkipsRecord, RecordEntry, ReportsRecord, RecordItem, record_fields}
 use Rattle.dns_section.specs.QuestionsFrom.{questions_from}
-use Rattle.dns_section.specs.Reading.{Passed}
+use Rattle.dns_section.specs.Reading.{Skipped}
 use Rattle.dns_section.specs.Sections.{question_count, answer_count, authority_count, additional_count, AnswersStart, AuthoritiesStart, AdditionalsStart, ReadingRecords}
 use Rattle.dns_build.specs.State.{State, encode, IsState, with_tc}
 
@@ -48,7 +48,7 @@ pub record ReadsBack (s : State) (b : List ℕ) : Type 0 where
   pub additionals_start : ℕ
   pub additionals_at : AdditionalsStart b additionals_start
   pub additionals : GivesRecords b (additional_count b) additionals_start s.additionals
-  pub ends : Passed (SkipsRecord b) (additional_count b) additionals_start (length b)
+  pub ends : Skipped (SkipsRecord b) (additional_count b) additionals_start (length b)
 
 -- The items of a state as parts, for where their names are encoded and how they can be compressed. RFC 1035 sections 4.1.2 to 4.1.4.
 

@@ -7,7 +7,7 @@ use Rattle.dns_name.proofs.theory.NameTextFaults.{one_text_name}
 use Rattle.dns_wire.specs.Encoders.{Rule}
 use Rattle.dns_octets.specs.declared.error.AppendError.{AppendError}
 use Rattle.dns_octets.specs.declared.error.AppendError.TheVariants as appending
-use Rattle.dns_wire.specs.Targets.{AppendReturns, Fits, Passes}
+use Rattle.dns_wire.specs.Targets.{AppendReturns, Fits, Exceeds}
 use Rattle.dns_code.specs.HeaderSection.{header_size}
 use Rattle.dns_code.specs.declared.header.Header.{Header}
 use Rattle.dns_question.specs.Questions.{QuestionItem}
@@ -77,7 +77,7 @@ pub check_ends : (items left : List NewItem) → left ≡ [] → Checking items 
 check_ends items left is h = h.mean [] (subst (λ (xs : List NewItem). AllMean xs []) (sym is) tt)
 
 -- the reasons for which a push fails, one by one
-pub refused_returns : (capacity : Option ℕ) (grows : Bool) (limit n count : ℕ) (e : PushError) → (e ≡ pushing.ShortBuf → Passes capacity n) → (e ≡ pushing.OutOfMemory → IsTrue grows)
+pub refused_returns : (capacity : Option ℕ) (grows : Bool) (limit n count : ℕ) (e : PushError) → (e ≡ pushing.ShortBuf → Exceeds capacity n) → (e ≡ pushing.OutOfMemory → IsTrue grows)
     → (e ≡ pushing.LimitExceeded → Fits capacity n × (limit < n)) → (e ≡ pushing.CountOverflow → Fits capacity n × (n ≤ limit) × (count ≡ most_entries)) → PushReturns capacity grows limit n count (Err e)
 refused_returns capacity grows limit n count pushing.ShortBuf short memory over full = short refl
 refused_returns capacity grows limit n count pushing.OutOfMemory short memory over full = memory refl
@@ -98,11 +98,11 @@ asking_begins rule items left xs s now is mean represents =
     record { first = []; rest = xs; mean = subst (λ (is : List NewItem). AllMean is xs) (sym is) mean; all = refl; represents = subst (λ (t : State). Represents InQuestion rule t now) none represents }
 
 module _ (rule : Rule) (rest : List NewItem) (item : NewItem) (xs : List NewEntry) (s : State) (now : Built) where
-  asking_passes_by : (es : List NewEntry) (first : List QuestionItem) → (item.section ≡ 0 → ⊥) → AllMean (item ∷ rest) es → questions_among xs ≡ first ++ questions_among es
+  asking_skips_by : (es : List NewEntry) (first : List QuestionItem) → (item.section ≡ 0 → ⊥) → AllMean (item ∷ rest) es → questions_among xs ≡ first ++ questions_among es
       → Represents InQuestion rule (with_questions first s) now → Asking rule rest xs s now
-  asking_passes_by [] first other mean all represents = absurd mean
-  asking_passes_by (Question x ∷ es) first other mean all represents = absurd (other mean.0.0)
-  asking_passes_by (Record which x ∷ es) first other mean all represents = record { first = first; rest = es; mean = mean.1; all = all; represents = represents }
+  asking_skips_by [] first other mean all represents = absurd mean
+  asking_skips_by (Question x ∷ es) first other mean all represents = absurd (other mean.0.0)
+  asking_skips_by (Record which x ∷ es) first other mean all represents = record { first = first; rest = es; mean = mean.1; all = all; represents = represents }
 
   asking_takes_by : (es : List NewEntry) (first : List QuestionItem) (y : QuestionItem) (new : Built) → item.section ≡ 0 → IsQuestionOf item y → AllMean (item ∷ rest) es
       → questions_among xs ≡ first ++ questions_among es → Represents InQuestion rule (with_question y (with_questions first s)) new → Asking rule rest xs s new
@@ -146,8 +146,8 @@ module _ (rule : Rule) (left rest : List NewItem) (item : NewItem) (is : left �
   here_means = subst (λ (items : List NewItem). AllMean items h.rest) is h.mean
 
   -- an item of another section is skipped
-  pub asking_passes : (item.section ≡ 0 → ⊥) → Asking rule rest xs s now
-  asking_passes other = asking_passes_by rule rest item xs s now h.rest h.first other here_means h.all h.represents
+  pub asking_skips : (item.section ≡ 0 → ⊥) → Asking rule rest xs s now
+  asking_skips other = asking_skips_by rule rest item xs s now h.rest h.first other here_means h.all h.represents
 
   -- a question is pushed
   pub asking_takes : (y : QuestionItem) (new : Built) → item.section ≡ 0 → IsQuestionOf item y → MovesState InQuestion InQuestion rule (with_question y) now new → Asking rule rest xs s new
@@ -254,12 +254,12 @@ module _ (rule : Rule) (stage : Stage) (which : Section) (rest : List NewItem) (
   alike : (us vs first : List RecordItem) → us ≡ vs → records_among which xs ≡ first ++ us → records_among which xs ≡ first ++ vs
   alike us vs first is all = all ∙ ap (λ (rs : List RecordItem). first ++ rs) is
 
-  stating_passes_by : (es : List NewEntry) (first : List RecordItem) → (item.section + 1 ≡ depth_of (stage_of which) → ⊥) → AllMean (item ∷ rest) es → records_among which xs ≡ first ++ records_among which es
+  stating_skips_by : (es : List NewEntry) (first : List RecordItem) → (item.section + 1 ≡ depth_of (stage_of which) → ⊥) → AllMean (item ∷ rest) es → records_among which xs ≡ first ++ records_among which es
       → Represents stage rule (with_records stage first s) now → Stating rule stage which rest xs s now
-  stating_passes_by [] first other mean all represents = absurd mean
-  stating_passes_by (Question x ∷ es) first other mean all represents =
+  stating_skips_by [] first other mean all represents = absurd mean
+  stating_skips_by (Question x ∷ es) first other mean all represents =
       record { first = first; rest = es; mean = mean.1; all = alike _ _ first (other_question which x es) all; represents = represents }
-  stating_passes_by (Record w x ∷ es) first other mean all represents =
+  stating_skips_by (Record w x ∷ es) first other mean all represents =
       let is_other : w ≡ which → ⊥ = λ is. other (depth_here item.section which mean.0.0 mean.0.1 (mean.0.2 ∙ is)) in
       record { first = first; rest = es; mean = mean.1; all = alike _ _ first (other_record which w x es is_other) all; represents = represents }
 
@@ -310,8 +310,8 @@ module _ (rule : Rule) (stage : Stage) (which : Section) (left rest : List NewIt
   these_mean = subst (λ (items : List NewItem). AllMean items h.rest) is h.mean
 
   -- an item of another section is skipped
-  pub stating_passes : (item.section + 1 ≡ depth_of (stage_of which) → ⊥) → Stating rule stage which rest xs s now
-  stating_passes other = stating_passes_by rule stage which rest item xs s now h.rest h.first other these_mean h.all h.represents
+  pub stating_skips : (item.section + 1 ≡ depth_of (stage_of which) → ⊥) → Stating rule stage which rest xs s now
+  stating_skips other = stating_skips_by rule stage which rest item xs s now h.rest h.first other these_mean h.all h.represents
 
   -- a record is pushed
   pub stating_takes : (y : RecordItem) (new : Built) → item.section + 1 ≡ depth_of (stage_of which) → IsRecordOf item y → MovesState stage stage rule (with_record stage y) now new → Stating rule stage which rest xs s new

@@ -7,7 +7,7 @@ use Rattle.dns_name.specs.Names.{Labels, IsName, framed}
 use Rattle.dns_name.proofs.theory.LabelsLemmas.{length-uncompressed}
 use Rattle.dns_wire.specs.Parts.{Part, Octets, encode_parts}
 use Rattle.dns_wire.specs.Encoders.{CompressionTable, Rule, Static, TableEntry, nothing, encode_name, add_suffixes, compress, compress_label, is_kept, suffix_cmp}
-use Rattle.dns_wire.specs.Targets.{Fits, Passes}
+use Rattle.dns_wire.specs.Targets.{Fits, Exceeds}
 use Rattle.dns_wire.proofs.theory.NameSizes.{names_are_short}
 use Rattle.dns_code.specs.Header.{header_octets}
 use Rattle.dns_code.specs.declared.header.Header.{Header}
@@ -28,7 +28,7 @@ is_message rule s octets state encoded = subst (IsMessageOf rule s) (sym encoded
 -- No push fails if the message fits.
 
 -- an item is pushed if the message has at most 512 octets, no limit, and a count that isn't full
-pub never_refused : (e : PushError) (n limit count : ℕ) → n ≤ 512 → limit ≡ no_limit → count < most_entries → (e ≡ pushing.ShortBuf → Passes (Some 512) n)
+pub never_refused : (e : PushError) (n limit count : ℕ) → n ≤ 512 → limit ≡ no_limit → count < most_entries → (e ≡ pushing.ShortBuf → Exceeds (Some 512) n)
     → (e ≡ pushing.OutOfMemory → IsTrue false) → (e ≡ pushing.LimitExceeded → Fits (Some 512) n × (limit < n)) → (e ≡ pushing.CountOverflow → Fits (Some 512) n × (n ≤ limit) × (count ≡ most_entries)) → ⊥
 never_refused pushing.ShortBuf n limit count small none few short memory over full = let h : 512 < n = short refl in omega arith
 never_refused pushing.OutOfMemory n limit count small none few short memory over full = let grows = memory refl in cc

@@ -51,9 +51,9 @@ one_dotted text [] after whole some e = absurd (some refl)
 one_dotted text (o ∷ label) after whole some e = simp append_assoc (simp append_assoc at e)
 
 -- the root label is skipped
-pub root_passed : (text label : List ℕ) (after : Labels) (whole : List ℕ) → label ≡ [] → text ++ dotted (label ∷ after) ≡ whole → text ++ dotted after ≡ whole
-root_passed text [] after whole none e = e
-root_passed text (o ∷ label) after whole none e = absurd (cc)
+pub root_skipped : (text label : List ℕ) (after : Labels) (whole : List ℕ) → label ≡ [] → text ++ dotted (label ∷ after) ≡ whole → text ++ dotted after ≡ whole
+root_skipped text [] after whole none e = e
+root_skipped text (o ∷ label) after whole none e = absurd (cc)
 
 -- how an octet of a label is printed
 pub special_text : (o : ℕ) → (o ≡ 46) ⊎ ((o ≡ 46 → ⊥) × (o ≡ 92)) → 92 ∷ o ∷ [] ≡ octet_text o

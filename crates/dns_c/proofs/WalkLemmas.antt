@@ -11,10 +11,10 @@ use Rattle.dns_name.specs.Names.Fault.{ShortInput, Form}
 use Rattle.dns_code.specs.HeaderSection.{header_size}
 use Rattle.dns_question.specs.Questions.{QuestionItem, SkipsQuestion, ReadsQuestion, QuestionSkipFaultAt, QuestionFaultAt}
 use Rattle.dns_item.specs.Items.{SkipsRecord, RecordEntry, ReadsRecord, RecordFaultAt}
-use Rattle.dns_section.specs.Reading.{Passed, StopsPassing, Reading}
+use Rattle.dns_section.specs.Reading.{Skipped, StopsSkipping, Reading}
 use Rattle.dns_section.specs.Reading.Reading.{none as no_entry, entry, stop}
-use Rattle.dns_section.specs.Reading.Passed.{none, more}
-use Rattle.dns_section.specs.Reading.StopsPassing.{after}
+use Rattle.dns_section.specs.Reading.Skipped.{none, more}
+use Rattle.dns_section.specs.Reading.StopsSkipping.{after}
 use Rattle.dns_section.specs.QuestionsFrom.{questions_from}
 use Rattle.dns_section.specs.RecordsFrom.{records_from, in_octets, records_in}
 use Rattle.dns_section.specs.Sections.{question_count, answer_count, authority_count, additional_count}
@@ -22,7 +22,7 @@ use Rattle.dns_section.specs.declared.section.Section.{Section}
 use Rattle.dns_section.specs.declared.section.Section.TheVariants.{Answer, Authority, Additional}
 use Rattle.dns_section.proofs.theory.QuestionsFromLemmas.{questions_from_are_read}
 use Rattle.dns_section.proofs.theory.RecordsFromLemmas.{records_from_are_read}
-use Rattle.dns_section.proofs.theory.StartLemmas.{questions_pass_or_stop}
+use Rattle.dns_section.proofs.theory.StartLemmas.{questions_skip_or_stop}
 use Rattle.dns_item.specs.ParsedRecord.{EncodedRecord}
 use Rattle.dns_section.specs.Sections.{section_after, record_count, StartsAt, AnswersStart, AnswersFault}
 use Rattle.dns_read.specs.MessageIter.{records_end, HasNoFault}
@@ -40,32 +40,32 @@ use Rattle.dns_c.specs.Walk.{Entry, Asked, Stated, Given, walk_of, asked_then, s
 
 -- The offset after questions.
 
-module _ {Passes : ℕ → ℕ → Type 0} {Stops : ℕ → Fault → Type 0} (h : EndsOrFaults Passes Stops) where
-  found_end : (p q : ℕ) (s : ((q : ℕ) × Passes p q) ⊎ ((f : Fault) × Stops p f)) → Passes p q → found s ≡ Some q
-  found_end p q (inl x) passed = ap Some (h.one p x.0 q x.1 passed)
-  found_end p q (inr f) passed = absurd (h.not_both p q f.0 passed f.1)
+module _ {Exceeds : ℕ → ℕ → Type 0} {Stops : ℕ → Fault → Type 0} (h : EndsOrFaults Exceeds Stops) where
+  found_end : (p q : ℕ) (s : ((q : ℕ) × Exceeds p q) ⊎ ((f : Fault) × Stops p f)) → Exceeds p q → found s ≡ Some q
+  found_end p q (inl x) skipped = ap Some (h.one p x.0 q x.1 skipped)
+  found_end p q (inr f) skipped = absurd (h.not_both p q f.0 skipped f.1)
 
-  found_none : (p : ℕ) (f : Fault) (s : ((q : ℕ) × Passes p q) ⊎ ((f : Fault) × Stops p f)) → Stops p f → found s ≡ None
+  found_none : (p : ℕ) (f : Fault) (s : ((q : ℕ) × Exceeds p q) ⊎ ((f : Fault) × Stops p f)) → Stops p f → found s ≡ None
   found_none p f (inl x) stops = absurd (h.not_both p x.0 f x.1 stops)
   found_none p f (inr g) stops = refl
 
 module _ (b : List ℕ) where
-  end_passed : (n p q : ℕ) → Passed (SkipsQuestion b) n p q → questions_end b n p ≡ Some q
+  end_skipped : (n p q : ℕ) → Skipped (SkipsQuestion b) n p q → questions_end b n p ≡ Some q
   unfolding questions_end
-  end_passed n p q passed = let h = questions_pass_or_stop b n in found_end h p q (h.some p) passed
+  end_skipped n p q skipped = let h = questions_skip_or_stop b n in found_end h p q (h.some p) skipped
 
-  end_stopped : (n p : ℕ) (f : Fault) → StopsPassing (SkipsQuestion b) (QuestionSkipFaultAt b) n p f → questions_end b n p ≡ None
+  end_stopped : (n p : ℕ) (f : Fault) → StopsSkipping (SkipsQuestion b) (QuestionSkipFaultAt b) n p f → questions_end b n p ≡ None
   unfolding questions_end
-  end_stopped n p f stops = let h = questions_pass_or_stop b n in found_none h p f (h.some p) stops
+  end_stopped n p f stops = let h = questions_skip_or_stop b n in found_none h p f (h.some p) stops
 
-  end_by : (n p q : ℕ) → SkipsQuestion b p q → ((r : ℕ) × Passed (SkipsQuestion b) n q r) ⊎ ((f : Fault) × StopsPassing (SkipsQuestion b) (QuestionSkipFaultAt b) n q f)
+  end_by : (n p q : ℕ) → SkipsQuestion b p q → ((r : ℕ) × Skipped (SkipsQuestion b) n q r) ⊎ ((f : Fault) × StopsSkipping (SkipsQuestion b) (QuestionSkipFaultAt b) n q f)
       → questions_end b (suc n) p ≡ questions_end b n q
-  end_by n p q skips (inl r) = end_passed (suc n) p r.0 (more skips r.1) ∙ sym (end_passed n q r.0 r.1)
+  end_by n p q skips (inl r) = end_skipped (suc n) p r.0 (more skips r.1) ∙ sym (end_skipped n q r.0 r.1)
   end_by n p q skips (inr f) = end_stopped (suc n) p f.0 (after skips f.1) ∙ sym (end_stopped n q f.0 f.1)
 
   -- after a question there is one less to skip
   end_after : (n p q : ℕ) → SkipsQuestion b p q → questions_end b (suc n) p ≡ questions_end b n q
-  end_after n p q skips = end_by n p q skips ((questions_pass_or_stop b n).some q)
+  end_after n p q skips = end_by n p q skips ((questions_skip_or_stop b n).some q)
 
   -- what follows the questions
   abbrev follows : Option ℕ → List Given
@@ -88,7 +88,7 @@ module _ (b : List ℕ) where
   unfolding left_at
   no_question p =
       ap (λ (xs : List (Result QuestionItem Fault)). asked_then xs (follows (questions_end b 0 p))) ((questions_from_are_read b).none p)
-      ∙ ap follows (end_passed 0 p p none)
+      ∙ ap follows (end_skipped 0 p p none)
 
   -- Records.
 
@@ -230,12 +230,12 @@ past_end b p e past short =
 -- The beginning.
 
 -- all records of a reading without an error are skipped
-passed_all : (b : List ℕ) {n p : ℕ} {xs : List (Result RecordEntry Fault)} → Reading (ReadsRecord b) (RecordFaultAt b) n p xs → HasNoFault (map (in_octets b) xs)
-    → Passed (SkipsRecord b) n p (records_end p (map (in_octets b) xs))
-passed_all b no_entry h = none
-passed_all b (entry {n = n} {q = q} {xs = xs} reads rest) h =
-    more reads.skips (subst (λ e. Passed (SkipsRecord b) n q (records_end e (map (in_octets b) xs))) (sym reads.rdata_end) (passed_all b rest h.1))
-passed_all b (stop {f = f} fault) h = let refused = h.0 in absurd (cc)
+skipped_all : (b : List ℕ) {n p : ℕ} {xs : List (Result RecordEntry Fault)} → Reading (ReadsRecord b) (RecordFaultAt b) n p xs → HasNoFault (map (in_octets b) xs)
+    → Skipped (SkipsRecord b) n p (records_end p (map (in_octets b) xs))
+skipped_all b no_entry h = none
+skipped_all b (entry {n = n} {q = q} {xs = xs} reads rest) h =
+    more reads.skips (subst (λ e. Skipped (SkipsRecord b) n q (records_end e (map (in_octets b) xs))) (sym reads.rdata_end) (skipped_all b rest h.1))
+skipped_all b (stop {f = f} fault) h = let refused = h.0 in absurd (cc)
 
 -- so the next section begins where the last of them ends
 next_start : (which next : Section) (b : List ℕ) (p : ℕ) → section_after which ≡ Some next → StartsAt which b p
@@ -243,7 +243,7 @@ next_start : (which next : Section) (b : List ℕ) (p : ℕ) → section_after w
 unfolding records_in
 next_start which next b p follows_it start faultless =
     let n = record_count which b in
-    starts_after which next b p (records_end p (records_in b n p)) follows_it start (passed_all b ((records_from_are_read b).reading n p) faultless)
+    starts_after which next b p (records_end p (records_in b n p)) follows_it start (skipped_all b ((records_from_are_read b).reading n p) faultless)
 
 -- what follows a reading matters only if it has no error
 ends_alike : (which : Section) (xs : List (Result EncodedRecord Fault)) (us vs : List Given) → (HasNoFault xs → us ≡ vs) → stated_then which xs us ≡ stated_then which xs vs
@@ -290,13 +290,13 @@ module _ (b : List ℕ) where
       ∙ ap (λ xs. stated_then Additional xs []) (no_reading Additional b (no_additionals b f (inl (inl fault))))
 
   by_start : ((p : ℕ) × AnswersStart b p) ⊎ ((f : Fault) × AnswersFault b f) → follows b (questions_end b (question_count b) header_size) ≡ answers_of
-  by_start (inl start) = ap (follows b) (end_passed b (question_count b) header_size start.0 start.1) ∙ from_answers start.0 start.1
+  by_start (inl start) = ap (follows b) (end_skipped b (question_count b) header_size start.0 start.1) ∙ from_answers start.0 start.1
   by_start (inr fault) = ap (follows b) (end_stopped b (question_count b) header_size fault.0 fault.1) ∙ sym (none_after fault.0 fault.1)
 
   -- before the first question, a cursor has all entries still to come
   pub begun : left_at b 0 (question_count b) header_size ≡ walk_of b
   unfolding left_at
-  begun = ap (asked_then (questions_of b)) (by_start ((questions_pass_or_stop b (question_count b)).some header_size))
+  begun = ap (asked_then (questions_of b)) (by_start ((questions_skip_or_stop b (question_count b)).some header_size))
 
 pub opened : (b m : List ℕ) (header : Header) (n : ℕ) → m ≡ b → IsHeader m header → n ≡ question_count m → header_size ≤ length b
     → Opens b header (record { place = 12; left = n; section = 0; status = 0 })

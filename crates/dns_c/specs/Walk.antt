@@ -12,7 +12,7 @@ use Rattle.dns_section.specs.RecordsFrom.{records_in}
 use Rattle.dns_section.specs.Sections.{question_count, answer_count, authority_count, additional_count, record_count}
 use Rattle.dns_section.specs.declared.section.Section.{Section}
 use Rattle.dns_section.specs.declared.section.Section.TheVariants.{Answer, Authority, Additional}
-use Rattle.dns_section.proofs.theory.StartLemmas.{questions_pass_or_stop}
+use Rattle.dns_section.proofs.theory.StartLemmas.{questions_skip_or_stop}
 use Rattle.dns_read.specs.MessageIter.{records_end}
 use Rattle.dns_read.specs.Searches.{questions_of}
 use Rattle.dns_read.specs.SectionStarts.{found, records_of}
@@ -62,7 +62,7 @@ records_left which b n = records_then which b n (after_section which b)
 
 -- the offset after n questions, if they can be skipped
 unfoldable pub questions_end : List ℕ → ℕ → ℕ → Option ℕ
-questions_end b n p = found ((questions_pass_or_stop b n).some p)
+questions_end b n p = found ((questions_skip_or_stop b n).some p)
 
 -- at most n questions from p on, and the sections of records
 abbrev pub questions_left : List ℕ → ℕ → ℕ → List Given

@@ -2,7 +2,7 @@
 use Rattle.std.proofs.Common.{◌≡◌, ℕ, ◌<◌, ◌≤◌, Bool, false, Option, Result, Ok, Err, length, sym, ◌∙◌, ap, subst, refl}
 use Rattle.std.specs.Prelude.{OnOk, OnErr, IsTrue, MatchResult}
 use Rattle.dns_wire.specs.Encoders.{Rule}
-use Rattle.dns_wire.specs.Targets.{Fits, Passes}
+use Rattle.dns_wire.specs.Targets.{Fits, Exceeds}
 use Rattle.dns_question.specs.Questions.{QuestionItem}
 use Rattle.dns_item.specs.Items.{RecordItem}
 use Rattle.dns_build.specs.BuilderStates.{Built, PushReturns, Represents, MovesState, InEach, size_after}
@@ -32,7 +32,7 @@ module _ (capacity : Option ℕ) (grows : Bool) (rule : Rule) (stage : state.Sta
   -- the result follows from one clause for success and one for each reason to fail
   pub answered : (r : Result (Unit {0}) PushError)
       → OnOk r (InEach stage rule old (λ s. let n = size_after rule (with_record stage pushed) s in Fits capacity n × (n ≤ s.limit) × (length (records_at stage s) < most_entries)))
-      → (r ≡ Err ShortBuf → InEach stage rule old (λ s. Passes capacity (size_after rule (with_record stage pushed) s)))
+      → (r ≡ Err ShortBuf → InEach stage rule old (λ s. Exceeds capacity (size_after rule (with_record stage pushed) s)))
       → (r ≡ Err OutOfMemory → IsTrue grows)
       → (r ≡ Err LimitExceeded → InEach stage rule old (λ s. let n = size_after rule (with_record stage pushed) s in Fits capacity n × (s.limit < n)))
       → (r ≡ Err CountOverflow → InEach stage rule old (λ s. let n = size_after rule (with_record stage pushed) s in Fits capacity n × (n ≤ s.limit) × (length (records_at stage s) ≡ most_entries)))

@@ -14,5 +14,5 @@ changed f (Rcode code) = record f { rcode = code }
 changed f (Flags flags) = record f { qr = flags.qr; aa = flags.aa; tc = flags.tc; rd = flags.rd; ra = flags.ra; ad = flags.ad; cd = flags.cd }
 
 -- a line that is skipped: an empty one, or one that is ASCII and begins with `#`
-abbrev pub IsPassedOver : List ℕ → Type 0
-IsPassedOver line = (line ≡ []) ⊎ (IsTrue (starts_with nat_eq line (codes "#")) × IsAscii line)
+abbrev pub IsSkippedLine : List ℕ → Type 0
+IsSkippedLine line = (line ≡ []) ⊎ (IsTrue (starts_with nat_eq line (codes "#")) × IsAscii line)

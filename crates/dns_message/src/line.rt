@@ -4,7 +4,7 @@ ghost use Rattle.std.specs.Option.{SomeIff};
 ghost use Rattle.std.specs.Str.{IsAscii};
 ghost use Rattle.std.specs.Str.Parse.{IsNumeral, digits_value};
 ghost use Rattle.dns_code.specs.Header.{fields};
-ghost use Rattle.dns_message.specs.Lines.{IsPassedOver, changed};
+ghost use Rattle.dns_message.specs.Lines.{IsSkippedLine, changed};
 
 use crate::record_line::ScriptRecord;
 use crate::script::{Call, Stage};
@@ -49,8 +49,8 @@ impl Change {
 }
 
 /// Whether a line is skipped: it is empty, or it is ASCII and begins with `#`.
-pub(crate) fn is_passed_over(line: &[u8]) -> bool
-    ensures { IsTrue result ↔ IsPassedOver line.now }
+pub(crate) fn is_skipped_line(line: &[u8]) -> bool
+    ensures { IsTrue result ↔ IsSkippedLine line.now }
 {
     line.is_empty() || line.starts_with(b"#") && line.is_ascii()
 }

@@ -194,7 +194,7 @@ fn build<T: Composer, W: Write>(
     let lines = script.split_inclusive(|octet| *octet == b'\n');
     for (number, line) in (1..=usize::MAX).zip(lines) {
         let line = line.strip_suffix(b"\n").unwrap_or(line);
-        if !line::is_passed_over(line) {
+        if !line::is_skipped_line(line) {
             stage = follow(alloc, stage, number, line, &mut replies, writer)?;
         }
     }

@@ -72,10 +72,10 @@ framed_more name label octets e =
     flat_map-append framed name (label ∷ []) ∙ ap (λ (o : List ℕ). o ++ (framed label ++ [])) e ∙ ap (λ (t : List ℕ). octets ++ t) (append-nil (framed label))
 
 -- One more label is read, and the dot after it.
-label_passed : (text octets left label after : List ℕ) → InLabels text octets left → LabelFirst left (length octets) label after → 2 ≤ length after
+label_skipped : (text octets left label after : List ℕ) → InLabels text octets left → LabelFirst left (length octets) label after → 2 ≤ length after
     → InLabels text (octets ++ framed label) (drop 1 after)
-label_passed text octets left label [] x l long = absurd (omega (arith, long))
-label_passed text octets left label (c ∷ after) x l long =
+label_skipped text octets left label [] x l long = absurd (omega (arith, long))
+label_skipped text octets left label (c ∷ after) x l long =
     let size : length (octets ++ framed label) ≡ length octets + length label + 1 = omega (arith, length-append octets (framed label)) in
     let whole : left ≡ l.front ++ dot ∷ after = l.whole ∙ ap (λ d. l.front ++ d ∷ after) l.ends in
     record {
@@ -95,7 +95,7 @@ pub labels_more : (text octets left label after : List ℕ) → InLabels text oc
     → InLabels text (octets ++ framed label) (take (length after - 1) (drop 1 after))
 labels_more text octets left label after x l long =
     let all : take (length after - 1) (drop 1 after) ≡ drop 1 after = grind (arith, common_steps) in
-    subst (λ t. InLabels text (octets ++ framed label) t) (sym all) (label_passed text octets left label after x l long)
+    subst (λ t. InLabels text (octets ++ framed label) t) (sym all) (label_skipped text octets left label after x l long)
 
 last_label : (left label after : List ℕ) (size : ℕ) → LabelFirst left size label after → length after < 2 → SpellsLabels left (label ∷ [])
 last_label left label [] size l short = subst (λ t. SpellsLabels t (label ∷ [])) (sym (l.whole ∙ append-nil l.front)) (SpellsLabels.last l.spelled)

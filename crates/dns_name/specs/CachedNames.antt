@@ -46,7 +46,7 @@ row_end None = Root
 row_end (Some target) = Pointer target
 
 -- In a name whose labels so far take s octets, `count` consecutive labels take the octets p..q. At q the root label or a pointer to `target` begins.
-pub record PassesLabels (b : List ℕ) (p s q count : ℕ) (target : Option ℕ) : Type 0 where
+pub record SkipsLabels (b : List ℕ) (p s q count : ℕ) (target : Option ℕ) : Type 0 where
   pub from : p ≤ q
   pub within : q < length b
   pub short : s + (q - p) ≤ max_size
@@ -57,9 +57,9 @@ pub record PassesLabels (b : List ℕ) (p s q count : ℕ) (target : Option ℕ)
   pub in_reach : IsInReach (row_end target)
 
 -- The result describes these labels, or its fault is that of reading on there.
-abbrev pub PassesLabelsOrFails : List ℕ → ℕ → ℕ → Result LabelRow ParseError → Type 0
-PassesLabelsOrFails b p s (Ok row) = PassesLabels b p s row.end row.count row.target
-PassesLabelsOrFails b p s (Err e) = Faulty b p s (fault_of e)
+abbrev pub SkipsLabelsOrFails : List ℕ → ℕ → ℕ → Result LabelRow ParseError → Type 0
+SkipsLabelsOrFails b p s (Ok row) = SkipsLabels b p s row.end row.count row.target
+SkipsLabelsOrFails b p s (Err e) = Faulty b p s (fault_of e)
 
 -- A name of this size and number of labels is encoded at offset p. It is short enough after labels of s octets.
 pub record Measures (b : List ℕ) (p s size count : ℕ) : Type 0 where

@@ -68,7 +68,7 @@ fn labels_after<'a>(name: &ParsedName<'a>, count: usize) -> LabelIter<'a>
     ensures { labels_left result ≡ drop count (with_root (labels name.now)) }
 {
     let mut labels = name.iter_labels();
-    for _passed in 0..count {
+    for _skipped in 0..count {
         labels.next();
     }
     labels

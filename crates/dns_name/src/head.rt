@@ -29,7 +29,7 @@ pub(crate) struct LabelRow {
 
 impl Head {
     ghost use Rattle.dns_name.specs.Names.{head_at, Reads, BeginsOrFails};
-    ghost use Rattle.dns_name.specs.CachedNames.{IsInReach, PassesLabelsOrFails};
+    ghost use Rattle.dns_name.specs.CachedNames.{IsInReach, SkipsLabelsOrFails};
 
     /// Returns what begins at offset `offset`.
     #[tactic(auto, unfolding(crate::specs::Names::head_at))]
@@ -108,7 +108,7 @@ impl Head {
     ) -> Result<LabelRow, ParseError>
         requires within { start ≤ length octets.now }
         requires short { size ≤ MAX_SIZE }
-        ensures { PassesLabelsOrFails octets.now start size result }
+        ensures { SkipsLabelsOrFails octets.now start size result }
     {
         let longest = start + (MAX_SIZE - size);
         let mut pos = start;

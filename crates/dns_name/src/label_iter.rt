@@ -65,17 +65,17 @@ impl DoubleEndedIterator for LabelIter<'_> {
             return None;
         }
         let mut pos = self.pos;
-        let mut passed = 0;
+        let mut skipped = 0;
         let last = 'walk: loop {
             let (label, after) = Label::first_at(self.octets, pos);
             let taken = label.len() + 1;
-            if passed + taken == self.left {
+            if skipped + taken == self.left {
                 break label;
             }
-            passed += taken;
+            skipped += taken;
             pos = after;
         };
-        self.left = passed;
+        self.left = skipped;
         Some(last)
     }
 }

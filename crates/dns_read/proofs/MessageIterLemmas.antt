@@ -7,9 +7,9 @@ use Rattle.dns_name.specs.Names.{Fault, fault_of}
 use Rattle.dns_octets.specs.declared.error.ParseError.{ParseError}
 use Rattle.dns_item.specs.Items.{SkipsRecord, ReadsRecord, RecordEntry, RecordFaultAt, RecordSkipFaultAt}
 use Rattle.dns_item.specs.ParsedRecord.{EncodedRecord}
-use Rattle.dns_section.specs.Reading.{Passed, StopsPassing, Reading}
-use Rattle.dns_section.specs.Reading.Passed.{none as no_more, more}
-use Rattle.dns_section.specs.Reading.StopsPassing.{here, after as stops_after}
+use Rattle.dns_section.specs.Reading.{Skipped, StopsSkipping, Reading}
+use Rattle.dns_section.specs.Reading.Skipped.{none as no_more, more}
+use Rattle.dns_section.specs.Reading.StopsSkipping.{here, after as stops_after}
 use Rattle.dns_section.specs.Reading.Reading.{none as no_entry, entry, stop}
 use Rattle.dns_section.specs.RecordsFrom.{records_from, in_octets, records_in}
 use Rattle.dns_section.specs.Sections.{AnswersFault, answer_count, authority_count, additional_count, record_count, section_after}
@@ -53,11 +53,11 @@ no_records b zero p e = refl
 no_records b (suc n) p e = absurd (has_item n p (records_from b (suc n) p) ((records_from_are_read b).reading (suc n) p) (nothing_mapped b (records_from b (suc n) p) e))
 
 -- skipping no entries ends where it began, and never fails
-stays : {Skips : ℕ → ℕ → Type 0} (n p q : ℕ) → Passed Skips n p q → n ≡ 0 → p ≡ q
+stays : {Skips : ℕ → ℕ → Type 0} (n p q : ℕ) → Skipped Skips n p q → n ≡ 0 → p ≡ q
 stays n p q no_more e = refl
 stays n p q (more h x) e = absurd (cc)
 
-never_stops : {Skips : ℕ → ℕ → Type 0} {FaultOf : ℕ → Fault → Type 0} (n p : ℕ) (f : Fault) → StopsPassing Skips FaultOf n p f → n ≡ 0 → ⊥
+never_stops : {Skips : ℕ → ℕ → Type 0} {FaultOf : ℕ → Fault → Type 0} (n p : ℕ) (f : Fault) → StopsSkipping Skips FaultOf n p f → n ≡ 0 → ⊥
 never_stops n p f (here h) e = absurd (cc)
 never_stops n p f (stops_after h x) e = absurd (cc)
 
@@ -111,19 +111,19 @@ length-items_from b p =
     omega (arith, length-items Answer b (answer_count b) p (authority_count b + (additional_count b + 1)) (omega arith) two)
 
 -- all records of a reading without a fault can be skipped
-passed_all : (b : List ℕ) {n p : ℕ} {xs : List (Result RecordEntry Fault)} → Reading (ReadsRecord b) (RecordFaultAt b) n p xs → HasNoFault (map (in_octets b) xs)
-    → Passed (SkipsRecord b) n p (records_end p (map (in_octets b) xs))
-passed_all b no_entry h = no_more
-passed_all b (entry {n = n} {q = q} {xs = xs} reads rest) h =
-    more reads.skips (subst (λ e. Passed (SkipsRecord b) n q (records_end e (map (in_octets b) xs))) (sym reads.rdata_end) (passed_all b rest h.1))
-passed_all b (stop {f = f} fault) h = let refused = h.0 in absurd (cc)
+skipped_all : (b : List ℕ) {n p : ℕ} {xs : List (Result RecordEntry Fault)} → Reading (ReadsRecord b) (RecordFaultAt b) n p xs → HasNoFault (map (in_octets b) xs)
+    → Skipped (SkipsRecord b) n p (records_end p (map (in_octets b) xs))
+skipped_all b no_entry h = no_more
+skipped_all b (entry {n = n} {q = q} {xs = xs} reads rest) h =
+    more reads.skips (subst (λ e. Skipped (SkipsRecord b) n q (records_end e (map (in_octets b) xs))) (sym reads.rdata_end) (skipped_all b rest h.1))
+skipped_all b (stop {f = f} fault) h = let refused = h.0 in absurd (cc)
 
 pub sections_follow : SectionsFollow
 unfolding records_in
 sections_follow which next b p after start faultless =
     let n = record_count which b in
     let end = records_end p (records_in b n p) in
-    (starts_after which next b p end after start (passed_all b ((records_from_are_read b).reading n p) faultless), after_next which next b end after)
+    (starts_after which next b p end after start (skipped_all b ((records_from_are_read b).reading n p) faultless), after_next which next b end after)
 
 -- how many sections there are, this one included
 abbrev pub sections_from : Section → ℕ

@@ -5,8 +5,8 @@ use Rattle.std.specs.Prelude.{Result, Ok}
 use Rattle.dns_name.specs.Names.{Fault}
 use Rattle.dns_code.specs.HeaderSection.{header_size}
 use Rattle.dns_question.specs.Questions.{SkipsQuestion, ReadsQuestion, QuestionFaultAt, QuestionItem}
-use Rattle.dns_section.specs.Reading.{Passed, Reading}
-use Rattle.dns_section.specs.Reading.Passed.{none as all, more}
+use Rattle.dns_section.specs.Reading.{Skipped, Reading}
+use Rattle.dns_section.specs.Reading.Skipped.{none as all, more}
 use Rattle.dns_section.specs.Reading.Reading.{none, entry, stop}
 use Rattle.dns_section.specs.SameQuestions.{same_item, same_readings}
 use Rattle.dns_section.specs.Sections.{AnswersFault, question_count}
@@ -16,19 +16,19 @@ use Rattle.dns_read.specs.Searches.{answers_query, questions_of}
 
 module _ (b : List ℕ) where
   -- if questions equal those of another message, all of them can be skipped
-  passed : {n p : ℕ} {xs : List (Result QuestionItem Fault)} → Reading (ReadsQuestion b) (QuestionFaultAt b) n p xs
-      → (ys : List (Result QuestionItem Fault)) → same_readings xs ys ≡ true → (q : ℕ) × Passed (SkipsQuestion b) n p q
-  passed (none {p = p}) ys same = (p, all)
-  passed (entry h r) [] same = absurd (cc)
-  passed (entry {x = x} {xs = xs} h r) (y ∷ ys) same =
-      let rest = passed r ys (second_so (same_item (Ok x) y) (same_readings xs ys) same) in
+  skipped : {n p : ℕ} {xs : List (Result QuestionItem Fault)} → Reading (ReadsQuestion b) (QuestionFaultAt b) n p xs
+      → (ys : List (Result QuestionItem Fault)) → same_readings xs ys ≡ true → (q : ℕ) × Skipped (SkipsQuestion b) n p q
+  skipped (none {p = p}) ys same = (p, all)
+  skipped (entry h r) [] same = absurd (cc)
+  skipped (entry {x = x} {xs = xs} h r) (y ∷ ys) same =
+      let rest = skipped r ys (second_so (same_item (Ok x) y) (same_readings xs ys) same) in
       (rest.0, more h.skips rest.1)
-  passed (stop h) [] same = absurd (cc)
-  passed (stop h) (y ∷ ys) same = absurd (cc)
+  skipped (stop h) [] same = absurd (cc)
+  skipped (stop h) (y ∷ ys) same = absurd (cc)
 
   -- so the section after them has a start, and no fault
   pub no_fault : (query : List ℕ) → answers_query b query ≡ true → (f : Fault) → AnswersFault b f → ⊥
   no_fault query answers f fault =
       let same : same_readings (questions_of b) (questions_of query) ≡ true = second_so _ _ answers in
-      let start = passed ((questions_from_are_read b).reading (question_count b) header_size) (questions_of query) same in
+      let start = skipped ((questions_from_are_read b).reading (question_count b) header_size) (questions_of query) same in
       (start_or_fault.answers b).not_both start.0 f start.1 fault

@@ -11,7 +11,7 @@ use Rattle.dns_rows.specs.Data.TextRows.{none as no_text, text}
 use Rattle.dns_rows.specs.Data.Shape.{End, Octets, Named, Options, Rest, Texts}
 use Rattle.dns_rows.specs.Data.ShowsData.{done, octets as more_octets, short, name, no_name, no_option, nothing, options, rest, texts, text_short}
 use Rattle.dns_rows.specs.Fields.{field_row}
-use Rattle.dns_rows.specs.Walks.{at, octets, Adds, CutsFields, LacksField, MarksData, MarksWithin, MissesName, MissesOption, PassesName, PassesTexts, PassesOption, PassesOptions}
+use Rattle.dns_rows.specs.Walks.{at, octets, Adds, CutsFields, LacksField, MarksData, MarksWithin, MissesName, MissesOption, CoversName, CoversTexts, CoversOption, CoversOptions}
 use Rattle.dns_rows.specs.declared.row.Fault.{Fault as RowFault}
 use Rattle.dns_rows.specs.declared.row.Fault.TheVariants.{Short}
 use Rattle.dns_rows.specs.declared.row.Field.{Field}
@@ -47,7 +47,7 @@ octets_short n field shape old new fault h same =
     subst (λ fault. MarksData (Octets n field shape) (Some fault) old new) (sym h.0) there
 
 -- a name, and then the remaining fields
-pub name_then : (of : NameOf) (shape : Shape) (stop : Option RowFault) (old mid new : Walk) → PassesName of old mid → MarksData shape stop mid new → MarksData (Named of shape) stop old new
+pub name_then : (of : NameOf) (shape : Shape) (stop : Option RowFault) (old mid new : Walk) → CoversName of old mid → MarksData shape stop mid new → MarksData (Named of shape) stop old new
 name_then of shape stop old mid new h k =
     let after : ShowsData (octets old) shape stop (at mid) (at new) k.rows = subst (λ b. ShowsData b shape stop (at mid) (at new) k.rows) h.adds.seen k.shows in
     record {
@@ -96,11 +96,11 @@ not_past old new len seen there =
     omega (arith, same, length-take new.parser.end new.parser.octets.now, length-take (at old + len) (octets old), new.parser.before_end, new.parser.within)
 
 -- consecutive character strings
-abbrev pub no_texts : (old : Walk) → PassesTexts old old
+abbrev pub no_texts : (old : Walk) → CoversTexts old old
 no_texts old = record { rows = []; adds = record { rows = sym (append-nil old.rows.items); seen = refl; offset = refl }; texts = no_text }
 
-pub one_more_text : (n : ℕ) (old mid new : Walk) → PassesTexts old mid → slice_get (octets mid) (at mid) ≡ Some n
-    → Adds (field_row (at mid) (at mid + (1 + n)) Text ∷ []) (at mid + (1 + n)) mid new → at mid + (1 + n) ≤ length (octets mid) → PassesTexts old new
+pub one_more_text : (n : ℕ) (old mid new : Walk) → CoversTexts old mid → slice_get (octets mid) (at mid) ≡ Some n
+    → Adds (field_row (at mid) (at mid + (1 + n)) Text ∷ []) (at mid + (1 + n)) mid new → at mid + (1 + n) ≤ length (octets mid) → CoversTexts old new
 one_more_text n old mid new h there k within =
     let row = field_row (at mid) (at mid + (1 + n)) Text in
     let all = adds_then h.rows (row ∷ []) (at mid) (at mid + (1 + n)) old mid new h.adds k in
@@ -113,13 +113,13 @@ one_more_text n old mid new h there k within =
       texts = subst P (sym k.offset) (text h.rows h.texts there_too within_too);
     }
 
-pub all_texts : (old new : Walk) → PassesTexts old new → slice_get (octets new) (at new) ≡ None → MarksData Texts None old new
+pub all_texts : (old new : Walk) → CoversTexts old new → slice_get (octets new) (at new) ≡ None → MarksData Texts None old new
 all_texts old new h none =
     let none_too : slice_get (octets old) (at new) ≡ None = subst (λ b. slice_get b (at new) ≡ None) h.adds.seen none in
     let end : length (octets old) ≤ at new = elim (slice_get_cases (octets old) (at new)).1 [ inl x ↦ absurd (cc (none_too, x.2)) | inr x ↦ x.0 ] in
     record { rows = h.rows; adds = h.adds.rows; shows = texts h.texts end }
 
-pub text_stops : (n : ℕ) (old mid new : Walk) (fault : RowFault) → PassesTexts old mid → slice_get (octets mid) (at mid) ≡ Some n → LacksField Text (octets mid) (at mid + (1 + n)) fault → new ≡ mid
+pub text_stops : (n : ℕ) (old mid new : Walk) (fault : RowFault) → CoversTexts old mid → slice_get (octets mid) (at mid) ≡ Some n → LacksField Text (octets mid) (at mid + (1 + n)) fault → new ≡ mid
     → MarksData Texts (Some fault) old new
 text_stops n old mid new fault h there long same =
     let there_too : slice_get (octets old) (at mid) ≡ Some n = subst (λ b. slice_get b (at mid) ≡ Some n) h.adds.seen there in
@@ -129,10 +129,10 @@ text_stops n old mid new fault h there long same =
     subst (λ fault. MarksData Texts (Some fault) old new) (sym long.0) there
 
 -- consecutive options
-pub no_options : (old : Walk) → PassesOptions old old
+pub no_options : (old : Walk) → CoversOptions old old
 no_options old = record { rows = []; adds = (no_texts old).adds; options = no_options_rows }
 
-pub one_more_option : (old mid new : Walk) → PassesOptions old mid → PassesOption mid new → PassesOptions old new
+pub one_more_option : (old mid new : Walk) → CoversOptions old mid → CoversOption mid new → CoversOptions old new
 one_more_option old mid new h k =
     let P : List ℕ → Type 0 = λ b. ShowsOption b (at mid) (at new) k.rows in
     record {
@@ -141,13 +141,13 @@ one_more_option old mid new h k =
       options = option h.rows k.rows h.options (subst P h.adds.seen k.shows);
     }
 
-pub all_options : (old new : Walk) → PassesOptions old new → length (octets new) ≤ at new → MarksData Options None old new
+pub all_options : (old new : Walk) → CoversOptions old new → length (octets new) ≤ at new → MarksData Options None old new
 all_options old new h end =
     let same = ap length h.adds.seen in
     let end_too : length (octets old) ≤ at new = omega (arith, same, end) in
     record { rows = h.rows; adds = h.adds.rows; shows = options h.options end_too }
 
-pub option_stops : (old mid new : Walk) (fault : RowFault) → PassesOptions old mid → at mid < length (octets mid) → MissesOption mid new fault → MarksData Options (Some fault) old new
+pub option_stops : (old mid new : Walk) (fault : RowFault) → CoversOptions old mid → at mid < length (octets mid) → MissesOption mid new fault → MarksData Options (Some fault) old new
 option_stops old mid new fault h some k =
     let P : List ℕ → Type 0 = λ b. (at mid < length b) × LacksOption b (at mid) (at new) fault k.rows in
     let there = subst P h.adds.seen (some, k.cut) in

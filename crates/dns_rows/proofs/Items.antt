@@ -11,8 +11,8 @@ use Rattle.dns_question.specs.AfterNames.FieldsFaultAt.{name as name_fault, shor
 use Rattle.dns_code.specs.HeaderCounts.{Counts}
 use Rattle.dns_question.specs.Questions.{QuestionItem}
 use Rattle.dns_item.specs.Items.{LacksRecord, RecordEntry, ReadsRecord}
-use Rattle.dns_section.specs.Reading.{Passed}
-use Rattle.dns_section.specs.Reading.Passed.{none as none_passed, more as passed_more}
+use Rattle.dns_section.specs.Reading.{Skipped}
+use Rattle.dns_section.specs.Reading.Skipped.{none as none_skipped, more as skipped_more}
 use Rattle.dns_section.specs.RecordsFrom.{records_from}
 use Rattle.dns_section.proofs.theory.QuestionsFromLemmas.{questions_from_are_read}
 use Rattle.dns_section.proofs.theory.RecordsFromLemmas.{records_from_are_read}
@@ -22,7 +22,7 @@ use Rattle.dns_rows.specs.Entries.LacksItem.{name as name_lacks, short as fields
 use Rattle.dns_rows.specs.Entries.ReadingRows.{none, entry, stops}
 use Rattle.dns_rows.specs.Entries.ShowsParts.{none as no_more, all as all_shown, fault as fault_among}
 use Rattle.dns_rows.specs.Fields.{field_row, CutRows}
-use Rattle.dns_rows.specs.Walks.{at, octets, Adds, AreCountsOf, AreFirstRows, CutsFields, LacksField, LacksFields, MarksAmong, MarksFirst, MarksItem, MarksParts, MarksStop, MissesItemName, PassesItemName, PassesNumbers, MarksWithin, SkipsItem, StopsWithin}
+use Rattle.dns_rows.specs.Walks.{at, octets, Adds, AreCountsOf, AreFirstRows, CutsFields, LacksField, LacksFields, MarksAmong, MarksFirst, MarksItem, MarksParts, MarksStop, MissesItemName, CoversItemName, CoversNumbers, MarksWithin, SkipsItem, StopsWithin}
 use Rattle.dns_rows.specs.declared.row.Fault.{Fault as RowFault}
 use Rattle.dns_rows.specs.declared.row.Fault.TheVariants.{Short}
 use Rattle.dns_rows.specs.declared.row.Field.TheVariants as fields
@@ -53,18 +53,18 @@ pub question_unnamed : (number : ℕ) (old new : Walk) (fault : RowFault) → Mi
 question_unnamed number old new fault h = marks_stop Question number h.rows old new fault h.adds (Err h.f, (name_fault h.lacks.faulty, name_lacks h.lacks))
 
 -- a field after the name of an item is incomplete
-after_name : (of : NameOf) (after : ℕ → List Row) (row : Row) (old mid new : Walk) (fault : RowFault) (h : PassesItemName of row old mid) (k : CutsFields (after (at mid)) mid new fault)
+after_name : (of : NameOf) (after : ℕ → List Row) (row : Row) (old mid new : Walk) (fault : RowFault) (h : CoversItemName of row old mid) (k : CutsFields (after (at mid)) mid new fault)
     → LacksItem (octets old) of after (at old) ShortInput (at new) fault (h.rows ++ k.rows)
 after_name of after row old mid new fault h k =
     fields_lack h.rows k.rows h.encoded h.name_ends h.shows (subst (λ b. CutRows b (after (at mid)) (at new) fault k.rows) h.adds.seen k.cut)
 
 -- the rows of an item up to the incomplete field
-rows_there : (of : NameOf) (row : Row) (after : List Row) (old mid new : Walk) (fault : RowFault) (h : PassesItemName of row old mid) (k : CutsFields after mid new fault)
+rows_there : (of : NameOf) (row : Row) (after : List Row) (old mid new : Walk) (fault : RowFault) (h : CoversItemName of row old mid) (k : CutsFields after mid new fault)
     → new.rows.items ≡ old.rows.items ++ row ∷ (h.rows ++ k.rows)
 rows_there of row after old mid new fault h k = k.adds ∙ ap (λ rows. rows ++ k.rows) h.adds.rows ∙ append_assoc old.rows.items (row ∷ h.rows) k.rows
 
 -- a question whose type or class is incomplete
-pub question_short : (number : ℕ) (old mid new : Walk) (fault : RowFault) → PassesItemName names.Question (item_row Question number (at old)) old mid → CutsFields (question_rows (at mid)) mid new fault
+pub question_short : (number : ℕ) (old mid new : Walk) (fault : RowFault) → CoversItemName names.Question (item_row Question number (at old)) old mid → CutsFields (question_rows (at mid)) mid new fault
     → length (octets mid) < at mid + 4 → MarksStop Question number old new fault
 question_short number old mid new fault h k short =
     let row = item_row Question number (at old) in
@@ -83,7 +83,7 @@ class_cut old mid new fault h k same =
     (cut_here (r + 2) 2 (r + 4) fields.Class [] mid new fault k same h.offset grown)
 
 -- a question with a name, a type and a class
-pub marks_question : (number : ℕ) (old a b new : Walk) → PassesItemName names.Question (item_row Question number (at old)) old a
+pub marks_question : (number : ℕ) (old a b new : Walk) → CoversItemName names.Question (item_row Question number (at old)) old a
     → Adds (field_row (at a) (at a + 2) fields.Type ∷ []) (at a + 2) a b → Adds (field_row (at b) (at b + 2) fields.Class ∷ []) (at b + 2) b new
     → at b + 2 ≤ length (octets b) → MarksItem Question number old new
 marks_question number old a b new h k l within =
@@ -132,7 +132,7 @@ record_unnamed part number old new fault records h =
     marks_stop part number h.rows old new fault h.adds (record_stops (octets old) part (at old) (at new) fault h.rows records (Err h.f, (name_fault h.lacks.faulty, name_lacks h.lacks)))
 
 -- a record whose numbers or RDATA are incomplete
-record_short : (part : Part) (number : ℕ) (old mid new : Walk) (fault : RowFault) → IsTrue (holds_records part) → PassesItemName names.Owner (item_row part number (at old)) old mid
+record_short : (part : Part) (number : ℕ) (old mid new : Walk) (fault : RowFault) → IsTrue (holds_records part) → CoversItemName names.Owner (item_row part number (at old)) old mid
     → CutsFields (record_rows (octets mid) (at mid)) mid new fault → LacksRecord (octets mid) (at mid) → MarksStop part number old new fault
 record_short part number old mid new fault records h k short =
     let row = item_row part number (at old) in
@@ -143,7 +143,7 @@ record_short part number old mid new fault records h k short =
     marks_stop part number (h.rows ++ cut.rows) old new fault (rows_there names.Owner row (record_rows b (at mid)) old mid new fault h cut)
     (record_stops b part (at old) (at new) fault (h.rows ++ cut.rows) records (Err ShortInput, (short_fields h.encoded h.name_ends short_there, lacks)))
 
-pub numbers_short : (part : Part) (number : ℕ) (old mid new : Walk) (fault : RowFault) → IsTrue (holds_records part) → PassesItemName names.Owner (item_row part number (at old)) old mid
+pub numbers_short : (part : Part) (number : ℕ) (old mid new : Walk) (fault : RowFault) → IsTrue (holds_records part) → CoversItemName names.Owner (item_row part number (at old)) old mid
     → LacksFields (octets mid) (at mid + 10) fault → CutsFields (number_rows (number_at w16 (octets mid) (at mid)) (at mid)) mid new fault → MarksStop part number old new fault
 numbers_short part number old mid new fault records h short k =
     let b = octets mid in
@@ -225,7 +225,7 @@ entry_of owner b r rtype len = record {
   rdata_end = r + 10 + len;
 }
 
-abbrev reads_record : (row : Row) (rtype len : ℕ) (old a b : Walk) (h : PassesItemName names.Owner row old a) → PassesNumbers rtype len a b → at a + 10 + len ≤ length (octets old)
+abbrev reads_record : (row : Row) (rtype len : ℕ) (old a b : Walk) (h : CoversItemName names.Owner row old a) → CoversNumbers rtype len a b → at a + 10 + len ≤ length (octets old)
     → ReadsRecord (octets old) (at old) (at a + 10 + len) (entry_of h.labels (octets old) (at a) rtype len)
 reads_record row rtype len old a b h k there =
     let rtype_there : rtype ≡ number_at w16 (octets old) (at a) = subst (λ b. rtype ≡ number_at w16 b (at a)) h.adds.seen k.rtype_there in
@@ -234,7 +234,7 @@ reads_record row rtype len old a b h k there =
     record { skips = record { name_end = at a; name_ends = h.name_ends; end = end; within = there }; owner = h.encoded; rtype = rtype_there; class = refl; ttl = refl; rdata_start = refl; rdata_end = refl }
 
 -- the RDATA of a record is incomplete
-data_cut : (rtype len : ℕ) (a b new : Walk) → PassesNumbers rtype len a b → length (octets b) < at b + len → new ≡ b → CutsFields (record_rows (octets a) (at a)) a new (Short fields.Data)
+data_cut : (rtype len : ℕ) (a b new : Walk) → CoversNumbers rtype len a b → length (octets b) < at b + len → new ≡ b → CutsFields (record_rows (octets a) (at a)) a new (Short fields.Data)
 data_cut rtype len a b new k short same =
     let r = at a in
     let rdata = field_row (r + 10) (r + 10 + len) fields.Data ∷ [] in
@@ -244,8 +244,8 @@ data_cut rtype len a b new k short same =
     subst (λ n. P n (number_at w16 (octets a) (r + 8))) k.rtype_there (subst (λ m. P rtype m) k.len_there whole)
 
 -- a record whose RDATA is incomplete, or can't be read
-pub data_stops : (part : Part) (number rtype len : ℕ) (old a b new : Walk) (fault : RowFault) → IsTrue (holds_records part) → PassesItemName names.Owner (item_row part number (at old)) old a
-    → PassesNumbers rtype len a b → StopsWithin rtype len b new fault → MarksStop part number old new fault
+pub data_stops : (part : Part) (number rtype len : ℕ) (old a b new : Walk) (fault : RowFault) → IsTrue (holds_records part) → CoversItemName names.Owner (item_row part number (at old)) old a
+    → CoversNumbers rtype len a b → StopsWithin rtype len b new fault → MarksStop part number old new fault
 data_stops part number rtype len old a b new _ records h k (missing short same) =
     let size = ap length k.adds.seen in
     let lacks : LacksRecord (octets a) (at a) = lacks_data k.within (omega (arith, short, k.len_there, size, k.adds.offset)) in
@@ -278,8 +278,8 @@ data_stops part number rtype len old a b new _ records h k (stopped stop there w
     marks_stop part number others old new (data_fault stop) adds (record_stops (octets old) part (at old) (at new) (data_fault stop) others records (Ok x, stops))
 
 -- a record with an owner, its numbers and its RDATA
-pub marks_record : (part : Part) (number rtype len : ℕ) (old a b new : Walk) → IsTrue (holds_records part) → PassesItemName names.Owner (item_row part number (at old)) old a
-    → PassesNumbers rtype len a b → MarksWithin rtype len None b new → octets new ≡ octets b → at new ≡ at b + len → at b + len ≤ length (octets b)
+pub marks_record : (part : Part) (number rtype len : ℕ) (old a b new : Walk) → IsTrue (holds_records part) → CoversItemName names.Owner (item_row part number (at old)) old a
+    → CoversNumbers rtype len a b → MarksWithin rtype len None b new → octets new ≡ octets b → at new ≡ at b + len → at b + len ≤ length (octets b)
     → MarksItem part number old new
 marks_record part number rtype len old a b new records h k g seen offset within =
     let r = at a in
@@ -355,7 +355,7 @@ first_none part old = record {
   first = λ k end stop after r.
       let same : k ≡ 0 + k = omega arith in
       subst (λ m. ReadingRows (octets old) part 1 (reading_from (octets old) part m (at old)) stop (at old) end after) same r;
-  skips = λ k end w. let same : k ≡ 0 + k = omega arith in subst (λ m. Passed (SkipsItem (octets old) part) m (at old) end) same w;
+  skips = λ k end w. let same : k ≡ 0 + k = omega arith in subst (λ m. Skipped (SkipsItem (octets old) part) m (at old) end) same w;
 }
 
 one_more_row : (b : List ℕ) (part : Part) (n p q r : ℕ) (x : Entry part) (first rows : List Row) → AreFirstRows b part n p q first → ShowsItem b part (suc n) x q r rows
@@ -382,7 +382,7 @@ one_more_item part n old mid new h k =
       first = one_more_row (octets old) part n (at old) (at mid) (at new) k.entry h.rows k.rows h.first shows;
       skips = λ m end w.
           let counted : n + suc m ≡ n + 1 + m = omega arith in
-          subst (λ m. Passed (SkipsItem (octets old) part) m (at old) end) counted (h.skips (suc m) end (passed_more skipped w));
+          subst (λ m. Skipped (SkipsItem (octets old) part) m (at old) end) counted (h.skips (suc m) end (skipped_more skipped w));
     }
 
 pub stops_among : (part : Part) (n count : ℕ) (old mid new : Walk) (fault : RowFault) → MarksFirst part n old mid → n < count → MarksStop part (n + 1) mid new fault → MarksAmong part count old new fault
@@ -421,10 +421,10 @@ counted_so b all Authority h = h.authorities
 counted_so b all Additional h = h.additionals
 
 -- all items of a section can be skipped
-all_skipped : (all : Counts) (part : Part) (old mid : Walk) → Ready all part old → MarksFirst part (count_in all part) old mid → Passed (SkipsItem (octets old) part) (count_of (octets old) part) (at old) (at mid)
+all_skipped : (all : Counts) (part : Part) (old mid : Walk) → Ready all part old → MarksFirst part (count_in all part) old mid → Skipped (SkipsItem (octets old) part) (count_of (octets old) part) (at old) (at mid)
 all_skipped all part old mid h k =
     let more : count_in all part + 0 ≡ count_in all part = omega arith in
-    subst (λ m. Passed (SkipsItem (octets old) part) m (at old) (at mid)) (more ∙ counted_so (octets old) all part h.counts) (k.skips 0 (at mid) none_passed)
+    subst (λ m. Skipped (SkipsItem (octets old) part) m (at old) (at mid)) (more ∙ counted_so (octets old) all part h.counts) (k.skips 0 (at mid) none_skipped)
 
 ready_there : (all : Counts) (part : Part) (old mid : Walk) → octets mid ≡ octets old → AreCountsOf (octets old) all → PartStarts (octets old) part (at mid) → Ready all part mid
 ready_there all part old mid seen counts starts = record {
@@ -436,7 +436,7 @@ ready_there all part old mid seen counts starts = record {
 pub answers_ready : (all : Counts) (old mid : Walk) → Ready all Question old → MarksFirst Question all.qdcount old mid → Ready all Answer mid
 answers_ready all old mid h k =
     let b = octets old in
-    ready_there all Answer old mid k.adds.seen h.counts (subst (λ p. Passed (SkipsItem b Question) (count_of b Question) p (at mid)) h.starts (all_skipped all Question old mid h k))
+    ready_there all Answer old mid k.adds.seen h.counts (subst (λ p. Skipped (SkipsItem b Question) (count_of b Question) p (at mid)) h.starts (all_skipped all Question old mid h k))
 
 pub authorities_ready : (all : Counts) (old mid : Walk) → Ready all Answer old → MarksFirst Answer all.ancount old mid → Ready all Authority mid
 authorities_ready all old mid h k = ready_there all Authority old mid k.adds.seen h.counts (at old, h.starts, all_skipped all Answer old mid h k)

@@ -12,7 +12,7 @@ use Rattle.dns_rows.specs.Named.NameRows.{root as root_rows, pointer as pointer_
 use Rattle.dns_rows.specs.Faults.{LacksName}
 use Rattle.dns_rows.specs.Fields.{field_row}
 use Rattle.dns_rows.specs.declared.row.Fault.{Fault as RowFault}
-use Rattle.dns_rows.specs.Walks.{at, octets, Adds, IsEnd, IsLabelAt, MissesItemName, MissesName, PassesLabels, PassesAllLabels, PassesEnd}
+use Rattle.dns_rows.specs.Walks.{at, octets, Adds, IsEnd, IsLabelAt, MissesItemName, MissesName, CoversLabels, CoversAllLabels, CoversEnd}
 use Rattle.dns_rows.specs.Walks.IsEnd.{root as root_end, pointer as pointer_end}
 use Rattle.dns_rows.specs.declared.row.Field.{Field}
 use Rattle.dns_rows.specs.declared.row.Field.TheVariants as fields
@@ -84,8 +84,8 @@ end_here b p s q none (pointer_ends k) = pointer_end k
 end_here b p s q none (label_ends {n = n} k short fits w) = absurd (none n (record { begins = k; short = short; fits = fits }))
 
 -- a walk that went over no label yet
-pub none_passed : (of : NameOf) (old : Walk) → PassesLabels of 0 old old
-none_passed of old = record {
+pub none_skipped : (of : NameOf) (old : Walk) → CoversLabels of 0 old old
+none_skipped of old = record {
   rows = [];
   adds = record { rows = sym (append-nil old.rows.items); seen = refl; offset = refl };
   shown = no_labels;
@@ -95,8 +95,8 @@ none_passed of old = record {
 }
 
 -- a walk goes over one label more
-pub one_more_label : (of : NameOf) (size n : ℕ) (old mid new : Walk) → PassesLabels of size old mid → IsLabelAt (octets mid) (at mid) size n
-    → Adds (field_row (at mid) (at mid + (n + 1)) (fields.Label of) ∷ []) (at mid + (n + 1)) mid new → PassesLabels of (size + (n + 1)) old new
+pub one_more_label : (of : NameOf) (size n : ℕ) (old mid new : Walk) → CoversLabels of size old mid → IsLabelAt (octets mid) (at mid) size n
+    → Adds (field_row (at mid) (at mid + (n + 1)) (fields.Label of) ∷ []) (at mid + (n + 1)) mid new → CoversLabels of (size + (n + 1)) old new
 one_more_label of size n old mid new h label k =
     let b = octets old in
     let row = field_row (at mid) (at mid + (n + 1)) (fields.Label of) in
@@ -126,7 +126,7 @@ one_more_label of size n old mid new h label k =
     }
 
 -- a walk went over all labels of a name if none begins at its offset
-pub all_labels : (of : NameOf) (size : ℕ) (old new : Walk) → PassesLabels of size old new → ((n : ℕ) → IsLabelAt (octets new) (at new) size n → ⊥) → PassesAllLabels of old new
+pub all_labels : (of : NameOf) (size : ℕ) (old new : Walk) → CoversLabels of size old new → ((n : ℕ) → IsLabelAt (octets new) (at new) size n → ⊥) → CoversAllLabels of old new
 all_labels of size old new h none =
     let none_there : (n : ℕ) → IsLabelAt (octets old) (at new) size n → ⊥ = subst (λ (b : List ℕ). (n : ℕ) → IsLabelAt b (at new) size n → ⊥) h.adds.seen none in
     let same : size ≡ at new - at old = omega (arith, h.sizes) in
@@ -151,15 +151,15 @@ pointer_row b of start p q h (root_end k) = absurd (h (root_there b p k))
 pointer_row b of start p q h (pointer_end k) = pointer_rows k
 
 -- the row for the end of a name, or no row if the allocation fails
-pub end_passed : (of : NameOf) (start : ℕ) (row : Row) (old new : Walk) (after : Parser) (r : Result Unit Stop) → seen after ≡ octets old
+pub end_skipped : (of : NameOf) (start : ℕ) (row : Row) (old new : Walk) (after : Parser) (r : Result Unit Stop) → seen after ≡ octets old
     → OnOk r (new.rows.items ≡ old.rows.items ++ row ∷ []) → OnOk r (new.parser ≡ after)
-    → NameRows (octets old) of start (at old) (offset after) (row ∷ []) → OnOk r (PassesEnd of start (offset after) old new)
-end_passed of start row old new after (Ok v) e h k shows = record {
+    → NameRows (octets old) of start (at old) (offset after) (row ∷ []) → OnOk r (CoversEnd of start (offset after) old new)
+end_skipped of start row old new after (Ok v) e h k shows = record {
   rows = row ∷ [];
   adds = record { rows = h; seen = ap (λ p. seen p) k ∙ e; offset = ap (λ p. offset p) k };
   shows = shows;
 }
-end_passed of start row old new after (Err stop) e h k shows = tt
+end_skipped of start row old new after (Err stop) e h k shows = tt
 
 -- a row at the offset of a walk
 pub adds_row : (x : List Row) (old mid new : Walk) (p n e : ℕ) (field : Field) → Adds x p old mid

@@ -10,7 +10,7 @@ use Rattle.dns_code.specs.HeaderSection.{header_size}
 use Rattle.dns_code.specs.HeaderCounts.{Counts}
 use Rattle.dns_question.specs.Questions.{SkipsQuestion}
 use Rattle.dns_item.specs.Items.{SkipsRecord}
-use Rattle.dns_section.specs.Reading.{Passed}
+use Rattle.dns_section.specs.Reading.{Skipped}
 use Rattle.dns_section.specs.Sections.{question_count, answer_count, authority_count, additional_count}
 use Rattle.dns_rows.specs.Entries.{data_fault, number_rows, reading_from, Entry, ReadingRows, ShowsItem, ShowsParts, StopsItem}
 use Rattle.dns_rows.specs.Faults.{LacksName}
@@ -106,7 +106,7 @@ abbrev pub AreLabelRows : List ℕ → NameOf → ℕ → ℕ → List Row → T
 AreLabelRows b of p q rows = (start end : ℕ) (after : List Row) → NameRows b of start q end after → NameRows b of start p end (rows ++ after)
 
 -- the walk went over labels of `size` octets
-pub record PassesLabels (of : NameOf) (size : ℕ) (old new : Walk) : Type 0 where
+pub record CoversLabels (of : NameOf) (size : ℕ) (old new : Walk) : Type 0 where
   pub rows : List Row
   pub adds : Adds rows (at new) old new
   pub shown : LabelRows (octets old) of (at old) (at old) (at new) rows
@@ -115,7 +115,7 @@ pub record PassesLabels (of : NameOf) (size : ℕ) (old new : Walk) : Type 0 whe
   pub sizes : at new ≡ at old + size
 
 -- the walk went over all labels of a name
-pub record PassesAllLabels (of : NameOf) (old new : Walk) : Type 0 where
+pub record CoversAllLabels (of : NameOf) (old new : Walk) : Type 0 where
   pub rows : List Row
   pub adds : Adds rows (at new) old new
   pub shown : LabelRows (octets old) of (at old) (at old) (at new) rows
@@ -126,13 +126,13 @@ pub record PassesAllLabels (of : NameOf) (old new : Walk) : Type 0 where
   pub none : (n : ℕ) → IsLabelAt (octets old) (at new) (at new - at old) n → ⊥
 
 -- the walk went over the root label or the pointer that ends a name
-pub record PassesEnd (of : NameOf) (start to : ℕ) (old new : Walk) : Type 0 where
+pub record CoversEnd (of : NameOf) (start to : ℕ) (old new : Walk) : Type 0 where
   pub rows : List Row
   pub adds : Adds rows to old new
   pub shows : NameRows (octets old) of start (at old) to rows
 
 -- the walk went over a name
-pub record PassesName (of : NameOf) (old new : Walk) : Type 0 where
+pub record CoversName (of : NameOf) (old new : Walk) : Type 0 where
   pub rows : List Row
   pub adds : Adds rows (at new) old new
   pub labels : Labels
@@ -148,7 +148,7 @@ pub record MissesName (of : NameOf) (old new : Walk) (fault : rows.Fault) : Type
   pub lacks : LacksName (octets old) of (at old) f (at new) fault rows
 
 -- the walk added the row where an item begins, and went over the item's name
-pub record PassesItemName (of : NameOf) (row : Row) (old new : Walk) : Type 0 where
+pub record CoversItemName (of : NameOf) (row : Row) (old new : Walk) : Type 0 where
   pub rows : List Row
   pub adds : Adds (row ∷ rows) (at new) old new
   pub labels : Labels
@@ -170,7 +170,7 @@ pub record CutsFields (whole : List Row) (old new : Walk) (fault : rows.Fault) :
   pub cut : CutRows (octets old) whole (at new) fault rows
 
 -- the walk went over the numbers of a record, whose type and RDLENGTH are these
-pub record PassesNumbers (rtype len : ℕ) (old new : Walk) : Type 0 where
+pub record CoversNumbers (rtype len : ℕ) (old new : Walk) : Type 0 where
   pub adds : Adds (number_rows rtype (at old)) (at old + 10) old new
   pub within : at old + 10 ≤ length (octets old)
   pub rtype_there : rtype ≡ number_at w16 (octets old) (at old)
@@ -208,7 +208,7 @@ pub record MarksFirst (part : Part) (n : ℕ) (old new : Walk) : Type 0 where
   pub rows : List Row
   pub adds : Adds rows (at new) old new
   pub first : AreFirstRows (octets old) part n (at old) (at new) rows
-  pub skips : (k end : ℕ) → Passed (SkipsItem (octets old) part) k (at new) end → Passed (SkipsItem (octets old) part) (n + k) (at old) end
+  pub skips : (k end : ℕ) → Skipped (SkipsItem (octets old) part) k (at new) end → Skipped (SkipsItem (octets old) part) (n + k) (at old) end
 
 -- the walk stopped in one of n items of a section
 pub record MarksAmong (part : Part) (n : ℕ) (old new : Walk) (fault : rows.Fault) : Type 0 where
@@ -245,13 +245,13 @@ pub data StopsWithin (rtype len : ℕ) (old new : Walk) : rows.Fault → Type 0 
       → StopsWithin rtype len old new (data_fault stop)
 
 -- the walk went over character strings
-pub record PassesTexts (old new : Walk) : Type 0 where
+pub record CoversTexts (old new : Walk) : Type 0 where
   pub rows : List Row
   pub adds : Adds rows (at new) old new
   pub texts : TextRows (octets old) (at old) (at new) rows
 
 -- the walk went over an option
-pub record PassesOption (old new : Walk) : Type 0 where
+pub record CoversOption (old new : Walk) : Type 0 where
   pub rows : List Row
   pub adds : Adds rows (at new) old new
   pub shows : ShowsOption (octets old) (at old) (at new) rows
@@ -261,7 +261,7 @@ abbrev pub MissesOption : Walk → Walk → rows.Fault → Type 0
 MissesOption old new = CutsFields (option_rows (number_at w16 (octets old) (at old)) (number_at w16 (octets old) (at old + 2)) (at old)) old new
 
 -- the walk went over options
-pub record PassesOptions (old new : Walk) : Type 0 where
+pub record CoversOptions (old new : Walk) : Type 0 where
   pub rows : List Row
   pub adds : Adds rows (at new) old new
   pub options : OptionRows (octets old) (at old) (at new) rows

@@ -12,7 +12,7 @@ ghost use Rattle.dns_rows.specs.Fields.{items_at, IsField, field_row};
 ghost use Rattle.dns_rows.specs.Data.{exchange_shape, shape_of, zone_shape};
 ghost use Rattle.dns_rows.specs.Data.Shape.{End, Octets, Named, Options, Rest, Texts};
 ghost use Rattle.dns_rows.specs.Entries.{all_parts, class_rows, holds_records, item_row, number_rows, opt_rows};
-ghost use Rattle.dns_rows.specs.Walks.{at, octets, items, sum_of, AreCountsOf, IsMarked, Comes, CutsFields, Adds, OnFault, OnFaultOf, LacksField, LacksFields, IsEnd, IsLabelAt, HasName, PassesAllLabels, PassesEnd, PassesName, PassesItemName, MissesName, MissesItemName, MissesOption, PassesNumbers, MarksItem, MarksStop, MarksFirst, MarksAmong, MarksParts, MarksData, MarksWithin, StopsData, StopsWithin, PassesOption};
+ghost use Rattle.dns_rows.specs.Walks.{at, octets, items, sum_of, AreCountsOf, IsMarked, Comes, CutsFields, Adds, OnFault, OnFaultOf, LacksField, LacksFields, IsEnd, IsLabelAt, HasName, CoversAllLabels, CoversEnd, CoversName, CoversItemName, MissesName, MissesItemName, MissesOption, CoversNumbers, MarksItem, MarksStop, MarksFirst, MarksAmong, MarksParts, MarksData, MarksWithin, StopsData, StopsWithin, CoversOption};
 
 use crate::octets::target_of;
 use crate::row::{Fault, Field, NameOf, Part, Row, ZoneNumber};
@@ -127,8 +127,8 @@ impl<'a> Walk<'a> {
         requires { IsMarked self.old }
         ensures comes { Comes 1 self.old self.new }
         ensures begins { OnOk result (items self.new ≡ items self.old + 1) }
-        ensures passes { OnOk result
-            (PassesItemName name (item_row part number (at self.old)) self.old self.new) }
+        ensures covers { OnOk result
+            (CoversItemName name (item_row part number (at self.old)) self.old self.new) }
         ensures misses { OnFaultOf result
             (MissesItemName name (item_row part number (at self.old)) self.old self.new) }
     {
@@ -172,7 +172,7 @@ impl<'a> Walk<'a> {
     fn labels(&mut self, name: NameOf) -> Result<(), Stop>
         requires { IsMarked self.old }
         ensures comes { Comes 0 self.old self.new }
-        ensures passes { OnOk result (PassesAllLabels name self.old self.new) }
+        ensures covers { OnOk result (CoversAllLabels name self.old self.new) }
         ensures never { OnFault result ⊥ }
     {
         let mut size = 0;
@@ -187,7 +187,7 @@ impl<'a> Walk<'a> {
     fn name(&mut self, name: NameOf) -> Result<(), Stop>
         requires { IsMarked self.old }
         ensures comes { Comes 0 self.old self.new }
-        ensures passes { OnOk result (PassesName name self.old self.new) }
+        ensures covers { OnOk result (CoversName name self.old self.new) }
         ensures misses { OnFaultOf result (MissesName name self.old self.new) }
     {
         let start = self.parser.pos();
@@ -208,7 +208,7 @@ impl<'a> Walk<'a> {
         requires seen { seen after ≡ octets self.old }
         requires ends { IsEnd (octets self.old) (at self.old) (offset after) }
         ensures comes { Comes 0 self.old self.new }
-        ensures passes { OnOk result (PassesEnd name start (offset after.entry) self.old self.new) }
+        ensures covers { OnOk result (CoversEnd name start (offset after.entry) self.old self.new) }
         ensures never { OnFault result ⊥ }
     {
         match self.first() {
@@ -348,8 +348,8 @@ impl<'a> Walk<'a> {
     fn record_fields(&mut self) -> Result<(Rtype, u16), Stop>
         requires { IsMarked self.old }
         ensures comes { Comes 0 self.old self.new }
-        ensures passes { IfOk result
-            (λ numbers. PassesNumbers numbers.0 numbers.1 self.old self.new) }
+        ensures covers { IfOk result
+            (λ numbers. CoversNumbers numbers.0 numbers.1 self.old self.new) }
         ensures short { OnFaultOf result (LacksFields (octets self.old) (at self.old + 10)) }
         ensures cuts { OnFaultOf result (CutsFields (number_rows
             (number_at w16 (octets self.old) (at self.old)) (at self.old)) self.old self.new) }
@@ -543,7 +543,7 @@ impl<'a> Walk<'a> {
         requires { IsMarked self.old }
         ensures comes { Comes 0 self.old self.new }
         ensures sees { OnOk result (octets self.new ≡ octets self.old) }
-        ensures passes { OnOk result (PassesOption self.old self.new) }
+        ensures covers { OnOk result (CoversOption self.old self.new) }
         ensures stops { OnFaultOf result (MissesOption self.old self.new) }
     {
         let code = self.number(Field::OptionCode)?;

@@ -12,7 +12,7 @@ use Rattle.dns_item.specs.ParsedData.{HasSpan}
 use Rattle.dns_item.specs.ParsedRecord.{EncodedRecord, encoded_record}
 use Rattle.dns_item.specs.TypedRecords.{parsed_as}
 use Rattle.dns_item.specs.declared.parsed_record.ParsedRecord.{ParsedRecord}
-use Rattle.dns_section.specs.Given.{Given, PassesToAnswer, PassesToEnd, YieldsOne}
+use Rattle.dns_section.specs.Given.{Given, SkipsToNext, SkipsToEnd, YieldsOne}
 use Rattle.dns_section.specs.Given.Given.{none, more}
 use Rattle.dns_section.specs.Limited.{parsed_item, limited, is_in_class_in, limited_by}
 use Rattle.dns_section.specs.RecordSection.{records_left, record_result, GivesNext}
@@ -41,9 +41,9 @@ limited_by-one layouts false x class = cons_option-nil (parsed_as layouts x)
 -- the RDATA of a record that a cursor yielded lies within the octets
 pub given_span : (old new : RecordSection) (r : ParsedRecord) → GivesNext old (Some (Ok r)) new → HasSpan (encoded_record r)
 given_span old new r calls =
-    let end = calls.passes.0.rdata_end in
-    let within = calls.passes.0.skips.within in
-    let same = ap length calls.passes.1 in
+    let end = calls.moves.0.rdata_end in
+    let within = calls.moves.0.skips.within in
+    let same = ap length calls.moves.1 in
     record { start = omega arith; end = omega arith }
 
 pub limited_by-none : (layouts : ℕ → Option Layout) (in_only : Bool) → limited_by layouts in_only [] ≡ []
@@ -62,34 +62,34 @@ given_left none = refl
 given_left (more answer calls is rest) = calls.steps ∙ (λ i. is i ∷ given_left rest i)
 
 -- the item that is yielded is the first of what was left that the data type accepts
-pub passed_yields : {accepted : List (Result EncodedRecord Fault) → List (Result RecordItem Fault)} {old new : RecordSection} {x : Result RecordItem Fault} → PassesToAnswer accepted old new x
+pub skipped_yields : {accepted : List (Result EncodedRecord Fault) → List (Result RecordItem Fault)} {old new : RecordSection} {x : Result RecordItem Fault} → SkipsToNext accepted old new x
     → YieldsOne accepted (records_left old) (records_left new) x
-passed_yields {new = new} p = record {
-  skipped = p.passed;
+skipped_yields {new = new} p = record {
+  skipped = p.skipped;
   last = p.last;
-  left = given_left p.given ∙ append_assoc p.passed (p.last ∷ []) (records_left new);
+  left = given_left p.given ∙ append_assoc p.skipped (p.last ∷ []) (records_left new);
   unanswered = p.unanswered;
   answered = p.answered;
 }
 
 -- the data type accepts nothing of what was left
-pub ended_yields : {accepted : List (Result EncodedRecord Fault) → List (Result RecordItem Fault)} {old new : RecordSection} → PassesToEnd accepted old new
+pub ended_yields : {accepted : List (Result EncodedRecord Fault) → List (Result RecordItem Fault)} {old new : RecordSection} → SkipsToEnd accepted old new
     → (accepted (records_left old) ≡ []) × (records_left new ≡ [])
 ended_yields {accepted = accepted} p = (
-  ap accepted (given_left p.given ∙ ap (λ (ys : List (Result EncodedRecord Fault)). p.passed ++ ys) p.ended.steps.0 ∙ append-nil p.passed) ∙ p.unanswered,
+  ap accepted (given_left p.given ∙ ap (λ (ys : List (Result EncodedRecord Fault)). p.skipped ++ ys) p.ended.steps.0 ∙ append-nil p.skipped) ∙ p.unanswered,
   p.ended.steps.1,
 )
 
 -- the cursor yielded items that the data type doesn't accept
-pub record Passing (accepted : List (Result EncodedRecord Fault) → List (Result RecordItem Fault)) (old now : RecordSection) : Type 0 where
-  pub passed : List (Result EncodedRecord Fault)
-  pub given : Given old passed now
-  pub unanswered : accepted passed ≡ []
+pub record SkipsSoFar (accepted : List (Result EncodedRecord Fault) → List (Result RecordItem Fault)) (old now : RecordSection) : Type 0 where
+  pub skipped : List (Result EncodedRecord Fault)
+  pub given : Given old skipped now
+  pub unanswered : accepted skipped ≡ []
   pub left : accepted (records_left old) ≡ accepted (records_left now)
 
 module _ (accepted : List (Result EncodedRecord Fault) → List (Result RecordItem Fault)) (nothing : accepted [] ≡ []) (append : (xs ys : List (Result EncodedRecord Fault)) → accepted (xs ++ ys) ≡ accepted xs ++ accepted ys) where
-  pub passing_none : (cursor : RecordSection) → Passing accepted cursor cursor
-  passing_none cursor = record { passed = []; given = none; unanswered = nothing; left = refl }
+  pub skipping_none : (cursor : RecordSection) → SkipsSoFar accepted cursor cursor
+  skipping_none cursor = record { skipped = []; given = none; unanswered = nothing; left = refl }
 
   -- what was left, by the item that is yielded next
   one_first : (old new : RecordSection) (answer : Result ParsedRecord ParseError) (given : List (Result RecordItem Fault)) → GivesNext old (Some answer) new → accepted (record_result answer ∷ []) ≡ given
@@ -97,26 +97,26 @@ module _ (accepted : List (Result EncodedRecord Fault) → List (Result RecordIt
   one_first old new answer given calls is =
       ap accepted calls.steps ∙ append (record_result answer ∷ []) (records_left new) ∙ ap (λ (ys : List (Result RecordItem Fault)). ys ++ accepted (records_left new)) is
 
-  pub passing_more : (old now new : RecordSection) (answer : Result ParsedRecord ParseError) → Passing accepted old now → GivesNext now (Some answer) new → accepted (record_result answer ∷ []) ≡ []
-      → Passing accepted old new
-  passing_more old now new answer p calls is = record {
-    passed = p.passed ++ record_result answer ∷ [];
+  pub skipping_more : (old now new : RecordSection) (answer : Result ParsedRecord ParseError) → SkipsSoFar accepted old now → GivesNext now (Some answer) new → accepted (record_result answer ∷ []) ≡ []
+      → SkipsSoFar accepted old new
+  skipping_more old now new answer p calls is = record {
+    skipped = p.skipped ++ record_result answer ∷ [];
     given = given_last answer p.given calls;
-    unanswered = append p.passed (record_result answer ∷ []) ∙ (λ i. p.unanswered i ++ is i);
+    unanswered = append p.skipped (record_result answer ∷ []) ∙ (λ i. p.unanswered i ++ is i);
     left = p.left ∙ one_first now new answer [] calls is;
   }
 
-  pub passing_answered : (old now new : RecordSection) (answer : Result ParsedRecord ParseError) (x : Result RecordItem Fault) → Passing accepted old now → GivesNext now (Some answer) new
-      → accepted (record_result answer ∷ []) ≡ x ∷ [] → (accepted (records_left old) ≡ x ∷ accepted (records_left new)) × PassesToAnswer accepted old new x
-  passing_answered old now new answer x p calls is = (
+  pub skipping_accepted : (old now new : RecordSection) (answer : Result ParsedRecord ParseError) (x : Result RecordItem Fault) → SkipsSoFar accepted old now → GivesNext now (Some answer) new
+      → accepted (record_result answer ∷ []) ≡ x ∷ [] → (accepted (records_left old) ≡ x ∷ accepted (records_left new)) × SkipsToNext accepted old new x
+  skipping_accepted old now new answer x p calls is = (
     p.left ∙ one_first now new answer (x ∷ []) calls is,
-    record { passed = p.passed; last = record_result answer; given = given_last answer p.given calls; unanswered = p.unanswered; answered = is },
+    record { skipped = p.skipped; last = record_result answer; given = given_last answer p.given calls; unanswered = p.unanswered; answered = is },
   )
 
-  pub passing_ended : (old now new : RecordSection) → Passing accepted old now → GivesNext now None new
-      → (accepted (records_left old) ≡ []) × (accepted (records_left new) ≡ []) × PassesToEnd accepted old new
-  passing_ended old now new p calls = (
+  pub skipping_ended : (old now new : RecordSection) → SkipsSoFar accepted old now → GivesNext now None new
+      → (accepted (records_left old) ≡ []) × (accepted (records_left new) ≡ []) × SkipsToEnd accepted old new
+  skipping_ended old now new p calls = (
     p.left ∙ ap accepted calls.steps.0 ∙ nothing,
     ap accepted calls.steps.1 ∙ nothing,
-    record { passed = p.passed; before_end = now; given = p.given; ended = calls; unanswered = p.unanswered },
+    record { skipped = p.skipped; before_end = now; given = p.given; ended = calls; unanswered = p.unanswered },
   )

@@ -9,7 +9,7 @@ use Rattle.dns_data.specs.Layout.{Layout}
 use Rattle.dns_item.specs.Items.{RecordItem}
 use Rattle.dns_item.specs.TypedRecords.{typed_result}
 use Rattle.dns_item.specs.declared.record.Record.{Record}
-use Rattle.dns_section.specs.Given.{PassesTo, YieldsNext}
+use Rattle.dns_section.specs.Given.{SkipsTo, YieldsNext}
 use Rattle.dns_section.specs.Limited.{limited}
 use Rattle.dns_section.specs.RecordSection.{to_come, records_left}
 use Rattle.dns_section.specs.Skipping.{KeepsError}
@@ -31,6 +31,6 @@ typed_left layouts it = limited (every layouts) (records_left (cursor_of it))
 -- what a call of `next` returns, and the iterator after it
 pub record GivesNext {D : Type 0} (rtype_of : D → ℕ) (parts_of : D → List Part) (layouts : ℕ → Layout) (old : AnyRecordIter D) (result : Option (Result (Record ParsedName D) ParseError)) (new : AnyRecordIter D) : Type 0 where
   pub steps : YieldsFirstBy (typed_result rtype_of parts_of) (typed_left layouts) old result new
-  pub moves : PassesTo (typed_result rtype_of parts_of) (limited (every layouts)) (cursor_of old) (cursor_of new) result
+  pub moves : SkipsTo (typed_result rtype_of parts_of) (limited (every layouts)) (cursor_of old) (cursor_of new) result
   pub yields : YieldsNext (typed_result rtype_of parts_of) (limited (every layouts)) (records_left (cursor_of old)) (records_left (cursor_of new)) result
   pub kept : KeepsError (to_come (cursor_of new)) result

@@ -17,25 +17,25 @@ pub data Given : RecordSection → List (Result EncodedRecord Fault) → RecordS
       → GivesNext old (Some answer) mid → record_result answer ≡ item → Given mid items new → Given old (item ∷ items) new
 
 -- The cursor skips records for which nothing is yielded. For the next item, a record or a fault, `answer` is yielded.
-pub record PassesToAnswer (accepted : List (Result EncodedRecord Fault) → List (Result RecordItem Fault)) (old new : RecordSection) (answer : Result RecordItem Fault) : Type 0 where
-  pub passed : List (Result EncodedRecord Fault)
+pub record SkipsToNext (accepted : List (Result EncodedRecord Fault) → List (Result RecordItem Fault)) (old new : RecordSection) (answer : Result RecordItem Fault) : Type 0 where
+  pub skipped : List (Result EncodedRecord Fault)
   pub last : Result EncodedRecord Fault
-  pub given : Given old (passed ++ last ∷ []) new
-  pub unanswered : accepted passed ≡ []
+  pub given : Given old (skipped ++ last ∷ []) new
+  pub unanswered : accepted skipped ≡ []
   pub answered : accepted (last ∷ []) ≡ answer ∷ []
 
 -- The cursor skips all remaining records, as nothing is yielded for them, and ends.
-pub record PassesToEnd (accepted : List (Result EncodedRecord Fault) → List (Result RecordItem Fault)) (old new : RecordSection) : Type 0 where
-  pub passed : List (Result EncodedRecord Fault)
+pub record SkipsToEnd (accepted : List (Result EncodedRecord Fault) → List (Result RecordItem Fault)) (old new : RecordSection) : Type 0 where
+  pub skipped : List (Result EncodedRecord Fault)
   pub before_end : RecordSection
-  pub given : Given old passed before_end
+  pub given : Given old skipped before_end
   pub ended : GivesNext before_end None new
-  pub unanswered : accepted passed ≡ []
+  pub unanswered : accepted skipped ≡ []
 
 -- The cursor skips records for which nothing is yielded, up to the first item for which the iterator yields its result, or to the end.
-abbrev pub PassesTo : {A : Type 0} → (A → Result RecordItem Fault) → (List (Result EncodedRecord Fault) → List (Result RecordItem Fault)) → RecordSection → RecordSection → Option A → Type 0
-PassesTo result_of accepted old new (Some answer) = PassesToAnswer accepted old new (result_of answer)
-PassesTo result_of accepted old new None = PassesToEnd accepted old new
+abbrev pub SkipsTo : {A : Type 0} → (A → Result RecordItem Fault) → (List (Result EncodedRecord Fault) → List (Result RecordItem Fault)) → RecordSection → RecordSection → Option A → Type 0
+SkipsTo result_of accepted old new (Some answer) = SkipsToNext accepted old new (result_of answer)
+SkipsTo result_of accepted old new None = SkipsToEnd accepted old new
 
 -- What was left is what was skipped, then the item for which `answer` is yielded, then what is left now.
 pub record YieldsOne (accepted : List (Result EncodedRecord Fault) → List (Result RecordItem Fault)) (before after : List (Result EncodedRecord Fault)) (answer : Result RecordItem Fault) : Type 0 where

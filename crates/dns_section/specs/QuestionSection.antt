@@ -36,15 +36,15 @@ question_result (Ok question) = Ok (parsed_question question)
 question_result (Err e) = Err (fault_of e)
 
 -- The cursor moves past a question that it yielded. It doesn't move at a question that can't be read, nor at the end.
-abbrev pub PassesQuestion : QuestionSection → QuestionSection → Option (Result (Question ParsedName) ParseError) → Type 0
-PassesQuestion old new (Some (Ok question)) = ReadsQuestion (octets_of old) (position old) (position new) (parsed_question question)
-PassesQuestion old new (Some (Err e)) = QuestionFaultAt (octets_of old) (position old) (fault_of e) × (position new ≡ position old)
-PassesQuestion old new None = position new ≡ position old
+abbrev pub MovesPastQuestion : QuestionSection → QuestionSection → Option (Result (Question ParsedName) ParseError) → Type 0
+MovesPastQuestion old new (Some (Ok question)) = ReadsQuestion (octets_of old) (position old) (position new) (parsed_question question)
+MovesPastQuestion old new (Some (Err e)) = QuestionFaultAt (octets_of old) (position old) (fault_of e) × (position new ≡ position old)
+MovesPastQuestion old new None = position new ≡ position old
 
 -- what a call of `next` returns, and the cursor after it
 pub record GivesNext (old : QuestionSection) (result : Option (Result (Question ParsedName) ParseError)) (new : QuestionSection) : Type 0 where
   pub steps : YieldsFirstBy question_result questions_left old result new
-  pub passes : PassesQuestion old new result
+  pub moves : MovesPastQuestion old new result
   pub counts : CountsDown (to_come old) (to_come new) result
   pub octets : octets_of new ≡ octets_of old
 

@@ -3,14 +3,14 @@ use Rattle.std.specs.Prelude.{ℕ, suc, List, [], ◌∷◌, Result, Ok, Err}
 use Rattle.dns_name.specs.Names.{Fault}
 
 -- n consecutive entries, which can be skipped, extend from p to q
-pub data Passed (Skips : ℕ → ℕ → Type 0) : ℕ → ℕ → ℕ → Type 0 where
-  none : {p : ℕ} → Passed Skips 0 p p
-  more : {n p q r : ℕ} → Skips p q → Passed Skips n q r → Passed Skips (suc n) p r
+pub data Skipped (Skips : ℕ → ℕ → Type 0) : ℕ → ℕ → ℕ → Type 0 where
+  none : {p : ℕ} → Skipped Skips 0 p p
+  more : {n p q r : ℕ} → Skips p q → Skipped Skips n q r → Skipped Skips (suc n) p r
 
 -- of n entries from offset p, one can't be skipped, and this is the fault of the first such
-pub data StopsPassing (Skips : ℕ → ℕ → Type 0) (FaultOf : ℕ → Fault → Type 0) : ℕ → ℕ → Fault → Type 0 where
-  here : {n p : ℕ} {f : Fault} → FaultOf p f → StopsPassing Skips FaultOf (suc n) p f
-  after : {n p q : ℕ} {f : Fault} → Skips p q → StopsPassing Skips FaultOf n q f → StopsPassing Skips FaultOf (suc n) p f
+pub data StopsSkipping (Skips : ℕ → ℕ → Type 0) (FaultOf : ℕ → Fault → Type 0) : ℕ → ℕ → Fault → Type 0 where
+  here : {n p : ℕ} {f : Fault} → FaultOf p f → StopsSkipping Skips FaultOf (suc n) p f
+  after : {n p q : ℕ} {f : Fault} → Skips p q → StopsSkipping Skips FaultOf n q f → StopsSkipping Skips FaultOf (suc n) p f
 
 -- The reading of at most n entries from offset p: the consecutive readable ones and, if an entry isn't readable, its fault as the last item.
 pub data Reading {X : Type 0} (Reads : ℕ → ℕ → X → Type 0) (FaultOf : ℕ → Fault → Type 0) : ℕ → ℕ → List (Result X Fault) → Type 0 where

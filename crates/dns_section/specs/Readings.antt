@@ -3,7 +3,7 @@ use Rattle.std.specs.Prelude.{◌≡◌, ℕ, suc, ◌≤◌, ◌⊎◌, List, [
 use Rattle.dns_name.specs.Names.{Fault, EndsOrFaults}
 use Rattle.dns_question.specs.Questions.{SkipsQuestion, ReadsQuestion, QuestionFaultAt, QuestionSkipFaultAt}
 use Rattle.dns_item.specs.Items.{SkipsRecord, ReadsRecord, RecordFaultAt, RecordSkipFaultAt}
-use Rattle.dns_section.specs.Reading.{Passed, StopsPassing, Reading}
+use Rattle.dns_section.specs.Reading.{Skipped, StopsSkipping, Reading}
 use Rattle.dns_section.specs.Sections.{AnswersStart, AuthoritiesStart, AdditionalsStart, AnswersFault, AuthoritiesFault, AdditionalsFault}
 
 -- from each offset there is exactly one reading of at most n entries
@@ -41,12 +41,12 @@ abbrev pub ReadingsOfRecordsEnd : Type 0
 ReadingsOfRecordsEnd = (b : List ℕ) → ReadingsEnd (ReadsRecord b) (RecordFaultAt b)
 
 -- From each offset, n questions are skipped to exactly one end, or one of them can't be skipped, with exactly one fault; never both.
-abbrev pub QuestionsPassOrStop : Type 0
-QuestionsPassOrStop = (b : List ℕ) (n : ℕ) → EndsOrFaults (Passed (SkipsQuestion b) n) (StopsPassing (SkipsQuestion b) (QuestionSkipFaultAt b) n)
+abbrev pub QuestionsSkipOrStop : Type 0
+QuestionsSkipOrStop = (b : List ℕ) (n : ℕ) → EndsOrFaults (Skipped (SkipsQuestion b) n) (StopsSkipping (SkipsQuestion b) (QuestionSkipFaultAt b) n)
 
 -- From each offset, n records are skipped to exactly one end, or one of them can't be skipped, with exactly one fault; never both.
-abbrev pub RecordsPassOrStop : Type 0
-RecordsPassOrStop = (b : List ℕ) (n : ℕ) → EndsOrFaults (Passed (SkipsRecord b) n) (StopsPassing (SkipsRecord b) (RecordSkipFaultAt b) n)
+abbrev pub RecordsSkipOrStop : Type 0
+RecordsSkipOrStop = (b : List ℕ) (n : ℕ) → EndsOrFaults (Skipped (SkipsRecord b) n) (StopsSkipping (SkipsRecord b) (RecordSkipFaultAt b) n)
 
 -- each section starts at one offset at most
 pub record OneStart : Type 0 where

@@ -43,15 +43,15 @@ record_result (Ok r) = Ok (encoded_record r)
 record_result (Err e) = Err (fault_of e)
 
 -- The cursor moves past a record that it yielded, which is read from the message's octets. It doesn't move at a record that can't be read, nor at the end.
-abbrev pub PassesRecord : RecordSection → RecordSection → Option (Result ParsedRecord ParseError) → Type 0
-PassesRecord old new (Some (Ok r)) = ReadsRecord (octets_of old) (position old) (position new) (parsed_entry r) × (record_octets r ≡ octets_of old)
-PassesRecord old new (Some (Err e)) = RecordFaultAt (octets_of old) (position old) (fault_of e) × (position new ≡ position old)
-PassesRecord old new None = position new ≡ position old
+abbrev pub MovesPastRecord : RecordSection → RecordSection → Option (Result ParsedRecord ParseError) → Type 0
+MovesPastRecord old new (Some (Ok r)) = ReadsRecord (octets_of old) (position old) (position new) (parsed_entry r) × (record_octets r ≡ octets_of old)
+MovesPastRecord old new (Some (Err e)) = RecordFaultAt (octets_of old) (position old) (fault_of e) × (position new ≡ position old)
+MovesPastRecord old new None = position new ≡ position old
 
 -- what a call of `next` returns, and the cursor after it
 pub record GivesNext (old : RecordSection) (result : Option (Result ParsedRecord ParseError)) (new : RecordSection) : Type 0 where
   pub steps : YieldsFirstBy record_result records_left old result new
-  pub passes : PassesRecord old new result
+  pub moves : MovesPastRecord old new result
   pub counts : CountsDown (to_come old) (to_come new) result
   pub octets : octets_of new ≡ octets_of old
   pub section : section_of new ≡ section_of old

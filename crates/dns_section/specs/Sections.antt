@@ -8,7 +8,7 @@ use Rattle.dns_name.specs.Parsers.{number_at}
 use Rattle.dns_code.specs.HeaderSection.{header_size}
 use Rattle.dns_question.specs.Questions.{SkipsQuestion, ReadsQuestion, QuestionFaultAt, QuestionSkipFaultAt, QuestionItem}
 use Rattle.dns_item.specs.Items.{SkipsRecord, ReadsRecord, RecordEntry, RecordFaultAt, RecordSkipFaultAt}
-use Rattle.dns_section.specs.Reading.{Passed, StopsPassing, Reading}
+use Rattle.dns_section.specs.Reading.{Skipped, StopsSkipping, Reading}
 use Rattle.dns_section.specs.declared.section.Section.{Section}
 use Rattle.dns_section.specs.declared.section.Section.TheVariants.{Answer, Authority, Additional}
 
@@ -27,25 +27,25 @@ additional_count b = number_at w16 b 10
 
 -- a section of records starts at p: all entries of the sections before it can be skipped, and p follows them
 abbrev pub AnswersStart : List ℕ → ℕ → Type 0
-AnswersStart b p = Passed (SkipsQuestion b) (question_count b) header_size p
+AnswersStart b p = Skipped (SkipsQuestion b) (question_count b) header_size p
 
 abbrev pub AuthoritiesStart : List ℕ → ℕ → Type 0
-AuthoritiesStart b p = (before : ℕ) × AnswersStart b before × Passed (SkipsRecord b) (answer_count b) before p
+AuthoritiesStart b p = (before : ℕ) × AnswersStart b before × Skipped (SkipsRecord b) (answer_count b) before p
 
 abbrev pub AdditionalsStart : List ℕ → ℕ → Type 0
-AdditionalsStart b p = (before : ℕ) × AuthoritiesStart b before × Passed (SkipsRecord b) (authority_count b) before p
+AdditionalsStart b p = (before : ℕ) × AuthoritiesStart b before × Skipped (SkipsRecord b) (authority_count b) before p
 
 -- a section of records has no start: an entry of a section before it can't be skipped, and this is the fault of the first such entry
 abbrev pub AnswersFault : List ℕ → Fault → Type 0
-AnswersFault b f = StopsPassing (SkipsQuestion b) (QuestionSkipFaultAt b) (question_count b) header_size f
+AnswersFault b f = StopsSkipping (SkipsQuestion b) (QuestionSkipFaultAt b) (question_count b) header_size f
 
 abbrev pub AuthoritiesFault : List ℕ → Fault → Type 0
 AuthoritiesFault b f =
-    AnswersFault b f ⊎ ((before : ℕ) × AnswersStart b before × StopsPassing (SkipsRecord b) (RecordSkipFaultAt b) (answer_count b) before f)
+    AnswersFault b f ⊎ ((before : ℕ) × AnswersStart b before × StopsSkipping (SkipsRecord b) (RecordSkipFaultAt b) (answer_count b) before f)
 
 abbrev pub AdditionalsFault : List ℕ → Fault → Type 0
 AdditionalsFault b f =
-    AuthoritiesFault b f ⊎ ((before : ℕ) × AuthoritiesStart b before × StopsPassing (SkipsRecord b) (RecordSkipFaultAt b) (authority_count b) before f)
+    AuthoritiesFault b f ⊎ ((before : ℕ) × AuthoritiesStart b before × StopsSkipping (SkipsRecord b) (RecordSkipFaultAt b) (authority_count b) before f)
 
 -- for a section of records: its count, the offset where it starts, the fault if it has no start, and the section after it
 abbrev pub record_count : Section → List ℕ → ℕ

@@ -2,7 +2,7 @@ ghost use Rattle.std.specs.Prelude.{◌≡◌};
 ghost use Rattle.std.specs.Iterator.{YieldsFirstBy, item_count};
 ghost use Rattle.dns_item.specs.TypedRecords.{typed_result};
 ghost use Rattle.dns_section.specs.AnyRecordIter.{every, cursor_of, typed_left, GivesNext};
-ghost use Rattle.dns_section.specs.Given.{PassesTo, YieldsNext};
+ghost use Rattle.dns_section.specs.Given.{SkipsTo, YieldsNext};
 ghost use Rattle.dns_section.specs.Limited.{limited};
 ghost use Rattle.dns_section.specs.RecordSection.{to_come, records_left, MovesOn};
 ghost use Rattle.dns_section.specs.Skipping.{KeepsError};
@@ -63,7 +63,7 @@ impl<'a, D: ParseAnyRecordData<'a> + Drop> AnyRecordIter<'a, D> {
     pub fn next(&mut self) -> Option<Result<Record<ParsedName<'a>, D>, ParseError>>
         ensures steps { YieldsFirstBy (typed_result D.rtype_of D.parts) (typed_left D.any_layout)
             self.old result self.new }
-        ensures moves { PassesTo (typed_result D.rtype_of D.parts) (limited (every D.any_layout))
+        ensures moves { SkipsTo (typed_result D.rtype_of D.parts) (limited (every D.any_layout))
             (cursor_of self.old) (cursor_of self.new) result }
         ensures yields { YieldsNext (typed_result D.rtype_of D.parts) (limited (every D.any_layout))
             (records_left (cursor_of self.old)) (records_left (cursor_of self.new)) result }

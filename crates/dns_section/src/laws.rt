@@ -4,7 +4,7 @@ ghost use Rattle.std.specs.Prelude.{◌≡◌, Some};
 ghost use Rattle.dns_section.specs.QuestionsFrom.{QuestionsFromAreRead};
 ghost use Rattle.dns_section.specs.RecordsFrom.{RecordsFromAreRead};
 ghost use Rattle.dns_section.specs.Readings.{OneReadingOfQuestions, OneReadingOfRecords, OneStart, StartOrFault, ReadingsOfQuestionsEnd, ReadingsOfRecordsEnd};
-ghost use Rattle.dns_section.specs.Readings.{QuestionsPassOrStop, RecordsPassOrStop};
+ghost use Rattle.dns_section.specs.Readings.{QuestionsSkipOrStop, RecordsSkipOrStop};
 ghost use Rattle.dns_section.specs.SectionOrder.{section_order};
 ghost use Rattle.dns_section.specs.declared.section.Section.{Section};
 
@@ -29,9 +29,9 @@ pub fn readings_end()
 /// From each offset, either n questions can be skipped, to exactly one end, or exactly one fault
 /// prevents it; never both. The same holds for records. So the result of skipping the remaining
 /// entries of a section is determined.
-pub fn passed_or_stopped()
-    ensures questions { QuestionsPassOrStop }
-    ensures records { RecordsPassOrStop }
+pub fn skipped_or_stopped()
+    ensures questions { QuestionsSkipOrStop }
+    ensures records { RecordsSkipOrStop }
 {}
 
 /// Each section starts at one offset at most.

@@ -31,7 +31,7 @@ pub struct QuestionSection<'a> {
 
 impl<'a> QuestionSection<'a> {
     ghost use Rattle.std.specs.Iterator.{YieldsFirstBy};
-    ghost use Rattle.dns_section.specs.QuestionSection.{octets_of, position, to_come, questions_left, question_result, PassesQuestion};
+    ghost use Rattle.dns_section.specs.QuestionSection.{octets_of, position, to_come, questions_left, question_result, MovesPastQuestion};
     ghost use Rattle.dns_section.specs.QuestionsFrom.{questions_from};
     ghost use Rattle.dns_section.specs.RecordSection.{MovesToAnswers};
     ghost use Rattle.dns_section.specs.Skipping.{CountsDown};
@@ -68,7 +68,7 @@ impl<'a> QuestionSection<'a> {
     /// at the end.
     pub fn next(&mut self) -> Option<Result<Question<ParsedName<'a>>, ParseError>>
         ensures steps { YieldsFirstBy question_result questions_left self.old result self.new }
-        ensures passes { PassesQuestion self.old self.new result }
+        ensures moves { MovesPastQuestion self.old self.new result }
         ensures counts { CountsDown (to_come self.old) (to_come self.new) result }
         ensures octets { octets_of self.new ≡ octets_of self.old }
     {

@@ -4,7 +4,7 @@ ghost use Rattle.std.specs.Result.{ForOk};
 ghost use Rattle.dns_item.specs.ParsedData.{HasSpan};
 ghost use Rattle.dns_item.specs.ParsedRecord.{encoded_record};
 ghost use Rattle.dns_item.specs.TypedRecords.{typed_result};
-ghost use Rattle.dns_section.specs.Given.{PassesTo, YieldsNext};
+ghost use Rattle.dns_section.specs.Given.{SkipsTo, YieldsNext};
 ghost use Rattle.dns_section.specs.Limited.{limited, in_class_in, limited_by};
 ghost use Rattle.dns_section.specs.RecordIter.{cursor_of, takes_in_only, typed_left, GivesNext};
 ghost use Rattle.dns_section.specs.RecordSection.{to_come, record_result, records_left, MovesOn};
@@ -86,7 +86,7 @@ impl<'a, D: ParseRecordData<'a> + Drop> RecordIter<'a, D> {
     pub fn next(&mut self) -> Option<Result<Record<ParsedName<'a>, D>, ParseError>>
         ensures steps { YieldsFirstBy (typed_result D.rtype_of D.parts) (typed_left D.layout)
             self.old result self.new }
-        ensures moves { PassesTo (typed_result D.rtype_of D.parts)
+        ensures moves { SkipsTo (typed_result D.rtype_of D.parts)
             (limited_by D.layout (takes_in_only self.old)) (cursor_of self.old)
             (cursor_of self.new) result }
         ensures yields { YieldsNext (typed_result D.rtype_of D.parts)

@@ -32,7 +32,7 @@ pub struct RecordSection<'a> {
 
 impl<'a> RecordSection<'a> {
     ghost use Rattle.std.specs.Iterator.{YieldsFirstBy};
-    ghost use Rattle.dns_section.specs.RecordSection.{octets_of, position, section_of, to_come, records_left, record_result, PassesRecord, IsFresh, MovesOn};
+    ghost use Rattle.dns_section.specs.RecordSection.{octets_of, position, section_of, to_come, records_left, record_result, MovesPastRecord, IsFresh, MovesOn};
     ghost use Rattle.dns_section.specs.Skipping.{CountsDown};
 
     /// The section that begins at the parser's offset, with all of its records to come.
@@ -79,7 +79,7 @@ impl<'a> RecordSection<'a> {
     #[inline(always)]
     pub fn next(&mut self) -> Option<Result<ParsedRecord<'a>, ParseError>>
         ensures steps { YieldsFirstBy record_result records_left self.old result self.new }
-        ensures passes { PassesRecord self.old self.new result }
+        ensures moves { MovesPastRecord self.old self.new result }
         ensures counts { CountsDown (to_come self.old) (to_come self.new) result }
         ensures octets { octets_of self.new ≡ octets_of self.old }
         ensures section { section_of self.new ≡ section_of self.old }

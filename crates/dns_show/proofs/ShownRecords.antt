@@ -21,7 +21,7 @@ use Rattle.dns_item.proofs.theory.TypedLemmas.{data_is_parsed}
 use Rattle.dns_read.specs.SectionStarts.{start_of}
 use Rattle.dns_item.specs.ParsedRecord.{EncodedRecord, encoded_record, parsed_entry}
 use Rattle.dns_item.specs.declared.parsed_record.ParsedRecord.{ParsedRecord}
-use Rattle.dns_section.specs.RecordSection.{BeginsSection, PassesRecord, position, records_left}
+use Rattle.dns_section.specs.RecordSection.{BeginsSection, MovesPastRecord, position, records_left}
 use Rattle.dns_section.specs.declared.record_section.RecordSection.{RecordSection}
 use Rattle.dns_item.specs.RecordPrinting.{record_fields_text}
 use Rattle.dns_item.specs.RecordReading.{up_to_rdata_end, ReturnsLaidOut, HasData, HasDataFault, IsRecordOf, GivesTaken}
@@ -127,7 +127,7 @@ module _ {D : Type 0} (rtype_of : D → ℕ) (parts_of : D → List Part) (x : E
     fault_taken e (Some layout) h = parts_missing x read layout (fault_of e) h
 
 -- a record that a cursor yields can be read
-pub given_read : (old new : RecordSection) (r : Result ParsedRecord ParseError) → PassesRecord old new (Some r) → IfOk r (λ p. IsRead (encoded_record p))
+pub given_read : (old new : RecordSection) (r : Result ParsedRecord ParseError) → MovesPastRecord old new (Some r) → IfOk r (λ p. IsRead (encoded_record p))
 given_read old new (Ok r) h = (position old, position new, subst (λ (b : List ℕ). ReadsRecord b (position old) (position new) (parsed_entry r)) (sym h.1) h.0)
 given_read old new (Err e) h = tt
 

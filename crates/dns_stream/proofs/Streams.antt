@@ -2,7 +2,7 @@
 use Rattle.std.proofs.Common.{◌≡◌, ℕ, suc, ◌+◌, ◌≤◌, Bool, Option, Some, None, Result, Err, List, [], ◌∷◌, ◌++◌, length, length-append, take, drop, ap, sym, ◌∙◌, refl, arith}
 use Rattle.std.proofs.lemmas.Grind.{common_steps}
 use Rattle.dns_wire.specs.Encoders.{encode_octets}
-use Rattle.dns_wire.specs.Targets.{Written, Fits, Passes, AppendReturns, Appends, cut_to, overwrite, with_empty_table as plain}
+use Rattle.dns_wire.specs.Targets.{Written, Fits, Exceeds, AppendReturns, Appends, cut_to, overwrite, with_empty_table as plain}
 use Rattle.dns_octets.specs.declared.error.AppendError.{AppendError}
 use Rattle.dns_octets.specs.declared.error.AppendError.TheVariants.{ShortBuf, OutOfMemory}
 use Rattle.dns_wire.proofs.theory.EncoderLaws.{same_written}
@@ -28,9 +28,9 @@ shortened t u v xs (a ∷ b ∷ c ∷ bytes) n two e f is = absurd (omega arith)
 pub kept_whole : (xs : List ℕ) (n : ℕ) → length xs ≤ n → plain xs ≡ cut_to n (plain xs)
 kept_whole xs n l = same_written _ _ (grind (arith, common_steps)) (sym (cut_nothing n))
 
-passes : (capacity : Option ℕ) (t : Written) (xs : List ℕ) → 2 ≤ length t.octets → Fits capacity (length t.octets) → Passes capacity (length (t.octets ++ xs)) → Passes (stream_capacity capacity) (length (drop 2 t.octets ++ xs))
-passes None t xs l f h = absurd h
-passes (Some capacity) t xs l f h =
+exceeds : (capacity : Option ℕ) (t : Written) (xs : List ℕ) → 2 ≤ length t.octets → Fits capacity (length t.octets) → Exceeds capacity (length (t.octets ++ xs)) → Exceeds (stream_capacity capacity) (length (drop 2 t.octets ++ xs))
+exceeds None t xs l f h = absurd h
+exceeds (Some capacity) t xs l f h =
     let a = length-append t.octets xs in
     let b = length-append (drop 2 t.octets) xs in
     let c = message_length t (drop 2 t.octets) l refl in
@@ -47,7 +47,7 @@ fits_stream (Some capacity) t xs l few f =
 
 answers : (capacity : Option ℕ) (grows : Bool) (t : Written) (xs : List ℕ) (e : AppendError) → 2 ≤ length t.octets → Fits capacity (length t.octets) → length (drop 2 t.octets ++ xs) ≤ 65535
     → AppendReturns {X = Unit {0}} capacity grows (length (t.octets ++ xs)) (Err e) → AppendReturns {X = Unit {0}} (stream_capacity capacity) grows (length (drop 2 t.octets ++ xs)) (Err e)
-answers capacity grows t xs ShortBuf l f few h = passes capacity t xs l f h
+answers capacity grows t xs ShortBuf l f few h = exceeds capacity t xs l f h
 answers capacity grows t xs OutOfMemory l f few h = (fits_stream capacity t xs l few h.0, h.1)
 
 refuses : (capacity : Option ℕ) (grows : Bool) (xs : List ℕ) (t u : Written) (e : AppendError) → 2 ≤ length t.octets → Fits capacity (length t.octets) → length (drop 2 t.octets ++ xs) ≤ 65535

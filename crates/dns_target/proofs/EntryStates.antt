@@ -6,7 +6,7 @@ use Rattle.dns_octets.specs.declared.error.AppendError.TheVariants.{ShortBuf, Ou
 use Rattle.dns_name.specs.Names.{Labels, IsName, name_size, max_size, uncompressed}
 use Rattle.dns_wire.specs.Encoders.{suffix_cmp, CompressionTable, TableEntry, IsClear, Plain, Rule, Static, Tree, encode_octets, encode_name}
 use Rattle.dns_wire.specs.Choice.{first_suffixes}
-use Rattle.dns_wire.specs.Targets.{IsTableOf, Written, append, cut_to, overwrite, Fits, Passes, AppendReturns, Appends, IsTarget}
+use Rattle.dns_wire.specs.Targets.{IsTableOf, Written, append, cut_to, overwrite, Fits, Exceeds, AppendReturns, Appends, IsTarget}
 use Rattle.dns_wire.proofs.theory.EncoderLaws.{same_written, encodes_octets, encodes_name}
 use Rattle.dns_wire.proofs.theory.EncodedNames.{ends_within_content}
 use Rattle.dns_wire.proofs.theory.CompressedNames.{is_table_cut, is_table_over}
@@ -237,7 +237,7 @@ name_refused compressing capacity grows all_grow w v now xs us name text ss r e 
   where
     result_by : (e : AppendError) → AppendReturns {X = Unit {0}} capacity grows (length (append (encode_octets text) w).octets) (Err e)
         → AppendReturns {X = Unit {0}} capacity all_grow (length (append (encode_name compressing name) (with_table_entries w xs)).octets) (Err e)
-    result_by ShortBuf k = subst (λ (ys : List ℕ). Passes capacity (length (w.octets ++ ys))) (sym encoding.octets) k
+    result_by ShortBuf k = subst (λ (ys : List ℕ). Exceeds capacity (length (w.octets ++ ys))) (sym encoding.octets) k
     result_by OutOfMemory k = (subst (λ (ys : List ℕ). Fits capacity (length (w.octets ++ ys))) (sym encoding.octets) k.0, more k.1)
 
 -- if one of two may allocate, both together may

@@ -12,7 +12,7 @@ use Rattle.std.specs.Prelude.{bit_and}
 use Rattle.std.proofs.lemmas.Nat.{and_le_r}
 use Rattle.std.proofs.Math.Seq.{map-set_same}
 use Rattle.dns_target.specs.Chains.{IsChained}
-use Rattle.dns_target.proofs.Chaining.{chained_same, link, chained_push, chained_pop, chained_set, PassesOthers, IsWalked, walk_start, walk_next, older-le}
+use Rattle.dns_target.proofs.Chaining.{chained_same, link, chained_push, chained_pop, chained_set, SkipsOthers, IsWalked, walk_start, walk_next, older-le}
 
 -- during a search, the first i entries remain: the name is in the table if it is among them
 pub record IsSuffixSought (b : List ℕ) (m : CompressionTable) (n : Labels) (ms : List HashEntry) (i : ℕ) : Type 0 where
@@ -133,8 +133,8 @@ no_hash_entry : HashEntry
 no_hash_entry = record { hash = 0; offset = 0; end = 0; older = 0 }
 
 -- entries in other buckets aren't the name's
-others_pass : (b : List ℕ) (m : CompressionTable) (n : Labels) (ms : List HashEntry) (size hash : ℕ) → hash ≡ hash_of n → PassesOthers (IsSuffixSought b m n ms) (buckets_of size ms) (bucket size hash) (length ms)
-others_pass b m n ms size hash e j l other h =
+others_skip : (b : List ℕ) (m : CompressionTable) (n : Labels) (ms : List HashEntry) (size hash : ℕ) → hash ≡ hash_of n → SkipsOthers (IsSuffixSought b m n ms) (buckets_of size ms) (bucket size hash) (length ms)
+others_skip b m n ms size hash e j l other h =
     let x = get_or ms j no_hash_entry in
     let k : suc j ≡ j + 1 = omega arith in
     let last = looked_at b m n ms (suc j) j x k h (get_or_default ms j no_hash_entry x l) in
@@ -151,7 +151,7 @@ pub bucket_start : (b : List ℕ) (xs : List HashedSuffix) (n : Labels) (heads :
 bucket_start b xs n heads ms hash size first h some e names_at hashed is count found =
     let inside = bucket_in (length heads) hash some in
     walk_start (IsSuffixSought b (table_in b (table_entries_at xs)) n ms) heads (buckets_of (length heads) ms) (olders_of ms) (length ms) (bucket (length heads) hash) first (h some) inside
-    (others_pass b (table_in b (table_entries_at xs)) n ms (length heads) hash is) (sought_start b xs n ms e names_at hashed)
+    (others_skip b (table_in b (table_entries_at xs)) n ms (length heads) hash is) (sought_start b xs n ms e names_at hashed)
     (found ∙ ap (λ (s : ℕ). get_or heads (bucket s hash) first) count ∙ get_or_default heads (bucket (length heads) hash) first 0 inside)
 
 older_is : (ms : List HashEntry) (x : HashEntry) (k : ℕ) → k < length ms → x ≡ get_or ms k x → x.older ≡ get_or (olders_of ms) k 0
@@ -163,7 +163,7 @@ pub bucket_next : (heads : List ℕ) (b : List ℕ) (m : CompressionTable) (n : 
 bucket_next heads b m n ms x hash t k h some e w is on hashed =
     let l : k < length ms = let z = w.sought.within in omega arith in
     let size = length heads in
-    walk_next (IsSuffixSought b m n ms) heads (buckets_of size ms) (olders_of ms) (length ms) (bucket size hash) k x.older (h some) l (others_pass b m n ms size hash hashed) (w.same k (omega arith)) on (older_is ms x k l is)
+    walk_next (IsSuffixSought b m n ms) heads (buckets_of size ms) (olders_of ms) (length ms) (bucket size hash) k x.older (h some) l (others_skip b m n ms size hash hashed) (w.same k (omega arith)) on (older_is ms x k l is)
 
 -- a link leads to an older entry
 pub bucket_older-le : (heads : List ℕ) (ms : List HashEntry) (x : HashEntry) (k : ℕ) → IsLinked heads ms → 0 < length heads → k < length ms → x ≡ get_or ms k x → x.older ≤ k

@@ -67,20 +67,20 @@ Fits None n = Unit {0}
 Fits (Some capacity) n = n ≤ capacity
 
 -- A length of n octets exceeds the capacity.
-abbrev pub Passes : Option ℕ → ℕ → Type 0
-Passes None n = ⊥
-Passes (Some capacity) n = capacity < n
+abbrev pub Exceeds : Option ℕ → ℕ → Type 0
+Exceeds None n = ⊥
+Exceeds (Some capacity) n = capacity < n
 
 -- The result of an append that would leave n octets: `ShortBuf` if they exceed the capacity, else success, or `OutOfMemory` if the target may allocate.
 abbrev pub AppendReturns : {X : Type 0} → Option ℕ → Bool → ℕ → Result X AppendError → Type 0
 AppendReturns capacity grows n (Ok x) = Fits capacity n
-AppendReturns capacity grows n (Err ShortBuf) = Passes capacity n
+AppendReturns capacity grows n (Err ShortBuf) = Exceeds capacity n
 AppendReturns capacity grows n (Err OutOfMemory) = Fits capacity n × IsTrue grows
 
 -- The result of several appends that would leave n octets: as `AppendReturns`, but `OutOfMemory` may also come before the capacity is exceeded.
 abbrev pub ComposeReturns : {X : Type 0} → Option ℕ → Bool → ℕ → Result X AppendError → Type 0
 ComposeReturns capacity grows n (Ok x) = Fits capacity n
-ComposeReturns capacity grows n (Err ShortBuf) = Passes capacity n
+ComposeReturns capacity grows n (Err ShortBuf) = Exceeds capacity n
 ComposeReturns capacity grows n (Err OutOfMemory) = IsTrue grows
 
 -- One append of an encoding. On error nothing changes.

@@ -75,7 +75,7 @@ pub(crate) fn typed_of(
 
 /// The record header at this offset, whose RDATA has to be complete, and the offset after the
 /// RDATA.
-pub(crate) fn header_passed(octets: &[u8], offset: usize) -> Located<Header> {
+pub(crate) fn header_skipped(octets: &[u8], offset: usize) -> Located<Header> {
     let (header, _) = header_at(octets, offset)?;
     let (_, end) = entry_at(octets, 1, offset)?;
     Ok((header, end))

@@ -2,7 +2,7 @@
 use crate::tests::data::assert_data;
 use crate::tests::given::{Given, assert_read, assert_same, fault_of};
 use crate::tests::plain::{Fault, entry_at, header_at, name_at, name_end, skip_entry};
-use crate::tests::plain_data::{header_passed, octets_at, whole_name};
+use crate::tests::plain_data::{header_skipped, octets_at, whole_name};
 use dns_code::HeaderSection;
 use dns_item::{ParsedRecord, Question, RecordHeader, Ttl};
 use dns_wire::{Name, ParseError, ParsedName, Parser};
@@ -37,7 +37,7 @@ fn assert_headers(rt: &impl Abort, octets: &[u8], parser: Parser<'_>) {
     assert_read(rt, "header", offset, (header, after.pos()), expected);
     let mut after = parser;
     let header = RecordHeader::parse_and_skip(&mut after).plain();
-    let expected = header_passed(octets, offset);
+    let expected = header_skipped(octets, offset);
     assert_read(rt, "header", offset, (header, after.pos()), expected);
 }
 
@@ -64,7 +64,7 @@ fn assert_fixed(rt: &impl Abort, octets: &[u8], parser: Parser<'_>) {
 }
 
 /// The offset of the parser after it skipped something.
-fn passed(answer: Result<(), ParseError>, parser: Parser<'_>) -> Result<usize, Fault> {
+fn skipped(answer: Result<(), ParseError>, parser: Parser<'_>) -> Result<usize, Fault> {
     match answer {
         Ok(()) => Ok(parser.pos()),
         Err(error) => Err(fault_of(error)),
@@ -76,13 +76,13 @@ fn assert_skips(rt: &impl Abort, octets: &[u8], parser: Parser<'_>) {
     let offset = parser.pos();
     let mut after = parser;
     let answer = ParsedName::skip(&mut after);
-    let name = passed(answer, after);
+    let name = skipped(answer, after);
     let mut after = parser;
     let answer = Question::skip(&mut after);
-    let question = passed(answer, after);
+    let question = skipped(answer, after);
     let mut after = parser;
     let answer = ParsedRecord::skip(&mut after);
-    let record = passed(answer, after);
+    let record = skipped(answer, after);
     let expected = [
         name_end(octets, offset),
         skip_entry(octets, 0, offset),

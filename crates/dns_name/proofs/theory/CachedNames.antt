@@ -7,7 +7,7 @@ use Rattle.std.specs.Prelude.{bit_or}
 use Rattle.std.proofs.lemmas.Bool.Decides.{leb_tells}
 use Rattle.dns_name.specs.Names.{Fault, Labels, name_size, max_size, head_of, head_at, label_at, NameAt, Faulty, FaultAt, NameContinues}
 use Rattle.dns_name.specs.Names.Fault.{ShortInput, Form}
-use Rattle.dns_name.specs.CachedNames.{IsCached, LabelsTo, row_count, PassesLabels, Measures, Arrives, LeadsBackTo}
+use Rattle.dns_name.specs.CachedNames.{IsCached, LabelsTo, row_count, SkipsLabels, Measures, Arrives, LeadsBackTo}
 use Rattle.dns_name.specs.CachedNames.LabelsTo.{none, label}
 use Rattle.dns_name.specs.Unique.{NameOfSizeAndCount, name_size-label_at, label_head}
 use Rattle.dns_name.specs.declared.head.Head.TheVariants.{Root, Label, Pointer}
@@ -33,16 +33,16 @@ abbrev pub RowOf : List ℕ → ℕ → ℕ → ℕ → ℕ → ℕ → Type 0
 RowOf b p s q r count = (row : LabelsTo b p s q r) × (row_count row ≡ count)
 
 -- The progress of a walk over consecutive labels, of which k are skipped. It may be past the end; then only a fault can follow.
-pub record Passing (b : List ℕ) (p s q r k : ℕ) : Type 0 where
+pub record SkippingLabels (b : List ℕ) (p s q r k : ℕ) : Type 0 where
   pub from : p ≤ q
   pub short : r ≤ max_size
   pub few : s + k ≤ r
   pub faults : (f : Fault) → Faulty b q r f → Faulty b p s f
   pub rows : q ≤ length b → (q' r' : ℕ) (x : LabelsTo b q r q' r') → RowOf b p s q' r' (k + row_count x)
 
-pub passing_none : (b : List ℕ) (p s r : ℕ) → s ≤ max_size → r ≡ s → Passing b p s p r 0
-passing_none b p s r short e =
-    let P : ℕ → Type 0 = λ r. Passing b p s p r 0 in
+pub skipping_none : (b : List ℕ) (p s r : ℕ) → s ≤ max_size → r ≡ s → SkippingLabels b p s p r 0
+skipping_none b p s r short e =
+    let P : ℕ → Type 0 = λ r. SkippingLabels b p s p r 0 in
     subst P (sym e) (record {
       from = omega arith;
       short = short;
@@ -52,13 +52,13 @@ passing_none b p s r short e =
     })
 
 -- The walk continues after a label that is short enough, even if it runs past the end.
-pub passing_label : (b : List ℕ) (p s q r k n q' r' : ℕ) → Passing b p s q r k → head_at b q ≡ Ok (Label n)
-    → q' ≡ q + 1 + n → r' ≡ r + n + 1 → r' ≤ max_size → Passing b p s q' r' (k + 1)
-passing_label b p s q r k n q' r' l h eq er short =
+pub skipping_label : (b : List ℕ) (p s q r k n q' r' : ℕ) → SkippingLabels b p s q r k → head_at b q ≡ Ok (Label n)
+    → q' ≡ q + 1 + n → r' ≡ r + n + 1 → r' ≤ max_size → SkippingLabels b p s q' r' (k + 1)
+skipping_label b p s q r k n q' r' l h eq er short =
     let small : r + n + 1 ≤ max_size = omega arith in
     let here : q < length b = (label_head b q n h).within in
-    let P : ℕ → Type 0 = λ q'. Passing b p s q' r' (k + 1) in
-    let Q : ℕ → Type 0 = λ r'. Passing b p s (q + 1 + n) r' (k + 1) in
+    let P : ℕ → Type 0 = λ q'. SkippingLabels b p s q' r' (k + 1) in
+    let Q : ℕ → Type 0 = λ r'. SkippingLabels b p s (q + 1 + n) r' (k + 1) in
     subst P (sym eq) (subst Q (sym er) (record {
       from = omega (arith, l.from);
       short = small;
@@ -73,12 +73,12 @@ passing_label b p s q r k n q' r' l h eq er short =
     }))
 
 -- A label makes the name too long.
-pub passing_long : (b : List ℕ) (p s q r k n : ℕ) → Passing b p s q r k → head_at b q ≡ Ok (Label n) → max_size < r + n + 1 → Faulty b p s Form
-passing_long b p s q r k n l h long = l.faults Form (Faulty.long h long)
+pub skipping_long : (b : List ℕ) (p s q r k n : ℕ) → SkippingLabels b p s q r k → head_at b q ≡ Ok (Label n) → max_size < r + n + 1 → Faulty b p s Form
+skipping_long b p s q r k n l h long = l.faults Form (Faulty.long h long)
 
 -- The consecutive labels that the walk has skipped.
-pub passing_row : (b : List ℕ) (p s q r k : ℕ) → Passing b p s q r k → q < length b → RowOf b p s q r k
-passing_row b p s q r k l within = let w = l.rows (omega arith) q r LabelsTo.none in (w.0, omega (arith, w.1))
+pub skipping_row : (b : List ℕ) (p s q r k : ℕ) → SkippingLabels b p s q r k → q < length b → RowOf b p s q r k
+skipping_row b p s q r k l within = let w = l.rows (omega arith) q r LabelsTo.none in (w.0, omega (arith, w.1))
 
 -- The name, fault or end after consecutive labels gives that at their start.
 
@@ -119,7 +119,7 @@ leading_none b p s within short = record {
   faults = λ f m. m;
 }
 
-pub leading_row : (b : List ℕ) (p s q r k q' n : ℕ) (target : Option ℕ) → Leading b p s q r k → PassesLabels b q r q' n target
+pub leading_row : (b : List ℕ) (p s q r k q' n : ℕ) (target : Option ℕ) → Leading b p s q r k → SkipsLabels b q r q' n target
     → Leading b p s q' (r + (q' - q)) (k + n)
 leading_row b p s q r k q' n target l x = record {
   within = omega (arith, x.within);
@@ -152,7 +152,7 @@ leading_root b p s q r k l h =
 
 -- What a walk over a name returns, by what ends its first consecutive labels.
 
-pub arrives_root : (b : List ℕ) (p q n : ℕ) → PassesLabels b p 0 q n None → Arrives b p (q + 1) (q - p) n
+pub arrives_root : (b : List ℕ) (p q n : ℕ) → SkipsLabels b p 0 q n None → Arrives b p (q + 1) (q - p) n
 arrives_root b p q n x =
     let w = row_names b x.row [] (NameAt.root x.there) (omega (arith, x.short)) in
     record {
@@ -161,7 +161,7 @@ arrives_root b p q n x =
       within = omega (arith, x.within);
     }
 
-pub arrives_pointer : (b : List ℕ) (p q n t size count all number : ℕ) → PassesLabels b p 0 q n (Some t) → t < q → NameOfSizeAndCount b t size count
+pub arrives_pointer : (b : List ℕ) (p q n t size count all number : ℕ) → SkipsLabels b p 0 q n (Some t) → t < q → NameOfSizeAndCount b t size count
     → (q - p) + size ≤ max_size → all ≡ (q - p) + size → number ≡ n + count → Arrives b p (q + 2) all number
 arrives_pointer b p q n t size count all number x back name short size_is count_is =
     let w = row_names b x.row name.0.0 (NameAt.pointer x.there back name.0.1) (omega (arith, name.1)) in
@@ -172,10 +172,10 @@ arrives_pointer b p q n t size count all number x back name short size_is count_
       within = omega arith;
     }
 
-pub fails_ahead : (b : List ℕ) (p s q n t : ℕ) → PassesLabels b p s q n (Some t) → q ≤ t → Faulty b p s Form
+pub fails_ahead : (b : List ℕ) (p s q n t : ℕ) → SkipsLabels b p s q n (Some t) → q ≤ t → Faulty b p s Form
 fails_ahead b p s q n t x ahead = row_faults b x.row Form (Faulty.ahead x.there ahead)
 
-pub fails_after : (b : List ℕ) (p q n t : ℕ) (f : Fault) → PassesLabels b p 0 q n (Some t) → t < q → Faulty b t (q - p) f → FaultAt b p f
+pub fails_after : (b : List ℕ) (p q n t : ℕ) (f : Fault) → SkipsLabels b p 0 q n (Some t) → t < q → Faulty b t (q - p) f → FaultAt b p f
 fails_after b p q n t f x back m =
     let P : ℕ → Type 0 = λ k. Faulty b t k f in
     let e : q - p ≡ 0 + (q - p) = omega arith in

@@ -72,36 +72,36 @@ same_head b c p first second = λ i. head_of (first i) (second i)
 -- The progress of a walk over a name.
 
 -- Labels of this size lead from `start` to `at`. So the end or the fault of a walk from `at` is that of the walk from `start`.
-pub record Passes (b : List ℕ) (start at size : ℕ) : Type 0 where
+pub record Skips (b : List ℕ) (start at size : ℕ) : Type 0 where
   pub within : size ≤ max_size
   pub ends : (q : ℕ) → NameContinues b at size q → NameEndsAt b start q
   pub faults : (f : Fault) → SkipFaulty b at size f → SkipFaultAt b start f
 
-pub passes_none : (b : List ℕ) (p : ℕ) → Passes b p p 0
-passes_none b p = record { within = omega arith; ends = λ q h. h; faults = λ f h. h }
+pub skips_none : (b : List ℕ) (p : ℕ) → Skips b p p 0
+skips_none b p = record { within = omega arith; ends = λ q h. h; faults = λ f h. h }
 
-pub passes_label : (b : List ℕ) (start at size n at' size' : ℕ) → Passes b start at size
-    → Begins b at size (Label n) → size' ≡ size + n + 1 → at' ≡ at + 1 + n → Passes b start at' size'
-passes_label b start at size n at' size' l h es ea =
+pub skips_label : (b : List ℕ) (start at size n at' size' : ℕ) → Skips b start at size
+    → Begins b at size (Label n) → size' ≡ size + n + 1 → at' ≡ at + 1 + n → Skips b start at' size'
+skips_label b start at size n at' size' l h es ea =
     let small : size + n + 1 ≤ max_size = h.short n refl in
     let fits : at + 1 + n ≤ length b = h.fits n refl in
-    let P : ℕ → Type 0 = λ s. Passes b start at' s in
-    let Q : ℕ → Type 0 = λ a. Passes b start a (size + n + 1) in
+    let P : ℕ → Type 0 = λ s. Skips b start at' s in
+    let Q : ℕ → Type 0 = λ a. Skips b start a (size + n + 1) in
     subst P (sym es) (subst Q (sym ea) (record {
       within = small;
       ends = λ q w. l.ends q (NameContinues.label h.there small fits w);
       faults = λ f w. l.faults f (SkipFaulty.label h.there small fits w);
     }))
 
-pub passes_root : (b : List ℕ) (start at size q : ℕ) → Passes b start at size → head_at b at ≡ Ok Root → q ≡ at + 1
+pub skips_root : (b : List ℕ) (start at size q : ℕ) → Skips b start at size → head_at b at ≡ Ok Root → q ≡ at + 1
     → NameEndsAt b start q × (q ≤ length b)
-passes_root b start at size q l h e =
+skips_root b start at size q l h e =
     let w : at < length b = root_within b at h in
     (subst (λ q. NameEndsAt b start q) (sym e) (l.ends (at + 1) (NameContinues.root h)), omega arith)
 
-pub passes_pointer : (b : List ℕ) (start at size t q : ℕ) → Passes b start at size → head_at b at ≡ Ok (Pointer t) → q ≡ at + 2
+pub skips_pointer : (b : List ℕ) (start at size t q : ℕ) → Skips b start at size → head_at b at ≡ Ok (Pointer t) → q ≡ at + 2
     → NameEndsAt b start q × (q ≤ length b)
-passes_pointer b start at size t q l h e =
+skips_pointer b start at size t q l h e =
     let w : at + 1 < length b = pointer_within b at t h in
     (subst (λ q. NameEndsAt b start q) (sym e) (l.ends (at + 2) (NameContinues.pointer h)), omega arith)
 

@@ -162,39 +162,39 @@ abbrev labels_of_text : ℕ → List ℕ → Labels
 labels_of_text zero text = []
 labels_of_text (suc k) text = read_labels (labels_of_text k) (octet_read text) text
 
-octet_passed : {text rest label : List ℕ} {others : Labels} {o : ℕ} → SpellsFirst text o rest
+octet_skipped : {text rest label : List ℕ} {others : Labels} {o : ℕ} → SpellsFirst text o rest
     → ((j : ℕ) → length rest < j → labels_of_text j rest ≡ label ∷ others) → (k : ℕ) → length text < k → labels_of_text k text ≡ (o ∷ label) ∷ others
-octet_passed s after zero h = absurd (omega (arith, h))
-octet_passed {o = o} s after (suc k) h = rw (first_is s) (ap (push o) (after k (omega (arith, h, first_shorter s))))
+octet_skipped s after zero h = absurd (omega (arith, h))
+octet_skipped {o = o} s after (suc k) h = rw (first_is s) (ap (push o) (after k (omega (arith, h, first_shorter s))))
 
-label_passed : {front label : List ℕ} → SpellsLabel front label → (rest : List ℕ) (others : Labels)
+label_skipped : {front label : List ℕ} → SpellsLabel front label → (rest : List ℕ) (others : Labels)
     → ((j : ℕ) → length rest < j → labels_of_text j rest ≡ [] ∷ others) → (k : ℕ) → length (front ++ rest) < k → labels_of_text k (front ++ rest) ≡ label ∷ others
-label_passed SpellsLabel.none rest others after k h = after k h
-label_passed (SpellsLabel.octet {front = a} {text = b} s l) rest others after k h =
-    octet_passed (record { front = a; whole = append_assoc a b rest; spelled = s }) (λ j within. label_passed l rest others after j within) k h
+label_skipped SpellsLabel.none rest others after k h = after k h
+label_skipped (SpellsLabel.octet {front = a} {text = b} s l) rest others after k h =
+    octet_skipped (record { front = a; whole = append_assoc a b rest; spelled = s }) (λ j within. label_skipped l rest others after j within) k h
 
-end_passed : (k : ℕ) → 0 < k → labels_of_text k [] ≡ [] ∷ []
-end_passed zero h = absurd (omega (arith, h))
-end_passed (suc k) h = refl
+end_skipped : (k : ℕ) → 0 < k → labels_of_text k [] ≡ [] ∷ []
+end_skipped zero h = absurd (omega (arith, h))
+end_skipped (suc k) h = refl
 
-last_dot_passed : (k : ℕ) → 1 < k → labels_of_text k (dot ∷ []) ≡ [] ∷ []
-last_dot_passed zero h = absurd (omega (arith, h))
-last_dot_passed (suc k) h = refl
+last_dot_skipped : (k : ℕ) → 1 < k → labels_of_text k (dot ∷ []) ≡ [] ∷ []
+last_dot_skipped zero h = absurd (omega (arith, h))
+last_dot_skipped (suc k) h = refl
 
-dot_passed : (text : List ℕ) (others : Labels) → 0 < length text → ((j : ℕ) → length text < j → labels_of_text j text ≡ others)
+dot_skipped : (text : List ℕ) (others : Labels) → 0 < length text → ((j : ℕ) → length text < j → labels_of_text j text ≡ others)
     → (k : ℕ) → length (dot ∷ text) < k → labels_of_text k (dot ∷ text) ≡ [] ∷ others
-dot_passed [] others some after k h = absurd (omega (arith, some))
-dot_passed (d ∷ text) others some after zero h = absurd (omega (arith, h))
-dot_passed (d ∷ text) others some after (suc k) h = ap (λ (ls : Labels). [] ∷ ls) (after k (omega (arith, h)))
+dot_skipped [] others some after k h = absurd (omega (arith, some))
+dot_skipped (d ∷ text) others some after zero h = absurd (omega (arith, h))
+dot_skipped (d ∷ text) others some after (suc k) h = ap (λ (ls : Labels). [] ∷ ls) (after k (omega (arith, h)))
 
 labels_are : {text : List ℕ} {name : Labels} → SpellsLabels text name → All IsLabel name → (k : ℕ) → length text < k → labels_of_text k text ≡ name
 labels_are (SpellsLabels.last {text = text} {label = label} l) all k h =
     let whole = append-nil text in
-    subst (λ t. labels_of_text k t ≡ label ∷ []) whole (label_passed l [] [] (λ j within. end_passed j (omega (arith, within))) k (omega (arith, h, ap length whole)))
-labels_are (SpellsLabels.closed l) all k h = label_passed l (dot ∷ []) [] (λ j within. last_dot_passed j (omega (arith, within))) k h
+    subst (λ t. labels_of_text k t ≡ label ∷ []) whole (label_skipped l [] [] (λ j within. end_skipped j (omega (arith, within))) k (omega (arith, h, ap length whole)))
+labels_are (SpellsLabels.closed l) all k h = label_skipped l (dot ∷ []) [] (λ j within. last_dot_skipped j (omega (arith, within))) k h
 labels_are (SpellsLabels.more {text = text} {label = label} {rest = rest} l others) all k h =
     let after = All-tail IsLabel label rest all in
-    label_passed l (dot ∷ text) rest (λ j within. dot_passed text rest (labels_long others after) (λ i fits. labels_are others after i fits) j within) k h
+    label_skipped l (dot ∷ text) rest (λ j within. dot_skipped text rest (labels_long others after) (λ i fits. labels_are others after i fits) j within) k h
 
 dot_spells_no_labels : (text : List ℕ) (name : Labels) → text ≡ dot ∷ [] → SpellsLabels text name → All IsLabel name → ⊥
 dot_spells_no_labels text name e s all =

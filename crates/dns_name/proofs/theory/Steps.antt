@@ -84,15 +84,15 @@ module _ (b : List ℕ) where
     pub step_fewer : (m : LabelsAt b next_offset (left - taken)) → length (take m.1.0 (with_root m.0.0)) < length (take n.1.0 (with_root n.0.0))
     step_fewer m = let e = ap length (step_gives m) in omega (arith, e)
 
-  -- A step from the back has skipped some labels, fewer than remain. They take `passed` octets, and the labels after them are encoded at `pos`.
-  pub record Passed (name : Labels) (count pos passed : ℕ) : Type 0 where
+  -- A step from the back has skipped some labels, fewer than remain. They take `skipped` octets, and the labels after them are encoded at `pos`.
+  pub record Skipped (name : Labels) (count pos skipped : ℕ) : Type 0 where
     pub number : ℕ
     pub before : number < count
     pub encoded : NameAt b pos (drop number name)
-    pub size : name_size (take number (with_root name)) ≡ passed
+    pub size : name_size (take number (with_root name)) ≡ skipped
 
-  pub passed_none : (p left : ℕ) (n : LabelsAt b p left) → left ≢ 0 → Passed n.0.0 n.1.0 p 0
-  passed_none p left n some = record { number = 0; before = first n.1.0 n.1.1; encoded = n.0.1; size = refl }
+  pub skipped_none : (p left : ℕ) (n : LabelsAt b p left) → left ≢ 0 → Skipped n.0.0 n.1.0 p 0
+  skipped_none p left n some = record { number = 0; before = first n.1.0 n.1.1; encoded = n.0.1; size = refl }
     where
       first : (count : ℕ) → LabelsTake (with_root n.0.0) left count → 0 < count
       first zero c = absurd (some (sym c.1))
@@ -110,7 +110,7 @@ module _ (b : List ℕ) where
   take_last next_offset zero l (x ∷ name) h f = ap (λ x. x ∷ []) (sym f.0)
   take_last next_offset (suc k) l (x ∷ name) h f = ap (λ xs. x ∷ xs) (take_last next_offset k l name (omega arith) f)
 
-  module _ (p left pos passed next_offset taken : ℕ) (l : Label) (n : LabelsAt b p left) (s : Passed n.0.0 n.1.0 pos passed)
+  module _ (p left pos skipped next_offset taken : ℕ) (l : Label) (n : LabelsAt b p left) (s : Skipped n.0.0 n.1.0 pos skipped)
       (f : (name : Labels) → NameAt b pos name → IsFirst b name l next_offset) (t : taken ≡ length (label_octets l) + 1) where
     abbrev name : Labels
     name = n.0.0
@@ -121,41 +121,41 @@ module _ (b : List ℕ) where
     last : take (suc s.number) (with_root name) ≡ take s.number (with_root name) ++ label_octets l ∷ []
     last = take_last next_offset s.number l name within (f (drop s.number name) s.encoded)
 
-    sizes : LabelsTake (with_root name) (passed + taken) (suc s.number)
+    sizes : LabelsTake (with_root name) (skipped + taken) (suc s.number)
     sizes =
         let e = length-with_root name in let w = within in
         (omega arith, ap name_size last ∙ name_size-append (take s.number (with_root name)) (label_octets l ∷ []) ∙ (let z = s.size in omega arith))
 
-    more : passed + taken ≢ left → suc s.number < n.1.0
+    more : skipped + taken ≢ left → suc s.number < n.1.0
     more other =
         let differ : suc s.number ≢ n.1.0 = λ e. other (sym sizes.1 ∙ ap (λ k. name_size (take k (with_root name))) e ∙ n.1.1.1) in
         omega (arith, s.before)
 
-    pub step_on : passed + taken ≢ left → Passed name n.1.0 next_offset (passed + taken)
+    pub step_on : skipped + taken ≢ left → Skipped name n.1.0 next_offset (skipped + taken)
     step_on other =
         let m = more other in
         let e = length-with_root name in let c = n.1.1.0 in
         record { number = suc s.number; before = m; encoded = after_number next_offset s.number l name (omega arith) (f (drop s.number name) s.encoded); size = sizes.1 }
 
-    pub back_has : passed + taken ≡ left → LabelsAt b p passed
+    pub back_has : skipped + taken ≡ left → LabelsAt b p skipped
     back_has all = let e = length-with_root name in let w = within in (n.0, (s.number, (omega arith, s.size)))
 
-    pub back_gives : passed + taken ≡ left → (m : LabelsAt b p passed) → take n.1.0 (with_root name) ≡ take m.1.0 (with_root m.0.0) ++ label_octets l ∷ []
+    pub back_gives : skipped + taken ≡ left → (m : LabelsAt b p skipped) → take n.1.0 (with_root name) ≡ take m.1.0 (with_root m.0.0) ++ label_octets l ∷ []
     unfolding back_has
     back_gives all m =
         let counts : LabelsTake (with_root name) left (suc s.number) = subst (λ k. LabelsTake (with_root name) k (suc s.number)) all sizes in
         let e : n.1.0 ≡ suc s.number = one_count (with_root name) left n.1.0 (suc s.number) n.1.1 counts in
         ap (λ k. take k (with_root name)) e ∙ last
-        ∙ ap (λ (m : LabelsAt b p passed). take m.1.0 (with_root m.0.0) ++ label_octets l ∷ []) (LabelsAt-prop b p passed (back_has all) m)
+        ∙ ap (λ (m : LabelsAt b p skipped). take m.1.0 (with_root m.0.0) ++ label_octets l ∷ []) (LabelsAt-prop b p skipped (back_has all) m)
 
     -- One label fewer remains.
-    pub back_fewer : passed + taken ≡ left → (m : LabelsAt b p passed) → length (take m.1.0 (with_root m.0.0)) < length (take n.1.0 (with_root name))
+    pub back_fewer : skipped + taken ≡ left → (m : LabelsAt b p skipped) → length (take m.1.0 (with_root m.0.0)) < length (take n.1.0 (with_root name))
     back_fewer all m =
         let e = ap length (back_gives all m) ∙ length-append (take m.1.0 (with_root m.0.0)) (label_octets l ∷ []) in omega (arith, e)
 
   -- The skipped labels take fewer octets than the remaining ones.
-  pub passed_below : (p left pos passed : ℕ) (n : LabelsAt b p left) → Passed n.0.0 n.1.0 pos passed → passed < left
-  passed_below p left pos passed n s = subst (λ k. k < left) s.size (subst (λ k. name_size (take s.number (with_root n.0.0)) < k) n.1.1.1 (fewer (with_root n.0.0) s.number n.1.0 s.before n.1.1.0))
+  pub skipped_below : (p left pos skipped : ℕ) (n : LabelsAt b p left) → Skipped n.0.0 n.1.0 pos skipped → skipped < left
+  skipped_below p left pos skipped n s = subst (λ k. k < left) s.size (subst (λ k. name_size (take s.number (with_root n.0.0)) < k) n.1.1.1 (fewer (with_root n.0.0) s.number n.1.0 s.before n.1.1.0))
     where
       fewer : (labels : Labels) (j k : ℕ) → j < k → k ≤ length labels → name_size (take j labels) < name_size (take k labels)
       fewer [] j k h w = absurd (omega arith)

@@ -9,7 +9,7 @@ use Rattle.dns_name.specs.Names.{Fault, Labels, IsLabel, IsName, name_size, max_
 use Rattle.dns_name.specs.Uncompressed.{IsUncompressed, WholeName, WholeName-prop}
 use Rattle.dns_name.specs.declared.head.Head.TheVariants.{Root, Label, Pointer}
 use Rattle.dns_name.specs.Unique.{EncodedName, same_name, name_size-label_at, length_label, encoded_name}
-use Rattle.dns_name.proofs.theory.HeadLemmas.{label_there, root_there, root_begins, label_begins, name_begins, Passes, passes_none, passes_label}
+use Rattle.dns_name.proofs.theory.HeadLemmas.{label_there, root_there, root_begins, label_begins, name_begins, Skips, skips_none, skips_label}
 use Rattle.dns_name.proofs.theory.NameOrFaultLaws.{not_both}
 use Rattle.dns_name.proofs.theory.ExtentLaws.{skip_fault}
 
@@ -94,13 +94,13 @@ pub record Rest (b : List ℕ) (at : ℕ) : Type 0 where
 
 -- The progress of a test whether the octets are one whole name: labels take all octets before `at`.
 pub record UncompressedUpTo (b : List ℕ) (at : ℕ) : Type 0 where
-  pub passes : Passes b 0 at at
+  pub skips : Skips b 0 at at
   pub whole : (name : Labels) → NameAt b at name → at + name_size name ≤ max_size → uncompressed name ≡ drop at b → WholeName b
   pub rest : IsUncompressed b → Rest b at
 
 pub up_to_none : (b : List ℕ) → UncompressedUpTo b 0
 up_to_none b = record {
-  passes = passes_none b 0;
+  skips = skips_none b 0;
   whole = λ name s small e. ((name, s), e);
   rest = λ u. record { name = u.0; is_name = u.1; octets = u.2; short = omega (arith, u.1.short) };
 }
@@ -124,7 +124,7 @@ up_to_label b at n at' s h e =
     let fits : at + 1 + n ≤ length b = h.fits n refl in
     let same : length (label_at b at n) ≡ n = length_label b at n fits in
     record {
-      passes = passes_label b 0 at at n at' at' s.passes h (omega arith) e;
+      skips = skips_label b 0 at at n at' at' s.skips h (omega arith) e;
       whole = λ name m small octets.
           let after : NameAt b (at + 1 + n) name = subst (λ k. NameAt b k name) e m in
           let size : name_size (label_at b at n ∷ name) ≡ n + 1 + name_size name = name_size-label_at b at n name fits in
@@ -137,7 +137,7 @@ up_to_label b at n at' s h e =
 pub up_to_root : (b : List ℕ) (at : ℕ) → UncompressedUpTo b at → head_at b at ≡ Ok Root → length b ≡ at + 1 → WholeName b
 up_to_root b at s h e =
     let none : length (drop (at + 1) b) ≡ 0 = length-drop (at + 1) b ∙ omega arith in
-    let small = s.passes.within in
+    let small = s.skips.within in
     s.whole [] (NameAt.root h) (omega arith) (sym (drop_at b at 0 (root_there b at h) ∙ ap (λ (c : List ℕ). 0 ∷ c) (empty (drop (at + 1) b) none)))
   where
     empty : (xs : List ℕ) → length xs ≡ 0 → xs ≡ []

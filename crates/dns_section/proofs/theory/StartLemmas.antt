@@ -4,76 +4,76 @@ use Rattle.dns_name.specs.Names.{Fault, EndsOrFaults}
 use Rattle.dns_code.specs.HeaderSection.{header_size}
 use Rattle.dns_question.proofs.theory.QuestionEntryLemmas.{question_end_or_fault}
 use Rattle.dns_item.proofs.theory.EntryLemmas.{record_end_or_fault}
-use Rattle.dns_section.specs.Reading.{Passed, StopsPassing}
-use Rattle.dns_section.specs.Reading.Passed.{none, more}
-use Rattle.dns_section.specs.Reading.StopsPassing.{here, after}
+use Rattle.dns_section.specs.Reading.{Skipped, StopsSkipping}
+use Rattle.dns_section.specs.Reading.Skipped.{none, more}
+use Rattle.dns_section.specs.Reading.StopsSkipping.{here, after}
 use Rattle.dns_section.specs.Sections.{question_count, answer_count, authority_count, AnswersStart, AuthoritiesStart, AdditionalsStart, AnswersFault, AuthoritiesFault, AdditionalsFault}
-use Rattle.dns_section.specs.Readings.{QuestionsPassOrStop, RecordsPassOrStop, OneStart, StartsOrFaults, StartOrFault}
+use Rattle.dns_section.specs.Readings.{QuestionsSkipOrStop, RecordsSkipOrStop, OneStart, StartsOrFaults, StartOrFault}
 
 module _ {Skips : ℕ → ℕ → Type 0} {FaultOf : ℕ → Fault → Type 0} (each : EndsOrFaults Skips FaultOf) where
-  -- the cases of `Passed` and of `StopsPassing`, by the number of entries
+  -- the cases of `Skipped` and of `StopsSkipping`, by the number of entries
   abbrev Steps : ℕ → ℕ → ℕ → Type 0
   Steps zero p q = q ≡ p
-  Steps (suc n) p q = (r : ℕ) × Skips p r × Passed Skips n r q
+  Steps (suc n) p q = (r : ℕ) × Skips p r × Skipped Skips n r q
 
-  steps : {n p q : ℕ} → Passed Skips n p q → Steps n p q
+  steps : {n p q : ℕ} → Skipped Skips n p q → Steps n p q
   steps none = refl
   steps (more {q = q} h x) = (q, h, x)
 
   abbrev Stops : ℕ → ℕ → Fault → Type 0
   Stops zero p f = ⊥
-  Stops (suc n) p f = FaultOf p f ⊎ ((q : ℕ) × Skips p q × StopsPassing Skips FaultOf n q f)
+  Stops (suc n) p f = FaultOf p f ⊎ ((q : ℕ) × Skips p q × StopsSkipping Skips FaultOf n q f)
 
-  stops : {n p : ℕ} {f : Fault} → StopsPassing Skips FaultOf n p f → Stops n p f
+  stops : {n p : ℕ} {f : Fault} → StopsSkipping Skips FaultOf n p f → Stops n p f
   stops (here h) = inl h
   stops (after {q = q} h x) = inr (q, h, x)
 
-  passed_or_stopped : (n p : ℕ) → ((q : ℕ) × Passed Skips n p q) ⊎ ((f : Fault) × StopsPassing Skips FaultOf n p f)
-  passed_or_stopped zero p = inl (p, none)
-  passed_or_stopped (suc n) p =
+  skipped_or_stopped : (n p : ℕ) → ((q : ℕ) × Skipped Skips n p q) ⊎ ((f : Fault) × StopsSkipping Skips FaultOf n p f)
+  skipped_or_stopped zero p = inl (p, none)
+  skipped_or_stopped (suc n) p =
       elim (each.some p) [
-        | inl a ↦ elim (passed_or_stopped n a.0) [ inl r ↦ inl (r.0, more a.1 r.1) | inr f ↦ inr (f.0, after a.1 f.1) ]
+        | inl a ↦ elim (skipped_or_stopped n a.0) [ inl r ↦ inl (r.0, more a.1 r.1) | inr f ↦ inr (f.0, after a.1 f.1) ]
         | inr f ↦ inr (f.0, here f.1)
       ]
 
-  one_passed : (n p q r : ℕ) → Passed Skips n p q → Passed Skips n p r → q ≡ r
-  one_passed zero p q r x y = steps x ∙ sym (steps y)
-  one_passed (suc n) p q r x y =
+  one_skipped : (n p q r : ℕ) → Skipped Skips n p q → Skipped Skips n p r → q ≡ r
+  one_skipped zero p q r x y = steps x ∙ sym (steps y)
+  one_skipped (suc n) p q r x y =
       let a = steps x in
       let b = steps y in
-      one_passed n a.0 q r a.2 (subst (λ k. Passed Skips n k r) (sym (each.one p a.0 b.0 a.1 b.1)) b.2)
+      one_skipped n a.0 q r a.2 (subst (λ k. Skipped Skips n k r) (sym (each.one p a.0 b.0 a.1 b.1)) b.2)
 
-  passed_not_stopped : (n p q : ℕ) (f : Fault) → Passed Skips n p q → StopsPassing Skips FaultOf n p f → ⊥
-  passed_not_stopped zero p q f x y = stops y
-  passed_not_stopped (suc n) p q f x y =
+  skipped_not_stopped : (n p q : ℕ) (f : Fault) → Skipped Skips n p q → StopsSkipping Skips FaultOf n p f → ⊥
+  skipped_not_stopped zero p q f x y = stops y
+  skipped_not_stopped (suc n) p q f x y =
       let a = steps x in
       elim (stops y) [
         | inl g ↦ each.not_both p a.0 f a.1 g
-        | inr b ↦ passed_not_stopped n a.0 q f a.2 (subst (λ k. StopsPassing Skips FaultOf n k f) (each.one p b.0 a.0 b.1 a.1) b.2)
+        | inr b ↦ skipped_not_stopped n a.0 q f a.2 (subst (λ k. StopsSkipping Skips FaultOf n k f) (each.one p b.0 a.0 b.1 a.1) b.2)
       ]
 
-  one_stop : (n p : ℕ) (f g : Fault) → StopsPassing Skips FaultOf n p f → StopsPassing Skips FaultOf n p g → f ≡ g
+  one_stop : (n p : ℕ) (f g : Fault) → StopsSkipping Skips FaultOf n p f → StopsSkipping Skips FaultOf n p g → f ≡ g
   one_stop zero p f g x y = absurd (stops x)
   one_stop (suc n) p f g x y =
       elim (stops x) [
         | inl a ↦ elim (stops y) [ inl b ↦ each.one_fault p f g a b | inr b ↦ absurd (each.not_both p b.0 f b.1 a) ]
         | inr a ↦ elim (stops y) [
           | inl b ↦ absurd (each.not_both p a.0 g a.1 b)
-          | inr b ↦ one_stop n a.0 f g a.2 (subst (λ k. StopsPassing Skips FaultOf n k g) (each.one p b.0 a.0 b.1 a.1) b.2)
+          | inr b ↦ one_stop n a.0 f g a.2 (subst (λ k. StopsSkipping Skips FaultOf n k g) (each.one p b.0 a.0 b.1 a.1) b.2)
         ]
       ]
 
   -- n entries can be skipped, or one of them has a fault
-  passes_or_stops : (n : ℕ) → EndsOrFaults (Passed Skips n) (StopsPassing Skips FaultOf n)
-  passes_or_stops n = record { some = passed_or_stopped n; one = one_passed n; not_both = passed_not_stopped n; one_fault = one_stop n }
+  skips_or_stops : (n : ℕ) → EndsOrFaults (Skipped Skips n) (StopsSkipping Skips FaultOf n)
+  skips_or_stops n = record { some = skipped_or_stopped n; one = one_skipped n; not_both = skipped_not_stopped n; one_fault = one_stop n }
 
 -- the same for questions
-pub questions_pass_or_stop : QuestionsPassOrStop
-questions_pass_or_stop b n = passes_or_stops (question_end_or_fault b) n
+pub questions_skip_or_stop : QuestionsSkipOrStop
+questions_skip_or_stop b n = skips_or_stops (question_end_or_fault b) n
 
 -- the same for records
-pub records_pass_or_stop : RecordsPassOrStop
-records_pass_or_stop b n = passes_or_stops (record_end_or_fault b) n
+pub records_skip_or_stop : RecordsSkipOrStop
+records_skip_or_stop b n = skips_or_stops (record_end_or_fault b) n
 
 -- the section after one that has a start, or has none
 module _ {Start : ℕ → Type 0} {NoStart : Fault → Type 0} {Skips : ℕ → ℕ → Type 0} {FaultOf : ℕ → Fault → Type 0} (before : StartsOrFaults Start NoStart) (each : EndsOrFaults Skips FaultOf) where
@@ -112,14 +112,14 @@ module _ {Start : ℕ → Type 0} {NoStart : Fault → Type 0} {Skips : ℕ → 
 
 answers : (b : List ℕ) → StartsOrFaults (AnswersStart b) (AnswersFault b)
 answers b =
-    let all = questions_pass_or_stop b (question_count b) in
+    let all = questions_skip_or_stop b (question_count b) in
     record { some = all.some header_size; one = all.one header_size; not_both = all.not_both header_size; one_fault = all.one_fault header_size }
 
 authorities : (b : List ℕ) → StartsOrFaults (AuthoritiesStart b) (AuthoritiesFault b)
-authorities b = section_after (answers b) (records_pass_or_stop b (answer_count b))
+authorities b = section_after (answers b) (records_skip_or_stop b (answer_count b))
 
 additionals : (b : List ℕ) → StartsOrFaults (AdditionalsStart b) (AdditionalsFault b)
-additionals b = section_after (authorities b) (records_pass_or_stop b (authority_count b))
+additionals b = section_after (authorities b) (records_skip_or_stop b (authority_count b))
 
 pub start_or_fault : StartOrFault
 start_or_fault = record { answers = answers; authorities = authorities; additionals = additionals }

@@ -12,7 +12,7 @@ use Rattle.dns_name.specs.Names.{Labels, IsName}
 use Rattle.dns_name.specs.Parsers.{number_at}
 use Rattle.dns_wire.specs.Encoders.{Rule, Encoder, IsGrowing, encode_octets, both, encode_name, CompressionTable, with_length, TableEntry, cut, ends_within}
 use Rattle.dns_wire.specs.Parts.{Part, Octets, CompressibleName, PartsAt, AreParts, encode_parts}
-use Rattle.dns_wire.specs.Targets.{At, Compressed, Written, IsTarget, append, cut_to, Fits, Passes, ComposeReturns, Composes}
+use Rattle.dns_wire.specs.Targets.{At, Compressed, Written, IsTarget, append, cut_to, Fits, Exceeds, ComposeReturns, Composes}
 use Rattle.dns_wire.specs.TargetLaws.{CutUndoes, AppendsCompose, ComposesBoth, ComposesFirst}
 use Rattle.dns_wire.proofs.theory.CompressionTables.{cut-extends, cut-within, gets, get-cut, same_table}
 use Rattle.dns_wire.proofs.theory.EncodedNames.{encode_name_grows, encode_octets_grows, both_grows, with_length_grows, ends_within_content, encodes_compressed_name}
@@ -233,9 +233,9 @@ pub cut_to-append : (encoder : Encoder) (t : Written) (w : ℕ) → IsGrowing en
 cut_to-append encoder t w g l = same_written _ _ (take-append-le w t.octets _ l) (cut-extends t.table _ (length t.octets) _ w l (g.grows t.table (length t.octets)))
 
 -- If n octets exceed the capacity, so do k ≥ n.
-passes_more : (capacity : Option ℕ) (n k : ℕ) → n ≤ k → Passes capacity n → Passes capacity k
-passes_more None n k l h = h
-passes_more (Some r) n k l h = omega arith
+exceeds_more : (capacity : Option ℕ) (n k : ℕ) → n ≤ k → Exceeds capacity n → Exceeds capacity k
+exceeds_more None n k l h = h
+exceeds_more (Some r) n k l h = omega arith
 
 -- One append of an encoding composes it.
 pub appends_compose : AppendsCompose
@@ -265,7 +265,7 @@ stopped : (capacity : Option ℕ) (grows : Bool) (a b : Encoder) (t u : Written)
 stopped capacity grows a b t u ShortBuf h = record {
   ok = tt;
   err = h.err;
-  answer = passes_more capacity (length (append a t).octets) (length (append (both a b) t).octets) (rw (length-append, length-append, length-append) (omega arith)) h.answer;
+  answer = exceeds_more capacity (length (append a t).octets) (length (append (both a b) t).octets) (rw (length-append, length-append, length-append) (omega arith)) h.answer;
 }
 stopped capacity grows a b t u OutOfMemory h = record { ok = tt; err = h.err; answer = h.answer }
 

@@ -2,7 +2,7 @@ use Rattle.std.proofs.Common.{◌∙◌, sym}
 use Rattle.std.proofs.lemmas.Result.{err_from_is_err_and}
 use Rattle.dns_question.specs.Question.{parsed_question}
 use Rattle.dns_item.specs.Record.{record_item}
-use Rattle.dns_answer.proofs.Pushing.{pushes_none, pushes_next, passes_next, refused_next}
+use Rattle.dns_answer.proofs.Pushing.{pushes_none, pushes_next, exceeds_next, refused_next}
 use Rattle.dns_answer.proofs.answering.push_found.Goals.{then-is_asked+in_ok-push_ref, else-is_asked}
 use Rattle.dns_answer.proofs.answering.push_found.Goals as goal
 
@@ -22,7 +22,7 @@ loop-found-preserved g c =
           })
       | else-is_asked w ↦
           rw w.builder-is (record {
-            pushes = passes_next item asked c.args.table.now c.loop-found.found-index c.found-item.result _ c.loop-found-test.true c.found-item.is (sym c.is_asked.ensures ∙ w.if-is_asked.false)
+            pushes = exceeds_next item asked c.args.table.now c.loop-found.found-index c.found-item.result _ c.loop-found-test.true c.found-item.is (sym c.is_asked.ensures ∙ w.if-is_asked.false)
                 c.args.builder.now c.loop-found.builder c.loop-found.invariant.pushes;
           })
     ]

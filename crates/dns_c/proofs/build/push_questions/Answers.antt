@@ -2,7 +2,7 @@ use Rattle.std.proofs.Common.{◌+◌, ap, drop, refl, subst, sym}
 use Rattle.std.specs.Prelude.{Err}
 use Rattle.std.proofs.lemmas.Result.{err_from_is_err_and}
 use Rattle.dns_build.specs.BuilderStates.{Built}
-use Rattle.dns_c.proofs.BuildLemmas.{Asking, asking_begins, asking_ends, asking_named, asking_passes, asking_refused, asking_takes, next_item, no_items, refused_returns}
+use Rattle.dns_c.proofs.BuildLemmas.{Asking, asking_begins, asking_ends, asking_named, asking_skips, asking_refused, asking_takes, next_item, no_items, refused_returns}
 use Rattle.dns_c.proofs.build.push_questions.Goals as goal
 use Rattle.dns_c.proofs.build.push_questions.Goals.{then-item-eq-QUESTION+in_ok-question_of+in_ok-push, else-item-eq-QUESTION}
 
@@ -38,7 +38,7 @@ loop-item-preserved g c =
           (asking_takes _ _ _ _ next xs s _ h _ _ w.if-item-eq-QUESTION.true w.in_ok-question_of.ensures.question w.in_ok-push.ensures.accepted)
       | else-item-eq-QUESTION w ↦
           subst (λ (b : Built). Asking g.T.Composer.rule left xs s b) (sym w.builder-is)
-          (asking_passes _ _ _ _ next xs s _ h w.if-item-eq-QUESTION.false)
+          (asking_skips _ _ _ _ next xs s _ h w.if-item-eq-QUESTION.false)
     ]
 
 pub returns-clause-pushed : goal.returns-clause-pushed

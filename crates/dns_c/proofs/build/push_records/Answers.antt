@@ -2,7 +2,7 @@ use Rattle.std.proofs.Common.{◌∙◌, ◌+◌, ap, drop, refl, subst, sym}
 use Rattle.std.specs.Prelude.{Err}
 use Rattle.std.proofs.lemmas.Result.{err_from_is_err_and}
 use Rattle.dns_build.specs.BuilderStates.{Built}
-use Rattle.dns_c.proofs.BuildLemmas.{Stating, at_depth, next_item, no_items, not_at_depth, refused_returns, stating_begins, stating_ends, stating_named, stating_passes, stating_refused, stating_takes}
+use Rattle.dns_c.proofs.BuildLemmas.{Stating, at_depth, next_item, no_items, not_at_depth, refused_returns, stating_begins, stating_ends, stating_named, stating_skips, stating_refused, stating_takes}
 use Rattle.dns_c.proofs.build.push_records.Goals as goal
 use Rattle.dns_c.proofs.build.push_records.Goals.{then-from-DEPTH+in_ok-record_of+in_ok-push, else-from-DEPTH}
 
@@ -43,7 +43,7 @@ loop-item-preserved g c =
           (stating_takes _ _ _ _ _ _ next xs s _ h _ _ (at_depth _ _ g.S.BuilderStage.DEPTH c.from.result _ g.met.S.RecordStage.at g.S.BuilderStage.depth (w.if-from-DEPTH.true ∙ c.DEPTH.ensures) c.from.ensures) w.in_ok-record_of.ensures.made w.in_ok-push.ensures.accepted)
       | else-from-DEPTH w ↦
           subst (λ (b : Built). Stating g.T.Composer.rule g.S.BuilderStage.stage g.S.RecordStage.section left xs s b) (sym w.builder-is)
-          (stating_passes _ _ _ _ _ _ next xs s _ h (not_at_depth _ _ g.S.BuilderStage.DEPTH c.from.result _ g.met.S.RecordStage.at g.S.BuilderStage.depth (λ e. w.if-from-DEPTH.false (e ∙ sym c.DEPTH.ensures)) c.from.ensures))
+          (stating_skips _ _ _ _ _ _ next xs s _ h (not_at_depth _ _ g.S.BuilderStage.DEPTH c.from.result _ g.met.S.RecordStage.at g.S.BuilderStage.depth (λ e. w.if-from-DEPTH.false (e ∙ sym c.DEPTH.ensures)) c.from.ensures))
     ]
 
 pub returns-clause-pushed : goal.returns-clause-pushed

@@ -4,7 +4,7 @@ use Rattle.dns_name.specs.Names.{with_root}
 use Rattle.dns_name.specs.NameTexts.{label_text}
 use Rattle.dns_name.proofs.theory.NameLemmas.{parsed_is}
 use Rattle.dns_c.specs.Texts.{absolute_name}
-use Rattle.dns_c.proofs.PieceLemmas.{dotted, holds_as, name_dotted, one_dotted, root_passed}
+use Rattle.dns_c.proofs.PieceLemmas.{dotted, holds_as, name_dotted, one_dotted, root_skipped}
 use Rattle.dns_c.proofs.pieces.append_name.Goals as goal
 
 pub returns-then-is_root : goal.returns-then-is_root
@@ -42,7 +42,7 @@ loop-label-preserved c = (
       let left : labels_left c.loop-label.label-iterator ≡ label_octets c.in-Some.label ∷ labels_left c.next.new.self = search rules in (
         so_far.0,
         so_far.1,
-        root_passed so_far.0 _ _ _ (c.is_root-in-loop-label.ensures.0 c.if-not-is_root.false) (ap (λ (ls : List (List ℕ)). so_far.0 ++ dotted ls) (sym left) ∙ so_far.2),
+        root_skipped so_far.0 _ _ _ (c.is_root-in-loop-label.ensures.0 c.if-not-is_root.false) (ap (λ (ls : List (List ℕ)). so_far.0 ++ dotted ls) (sym left) ∙ so_far.2),
       ),
 )
 

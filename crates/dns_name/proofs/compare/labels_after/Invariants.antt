@@ -3,5 +3,5 @@ use Rattle.dns_name.specs.Names.{with_root}
 use Rattle.dns_name.specs.ParsedName.{labels_left, labels}
 use Rattle.dns_name.proofs.compare.labels_after.Given as goal
 
-abbrev pub invariant-loop-passed : goal.invariant-loop-passed
-invariant-loop-passed l = labels_left l.labels ≡ drop l._passed (with_root (labels l.fn.name))
+abbrev pub invariant-loop-skipped : goal.invariant-loop-skipped
+invariant-loop-skipped l = labels_left l.labels ≡ drop l._skipped (with_root (labels l.fn.name))

@@ -16,7 +16,7 @@ returns-in_err-after-clause-accepts c = λ u. absurd (up_to_fault _ _ _ c.walk.i
 pub returns-in_err-after-clause-fault : goal.returns-in_err-after-clause-fault
 returns-in_err-after-clause-fault c =
     let p = err_from_is_err_and c.from_residual.result c.from_residual.ensures.1 in
-    rw (p.1, p.2) (NotUncompressed.fault (c.walk.invariant.passes.faults _ c.in_err-after.ensures))
+    rw (p.1, p.2) (NotUncompressed.fault (c.walk.invariant.skips.faults _ c.in_err-after.ensures))
 
 pub walk-preserved : goal.walk-preserved
 walk-preserved c =
@@ -31,7 +31,7 @@ returns-in-Pointer-clause-accepts c =
 pub returns-in-Pointer-clause-fault : goal.returns-in-Pointer-clause-fault
 returns-in-Pointer-clause-fault c =
     let h : head_at c.args.octets.now c.walk.size ≡ Ok (Pointer c.in-Pointer.field-0) = cc c.in_ok-after.ensures.there in
-    NotUncompressed.other (c.walk.invariant.passes.ends _ (NameContinues.pointer h)) (up_to_pointer _ _ _ c.walk.invariant h)
+    NotUncompressed.other (c.walk.invariant.skips.ends _ (NameContinues.pointer h)) (up_to_pointer _ _ _ c.walk.invariant h)
 
 pub returns-then-octets-size-gt1-clause-accepts : goal.returns-then-octets-size-gt1-clause-accepts
 returns-then-octets-size-gt1-clause-accepts c =
@@ -41,7 +41,7 @@ returns-then-octets-size-gt1-clause-accepts c =
 pub returns-then-octets-size-gt1-clause-fault : goal.returns-then-octets-size-gt1-clause-fault
 returns-then-octets-size-gt1-clause-fault c =
     let h : head_at c.args.octets.now c.walk.size ≡ Ok Root = cc c.in_ok-after.ensures.there in
-    NotUncompressed.other (c.walk.invariant.passes.ends _ (NameContinues.root h)) (up_to_more _ _ c.walk.invariant h (omega arith))
+    NotUncompressed.other (c.walk.invariant.skips.ends _ (NameContinues.root h)) (up_to_more _ _ c.walk.invariant h (omega arith))
 
 pub returns-clause-name : goal.returns-clause-name
 returns-clause-name c =

@@ -1,7 +1,7 @@
 use Rattle.std.proofs.Common.{arith, refl}
 use Rattle.std.proofs.lemmas.Result.{err_from_is_err_and}
 use Rattle.dns_item.specs.Items.{SkipsRecord, RecordSkipFaultAt}
-use Rattle.dns_section.specs.Reading.Passed.{none}
+use Rattle.dns_section.specs.Reading.Skipped.{none}
 use Rattle.dns_section.proofs.SkipLemmas.{skips_more, skips_stop}
 use Rattle.dns_section.proofs.record_section.skip_records.Goals as goal
 

@@ -8,7 +8,7 @@ pub loop-record-init : goal.loop-record-init
 loop-record-init g c = none_printed (record_line (section_word c.args.section)) _ _
 
 pub print_record-requires-clause-read : goal.print_record-requires-clause-read
-print_record-requires-clause-read g c = given_read c.loop-record.records c.next.new.self c.in-Some.record c.in-Some.ensures.passes
+print_record-requires-clause-read g c = given_read c.loop-record.records c.next.new.self c.in-Some.record c.in-Some.ensures.moves
 
 pub print_record-requires-clause-short : goal.print_record-requires-clause-short
 print_record-requires-clause-short g c = given_short c.in-Some.record (λ p e. let t = rw (c.in-Some.is, e) at c.next.type_inv in omega (arith, t))

@@ -4,7 +4,7 @@ use Rattle.std.proofs.lemmas.Result.{err_from_is_err_and}
 use Rattle.dns_opt_builder.specs.Gathered.{gathered, nothing_gathered}
 use Rattle.dns_item.specs.Items.{RecordItem}
 use Rattle.dns_wire.specs.Parts.Part.{Octets}
-use Rattle.dns_wire.specs.Targets.{Fits, Passes}
+use Rattle.dns_wire.specs.Targets.{Fits, Exceeds}
 use Rattle.dns_code.specs.declared.header.Header.{Header}
 use Rattle.dns_build.specs.Opt.{opt_record, with_rcode}
 use Rattle.dns_build.specs.State.{State, InAdditional, with_record, with_header, most_entries}
@@ -50,7 +50,7 @@ returns-in_err-push-clause-pushes g c = λ s represents.
         left = refl;
       };
       answers = closure_done _ _ _ _ _ _ _ c.in_ok-gather.was (refused_returns _ _ _ _ _ e
-          (λ is. subst (λ x. Passes g.T.Composer.capacity (size x)) same (h.short (ap Err is) s represents))
+          (λ is. subst (λ x. Exceeds g.T.Composer.capacity (size x)) same (h.short (ap Err is) s represents))
           (λ is. h.memory (ap Err is))
           (λ is. subst (λ x. Fits g.T.Composer.capacity (size x) × (s.limit < size x)) same (h.limit (ap Err is) s represents))
           (λ is. subst (λ x. Fits g.T.Composer.capacity (size x) × (size x ≤ s.limit) × (length s.additionals ≡ most_entries)) same (h.count (ap Err is) s represents)));

@@ -3,11 +3,11 @@ use Rattle.std.specs.Prelude.{Ok}
 use Rattle.std.proofs.lemmas.Result.{err_from_is_err_and}
 use Rattle.dns_name.specs.Names.{head_at, Faulty}
 use Rattle.dns_name.specs.declared.head.Head.TheVariants.{Root, Label, Pointer}
-use Rattle.dns_name.proofs.theory.CachedNames.{passing_none, passing_label, passing_long, passing_row}
+use Rattle.dns_name.proofs.theory.CachedNames.{skipping_none, skipping_label, skipping_long, skipping_row}
 use Rattle.dns_name.proofs.head.Head.after_labels.Goals as goal
 
 pub walk-init : goal.walk-init
-walk-init c = passing_none _ _ _ _ c.requires.short (omega arith)
+walk-init c = skipping_none _ _ _ _ c.requires.short (omega arith)
 
 pub returns-in_err-at : goal.returns-in_err-at
 returns-in_err-at c =
@@ -17,7 +17,7 @@ returns-in_err-at c =
 pub returns-in-Root : goal.returns-in-Root
 returns-in-Root c =
     let h : head_at c.args.octets.now c.walk.pos ≡ Ok Root = cc c.in_ok-at.ensures.head in
-    let row = passing_row _ _ _ _ _ _ c.walk.invariant c.in_ok-at.ensures.within in
+    let row = skipping_row _ _ _ _ _ _ c.walk.invariant c.in_ok-at.ensures.within in
     record {
       from = c.walk.invariant.from;
       within = c.in_ok-at.ensures.within;
@@ -32,7 +32,7 @@ returns-in-Root c =
 pub returns-in-Pointer : goal.returns-in-Pointer
 returns-in-Pointer c =
     let h : head_at c.args.octets.now c.walk.pos ≡ Ok (Pointer c.in-Pointer.target) = cc c.in_ok-at.ensures.head in
-    let row = passing_row _ _ _ _ _ _ c.walk.invariant c.in_ok-at.ensures.within in
+    let row = skipping_row _ _ _ _ _ _ c.walk.invariant c.in_ok-at.ensures.within in
     record {
       from = c.walk.invariant.from;
       within = c.in_ok-at.ensures.within;
@@ -47,9 +47,9 @@ returns-in-Pointer c =
 pub returns-then-pos-longest : goal.returns-then-pos-longest
 returns-then-pos-longest c =
     let h : head_at c.args.octets.now c.walk.pos ≡ Ok (Label c.in-Label.len) = cc c.in_ok-at.ensures.head in
-    passing_long _ _ _ _ _ _ _ c.walk.invariant h (omega arith)
+    skipping_long _ _ _ _ _ _ _ c.walk.invariant h (omega arith)
 
 pub walk-preserved : goal.walk-preserved
 walk-preserved c =
     let h : head_at c.args.octets.now c.walk.pos ≡ Ok (Label c.in-Label.len) = cc c.in_ok-at.ensures.head in
-    passing_label _ _ _ _ _ _ _ _ _ c.walk.invariant h (omega arith) (omega arith) (omega arith)
+    skipping_label _ _ _ _ _ _ _ _ _ c.walk.invariant h (omega arith) (omega arith) (omega arith)

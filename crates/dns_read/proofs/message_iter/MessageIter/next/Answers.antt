@@ -19,10 +19,10 @@ unfolding left_at
 loop-self-preserved c =
     let n = c.in-None.ensures in record {
       left =
-          moved_on c.next.new.self c.in-Ok.next n.steps.1 c.in-Ok.ensures ∙ gave_nothing c.in-Some.cursor c.next.new.self n.passes n.counts n.octets n.section
+          moved_on c.next.new.self c.in-Ok.next n.steps.1 c.in-Ok.ensures ∙ gave_nothing c.in-Some.cursor c.next.new.self n.moves n.counts n.octets n.section
           ∙ sym (ap left_at c.in-Some.is) ∙ c.loop-self.invariant.left;
       kept =
-          let calls : GivesNext c.in-Some.cursor None c.next.new.self = record { steps = n.steps; passes = n.passes; counts = n.counts; octets = n.octets; section = n.section } in
+          let calls : GivesNext c.in-Some.cursor None c.next.new.self = record { steps = n.steps; moves = n.moves; counts = n.counts; octets = n.octets; section = n.section } in
           IfSome_then (kept_error c.args.self.now) c.loop-self.invariant.kept
           (λ e kept. absurd (moves_nowhere c.next.new.self e (keeps_on c.loop-self.self.cursor c.in-Some.cursor c.next.new.self e c.in-Some.is calls kept) c.in-Ok.next c.in-Ok.ensures));
     }
@@ -31,12 +31,12 @@ pub returns-in-Err-clause-steps : goal.returns-in-Err-clause-steps
 unfolding left_at
 returns-in-Err-clause-steps c =
     let n = c.in-None.ensures in
-    sym c.loop-self.invariant.left ∙ ap left_at c.in-Some.is ∙ sym (gave_nothing c.in-Some.cursor c.next.new.self n.passes n.counts n.octets n.section)
+    sym c.loop-self.invariant.left ∙ ap left_at c.in-Some.is ∙ sym (gave_nothing c.in-Some.cursor c.next.new.self n.moves n.counts n.octets n.section)
     ∙ not_moved_on c.next.new.self c.in-Err.error n.steps.1 c.in-Err.ensures
 
 pub returns-in-Err-clause-again : goal.returns-in-Err-clause-again
 returns-in-Err-clause-again c =
     let n = c.in-None.ensures in
-    let calls : GivesNext c.in-Some.cursor None c.next.new.self = record { steps = n.steps; passes = n.passes; counts = n.counts; octets = n.octets; section = n.section } in
+    let calls : GivesNext c.in-Some.cursor None c.next.new.self = record { steps = n.steps; moves = n.moves; counts = n.counts; octets = n.octets; section = n.section } in
     IfSome_then (kept_error c.args.self.now) c.loop-self.invariant.kept
     (λ e kept. ap (λ (x : ParseError). Some (Err x)) (stops_again c.next.new.self e (keeps_on c.loop-self.self.cursor c.in-Some.cursor c.next.new.self e c.in-Some.is calls kept) c.in-Err.error c.in-Err.ensures))

@@ -22,5 +22,5 @@ returns-in_err-name-clause-stops c =
 pub returns-clause-shows : goal.returns-clause-shows
 returns-clause-shows c =
     octets_then 2 Preference (Named Exchange End) None c.args.self.now c.number.new.self c.name.new.self c.in_ok-number.ensures.adds c.in_ok-number.ensures.within
-    (name_then Exchange End None c.number.new.self c.name.new.self c.name.new.self c.in_ok-name.ensures.passes
+    (name_then Exchange End None c.number.new.self c.name.new.self c.name.new.self c.in_ok-name.ensures.covers
     (data_done c.name.new.self))

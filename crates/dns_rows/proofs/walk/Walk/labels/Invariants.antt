@@ -1,11 +1,11 @@
 use Rattle.std.proofs.Common.{◌≤◌, ◌-◌, length}
-use Rattle.dns_rows.specs.Walks.{at, octets, Comes, PassesLabels}
+use Rattle.dns_rows.specs.Walks.{at, octets, Comes, CoversLabels}
 use Rattle.dns_rows.proofs.walk.Walk.labels.Given as goal
 
 abbrev pub invariant-labels : goal.invariant-labels
 invariant-labels l = record {
   comes : Comes 0 l.fn.self l.self;
-  passes : PassesLabels l.fn.name l.size l.fn.self l.self;
+  covers : CoversLabels l.fn.name l.size l.fn.self l.self;
   short : l.size ≤ 254;
 }
 

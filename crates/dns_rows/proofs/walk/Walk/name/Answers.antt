@@ -11,9 +11,9 @@ name_fault-requires-clause-no_root c =
     let old = c.args.self.now in
     let new = c.labels.new.self in
     let fails : (f : Fault) × FaultAt (octets old) (at old) f = search rules in
-    let passes = c.in_ok-labels.ensures.passes in
-    let none = no_root (octets old) (at new) (at new - at old) fails.0 (passes.faults fails.0 fails.1) in
-    λ h. none (subst (λ b. head_at b (at new) ≡ Ok Root) passes.adds.seen h)
+    let covers = c.in_ok-labels.ensures.covers in
+    let none = no_root (octets old) (at new) (at new - at old) fails.0 (covers.faults fails.0 fails.1) in
+    λ h. none (subst (λ b. head_at b (at new) ≡ Ok Root) covers.adds.seen h)
 
 pub returns-then-is_err-clause-misses : goal.returns-then-is_err-clause-misses
 returns-then-is_err-clause-misses c =
@@ -21,8 +21,8 @@ returns-then-is_err-clause-misses c =
     let new = c.labels.new.self in
     let fault = c.name_fault.result in
     let fails : (f : Fault) × FaultAt (octets old) (at old) f = search rules in
-    let passes = c.in_ok-labels.ensures.passes in
+    let covers = c.in_ok-labels.ensures.covers in
     let P : List ℕ → ℕ → Type 0 = λ b start. StopsName b c.args.name start (at new) fault in
-    let stops : P (octets old) (at old) = subst (λ b. P b (at old)) passes.adds.seen (subst (λ start. P (octets new) start) c.pos-start.ensures c.name_fault.ensures) in
-    let reports = reports_name (octets old) c.args.name (at old) (at new) fault fails.0 stops (passes.faults fails.0 fails.1) in
-    record { rows = passes.rows; adds = passes.adds.rows; f = fails.0; lacks = record { faulty = fails.1; labels = passes.shown; stops = stops; reports = reports } }
+    let stops : P (octets old) (at old) = subst (λ b. P b (at old)) covers.adds.seen (subst (λ start. P (octets new) start) c.pos-start.ensures c.name_fault.ensures) in
+    let reports = reports_name (octets old) c.args.name (at old) (at new) fault fails.0 stops (covers.faults fails.0 fails.1) in
+    record { rows = covers.rows; adds = covers.adds.rows; f = fails.0; lacks = record { faulty = fails.1; labels = covers.shown; stops = stops; reports = reports } }

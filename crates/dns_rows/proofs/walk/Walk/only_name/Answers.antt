@@ -12,5 +12,5 @@ returns-in_err-name-clause-stops c =
 
 pub returns-clause-shows : goal.returns-clause-shows
 returns-clause-shows c =
-    name_then c.args.name End None c.args.self.now c.name.new.self c.name.new.self c.in_ok-name.ensures.passes
+    name_then c.args.name End None c.args.self.now c.name.new.self c.name.new.self c.in_ok-name.ensures.covers
     (data_done c.name.new.self)

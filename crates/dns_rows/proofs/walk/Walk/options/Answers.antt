@@ -6,19 +6,19 @@ use Rattle.dns_rows.proofs.Stops.{on_fault}
 use Rattle.dns_rows.proofs.walk.Walk.options.Goals as goal
 
 pub options-init : goal.options-init
-options-init c = record { comes = search rules; sees = refl; passes = no_options c.args.self.now }
+options-init c = record { comes = search rules; sees = refl; covers = no_options c.args.self.now }
 
 pub options-preserved : goal.options-preserved
 options-preserved c = record {
   comes = search rules;
   sees = c.in_ok-option.ensures.sees ∙ c.options.invariant.sees;
-  passes = one_more_option c.args.self.now c.options.self c.option.new.self c.options.invariant.passes c.in_ok-option.ensures.passes;
+  covers = one_more_option c.args.self.now c.options.self c.option.new.self c.options.invariant.covers c.in_ok-option.ensures.covers;
 }
 
 pub options-smaller : goal.options-smaller
 options-smaller c =
     let same = ap length c.in_ok-option.ensures.sees in
-    omega (arith, same, c.in_ok-option.ensures.passes.shows.end)
+    omega (arith, same, c.in_ok-option.ensures.covers.shows.end)
 
 pub returns-in_err-option-clause-stops : goal.returns-in_err-option-clause-stops
 returns-in_err-option-clause-stops c =
@@ -27,9 +27,9 @@ returns-in_err-option-clause-stops c =
     let new = c.option.new.self in
     let some : at mid < length (octets mid) = omega arith in
     on_fault c.from_residual.result (MissesOption mid new) (StopsData Options old new)
-    (λ fault h. option_stops old mid new fault c.options.invariant.passes some h) (search rules)
+    (λ fault h. option_stops old mid new fault c.options.invariant.covers some h) (search rules)
 
 pub returns-clause-shows : goal.returns-clause-shows
 returns-clause-shows c =
     let end : length (octets c.options.self) ≤ at c.options.self = omega arith in
-    all_options c.args.self.now c.options.self c.options.invariant.passes end
+    all_options c.args.self.now c.options.self c.options.invariant.covers end

@@ -21,7 +21,7 @@ returns-in_err-rtype-clause-stops c =
     let mid = c.item.new.self in
     let new = c.record_fields.new.self in
     on_fault_2 c.from_residual-in_err-rtype.result (LacksFields (octets mid) (at mid + 10)) (CutsFields (number_rows (number_at w16 (octets mid) (at mid)) (at mid)) mid new) (MarksStop c.args.part c.args.number old new)
-    (λ fault short cut. numbers_short c.args.part c.args.number old mid new fault c.requires.part c.in_ok-item.ensures.passes short cut) (search rules) (search rules)
+    (λ fault short cut. numbers_short c.args.part c.args.number old mid new fault c.requires.part c.in_ok-item.ensures.covers short cut) (search rules) (search rules)
 
 pub returns-in_err-within-clause-stops : goal.returns-in_err-within-clause-stops
 returns-in_err-within-clause-stops c =
@@ -32,7 +32,7 @@ returns-in_err-within-clause-stops c =
     on_fault c.from_residual-in_err-within.result (StopsWithin c.in_ok-rtype.rtype c.from.result b new) (MarksStop c.args.part c.args.number old new)
     (λ fault h.
     let P : ℕ → Type 0 = λ len. StopsWithin c.in_ok-rtype.rtype len b new fault in
-    data_stops c.args.part c.args.number c.in_ok-rtype.rtype c.in_ok-rtype.len old a b new fault c.requires.part c.in_ok-item.ensures.passes c.in_ok-rtype.ensures.passes (subst P c.from.ensures h)) (search rules)
+    data_stops c.args.part c.args.number c.in_ok-rtype.rtype c.in_ok-rtype.len old a b new fault c.requires.part c.in_ok-item.ensures.covers c.in_ok-rtype.ensures.covers (subst P c.from.ensures h)) (search rules)
 
 pub returns-clause-shows : goal.returns-clause-shows
 returns-clause-shows c =
@@ -41,5 +41,5 @@ returns-clause-shows c =
     let P : ℕ → Type 0 = λ len. at b + len ≤ length (octets b) in
     let Q : ℕ → Type 0 = λ len. MarksWithin c.in_ok-rtype.rtype len None b new in
     marks_record c.args.part c.args.number c.in_ok-rtype.rtype c.in_ok-rtype.len c.args.self.now c.item.new.self b new c.requires.part
-    c.in_ok-item.ensures.passes c.in_ok-rtype.ensures.passes (subst Q c.from.ensures c.in_ok-within.ensures.shows) c.in_ok-within.ensures.seen
+    c.in_ok-item.ensures.covers c.in_ok-rtype.ensures.covers (subst Q c.from.ensures c.in_ok-within.ensures.shows) c.in_ok-within.ensures.seen
     (c.in_ok-within.ensures.offset ∙ ap (λ n. at b + n) c.from.ensures) (subst P c.from.ensures c.in_ok-within.ensures.there)

@@ -7,7 +7,7 @@ use Rattle.dns_rows.proofs.Stops.{on_fault_2}
 use Rattle.dns_rows.proofs.walk.Walk.texts.Goals as goal
 
 pub texts-init : goal.texts-init
-texts-init c = record { comes = search rules; sees = refl; passes = no_texts c.args.self.now }
+texts-init c = record { comes = search rules; sees = refl; covers = no_texts c.args.self.now }
 
 pub texts-preserved : goal.texts-preserved
 texts-preserved c =
@@ -16,7 +16,7 @@ texts-preserved c =
     record {
       comes = search rules;
       sees = c.in_ok-octets.ensures.adds.seen ∙ c.texts.invariant.sees;
-      passes = one_more_text c.from.result c.args.self.now mid c.octets.new.self c.texts.invariant.passes there c.in_ok-octets.ensures.adds c.in_ok-octets.ensures.within;
+      covers = one_more_text c.from.result c.args.self.now mid c.octets.new.self c.texts.invariant.covers there c.in_ok-octets.ensures.adds c.in_ok-octets.ensures.within;
     }
 
 pub returns-in_err-octets-clause-stops : goal.returns-in_err-octets-clause-stops
@@ -26,7 +26,7 @@ returns-in_err-octets-clause-stops c =
     let new = c.octets.new.self in
     let there : slice_get (octets mid) (at mid) ≡ Some c.from.result = c.first.ensures ∙ c.in-Some.is ∙ ap (λ n. Some n) (sym c.from.ensures) in
     on_fault_2 c.from_residual.result (LacksField Text (octets mid) (at mid + (1 + c.from.result))) (λ _. new ≡ mid) (StopsData Texts old new)
-    (λ fault long same. text_stops c.from.result old mid new fault c.texts.invariant.passes there long same) (search rules) (search rules)
+    (λ fault long same. text_stops c.from.result old mid new fault c.texts.invariant.covers there long same) (search rules) (search rules)
 
 pub returns-clause-shows : goal.returns-clause-shows
-returns-clause-shows c = all_texts c.args.self.now c.texts.self c.texts.invariant.passes (c.first.ensures ∙ c.in_default.is)
+returns-clause-shows c = all_texts c.args.self.now c.texts.self c.texts.invariant.covers (c.first.ensures ∙ c.in_default.is)

@@ -17,29 +17,29 @@ returns-in_err-name-clause-stops c =
 pub returns-in_err-name-2-clause-stops : goal.returns-in_err-name-2-clause-stops
 returns-in_err-name-2-clause-stops c =
     on_fault c.from_residual-in_err-name-2.result (MissesName Mailbox c.name.new.self c.name-2.new.self) (StopsData zone_shape c.args.self.now c.name-2.new.self)
-    (λ fault h. name_then Primary (Named Mailbox (Octets 4 (Zone Serial) (Octets 4 (Zone Refresh) (Octets 4 (Zone Retry) (Octets 4 (Zone Expire) (Octets 4 (Zone Minimum) End)))))) (Some fault) c.args.self.now c.name.new.self c.name-2.new.self c.in_ok-name.ensures.passes
+    (λ fault h. name_then Primary (Named Mailbox (Octets 4 (Zone Serial) (Octets 4 (Zone Refresh) (Octets 4 (Zone Retry) (Octets 4 (Zone Expire) (Octets 4 (Zone Minimum) End)))))) (Some fault) c.args.self.now c.name.new.self c.name-2.new.self c.in_ok-name.ensures.covers
     (name_missing Mailbox (Octets 4 (Zone Serial) (Octets 4 (Zone Refresh) (Octets 4 (Zone Retry) (Octets 4 (Zone Expire) (Octets 4 (Zone Minimum) End))))) c.name.new.self c.name-2.new.self fault h)) (search rules)
 
 pub returns-in_err-octets-clause-stops : goal.returns-in_err-octets-clause-stops
 returns-in_err-octets-clause-stops c =
     on_fault_2 c.from_residual-in_err-octets.result (LacksField (Zone Serial) (octets c.name-2.new.self) (at c.name-2.new.self + 4)) (λ _. c.octets.new.self ≡ c.name-2.new.self) (StopsData zone_shape c.args.self.now c.octets.new.self)
-    (λ fault h same. name_then Primary (Named Mailbox (Octets 4 (Zone Serial) (Octets 4 (Zone Refresh) (Octets 4 (Zone Retry) (Octets 4 (Zone Expire) (Octets 4 (Zone Minimum) End)))))) (Some fault) c.args.self.now c.name.new.self c.octets.new.self c.in_ok-name.ensures.passes
-    (name_then Mailbox (Octets 4 (Zone Serial) (Octets 4 (Zone Refresh) (Octets 4 (Zone Retry) (Octets 4 (Zone Expire) (Octets 4 (Zone Minimum) End))))) (Some fault) c.name.new.self c.name-2.new.self c.octets.new.self c.in_ok-name-2.ensures.passes
+    (λ fault h same. name_then Primary (Named Mailbox (Octets 4 (Zone Serial) (Octets 4 (Zone Refresh) (Octets 4 (Zone Retry) (Octets 4 (Zone Expire) (Octets 4 (Zone Minimum) End)))))) (Some fault) c.args.self.now c.name.new.self c.octets.new.self c.in_ok-name.ensures.covers
+    (name_then Mailbox (Octets 4 (Zone Serial) (Octets 4 (Zone Refresh) (Octets 4 (Zone Retry) (Octets 4 (Zone Expire) (Octets 4 (Zone Minimum) End))))) (Some fault) c.name.new.self c.name-2.new.self c.octets.new.self c.in_ok-name-2.ensures.covers
     (octets_short 4 (Zone Serial) (Octets 4 (Zone Refresh) (Octets 4 (Zone Retry) (Octets 4 (Zone Expire) (Octets 4 (Zone Minimum) End)))) c.name-2.new.self c.octets.new.self fault h same))) (search rules) (search rules)
 
 pub returns-in_err-octets-2-clause-stops : goal.returns-in_err-octets-2-clause-stops
 returns-in_err-octets-2-clause-stops c =
     on_fault_2 c.from_residual-in_err-octets-2.result (LacksField (Zone Refresh) (octets c.octets.new.self) (at c.octets.new.self + 4)) (λ _. c.octets-2.new.self ≡ c.octets.new.self) (StopsData zone_shape c.args.self.now c.octets-2.new.self)
-    (λ fault h same. name_then Primary (Named Mailbox (Octets 4 (Zone Serial) (Octets 4 (Zone Refresh) (Octets 4 (Zone Retry) (Octets 4 (Zone Expire) (Octets 4 (Zone Minimum) End)))))) (Some fault) c.args.self.now c.name.new.self c.octets-2.new.self c.in_ok-name.ensures.passes
-    (name_then Mailbox (Octets 4 (Zone Serial) (Octets 4 (Zone Refresh) (Octets 4 (Zone Retry) (Octets 4 (Zone Expire) (Octets 4 (Zone Minimum) End))))) (Some fault) c.name.new.self c.name-2.new.self c.octets-2.new.self c.in_ok-name-2.ensures.passes
+    (λ fault h same. name_then Primary (Named Mailbox (Octets 4 (Zone Serial) (Octets 4 (Zone Refresh) (Octets 4 (Zone Retry) (Octets 4 (Zone Expire) (Octets 4 (Zone Minimum) End)))))) (Some fault) c.args.self.now c.name.new.self c.octets-2.new.self c.in_ok-name.ensures.covers
+    (name_then Mailbox (Octets 4 (Zone Serial) (Octets 4 (Zone Refresh) (Octets 4 (Zone Retry) (Octets 4 (Zone Expire) (Octets 4 (Zone Minimum) End))))) (Some fault) c.name.new.self c.name-2.new.self c.octets-2.new.self c.in_ok-name-2.ensures.covers
     (octets_then 4 (Zone Serial) (Octets 4 (Zone Refresh) (Octets 4 (Zone Retry) (Octets 4 (Zone Expire) (Octets 4 (Zone Minimum) End)))) (Some fault) c.name-2.new.self c.octets.new.self c.octets-2.new.self c.in_ok-octets.ensures.adds c.in_ok-octets.ensures.within
     (octets_short 4 (Zone Refresh) (Octets 4 (Zone Retry) (Octets 4 (Zone Expire) (Octets 4 (Zone Minimum) End))) c.octets.new.self c.octets-2.new.self fault h same)))) (search rules) (search rules)
 
 pub returns-in_err-octets-3-clause-stops : goal.returns-in_err-octets-3-clause-stops
 returns-in_err-octets-3-clause-stops c =
     on_fault_2 c.from_residual-in_err-octets-3.result (LacksField (Zone Retry) (octets c.octets-2.new.self) (at c.octets-2.new.self + 4)) (λ _. c.octets-3.new.self ≡ c.octets-2.new.self) (StopsData zone_shape c.args.self.now c.octets-3.new.self)
-    (λ fault h same. name_then Primary (Named Mailbox (Octets 4 (Zone Serial) (Octets 4 (Zone Refresh) (Octets 4 (Zone Retry) (Octets 4 (Zone Expire) (Octets 4 (Zone Minimum) End)))))) (Some fault) c.args.self.now c.name.new.self c.octets-3.new.self c.in_ok-name.ensures.passes
-    (name_then Mailbox (Octets 4 (Zone Serial) (Octets 4 (Zone Refresh) (Octets 4 (Zone Retry) (Octets 4 (Zone Expire) (Octets 4 (Zone Minimum) End))))) (Some fault) c.name.new.self c.name-2.new.self c.octets-3.new.self c.in_ok-name-2.ensures.passes
+    (λ fault h same. name_then Primary (Named Mailbox (Octets 4 (Zone Serial) (Octets 4 (Zone Refresh) (Octets 4 (Zone Retry) (Octets 4 (Zone Expire) (Octets 4 (Zone Minimum) End)))))) (Some fault) c.args.self.now c.name.new.self c.octets-3.new.self c.in_ok-name.ensures.covers
+    (name_then Mailbox (Octets 4 (Zone Serial) (Octets 4 (Zone Refresh) (Octets 4 (Zone Retry) (Octets 4 (Zone Expire) (Octets 4 (Zone Minimum) End))))) (Some fault) c.name.new.self c.name-2.new.self c.octets-3.new.self c.in_ok-name-2.ensures.covers
     (octets_then 4 (Zone Serial) (Octets 4 (Zone Refresh) (Octets 4 (Zone Retry) (Octets 4 (Zone Expire) (Octets 4 (Zone Minimum) End)))) (Some fault) c.name-2.new.self c.octets.new.self c.octets-3.new.self c.in_ok-octets.ensures.adds c.in_ok-octets.ensures.within
     (octets_then 4 (Zone Refresh) (Octets 4 (Zone Retry) (Octets 4 (Zone Expire) (Octets 4 (Zone Minimum) End))) (Some fault) c.octets.new.self c.octets-2.new.self c.octets-3.new.self c.in_ok-octets-2.ensures.adds c.in_ok-octets-2.ensures.within
     (octets_short 4 (Zone Retry) (Octets 4 (Zone Expire) (Octets 4 (Zone Minimum) End)) c.octets-2.new.self c.octets-3.new.self fault h same))))) (search rules) (search rules)
@@ -47,8 +47,8 @@ returns-in_err-octets-3-clause-stops c =
 pub returns-in_err-octets-4-clause-stops : goal.returns-in_err-octets-4-clause-stops
 returns-in_err-octets-4-clause-stops c =
     on_fault_2 c.from_residual-in_err-octets-4.result (LacksField (Zone Expire) (octets c.octets-3.new.self) (at c.octets-3.new.self + 4)) (λ _. c.octets-4.new.self ≡ c.octets-3.new.self) (StopsData zone_shape c.args.self.now c.octets-4.new.self)
-    (λ fault h same. name_then Primary (Named Mailbox (Octets 4 (Zone Serial) (Octets 4 (Zone Refresh) (Octets 4 (Zone Retry) (Octets 4 (Zone Expire) (Octets 4 (Zone Minimum) End)))))) (Some fault) c.args.self.now c.name.new.self c.octets-4.new.self c.in_ok-name.ensures.passes
-    (name_then Mailbox (Octets 4 (Zone Serial) (Octets 4 (Zone Refresh) (Octets 4 (Zone Retry) (Octets 4 (Zone Expire) (Octets 4 (Zone Minimum) End))))) (Some fault) c.name.new.self c.name-2.new.self c.octets-4.new.self c.in_ok-name-2.ensures.passes
+    (λ fault h same. name_then Primary (Named Mailbox (Octets 4 (Zone Serial) (Octets 4 (Zone Refresh) (Octets 4 (Zone Retry) (Octets 4 (Zone Expire) (Octets 4 (Zone Minimum) End)))))) (Some fault) c.args.self.now c.name.new.self c.octets-4.new.self c.in_ok-name.ensures.covers
+    (name_then Mailbox (Octets 4 (Zone Serial) (Octets 4 (Zone Refresh) (Octets 4 (Zone Retry) (Octets 4 (Zone Expire) (Octets 4 (Zone Minimum) End))))) (Some fault) c.name.new.self c.name-2.new.self c.octets-4.new.self c.in_ok-name-2.ensures.covers
     (octets_then 4 (Zone Serial) (Octets 4 (Zone Refresh) (Octets 4 (Zone Retry) (Octets 4 (Zone Expire) (Octets 4 (Zone Minimum) End)))) (Some fault) c.name-2.new.self c.octets.new.self c.octets-4.new.self c.in_ok-octets.ensures.adds c.in_ok-octets.ensures.within
     (octets_then 4 (Zone Refresh) (Octets 4 (Zone Retry) (Octets 4 (Zone Expire) (Octets 4 (Zone Minimum) End))) (Some fault) c.octets.new.self c.octets-2.new.self c.octets-4.new.self c.in_ok-octets-2.ensures.adds c.in_ok-octets-2.ensures.within
     (octets_then 4 (Zone Retry) (Octets 4 (Zone Expire) (Octets 4 (Zone Minimum) End)) (Some fault) c.octets-2.new.self c.octets-3.new.self c.octets-4.new.self c.in_ok-octets-3.ensures.adds c.in_ok-octets-3.ensures.within
@@ -57,8 +57,8 @@ returns-in_err-octets-4-clause-stops c =
 pub returns-in_err-octets-5-clause-stops : goal.returns-in_err-octets-5-clause-stops
 returns-in_err-octets-5-clause-stops c =
     on_fault_2 c.from_residual-in_err-octets-5.result (LacksField (Zone Minimum) (octets c.octets-4.new.self) (at c.octets-4.new.self + 4)) (λ _. c.octets-5.new.self ≡ c.octets-4.new.self) (StopsData zone_shape c.args.self.now c.octets-5.new.self)
-    (λ fault h same. name_then Primary (Named Mailbox (Octets 4 (Zone Serial) (Octets 4 (Zone Refresh) (Octets 4 (Zone Retry) (Octets 4 (Zone Expire) (Octets 4 (Zone Minimum) End)))))) (Some fault) c.args.self.now c.name.new.self c.octets-5.new.self c.in_ok-name.ensures.passes
-    (name_then Mailbox (Octets 4 (Zone Serial) (Octets 4 (Zone Refresh) (Octets 4 (Zone Retry) (Octets 4 (Zone Expire) (Octets 4 (Zone Minimum) End))))) (Some fault) c.name.new.self c.name-2.new.self c.octets-5.new.self c.in_ok-name-2.ensures.passes
+    (λ fault h same. name_then Primary (Named Mailbox (Octets 4 (Zone Serial) (Octets 4 (Zone Refresh) (Octets 4 (Zone Retry) (Octets 4 (Zone Expire) (Octets 4 (Zone Minimum) End)))))) (Some fault) c.args.self.now c.name.new.self c.octets-5.new.self c.in_ok-name.ensures.covers
+    (name_then Mailbox (Octets 4 (Zone Serial) (Octets 4 (Zone Refresh) (Octets 4 (Zone Retry) (Octets 4 (Zone Expire) (Octets 4 (Zone Minimum) End))))) (Some fault) c.name.new.self c.name-2.new.self c.octets-5.new.self c.in_ok-name-2.ensures.covers
     (octets_then 4 (Zone Serial) (Octets 4 (Zone Refresh) (Octets 4 (Zone Retry) (Octets 4 (Zone Expire) (Octets 4 (Zone Minimum) End)))) (Some fault) c.name-2.new.self c.octets.new.self c.octets-5.new.self c.in_ok-octets.ensures.adds c.in_ok-octets.ensures.within
     (octets_then 4 (Zone Refresh) (Octets 4 (Zone Retry) (Octets 4 (Zone Expire) (Octets 4 (Zone Minimum) End))) (Some fault) c.octets.new.self c.octets-2.new.self c.octets-5.new.self c.in_ok-octets-2.ensures.adds c.in_ok-octets-2.ensures.within
     (octets_then 4 (Zone Retry) (Octets 4 (Zone Expire) (Octets 4 (Zone Minimum) End)) (Some fault) c.octets-2.new.self c.octets-3.new.self c.octets-5.new.self c.in_ok-octets-3.ensures.adds c.in_ok-octets-3.ensures.within
@@ -67,8 +67,8 @@ returns-in_err-octets-5-clause-stops c =
 
 pub returns-clause-shows : goal.returns-clause-shows
 returns-clause-shows c =
-    name_then Primary (Named Mailbox (Octets 4 (Zone Serial) (Octets 4 (Zone Refresh) (Octets 4 (Zone Retry) (Octets 4 (Zone Expire) (Octets 4 (Zone Minimum) End)))))) None c.args.self.now c.name.new.self c.octets-5.new.self c.in_ok-name.ensures.passes
-    (name_then Mailbox (Octets 4 (Zone Serial) (Octets 4 (Zone Refresh) (Octets 4 (Zone Retry) (Octets 4 (Zone Expire) (Octets 4 (Zone Minimum) End))))) None c.name.new.self c.name-2.new.self c.octets-5.new.self c.in_ok-name-2.ensures.passes
+    name_then Primary (Named Mailbox (Octets 4 (Zone Serial) (Octets 4 (Zone Refresh) (Octets 4 (Zone Retry) (Octets 4 (Zone Expire) (Octets 4 (Zone Minimum) End)))))) None c.args.self.now c.name.new.self c.octets-5.new.self c.in_ok-name.ensures.covers
+    (name_then Mailbox (Octets 4 (Zone Serial) (Octets 4 (Zone Refresh) (Octets 4 (Zone Retry) (Octets 4 (Zone Expire) (Octets 4 (Zone Minimum) End))))) None c.name.new.self c.name-2.new.self c.octets-5.new.self c.in_ok-name-2.ensures.covers
     (octets_then 4 (Zone Serial) (Octets 4 (Zone Refresh) (Octets 4 (Zone Retry) (Octets 4 (Zone Expire) (Octets 4 (Zone Minimum) End)))) None c.name-2.new.self c.octets.new.self c.octets-5.new.self c.in_ok-octets.ensures.adds c.in_ok-octets.ensures.within
     (octets_then 4 (Zone Refresh) (Octets 4 (Zone Retry) (Octets 4 (Zone Expire) (Octets 4 (Zone Minimum) End))) None c.octets.new.self c.octets-2.new.self c.octets-5.new.self c.in_ok-octets-2.ensures.adds c.in_ok-octets-2.ensures.within
     (octets_then 4 (Zone Retry) (Octets 4 (Zone Expire) (Octets 4 (Zone Minimum) End)) None c.octets-2.new.self c.octets-3.new.self c.octets-5.new.self c.in_ok-octets-3.ensures.adds c.in_ok-octets-3.ensures.within
