@@ -41,17 +41,17 @@ module _ {F R : Type 0} (call : F → ParsedRecord → Option R → F → Type 0
     keeps : Keeps call item xs f items g
     left : t ≡ with_records stage items s
 
-  keeps_more : (stage : Stage) (shown : ParsedRecord) (answer : Option R) (xs : List (Result EncodedRecord Fault)) (f g h : F) (s t u : State)
-      → call f shown answer g → PushesKept capacity grows rule stage (option_map item answer) s (Ok tt) t → KeepsList stage xs g t h u → KeepsList stage (Ok (encoded_record shown) ∷ xs) f s h u
+  keeps_more : (stage : Stage) (shown : ParsedRecord) (outcome : Option R) (xs : List (Result EncodedRecord Fault)) (f g h : F) (s t u : State)
+      → call f shown outcome g → PushesKept capacity grows rule stage (option_map item outcome) s (Ok tt) t → KeepsList stage xs g t h u → KeepsList stage (Ok (encoded_record shown) ∷ xs) f s h u
   keeps_more stage shown None xs f g h s t u called pushed k = record {
     items = k.items;
     keeps = dropped shown called k.keeps;
     left = k.left ∙ ap (with_records stage k.items) pushed.1;
   }
-  keeps_more stage shown (Some answer) xs f g h s t u called pushed k = record {
-    items = item answer ∷ k.items;
-    keeps = kept shown answer called k.keeps;
-    left = k.left ∙ ap (with_records stage k.items) pushed.1 ∙ one_more stage (item answer) k.items s;
+  keeps_more stage shown (Some outcome) xs f g h s t u called pushed k = record {
+    items = item outcome ∷ k.items;
+    keeps = kept shown outcome called k.keeps;
+    left = k.left ∙ ap (with_records stage k.items) pushed.1 ∙ one_more stage (item outcome) k.items s;
   }
 
   keeps_list : (stage : Stage) {xs : List (Result EncodedRecord Fault)} {f g : F} {s t : State} {result : Result (Unit {0}) CopyRecordsError} → CopiesList call item capacity grows rule stage xs f s result g t → result ≡ Ok tt

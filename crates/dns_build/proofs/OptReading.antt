@@ -97,22 +97,22 @@ module _ (g : Gathered) (b : List ℕ) (p q : ℕ) (e : RecordEntry) (ok : IsGat
       (end, ap (λ (octets : List ℕ). Octets octets ∷ []) (sym filled), rw filled (gathered_accepted g ok))
 
   -- so `Opt` reads it as the record that was pushed
-  opt_answered : parsed_as (only 41 opt_layout) encoded ≡ Some (Ok (opt_record g))
-  opt_answered =
+  opt_parsed : parsed_as (only 41 opt_layout) encoded ≡ Some (Ok (opt_record g))
+  opt_parsed =
       let parts : List Part = Octets (encode_options g.options) ∷ [] in
       ap (λ (rtype : ℕ). option_map (laid_out encoded) (only 41 opt_layout rtype)) reports.rtype
       ∙ ap (λ (r : Result (List Part) Fault). Some (with_parts e r)) (data_is_parsed.only encoded opt_layout (Ok parts) (whole data_within data_at))
       ∙ ap (λ (x : RecordItem). let r : Result RecordItem Fault = Ok x in Some r) (same_item (item_of e parts) g reports.owner reports.rtype reports.class reports.ttl refl)
 
 -- `Opt` skips a record of another type
-others_unanswered : (x : EncodedRecord) → (x.entry.rtype ≡ 41 → ⊥) → parsed_as (only 41 opt_layout) x ≡ None
-others_unanswered x other =
+others_not_parsed : (x : EncodedRecord) → (x.entry.rtype ≡ 41 → ⊥) → parsed_as (only 41 opt_layout) x ≡ None
+others_not_parsed x other =
     let e : (x.entry.rtype == 41) ≡ false = search (rules, tests) in
     ap (λ (t : Bool). option_map (laid_out x) (if t then Some opt_layout else None)) e
 
 -- the first value that `Opt` yields, by what it yields of the first record
 abbrev first_by : List ℕ → List RecordEntry → Option (Result RecordItem Fault) → Option RecordItem
-first_by b entries answer = first_value (cons_option answer (limited (only 41 opt_layout) (items_of b entries)))
+first_by b entries outcome = first_value (cons_option outcome (limited (only 41 opt_layout) (items_of b entries)))
 
 -- the first OPT record after records of other types is the one that was pushed
 first_reported : (g : Gathered) (b : List ℕ) (n p : ℕ) (xs ys : List RecordItem) (entries : List RecordEntry) → IsGathered g → HasNoOpt xs → ReadingRecords b n p (map Ok entries)
@@ -121,11 +121,11 @@ first_reported g b n p [] ys [] ok none reading report = absurd report
 first_reported g b n p (x ∷ xs) ys [] ok none reading report = absurd report
 first_reported g b n p [] ys (e ∷ entries) ok none reading report =
     let r = first_read reading in
-    ap (first_by b entries) (opt_answered g b p r.1 e ok r.2 report.0)
+    ap (first_by b entries) (opt_parsed g b p r.1 e ok r.2 report.0)
 first_reported g b n p (x ∷ xs) ys (e ∷ entries) ok none reading report =
     let r = first_read reading in
     let other = λ (is : e.rtype ≡ 41). All-head (λ (y : RecordItem). y.rtype ≡ 41 → ⊥) x xs none (sym report.0.rtype ∙ is) in
-    ap (first_by b entries) (others_unanswered (record { octets = b; entry = e }) other)
+    ap (first_by b entries) (others_not_parsed (record { octets = b; entry = e }) other)
     ∙ first_reported g b r.0 r.1 xs ys entries ok (All-tail (λ (y : RecordItem). y.rtype ≡ 41 → ⊥) x xs none) r.3 report.1
 
 -- the numbers of which a TTL was made are read from it; that of DO is 0 or 1

@@ -20,7 +20,7 @@ use Rattle.dns_item.specs.Record.{record_item}
 use Rattle.dns_item.specs.RecordReading.{item_of}
 use Rattle.dns_item.specs.declared.record.Record.{Record}
 use Rattle.dns_item.specs.TypedRecords.{with_parts, laid_out, parsed_as, typed_result}
-use Rattle.dns_item.proofs.theory.TypedLemmas.{data_is_parsed, laid_out-answered, parsed_as-answered}
+use Rattle.dns_item.proofs.theory.TypedLemmas.{data_is_parsed, laid_out-returned, parsed_as-returned}
 use Rattle.dns_section.specs.AnyRecordIter.{every}
 use Rattle.dns_section.specs.Limited.{in_class_in, limited}
 use Rattle.dns_section.specs.RecordsFrom.{records_in}
@@ -69,7 +69,7 @@ module _ (x : RecordItem) (b : List ℕ) (p q : ℕ) (e : RecordEntry) (reads : 
       ∙ ap (λ (y : RecordItem). let r : Result RecordItem Fault = Ok y in r) (same_record e x reports.owner reports.rtype reports.class reports.ttl)
 
   encoded_as : EncodedAs b x (record { octets = b; entry = e })
-  encoded_as = record { octets = refl; there = data_within; parts = reports.parts; item = same_record e x reports.owner reports.rtype reports.class reports.ttl; answer = reported }
+  encoded_as = record { octets = refl; there = data_within; parts = reports.parts; item = same_record e x reports.owner reports.rtype reports.class reports.ttl; outcome = reported }
 
 -- the same for all records
 all_encoded_as : (xs : List RecordItem) (b : List ℕ) (n p : ℕ) (entries : List RecordEntry) → ReadingRecords b n p (map Ok entries) → AllReported b entries xs
@@ -89,15 +89,15 @@ pushed_records_are_encoded s b h which =
 
 module _ (layouts : ℕ → Option Layout) (b : List ℕ) where
   -- what a data type yields of such a record
-  answered : (x : RecordItem) (encoded : EncodedRecord) → EncodedAs b x encoded → IsLaidOutBy layouts x
+  parsed : (x : RecordItem) (encoded : EncodedRecord) → EncodedAs b x encoded → IsLaidOutBy layouts x
       → parsed_as layouts encoded ≡ option_map (λ (layout : Layout). let r : Result RecordItem Fault = Ok x in r) (layouts x.rtype)
-  answered x encoded h fits_layout =
+  parsed x encoded h fits_layout =
       ap (λ (y : RecordItem). option_map (laid_out encoded) (layouts y.rtype)) h.item ∙ by (layouts x.rtype) fits_layout
     where
       by : (o : Option Layout) → IfSome o (λ layout. IsLaidOut layout x.parts)
           → option_map (laid_out encoded) o ≡ option_map (λ (layout : Layout). let r : Result RecordItem Fault = Ok x in r) o
       by None fits_layout = refl
-      by (Some layout) fits_layout = ap (λ (r : Result RecordItem Fault). Some r) (h.answer layout fits_layout)
+      by (Some layout) fits_layout = ap (λ (r : Result RecordItem Fault). Some r) (h.outcome layout fits_layout)
 
   -- the first of the records that the data type accepts
   first_taken : (x : RecordItem) (xs : List RecordItem) (o : Option Layout)
@@ -106,20 +106,20 @@ module _ (layouts : ℕ → Option Layout) (b : List ℕ) where
   first_taken x xs (Some layout) = refl
 
   -- what it yields of all records
-  all_answered : (xs : List RecordItem) (items : List (Result EncodedRecord Fault)) → AllEncodedAs b xs items → All (IsLaidOutBy layouts) xs
+  all_parsed : (xs : List RecordItem) (items : List (Result EncodedRecord Fault)) → AllEncodedAs b xs items → All (IsLaidOutBy layouts) xs
       → limited layouts items ≡ map Ok (taken layouts xs)
-  all_answered [] [] h fits_layout = refl
-  all_answered [] (item ∷ items) h fits_layout = absurd h
-  all_answered (x ∷ xs) [] h fits_layout = absurd h
-  all_answered (x ∷ xs) (Err f ∷ items) h fits_layout = absurd h.0
-  all_answered (x ∷ xs) (Ok encoded ∷ items) h fits_layout =
-      let here = answered x encoded h.0 (All-head (IsLaidOutBy layouts) x xs fits_layout) in
-      let others = all_answered xs items h.1 (All-tail (IsLaidOutBy layouts) x xs fits_layout) in
+  all_parsed [] [] h fits_layout = refl
+  all_parsed [] (item ∷ items) h fits_layout = absurd h
+  all_parsed (x ∷ xs) [] h fits_layout = absurd h
+  all_parsed (x ∷ xs) (Err f ∷ items) h fits_layout = absurd h.0
+  all_parsed (x ∷ xs) (Ok encoded ∷ items) h fits_layout =
+      let here = parsed x encoded h.0 (All-head (IsLaidOutBy layouts) x xs fits_layout) in
+      let others = all_parsed xs items h.1 (All-tail (IsLaidOutBy layouts) x xs fits_layout) in
       (λ i. cons_option (here i) (others i)) ∙ first_taken x (taken layouts xs) (layouts x.rtype)
 
 pub typed_records_read_back : TypedRecordsReadBack
 typed_records_read_back s b h which layouts fits_layout =
-    all_answered layouts b (pushed which s) (records_of which b) (pushed_records_are_encoded s b h which) fits_layout
+    all_parsed layouts b (pushed which s) (records_of which b) (pushed_records_are_encoded s b h which) fits_layout
 
 -- a data type that accepts every type accepts all records
 all_taken : (layouts : ℕ → Layout) (xs : List RecordItem) → taken (every layouts) xs ≡ xs
@@ -149,7 +149,7 @@ in_class_encoded b (x ∷ xs) (Ok encoded ∷ items) h =
 
 pub typed_records_in_read_back : TypedRecordsInReadBack
 typed_records_in_read_back s b h which layouts fits_layout =
-    all_answered layouts b (of_class_in (pushed which s)) (in_class_in (records_of which b)) (in_class_encoded b (pushed which s) (records_of which b) (pushed_records_are_encoded s b h which)) fits_layout
+    all_parsed layouts b (of_class_in (pushed which s)) (in_class_in (records_of which b)) (in_class_encoded b (pushed which s) (records_of which b) (pushed_records_are_encoded s b h which)) fits_layout
 
 module _ {D : Type 0} (rtype_of : D → ℕ) (parts_of : D → List Part) where
   -- a result that says the record `x` is a record that says it
@@ -161,7 +161,7 @@ module _ {D : Type 0} (rtype_of : D → ℕ) (parts_of : D → List Part) where
   is_taken : (x : RecordItem) (result : Result (Option (Record ParsedName D)) ParseError) → option_map (typed_result rtype_of parts_of) (result_transpose result) ≡ Some (Ok x)
       → IsOkAnd result (λ o. IsSomeAnd o (λ r. record_item labels rtype_of parts_of r ≡ x))
   is_taken x (Ok None) is = absurd (cc)
-  is_taken x (Ok (Some r)) is = is_record x (Ok r) (let answer = typed_result rtype_of parts_of (Ok r) in let same : Some answer ≡ Some (Ok x) = is in cc)
+  is_taken x (Ok (Some r)) is = is_record x (Ok r) (let outcome = typed_result rtype_of parts_of (Ok r) in let same : Some outcome ≡ Some (Ok x) = is in cc)
   is_taken x (Err e) is = absurd (cc)
 
   -- what the layout of a record's type reads
@@ -171,14 +171,14 @@ module _ {D : Type 0} (rtype_of : D → ℕ) (parts_of : D → List Part) where
     where
       by : (o : Option Layout) → IsSomeAnd o (λ layout. IsLaidOut layout x.parts) → option_map (laid_out encoded) o ≡ Some (Ok x)
       by None fits_layout = absurd fits_layout
-      by (Some layout) fits_layout = ap (λ (r : Result RecordItem Fault). Some r) (h.answer layout fits_layout)
+      by (Some layout) fits_layout = ap (λ (r : Result RecordItem Fault). Some r) (h.outcome layout fits_layout)
 
   pub to_record_reads_back : (layouts : ℕ → Option Layout) → ToRecordReadsBack rtype_of parts_of layouts
   to_record_reads_back layouts b x encoded result h fits_layout returned =
-      is_taken x result (parsed_as-answered rtype_of parts_of encoded h.there (layouts encoded.entry.rtype) result returned ∙ one_taken layouts b x encoded h fits_layout)
+      is_taken x result (parsed_as-returned rtype_of parts_of encoded h.there (layouts encoded.entry.rtype) result returned ∙ one_taken layouts b x encoded h fits_layout)
 
   pub to_any_record_reads_back : (layouts : ℕ → Layout) → ToAnyRecordReadsBack rtype_of parts_of layouts
   to_any_record_reads_back layouts b x encoded result h fits_layout returned =
       is_record x result
-      (laid_out-answered rtype_of parts_of encoded h.there (layouts encoded.entry.rtype) result returned
-      ∙ ap (λ (y : RecordItem). laid_out encoded (layouts y.rtype)) h.item ∙ h.answer (layouts x.rtype) fits_layout)
+      (laid_out-returned rtype_of parts_of encoded h.there (layouts encoded.entry.rtype) result returned
+      ∙ ap (λ (y : RecordItem). laid_out encoded (layouts y.rtype)) h.item ∙ h.outcome (layouts x.rtype) fits_layout)

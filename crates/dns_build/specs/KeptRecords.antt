@@ -23,8 +23,8 @@ module _ {F R : Type 0} (call : F → ParsedRecord → Option R → F → Type 0
     none : {f : F} → Keeps [] f [] f
     dropped : {xs : List (Result EncodedRecord Fault)} {items : List RecordItem} {f g h : F} (shown : ParsedRecord)
         → call f shown None g → Keeps xs g items h → Keeps (Ok (encoded_record shown) ∷ xs) f items h
-    kept : {xs : List (Result EncodedRecord Fault)} {items : List RecordItem} {f g h : F} (shown : ParsedRecord) (answer : R)
-        → call f shown (Some answer) g → Keeps xs g items h → Keeps (Ok (encoded_record shown) ∷ xs) f (item answer ∷ items) h
+    kept : {xs : List (Result EncodedRecord Fault)} {items : List RecordItem} {f g h : F} (shown : ParsedRecord) (outcome : R)
+        → call f shown (Some outcome) g → Keeps xs g items h → Keeps (Ok (encoded_record shown) ∷ xs) f (item outcome ∷ items) h
 
   -- the same for a section of the message, read from its start
   pub record KeepsSection (b : List ℕ) (section : Section) (f : F) (items : List RecordItem) (g : F) : Type 0 where

@@ -31,12 +31,12 @@ with_rcode rcode header = record header { octets = slice_set header.octets 3 (bi
 abbrev pub with_opt : Gathered → State → State
 with_opt g s = with_header (with_rcode g.header.rcode s.header) (with_record InAdditional (opt_record g) s)
 
--- The closure was called on a new `OptBuilder` with a copy of `header`. It returned `answer`, and the builder had then gathered `g`.
-pub record Gathers (call : OptBuilder → Result (Unit {0}) AppendError → OptBuilder → Type 0) (header : Header) (answer : Result (Unit {0}) AppendError) (g : Gathered) : Type 0 where
+-- The closure was called on a new `OptBuilder` with a copy of `header`. It returned `outcome`, and the builder had then gathered `g`.
+pub record Gathers (call : OptBuilder → Result (Unit {0}) AppendError → OptBuilder → Type 0) (header : Header) (outcome : Result (Unit {0}) AppendError) (g : Gathered) : Type 0 where
   pub before : OptBuilder
   pub after : OptBuilder
   pub fresh : gathered before ≡ nothing_gathered header
-  pub called : call before answer after
+  pub called : call before outcome after
   pub left : gathered after ≡ g
 
 -- the result of `opt`: the error of the closure, or else the result of the push
@@ -47,8 +47,8 @@ OptReturns capacity grows limit n count (Ok _) result = PushReturns capacity gro
 -- The fields and options that a closure sets are pushed as an OPT record. On success the builder represents the state with the record and the rcode.
 pub record PushesOpt (capacity : Option ℕ) (grows : Bool) (rule : Rule) (call : OptBuilder → Result (Unit {0}) AppendError → OptBuilder → Type 0) (s : State) (new : Built) (result : Result (Unit {0}) PushError) : Type 0 where
   pub g : Gathered
-  pub answer : Result (Unit {0}) AppendError
-  pub gathers : Gathers call s.header answer g
-  pub answers : OptReturns capacity grows s.limit (size_after rule (with_record InAdditional (opt_record g)) s) (length s.additionals) answer result
+  pub outcome : Result (Unit {0}) AppendError
+  pub gathers : Gathers call s.header outcome g
+  pub answers : OptReturns capacity grows s.limit (size_after rule (with_record InAdditional (opt_record g)) s) (length s.additionals) outcome result
   pub is_gathered : OnOk result (IsGathered g)
   pub accepted : OnOk result (Represents InAdditional rule (with_opt g s) new)

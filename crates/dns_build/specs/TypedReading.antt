@@ -47,7 +47,7 @@ pub record EncodedAs (b : List ℕ) (x : RecordItem) (encoded : EncodedRecord) :
   pub there : HasSpan encoded
   pub parts : PartsAt encoded.octets encoded.entry.rdata_end encoded.entry.rdata_start x.parts
   pub item : item_of encoded.entry x.parts ≡ x
-  pub answer : (layout : Layout) → IsLaidOut layout x.parts → laid_out encoded layout ≡ Ok x
+  pub outcome : (layout : Layout) → IsLaidOut layout x.parts → laid_out encoded layout ≡ Ok x
 
 -- the items of a reading are the pushed records, one for one, without a fault
 abbrev pub AllEncodedAs : List ℕ → List RecordItem → List (Result EncodedRecord Fault) → Type 0

@@ -20,7 +20,7 @@ append-nothing t = same_written _ _ (sym (append-nil t.octets)) refl
 pub no_part_composes : NoPartComposes
 unfolding encode_parts
 no_part_composes capacity grows rule t fits =
-    record { ok = append-nothing t; err = tt; answer = subst (λ (u : Written). Fits capacity (length u.octets)) (append-nothing t) fits }
+    record { ok = append-nothing t; err = tt; outcome = subst (λ (u : Written). Fits capacity (length u.octets)) (append-nothing t) fits }
 
 -- parts composed after an appended part compose all
 pub parts_compose_after : PartsComposeAfter
@@ -38,7 +38,7 @@ refused_part_composes capacity grows rule part parts t u r q e is out h =
 pub one_part_composes : OnePartComposes
 one_part_composes capacity grows rule part t u (Ok done) h =
     parts_compose_after capacity grows rule part [] t u u (Ok done) h.ok
-    (no_part_composes capacity grows rule u (subst (λ (w : Written). Fits capacity (length w.octets)) (sym h.ok) h.answer))
+    (no_part_composes capacity grows rule u (subst (λ (w : Written). Fits capacity (length w.octets)) (sym h.ok) h.outcome))
 one_part_composes capacity grows rule part t u (Err e) h = refused_part_composes capacity grows rule part [] t u (Err e) (Err e) e refl refl h
 
 -- an uncompressed name has at most 255 octets

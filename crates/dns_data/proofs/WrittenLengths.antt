@@ -34,9 +34,9 @@ refused : (capacity : Option ℕ) (may_grow : Bool) (a : Encoder) (t u : Written
 refused capacity may_grow a t u e h = record {
   ok = tt;
   err = h.err;
-  answer =
+  outcome =
       let n : length (append (both (encode_octets blank) a) t).octets ≡ length (append (with_length a) t).octets = length-append t.octets _ ∙ sym (length-append t.octets _) in
-      subst (λ n. ComposeReturns {X = Unit} capacity may_grow n (Err e)) n h.answer;
+      subst (λ n. ComposeReturns {X = Unit} capacity may_grow n (Err e)) n h.outcome;
 }
 
 -- if composing after the two octets fails, composing with the length fails

@@ -19,7 +19,7 @@ data_in x layout = (one_parsed_data x layout).some.0
 
 -- `data_in` is the result of reading by the layout, and there is no other
 pub record DataIsParsed : Type 0 where
-  pub answer : (x : EncodedRecord) (layout : Layout) → IsParsedData x layout (data_in x layout)
+  pub outcome : (x : EncodedRecord) (layout : Layout) → IsParsedData x layout (data_in x layout)
   pub only : (x : EncodedRecord) (layout : Layout) (r : Result (List Part) Fault) → IsParsedData x layout r → data_in x layout ≡ r
 
 -- a record with the parts of its RDATA, or the fault of the RDATA

@@ -24,14 +24,14 @@ use Rattle.dns_message.specs.declared.script.Reply.TheVariants.{Done, Refused}
 use Rattle.dns_message.specs.Script.{lacks, Stays}
 
 -- the first option is added, and the result is that of adding the others after it
-pub added_first : (x : OptionItem) (old new : OptBuilder) (xs : List OptionItem) (answer : Result (Unit {0}) AppendError) → Adds x old new (Ok tt)
-    → AddsAll (gathered_size (gathered new)) xs answer → AddsAll (gathered_size (gathered old)) (x ∷ xs) answer
-added_first x old new xs answer h rest =
+pub added_first : (x : OptionItem) (old new : OptBuilder) (xs : List OptionItem) (outcome : Result (Unit {0}) AppendError) → Adds x old new (Ok tt)
+    → AddsAll (gathered_size (gathered new)) xs outcome → AddsAll (gathered_size (gathered old)) (x ∷ xs) outcome
+added_first x old new xs outcome h rest =
     let encoding = ap length (flat_map-append encode_option (gathered old).options (x ∷ [])) in
     let sum = length-append (encode_options (gathered old).options) (encode_options (x ∷ [])) in
     let one = ap length (append-nil (encode_option x)) in
     let size : gathered_size (gathered new) ≡ gathered_size (gathered old) + 4 + length x.octets = omega (arith, ap gathered_size h.0, encoding, sum, one) in
-    inr (h.1, inr (subst (λ (n : ℕ). AddsAll n xs answer) size rest))
+    inr (h.1, inr (subst (λ (n : ℕ). AddsAll n xs outcome) size rest))
 
 -- adding the first option fails
 pub refused_first : (x : OptionItem) (old new : OptBuilder) (xs : List OptionItem) (e : AppendError) → Adds x old new (Err e) → AddsAll (gathered_size (gathered old)) (x ∷ xs) (Err e)
@@ -70,13 +70,13 @@ module _ (capacity : Option ℕ) (grows : Bool) (rule : Rule) (plan : OptPlan) (
     done_asked (Ok u) done = sym p.gathers.left ∙ done ∙ ap (planned plan) p.gathers.fresh
     done_asked (Err e) done = tt
 
-    pub gathers_asked : OnOk p.answer (p.g ≡ asked)
-    gathers_asked = done_asked p.answer (carries _ _ _ p.gathers.called).done
+    pub gathers_asked : OnOk p.outcome (p.g ≡ asked)
+    gathers_asked = done_asked p.outcome (carries _ _ _ p.gathers.called).done
 
-    pub adds_asked : AddsAll 0 asked.options p.answer
+    pub adds_asked : AddsAll 0 asked.options p.outcome
     adds_asked =
-        subst (λ (xs : List OptionItem). AddsAll 0 (xs ++ planned_options plan) p.answer) (sym (options_stay plan.rcode (nothing_gathered s.header)))
-        (subst (λ (g : Gathered). AddsAll (gathered_size g) (planned_options plan) p.answer) p.gathers.fresh (carries _ _ _ p.gathers.called).adds)
+        subst (λ (xs : List OptionItem). AddsAll 0 (xs ++ planned_options plan) p.outcome) (sym (options_stay plan.rcode (nothing_gathered s.header)))
+        (subst (λ (g : Gathered). AddsAll (gathered_size g) (planned_options plan) p.outcome) p.gathers.fresh (carries _ _ _ p.gathers.called).adds)
 
 module _ (capacity : Option ℕ) (grows : Bool) {Q R : Type 0} (question : Q → QuestionItem) (item : R → RecordItem) (rule : Rule) (plan : OptPlan) (old new : Built) where
   -- the push of an OPT record is a step that stays at the additional section
@@ -89,12 +89,12 @@ module _ (capacity : Option ℕ) (grows : Bool) {Q R : Type 0} (question : Q →
       let has : lacks {Q = Q} {R = R} s.stage (PushOpt plan) ≡ false = ap (λ here. lacks {Q = Q} {R = R} here (PushOpt plan)) h.here in
       let p = pushes s h in
       let done = gathers_asked capacity grows rule plan s gathers carries new (Ok v) p in
-      let all = accepted_asked capacity grows rule plan s p.g _ p.answer v done p.answers in
+      let all = accepted_asked capacity grows rule plan s p.g _ p.outcome v done p.answers in
       rw (is, m, has) (
         record {
-          gathering = p.answer;
+          gathering = p.outcome;
           adds = adds_asked capacity grows rule plan s gathers carries new (Ok v) p;
-          answers = returns_asked capacity grows rule plan s p.g p.answer (Ok v) done p.answers;
+          answers = returns_asked capacity grows rule plan s p.g p.outcome (Ok v) done p.answers;
           is_gathered = λ _. subst IsGathered all p.is_gathered;
         },
         subst (λ (g : Gathered). Represents InAdditional rule (with_opt g s) new) all p.accepted,
@@ -105,9 +105,9 @@ module _ (capacity : Option ℕ) (grows : Bool) {Q R : Type 0} (question : Q →
       let done = gathers_asked capacity grows rule plan s gathers carries new (Err e) p in
       rw (is, m, has) (
         record {
-          gathering = p.answer;
+          gathering = p.outcome;
           adds = adds_asked capacity grows rule plan s gathers carries new (Err e) p;
-          answers = returns_asked capacity grows rule plan s p.g p.answer (Err e) done p.answers;
+          answers = returns_asked capacity grows rule plan s p.g p.outcome (Err e) done p.answers;
           is_gathered = λ reported. absurd (cc);
         },
         subst (λ b. Represents InAdditional rule s b) (sym same) h,

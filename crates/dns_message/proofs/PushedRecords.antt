@@ -55,15 +55,15 @@ module _ (capacity : Option ℕ) (grows : Bool) {Q R : Type 0} (question : Q →
       → stage ≡ stage_of section → call ≡ PushRecord x → MatchResult r (λ _. reply ≡ Done) (λ error. reply ≡ Refused error)
       → OnOk r (MovesState stage stage rule (with_record stage (item x)) old new) → OnErr r (new ≡ old) → Answered capacity grows rule stage old (item x) r
       → Stays capacity grows question item rule stage old call reply new
-  push_stays section call (Ok v) reply at is m moved same answer s h =
+  push_stays section call (Ok v) reply at is m moved same outcome s h =
       let has : lacks {Q = Q} s.stage (PushRecord x) ≡ false = ap (λ here. lacks {Q = Q} here (PushRecord x)) (h.here ∙ at) ∙ has_push Q R section x in
       rw (is, m, has) (
-        answered_here capacity grows rule stage old (item x) (Ok v) answer s h,
+        answered_here capacity grows rule stage old (item x) (Ok v) outcome s h,
         subst (λ here. Represents stage rule (with_record here (item x) s) new) (sym h.here) (moved s h),
       )
-  push_stays section call (Err e) reply at is m moved same answer s h =
+  push_stays section call (Err e) reply at is m moved same outcome s h =
       let has : lacks {Q = Q} s.stage (PushRecord x) ≡ false = ap (λ here. lacks {Q = Q} here (PushRecord x)) (h.here ∙ at) ∙ has_push Q R section x in
       rw (is, m, has) (
-        answered_here capacity grows rule stage old (item x) (Err e) answer s h,
+        answered_here capacity grows rule stage old (item x) (Err e) outcome s h,
         subst (λ b. Represents stage rule s b) (sym same) h,
       )

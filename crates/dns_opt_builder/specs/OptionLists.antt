@@ -9,5 +9,5 @@ use Rattle.dns_opt.specs.Options.{OptionItem, encode_option}
 pub record AppendsOption (x : OptionItem) (capacity : ℕ) (before after : List ℕ) (result : Result Unit AppendError) : Type 0 where
   pub ok : OnOk result (after ≡ before ++ encode_option x)
   pub err : OnErr result (after ≡ before)
-  pub answer : AppendReturns (Some 65535) true (length before + 4 + length x.octets) result
+  pub outcome : AppendReturns (Some 65535) true (length before + 4 + length x.octets) result
   pub full : result ≡ Err OutOfMemory → capacity < length before + 4 + length x.octets

@@ -83,7 +83,7 @@ fn begin_option(list: &mut Vec<u8>, code: u16, len: usize) -> Result<(), AppendE
         list.old.items ++ (to_be_bytes w16 code ++ to_be_bytes w16 len)) }
     ensures reserved { OnOk result (vec_len list.new + len ≤ vec_capacity list.new) }
     ensures err { OnErr result (list.new.items ≡ list.old.items) }
-    ensures answer { AppendReturns (Some 65535) true (length list.old.items + 4 + len) result }
+    ensures outcome { AppendReturns (Some 65535) true (length list.old.items + 4 + len) result }
     ensures full { result ≡ Err AppendError.OutOfMemory
         → vec_capacity list.old < length list.old.items + 4 + len }
 {

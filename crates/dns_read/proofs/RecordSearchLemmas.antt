@@ -13,7 +13,7 @@ use Rattle.dns_item.specs.ParsedData.{HasSpan}
 use Rattle.dns_item.specs.ParsedRecord.{octets_of, parsed_entry, encoded_record}
 use Rattle.dns_item.specs.RecordReading.{ReturnsTaken}
 use Rattle.dns_item.specs.declared.parsed_record.ParsedRecord.{ParsedRecord}
-use Rattle.dns_item.proofs.theory.TypedLemmas.{parsed_as-answered}
+use Rattle.dns_item.proofs.theory.TypedLemmas.{parsed_as-returned}
 use Rattle.dns_item.specs.Record.{record_item}
 use Rattle.dns_item.specs.TypedRecords.{parsed_as, typed_result}
 use Rattle.dns_item.specs.declared.record.Record.{Record}
@@ -57,7 +57,7 @@ pub last_given : {D : Type 0} (rtype_of : D → ℕ) (parts_of : D → List Part
     → option_and_then (option_map (record_item labels rtype_of parts_of)) (result_ok r) ≡ last_additional layouts b
 last_given rtype_of parts_of layouts b last r is span returned =
     let x = encoded_record last in
-    value_given rtype_of parts_of r (parsed_as layouts x) (parsed_as-answered rtype_of parts_of x span (layouts x.entry.rtype) r returned)
+    value_given rtype_of parts_of r (parsed_as layouts x) (parsed_as-returned rtype_of parts_of x span (layouts x.entry.rtype) r returned)
     ∙ ap (option_and_then (λ y. option_and_then result_ok (parsed_as layouts y))) is
 
 -- an iterator yields something exactly if it has something left

@@ -8,7 +8,7 @@ use Rattle.dns_name.specs.ParsedName.{labels}
 use Rattle.dns_name.specs.declared.parsed_name.ParsedName.{ParsedName}
 use Rattle.dns_wire.specs.Parts.{Part}
 use Rattle.dns_data.specs.Layout.{Layout}
-use Rattle.dns_item.proofs.theory.TypedLemmas.{data_is_parsed, laid_out-answered}
+use Rattle.dns_item.proofs.theory.TypedLemmas.{data_is_parsed, laid_out-returned}
 use Rattle.dns_item.specs.ParsedData.{HasSpan}
 use Rattle.dns_item.specs.ParsedData.IsParsedData.{missing}
 use Rattle.dns_item.specs.Items.{RecordEntry, RecordItem}
@@ -24,7 +24,7 @@ pub laid_out-read : {D : Type 0} (rtype_of : D → ℕ) (parts_of : D → List P
     → ReturnsLaidOut rtype_of parts_of x.octets x.entry layout r → typed_result rtype_of parts_of r ≡ laid_out x layout
 laid_out-read rtype_of parts_of x layout r start h =
     elim (leb_tells x.entry.rdata_end (length x.octets)) [
-      | inl there ↦ laid_out-answered rtype_of parts_of x (record { start = start; end = there.1 }) layout r h
+      | inl there ↦ laid_out-returned rtype_of parts_of x (record { start = start; end = there.1 }) layout r h
       | inr short ↦
           ap (typed_result rtype_of parts_of) (h.missing (λ within. omega (arith, within, short.1)))
           ∙ sym (ap (with_parts x.entry) (data_is_parsed.only x layout _ (missing (λ (span : HasSpan x). omega (arith, span.end, short.1)))))

@@ -51,15 +51,15 @@ limited_by-none layouts true = refl
 limited_by-none layouts false = refl
 
 -- the items of one more call
-given_last : {old mid new : RecordSection} {items : List (Result EncodedRecord Fault)} (answer : Result ParsedRecord ParseError) → Given old items mid → GivesNext mid (Some answer) new
-    → Given old (items ++ record_result answer ∷ []) new
-given_last answer none calls = more answer calls refl none
-given_last answer (more first call is rest) calls = more first call is (given_last answer rest calls)
+given_last : {old mid new : RecordSection} {items : List (Result EncodedRecord Fault)} (outcome : Result ParsedRecord ParseError) → Given old items mid → GivesNext mid (Some outcome) new
+    → Given old (items ++ record_result outcome ∷ []) new
+given_last outcome none calls = more outcome calls refl none
+given_last outcome (more first call is rest) calls = more first call is (given_last outcome rest calls)
 
 -- what was left is the items that were yielded, then what is left now
 given_left : {old new : RecordSection} {items : List (Result EncodedRecord Fault)} → Given old items new → records_left old ≡ items ++ records_left new
 given_left none = refl
-given_left (more answer calls is rest) = calls.steps ∙ (λ i. is i ∷ given_left rest i)
+given_left (more outcome calls is rest) = calls.steps ∙ (λ i. is i ∷ given_left rest i)
 
 -- the item that is yielded is the first of what was left that the data type accepts
 pub skipped_yields : {accepted : List (Result EncodedRecord Fault) → List (Result RecordItem Fault)} {old new : RecordSection} {x : Result RecordItem Fault} → SkipsToNext accepted old new x
@@ -68,15 +68,15 @@ skipped_yields {new = new} p = record {
   skipped = p.skipped;
   last = p.last;
   left = given_left p.given ∙ append_assoc p.skipped (p.last ∷ []) (records_left new);
-  unanswered = p.unanswered;
-  answered = p.answered;
+  none_accepted = p.none_accepted;
+  is_accepted = p.is_accepted;
 }
 
 -- the data type accepts nothing of what was left
 pub ended_yields : {accepted : List (Result EncodedRecord Fault) → List (Result RecordItem Fault)} {old new : RecordSection} → SkipsToEnd accepted old new
     → (accepted (records_left old) ≡ []) × (records_left new ≡ [])
 ended_yields {accepted = accepted} p = (
-  ap accepted (given_left p.given ∙ ap (λ (ys : List (Result EncodedRecord Fault)). p.skipped ++ ys) p.ended.steps.0 ∙ append-nil p.skipped) ∙ p.unanswered,
+  ap accepted (given_left p.given ∙ ap (λ (ys : List (Result EncodedRecord Fault)). p.skipped ++ ys) p.ended.steps.0 ∙ append-nil p.skipped) ∙ p.none_accepted,
   p.ended.steps.1,
 )
 
@@ -84,33 +84,33 @@ ended_yields {accepted = accepted} p = (
 pub record SkipsSoFar (accepted : List (Result EncodedRecord Fault) → List (Result RecordItem Fault)) (old now : RecordSection) : Type 0 where
   pub skipped : List (Result EncodedRecord Fault)
   pub given : Given old skipped now
-  pub unanswered : accepted skipped ≡ []
+  pub none_accepted : accepted skipped ≡ []
   pub left : accepted (records_left old) ≡ accepted (records_left now)
 
 module _ (accepted : List (Result EncodedRecord Fault) → List (Result RecordItem Fault)) (nothing : accepted [] ≡ []) (append : (xs ys : List (Result EncodedRecord Fault)) → accepted (xs ++ ys) ≡ accepted xs ++ accepted ys) where
   pub skipping_none : (cursor : RecordSection) → SkipsSoFar accepted cursor cursor
-  skipping_none cursor = record { skipped = []; given = none; unanswered = nothing; left = refl }
+  skipping_none cursor = record { skipped = []; given = none; none_accepted = nothing; left = refl }
 
   -- what was left, by the item that is yielded next
-  one_first : (old new : RecordSection) (answer : Result ParsedRecord ParseError) (given : List (Result RecordItem Fault)) → GivesNext old (Some answer) new → accepted (record_result answer ∷ []) ≡ given
+  one_first : (old new : RecordSection) (outcome : Result ParsedRecord ParseError) (given : List (Result RecordItem Fault)) → GivesNext old (Some outcome) new → accepted (record_result outcome ∷ []) ≡ given
       → accepted (records_left old) ≡ given ++ accepted (records_left new)
-  one_first old new answer given calls is =
-      ap accepted calls.steps ∙ append (record_result answer ∷ []) (records_left new) ∙ ap (λ (ys : List (Result RecordItem Fault)). ys ++ accepted (records_left new)) is
+  one_first old new outcome given calls is =
+      ap accepted calls.steps ∙ append (record_result outcome ∷ []) (records_left new) ∙ ap (λ (ys : List (Result RecordItem Fault)). ys ++ accepted (records_left new)) is
 
-  pub skipping_more : (old now new : RecordSection) (answer : Result ParsedRecord ParseError) → SkipsSoFar accepted old now → GivesNext now (Some answer) new → accepted (record_result answer ∷ []) ≡ []
+  pub skipping_more : (old now new : RecordSection) (outcome : Result ParsedRecord ParseError) → SkipsSoFar accepted old now → GivesNext now (Some outcome) new → accepted (record_result outcome ∷ []) ≡ []
       → SkipsSoFar accepted old new
-  skipping_more old now new answer p calls is = record {
-    skipped = p.skipped ++ record_result answer ∷ [];
-    given = given_last answer p.given calls;
-    unanswered = append p.skipped (record_result answer ∷ []) ∙ (λ i. p.unanswered i ++ is i);
-    left = p.left ∙ one_first now new answer [] calls is;
+  skipping_more old now new outcome p calls is = record {
+    skipped = p.skipped ++ record_result outcome ∷ [];
+    given = given_last outcome p.given calls;
+    none_accepted = append p.skipped (record_result outcome ∷ []) ∙ (λ i. p.none_accepted i ++ is i);
+    left = p.left ∙ one_first now new outcome [] calls is;
   }
 
-  pub skipping_accepted : (old now new : RecordSection) (answer : Result ParsedRecord ParseError) (x : Result RecordItem Fault) → SkipsSoFar accepted old now → GivesNext now (Some answer) new
-      → accepted (record_result answer ∷ []) ≡ x ∷ [] → (accepted (records_left old) ≡ x ∷ accepted (records_left new)) × SkipsToNext accepted old new x
-  skipping_accepted old now new answer x p calls is = (
-    p.left ∙ one_first now new answer (x ∷ []) calls is,
-    record { skipped = p.skipped; last = record_result answer; given = given_last answer p.given calls; unanswered = p.unanswered; answered = is },
+  pub skipping_accepted : (old now new : RecordSection) (outcome : Result ParsedRecord ParseError) (x : Result RecordItem Fault) → SkipsSoFar accepted old now → GivesNext now (Some outcome) new
+      → accepted (record_result outcome ∷ []) ≡ x ∷ [] → (accepted (records_left old) ≡ x ∷ accepted (records_left new)) × SkipsToNext accepted old new x
+  skipping_accepted old now new outcome x p calls is = (
+    p.left ∙ one_first now new outcome (x ∷ []) calls is,
+    record { skipped = p.skipped; last = record_result outcome; given = given_last outcome p.given calls; none_accepted = p.none_accepted; is_accepted = is },
   )
 
   pub skipping_ended : (old now new : RecordSection) → SkipsSoFar accepted old now → GivesNext now None new
@@ -118,5 +118,5 @@ module _ (accepted : List (Result EncodedRecord Fault) → List (Result RecordIt
   skipping_ended old now new p calls = (
     p.left ∙ ap accepted calls.steps.0 ∙ nothing,
     ap accepted calls.steps.1 ∙ nothing,
-    record { skipped = p.skipped; before_end = now; given = p.given; ended = calls; unanswered = p.unanswered },
+    record { skipped = p.skipped; before_end = now; given = p.given; ended = calls; none_accepted = p.none_accepted },
   )

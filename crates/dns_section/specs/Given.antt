@@ -13,16 +13,16 @@ use Rattle.dns_section.specs.declared.record_section.RecordSection.{RecordSectio
 -- A cursor yields these items, in order, and becomes the second cursor.
 pub data Given : RecordSection → List (Result EncodedRecord Fault) → RecordSection → Type 0 where
   none : {cursor : RecordSection} → Given cursor [] cursor
-  more : {old mid new : RecordSection} {item : Result EncodedRecord Fault} {items : List (Result EncodedRecord Fault)} (answer : Result ParsedRecord ParseError)
-      → GivesNext old (Some answer) mid → record_result answer ≡ item → Given mid items new → Given old (item ∷ items) new
+  more : {old mid new : RecordSection} {item : Result EncodedRecord Fault} {items : List (Result EncodedRecord Fault)} (outcome : Result ParsedRecord ParseError)
+      → GivesNext old (Some outcome) mid → record_result outcome ≡ item → Given mid items new → Given old (item ∷ items) new
 
--- The cursor skips records for which nothing is yielded. For the next item, a record or a fault, `answer` is yielded.
-pub record SkipsToNext (accepted : List (Result EncodedRecord Fault) → List (Result RecordItem Fault)) (old new : RecordSection) (answer : Result RecordItem Fault) : Type 0 where
+-- The cursor skips records for which nothing is yielded. For the next item, a record or a fault, `outcome` is yielded.
+pub record SkipsToNext (accepted : List (Result EncodedRecord Fault) → List (Result RecordItem Fault)) (old new : RecordSection) (outcome : Result RecordItem Fault) : Type 0 where
   pub skipped : List (Result EncodedRecord Fault)
   pub last : Result EncodedRecord Fault
   pub given : Given old (skipped ++ last ∷ []) new
-  pub unanswered : accepted skipped ≡ []
-  pub answered : accepted (last ∷ []) ≡ answer ∷ []
+  pub none_accepted : accepted skipped ≡ []
+  pub is_accepted : accepted (last ∷ []) ≡ outcome ∷ []
 
 -- The cursor skips all remaining records, as nothing is yielded for them, and ends.
 pub record SkipsToEnd (accepted : List (Result EncodedRecord Fault) → List (Result RecordItem Fault)) (old new : RecordSection) : Type 0 where
@@ -30,22 +30,22 @@ pub record SkipsToEnd (accepted : List (Result EncodedRecord Fault) → List (Re
   pub before_end : RecordSection
   pub given : Given old skipped before_end
   pub ended : GivesNext before_end None new
-  pub unanswered : accepted skipped ≡ []
+  pub none_accepted : accepted skipped ≡ []
 
 -- The cursor skips records for which nothing is yielded, up to the first item for which the iterator yields its result, or to the end.
 abbrev pub SkipsTo : {A : Type 0} → (A → Result RecordItem Fault) → (List (Result EncodedRecord Fault) → List (Result RecordItem Fault)) → RecordSection → RecordSection → Option A → Type 0
-SkipsTo result_of accepted old new (Some answer) = SkipsToNext accepted old new (result_of answer)
+SkipsTo result_of accepted old new (Some outcome) = SkipsToNext accepted old new (result_of outcome)
 SkipsTo result_of accepted old new None = SkipsToEnd accepted old new
 
--- What was left is what was skipped, then the item for which `answer` is yielded, then what is left now.
-pub record YieldsOne (accepted : List (Result EncodedRecord Fault) → List (Result RecordItem Fault)) (before after : List (Result EncodedRecord Fault)) (answer : Result RecordItem Fault) : Type 0 where
+-- What was left is what was skipped, then the item for which `outcome` is yielded, then what is left now.
+pub record YieldsOne (accepted : List (Result EncodedRecord Fault) → List (Result RecordItem Fault)) (before after : List (Result EncodedRecord Fault)) (outcome : Result RecordItem Fault) : Type 0 where
   pub skipped : List (Result EncodedRecord Fault)
   pub last : Result EncodedRecord Fault
   pub left : before ≡ skipped ++ last ∷ after
-  pub unanswered : accepted skipped ≡ []
-  pub answered : accepted (last ∷ []) ≡ answer ∷ []
+  pub none_accepted : accepted skipped ≡ []
+  pub is_accepted : accepted (last ∷ []) ≡ outcome ∷ []
 
 -- The iterator yields its result for the first item that it doesn't skip. If it skips all, it yields nothing and nothing is left.
 abbrev pub YieldsNext : {A : Type 0} → (A → Result RecordItem Fault) → (List (Result EncodedRecord Fault) → List (Result RecordItem Fault)) → List (Result EncodedRecord Fault) → List (Result EncodedRecord Fault) → Option A → Type 0
-YieldsNext result_of accepted before after (Some answer) = YieldsOne accepted before after (result_of answer)
+YieldsNext result_of accepted before after (Some outcome) = YieldsOne accepted before after (result_of outcome)
 YieldsNext result_of accepted before after None = (accepted before ≡ []) × (after ≡ [])

@@ -112,7 +112,7 @@ fn typed<'a, D: ParseRecordData<'a> + Drop>(
     in_only: bool,
 ) -> Option<Result<Record<ParsedName<'a>, D>, ParseError>>
     requires { ForOk item (λ parsed. HasSpan (encoded_record parsed)) }
-    ensures answer { limited_by D.layout in_only (record_result item.entry ∷ [])
+    ensures outcome { limited_by D.layout in_only (record_result item.entry ∷ [])
         ≡ option_to_list (option_map (typed_result D.rtype_of D.parts) result) }
     ensures error { IfErr item.entry (λ e. result ≡ Some (Err e)) }
 {

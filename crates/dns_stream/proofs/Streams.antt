@@ -52,7 +52,7 @@ answers capacity grows t xs OutOfMemory l f few h = (fits_stream capacity t xs l
 
 refuses : (capacity : Option ℕ) (grows : Bool) (xs : List ℕ) (t u : Written) (e : AppendError) → 2 ≤ length t.octets → Fits capacity (length t.octets) → length (drop 2 t.octets ++ xs) ≤ 65535
     → Appends capacity grows (encode_octets xs) t u {X = Unit {0}} (Err e) → Appends (stream_capacity capacity) grows (encode_octets xs) (plain (drop 2 t.octets)) (plain (drop 2 u.octets)) {X = Unit {0}} (Err e)
-refuses capacity grows xs t u e l f few h = record { ok = tt; err = ap (λ (w : Written). plain (drop 2 w.octets)) h.err; answer = answers capacity grows t xs e l f few h.answer }
+refuses capacity grows xs t u e l f few h = record { ok = tt; err = ap (λ (w : Written). plain (drop 2 w.octets)) h.err; outcome = answers capacity grows t xs e l f few h.outcome }
 
 -- An error in appending to the wrapped target is one in appending to the message.
 pub refused : (capacity : Option ℕ) (grows : Bool) (xs : List ℕ) (t u : Written) (v : List ℕ) (r : Result (Unit {0}) AppendError) (e : AppendError) → 2 ≤ length t.octets → Fits capacity (length t.octets) → drop 2 t.octets ≡ v → length v + length xs ≤ 65535 → r ≡ Err e

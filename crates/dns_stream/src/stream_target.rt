@@ -56,7 +56,7 @@ impl<T: Composer> StreamTarget<T> {
     pub fn new(target: T) -> Result<Self, AppendError>
         requires { T.rule ≡ Plain }
         ensures empty { IfOk result (λ stream. stream ≡ []) }
-        ensures answer { AppendReturns T.capacity T.grows 2 result }
+        ensures outcome { AppendReturns T.capacity T.grows 2 result }
     {
         let mut target = target;
         target.truncate(0);

@@ -75,13 +75,13 @@ octets_appended rule capacity grows all_grow w v now xs ys (Ok x) h more s a =
     subst (λ (t : Written). Appends capacity all_grow (encode_octets ys) t (with_table_entries v xs) {X = Unit {0}} (Ok x)) s (record {
       ok = same_written _ _ (ap (λ (t : Written). t.octets) a.ok) (same_entries rule w v xs h (octets_kept rule w v xs ys h a.ok));
       err = tt;
-      answer = a.answer;
+      outcome = a.outcome;
     })
 octets_appended rule capacity grows all_grow w v now xs ys (Err e) h more s a =
     subst (λ (t : Written). Appends capacity all_grow (encode_octets ys) t (with_table_entries v xs) {X = Unit {0}} (Err e)) s (record {
       ok = tt;
       err = ap (λ (t : Written). with_table_entries t xs) a.err;
-      answer = result_by e a.answer;
+      outcome = result_by e a.outcome;
     })
   where
     result_by : (e : AppendError) → AppendReturns {X = Unit {0}} capacity grows (length (append (encode_octets ys) w).octets) (Err e)
@@ -209,7 +209,7 @@ pub name_fits : (compressing : Rule) (capacity : Option ℕ) (grows : Bool) (w v
     → Fits capacity (length (append (encode_name compressing name) now).octets)
 name_fits compressing capacity grows w v now xs name text ss a encoding s =
     subst (λ (t : Written). Fits capacity (length (append (encode_name compressing name) t).octets)) s
-    (subst (λ (ys : List ℕ). Fits capacity (length (w.octets ++ ys))) (sym encoding.octets) a.answer)
+    (subst (λ (ys : List ℕ). Fits capacity (length (w.octets ++ ys))) (sym encoding.octets) a.outcome)
 
 -- a name is appended
 pub name_appended : (rule compressing : Rule) (capacity : Option ℕ) (grows all_grow : Bool) (w v now : Written) (xs us : List TableEntry) (name : Labels) (text : List ℕ) (ss : List (Labels × ℕ))
@@ -219,7 +219,7 @@ pub name_appended : (rule compressing : Rule) (capacity : Option ℕ) (grows all
 name_appended rule compressing capacity grows all_grow w v now xs us name text ss is h a encoding f s = record {
   ok = put_entries rule compressing w v now xs us name text ss is h a.ok encoding f s;
   err = tt;
-  answer = name_fits compressing capacity grows w v now xs name text ss a encoding s;
+  outcome = name_fits compressing capacity grows w v now xs name text ss a encoding s;
 }
 
 -- an append of a name fails
@@ -232,7 +232,7 @@ name_refused compressing capacity grows all_grow w v now xs us name text ss r e 
     (subst (λ (t : Written). Appends capacity all_grow (encode_name compressing name) t (with_table_entries v xs) {X = Unit {0}} (Err e)) s (record {
       ok = tt;
       err = ap (λ (t : Written). with_table_entries t xs) a.err;
-      answer = result_by e a.answer;
+      outcome = result_by e a.outcome;
     }))
   where
     result_by : (e : AppendError) → AppendReturns {X = Unit {0}} capacity grows (length (append (encode_octets text) w).octets) (Err e)
@@ -366,5 +366,5 @@ pub name_forgotten : (compressing : Rule) (capacity : Option ℕ) (all_grow : Bo
 name_forgotten compressing capacity all_grow w u now xs us name fits more o e s = record {
   ok = tt;
   err = (λ i. record { octets = o i; table = table_in (o i) (e i) }) ∙ s;
-  answer = (fits, more);
+  outcome = (fits, more);
 }

@@ -87,13 +87,13 @@ ComposeReturns capacity grows n (Err OutOfMemory) = IsTrue grows
 pub record Appends (capacity : Option ℕ) (grows : Bool) (encoder : Encoder) (before after : Written) {X : Type 0} (result : Result X AppendError) : Type 0 where
   pub ok : OnOk result (after ≡ append encoder before)
   pub err : OnErr result (after ≡ before)
-  pub answer : AppendReturns capacity grows (length (append encoder before).octets) result
+  pub outcome : AppendReturns capacity grows (length (append encoder before).octets) result
 
 -- An encoding appended in several steps. On error, truncating to the old length undoes it.
 pub record Composes (capacity : Option ℕ) (grows : Bool) (encoder : Encoder) (before after : Written) {X : Type 0} (result : Result X AppendError) : Type 0 where
   pub ok : OnOk result (after ≡ append encoder before)
   pub err : OnErr result (cut_to (length before.octets) after ≡ cut_to (length before.octets) before)
-  pub answer : ComposeReturns capacity grows (length (append encoder before).octets) result
+  pub outcome : ComposeReturns capacity grows (length (append encoder before).octets) result
 
 -- What a target holds, coded as plain data, so that it can be the value of a model.
 

@@ -19,7 +19,7 @@ use Rattle.dns_item.specs.declared.record.Record.{Record}
 pub data_is_parsed : DataIsParsed
 unfolding data_in
 data_is_parsed = record {
-  answer = λ x layout. (one_parsed_data x layout).some.1;
+  outcome = λ x layout. (one_parsed_data x layout).some.1;
   only = λ x layout r h. (one_parsed_data x layout).one _ r (one_parsed_data x layout).some.1 h;
 }
 
@@ -42,10 +42,10 @@ module _ {D : Type 0} (rtype_of : D → ℕ) (parts_of : D → List Part) (x : E
   given (Some layout) (Err e) h = ap (λ (y : Result RecordItem Fault). Some y) (laid_out-given layout (Err e) h)
 
   -- the same of a record whose RDATA is all there
-  pub laid_out-answered : (layout : Layout) (r : Result (Record ParsedName D) ParseError) → ReturnsLaidOut rtype_of parts_of x.octets x.entry layout r
+  pub laid_out-returned : (layout : Layout) (r : Result (Record ParsedName D) ParseError) → ReturnsLaidOut rtype_of parts_of x.octets x.entry layout r
       → typed_result rtype_of parts_of r ≡ laid_out x layout
-  laid_out-answered layout r h = laid_out-given layout r (h.gives span.end)
+  laid_out-returned layout r h = laid_out-given layout r (h.gives span.end)
 
-  pub parsed_as-answered : (taken : Option Layout) (r : Result (Option (Record ParsedName D)) ParseError) → ReturnsTaken rtype_of parts_of x.octets x.entry taken r
+  pub parsed_as-returned : (taken : Option Layout) (r : Result (Option (Record ParsedName D)) ParseError) → ReturnsTaken rtype_of parts_of x.octets x.entry taken r
       → option_map (typed_result rtype_of parts_of) (result_transpose r) ≡ option_map (laid_out x) taken
-  parsed_as-answered taken r h = given taken r (h.gives span.end)
+  parsed_as-returned taken r h = given taken r (h.gives span.end)

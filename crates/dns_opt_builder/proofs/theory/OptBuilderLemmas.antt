@@ -51,7 +51,7 @@ of_builder builder = record { listed = builder.listed; whole = builder.whole; sh
 
 -- an append keeps this, whatever it returns
 pub kept : (x : OptionItem) (old : OptBuilder) (c : List ℕ) (r : Result (Unit {0}) AppendError) → x.code < 65536 → AppendsOption x (option_capacity old) (option_octets old) c r → AreKept c
-kept x old c (Ok _) code a = (grown x (option_octets old) c (of_builder old) code a.answer a.ok).kept
+kept x old c (Ok _) code a = (grown x (option_octets old) c (of_builder old) code a.outcome a.ok).kept
 kept x old c (Err e) code a = subst (λ (d : List ℕ). AreKept d) (sym a.err) (of_builder old)
 
 -- the builder with other octets
@@ -70,13 +70,13 @@ pub adds : (x : OptionItem) (old : OptBuilder) (list : Vec ℕ Global) (r : Resu
     (a : AppendsOption x (option_capacity old) (option_octets old) list.items r) → Adds x old (holding old list (kept x old list.items r code a)) r
 adds x old list (Ok _) code a =
     let g : List OptionItem → Gathered = λ xs. record (gathered old) { options = xs } in
-    (ap g (grown x (option_octets old) list.items (of_builder old) code a.answer a.ok).options, omega (arith, ap length old.whole, a.answer))
+    (ap g (grown x (option_octets old) list.items (of_builder old) code a.outcome a.ok).options, omega (arith, ap length old.whole, a.outcome))
 adds x old list (Err ShortBuf) code a =
     let g : List ℕ → Gathered = λ c. record (gathered old) { options = options_in c } in
-    (omega (arith, ap length old.whole, a.answer), ap g a.err)
+    (omega (arith, ap length old.whole, a.outcome), ap g a.err)
 adds x old list (Err OutOfMemory) code a =
     let g : List ℕ → Gathered = λ c. record (gathered old) { options = options_in c } in
-    (omega (arith, ap length old.whole, a.answer.0), ap g a.err, omega (arith, ap length old.whole, a.full refl))
+    (omega (arith, ap length old.whole, a.outcome.0), ap g a.err, omega (arith, ap length old.whole, a.full refl))
 
 -- what a builder has collected, with the remaining options after its own
 abbrev pub with_left : OptBuilder → List OptionItem → Gathered

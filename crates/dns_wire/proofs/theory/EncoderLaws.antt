@@ -239,16 +239,16 @@ exceeds_more (Some r) n k l h = omega arith
 
 -- One append of an encoding composes it.
 pub appends_compose : AppendsCompose
-appends_compose capacity grows a t u (Ok x) h = record { ok = h.ok; err = h.err; answer = h.answer }
-appends_compose capacity grows a t u (Err ShortBuf) h = record { ok = h.ok; err = ap (cut_to (length t.octets)) h.err; answer = h.answer }
-appends_compose capacity grows a t u (Err OutOfMemory) h = record { ok = h.ok; err = ap (cut_to (length t.octets)) h.err; answer = h.answer.1 }
+appends_compose capacity grows a t u (Ok x) h = record { ok = h.ok; err = h.err; outcome = h.outcome }
+appends_compose capacity grows a t u (Err ShortBuf) h = record { ok = h.ok; err = ap (cut_to (length t.octets)) h.err; outcome = h.outcome }
+appends_compose capacity grows a t u (Err OutOfMemory) h = record { ok = h.ok; err = ap (cut_to (length t.octets)) h.err; outcome = h.outcome.1 }
 
 -- An encoding that is composed after a written one composes both.
 pub composes_both : ComposesBoth
 composes_both capacity grows a b t u v (Ok x) g e h = record {
   ok = h.ok ∙ (ap (append b) e ∙ append-both a b t);
   err = tt;
-  answer = subst (λ w. Fits capacity (length w.octets)) (ap (append b) e ∙ append-both a b t) h.answer;
+  outcome = subst (λ w. Fits capacity (length w.octets)) (ap (append b) e ∙ append-both a b t) h.outcome;
 }
 composes_both capacity grows a b t u v (Err d) g e h = record {
   ok = tt;
@@ -256,7 +256,7 @@ composes_both capacity grows a b t u v (Err d) g e h = record {
       let longer : length t.octets ≤ length u.octets = rw e (rw length-append (omega arith)) in
       sym (cut_to-cut_to v (length t.octets) (length u.octets) longer) ∙ ap (cut_to (length t.octets)) h.err
       ∙ cut_to-cut_to u _ _ longer ∙ ap (cut_to (length t.octets)) e ∙ cut_to-append a t (length t.octets) g (omega arith);
-  answer = subst (λ w. ComposeReturns {X = Unit} capacity grows (length w.octets) (Err d)) (ap (append b) e ∙ append-both a b t) h.answer;
+  outcome = subst (λ w. ComposeReturns {X = Unit} capacity grows (length w.octets) (Err d)) (ap (append b) e ∙ append-both a b t) h.outcome;
 }
 
 -- An error in composing the first encoding is one in composing both.
@@ -265,9 +265,9 @@ stopped : (capacity : Option ℕ) (grows : Bool) (a b : Encoder) (t u : Written)
 stopped capacity grows a b t u ShortBuf h = record {
   ok = tt;
   err = h.err;
-  answer = exceeds_more capacity (length (append a t).octets) (length (append (both a b) t).octets) (rw (length-append, length-append, length-append) (omega arith)) h.answer;
+  outcome = exceeds_more capacity (length (append a t).octets) (length (append (both a b) t).octets) (rw (length-append, length-append, length-append) (omega arith)) h.outcome;
 }
-stopped capacity grows a b t u OutOfMemory h = record { ok = tt; err = h.err; answer = h.answer }
+stopped capacity grows a b t u OutOfMemory h = record { ok = tt; err = h.err; outcome = h.outcome }
 
 -- If composing the first of two encodings fails, so does composing both.
 pub composes_first : ComposesFirst

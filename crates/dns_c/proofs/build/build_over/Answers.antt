@@ -13,7 +13,7 @@ pub returns-in_err-builder-clause-none : goal.returns-in_err-builder-clause-none
 returns-in_err-builder-clause-none g c =
     let m = c.in_ok-check_all.ensures.mean in
     let p = err_from_is_err_and c.from_residual-in_err-builder.result c.from_residual-in_err-builder.ensures.1 in
-    rw (p.1, p.2) (unbuilt_header _ _ _ _ _ m.0 m.1 c.from_target.result c.in_err-builder.field-0.0 c.in_err-builder.was c.from_target.ensures.answer)
+    rw (p.1, p.2) (unbuilt_header _ _ _ _ _ m.0 m.1 c.from_target.result c.in_err-builder.field-0.0 c.in_err-builder.was c.from_target.ensures.outcome)
 
 pub returns-in_err-push_questions-clause-none : goal.returns-in_err-push_questions-clause-none
 returns-in_err-push_questions-clause-none g c =

@@ -16,8 +16,8 @@ loop-option-preserved c =
     let added = subst (λ r. Adds (option_of c.option-item.result) c.loop-option.builder c.push.new.self r) c.in_ok-push.was c.push.ensures in
     record {
       all = one_added _ c.loop-option.builder c.push.new.self _ _ added.0 first ∙ c.loop-option.invariant.all;
-      adds = λ answer rest. c.loop-option.invariant.adds answer
-          (subst (λ xs. AddsAll (gathered_size (gathered c.loop-option.builder)) xs answer) (sym first) (added_first _ c.loop-option.builder c.push.new.self _ answer added rest));
+      adds = λ outcome rest. c.loop-option.invariant.adds outcome
+          (subst (λ xs. AddsAll (gathered_size (gathered c.loop-option.builder)) xs outcome) (sym first) (added_first _ c.loop-option.builder c.push.new.self _ outcome added rest));
     }
 
 pub returns-in_err-push-clause-adds : goal.returns-in_err-push-clause-adds

@@ -9,6 +9,6 @@ use Rattle.dns_message.proofs.opt_plan.push_options.Given as goal
 abbrev pub invariant-loop-option : goal.invariant-loop-option
 invariant-loop-option l = record {
   all : with_left l.builder (map option_of (drop l.option-index l.options)) ≡ with_left l.fn.builder (map option_of l.options);
-  adds : (answer : _) → AddsAll (gathered_size (gathered l.builder)) (map option_of (drop l.option-index l.options)) answer
-      → AddsAll (gathered_size (gathered l.fn.builder)) (map option_of l.options) answer;
+  adds : (outcome : _) → AddsAll (gathered_size (gathered l.builder)) (map option_of (drop l.option-index l.options)) outcome
+      → AddsAll (gathered_size (gathered l.fn.builder)) (map option_of l.options) outcome;
 }

@@ -20,6 +20,6 @@ returns c =
     record {
       ok = with_head _ _ _ _ _ c.in_ok-begin_option.ensures.head (c.loop-number.invariant.items ∙ ap (λ (ns : List ℕ). c.begin_option.new.list.items ++ flat_map (to_be_bytes w16) ns) whole);
       err = tt;
-      answer = omega (arith, numbers_length c.args.numbers.now, c.in_ok-begin_option.ensures.answer);
+      outcome = omega (arith, numbers_length c.args.numbers.now, c.in_ok-begin_option.ensures.outcome);
       full = λ reported. absurd (cc reported);
     }

@@ -12,7 +12,7 @@ use Rattle.dns_item.specs.RecordReading.{ReturnsTaken}
 use Rattle.dns_item.specs.TypedRecords.{typed_result}
 use Rattle.dns_item.specs.declared.parsed_record.ParsedRecord.{ParsedRecord}
 use Rattle.dns_item.specs.declared.record.Record.{Record}
-use Rattle.dns_item.proofs.theory.TypedLemmas.{parsed_as-answered}
+use Rattle.dns_item.proofs.theory.TypedLemmas.{parsed_as-returned}
 use Rattle.std.specs.Result.{result_transpose}
 use Rattle.dns_section.specs.Limited.{limited_by}
 use Rattle.dns_section.specs.RecordSection.{record_result}
@@ -29,15 +29,15 @@ record_taken : {D : Type 0} (rtype_of : D → ℕ) (parts_of : D → List Part) 
 record_taken {D = D} rtype_of parts_of layouts in_only item r read result is span answers transposed class =
     ap (λ (x : Result ParsedRecord ParseError). limited_by layouts in_only (record_result x ∷ [])) is
     ∙ limited_by-one layouts in_only (encoded_record r) class
-    ∙ ap (λ (o : Option (Result RecordItem Fault)). option_to_list o) (sym (parsed_as-answered rtype_of parts_of (encoded_record r) span (layouts (parsed_entry r).rtype) read answers))
+    ∙ ap (λ (o : Option (Result RecordItem Fault)). option_to_list o) (sym (parsed_as-returned rtype_of parts_of (encoded_record r) span (layouts (parsed_entry r).rtype) read answers))
     ∙ ap (λ (o : Option (Result (Record ParsedName D) ParseError)). option_to_list (option_map (typed_result rtype_of parts_of) o)) (sym transposed)
 
 not_false : (b : Bool) → false ≡ not b → b ≡ true
 not_false true e = cc
 not_false false e = cc
 
-pub returns-else-in_only-clause-answer : goal.returns-else-in_only-clause-answer
-returns-else-in_only-clause-answer g c =
+pub returns-else-in_only-clause-outcome : goal.returns-else-in_only-clause-outcome
+returns-else-in_only-clause-outcome g c =
     record_taken g.D.RecordData.rtype_of g.D.RecordData.parts g.D.ParseRecordData.layout c.args.in_only c.args.item c.in-Ok.record c.to_record.result c.transpose.result c.in-Ok.is
     (c.requires c.in-Ok.record c.in-Ok.is) c.to_record.ensures.returned c.transpose.ensures
     (elim c.else-in_only.branch [

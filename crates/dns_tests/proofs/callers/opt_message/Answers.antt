@@ -16,8 +16,8 @@ without_error capacity grows limit n count (Err e) v h = absurd (cc)
 
 -- and so was a record that is pushed
 was_done : (capacity : Option ℕ) (grows : Bool) (rule : Rule) (call : OptBuilder → Result (Unit {0}) AppendError → OptBuilder → Type 0) (s : State) (new : Built) (v : Unit {0})
-    (p : PushesOpt capacity grows rule call s new (Ok v)) → p.answer ≡ Ok tt
-was_done capacity grows rule call s new v p = without_error capacity grows s.limit (size_after rule (with_record InAdditional (opt_record p.g)) s) (length s.additionals) p.answer v p.answers
+    (p : PushesOpt capacity grows rule call s new (Ok v)) → p.outcome ≡ Ok tt
+was_done capacity grows rule call s new v p = without_error capacity grows s.limit (size_after rule (with_record InAdditional (opt_record p.g)) s) (length s.additionals) p.outcome v p.answers
 
 pub returns : goal.returns
 returns g c =

@@ -18,7 +18,7 @@ returns-in_err-gather-clause-pushes g c = λ s represents.
     let e = c.in_err-gather.field-0.0 in
     rw (p.1, p.2) (record {
       g = _;
-      answer = _;
+      outcome = _;
       gathers = record {
         before = c.new-gathered.result;
         after = _;
@@ -41,7 +41,7 @@ returns-in_err-push-clause-pushes g c = λ s represents.
     let size : RecordItem → ℕ = λ x. size_after g.T.Composer.rule (with_record InAdditional x) s in
     rw (p.1, p.2) (record {
       g = _;
-      answer = _;
+      outcome = _;
       gathers = record {
         before = c.new-gathered.result;
         after = _;
@@ -69,7 +69,7 @@ returns-clause-pushes g c = λ s represents.
     let header : c.with_rcode.result ≡ with_rcode (gathered c.gather.new.arg2).header.rcode s.header = c.with_rcode.ensures ∙ (λ i. with_rcode (rcode i) (c.header-2.ensures pushed there i)) in
     record {
       g = gathered c.gather.new.arg2;
-      answer = _;
+      outcome = _;
       gathers = record {
         before = c.new-gathered.result;
         after = _;

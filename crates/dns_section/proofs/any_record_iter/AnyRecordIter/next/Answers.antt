@@ -11,7 +11,7 @@ use Rattle.dns_item.specs.RecordReading.{ReturnsLaidOut}
 use Rattle.dns_item.specs.TypedRecords.{typed_result}
 use Rattle.dns_item.specs.declared.parsed_record.ParsedRecord.{ParsedRecord}
 use Rattle.dns_item.specs.declared.record.Record.{Record}
-use Rattle.dns_item.proofs.theory.TypedLemmas.{laid_out-answered}
+use Rattle.dns_item.proofs.theory.TypedLemmas.{laid_out-returned}
 use Rattle.dns_section.specs.AnyRecordIter.{every}
 use Rattle.dns_section.specs.Given.{SkipsToNext}
 use Rattle.dns_section.specs.Limited.{limited}
@@ -21,26 +21,26 @@ use Rattle.dns_section.proofs.LimitedLemmas.{limited-append, given_span, skippin
 use Rattle.dns_section.proofs.any_record_iter.AnyRecordIter.next.Goals as goal
 
 -- a record that the cursor yielded is parsed with its RDATA and yielded
-record_answered : {D : Type 0} (rtype_of : D → ℕ) (parts_of : D → List Part) (layouts : ℕ → Layout) (old new : RecordSection) (r : ParsedRecord) (answer : Result (Record ParsedName D) ParseError)
+record_accepted : {D : Type 0} (rtype_of : D → ℕ) (parts_of : D → List Part) (layouts : ℕ → Layout) (old new : RecordSection) (r : ParsedRecord) (answer : Result (Record ParsedName D) ParseError)
     → GivesNext old (Some (Ok r)) new → ReturnsLaidOut rtype_of parts_of (octets_of r) (parsed_entry r) (layouts (parsed_entry r).rtype) answer
     → (limited (every layouts) (records_left old) ≡ typed_result rtype_of parts_of answer ∷ limited (every layouts) (records_left new))
     × SkipsToNext (limited (every layouts)) old new (typed_result rtype_of parts_of answer)
-record_answered rtype_of parts_of layouts old new r answer calls h =
+record_accepted rtype_of parts_of layouts old new r answer calls h =
     skipping_accepted (limited (every layouts)) refl (limited-append (every layouts)) old old new (Ok r) (typed_result rtype_of parts_of answer)
     (skipping_none (limited (every layouts)) refl (limited-append (every layouts)) old) calls
-    (ap (λ (x : Result RecordItem Fault). x ∷ []) (sym (laid_out-answered rtype_of parts_of (encoded_record r) (given_span old new r calls) (layouts (parsed_entry r).rtype) answer h)))
+    (ap (λ (x : Result RecordItem Fault). x ∷ []) (sym (laid_out-returned rtype_of parts_of (encoded_record r) (given_span old new r calls) (layouts (parsed_entry r).rtype) answer h)))
 
 pub returns-in-Some-Ok-clause-steps : goal.returns-in-Some-Ok-clause-steps
 returns-in-Some-Ok-clause-steps g c =
     let e = c.next.ensures in
     let calls = subst (λ (r : Option (Result ParsedRecord ParseError)). GivesNext c.args.self.now.cursor r c.next.new.self) (c.in-Some-Ok.is ∙ ap (λ (x : Result ParsedRecord ParseError). Some x) c.in-Some-Ok.field-0-is) (record { steps = e.steps; moves = e.moves; counts = e.counts; octets = e.octets; section = e.section }) in
-    (record_answered g.D.RecordData.rtype_of g.D.RecordData.parts g.D.ParseAnyRecordData.any_layout c.args.self.now.cursor c.next.new.self c.in-Some-Ok.record c.to_any_record.result calls c.to_any_record.ensures.returned).0
+    (record_accepted g.D.RecordData.rtype_of g.D.RecordData.parts g.D.ParseAnyRecordData.any_layout c.args.self.now.cursor c.next.new.self c.in-Some-Ok.record c.to_any_record.result calls c.to_any_record.ensures.returned).0
 
 pub returns-in-Some-Ok-clause-moves : goal.returns-in-Some-Ok-clause-moves
 returns-in-Some-Ok-clause-moves g c =
     let e = c.next.ensures in
     let calls = subst (λ (r : Option (Result ParsedRecord ParseError)). GivesNext c.args.self.now.cursor r c.next.new.self) (c.in-Some-Ok.is ∙ ap (λ (x : Result ParsedRecord ParseError). Some x) c.in-Some-Ok.field-0-is) (record { steps = e.steps; moves = e.moves; counts = e.counts; octets = e.octets; section = e.section }) in
-    (record_answered g.D.RecordData.rtype_of g.D.RecordData.parts g.D.ParseAnyRecordData.any_layout c.args.self.now.cursor c.next.new.self c.in-Some-Ok.record c.to_any_record.result calls c.to_any_record.ensures.returned).1
+    (record_accepted g.D.RecordData.rtype_of g.D.RecordData.parts g.D.ParseAnyRecordData.any_layout c.args.self.now.cursor c.next.new.self c.in-Some-Ok.record c.to_any_record.result calls c.to_any_record.ensures.returned).1
 
 pub returns-in-Some-Err-clause-moves : goal.returns-in-Some-Err-clause-moves
 returns-in-Some-Err-clause-moves g c =

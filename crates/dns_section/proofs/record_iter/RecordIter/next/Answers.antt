@@ -21,7 +21,7 @@ returns-in-Some-typed-clause-moves g c =
     let in_only = c.args.self.now.in_only in
     let e = c.in-Some.ensures in
     let calls : GivesNext l.self.cursor (Some c.in-Some.item) c.next.new.self = record { steps = e.steps; moves = e.moves; counts = e.counts; octets = e.octets; section = e.section } in
-    let is = subst (λ (b : Bool). limited_by layouts b (record_result c.in-Some.item ∷ []) ≡ typed_result g.D.RecordData.rtype_of g.D.RecordData.parts c.in-Some-typed.answer ∷ []) l.invariant.0 c.in-Some-typed.ensures.answer in
+    let is = subst (λ (b : Bool). limited_by layouts b (record_result c.in-Some.item ∷ []) ≡ typed_result g.D.RecordData.rtype_of g.D.RecordData.parts c.in-Some-typed.answer ∷ []) l.invariant.0 c.in-Some-typed.ensures.outcome in
     (skipping_accepted (limited_by layouts in_only) (limited_by-none layouts in_only) (limited_by-append layouts in_only) c.args.self.now.cursor l.self.cursor c.next.new.self c.in-Some.item _ l.invariant.1 calls is).1
 
 pub returns-in-Some-typed-clause-yields : goal.returns-in-Some-typed-clause-yields
@@ -35,5 +35,5 @@ loop-item-preserved g c =
     let e = c.in-Some.ensures in
     let calls : GivesNext l.self.cursor (Some c.in-Some.item) c.next.new.self = record { steps = e.steps; moves = e.moves; counts = e.counts; octets = e.octets; section = e.section } in
     let none : List (Result RecordItem Fault) = [] in
-    let is = subst (λ (b : Bool). limited_by layouts b (record_result c.in-Some.item ∷ []) ≡ none) l.invariant.0 c.in_default-typed.ensures.answer in
+    let is = subst (λ (b : Bool). limited_by layouts b (record_result c.in-Some.item ∷ []) ≡ none) l.invariant.0 c.in_default-typed.ensures.outcome in
     (l.invariant.0, skipping_more (limited_by layouts in_only) (limited_by-none layouts in_only) (limited_by-append layouts in_only) c.args.self.now.cursor l.self.cursor c.next.new.self c.in-Some.item l.invariant.1 calls is)
