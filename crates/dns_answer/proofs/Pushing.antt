@@ -14,7 +14,7 @@ use Rattle.dns_build.specs.State.{InAnswer, State, with_record, most_entries, tc
 use Rattle.dns_build.specs.declared.push_error.PushError.{PushError}
 use Rattle.dns_build.specs.declared.push_error.PushError.TheVariants.{CountOverflow, LimitExceeded, ShortBuf, OutOfMemory}
 use Rattle.dns_answer.specs.Answering.{is_asked, asked_records, with_answers, size, all_or_none}
-use Rattle.dns_answer.specs.Pushing.{MoreAnswers, PushesEach, AddsAll}
+use Rattle.dns_answer.specs.Pushing.{MoreAnswers, PushesEach, AddsRecords}
 use Rattle.dns_answer.proofs.Sizes.{longer_answers, items_within}
 
 -- no further answers
@@ -136,13 +136,13 @@ chosen : (xs : List RecordItem) (s : State) (b : Bool) → nat_le (size (with_an
 chosen xs s b is = ap (λ (t : Bool). cond t (with_answers xs s) (tc_rewound InAnswer s)) is
 
 -- all matches are added
-pub all_added : (xs : List RecordItem) (s : State) (new : Built) → MoreAnswers s new xs → AddsAll xs s (Ok new)
+pub all_added : (xs : List RecordItem) (s : State) (new : Built) → MoreAnswers s new xs → AddsRecords xs s (Ok new)
 all_added xs s new more l =
     subst (λ (t : State). Represents InAnswer Plain t new) (sym (chosen xs s true (le-leb (size (with_answers xs s)) s.limit (more.within l)))) more.represents
 
 -- no match is added, and TC is set
 pub none_added : (xs : List RecordItem) (s : State) (mid new : Built) → PushesEach xs s (Err LimitExceeded) mid
-    → MovesState InAnswer InAnswer Plain (tc_rewound InAnswer) mid new → AddsAll xs s (Ok new)
+    → MovesState InAnswer InAnswer Plain (tc_rewound InAnswer) mid new → AddsRecords xs s (Ok new)
 none_added xs s mid new p moves l =
     let other = lt-leb (size (with_answers xs s)) s.limit p.2 in
     subst (λ (t : State). Represents InAnswer Plain t new) (sym (chosen xs s false other)) (moves (with_answers p.0 s) p.1.represents)

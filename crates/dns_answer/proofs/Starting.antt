@@ -26,7 +26,7 @@ use Rattle.dns_build.specs.declared.push_error.PushError.{PushError}
 use Rattle.dns_build.specs.declared.push_error.PushError.TheVariants.{CountOverflow, LimitExceeded, ShortBuf, OutOfMemory}
 use Rattle.dns_answer.specs.declared.answering.NoAnswer.TheVariants.{Refused}
 use Rattle.dns_answer.specs.Answering.{HasNoAnswer, IsMessage, answer_to, asked_again, asked_records, format_error, payload_size, size, size_said, with_answers}
-use Rattle.dns_answer.specs.Pushing.{AddsAll, RefusesMore}
+use Rattle.dns_answer.specs.Pushing.{AddsRecords, RefusesMore}
 use Rattle.dns_answer.proofs.Sizes.{sized, size_moved, cut_within, longer_questions, items_within}
 
 -- the state of a new builder, limited to what the client of a query accepts
@@ -102,7 +102,7 @@ module _ (b : List ℕ) where
 
   -- a started reply to which the matches are added is the answer
   pub answered : (table : List RecordItem) (asked : QuestionItem) (mid new : Built) → GivesAnswer None true Plain (answering 0 b (client b)) (readable_questions b) (Ok mid)
-      → InEach InAnswer Plain mid (λ s. AddsAll (asked_records asked table) s (Ok new)) → Represents InAnswer Plain (answer_to b table asked) new
+      → InEach InAnswer Plain mid (λ s. AddsRecords (asked_records asked table) s (Ok new)) → Represents InAnswer Plain (answer_to b table asked) new
   answered table asked mid new gives adds = adds (asked_again b) gives.1 (started_within gives.0)
 
   -- if the first question can't be read, no question can

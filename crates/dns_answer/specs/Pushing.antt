@@ -29,6 +29,6 @@ PushesEach xs s (Err ShortBuf) new = RefusesMore s ShortBuf
 PushesEach xs s (Err CountOverflow) new = RefusesMore s CountOverflow
 
 -- a builder within its limit gets all of these records, or none and TC; or a push fails
-abbrev pub AddsAll : List RecordItem → State → Result Built PushError → Type 0
-AddsAll xs s (Ok new) = size s ≤ s.limit → Represents InAnswer Plain (all_or_none xs s) new
-AddsAll xs s (Err e) = RefusesMore s e
+abbrev pub AddsRecords : List RecordItem → State → Result Built PushError → Type 0
+AddsRecords xs s (Ok new) = size s ≤ s.limit → Represents InAnswer Plain (all_or_none xs s) new
+AddsRecords xs s (Err e) = RefusesMore s e

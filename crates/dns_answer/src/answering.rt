@@ -11,7 +11,7 @@ ghost use Rattle.dns_read.specs.Searches.{asked_first};
 ghost use Rattle.dns_build.specs.State.{InAnswer, InBuilder, with_limit};
 ghost use Rattle.dns_build.specs.BuilderStates.{InEach, Represents, fresh};
 ghost use Rattle.dns_answer.specs.Answering.{HasNoAnswer, IsMessage, answer_to, asked_records, format_error, is_asked, payload_size};
-ghost use Rattle.dns_answer.specs.Pushing.{AddsAll, PushesEach};
+ghost use Rattle.dns_answer.specs.Pushing.{AddsRecords, PushesEach};
 
 use dns_message::builder::{AnswerBuilder, MessageBuilder, PushError};
 use dns_message::code::Rcode;
@@ -103,7 +103,7 @@ fn with_found<N: ToName, D: ComposeRecordData>(
 ) -> Result<AnswerBuilder<Vec<u8>>, PushError>
     ensures { let records = map (record_item N.name D.rtype_of D.parts) table.now in
         InEach InAnswer Plain builder (λ s.
-        AddsAll (asked_records (parsed_question question.now) records) s result) }
+        AddsRecords (asked_records (parsed_question question.now) records) s result) }
 {
     let mut builder = builder;
     match push_found(&mut builder, question, table) {

@@ -10,7 +10,7 @@ ghost use Rattle.dns_data.specs.UnknownData.{opaque_layout};
 ghost use Rattle.dns_any_data.specs.AnyLayout.{count_of, names_in, octets_in, any_layout};
 
 use dns_message::code::Rtype;
-use dns_message::data::laws::{names_are_short, parts_compose};
+use dns_message::data::laws::{names_are_bounded, parts_compose};
 use dns_message::data::{ComposeRecordData, ParseAnyRecordData, RecordData};
 use dns_message::name::{ParsedName, ToName, ToNameExt};
 use dns_message::target::Composer;
@@ -85,7 +85,7 @@ impl ComposeRecordData for AnyData<'_> {
 
     fn compose_rdata<T: Composer>(&self, target: &mut T) -> Result<(), AppendError> {
         parts_compose();
-        names_are_short();
+        names_are_bounded();
         match self.names {
             Names::None => target.append_slice(self.octets),
             Names::One(name) => append_name(self.octets, &name, target),

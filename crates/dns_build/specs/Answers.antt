@@ -39,12 +39,12 @@ abbrev pub ReturnsQuestion : Option ℕ → Bool → Rule → QuestionItem → S
 ReturnsQuestion capacity grows rule x s = PushReturns capacity grows s.limit (size_after rule (with_question x) s) (length s.questions)
 
 -- a builder at the answer section represents the state, moved there
-abbrev pub IsAnswer : Rule → State → Built → Type 0
-IsAnswer rule s b = Represents InAnswer rule (move_to InAnswer s) b
+abbrev pub RepresentsAnswer : Rule → State → Built → Type 0
+RepresentsAnswer rule s b = Represents InAnswer rule (move_to InAnswer s) b
 
 -- the same, with the rcode SERVFAIL, which is 2
 abbrev pub IsFailure : Rule → State → Built → Type 0
-IsFailure rule s b = IsAnswer rule (with_header (with_rcode 2 s.header) s) b
+IsFailure rule s b = RepresentsAnswer rule (with_header (with_rcode 2 s.header) s) b
 
 -- Pushing questions onto the state `s`, over a target with capacity `capacity`, which allocates if `grows`, under the compression rule `rule`.
 module _ (capacity : Option ℕ) (grows : Bool) (rule : Rule) (s : State) where
@@ -68,12 +68,12 @@ module _ (capacity : Option ℕ) (grows : Bool) (rule : Rule) (s : State) where
 
   -- an answer builder with all questions, or the error of the one that fails
   abbrev pub GivesAnswer : List QuestionItem → Result Built PushError → Type 0
-  GivesAnswer xs (Ok b) = AreAccepted xs × IsAnswer rule (with_questions xs s) b
+  GivesAnswer xs (Ok b) = AreAccepted xs × RepresentsAnswer rule (with_questions xs s) b
   GivesAnswer xs (Err e) = (first : List QuestionItem) × RefusesAfter xs first e
 
   -- `Ok` with an answer builder that has all questions, or `Err` with one that has those before the one that fails, and the rcode SERVFAIL
   abbrev pub GivesEither : List QuestionItem → Result Built Built → Type 0
-  GivesEither xs (Ok b) = AreAccepted xs × IsAnswer rule (with_questions xs s) b
+  GivesEither xs (Ok b) = AreAccepted xs × RepresentsAnswer rule (with_questions xs s) b
   GivesEither xs (Err b) = (e : PushError) × (first : List QuestionItem) × RefusesAfter xs first e × IsFailure rule (with_questions first s) b
 
   -- an answer builder as in either case of `GivesEither`

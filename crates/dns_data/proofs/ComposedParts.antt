@@ -42,12 +42,12 @@ one_part_composes capacity grows rule part t u (Ok done) h =
 one_part_composes capacity grows rule part t u (Err e) h = refused_part_composes capacity grows rule part [] t u (Err e) (Err e) e refl refl h
 
 -- an uncompressed name has at most 255 octets
-pub names_are_short : NamesAreBounded
-names_are_short name is = let size = length-uncompressed name in let few = is.short in omega arith
+pub names_are_bounded : NamesAreBounded
+names_are_bounded name is = let size = length-uncompressed name in let few = is.short in omega arith
 
 -- one name is short enough to be RDATA
 pub name_is_data : (name : Labels) → IsName name → IsData (CompressibleName name ∷ [])
 name_is_data name is = record {
   names = (is, tt);
-  short = let few = names_are_short name is in omega arith;
+  short = let few = names_are_bounded name is in omega arith;
 }

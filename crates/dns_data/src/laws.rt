@@ -19,7 +19,7 @@ pub fn parts_compose()
 {}
 
 /// An uncompressed name has at most 255 octets.
-pub fn names_are_short()
+pub fn names_are_bounded()
     ensures { NamesAreBounded }
 {}
 

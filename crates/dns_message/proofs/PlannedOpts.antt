@@ -15,7 +15,7 @@ use Rattle.dns_build.specs.Opt.{opt_record, with_opt, OptReturns, PushesOpt}
 use Rattle.dns_build.specs.BuilderStates.{Built, Represents, InEach, size_after}
 use Rattle.dns_build.specs.State.{State, InAdditional, with_record}
 use Rattle.dns_build.specs.declared.push_error.PushError.{PushError}
-use Rattle.dns_message.specs.OptPlans.{with_any_rcode, planned, planned_options, planned_beside, gathered_size, AddsAll, CarriesOut}
+use Rattle.dns_message.specs.OptPlans.{with_any_rcode, planned, planned_options, planned_beside, gathered_size, AddsOptions, CarriesOut}
 use Rattle.dns_message.specs.declared.opt_plan.OptPlan.{OptPlan}
 use Rattle.dns_message.specs.declared.script.Call.{Call}
 use Rattle.dns_message.specs.declared.script.Call.TheVariants.{PushOpt}
@@ -25,16 +25,16 @@ use Rattle.dns_message.specs.Script.{lacks, Stays}
 
 -- the first option is added, and the result is that of adding the others after it
 pub added_first : (x : OptionItem) (old new : OptBuilder) (xs : List OptionItem) (outcome : Result (Unit {0}) AppendError) → Adds x old new (Ok tt)
-    → AddsAll (gathered_size (gathered new)) xs outcome → AddsAll (gathered_size (gathered old)) (x ∷ xs) outcome
+    → AddsOptions (gathered_size (gathered new)) xs outcome → AddsOptions (gathered_size (gathered old)) (x ∷ xs) outcome
 added_first x old new xs outcome h rest =
     let encoding = ap length (flat_map-append encode_option (gathered old).options (x ∷ [])) in
     let sum = length-append (encode_options (gathered old).options) (encode_options (x ∷ [])) in
     let one = ap length (append-nil (encode_option x)) in
     let size : gathered_size (gathered new) ≡ gathered_size (gathered old) + 4 + length x.octets = omega (arith, ap gathered_size h.0, encoding, sum, one) in
-    inr (h.1, inr (subst (λ (n : ℕ). AddsAll n xs outcome) size rest))
+    inr (h.1, inr (subst (λ (n : ℕ). AddsOptions n xs outcome) size rest))
 
 -- adding the first option fails
-pub refused_first : (x : OptionItem) (old new : OptBuilder) (xs : List OptionItem) (e : AppendError) → Adds x old new (Err e) → AddsAll (gathered_size (gathered old)) (x ∷ xs) (Err e)
+pub refused_first : (x : OptionItem) (old new : OptBuilder) (xs : List OptionItem) (e : AppendError) → Adds x old new (Err e) → AddsOptions (gathered_size (gathered old)) (x ∷ xs) (Err e)
 refused_first x old new xs ShortBuf h = inl (h.0, refl)
 refused_first x old new xs OutOfMemory h = inr (h.0, inl refl)
 
@@ -73,10 +73,10 @@ module _ (capacity : Option ℕ) (grows : Bool) (rule : Rule) (plan : OptPlan) (
     pub gathers_asked : OnOk p.outcome (p.g ≡ asked)
     gathers_asked = done_asked p.outcome (carries _ _ _ p.gathers.called).done
 
-    pub adds_asked : AddsAll 0 asked.options p.outcome
+    pub adds_asked : AddsOptions 0 asked.options p.outcome
     adds_asked =
-        subst (λ (xs : List OptionItem). AddsAll 0 (xs ++ planned_options plan) p.outcome) (sym (options_stay plan.rcode (nothing_gathered s.header)))
-        (subst (λ (g : Gathered). AddsAll (gathered_size g) (planned_options plan) p.outcome) p.gathers.fresh (carries _ _ _ p.gathers.called).adds)
+        subst (λ (xs : List OptionItem). AddsOptions 0 (xs ++ planned_options plan) p.outcome) (sym (options_stay plan.rcode (nothing_gathered s.header)))
+        (subst (λ (g : Gathered). AddsOptions (gathered_size g) (planned_options plan) p.outcome) p.gathers.fresh (carries _ _ _ p.gathers.called).adds)
 
 module _ (capacity : Option ℕ) (grows : Bool) {Q R : Type 0} (question : Q → QuestionItem) (item : R → RecordItem) (rule : Rule) (plan : OptPlan) (old new : Built) where
   -- the push of an OPT record is a step that stays at the additional section

@@ -37,10 +37,10 @@ abbrev pub planned_beside : Header → OptPlan → Gathered
 planned_beside header plan = planned plan (nothing_gathered header)
 
 -- The result of adding options in order, when those already gathered take n octets. An option fails with `ShortBuf` if all would then take more than 65,535 octets; any other fails only with `OutOfMemory`. The first failure is the result.
-abbrev pub AddsAll : ℕ → List OptionItem → Result (Unit {0}) AppendError → Type 0
-AddsAll n [] outcome = outcome ≡ Ok tt
-AddsAll n (x ∷ xs) outcome = let m = n + 4 + length x.octets in
-    ((65535 < m) × (outcome ≡ Err ShortBuf)) ⊎ ((m ≤ 65535) × ((outcome ≡ Err OutOfMemory) ⊎ AddsAll m xs outcome))
+abbrev pub AddsOptions : ℕ → List OptionItem → Result (Unit {0}) AppendError → Type 0
+AddsOptions n [] outcome = outcome ≡ Ok tt
+AddsOptions n (x ∷ xs) outcome = let m = n + 4 + length x.octets in
+    ((65535 < m) × (outcome ≡ Err ShortBuf)) ⊎ ((m ≤ 65535) × ((outcome ≡ Err OutOfMemory) ⊎ AddsOptions m xs outcome))
 
 -- the octets that the gathered options take
 abbrev pub gathered_size : Gathered → ℕ
@@ -49,4 +49,4 @@ gathered_size g = length (encode_options g.options)
 -- a plan is carried out on a builder: on success everything in it is gathered, and the result is that of adding its options
 pub record CarriesOut (plan : OptPlan) (old new : OptBuilder) (outcome : Result (Unit {0}) AppendError) : Type 0 where
   pub done : OnOk outcome (gathered new ≡ planned plan (gathered old))
-  pub adds : AddsAll (gathered_size (gathered old)) (planned_options plan) outcome
+  pub adds : AddsOptions (gathered_size (gathered old)) (planned_options plan) outcome

@@ -11,7 +11,7 @@ use Rattle.dns_build.specs.MessageOf.{IsMessageOf}
 use Rattle.dns_build.specs.Opt.{opt_record, with_opt, OptReturns}
 use Rattle.dns_build.specs.declared.push_error.PushError.{PushError}
 use Rattle.dns_build.specs.State as state
-use Rattle.dns_message.specs.OptPlans.{planned_beside, AddsAll}
+use Rattle.dns_message.specs.OptPlans.{planned_beside, AddsOptions}
 use Rattle.dns_message.specs.declared.script.Stage.{Stage}
 use Rattle.dns_message.specs.declared.script.Stage.TheVariants.{Builder, Question, Answer, Authority, Additional}
 use Rattle.dns_message.specs.declared.script.Call.{Call}
@@ -119,22 +119,22 @@ module _ (capacity : Option ℕ) (grows : Bool) where
   -- the reply to the push of an OPT record: that of adding its options if this fails, else that of the push
   pub record IsOptReply (g : Gathered) (limit n count : ℕ) (reply : Reply) : Type 0 where
     pub gathering : Result (Unit {0}) AppendError
-    pub adds : AddsAll 0 g.options gathering
+    pub adds : AddsOptions 0 g.options gathering
     pub answers : IsReplyBy (OptReturns capacity grows limit n count gathering) reply
     pub is_gathered : reply ≡ Done → IsGathered g
 
   module _ {Q R : Type 0} (question : Q → QuestionItem) (item : R → RecordItem) (rule : Rule) where
     -- the reply to a call that the stage has
-    abbrev pub IsAnswer : State → Call Q R → Reply → Type 0
-    IsAnswer s (PushQuestion x) reply = IsPushReply s.limit (length (encode rule (with_question (question x) s)).octets) (length s.questions) reply
-    IsAnswer s (PushRecord x) reply = IsPushReply s.limit (length (encode rule (with_record s.stage (item x) s)).octets) (length (records_at s.stage s)) reply
-    IsAnswer s (PushOpt plan) reply = let g = planned_beside s.header plan in IsOptReply g s.limit (length (encode rule (with_record InAdditional (opt_record g) s)).octets) (length s.additionals) reply
-    IsAnswer s call reply = reply ≡ Done
+    abbrev pub IsReplyTo : State → Call Q R → Reply → Type 0
+    IsReplyTo s (PushQuestion x) reply = IsPushReply s.limit (length (encode rule (with_question (question x) s)).octets) (length s.questions) reply
+    IsReplyTo s (PushRecord x) reply = IsPushReply s.limit (length (encode rule (with_record s.stage (item x) s)).octets) (length (records_at s.stage s)) reply
+    IsReplyTo s (PushOpt plan) reply = let g = planned_beside s.header plan in IsOptReply g s.limit (length (encode rule (with_record InAdditional (opt_record g) s)).octets) (length s.additionals) reply
+    IsReplyTo s call reply = reply ≡ Done
 
     -- the reply to a call: `Misplaced` exactly if the stage lacks the call
     abbrev pub IsReplyWhere : Bool → State → Call Q R → Reply → Type 0
     IsReplyWhere true s call reply = reply ≡ Misplaced
-    IsReplyWhere false s call reply = IsAnswer s call reply
+    IsReplyWhere false s call reply = IsReplyTo s call reply
 
     abbrev pub IsReply : State → Call Q R → Reply → Type 0
     IsReply s call reply = IsReplyWhere (lacks s.stage call) s call reply

@@ -2,7 +2,7 @@
 ghost use Rattle.std.specs.Prelude.{◌≡◌, OnOk, map};
 ghost use Rattle.dns_opt.specs.OptData.{option_of};
 ghost use Rattle.dns_opt_builder.specs.Gathered.{gathered};
-ghost use Rattle.dns_message.specs.OptPlans.{with_fields, with_options, gathered_size, AddsAll, CarriesOut};
+ghost use Rattle.dns_message.specs.OptPlans.{with_fields, with_options, gathered_size, AddsOptions, CarriesOut};
 
 use dns_build::OptBuilder;
 use dns_code::OptRcode;
@@ -51,7 +51,7 @@ fn push_options(
 ) -> Result<(), AppendError>
     ensures done { OnOk result (gathered builder.new
         ≡ with_options (map option_of options.now) (gathered builder.old)) }
-    ensures adds { AddsAll (gathered_size (gathered builder.old)) (map option_of options.now) result }
+    ensures adds { AddsOptions (gathered_size (gathered builder.old)) (map option_of options.now) result }
 {
     for option in options {
         builder.push(option)?;

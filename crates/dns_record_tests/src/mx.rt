@@ -9,7 +9,7 @@ ghost use Rattle.dns_data.specs.RecordData.{only};
 use crate::answers::{assert_answer, first_data, message};
 use crate::asserts::{assert_holds, assert_numbers, name};
 use dns_message::code::{Class, Rtype};
-use dns_message::data::laws::{names_are_short, parts_compose};
+use dns_message::data::laws::{names_are_bounded, parts_compose};
 use dns_message::data::{ComposeRecordData, ParseRecordData, RecordData};
 use dns_message::name::{ParsedName, ToName, ToNameExt};
 use dns_message::record::{Record, Ttl};
@@ -38,7 +38,7 @@ impl<N: ToName> RecordData for Mx<N> {
 impl<N: ToName> ComposeRecordData for Mx<N> {
     fn compose_rdata<T: Composer>(&self, target: &mut T) -> Result<(), AppendError> {
         parts_compose();
-        names_are_short();
+        names_are_bounded();
         target.append_slice(&self.preference.to_be_bytes())?;
         target.append_compressed_name(&self.exchange)
     }

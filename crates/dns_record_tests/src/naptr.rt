@@ -12,7 +12,7 @@ ghost use Rattle.dns_record_tests.specs.Naptr.{naptr_parts, verbatim};
 use crate::char_str::CharStr;
 use crate::fields::compose_fields;
 use dns_message::code::Rtype;
-use dns_message::data::laws::names_are_short;
+use dns_message::data::laws::names_are_bounded;
 use dns_message::data::{ComposeRecordData, ParseRecordData, RecordData};
 use dns_message::name::{Name, ParsedName, ToName};
 use dns_message::target::Composer;
@@ -46,7 +46,7 @@ impl<Octs: Octets> RecordData for Naptr<'_, Name<Octs>> {
 
 impl<Octs: Octets> ComposeRecordData for Naptr<'_, Name<Octs>> {
     fn compose_rdata<T: Composer>(&self, target: &mut T) -> Result<(), AppendError> {
-        names_are_short();
+        names_are_bounded();
         let replacement = self.replacement.as_parsed().uncompressed();
         compose_fields(
             &self.order.to_be_bytes(),

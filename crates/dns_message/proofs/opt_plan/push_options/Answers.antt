@@ -6,7 +6,7 @@ use Rattle.dns_opt.specs.OptData.{option_of}
 use Rattle.dns_opt_builder.specs.Additions.{Adds}
 use Rattle.dns_opt_builder.specs.Gathered.{gathered}
 use Rattle.dns_opt_builder.proofs.theory.OptBuilderLemmas.{one_added, none_left}
-use Rattle.dns_message.specs.OptPlans.{gathered_size, AddsAll}
+use Rattle.dns_message.specs.OptPlans.{gathered_size, AddsOptions}
 use Rattle.dns_message.proofs.PlannedOpts.{added_first, refused_first}
 use Rattle.dns_message.proofs.opt_plan.push_options.Goals as goal
 
@@ -17,7 +17,7 @@ loop-option-preserved c =
     record {
       all = one_added _ c.loop-option.builder c.push.new.self _ _ added.0 first ∙ c.loop-option.invariant.all;
       adds = λ outcome rest. c.loop-option.invariant.adds outcome
-          (subst (λ xs. AddsAll (gathered_size (gathered c.loop-option.builder)) xs outcome) (sym first) (added_first _ c.loop-option.builder c.push.new.self _ outcome added rest));
+          (subst (λ xs. AddsOptions (gathered_size (gathered c.loop-option.builder)) xs outcome) (sym first) (added_first _ c.loop-option.builder c.push.new.self _ outcome added rest));
     }
 
 pub returns-in_err-push-clause-adds : goal.returns-in_err-push-clause-adds
@@ -26,7 +26,7 @@ returns-in_err-push-clause-adds c =
     let p = err_from_is_err_and c.from_residual.result c.from_residual.ensures.1 in
     let refused = subst (λ r. Adds (option_of c.option-item.result) c.loop-option.builder c.push.new.self r) c.in_err-push.was c.push.ensures in
     rw (p.1, p.2) (c.loop-option.invariant.adds (Err c.in_err-push.field-0.0)
-    (subst (λ xs. AddsAll (gathered_size (gathered c.loop-option.builder)) xs (Err c.in_err-push.field-0.0)) (sym first)
+    (subst (λ xs. AddsOptions (gathered_size (gathered c.loop-option.builder)) xs (Err c.in_err-push.field-0.0)) (sym first)
     (refused_first (option_of c.option-item.result) c.loop-option.builder c.push.new.self _ c.in_err-push.field-0.0 refused)))
 
 pub returns-clause-done : goal.returns-clause-done
@@ -37,4 +37,4 @@ returns-clause-done c =
 pub returns-clause-adds : goal.returns-clause-adds
 returns-clause-adds c =
     let none = ap (map option_of) (drop_all c.loop-option.option-index c.args.options.now (omega (arith, c.loop-option-test.false))) in
-    c.loop-option.invariant.adds (Ok tt) (subst (λ xs. AddsAll (gathered_size (gathered c.loop-option.builder)) xs (Ok tt)) (sym none) refl)
+    c.loop-option.invariant.adds (Ok tt) (subst (λ xs. AddsOptions (gathered_size (gathered c.loop-option.builder)) xs (Ok tt)) (sym none) refl)

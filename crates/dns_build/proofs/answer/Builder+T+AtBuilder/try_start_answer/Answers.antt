@@ -2,7 +2,7 @@ use Rattle.std.proofs.Common.{◌≡◌, ◌∙◌, ap, subst}
 use Rattle.dns_code.specs.declared.header.Header.{Header}
 use Rattle.dns_read.specs.Message.{message_octets}
 use Rattle.dns_build.specs.Opt.{with_rcode}
-use Rattle.dns_build.specs.Answers.{IsAnswer, answering}
+use Rattle.dns_build.specs.Answers.{RepresentsAnswer, answering}
 use Rattle.dns_build.specs.State.{State, with_header, with_questions}
 use Rattle.dns_build.proofs.answer.Builder+T+AtBuilder.try_start_answer.Goals as goal
 
@@ -19,5 +19,5 @@ returns-in-Err g c s represents =
       _,
       asks.0,
       asks.1,
-      subst (λ (h : Header). IsAnswer g.T.Composer.rule (with_header h left) c.answer-in-Err.result) header (c.answer-in-Err.ensures _ (c.set_header.ensures left asks.2)),
+      subst (λ (h : Header). RepresentsAnswer g.T.Composer.rule (with_header h left) c.answer-in-Err.result) header (c.answer-in-Err.ensures _ (c.set_header.ensures left asks.2)),
     )

@@ -22,11 +22,11 @@ returns-clause-composes g c =
 pub returns-in_err-append_slice-clause-is_data : goal.returns-in_err-append_slice-clause-is_data
 returns-in_err-append_slice-clause-is_data g c =
     let mx = c.args.self.now in
-    let few = c.names_are_short.ensures _ (g.met.N.ToName.is_name mx.exchange) in
+    let few = c.names_are_bounded.ensures _ (g.met.N.ToName.is_name mx.exchange) in
     record { names = ((g.met.N.ToName.is_name mx.exchange), tt); short = omega (arith, few) }
 
 pub returns-clause-is_data : goal.returns-clause-is_data
 returns-clause-is_data g c =
     let mx = c.args.self.now in
-    let few = c.names_are_short.ensures _ (g.met.N.ToName.is_name mx.exchange) in
+    let few = c.names_are_bounded.ensures _ (g.met.N.ToName.is_name mx.exchange) in
     record { names = ((g.met.N.ToName.is_name mx.exchange), tt); short = omega (arith, few) }

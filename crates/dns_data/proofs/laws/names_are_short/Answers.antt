@@ -1,5 +1,0 @@
-use Rattle.dns_data.proofs.ComposedParts as composed
-use Rattle.dns_data.proofs.laws.names_are_short.Goals as goal
-
-pub returns : goal.returns
-returns c = composed.names_are_short
