@@ -28,7 +28,8 @@ impl<T: Composer> Builder<T, AtBuilder> {
     ) -> Result<AnswerBuilder<T>, PushError>
         ensures { InEach InBuilder T.rule self (λ s.
             let b = message_octets msg.now in
-            GivesAnswer T.capacity T.grows T.rule (answering rcode b s) (readable_questions b) result) }
+            GivesAnswer T.capacity T.grows T.rule
+            (answering rcode b s) (readable_questions b) result) }
     {
         let mut builder = self.answering(msg, rcode);
         match push_questions(&mut builder, msg) {
@@ -47,7 +48,8 @@ impl<T: Composer> Builder<T, AtBuilder> {
     ) -> Result<AnswerBuilder<T>, AnswerBuilder<T>>
         ensures { InEach InBuilder T.rule self (λ s.
             let b = message_octets msg.now in
-            GivesEither T.capacity T.grows T.rule (answering rcode b s) (readable_questions b) result) }
+            GivesEither T.capacity T.grows T.rule
+            (answering rcode b s) (readable_questions b) result) }
     {
         let mut builder = self.answering(msg, rcode);
         match push_questions(&mut builder, msg) {
@@ -66,7 +68,8 @@ impl<T: Composer> Builder<T, AtBuilder> {
     pub fn start_error<Octs: Octets>(self, msg: &Message<Octs>, rcode: Rcode) -> AnswerBuilder<T>
         ensures { InEach InBuilder T.rule self (λ s.
             let b = message_octets msg.now in
-            IsEither T.capacity T.grows T.rule (answering rcode b s) (readable_questions b) result) }
+            IsEither T.capacity T.grows T.rule
+            (answering rcode b s) (readable_questions b) result) }
     {
         match self.try_start_answer(msg, rcode) {
             Ok(builder) => builder,

@@ -72,8 +72,8 @@ pub fn copy_records<
     op: F,
 ) -> Result<AdditionalBuilder<T>, CopyRecordsError>
     requires { F.IsAlwaysCallable op }
-    ensures copies { InEach InAnswer T.rule target (λ s. CopiesMessage F.step R.item T.capacity T.grows
-        T.rule (message_octets message.now) op s result) }
+    ensures copies { InEach InAnswer T.rule target (λ s. CopiesMessage F.step R.item
+        T.capacity T.grows T.rule (message_octets message.now) op s result) }
     ensures kept { IfOk result (λ new. InEach InAnswer T.rule target (λ s.
         KeepsAll F.step R.item T.rule (message_octets message.now) op s new)) }
 {

@@ -17,7 +17,8 @@ pub fn compose_len_rdata<D: ComposeRecordData, T: Composer>(
     data: &D,
     target: &mut T,
 ) -> Result<(), AppendError>
-    ensures composes { Composes T.capacity T.grows (with_length (encode_parts T.rule (D.parts «data».now)))
+    ensures composes { Composes T.capacity T.grows
+        (with_length (encode_parts T.rule (D.parts «data».now)))
         (T.written target.old) (T.written target.new) result }
     ensures is_data { OnOk result (IsData (D.parts «data».now)) }
 {

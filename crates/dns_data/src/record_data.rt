@@ -46,7 +46,8 @@ pub trait ComposeRecordData: RecordData {
     /// Appends the parts in canonical form: names lowercased and uncompressed (RFC 4034 section
     /// 6.2). Errors are as for `compose_rdata`.
     fn compose_canonical_rdata<T: Composer>(&self, target: &mut T) -> Result<(), AppendError>
-        ensures { Composes T.capacity T.grows (encode_parts T.rule (canonical (Self.parts self.now)))
+        ensures { Composes T.capacity T.grows
+            (encode_parts T.rule (canonical (Self.parts self.now)))
             (T.written target.old) (T.written target.new) result };
 }
 

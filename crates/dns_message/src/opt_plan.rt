@@ -51,7 +51,8 @@ fn push_options(
 ) -> Result<(), AppendError>
     ensures done { OnOk result (gathered builder.new
         ≡ with_options (map option_of options.now) (gathered builder.old)) }
-    ensures adds { AddsOptions (gathered_size (gathered builder.old)) (map option_of options.now) result }
+    ensures adds { AddsOptions (gathered_size (gathered builder.old))
+        (map option_of options.now) result }
 {
     for option in options {
         builder.push(option)?;

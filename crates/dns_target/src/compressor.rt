@@ -56,9 +56,11 @@ impl<Target: Composer, Index: SuffixIndex> Model for Compressor<Target, Index> {
 
     ghost coded = { written_code };
 
-    ghost view = { λ s. with_table_entries (Target.written s.target) (Index.table_entries s.index) };
+    ghost view = { λ s.
+        with_table_entries (Target.written s.target) (Index.table_entries s.index) };
 
-    ghost invariant = { λ s. HasTableEntries Target.rule (Target.written s.target) (Index.table_entries s.index)
+    ghost invariant = { λ s.
+        HasTableEntries Target.rule (Target.written s.target) (Index.table_entries s.index)
         × Index.is_of (Target.written s.target).octets s.index };
 }
 

@@ -34,8 +34,8 @@ pub trait Composer: Drop {
 
     /// Appends octets as they are. The compression table doesn't change.
     fn append_slice(&mut self, octets: &[u8]) -> Result<(), AppendError>
-        ensures { Appends capacity grows (encode_octets octets.now) (written self.old) (written self.new)
-            result };
+        ensures { Appends capacity grows (encode_octets octets.now)
+            (written self.old) (written self.new) result };
 
     /// Appends a name, compressed by the target's rule (RFC 1035 section 4.1.4).
     fn append_compressed_name<N: ToName>(&mut self, name: &N) -> Result<(), AppendError>

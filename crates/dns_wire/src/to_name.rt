@@ -46,7 +46,8 @@ pub trait ToNameExt: ToName {
     /// Appends the uncompressed octets of the name, with ASCII letters lowercased (RFC 4034 section
     /// 6.2). Nothing changes on error.
     fn compose_canonical<T: Composer>(&self, target: &mut T) -> Result<(), AppendError>
-        ensures { Appends T.capacity T.grows (encode_octets (uncompressed (lowered (Self.name self.now))))
+        ensures { Appends T.capacity T.grows
+            (encode_octets (uncompressed (lowered (Self.name self.now))))
             (T.written target.old) (T.written target.new) result }
     {
         target.append_slice(self.as_parsed().lowercased().as_slice())
