@@ -3,11 +3,11 @@
 ghost use Rattle.std.specs.Prelude.{◌≡◌, ◌≤◌, [], None, length, drop};
 ghost use Rattle.dns_target.specs.TableEntries.{table_in};
 ghost use Rattle.dns_target.specs.Indexes.{AreTableEntries};
-ghost use Rattle.dns_target.specs.Table.{IsRest, ParentIsName, table_entries_in, in_range_count as in_range_count_of};
+ghost use Rattle.dns_target.specs.Table.{IsParent, ParentIsName, table_entries_in, in_range_count as in_range_count_of};
 
 use crate::index::{Plan, SuffixIndex};
 use crate::label_starts::LabelStarts;
-use crate::names_at::stands_flat;
+use crate::names_at::is_flat_name_at;
 use crate::suffixes::{Key, Suffixes};
 use crate::texts::{Found, reaches};
 use std::alloc::{AllocError, Global};
@@ -39,7 +39,7 @@ impl HashIndex {
     #[inline(always)]
     fn recent_in(&self, content: &[u8], labels: &LabelStarts<'_>) -> Found
         requires entries { AreTableEntries content.now (table_entries_in self.now.suffixes.suffixes) }
-        requires recent { IsRest content.now self.now.suffixes.suffixes self.now.recent }
+        requires recent { IsParent content.now self.now.suffixes.suffixes self.now.recent }
         ensures within { result.from ≤ length labels.now }
         ensures there { ParentIsName (table_in content.now (table_entries_in self.now.suffixes.suffixes))
             result.offset (drop result.from labels.now) }
@@ -52,7 +52,7 @@ impl HashIndex {
             return Found::nothing(labels);
         }
         let from = labels.len() - count;
-        if !stands_flat(content, usize::from(offset), labels.tail(from)) {
+        if !is_flat_name_at(content, usize::from(offset), labels.tail(from)) {
             return Found::nothing(labels);
         }
         Found {
@@ -93,7 +93,7 @@ impl SuffixIndex for HashIndex {
     ghost use Rattle.dns_name.specs.Names.{pointer_end};
     ghost use Rattle.dns_wire.specs.Choice.{label_offset};
     ghost use Rattle.dns_wire.specs.Encoders.{Hash};
-    ghost use Rattle.dns_target.specs.Table.{table_entries_in, AreKeyed, IsRest, keyed_again, rest_again};
+    ghost use Rattle.dns_target.specs.Table.{table_entries_in, AreKeyed, IsParent, keyed_again, parent_again};
 
     ghost rule = { Hash };
 
@@ -101,7 +101,7 @@ impl SuffixIndex for HashIndex {
 
     ghost table_entries = { λ s. table_entries_in s.suffixes.suffixes };
 
-    ghost is_of = { λ b s. AreKeyed b s.suffixes.suffixes × IsRest b s.suffixes.suffixes s.recent };
+    ghost is_of = { λ b s. AreKeyed b s.suffixes.suffixes × IsParent b s.suffixes.suffixes s.recent };
 
     ghost is_hint = { λ s name from hint. Unit {0} };
 
@@ -109,10 +109,10 @@ impl SuffixIndex for HashIndex {
         ((count ≡ 0) ⊎ (count ≡ from))
         × ((i : ℕ) → i < count → label_offset w name i < pointer_end) };
 
-    ghost lacks_capacity = { λ s from count. s.suffixes.capacity < count };
+    ghost lacks_capacity = { λ s from count. s.suffixes.spare_capacity < count };
 
     ghost stays = { λ b c t l e h.
-        (keyed_again b c t.suffixes.suffixes e h.0, rest_again b c t.suffixes.suffixes t.recent e h.1) };
+        (keyed_again b c t.suffixes.suffixes e h.0, parent_again b c t.suffixes.suffixes t.recent e h.1) };
 
     ghost compressing = { refl };
 

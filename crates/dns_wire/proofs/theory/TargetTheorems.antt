@@ -99,15 +99,15 @@ parts_point_to_labels rule t parts is good =
     let keeps = (encodes_parts rule parts is).keeps t good in encode_parts_fill rule t parts is good (λ p q name h. pointed keeps h)
 
 -- In at most 16,384 octets, the labels of a name are within pointer range.
-pub compressed_near : {m : CompressionTable} {b : List ℕ} {q p : ℕ} {name : Labels} → length b ≤ 16384 → IsTableOf b m → Compressed m b q p name → LabelsInPointerRange b q p
-compressed_near l r (root h e) = LabelsInPointerRange.root (root_at h) e
-compressed_near l r (label is h x) = let w = compressed_long x in LabelsInPointerRange.label (label_begins is h) (omega (arith, w)) (compressed_near l r x)
-compressed_near l r (pointer {name = name} {x = x} e before h is) = LabelsInPointerRange.pointer (pointer_at x.offset (r.each name x e).in_range h) is
+pub compressed_in_range : {m : CompressionTable} {b : List ℕ} {q p : ℕ} {name : Labels} → length b ≤ 16384 → IsTableOf b m → Compressed m b q p name → LabelsInPointerRange b q p
+compressed_in_range l r (root h e) = LabelsInPointerRange.root (root_at h) e
+compressed_in_range l r (label is h x) = let w = compressed_long x in LabelsInPointerRange.label (label_begins is h) (omega (arith, w)) (compressed_in_range l r x)
+compressed_in_range l r (pointer {name = name} {x = x} e before h is) = LabelsInPointerRange.pointer (pointer_at x.offset (r.each name x e).in_range h) is
 
 -- So are those of parts.
 pub short_parts_are_in_pointer_range : ShortPartsAreInPointerRange
 short_parts_are_in_pointer_range rule t parts is good l =
-    let keeps = (encodes_parts rule parts is).keeps t good in encode_parts_fill rule t parts is good (λ p q name h. compressed_near l keeps h)
+    let keeps = (encodes_parts rule parts is).keeps t good in encode_parts_fill rule t parts is good (λ p q name h. compressed_in_range l keeps h)
 
 -- If labels are within pointer range, the first one is, and so are the labels after it.
 pub in_range_label : {b : List ℕ} {q p n : ℕ} → LabelsInPointerRange b q p → head_at b p ≡ Ok (Label n) → (p < 16384) × LabelsInPointerRange b q (p + 1 + n)
