@@ -12,7 +12,7 @@ mod walk;
 
 ghost use Rattle.dns_bench.specs.Message.{HandsOut};
 
-use dns_target::{HashCompressor, IndexCompressor, StaticCompressor, TreeCompressor};
+use dns_target::{FingerprintCompressor, HashCompressor, StaticCompressor, TreeCompressor};
 use dns_wire::Composer;
 use messages::{Kind, write_with};
 use names::{hand_out, read_names, write_message, write_names};
@@ -100,7 +100,7 @@ pub extern "C" fn dns_bench_hash(alloc: Global, work: &Work<'_>, out: &mut [u8])
 pub extern "C" fn dns_bench_index(alloc: Global, work: &Work<'_>, out: &mut [u8]) -> usize
     ensures { HandsOut out.old out.new result }
 {
-    let target = IndexCompressor::new(alloc, Vec::new(alloc));
+    let target = FingerprintCompressor::new(alloc, Vec::new(alloc));
     write_reused(alloc, target, work, out)
 }
 
@@ -136,7 +136,7 @@ pub extern "C" fn dns_bench_fresh_hash(alloc: Global, work: &Work<'_>, out: &mut
 pub extern "C" fn dns_bench_fresh_index(alloc: Global, work: &Work<'_>, out: &mut [u8]) -> usize
     ensures { HandsOut out.old out.new result }
 {
-    let new_target = || IndexCompressor::new(alloc, Vec::new(alloc));
+    let new_target = || FingerprintCompressor::new(alloc, Vec::new(alloc));
     write_fresh(alloc, new_target, work, out)
 }
 

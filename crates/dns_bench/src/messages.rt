@@ -8,7 +8,7 @@ use dns_build::{MessageBuilder, PushError};
 use dns_code::{Class, Header, Rtype};
 use dns_data::A;
 use dns_item::Ttl;
-use dns_target::{HashCompressor, IndexCompressor, StaticCompressor, TreeCompressor};
+use dns_target::{FingerprintCompressor, HashCompressor, StaticCompressor, TreeCompressor};
 use dns_wire::{Composer, Name};
 use std::alloc::Global;
 
@@ -190,7 +190,7 @@ pub(crate) fn write_with(
         2 => write_kept(alloc, kind, TreeCompressor::new(alloc, octets()), work, out),
         3 => write_kept(alloc, kind, HashCompressor::new(alloc, octets()), work, out),
         4 => {
-            let index = IndexCompressor::new(alloc, octets());
+            let index = FingerprintCompressor::new(alloc, octets());
             write_kept(alloc, kind, index, work, out)
         }
         _ => write_otherwise(alloc, kind, target, work, out),
@@ -207,7 +207,7 @@ fn write_otherwise(alloc: Global, kind: Kind, target: u32, work: &Work<'_>, out:
     let fixed = || StaticCompressor::new(octets());
     let tree = || TreeCompressor::new(alloc, octets());
     let hash = || HashCompressor::new(alloc, octets());
-    let index = || IndexCompressor::new(alloc, octets());
+    let index = || FingerprintCompressor::new(alloc, octets());
     let array = || StaticCompressor::new(ArrayVec::<u8, 512>::new());
     match target {
         5 => write_fresh(alloc, kind, octets, work, out),

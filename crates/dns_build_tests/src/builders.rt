@@ -11,7 +11,9 @@ use dns_build::{
 use dns_code::Rtype;
 use dns_data::A;
 use dns_read::{Message, RecordSection};
-use dns_target::{HashCompressor, IndexCompressor, StaticCompressor, StreamTarget, TreeCompressor};
+use dns_target::{
+    FingerprintCompressor, HashCompressor, StaticCompressor, StreamTarget, TreeCompressor,
+};
 use dns_wire::{CloneTarget, Composer, Name, ParseError};
 use std::alloc::Global;
 use std::convert::AsSlice;
@@ -305,7 +307,7 @@ fn clones_over_compressors(rt: HostRuntime) {
     );
     assert_clones(
         &rt,
-        IndexCompressor::new(alloc, Vec::new(alloc)),
+        FingerprintCompressor::new(alloc, Vec::new(alloc)),
         &COMPRESSED,
     );
     let stream = StreamTarget::new_vec(alloc).expect(&rt, "memory");

@@ -8,7 +8,9 @@ use crate::rows::{
 use arrayvec::ArrayVec;
 use dns_build::{MessageBuilder, QuestionBuilder};
 use dns_code::Rtype;
-use dns_target::{HashCompressor, IndexCompressor, StaticCompressor, StreamTarget, TreeCompressor};
+use dns_target::{
+    FingerprintCompressor, HashCompressor, StaticCompressor, StreamTarget, TreeCompressor,
+};
 use dns_wire::{AppendError, Composer, FreezeBuilder, Name};
 use std::alloc::Global;
 use std::process::Abort;
@@ -36,7 +38,7 @@ fn run_over(rt: &impl Abort, alloc: Global, target: Target, row: &Row) {
         Target::Static => run(rt, alloc, StaticCompressor::new(vector), row),
         Target::Tree => run(rt, alloc, TreeCompressor::new(alloc, vector), row),
         Target::Hash => run(rt, alloc, HashCompressor::new(alloc, vector), row),
-        Target::Index => run(rt, alloc, IndexCompressor::new(alloc, vector), row),
+        Target::Index => run(rt, alloc, FingerprintCompressor::new(alloc, vector), row),
     }
 }
 

@@ -81,7 +81,8 @@ mod stage;
 pub mod target {
     //! The targets that messages are written to.
     pub use dns_target::{
-        Compressor, HashCompressor, IndexCompressor, StaticCompressor, StreamTarget, TreeCompressor,
+        Compressor, FingerprintCompressor, HashCompressor, StaticCompressor, StreamTarget,
+        TreeCompressor,
     };
     pub use dns_wire::{CloneTarget, Composer, FreezeBuilder};
 }

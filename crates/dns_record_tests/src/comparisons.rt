@@ -7,7 +7,7 @@ use dns_data::{
 };
 use dns_item::{Record, RecordHeader, Ttl};
 use dns_message::target::{
-    HashCompressor, IndexCompressor, StaticCompressor, StreamTarget, TreeCompressor,
+    FingerprintCompressor, HashCompressor, StaticCompressor, StreamTarget, TreeCompressor,
 };
 use dns_wire::{AppendError, Composer};
 use std::process::Abort;
@@ -51,7 +51,7 @@ fn composes_a_canonical_record(rt: HostRuntime) -> Result<(), Fail> {
     assert_canonical(&rt, StaticCompressor::new(Vec::new(alloc)));
     assert_canonical(&rt, TreeCompressor::new(alloc, Vec::new(alloc)));
     assert_canonical(&rt, HashCompressor::new(alloc, Vec::new(alloc)));
-    assert_canonical(&rt, IndexCompressor::new(alloc, Vec::new(alloc)));
+    assert_canonical(&rt, FingerprintCompressor::new(alloc, Vec::new(alloc)));
     Ok(())
 }
 

@@ -5,14 +5,14 @@ ghost use Rattle.dns_target.specs.FlatNames.{flat_labels};
 ghost use Rattle.dns_wire.specs.Targets.{Appends};
 ghost use Rattle.dns_target.specs.Indexes.{compressing_not_plain};
 
+use crate::fingerprint_index::FingerprintIndex;
 use crate::flat_name::FlatName;
 use crate::hash_index::HashIndex;
-use crate::hashes::Hashes;
 use crate::index::SuffixIndex;
 use crate::label_starts::{LabelStarts, note_starts};
-use crate::offsets::Offsets;
+use crate::static_index::StaticIndex;
 use crate::texts::append_planned;
-use crate::tree::Tree;
+use crate::tree_index::TreeIndex;
 use arrayvec::ArrayVec;
 use dns_wire::{AppendError, CloneTarget, Composer, FreezeBuilder, ToName};
 use std::alloc::{AllocError, Global};
@@ -28,11 +28,11 @@ pub struct Compressor<Target: Composer, Index: SuffixIndex> {
 
 /// A compressor whose table stores the first 24 suffixes that are written as labels below offset
 /// 16,384. It allocates nothing itself. Suffixes match octet for octet.
-pub type StaticCompressor<Target> = Compressor<Target, Offsets>;
+pub type StaticCompressor<Target> = Compressor<Target, StaticIndex>;
 
 /// A compressor whose table stores each suffix that is written as labels below offset 16,384.
 /// Suffixes match octet for octet.
-pub type TreeCompressor<Target> = Compressor<Target, Tree>;
+pub type TreeCompressor<Target> = Compressor<Target, TreeIndex>;
 
 /// A compressor whose table stores all new suffixes of a name, or none of them if one begins at
 /// offset 16,384 or above. Suffixes match octet for octet.
@@ -46,7 +46,7 @@ pub type HashCompressor<Target> = Compressor<Target, HashIndex>;
 ///
 /// The hash is fast and has a fixed seed, and suffixes with equal hashes are compared one by one.
 /// Use [`TreeCompressor`] for names from untrusted input.
-pub type IndexCompressor<Target> = Compressor<Target, Hashes>;
+pub type FingerprintCompressor<Target> = Compressor<Target, FingerprintIndex>;
 
 impl<Target: Composer, Index: SuffixIndex> Model for Compressor<Target, Index> {
     ghost use Rattle.dns_wire.specs.Targets.{Written, written_code};
@@ -64,18 +64,18 @@ impl<Target: Composer, Index: SuffixIndex> Model for Compressor<Target, Index> {
         × Index.is_of (Target.written s.target).octets s.index };
 }
 
-impl<Target: Composer> Compressor<Target, Offsets> {
+impl<Target: Composer> Compressor<Target, StaticIndex> {
     /// Returns a compressor over `target`, which must not compress. The octets stay, and the table
     /// is empty.
     pub fn new(target: Target) -> Self
         requires { Target.rule ≡ Plain }
         ensures { result ≡ record { octets = (Target.written target).octets; table = nothing } }
     {
-        Compressor::over(target, Offsets::new())
+        Compressor::over(target, StaticIndex::new())
     }
 }
 
-impl<Target: Composer> Compressor<Target, Tree> {
+impl<Target: Composer> Compressor<Target, TreeIndex> {
     /// Returns a compressor over `target`, which must not compress. The octets stay, and the table
     /// is empty.
     ///
@@ -84,7 +84,7 @@ impl<Target: Composer> Compressor<Target, Tree> {
         requires { Target.rule ≡ Plain }
         ensures { result ≡ record { octets = (Target.written target).octets; table = nothing } }
     {
-        Compressor::over(target, Tree::new(alloc))
+        Compressor::over(target, TreeIndex::new(alloc))
     }
 }
 
@@ -101,7 +101,7 @@ impl<Target: Composer> Compressor<Target, HashIndex> {
     }
 }
 
-impl<Target: Composer> Compressor<Target, Hashes> {
+impl<Target: Composer> Compressor<Target, FingerprintIndex> {
     /// Returns a compressor over `target`, which must not compress. The octets stay, and the table
     /// is empty.
     ///
@@ -110,7 +110,7 @@ impl<Target: Composer> Compressor<Target, Hashes> {
         requires { Target.rule ≡ Plain }
         ensures { result ≡ record { octets = (Target.written target).octets; table = nothing } }
     {
-        Compressor::over(target, Hashes::new(alloc))
+        Compressor::over(target, FingerprintIndex::new(alloc))
     }
 }
 

@@ -3,12 +3,12 @@
 ghost use Rattle.std.specs.Prelude.{◌≡◌, ◌≤◌, [], None, length, drop};
 ghost use Rattle.dns_target.specs.TableEntries.{table_in};
 ghost use Rattle.dns_target.specs.Indexes.{AreTableEntries};
-ghost use Rattle.dns_target.specs.Table.{IsParent, ParentIsName, table_entries_in, in_range_count as in_range_count_of};
+ghost use Rattle.dns_target.specs.HashIndex.{IsParent, ParentIsName, table_entries_in, in_range_count as in_range_count_of};
 
 use crate::index::{Plan, SuffixIndex};
 use crate::label_starts::LabelStarts;
 use crate::names_at::is_flat_name_at;
-use crate::suffixes::{Key, Suffixes};
+use crate::suffix_map::{Key, SuffixMap};
 use crate::texts::{Found, reaches};
 use std::alloc::{AllocError, Global};
 
@@ -16,7 +16,7 @@ use std::alloc::{AllocError, Global};
 /// share it, so it is tried first.
 #[derive(Debug, Drop)]
 pub struct HashIndex {
-    suffixes: Suffixes,
+    suffixes: SuffixMap,
     /// The offset of that suffix, if there is one.
     recent: Option<u16>,
     /// The number of its labels.
@@ -29,7 +29,7 @@ impl HashIndex {
         ensures recent { result.recent ≡ None }
     {
         HashIndex {
-            suffixes: Suffixes::new(alloc),
+            suffixes: SuffixMap::new(alloc),
             recent: None,
             recent_labels: 0,
         }
@@ -93,7 +93,7 @@ impl SuffixIndex for HashIndex {
     ghost use Rattle.dns_name.specs.Names.{pointer_end};
     ghost use Rattle.dns_wire.specs.Choice.{label_offset};
     ghost use Rattle.dns_wire.specs.Encoders.{Hash};
-    ghost use Rattle.dns_target.specs.Table.{table_entries_in, AreKeyed, IsParent, keyed_again, parent_again};
+    ghost use Rattle.dns_target.specs.HashIndex.{table_entries_in, AreKeyed, IsParent, keyed_again, parent_again};
 
     ghost rule = { Hash };
 

@@ -1,3 +1,4 @@
 pub mod theory
 mod Choices
 mod SharedSuffixes
+mod Streams

@@ -4,3 +4,4 @@ pub mod Targets
 pub mod Choice
 pub mod TargetLaws
 pub mod Compression
+pub mod Stream

@@ -7,6 +7,7 @@
 
 mod canonical_ord;
 mod composer;
+mod stream_target;
 pub mod target_laws;
 mod to_name;
 
@@ -16,4 +17,5 @@ pub use dns_name::{FlattenInto, Label, LabelIter, Name, ParsedName, Parser, ToNa
 pub use dns_octets::{
     AppendError, BufferFrom, FormError, Octets, OctetsFrom, OctetsMut, ParseError, ShortBuf,
 };
+pub use stream_target::StreamTarget;
 pub use to_name::ToNameExt;

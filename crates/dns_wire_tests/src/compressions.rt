@@ -5,7 +5,7 @@
 //! pointer to a suffix of an earlier name.
 use crate::assertions::assert_same;
 use crate::steps::append_name;
-use dns_target::{HashCompressor, IndexCompressor, StaticCompressor, TreeCompressor};
+use dns_target::{FingerprintCompressor, HashCompressor, StaticCompressor, TreeCompressor};
 use dns_wire::Composer;
 use std::alloc::{AllocError, Global};
 use std::process::Abort;
@@ -116,7 +116,7 @@ fn assert_shortest(rt: &impl Abort, alloc: Global, names: &[&[u8]]) -> Result<us
     );
     assert_written(
         rt,
-        IndexCompressor::new(alloc, Vec::new(alloc)),
+        FingerprintCompressor::new(alloc, Vec::new(alloc)),
         names,
         least,
     );

@@ -6,7 +6,7 @@ use crate::assertions::{assert_octets, assert_same};
 use crate::steps::{Step, assert_row, assert_steps, take};
 use crate::targets::{Refusing, WANT};
 use arrayvec::ArrayVec;
-use dns_target::{HashCompressor, IndexCompressor, StaticCompressor, TreeCompressor};
+use dns_target::{FingerprintCompressor, HashCompressor, StaticCompressor, TreeCompressor};
 use dns_wire::{AppendError, CloneTarget, Composer, FreezeBuilder, Octets};
 use std::alloc::Global;
 use std::convert::AsSlice;
@@ -242,7 +242,7 @@ pub(crate) fn assert_rows<T: CloneTarget + FreezeBuilder>(
         assert_clone_row(rt, row, offsets, row.by_offset);
         let tree = TreeCompressor::new(alloc, clone_of(rt, empty));
         assert_clone_row(rt, row, tree, row.by_tree);
-        let index = IndexCompressor::new(alloc, clone_of(rt, empty));
+        let index = FingerprintCompressor::new(alloc, clone_of(rt, empty));
         assert_clone_row(rt, row, index, row.by_tree);
         let hash = HashCompressor::new(alloc, clone_of(rt, empty));
         assert_clone_row(rt, row, hash, row.by_hash);

@@ -1,7 +1,7 @@
 use Rattle.std.proofs.Common.{ℕ, Option, Some, arith, subst, sym}
 use Rattle.dns_name.specs.Names.{Labels, NameAt}
 use Rattle.dns_target.specs.TableEntries.{table_in}
-use Rattle.dns_target.specs.Table.{IsParent, ParentIsName, table_entries_in}
+use Rattle.dns_target.specs.HashIndex.{IsParent, ParentIsName, table_entries_in}
 use Rattle.dns_target.proofs.EntryLemmas.{name_at_inside}
 use Rattle.dns_target.proofs.KeyedNames.{parent_is_at}
 use Rattle.dns_target.proofs.hash_index.HashIndex.recent_in.Goals as goal

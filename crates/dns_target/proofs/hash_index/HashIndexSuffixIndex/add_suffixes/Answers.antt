@@ -1,6 +1,6 @@
 use Rattle.std.proofs.Common.{Option, ℕ, List, length, ap, ◌∙◌, sym, subst, ◌≡◌, ◌≤◌, ◌+◌, ◌-◌, drop, arith}
 use Rattle.dns_target.specs.TableEntries.{table_in}
-use Rattle.dns_target.specs.Table.{Suffix, AreKeyed, IsParent, table_entries_in, ParentIsName}
+use Rattle.dns_target.specs.HashIndex.{KeyedSuffix, AreKeyed, IsParent, table_entries_in, ParentIsName}
 use Rattle.dns_target.proofs.Choosing.{found_within}
 use Rattle.dns_target.proofs.EntryLists.{none_added, one_added}
 use Rattle.dns_target.proofs.KeyedNames.{key_next, first_parent, first_of_parents, found_refers}
@@ -9,15 +9,15 @@ use Rattle.dns_target.proofs.hash_index.HashIndexSuffixIndex.add_suffixes.Goals 
 pub loop-index-init : goal.loop-index-init
 loop-index-init c =
     let same = c.in_ok-reserve.ensures.suffixes in
-    let there = subst (λ (ss : List Suffix). IsParent c.args.content.now ss c.args.found.offset) (sym same) (_, found_refers _ c.args.labels.now c.args.found.from c.args.found.offset c.requires.add.found.there) in
+    let there = subst (λ (ss : List KeyedSuffix). IsParent c.args.content.now ss c.args.found.offset) (sym same) (_, found_refers _ c.args.labels.now c.args.found.from c.args.found.offset c.requires.add.found.there) in
     record {
       within = omega arith;
       spare_capacity = c.in_ok-reserve.ensures.ok;
       entries = ap table_entries_in same ∙ none_added (table_entries_in c.args.self.now.suffixes.suffixes) c.args.count c.args.labels.now c.args.offset (length c.args.content.now);
-      keyed = subst (λ (ss : List Suffix). AreKeyed c.args.content.now ss) (sym same) c.requires.is_of.0;
+      keyed = subst (λ (ss : List KeyedSuffix). AreKeyed c.args.content.now ss) (sym same) c.requires.is_of.0;
       found = there;
       last = there;
-      parent = λ some. subst (λ (ss : List Suffix). ParentIsName (table_in c.args.content.now (table_entries_in ss)) c.args.found.offset (drop c.args.count c.args.labels.now)) (sym same) (first_parent _ c.args.labels.now c.args.found.from c.args.count c.args.found.offset c.requires.planned.0 some c.requires.add.found.there);
+      parent = λ some. subst (λ (ss : List KeyedSuffix). ParentIsName (table_in c.args.content.now (table_entries_in ss)) c.args.found.offset (drop c.args.count c.args.labels.now)) (sym same) (first_parent _ c.args.labels.now c.args.found.from c.args.count c.args.found.offset c.requires.planned.0 some c.requires.add.found.there);
     }
 
 pub start-requires : goal.start-requires

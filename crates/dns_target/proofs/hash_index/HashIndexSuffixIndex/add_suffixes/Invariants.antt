@@ -1,7 +1,7 @@
 use Rattle.std.proofs.Common.{◌≡◌, ◌<◌, ◌≤◌, drop, length}
 use Rattle.dns_wire.specs.Choice.{first_suffixes}
 use Rattle.dns_target.specs.TableEntries.{table_in, with_suffixes}
-use Rattle.dns_target.specs.Table.{table_entries_in, ParentIsName, IsParent, AreKeyed}
+use Rattle.dns_target.specs.HashIndex.{table_entries_in, ParentIsName, IsParent, AreKeyed}
 use Rattle.dns_target.proofs.hash_index.HashIndexSuffixIndex.add_suffixes.Given as goal
 
 abbrev pub invariant-loop-index : goal.invariant-loop-index

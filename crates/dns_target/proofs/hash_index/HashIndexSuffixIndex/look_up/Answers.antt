@@ -1,6 +1,6 @@
 use Rattle.std.proofs.Common.{◌≡◌, ◌+◌, ◌-◌, ◌∙◌, Option, ℕ, arith, ap, sym}
 use Rattle.dns_target.specs.TableEntries.{table_in}
-use Rattle.dns_target.specs.Table.{find, table_entries_in}
+use Rattle.dns_target.specs.HashIndex.{find, table_entries_in}
 use Rattle.dns_target.proofs.KeyedNames.{indexed, path_more, found_stop, found_whole}
 use Rattle.dns_target.proofs.hash_index.HashIndexSuffixIndex.look_up.Goals as goal
 

@@ -1,6 +1,6 @@
 use Rattle.std.proofs.Common.{◌≤◌, length, drop}
 use Rattle.dns_target.specs.TableEntries.{table_in}
-use Rattle.dns_target.specs.Table.{ParentIsName, table_entries_in}
+use Rattle.dns_target.specs.HashIndex.{ParentIsName, table_entries_in}
 use Rattle.dns_target.proofs.hash_index.HashIndexSuffixIndex.look_up.Given as goal
 
 abbrev pub invariant-loop-from : goal.invariant-loop-from

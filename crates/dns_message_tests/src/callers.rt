@@ -1,0 +1,266 @@
+//! Proved callers: the examples of the pages that say how the crates are called.
+ghost use Rattle.std.specs.Prelude.{◌≡◌, ◌≤◌, ◌↔◌, List, length, map, max, min, true, IfOk, IfSome, IsSome, IsTrue};
+ghost use Rattle.std.specs.Fn.{FnOnceReturnsAtMut};
+ghost use Rattle.dns_code.specs.Header.{fields};
+ghost use Rattle.dns_data.specs.Layout.{End, Fixed};
+ghost use Rattle.dns_data.specs.RecordData.{only};
+ghost use Rattle.dns_item.specs.Ttl.{cap_seconds};
+ghost use Rattle.dns_build.specs.BuilderStates.{fresh};
+ghost use Rattle.dns_message.specs.Script.{after_all, octets_of};
+ghost use Rattle.dns_message.specs.declared.script.Reply.{Reply};
+ghost use Rattle.dns_read.specs.Message.{message_octets};
+ghost use Rattle.dns_read.specs.MessageIter.{message_items};
+ghost use Rattle.dns_read.specs.RecordSearches.{HasAnswer};
+ghost use Rattle.dns_section.specs.RecordIter.{typed_left};
+ghost use Rattle.dns_section.specs.Sections.{AnswersStart};
+ghost use Rattle.dns_message_tests.specs.Callers.{IsShortMessage, EncodedFirst, AreAnswers, data_among, sections_among, SaysWhatIsGathered};
+
+use dns_message::builder::laws::{opts_read_back, rcode_is_set};
+use dns_message::builder::{MessageBuilder, OptBuilder, PushError};
+use dns_message::code::{OptRcode, OptionCode, Rtype};
+use dns_message::data::{A, ParseRecordData, UnknownRecordData};
+use dns_message::header::Header;
+use dns_message::message::{Message, RecordIter, Section};
+use dns_message::name::{Name, ParsedName};
+use dns_message::question::ComposeQuestion;
+use dns_message::record::{ComposeRecord, Record, Ttl};
+use dns_message::script::{Call, Stage, run};
+use dns_message::target::HashCompressor;
+use dns_message::wire::{AppendError, Octets};
+use std::alloc::{AllocError, Global};
+use std::test::Fail;
+
+/// The header of a reply to a query: its ID and RD, and QR.
+fn reply_header(query: Header) -> Header
+    ensures id { (fields result).id ≡ (fields query).id }
+    ensures rd { (fields result).rd ≡ (fields query).rd }
+    ensures qr { (fields result).qr ≡ true }
+{
+    let mut header = Header::new();
+    header.set_id(query.id());
+    header.set_rd(query.rd());
+    header.set_qr(true);
+    header
+}
+
+#[test]
+fn replies_with_the_id(rt: HostRuntime) {
+    let mut query = Header::new();
+    query.set_id(0x1234);
+    query.set_rd(true);
+    let reply = reply_header(query);
+    assert!(rt; reply.id() == 0x1234 && reply.rd() && reply.qr());
+}
+
+/// Octets as opaque record data, if RDATA can have that many.
+fn opaque(rtype: Rtype, octets: &[u8]) -> Option<UnknownRecordData<&[u8]>>
+    ensures { IsSome result ↔ (length octets.now ≤ 65535) }
+{
+    UnknownRecordData::from_octets(rtype, octets).ok()
+}
+
+#[test]
+fn takes_opaque_data(rt: HostRuntime) -> Result<(), Fail> {
+    let long = vec![in rt.alloc(); 0; 65536]?;
+    assert!(rt; opaque(Rtype::TXT, &long).is_none() && opaque(Rtype::TXT, b"\x01a").is_some());
+    Ok(())
+}
+
+/// How long a record is cached: at most a week, but never less than `least`.
+fn kept_for(ttl: Ttl, least: Ttl) -> Ttl
+    ensures { result ≡ max least (min ttl cap_seconds) }
+{
+    least.max(ttl.cap())
+}
+
+#[test]
+fn keeps_for_a_week(rt: HostRuntime) {
+    let minute = Ttl::MINUTE;
+    assert!(rt;
+        kept_for(Ttl::from_secs(5), minute) == minute && kept_for(Ttl::MAX, minute) == Ttl::CAP
+    );
+}
+
+/// Where the answers of a message begin, if each question can be skipped.
+fn answers_start<Octs: Octets>(message: &Message<Octs>) -> Option<usize>
+    ensures { IfSome result (λ start. AnswersStart (message_octets message.now) start) }
+{
+    match message.answer() {
+        Ok(section) => Some(section.pos()),
+        Err(_) => None,
+    }
+}
+
+#[test]
+fn finds_the_answers(rt: HostRuntime) -> Result<(), Fail> {
+    let octets = b"\x00\x00\x00\x00\x00\x01\x00\x00\x00\x00\x00\x00\x01a\x00\x00\x01\x00\x01";
+    let message = Message::from_octets(octets.as_slice())?;
+    assert!(rt; answers_start(&message) == Some(19));
+    Ok(())
+}
+
+/// The first record of the answer section, if it can be read and its RDATA is of type `D`.
+fn first_answer<'a, Octs: Octets, D: ParseRecordData<'a> + Drop>(
+    message: &'a Message<Octs>,
+) -> Option<Record<ParsedName<'a>, D>>
+    ensures { IfSome result (EncodedFirst D.rtype_of D.parts D.layout (message_octets message.now)) }
+{
+    let mut answers = message.answer().ok()?;
+    let record = answers.next()?.ok()?;
+    match record.to_record() {
+        Ok(read) => read,
+        Err(_) => None,
+    }
+}
+
+#[test]
+fn reads_the_first_answer(rt: HostRuntime) -> Result<(), Fail> {
+    let octets =
+        b"\x00\x00\x81\xA0\x00\x00\x00\x01\x00\x00\x00\x00\x01a\x00\x00\x01\x00\x01\x00\x00\x0E\x10\x00\x04\xCB\x00\x71\x01";
+    let message = Message::from_octets(octets.as_slice())?;
+    let address = first_answer::<_, A>(&message).ok_or("address")?;
+    assert!(rt; address.data().octets() == [203, 0, 113, 1]);
+    Ok(())
+}
+
+/// The RDATA of the records that can be read, in order.
+fn data_of<'a, D: ParseRecordData<'a> + Drop>(
+    alloc: Global,
+    records: RecordIter<'a, D>,
+) -> Result<Vec<D>, AllocError>
+    ensures { IfOk result (λ found. map D.parts found.items
+        ≡ data_among (typed_left D.layout records.entry)) }
+{
+    let mut found = Vec::new(alloc);
+    for record in records {
+        if let Ok(record) = record {
+            found.push(record.into_data())?;
+        }
+    }
+    Ok(found)
+}
+
+/// The RDATA of the answers whose type `D` accepts, if it can be read.
+fn data_of_answers<'a, Octs: Octets, D: ParseRecordData<'a> + Drop>(
+    alloc: Global,
+    message: &'a Message<Octs>,
+) -> Option<Vec<D>>
+    ensures { IfSome result (λ found. AreAnswers D.parts D.layout (message_octets message.now)
+        found.items) }
+{
+    let answers = message.answer().ok()?;
+    match data_of(alloc, answers.limit_to()) {
+        Ok(found) => Some(found),
+        Err(_) => None,
+    }
+}
+
+#[test]
+fn collects_the_addresses(rt: HostRuntime) -> Result<(), Fail> {
+    let octets =
+        b"\x00\x00\x81\xA0\x00\x00\x00\x01\x00\x00\x00\x00\x01a\x00\x00\x01\x00\x01\x00\x00\x0E\x10\x00\x04\xCB\x00\x71\x01";
+    let message = Message::from_octets(octets.as_slice())?;
+    let addresses = data_of_answers::<_, A>(rt.alloc(), &message).ok_or("addresses")?;
+    assert!(rt; addresses.len() == 1 && addresses[0].octets() == [203, 0, 113, 1]);
+    Ok(())
+}
+
+/// The sections of the consecutive readable records, in order.
+fn sections_of<Octs: Octets>(
+    alloc: Global,
+    message: &Message<Octs>,
+) -> Result<Vec<Section>, AllocError>
+    ensures { IfOk result (λ found. found.items
+        ≡ sections_among (message_items (message_octets message.now))) }
+{
+    let mut found = Vec::new(alloc);
+    for item in message.iter() {
+        if let Ok((_, section)) = item {
+            found.push(section)?;
+        }
+    }
+    Ok(found)
+}
+
+/// Whether the answer section has an address, or something that can't be read.
+fn has_address<Octs: Octets>(message: &Message<Octs>) -> bool
+    ensures { IsTrue result ↔ HasAnswer (only 1 (Fixed 4 End)) (message_octets message.now) }
+{
+    message.contains_answer::<A>()
+}
+
+#[test]
+fn knows_the_sections(rt: HostRuntime) -> Result<(), Fail> {
+    let octets =
+        b"\x00\x00\x81\xA0\x00\x00\x00\x01\x00\x00\x00\x01\x00\x00\x01\x00\x01\x00\x00\x00\x00\x00\x04\xCB\x00\x71\x01\x00\x00\x02\x00\x01\x00\x00\x00\x00\x00\x01\x00";
+    let message = Message::from_octets(octets.as_slice())?;
+    let sections = sections_of(rt.alloc(), &message)?;
+    let expected = [Section::Answer, Section::Additional];
+    assert!(rt; has_address(&message) && sections.as_slice() == expected.as_slice());
+    Ok(())
+}
+
+/// Makes the calls on a new builder over a hash compressor. Returns the stage after them.
+fn compressed<Q: ComposeQuestion, R: ComposeRecord>(
+    alloc: Global,
+    calls: &[Call<Q, R>],
+) -> Option<Stage<HashCompressor<Vec<u8>>>>
+    ensures { IfSome result (λ stage. (replies : List Reply)
+        × IsShortMessage (after_all Q.question R.item fresh calls.now replies) (octets_of stage)) }
+{
+    let target = HashCompressor::new(alloc, Vec::new(alloc));
+    let Ok(builder) = MessageBuilder::from_target(target) else {
+        return None;
+    };
+    match run(alloc, Stage::Builder(builder), calls, &mut Vec::new(alloc)) {
+        Ok(stage) => Some(stage),
+        Err(_) => None,
+    }
+}
+
+#[test]
+fn spells_a_name_once(rt: HostRuntime) -> Result<(), Fail> {
+    let name = Name::from_octets(*b"\x07example\x03com\x00")?;
+    let calls = [
+        Call::ToQuestion,
+        Call::PushQuestion((name, Rtype::A)),
+        Call::ToAnswer,
+        Call::PushRecord((name, 3600, A::from_octets(203, 0, 113, 1))),
+    ];
+    let stage = compressed(rt.alloc(), &calls).ok_or("memory")?;
+    assert!(rt; stage.as_slice().len() == 12 + 13 + 4 + 2 + 10 + 4);
+    Ok(())
+}
+
+/// The message with one OPT record, which a closure gathers.
+fn opt_message<F: FnOnce(&mut OptBuilder) -> Result<(), AppendError>>(
+    alloc: Global,
+    gather: F,
+) -> Result<Message<Vec<u8>>, PushError>
+    requires { F.IsAlwaysCallable gather }
+    ensures { IfOk result (λ message. SaysWhatIsGathered (FnOnceReturnsAtMut F.FnOnce gather)
+        (message_octets message)) }
+{
+    let mut builder = MessageBuilder::new_vec(alloc)?.additional();
+    builder.opt(alloc, gather)?;
+    opts_read_back();
+    rcode_is_set();
+    Ok(builder.into_message())
+}
+
+#[test]
+fn reads_what_was_gathered(rt: HostRuntime) -> Result<(), Fail> {
+    let rcode = OptRcode::checked_from_int(23).ok_or("no rcode")?;
+    let message = opt_message(rt.alloc(), |opt| {
+        opt.set_udp_payload_size(1232);
+        opt.set_rcode(rcode);
+        opt.set_dnssec_ok(true);
+        opt.push_raw_option(OptionCode::from_int(3), b"")
+    })?;
+    let opt = message.opt().ok_or("no record")?;
+    assert!(rt; message.opt_rcode() == rcode && opt.udp_payload_size() == 1232);
+    assert!(rt; opt.version() == 0 && opt.dnssec_ok());
+    let mut options = opt.opt().iter();
+    assert!(rt; options.next().is_some() && options.next().is_none());
+    Ok(())
+}

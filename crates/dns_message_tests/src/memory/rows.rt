@@ -1,0 +1,77 @@
+//! Each allocation fails in turn: each message over each target that allocates.
+use crate::memory::calls::{assert_list, assert_moves};
+use crate::memory::copies::assert_copies;
+use crate::memory::fresh::Fresh;
+use crate::memory::messages::{assert_name_in_data, assert_negative, assert_positive};
+use crate::memory::opts::{assert_error, assert_option};
+use crate::memory::written::{COMPRESSED, PLAIN, Written, assert_octets};
+use dns_message::target::{
+    Composer, FingerprintCompressor, HashCompressor, StaticCompressor, StreamTarget, TreeCompressor,
+};
+use std::alloc::Global;
+use std::process::Abort;
+use std::test::Fail;
+
+/// Checks all messages that are pushed, copied, and built by lists of calls, with their names
+/// written this way.
+fn assert_messages<R: Abort + Print, T: Fresh>(
+    rt: &R,
+    alloc: Global,
+    written: Written,
+) -> Result<(), Fail> {
+    assert_positive::<R, T>(rt, alloc, written.positive)?;
+    assert_negative::<R, T>(rt, alloc)?;
+    assert_name_in_data::<R, T>(rt, alloc, written.name_in_data)?;
+    assert_option::<R, T>(rt, alloc)?;
+    assert_error::<R, T>(rt, alloc)?;
+    assert_copies::<R, T>(rt, alloc, written.copied)?;
+    assert_list::<R, T>(rt, alloc, written.positive)?;
+    assert_moves::<R, T>(rt, alloc, written.lengths)
+}
+
+#[test]
+fn over_a_vector(rt: HostRuntime) -> Result<(), Fail> {
+    assert_messages::<HostRuntime, Vec<u8>>(&rt, rt.alloc(), PLAIN)
+}
+
+#[test]
+fn over_a_stream(rt: HostRuntime) -> Result<(), Fail> {
+    assert_messages::<HostRuntime, StreamTarget<Vec<u8>>>(&rt, rt.alloc(), PLAIN)
+}
+
+#[test]
+fn over_a_static_compressor(rt: HostRuntime) -> Result<(), Fail> {
+    assert_messages::<HostRuntime, StaticCompressor<Vec<u8>>>(&rt, rt.alloc(), COMPRESSED)
+}
+
+#[test]
+fn over_a_static_compressor_over_a_stream(rt: HostRuntime) -> Result<(), Fail> {
+    type Target = StaticCompressor<StreamTarget<Vec<u8>>>;
+    assert_messages::<HostRuntime, Target>(&rt, rt.alloc(), COMPRESSED)
+}
+
+#[test]
+fn over_a_tree_compressor(rt: HostRuntime) -> Result<(), Fail> {
+    assert_messages::<HostRuntime, TreeCompressor<Vec<u8>>>(&rt, rt.alloc(), COMPRESSED)
+}
+
+#[test]
+fn over_a_hash_compressor(rt: HostRuntime) -> Result<(), Fail> {
+    assert_messages::<HostRuntime, HashCompressor<Vec<u8>>>(&rt, rt.alloc(), COMPRESSED)
+}
+
+#[test]
+fn over_an_index_compressor(rt: HostRuntime) -> Result<(), Fail> {
+    assert_messages::<HostRuntime, FingerprintCompressor<Vec<u8>>>(&rt, rt.alloc(), COMPRESSED)
+}
+
+/// The first octets of a `Vec` without a capacity.
+#[test]
+fn takes_what_it_needs_where_more_is_refused(rt: HostRuntime) -> Result<(), Fail> {
+    let mut target = Vec::new(rt.alloc());
+    target.append_slice(b"\x01a\x00")?;
+    assert_octets(&rt, target.as_slice(), b"\x01a\x00", "first octets");
+    let stream = StreamTarget::new_vec(rt.alloc())?;
+    assert_octets(&rt, stream.as_stream_slice(), b"\x00\x00", "stream");
+    Ok(())
+}

@@ -1,0 +1,43 @@
+-- What is found in a message, and why nothing is.
+use Rattle.std.proofs.Common.{◌≡◌, ◌∙◌, ap, sym, subst, ℕ, List, inr}
+use Rattle.std.specs.Prelude.{Some, None, option_map, Result}
+use Rattle.dns_name.specs.Names.{Fault, Labels}
+use Rattle.dns_data.specs.declared.a.A.{A}
+use Rattle.dns_question.specs.Questions.{QuestionItem}
+use Rattle.dns_item.specs.Items.{RecordItem}
+use Rattle.dns_read.specs.RecordSearches.{CanonicalName, nth_name}
+use Rattle.dns_read.specs.RecordSearches.CanonicalName.{no_question}
+use Rattle.dns_read.specs.Searches.{asked_first}
+use Rattle.example_resolve.specs.Resolving.{Finds, Gives, IsAccepted, IsReason, StopsAt, address_records, alias_records, first_fault}
+use Rattle.example_resolve.specs.declared.resolving.NoAddresses.{NoAddresses}
+use Rattle.example_resolve.specs.declared.resolving.NoAddresses.TheVariants.{OtherMessage, Failed, Truncated, OtherType, NoName, Unreadable, OutOfMemory}
+
+-- a message without a readable question has no canonical name
+pub no_name : (b : List ℕ) → asked_first b ≡ None → CanonicalName b None
+unfolding nth_name
+no_name b none = no_question (ap (option_map (λ (q : QuestionItem). q.name)) none)
+
+module _ (query b : List ℕ) (accepted : IsAccepted query b) (reading : List (Result RecordItem Fault)) (is : reading ≡ address_records b) where
+  -- an accepted message gives the addresses that are found for its canonical name
+  pub gives : (asked : QuestionItem) (name : Labels) (class : ℕ) → asked_first b ≡ Some asked → asked.rtype ≡ 1 → first_fault (alias_records b) ≡ None
+      → CanonicalName b (Some name) → class ≡ asked.class → (found : List A) → Finds name class reading found → Gives query b found
+  gives asked name class asks for_addresses aliases canonical same found finds = record {
+    accepted = accepted;
+    asked = asked;
+    asks = asks;
+    for_addresses = for_addresses;
+    aliases = aliases;
+    name = name;
+    canonical = canonical;
+    finds = subst (λ n. Finds name n (address_records b) found) same (subst (λ r. Finds name class r found) is finds);
+  }
+
+  -- if none are found, that is the reason
+  pub stops : (reason : NoAddresses) → StopsAt reading reason → IsReason query b reason
+  stops OtherMessage h = absurd h
+  stops (Failed rcode) h = absurd h
+  stops Truncated h = absurd h
+  stops OtherType h = absurd h
+  stops NoName h = absurd h
+  stops (Unreadable e) h = (accepted, inr (sym (ap first_fault is) ∙ h))
+  stops OutOfMemory h = accepted

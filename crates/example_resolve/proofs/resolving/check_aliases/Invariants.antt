@@ -1,0 +1,11 @@
+use Rattle.std.proofs.Common.{◌≡◌}
+use Rattle.dns_read.specs.RecordSearches.{cname_layout}
+use Rattle.dns_section.specs.Limited.{limited}
+use Rattle.dns_section.specs.RecordIter.{typed_left}
+use Rattle.dns_section.specs.RecordSection.{records_left}
+use Rattle.example_resolve.specs.Resolving.{first_fault}
+use Rattle.example_resolve.proofs.resolving.check_aliases.Given as goal
+
+abbrev pub invariant-loop-item : goal.invariant-loop-item
+invariant-loop-item l =
+    first_fault (typed_left cname_layout l.item-iterator) ≡ first_fault (limited cname_layout (records_left l.fn.answers))

@@ -1,0 +1,20 @@
+use Rattle.std.proofs.Common.{◌≡◌, ◌++◌, map}
+use Rattle.std.specs.List.{filter_map}
+use Rattle.std.specs.Prelude.{filter}
+use Rattle.std.specs.Result.{result_ok}
+use Rattle.dns_name.specs.ParsedName.{labels}
+use Rattle.dns_section.specs.Limited.{limited}
+use Rattle.dns_section.specs.RecordIter.{typed_left}
+use Rattle.dns_section.specs.RecordSection.{records_left}
+use Rattle.example_resolve.specs.Resolving.{a_layout, a_parts, first_fault, is_owned}
+use Rattle.example_resolve.proofs.resolving.found_addresses.Given as goal
+
+abbrev pub invariant-loop-item : goal.invariant-loop-item
+invariant-loop-item l =
+    let left = typed_left a_layout l.item-iterator in
+    let all = limited a_layout (records_left l.fn.answers) in
+    record {
+      faults : first_fault left ≡ first_fault all;
+      found : map a_parts l.found.items ++ map (λ x. x.parts) (filter (is_owned (labels l.name) l.class) (filter_map result_ok left))
+          ≡ map (λ x. x.parts) (filter (is_owned (labels l.name) l.class) (filter_map result_ok all));
+    }

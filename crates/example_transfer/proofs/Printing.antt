@@ -1,0 +1,139 @@
+-- What is printed for consecutive items.
+use Rattle.std.proofs.Common.{◌≡◌, ◌∙◌, ℕ, ◌+◌, ◌<◌, inl, inr, Bool, true, false, Option, Some, None, Result, Ok, Err, OnOk, List, [], ◌∷◌, ◌++◌, map, take, length, get_or, ap, refl, sym, subst, append-nil, codes, arith}
+use Rattle.std.specs.Io.KnownBytes.{Appends}
+use Rattle.std.specs.List.{concat, list_all, AllZip}
+use Rattle.std.specs.Prelude.{is_ok, if◌then◌else◌}
+use Rattle.std.proofs.lemmas.List.{map-append, take_more}
+use Rattle.std.proofs.lemmas.Bool.{cases_lt}
+use Rattle.std.proofs.lemmas.List.Folds.{concat-append}
+use Rattle.dns_octets.specs.declared.error.ParseError.{ParseError}
+use Rattle.dns_name.specs.Names.{fault_of}
+use Rattle.dns_name.specs.NameTexts.{name_text}
+use Rattle.dns_name.specs.ParsedName.{labels}
+use Rattle.dns_name.specs.declared.parsed_name.ParsedName.{ParsedName}
+use Rattle.dns_wire.specs.Parts.{Part}
+use Rattle.dns_data.specs.Layout.{Layout}
+use Rattle.dns_data.specs.UnknownData.{opaque_layout}
+use Rattle.dns_item.specs.ParsedRecord.{EncodedRecord}
+use Rattle.dns_item.specs.Record.{owner_of, class_of, ttl_of, data_of}
+use Rattle.dns_item.specs.RecordPrinting.{record_fields_text}
+use Rattle.dns_item.specs.RecordReading.{ReturnsTaken, ReturnsLaidOut, GivesTaken, IsRecordOf}
+use Rattle.dns_item.specs.declared.parsed_record.ParsedRecord.{ParsedRecord}
+use Rattle.dns_item.specs.declared.record.Record.{Record}
+use Rattle.dns_section.specs.RecordSection.{record_result}
+use Rattle.dns_show.proofs.theory.AppendedTexts.{appends_both, appends_none}
+use Rattle.example_transfer.specs.Printed.{ending, HasNoOctets, IsItemText, IsItemsText, IsRecordLine, IsTransferText, Prints}
+use Rattle.example_transfer.specs.Transfer.{AreMessagesOf, AreTransferred, Taken, is_whole}
+
+abbrev pub Item : Type 0
+Item = Result ParsedRecord ParseError
+
+zip_more : (xs : List Taken) (lines : List (List ℕ)) (x : Taken) (text : List ℕ) → AllZip IsItemText xs lines → IsItemText x text → AllZip IsItemText (xs ++ x ∷ []) (lines ++ text ∷ [])
+zip_more [] [] x text h k = (k, tt)
+zip_more [] (first ∷ lines) x text h k = absurd h
+zip_more (first ∷ xs) [] x text h k = absurd h
+zip_more (first ∷ xs) (front ∷ lines) x text h k = (h.0, zip_more xs lines x text h.1 k)
+
+-- at first no line is printed
+pub none_printed : (old : Option (List ℕ)) → Prints (IsItemsText []) old old
+none_printed old = ([], ([], tt, refl), appends_none old)
+
+-- the line of the next item
+pub more_printed : (xs : List Item) (i : ℕ) (m : Item) (a b c : Option (List ℕ)) → i < length xs → m ≡ get_or xs i m
+    → Prints (IsItemsText (map record_result (take i xs))) a b → Prints (IsItemText (record_result m)) b c → Prints (IsItemsText (map record_result (take (i + 1) xs))) a c
+more_printed xs i m a b c within at p h =
+    let front = map record_result (take i xs) in
+    let all : map record_result (take (i + 1) xs) ≡ front ++ record_result m ∷ [] =
+    ap (map record_result) (take_more xs i m within) ∙ map-append record_result (take i xs) (get_or xs i m ∷ []) ∙ ap (λ (x : Item). front ++ record_result x ∷ []) (sym at) in
+    let lines = p.1.0 in
+    let joined : p.0 ++ h.0 ≡ concat (lines ++ h.0 ∷ []) =
+    ap (λ l. l ++ h.0) p.1.2 ∙ ap (λ l. concat lines ++ l) (sym (append-nil h.0)) ∙ sym (concat-append lines (h.0 ∷ [])) in
+    subst (λ (ys : List Taken). Prints (IsItemsText ys) a c) (sym all)
+    (p.0 ++ h.0, (lines ++ h.0 ∷ [], zip_more front lines (record_result m) h.0 p.1.1 h.1, joined), appends_both a b c p.0 h.0 p.2 h.2)
+
+-- items are whole if all of them are records
+pub whole_items : (xs : List Item) → is_whole (map record_result xs) ≡ list_all is_ok xs
+whole_items [] = refl
+whole_items (Ok x ∷ xs) = whole_items xs
+whole_items (Err e ∷ xs) = refl
+
+-- no last line is printed if nothing is left over
+pub nothing_left : (items : List Taken) (rest : List ℕ) (a : Option (List ℕ)) → length rest ≡ 0 → Appends a a (ending items rest)
+nothing_left items [] a e = appends_none a
+nothing_left items (octet ∷ rest) a e = absurd (omega arith)
+
+module _ (items : List Item) where
+  -- what the last line is if something is left over
+  last_line : (octet : ℕ) (rest : List ℕ) (whole : Bool) → list_all is_ok items ≡ whole → ending (map record_result items) (octet ∷ rest) ≡ (if whole then codes "unreadable message\n" else [])
+  last_line octet rest whole e = ap (λ (b : Bool). if b then codes "unreadable message\n" else []) (whole_items items ∙ e)
+
+  -- nor if an item can't be read
+  pub fault_reported : (rest : List ℕ) (a : Option (List ℕ)) → list_all is_ok items ≡ false → Appends a a (ending (map record_result items) rest)
+  fault_reported [] a e = appends_none a
+  fault_reported (octet ∷ rest) a e = subst (λ (l : List ℕ). Appends a a l) (sym (last_line octet rest false e)) (appends_none a)
+
+  -- otherwise it is printed
+  pub ending_printed : {X E : Type 0} (r : Result X E) (rest : List ℕ) (a b : Option (List ℕ)) → (length rest ≡ 0 → ⊥) → list_all is_ok items ≡ true → OnOk r (Appends a b (codes "unreadable message\n"))
+      → OnOk r (Appends a b (ending (map record_result items) rest))
+  ending_printed r [] a b some e h = absurd (some refl)
+  ending_printed r (octet ∷ rest) a b some e h = subst (λ (l : List ℕ). OnOk r (Appends a b l)) (sym (last_line octet rest true e)) h
+
+-- the lines of items are printed, and the last line
+pub transfer_printed : {X E : Type 0} (r : Result X E) (stream : List ℕ) {messages given : List (List ℕ)} {rest : List ℕ} {items lines last : List Taken} (a b c : Option (List ℕ))
+    → AreMessagesOf stream messages rest → given ≡ messages → AreTransferred given items → lines ≡ items → Prints (IsItemsText lines) a b → last ≡ items → OnOk r (Appends b c (ending last rest))
+    → OnOk r (Prints (IsTransferText stream) a c)
+transfer_printed (Ok x) stream {messages = messages} {rest = rest} {items = items} a b c are given transferred first p second h =
+    let printed = subst (λ (xs : List Taken). Prints (IsItemsText xs) a b) first p in
+    let ended = subst (λ (xs : List Taken). Appends b c (ending xs rest)) second h in (
+      printed.0 ++ ending items rest,
+      record {
+        messages = messages;
+        rest = rest;
+        are_messages = are;
+        items = items;
+        transferred = subst (λ (ms : List (List ℕ)). AreTransferred ms items) given transferred;
+        lines = printed.0;
+        are_lines = printed.1;
+        is = refl;
+      },
+      appends_both a b c printed.0 (ending items rest) printed.2 ended,
+    )
+transfer_printed (Err e) stream a b c are given transferred first p second h = h
+
+-- if the result is Ok, a text of this form is printed
+pub on_printed : {X E : Type 0} (r : Result X E) (a b : Option (List ℕ)) (IsText : List ℕ → Type 0) (text : List ℕ) → IsText text → OnOk r (Appends a b text) → OnOk r (Prints IsText a b)
+on_printed (Ok x) a b IsText text is h = (text, is, h)
+on_printed (Err e) a b IsText text is h = h
+
+module _ {D : Type 0} (rtype_of : D → ℕ) (parts_of : D → List Part) (x : EncodedRecord) where
+  -- the line of a record, by the fields that were read
+  same_line : (r : Record ParsedName D) (parts : List Part) → IsRecordOf rtype_of parts_of x.octets x.entry parts r → (value : List ℕ)
+      → IsRecordLine x (record_fields_text (name_text (labels (owner_of r))) (ttl_of r) (class_of r) (rtype_of (data_of r)) value ++ codes "\n")
+  same_line r parts is value = (value, λ i. record_fields_text (name_text (is i).owner) (is i).ttl (is i).class (is i).rtype value ++ codes "\n")
+
+  taken_line : (r : Record ParsedName D) (taken : Option Layout) → GivesTaken rtype_of parts_of x.octets x.entry taken (Ok (Some r)) → (value : List ℕ)
+      → IsRecordLine x (record_fields_text (name_text (labels (owner_of r))) (ttl_of r) (class_of r) (rtype_of (data_of r)) value ++ codes "\n")
+  taken_line r None h value = absurd h
+  taken_line r (Some layout) h value = same_line r (parts_of (data_of r)) h.0 value
+
+  -- the line of a record whose RDATA is of one type
+  pub typed_line : (r : Record ParsedName D) (taken : Option Layout) → ReturnsTaken rtype_of parts_of x.octets x.entry taken (Ok (Some r)) → (value : List ℕ)
+      → IsItemText (Ok x) (record_fields_text (name_text (labels (owner_of r))) (ttl_of r) (class_of r) (rtype_of (data_of r)) value ++ codes "\n")
+  typed_line r taken returned value =
+      elim (cases_lt (length x.octets) x.entry.rdata_end) [
+        | inl missing ↦ let e = returned.missing (λ there. omega arith) in cc e
+        | inr there ↦ inl (taken_line r taken (returned.gives there) value)
+      ]
+
+  -- the line of a record whose RDATA is of any type
+  pub any_line : (r : Record ParsedName D) (layout : Layout) → ReturnsLaidOut rtype_of parts_of x.octets x.entry layout (Ok r) → (value : List ℕ)
+      → IsItemText (Ok x) (record_fields_text (name_text (labels (owner_of r))) (ttl_of r) (class_of r) (rtype_of (data_of r)) value ++ codes "\n")
+  any_line r layout returned value =
+      elim (cases_lt (length x.octets) x.entry.rdata_end) [
+        | inl missing ↦ let e = returned.missing (λ there. omega arith) in cc e
+        | inr there ↦ let given = returned.gives there in inl (same_line r (parts_of (data_of r)) given.0 value)
+      ]
+
+  -- RDATA that can't be read
+  pub no_octets : (e : ParseError) → ReturnsLaidOut rtype_of parts_of x.octets x.entry opaque_layout (Err e) → HasNoOctets x
+  no_octets e returned = λ there. (fault_of e, returned.gives there)

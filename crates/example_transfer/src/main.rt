@@ -1,0 +1,23 @@
+//! The program `example_transfer` prints the records of a zone transfer (RFC 5936), one a line. It
+//! reads from standard input the messages that a server sends over TCP, each after its length in
+//! two octets (RFC 1035 section 4.2.2).
+//!
+//! The contract of `print::print_transfer` says that each record of the answer sections is printed
+//! once, in order, up to the first that can't be read, and that a transfer that ends early is
+//! reported.
+#![tactic(auto)]
+
+mod print;
+mod transfer;
+
+use crate::print::print_transfer;
+use std::io;
+use std::io::{BufWriter, Read, Write};
+
+fn main(rt: HostRuntime) -> io::Result<()> {
+    let mut stream = Vec::new(rt.alloc());
+    rt.stdin().read_to_end(&mut stream)?;
+    let mut writer = BufWriter::new(rt.alloc(), rt.stdout())?;
+    print_transfer(rt.alloc(), &stream, &mut writer)?;
+    writer.flush()
+}

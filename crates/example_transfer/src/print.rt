@@ -1,0 +1,91 @@
+//! Prints the records of a transfer, one a line, and why it ends early.
+ghost use Rattle.std.specs.Prelude.{◌≡◌, map, is_ok, Ok, OnOk};
+ghost use Rattle.std.specs.Io.KnownBytes.{Appends};
+ghost use Rattle.std.specs.List.{list_all};
+ghost use Rattle.dns_item.specs.ParsedRecord.{encoded_record};
+ghost use Rattle.dns_section.specs.RecordSection.{record_result};
+ghost use Rattle.example_transfer.specs.Printed.{ending, IsItemText, IsItemsText, IsTransferText, Prints};
+
+use crate::transfer::{Item, items, messages};
+use dns_message::data::{A, Cname, Ns, Soa, UnknownRecordData};
+use dns_message::name::ParsedName;
+use dns_message::record::ParsedRecord;
+use std::alloc::Global;
+use std::io;
+use std::io::Write;
+
+/// Prints the records of the messages in a stream, and why they end early if they do.
+pub(crate) fn print_transfer<W: Write>(
+    alloc: Global,
+    stream: &[u8],
+    writer: &mut W,
+) -> io::Result<()>
+    ensures { OnOk result (Prints (IsTransferText stream.now)
+        (W.contents writer.old) (W.contents writer.new)) }
+{
+    let (messages, rest) = messages(alloc, stream)?;
+    let items = items(alloc, &messages)?;
+    print_items(writer, &items)?;
+    print_ending(writer, &items, rest)
+}
+
+/// Prints a line for each item.
+fn print_items<W: Write>(writer: &mut W, items: &[Item<'_>]) -> io::Result<()>
+    ensures { OnOk result (Prints (IsItemsText (map record_result items.now))
+        (W.contents writer.old) (W.contents writer.new)) }
+{
+    for item in items {
+        print_item(writer, item)?;
+    }
+    Ok(())
+}
+
+/// Prints the line of a record, or that it can't be read.
+fn print_item<W: Write>(writer: &mut W, item: &Item<'_>) -> io::Result<()>
+    ensures { OnOk result (Prints (IsItemText (record_result item.now))
+        (W.contents writer.old) (W.contents writer.new)) }
+{
+    match item {
+        Ok(record) => print_record(writer, record),
+        Err(_) => writer.write_all(b"unreadable record\n"),
+    }
+}
+
+/// Prints a record. Its RDATA is printed by its fields if it is well-formed data of one of these
+/// types, otherwise as opaque octets.
+fn print_record<W: Write>(writer: &mut W, record: &ParsedRecord<'_>) -> io::Result<()>
+    ensures { OnOk result (Prints (IsItemText (Ok (encoded_record «record».now)))
+        (W.contents writer.old) (W.contents writer.new)) }
+{
+    if let Ok(Some(record)) = record.to_record::<A>() {
+        writeln!(writer, "{record}")
+    } else if let Ok(Some(record)) = record.to_record::<Ns<ParsedName<'_>>>() {
+        writeln!(writer, "{record}")
+    } else if let Ok(Some(record)) = record.to_record::<Cname<ParsedName<'_>>>() {
+        writeln!(writer, "{record}")
+    } else if let Ok(Some(record)) = record.to_record::<Soa<ParsedName<'_>>>() {
+        writeln!(writer, "{record}")
+    } else if let Ok(record) = record.to_any_record::<UnknownRecordData<&[u8]>>() {
+        writeln!(writer, "{record}")
+    } else {
+        writer.write_all(b"unreadable data\n")
+    }
+}
+
+/// Prints that octets are left over, if all records could be read.
+fn print_ending<W: Write>(writer: &mut W, items: &[Item<'_>], rest: &[u8]) -> io::Result<()>
+    ensures { OnOk result (Appends (W.contents writer.old) (W.contents writer.new)
+        (ending (map record_result items.now) rest.now)) }
+{
+    if rest.is_empty() || !is_whole(items) {
+        return Ok(());
+    }
+    writer.write_all(b"unreadable message\n")
+}
+
+/// Whether all items are records.
+fn is_whole(items: &[Item<'_>]) -> bool
+    ensures { result ≡ list_all is_ok items.now }
+{
+    items.iter().all(|item| item.is_ok())
+}
