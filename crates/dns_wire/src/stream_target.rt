@@ -140,7 +140,7 @@ impl<T: Composer> Composer for StreamTarget<T> {
         Ok(())
     }
 
-    #[tactic(auto, unfolding(dns_wire::specs::Encoders::encode_name))]
+    #[tactic(auto, unfolding(crate::specs::Encoders::encode_name))]
     fn append_compressed_name<N: ToName>(&mut self, name: &N) -> Result<(), AppendError> {
         match name.as_flat_slice() {
             Some(octets) => self.append_slice(octets),
