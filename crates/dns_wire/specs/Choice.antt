@@ -44,15 +44,18 @@ abbrev pub planned_octets : Bool → Labels → ℕ → Option ℕ → List ℕ
 planned_octets true name from offset = uncompressed name
 planned_octets false name from offset = found_octets name from offset
 
--- A name at offset w is encoded by two choices: the longest suffix in the table, from label `from` on, and the number `count` of suffixes before it that may enter the table.
--- If all of these may, their labels are written, then a pointer. Else the name is written uncompressed.
+-- A name at offset w is encoded by its longest suffix in the table, and by the first suffix before that which may not enter the table.
 pub record EncodesByChoice (rule : Rule) (m : CompressionTable) (w : ℕ) (name : Labels) (encoded : Encoded) : Type 0 where
+  -- the longest suffix in the table begins at label `from`; if there is none, `from` is the number of labels
   pub from : ℕ
   pub offset : Option ℕ
   pub found : IsFound m name from offset
+  -- the first suffix before it that may not enter begins at label `count`; if each may enter, `count` is `from`
   pub count : ℕ
   pub enters : Enters rule w (len m) name from count
+  -- if each may enter, their labels are written, then a pointer or the zero octet; else the name is written uncompressed
   pub octets : encoded.octets ≡ planned_octets (nat_lt count from) name from offset
+  -- the suffixes before label `count` are added to the table; under hash, only if all are within pointer range
   pub table : encoded.table ≡ add_suffixes m (entering_suffixes rule (first_suffixes count name w)) (w + length encoded.octets)
 
 -- Each compressor encodes every name so.
