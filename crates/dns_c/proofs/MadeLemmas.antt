@@ -6,7 +6,7 @@ use Rattle.dns_wire.proofs.theory.CompressionTables.{get-insert_same}
 use Rattle.dns_name.specs.Names.{Labels, IsName, framed}
 use Rattle.dns_name.proofs.theory.LabelsLemmas.{length-uncompressed}
 use Rattle.dns_wire.specs.Parts.{Part, Octets, encode_parts}
-use Rattle.dns_wire.specs.Encoders.{CompressionTable, Rule, Static, TableEntry, nothing, encode_name, add_suffixes, compress, compress_label, is_kept, suffix_cmp}
+use Rattle.dns_wire.specs.Encoders.{CompressionTable, Rule, Static, TableEntry, nothing, encode_name, Suffix, add_suffixes, CompressedName, compress, compress_label, may_enter, suffix_cmp}
 use Rattle.dns_wire.specs.Targets.{Fits, Exceeds}
 use Rattle.dns_wire.proofs.theory.NameSizes.{names_are_short}
 use Rattle.dns_code.specs.Header.{header_octets}
@@ -47,21 +47,21 @@ asked_short rule header x four is =
     let name = name_short rule x.name nothing (length (header_octets header) + 8) is in
     simp length-append (omega (arith, name, four))
 
--- if its first label isn't in the table, the name is written uncompressed and enters the table
-first_compressed : (label : List ℕ) (rest : Labels) (p : ℕ) (after : List ℕ × List (Labels × ℕ)) (o : Option TableEntry) (k : Bool) → o ≡ None → k ≡ true
-    → compress_label o k label rest p after ≡ (framed label ++ after.0, (label ∷ rest, p) ∷ after.1)
-first_compressed label rest p after o k none kept = λ i. compress_label (none i) (kept i) label rest p after
+-- if a name isn't in the table and may enter it, its first label is written before its parent
+first_compressed : (label : List ℕ) (suffix : Suffix) (after : CompressedName) (o : Option TableEntry) (enters : Bool) → o ≡ None → enters ≡ true
+    → compress_label o enters label suffix after ≡ record { octets = framed label ++ after.octets; suffixes = suffix ∷ after.suffixes }
+first_compressed label suffix after o enters none may = λ i. compress_label (none i) (may i) label suffix after
 
 -- a name in the table takes 2 octets at most
-entry_short : (label : List ℕ) (rest : Labels) (p : ℕ) (after : List ℕ × List (Labels × ℕ)) (o : Option TableEntry) (k : Bool) (x : TableEntry) → o ≡ Some x
-    → length (compress_label o k label rest p after).0 ≤ 2
-entry_short label rest p after o k x known =
-    let two : length (compress_label o k label rest p after).0 ≡ 2 = λ i. length (compress_label (known i) k label rest p after).0 in omega arith
+entry_short : (label : List ℕ) (suffix : Suffix) (after : CompressedName) (o : Option TableEntry) (enters : Bool) (x : TableEntry) → o ≡ Some x
+    → length (compress_label o enters label suffix after).octets ≤ 2
+entry_short label suffix after o enters x known =
+    let two : length (compress_label o enters label suffix after).octets ≡ 2 = λ i. length (compress_label (known i) enters label suffix after).octets in omega arith
 
--- the table entry of a name that was written uncompressed
-listed_first : (name : Labels) (p end : ℕ) (ss rest : List (Labels × ℕ)) → ss ≡ (name, p) ∷ rest → get (add_suffixes nothing ss end) name ≡ Some (record { offset = p; end = end })
-listed_first name p end ss rest is =
-    ap (λ (xs : List (Labels × ℕ)). get (add_suffixes nothing xs end) name) is ∙ get-insert_same (add_suffixes nothing rest end) name (record { offset = p; end = end })
+-- the table entry of a name whose labels were all written
+listed_first : (suffix : Suffix) (end : ℕ) (ss rest : List Suffix) → ss ≡ suffix ∷ rest → get (add_suffixes nothing ss end) suffix.labels ≡ Some (record { offset = suffix.offset; end = end })
+listed_first suffix end ss rest is =
+    ap (λ (xs : List Suffix). get (add_suffixes nothing xs end) suffix.labels) is ∙ get-insert_same (add_suffixes nothing rest end) suffix.labels (record { offset = suffix.offset; end = end })
 
 -- the first name of a message takes 2 octets at most when it is written again
 again_at : (name : Labels) (v : ℕ) → length (encode_name Static name (encode_name Static name nothing 12).table v).octets ≤ 2
@@ -69,14 +69,15 @@ unfolding encode_name
 again_at [] v = omega arith
 again_at (label ∷ rest) v =
     let entry_count = len nothing in
+    let suffix : Suffix = record { labels = label ∷ rest; offset = 12 } in
     let after = compress Static nothing (12 + 1 + length label) (entry_count + 1) rest in
     let compressed = compress Static nothing 12 entry_count (label ∷ rest) in
-    let kept : is_kept Static 12 entry_count ≡ true = ap (is_kept Static 12) (len-empty suffix_cmp TableEntry) in
-    let first = first_compressed label rest 12 after (get nothing (label ∷ rest)) (is_kept Static 12 entry_count) (get-empty suffix_cmp (label ∷ rest)) kept in
-    let end = 12 + length compressed.0 in
-    let table = add_suffixes nothing compressed.1 end in
-    entry_short label rest v (compress Static table (v + 1 + length label) (len table + 1) rest) (get table (label ∷ rest)) (is_kept Static v (len table))
-    (record { offset = 12; end = end }) (listed_first (label ∷ rest) 12 end compressed.1 after.1 (ap (λ (s : List ℕ × List (Labels × ℕ)). s.1) first))
+    let may : may_enter Static 12 entry_count ≡ true = ap (may_enter Static 12) (len-empty suffix_cmp TableEntry) in
+    let first = first_compressed label suffix after (get nothing (label ∷ rest)) (may_enter Static 12 entry_count) (get-empty suffix_cmp (label ∷ rest)) may in
+    let end = 12 + length compressed.octets in
+    let table = add_suffixes nothing compressed.suffixes end in
+    entry_short label (record { labels = label ∷ rest; offset = v }) (compress Static table (v + 1 + length label) (len table + 1) rest) (get table (label ∷ rest)) (may_enter Static v (len table))
+    (record { offset = 12; end = end }) (listed_first suffix end compressed.suffixes after.suffixes (ap (λ (s : CompressedName). s.suffixes) first))
 
 again_short : (name : Labels) (w v : ℕ) → w ≡ 12 → length (encode_name Static name (encode_name Static name nothing w).table v).octets ≤ 2
 again_short name w v first = subst (λ k. length (encode_name Static name (encode_name Static name nothing k).table v).octets ≤ 2) (sym first) (again_at name v)

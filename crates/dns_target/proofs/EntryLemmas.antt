@@ -4,7 +4,7 @@ use Rattle.std.specs.Prelude.{is_some}
 use Rattle.std.proofs.lemmas.Bool.Decides.{nat_tests}
 use Rattle.std.specs.FinMap.{get, insert, len, from_entries, get-empty, len-empty, len-insert}
 use Rattle.dns_name.specs.Names.{Fault, Labels, name_size, max_size, NameAt, Faulty}
-use Rattle.dns_wire.specs.Encoders.{suffix_cmp, suffix_total, TableEntry, CompressionTable, cut, add_suffixes, IsWithin}
+use Rattle.dns_wire.specs.Encoders.{suffix_cmp, suffix_total, TableEntry, CompressionTable, cut, add_suffixes, IsWithin, Suffix}
 use Rattle.dns_wire.specs.TargetLaws.{NameAtWithin}
 use Rattle.dns_wire.proofs.theory.Stability.{name_at_within}
 use Rattle.dns_wire.specs.Targets.{Labelled, IsTableOf}
@@ -137,23 +137,23 @@ pub cut-ordered : (xs : List TableEntry) (len : ℕ) → AreOrdered xs → AreOr
 cut-ordered xs len h = cut_keeps (λ (x : TableEntry). x.end) len (λ ys. AreOrdered ys) (λ y ys k. k.1) xs h
 
 -- the entries of names with further suffixes
-pub table_entries-with_names : (ps : List (Labels × TableEntry)) (ss : List (Labels × ℕ)) (end : ℕ) → table_entries (with_names ps ss end) ≡ with_suffixes (table_entries ps) ss end
+pub table_entries-with_names : (ps : List (Labels × TableEntry)) (ss : List Suffix) (end : ℕ) → table_entries (with_names ps ss end) ≡ with_suffixes (table_entries ps) ss end
 table_entries-with_names ps [] end = refl
-table_entries-with_names ps (s ∷ ss) end = ap (λ (ys : List TableEntry). record { offset = s.1; end = end } ∷ ys) (table_entries-with_names ps ss end)
+table_entries-with_names ps (s ∷ ss) end = ap (λ (ys : List TableEntry). record { offset = s.offset; end = end } ∷ ys) (table_entries-with_names ps ss end)
 
 -- the table with further suffixes
-pub entries-with_names : (ps : List (Labels × TableEntry)) (ss : List (Labels × ℕ)) (end : ℕ)
+pub entries-with_names : (ps : List (Labels × TableEntry)) (ss : List Suffix) (end : ℕ)
     → from_entries {R = suffix_cmp} (with_names ps ss end) ≡ add_suffixes (from_entries ps) ss end
 entries-with_names ps [] end = refl
-entries-with_names ps (s ∷ ss) end = ap (λ (m : CompressionTable). insert m s.0 (record { offset = s.1; end = end })) (entries-with_names ps ss end)
+entries-with_names ps (s ∷ ss) end = ap (λ (m : CompressionTable). insert m s.labels (record { offset = s.offset; end = end })) (entries-with_names ps ss end)
 
 -- if each further suffix is new, all names differ
-pub with_names-new : (ps : List (Labels × TableEntry)) (ss : List (Labels × ℕ)) (end : ℕ) → AreNew ps → AreAdded (from_entries {R = suffix_cmp} ps) ss end → AreNew (with_names ps ss end)
+pub with_names-new : (ps : List (Labels × TableEntry)) (ss : List Suffix) (end : ℕ) → AreNew ps → AreAdded (from_entries {R = suffix_cmp} ps) ss end → AreNew (with_names ps ss end)
 with_names-new ps [] end h a = h
-with_names-new ps (s ∷ ss) end h a = (ap (λ (m : CompressionTable). get m s.0) (entries-with_names ps ss end) ∙ a.0, with_names-new ps ss end h a.1)
+with_names-new ps (s ∷ ss) end h a = (ap (λ (m : CompressionTable). get m s.labels) (entries-with_names ps ss end) ∙ a.0, with_names-new ps ss end h a.1)
 
 -- no name ends before an older one
-pub with_suffixes-ordered : (xs : List TableEntry) (ss : List (Labels × ℕ)) (end : ℕ) → AreOrdered xs → last_end xs ≤ end
+pub with_suffixes-ordered : (xs : List TableEntry) (ss : List Suffix) (end : ℕ) → AreOrdered xs → last_end xs ≤ end
     → AreOrdered (with_suffixes xs ss end) × (last_end (with_suffixes xs ss end) ≤ end)
 with_suffixes-ordered xs [] end h l = (h, l)
 with_suffixes-ordered xs (s ∷ ss) end h l = let more = with_suffixes-ordered xs ss end h l in ((more.1, more.0), omega arith)

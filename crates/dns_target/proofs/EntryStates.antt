@@ -4,14 +4,14 @@ use Rattle.std.specs.FinMap.{len, from_entries}
 use Rattle.dns_octets.specs.declared.error.AppendError.{AppendError}
 use Rattle.dns_octets.specs.declared.error.AppendError.TheVariants.{ShortBuf, OutOfMemory}
 use Rattle.dns_name.specs.Names.{Labels, IsName, name_size, max_size, uncompressed}
-use Rattle.dns_wire.specs.Encoders.{suffix_cmp, CompressionTable, TableEntry, IsClear, Plain, Rule, Static, Tree, encode_octets, encode_name}
-use Rattle.dns_wire.specs.Choice.{first_suffixes}
+use Rattle.dns_wire.specs.Encoders.{suffix_cmp, CompressionTable, TableEntry, IsClear, Plain, Rule, Static, Tree, encode_octets, encode_name, Suffix}
+use Rattle.dns_wire.specs.Choice.{first_suffixes, IsFound, IsThere, Enters, planned_octets}
 use Rattle.dns_wire.specs.Targets.{IsTableOf, Written, append, cut_to, overwrite, Fits, Exceeds, AppendReturns, Appends, IsTarget}
 use Rattle.dns_wire.proofs.theory.EncoderLaws.{same_written, encodes_octets, encodes_name}
 use Rattle.dns_wire.proofs.theory.EncodedNames.{ends_within_content}
 use Rattle.dns_wire.proofs.theory.CompressedNames.{is_table_cut, is_table_over}
 use Rattle.dns_wire.proofs.theory.CompressionTables.{nothing_is_kept}
-use Rattle.dns_target.specs.Indexes.{IsFound, IsReachable, IsThere, Enters, IsEncoded, planned_octets, AreTableEntries, IsToAdd, Plans}
+use Rattle.dns_target.specs.Indexes.{IsReachable, IsEncoded, AreTableEntries, IsToAdd, Plans}
 use Rattle.dns_target.specs.TableEntries.{with_names, named, table_in, AreNew, last_end, AreOrdered, cut_table_entries, with_suffixes, with_table_entries, HasTableEntries}
 use Rattle.dns_target.proofs.EntryLemmas.{all_get, named_again, named-table_entries, table_entries-named, last_within, cut-table, cut-new, cut-ordered, table_entries-with_names, entries-with_names, with_names-new, with_suffixes-ordered, len-table}
 use Rattle.dns_target.proofs.Choosing.{planned_encoded}
@@ -148,7 +148,7 @@ entries_reachable rule w xs content name from offset h e f =
     reachable_by (Some p) t = (t.0, let k = h.target.each _ t.1.0 t.1.1 in let l = k.in_range in let z = t.1.2 in omega arith)
 
 -- the names once the suffixes of a name are added
-pub encode_names : (rule compressing : Rule) (w v : Written) (xs : List TableEntry) (name : Labels) (text : List ℕ) (ss : List (Labels × ℕ)) → IsName name → HasTableEntries rule w xs
+pub encode_names : (rule compressing : Rule) (w v : Written) (xs : List TableEntry) (name : Labels) (text : List ℕ) (ss : List Suffix) → IsName name → HasTableEntries rule w xs
     → v ≡ append (encode_octets text) w → IsEncoded compressing name (table_in w.octets xs) (length w.octets) text ss
     → let ps = with_names (named w.octets xs) ss (length w.octets + length text) in
     AreNew ps × (named v.octets (with_suffixes xs ss (length w.octets + length text)) ≡ ps) × IsTableOf v.octets (from_entries {R = suffix_cmp} ps)
@@ -166,7 +166,7 @@ encode_names rule compressing w v xs name text ss is h e encoding =
     (new, ap (named v.octets) (sym (table_entries-with_names (named w.octets xs) ss end ∙ ap (λ ys. with_suffixes ys ss end) (table_entries-named w.octets xs))) ∙ named-table_entries v.octets (from_entries ps) ps r (all_get ps new), r)
 
 -- the invariant once the suffixes of a name are added
-pub entries_put : (rule compressing : Rule) (w v : Written) (xs us : List TableEntry) (name : Labels) (text : List ℕ) (ss : List (Labels × ℕ)) → IsName name → HasTableEntries rule w xs
+pub entries_put : (rule compressing : Rule) (w v : Written) (xs us : List TableEntry) (name : Labels) (text : List ℕ) (ss : List Suffix) → IsName name → HasTableEntries rule w xs
     → v ≡ append (encode_octets text) w → IsEncoded compressing name (table_in w.octets xs) (length w.octets) text ss → us ≡ with_suffixes xs ss (length w.octets + length text)
     → HasTableEntries rule v us
 entries_put rule compressing w v xs us name text ss is h e encoding f =
@@ -176,7 +176,7 @@ entries_put rule compressing w v xs us name text ss is h e encoding f =
     rw f (by_names rule v (with_suffixes xs ss end) _ h.plain names.1 names.0 (with_suffixes-ordered xs ss end h.ordered (omega arith)).0 names.2)
 
 -- octets and table are then those that the rule gives
-pub put_entries : (rule compressing : Rule) (w v now : Written) (xs us : List TableEntry) (name : Labels) (text : List ℕ) (ss : List (Labels × ℕ)) → IsName name → HasTableEntries rule w xs
+pub put_entries : (rule compressing : Rule) (w v now : Written) (xs us : List TableEntry) (name : Labels) (text : List ℕ) (ss : List Suffix) → IsName name → HasTableEntries rule w xs
     → v ≡ append (encode_octets text) w → IsEncoded compressing name (table_in w.octets xs) (length w.octets) text ss → us ≡ with_suffixes xs ss (length w.octets + length text)
     → with_table_entries w xs ≡ now → with_table_entries v us ≡ append (encode_name compressing name) now
 put_entries rule compressing w v now xs us name text ss is h e encoding f s =
@@ -204,7 +204,7 @@ pub ending : (w v : Written) (text content : List ℕ) → content ≡ v.octets 
 ending w v text content e o = ap length e ∙ ap (λ (x : Written). length x.octets) o ∙ length-append w.octets text
 
 -- if the octets of a name are appended, the name fits the capacity
-pub name_fits : (compressing : Rule) (capacity : Option ℕ) (grows : Bool) (w v now : Written) (xs : List TableEntry) (name : Labels) (text : List ℕ) (ss : List (Labels × ℕ))
+pub name_fits : (compressing : Rule) (capacity : Option ℕ) (grows : Bool) (w v now : Written) (xs : List TableEntry) (name : Labels) (text : List ℕ) (ss : List Suffix)
     → Appends capacity grows (encode_octets text) w v {X = Unit {0}} (Ok tt) → IsEncoded compressing name (table_in w.octets xs) (length w.octets) text ss → with_table_entries w xs ≡ now
     → Fits capacity (length (append (encode_name compressing name) now).octets)
 name_fits compressing capacity grows w v now xs name text ss a encoding s =
@@ -212,7 +212,7 @@ name_fits compressing capacity grows w v now xs name text ss a encoding s =
     (subst (λ (ys : List ℕ). Fits capacity (length (w.octets ++ ys))) (sym encoding.octets) a.outcome)
 
 -- a name is appended
-pub name_appended : (rule compressing : Rule) (capacity : Option ℕ) (grows all_grow : Bool) (w v now : Written) (xs us : List TableEntry) (name : Labels) (text : List ℕ) (ss : List (Labels × ℕ))
+pub name_appended : (rule compressing : Rule) (capacity : Option ℕ) (grows all_grow : Bool) (w v now : Written) (xs us : List TableEntry) (name : Labels) (text : List ℕ) (ss : List Suffix)
     → IsName name → HasTableEntries rule w xs → Appends capacity grows (encode_octets text) w v {X = Unit {0}} (Ok tt)
     → IsEncoded compressing name (table_in w.octets xs) (length w.octets) text ss → us ≡ with_suffixes xs ss (length w.octets + length text) → with_table_entries w xs ≡ now
     → Appends capacity all_grow (encode_name compressing name) now (with_table_entries v us) {X = Unit {0}} (Ok tt)
@@ -223,7 +223,7 @@ name_appended rule compressing capacity grows all_grow w v now xs us name text s
 }
 
 -- an append of a name fails
-pub name_refused : (compressing : Rule) (capacity : Option ℕ) (grows all_grow : Bool) (w v now : Written) (xs us : List TableEntry) (name : Labels) (text : List ℕ) (ss : List (Labels × ℕ))
+pub name_refused : (compressing : Rule) (capacity : Option ℕ) (grows all_grow : Bool) (w v now : Written) (xs us : List TableEntry) (name : Labels) (text : List ℕ) (ss : List Suffix)
     (r : Result (Unit {0}) AppendError) (e : AppendError) → r ≡ Err e → (grows ≡ true → all_grow ≡ true) → Appends capacity grows (encode_octets text) w v {X = Unit {0}} (Err e)
     → IsEncoded compressing name (table_in w.octets xs) (length w.octets) text ss → us ≡ xs → with_table_entries w xs ≡ now
     → Appends capacity all_grow (encode_name compressing name) now (with_table_entries v us) r
@@ -288,7 +288,7 @@ pub to_add : (rule compressing : Rule) (w v : Written) (xs : List TableEntry) (n
 to_add rule compressing w v xs name labels content text after from count offset is h l p e o encoding f c g few =
     let names = encode_names rule compressing w v xs name text (first_suffixes count name (length w.octets)) is h o encoding in
     let old : named v.octets xs ≡ named w.octets xs = grown_names rule w v xs text h o in
-    let ss : List (Labels × ℕ) = first_suffixes count name (length w.octets) in
+    let ss : List Suffix = first_suffixes count name (length w.octets) in
     let found : IsFound (table_in w.octets xs) name from offset =
     subst (λ (n : Labels). IsFound (table_in w.octets xs) n from offset) l (subst (λ (b : List ℕ). IsFound (table_in b xs) labels from offset) p f) in
     let there : IsFound (table_in v.octets xs) name from offset =

@@ -2,12 +2,12 @@
 use Rattle.std.specs.Prelude.{◌≡◌, ◌≢◌, ℕ, suc, ◌+◌, ◌<◌, ◌≤◌, ◌==◌, Option, None, Some, List, [], ◌∷◌, length, if◌then◌else◌, nat_lt, drop, map, reverse, get_or}
 use Rattle.std.specs.FinMap.{from_entries}
 use Rattle.dns_name.specs.Names.{Labels, pointer_end}
-use Rattle.dns_wire.specs.Encoders.{suffix_cmp, CompressionTable, TableEntry, Tree}
+use Rattle.dns_wire.specs.Encoders.{suffix_cmp, CompressionTable, TableEntry, Tree, Suffix}
 use Rattle.dns_target.specs.TableEntries.{cut_by, named, table_entries}
 use Rattle.dns_target.specs.declared.texts.Found.{Found}
 use Rattle.dns_target.specs.declared.lookup.Lookup.{Lookup}
 use Rattle.std.proofs.Common.{◌∙◌, arith}
-use Rattle.dns_target.specs.Indexes.{Enters}
+use Rattle.dns_wire.specs.Choice.{Enters}
 use Rattle.dns_target.specs.declared.tree_index.Node.{Node}
 use Rattle.dns_target.specs.Chains.{IsChained}
 
@@ -135,9 +135,9 @@ pub record IsLookup (ts : List Entry) (name : Labels) (lookup : Lookup) : Type 0
   pub end : IsEnd ts name lookup.from
 
 -- the suffixes whose offset is below 16,384
-abbrev pub in_range_only : List (Labels × ℕ) → List (Labels × ℕ)
+abbrev pub in_range_only : List Suffix → List Suffix
 in_range_only [] = []
-in_range_only (s ∷ ss) = if nat_lt s.1 pointer_end then s ∷ in_range_only ss else in_range_only ss
+in_range_only (s ∷ ss) = if nat_lt s.offset pointer_end then s ∷ in_range_only ss else in_range_only ss
 
 -- a tree whose suffixes are the names encoded at their offsets in the octets
 pub record IsTreeOf (b : List ℕ) (ts : List Entry) : Type 0 where

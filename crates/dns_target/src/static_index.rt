@@ -1,8 +1,7 @@
 //! The index of a static compressor: the offsets of suffixes.
 ghost use Rattle.std.specs.Prelude.{◌≡◌, ◌+◌, ◌<◌, ◌≤◌, ◌∷◌, [], length, drop, ℕ};
 ghost use Rattle.dns_wire.specs.Encoders.{Static as StaticRule};
-ghost use Rattle.dns_target.specs.Indexes.{Enters};
-ghost use Rattle.dns_wire.specs.Choice.{label_offset};
+ghost use Rattle.dns_wire.specs.Choice.{label_offset, Enters};
 ghost use Rattle.dns_target.specs.TableEntries.{AreNew, AreNamesAt, offset_in_table, named};
 
 use crate::index::{Plan, SuffixIndex};

@@ -2,7 +2,7 @@
 ghost use Rattle.std.specs.Prelude.{◌≡◌, ◌+◌, ◌<◌, ◌≤◌, ◌∷◌, [], length, get_or, None, Some, false, OnOk, OnErr, IfOk, IfSome};
 ghost use Rattle.std.specs.Str.{bytes_eq};
 ghost use Rattle.dns_wire.specs.Encoders.{Tree as TreeRule};
-ghost use Rattle.dns_target.specs.Indexes.{Enters};
+ghost use Rattle.dns_wire.specs.Choice.{Enters};
 ghost use Rattle.dns_target.specs.OctetHashes.{octets_hash as hash_of};
 ghost use Rattle.dns_target.specs.TreeIndex.{code, parents_of, children_of, IsRun, HasRuns, IsIn, IsNode, IsTree, IsWalk, entry_at, name_at, cut_entries};
 

@@ -1,4 +1,3 @@
 pub mod theory
-mod Choices
 mod SharedSuffixes
 mod Streams

@@ -6,7 +6,7 @@ use Rattle.std.proofs.lemmas.Grind.{common_steps}
 use Rattle.std.specs.FinMap.{get, insert, len, get-insert, len-insert, contains_key}
 use Rattle.std.specs.Ordering.{eq_by_cmp}
 use Rattle.dns_name.specs.Names.{Labels, IsName, uncompressed, name_size}
-use Rattle.dns_wire.specs.Encoders.{CompressionTable, TableEntry, add_suffixes, suffix_cmp, suffix_total, Rule, Plain, Static, Tree, Hash, compress, kept, is_kept}
+use Rattle.dns_wire.specs.Encoders.{CompressionTable, TableEntry, Suffix, add_suffixes, suffix_cmp, suffix_total, Rule, Plain, Static, Tree, Hash, compress, entering_suffixes, may_enter}
 use Rattle.dns_wire.specs.Targets.{At}
 use Rattle.dns_wire.specs.Compression.{IsSuffix, IsShared, SharesAll}
 use Rattle.dns_wire.specs.Parts.{LabelsInPointerRange}
@@ -39,7 +39,7 @@ shared_some (name ∷ names) s (inl h) = h.some
 shared_some (name ∷ names) s (inr h) = shared_some names s h
 
 -- Each suffix before the one in the table can enter the table.
-abbrev pub AllKept : {rule : Rule} {m : CompressionTable} {p entry_count : ℕ} {name : Labels} {text : List ℕ} {ss : List (Labels × ℕ)} → CompressesAs rule m p entry_count name text ss → Type 0
+abbrev pub AllKept : {rule : Rule} {m : CompressionTable} {p entry_count : ℕ} {name : Labels} {text : List ℕ} {ss : List Suffix} → CompressesAs rule m p entry_count name text ss → Type 0
 AllKept at_root = Unit {0}
 AllKept (at_entry e) = Unit {0}
 AllKept (at_kept e k s) = AllKept s
@@ -80,7 +80,7 @@ best_label names label others n without (inr a) =
     )
 
 -- A name is written as short as possible.
-pub best : {rule : Rule} {m : CompressionTable} {p entry_count : ℕ} {name : Labels} {text : List ℕ} {ss : List (Labels × ℕ)} (names : List Labels) → Knows m names → (s : CompressesAs rule m p entry_count name text ss) → AllKept s → Best names name (length text)
+pub best : {rule : Rule} {m : CompressionTable} {p entry_count : ℕ} {name : Labels} {text : List ℕ} {ss : List Suffix} (names : List Labels) → Knows m names → (s : CompressesAs rule m p entry_count name text ss) → AllKept s → Best names name (length text)
 best names knows at_root k = best_root names
 best names knows (at_entry {first = first} {rest = rest} {x = x} e) k = inr ([], first ∷ rest, refl, knows.only (first ∷ rest) x e, refl, λ f r e s. omega arith)
 best names knows (at_kept {first = first} {rest = rest} {text = text} e is s) k =
@@ -98,21 +98,21 @@ suffix_others : (s : Labels) (label : List ℕ) (others : Labels) → IsSuffix s
 suffix_others s label others h = record { first = label ∷ h.first; whole = ap (λ (n : Labels). label ∷ n) h.whole; some = h.some }
 
 -- The same for each of a list.
-each_others : (label : List ℕ) (others : Labels) (ss : List (Labels × ℕ)) → Each (λ s. IsSuffix s.0 others) ss → Each (λ s. IsSuffix s.0 (label ∷ others)) ss
+each_others : (label : List ℕ) (others : Labels) (ss : List Suffix) → Each (λ s. IsSuffix s.labels others) ss → Each (λ s. IsSuffix s.labels (label ∷ others)) ss
 each_others label others [] h = tt
-each_others label others (s ∷ ss) h = (suffix_others s.0 label others h.0, each_others label others ss h.1)
+each_others label others (s ∷ ss) h = (suffix_others s.labels label others h.0, each_others label others ss h.1)
 
 -- The suffixes that are written out are suffixes of the name.
-compress_suffixes : {rule : Rule} {m : CompressionTable} {p entry_count : ℕ} {name : Labels} {text : List ℕ} {ss : List (Labels × ℕ)} → CompressesAs rule m p entry_count name text ss → Each (λ s. IsSuffix s.0 name) ss
+compress_suffixes : {rule : Rule} {m : CompressionTable} {p entry_count : ℕ} {name : Labels} {text : List ℕ} {ss : List Suffix} → CompressesAs rule m p entry_count name text ss → Each (λ s. IsSuffix s.labels name) ss
 compress_suffixes at_root = tt
 compress_suffixes (at_entry e) = tt
 compress_suffixes (at_kept {first = first} {rest = rest} {ss = ss} e k s) = (suffix_whole first rest, each_others first rest ss (compress_suffixes s))
 compress_suffixes (at_far e k) = tt
 
 -- A suffix is in the list.
-abbrev Listed : Labels → List (Labels × ℕ) → Type 0
+abbrev Listed : Labels → List Suffix → Type 0
 Listed t [] = ⊥
-Listed t (s ∷ ss) = (t ≡ s.0) ⊎ Listed t ss
+Listed t (s ∷ ss) = (t ≡ s.labels) ⊎ Listed t ss
 
 -- A suffix is the whole name, or a suffix of its parent.
 suffix_cases : (s : Labels) (label : List ℕ) (others first : Labels) → label ∷ others ≡ first ++ s → 1 ≤ length s → (s ≡ label ∷ others) ⊎ IsSuffix s others
@@ -124,7 +124,7 @@ no_suffix : (s : Labels) → IsSuffix s [] → ⊥
 no_suffix s h = let some = h.some in let l : 0 ≡ length h.first + length s = ap length h.whole ∙ length-append h.first s in omega arith
 
 -- Each suffix of the name was shared, or is written out.
-listed : {rule : Rule} {m : CompressionTable} {p entry_count : ℕ} {name : Labels} {text : List ℕ} {ss : List (Labels × ℕ)} (names : List Labels) (t : Labels) → Knows m names → (s : CompressesAs rule m p entry_count name text ss) → AllKept s → IsSuffix t name → IsShared names t ⊎ Listed t ss
+listed : {rule : Rule} {m : CompressionTable} {p entry_count : ℕ} {name : Labels} {text : List ℕ} {ss : List Suffix} (names : List Labels) (t : Labels) → Knows m names → (s : CompressesAs rule m p entry_count name text ss) → AllKept s → IsSuffix t name → IsShared names t ⊎ Listed t ss
 listed names t knows at_root k h = absurd (no_suffix t h)
 listed names t knows (at_entry {first = first} {rest = rest} {x = x} e) k h = inl (shared_suffix names t (first ∷ rest) h (knows.only (first ∷ rest) x e))
 listed names t knows (at_kept {first = first} {rest = rest} e is s) k h =
@@ -144,20 +144,20 @@ inserted_other true v o x e = (v, refl)
 inserted_other false v o x e = (x, e)
 
 -- The table has each suffix of the list.
-listed_found : (m : CompressionTable) (t : Labels) (q : ℕ) (ss : List (Labels × ℕ)) → Listed t ss → (x : TableEntry) × (get (add_suffixes m ss q) t ≡ Some x)
+listed_found : (m : CompressionTable) (t : Labels) (q : ℕ) (ss : List Suffix) → Listed t ss → (x : TableEntry) × (get (add_suffixes m ss q) t ≡ Some x)
 listed_found m t q [] h = absurd h
-listed_found m t q (s ∷ ss) (inl e) = (record { offset = s.1; end = q }, inserted_same (add_suffixes m ss q) t s.0 (record { offset = s.1; end = q }) e)
+listed_found m t q (s ∷ ss) (inl e) = (record { offset = s.offset; end = q }, inserted_same (add_suffixes m ss q) t s.labels (record { offset = s.offset; end = q }) e)
 listed_found m t q (s ∷ ss) (inr h) =
     let f = listed_found m t q ss h in
-    let v : TableEntry = record { offset = s.1; end = q } in
-    let o = inserted_other (eq_by_cmp suffix_cmp t s.0) v (get (add_suffixes m ss q) t) f.0 f.1 in
-    (o.0, get-insert suffix_total (add_suffixes m ss q) s.0 v t ∙ o.1)
+    let v : TableEntry = record { offset = s.offset; end = q } in
+    let o = inserted_other (eq_by_cmp suffix_cmp t s.labels) v (get (add_suffixes m ss q) t) f.0 f.1 in
+    (o.0, get-insert suffix_total (add_suffixes m ss q) s.labels v t ∙ o.1)
 
 -- After the name is written, the table has exactly the suffixes of this name and of the earlier ones.
 pub knows_more : (rule : Rule) (m n : CompressionTable) (names : List Labels) (p entry_count q : ℕ) (name : Labels) → Knows m names → AllKept (compresses_as rule m p entry_count name)
-    → n ≡ add_suffixes m (compress rule m p entry_count name).1 q → ((s : Labels) (x : TableEntry) → get m s ≡ Some x → get n s ≡ Some x) → Knows n (name ∷ names)
+    → n ≡ add_suffixes m (compress rule m p entry_count name).suffixes q → ((s : Labels) (x : TableEntry) → get m s ≡ Some x → get n s ≡ Some x) → Knows n (name ∷ names)
 knows_more rule m n names p entry_count q name knows k is g =
-    let ss = (compress rule m p entry_count name).1 in
+    let ss = (compress rule m p entry_count name).suffixes in
     let old : (s : Labels) → IsShared names s → (x : TableEntry) × (get n s ≡ Some x) = λ s h. let f = knows.has s h in (f.0, g s f.0 f.1) in
     record {
       has = λ s h.
@@ -169,7 +169,7 @@ knows_more rule m n names p entry_count q name knows k is g =
             | inr a ↦ old s a
           ];
       only = λ s x e.
-          elim (found m ss q (λ t. IsSuffix t.0 name) s x (compress_suffixes (compresses_as rule m p entry_count name)) (ap (λ (r : CompressionTable). get r s) (sym is) ∙ e)) [
+          elim (found m ss q (λ t. IsSuffix t.labels name) s x (compress_suffixes (compresses_as rule m p entry_count name)) (ap (λ (r : CompressionTable). get r s) (sym is) ∙ e)) [
             | inl a ↦ inr (knows.only s x a)
             | inr a ↦ inl a.0
           ];
@@ -184,8 +184,8 @@ few_less Hash k n l h = tt
 
 -- A rule by which each suffix within pointer range enters the table, while `SharesAll` holds.
 pub record KeepsInPointerRange (rule : Rule) : Type 0 where
-  pub keeps : (p entry_count : ℕ) → p < 16384 → SharesAll rule entry_count → is_kept rule p entry_count ≡ true
-  pub chosen : (ss : List (Labels × ℕ)) → list_all (λ s. nat_lt s.1 16384) ss ≡ true → kept rule ss ≡ ss
+  pub keeps : (p entry_count : ℕ) → p < 16384 → SharesAll rule entry_count → may_enter rule p entry_count ≡ true
+  pub chosen : (ss : List Suffix) → list_all (λ s. nat_lt s.offset 16384) ss ≡ true → entering_suffixes rule ss ≡ ss
 
 -- The tree rule is one.
 pub tree_keeps_in_range : KeepsInPointerRange Tree
@@ -207,7 +207,7 @@ pub hash_keeps_in_range : KeepsInPointerRange Hash
 hash_keeps_in_range = record { keeps = λ p entry_count h few. refl; chosen = λ ss h. ap (λ (b : Bool). cond b ss []) h }
 
 -- If every written label is within pointer range, each suffix before the one in the table can enter the table.
-pub in_range_kept : {rule : Rule} {m : CompressionTable} {p entry_count : ℕ} {name : Labels} {text : List ℕ} {ss : List (Labels × ℕ)} (r : KeepsInPointerRange rule) (b : List ℕ) (q : ℕ) (s : CompressesAs rule m p entry_count name text ss) → IsName name → LabelsInPointerRange b q p → At b p text → SharesAll rule (entry_count + length ss) → AllKept s
+pub in_range_kept : {rule : Rule} {m : CompressionTable} {p entry_count : ℕ} {name : Labels} {text : List ℕ} {ss : List Suffix} (r : KeepsInPointerRange rule) (b : List ℕ) (q : ℕ) (s : CompressesAs rule m p entry_count name text ss) → IsName name → LabelsInPointerRange b q p → At b p text → SharesAll rule (entry_count + length ss) → AllKept s
 in_range_kept r b q at_root is in_range h few = tt
 in_range_kept r b q (at_entry e) is in_range h few = tt
 in_range_kept {rule = rule} r b q (at_kept {entry_count = entry_count} {first = first} {rest = rest} {text = text} {ss = ss} e k s) is in_range h few =
@@ -220,7 +220,7 @@ in_range_kept {rule = rule} r b q (at_far {p = p} {entry_count = entry_count} {f
     absurd (cc)
 
 -- If every written label is within pointer range, so is each suffix that is written out.
-pub in_range_suffixes : {rule : Rule} {m : CompressionTable} {p entry_count : ℕ} {name : Labels} {text : List ℕ} {ss : List (Labels × ℕ)} (b : List ℕ) (q : ℕ) → CompressesAs rule m p entry_count name text ss → IsName name → LabelsInPointerRange b q p → At b p text → list_all (λ s. nat_lt s.1 16384) ss ≡ true
+pub in_range_suffixes : {rule : Rule} {m : CompressionTable} {p entry_count : ℕ} {name : Labels} {text : List ℕ} {ss : List Suffix} (b : List ℕ) (q : ℕ) → CompressesAs rule m p entry_count name text ss → IsName name → LabelsInPointerRange b q p → At b p text → list_all (λ s. nat_lt s.offset 16384) ss ≡ true
 in_range_suffixes b q at_root is in_range h = refl
 in_range_suffixes b q (at_entry e) is in_range h = refl
 in_range_suffixes b q (at_kept {p = p} {first = first} {rest = rest} {text = text} e k s) is in_range h =
@@ -237,13 +237,13 @@ len_more m k v true e = omega (arith, e)
 len_more m k v false e = omega (arith, e)
 
 -- Adding suffixes never removes an entry.
-pub len_add_suffixes : (m : CompressionTable) (ss : List (Labels × ℕ)) (q : ℕ) → len m ≤ len (add_suffixes m ss q)
+pub len_add_suffixes : (m : CompressionTable) (ss : List Suffix) (q : ℕ) → len m ≤ len (add_suffixes m ss q)
 len_add_suffixes m [] q = omega arith
 len_add_suffixes m (s ∷ ss) q =
     let r = add_suffixes m ss q in
-    let v : TableEntry = record { offset = s.1; end = q } in
+    let v : TableEntry = record { offset = s.offset; end = q } in
     let a = len_add_suffixes m ss q in
-    let b : len r ≤ len (insert r s.0 v) = len_more r s.0 v (contains_key r s.0) (len-insert suffix_total r s.0 v) in
+    let b : len r ≤ len (insert r s.labels v) = len_more r s.labels v (contains_key r s.labels) (len-insert suffix_total r s.labels v) in
     omega arith
 
 -- An option without a value is `None`.
@@ -260,14 +260,14 @@ len_new : (r : CompressionTable) (k : Labels) (v : TableEntry) → get r k ≡ N
 len_new r k v e = len-insert suffix_total r k v ∙ ap (λ (o : Option TableEntry). cond (is_some o) (len r) (len r + 1)) e
 
 -- Each suffix that is written out adds one entry.
-pub len_compress : {rule : Rule} {m : CompressionTable} {p entry_count : ℕ} {name : Labels} {text : List ℕ} {ss : List (Labels × ℕ)} (q : ℕ) → CompressesAs rule m p entry_count name text ss → len (add_suffixes m ss q) ≡ len m + length ss
+pub len_compress : {rule : Rule} {m : CompressionTable} {p entry_count : ℕ} {name : Labels} {text : List ℕ} {ss : List Suffix} (q : ℕ) → CompressesAs rule m p entry_count name text ss → len (add_suffixes m ss q) ≡ len m + length ss
 len_compress q at_root = omega arith
 len_compress q (at_entry e) = omega arith
 len_compress {m = m} q (at_kept {p = p} {first = first} {rest = rest} {ss = ss} e k s) =
     let r = add_suffixes m ss q in
     let rec = len_compress q s in
     let new : get r (first ∷ rest) ≡ None = none_of (get r (first ∷ rest)) (λ x f.
-    elim (found m ss q (λ t. IsSuffix t.0 rest) (first ∷ rest) x (compress_suffixes s) f) [
+    elim (found m ss q (λ t. IsSuffix t.labels rest) (first ∷ rest) x (compress_suffixes s) f) [
       | inl a ↦ let k : None ≡ Some x = sym e ∙ a in cc
       | inr a ↦ longer first rest a.0
     ]) in

@@ -7,3 +7,4 @@ pub mod EncoderLaws
 pub mod Stability
 pub mod TargetTheorems
 pub mod ShortestEncoders
+pub mod Choices

@@ -1,68 +1,63 @@
--- How a name is compressed, by the indices of its labels. It agrees with the recursion of `encode_name`. RFC 1035 section 4.1.4.
-use Rattle.std.specs.Prelude.{◌≡◌, ℕ, zero, suc, ◌+◌, ◌<◌, ◌≤◌, ◌⊎◌, Some, None, List, [], ◌∷◌, ◌++◌, length, take, drop}
-use Rattle.std.specs.List.{flat_map}
+-- How a name is compressed, by the indices of its labels. The recursion of `encode_name` agrees with it. RFC 1035 section 4.1.4.
+use Rattle.std.specs.Prelude.{◌≡◌, ℕ, zero, suc, ◌+◌, ◌<◌, ◌≤◌, nat_lt, Bool, true, false, Option, None, Some, List, [], ◌∷◌, ◌++◌, length, take, drop}
 use Rattle.std.specs.FinMap.{get, len}
-use Rattle.dns_name.specs.Names.{Labels, framed, name_size, uncompressed, pointer_end}
-use Rattle.dns_wire.specs.Encoders.{CompressionTable, TableEntry, add_suffixes, Rule, Plain, Static, Tree, Hash, Encoded, pointer, encode_name}
+use Rattle.dns_name.specs.Names.{Labels, name_size, uncompressed}
+use Rattle.dns_wire.specs.Encoders.{CompressionTable, TableEntry, Suffix, add_suffixes, Rule, compresses, Encoded, pointer, may_enter, entering_suffixes, encode_name}
 
 -- The offset of label i, if the name is written at offset w without pointers.
 abbrev pub label_offset : ℕ → Labels → ℕ → ℕ
 label_offset w name i = w + name_size (take i name)
 
--- The first i suffixes of a name at offset w, the longest first, each with its offset.
-abbrev pub first_suffixes : ℕ → Labels → ℕ → List (Labels × ℕ)
+-- The first i suffixes of a name at offset w, the longest first.
+abbrev pub first_suffixes : ℕ → Labels → ℕ → List Suffix
 first_suffixes zero name w = []
 first_suffixes (suc i) [] w = []
-first_suffixes (suc i) (label ∷ rest) w = (label ∷ rest, w) ∷ first_suffixes i rest (w + 1 + length label)
+first_suffixes (suc i) (label ∷ parent) w = record { labels = label ∷ parent; offset = w } ∷ first_suffixes i parent (w + 1 + length label)
 
--- The suffix after the first j labels is the first one in the table; or none is, and j is the number of labels.
-pub record IsFirstInTable (m : CompressionTable) (name : Labels) (j : ℕ) : Type 0 where
-  pub within : j ≤ length name
-  pub before : (i : ℕ) → i < j → get m (drop i name) ≡ None
-  pub there : (drop j name ≡ []) ⊎ ((x : TableEntry) × (get m (drop j name) ≡ Some x))
+-- No suffix that begins before label `from` is in the table.
+abbrev pub IsNew : CompressionTable → Labels → ℕ → Type 0
+IsNew m name from = (k : ℕ) → k < from → get m (drop k name) ≡ None
 
--- What follows the written labels: a zero octet if no labels remain, else a pointer to the remaining labels.
-abbrev pub EndsWith : CompressionTable → Labels → List ℕ → Type 0
-EndsWith m others end = ((others ≡ []) × (end ≡ 0 ∷ [])) ⊎ ((x : TableEntry) × (get m others ≡ Some x) × (end ≡ pointer x.offset))
+-- The suffix that begins at label `from` is in the table, with this offset. Without an offset, `from` is the number of labels.
+abbrev pub IsThere : CompressionTable → Labels → ℕ → Option ℕ → Type 0
+IsThere m name from None = from ≡ length name
+IsThere m name from (Some offset) = (from < length name) × ((x : TableEntry) × (get m (drop from name) ≡ Some x) × (x.offset ≡ offset))
 
--- A suffix at offset `offset` can't enter the table, which has `entry_count` entries. This never holds under the hash rule, which decides once the name is written.
-abbrev pub IsFar : Rule → ℕ → ℕ → Type 0
-IsFar Plain entry_count offset = Unit {0}
-IsFar Static entry_count offset = (pointer_end ≤ offset) ⊎ (24 ≤ entry_count)
-IsFar Tree entry_count offset = pointer_end ≤ offset
-IsFar Hash entry_count offset = ⊥
+-- It is the longest suffix in the table.
+pub record IsFound (m : CompressionTable) (name : Labels) (from : ℕ) (offset : Option ℕ) : Type 0 where
+  pub new : IsNew m name from
+  pub there : IsThere m name from offset
 
--- The octets of a name at offset w, and the suffixes that may enter the table.
-pub data Chooses (rule : Rule) (m : CompressionTable) (w entry_count : ℕ) (name : Labels) : List ℕ → List (Labels × ℕ) → Type 0 where
-  -- Every suffix before the one in the table can enter it: their labels are written, then a pointer or the root.
-  shared : (j : ℕ) (end : List ℕ) → IsFirstInTable m name j → EndsWith m (drop j name) end
-      → ((i : ℕ) → i < j → IsFar rule (entry_count + i) (label_offset w name i) → ⊥)
-      → Chooses rule m w entry_count name (flat_map framed (take j name) ++ end) (first_suffixes j name w)
-  -- Suffix c is the first that can't enter the table, and is before the one in the table: the name is written uncompressed, and the c suffixes before c may enter.
-  written_out : (c j : ℕ) → IsFirstInTable m name j → c < j → IsFar rule (entry_count + c) (label_offset w name c)
-      → ((i : ℕ) → i < c → IsFar rule (entry_count + i) (label_offset w name i) → ⊥)
-      → Chooses rule m w entry_count name (uncompressed name) (first_suffixes c name w)
+-- Of the suffixes that begin before label `from`, the first `count` may enter a table of `entry_count` entries. The next one, if there is one, may not.
+pub record Enters (rule : Rule) (w entry_count : ℕ) (name : Labels) (from count : ℕ) : Type 0 where
+  pub within : count ≤ from
+  pub in_range : (i : ℕ) → i < count → may_enter rule (label_offset w name i) (entry_count + i) ≡ true
+  pub far : count < from → may_enter rule (label_offset w name count) (entry_count + count) ≡ false
 
--- A suffix with its offset is among these.
-abbrev pub IsAmong : Labels × ℕ → List (Labels × ℕ) → Type 0
-IsAmong t [] = ⊥
-IsAmong t (s ∷ ss) = (t ≡ s) ⊎ IsAmong t ss
+-- The labels before the suffix that was found, and a pointer to it. If none was found, the name uncompressed.
+abbrev pub found_octets : Labels → ℕ → Option ℕ → List ℕ
+found_octets name from None = uncompressed name
+found_octets name from (Some offset) = take (name_size (take from name)) (uncompressed name) ++ pointer offset
 
--- The static or tree rule: the name is written as chosen, and the suffixes enter the table.
+-- What is written of a name: all of it uncompressed (`whole`), or the labels before the suffix that was found and a pointer to it.
+abbrev pub planned_octets : Bool → Labels → ℕ → Option ℕ → List ℕ
+planned_octets true name from offset = uncompressed name
+planned_octets false name from offset = found_octets name from offset
+
+-- A name at offset w is encoded by its longest suffix in the table, and by the first suffix before that which may not enter the table.
 pub record EncodesByChoice (rule : Rule) (m : CompressionTable) (w : ℕ) (name : Labels) (encoded : Encoded) : Type 0 where
-  pub suffixes : List (Labels × ℕ)
-  pub chooses : Chooses rule m w (len m) name encoded.octets suffixes
-  pub table : encoded.table ≡ add_suffixes m suffixes (w + length encoded.octets)
+  -- the longest suffix in the table begins at label `from`; if there is none, `from` is the number of labels
+  pub from : ℕ
+  pub offset : Option ℕ
+  pub found : IsFound m name from offset
+  -- the first suffix before it that may not enter begins at label `count`; if each may enter, `count` is `from`
+  pub count : ℕ
+  pub enters : Enters rule w (len m) name from count
+  -- if each may enter, their labels are written, then a pointer or the zero octet; else the name is written uncompressed
+  pub octets : encoded.octets ≡ planned_octets (nat_lt count from) name from offset
+  -- the suffixes before label `count` are added to the table; under hash, only if all are within pointer range
+  pub table : encoded.table ≡ add_suffixes m (entering_suffixes rule (first_suffixes count name w)) (w + length encoded.octets)
 
--- The hash rule: the name is written as chosen, and the suffixes enter the table only if all are within pointer range.
-pub record EncodesByHash (m : CompressionTable) (w : ℕ) (name : Labels) (encoded : Encoded) : Type 0 where
-  pub suffixes : List (Labels × ℕ)
-  pub chooses : Chooses Hash m w (len m) name encoded.octets suffixes
-  pub table : (((s : Labels × ℕ) → IsAmong s suffixes → s.1 < pointer_end) × (encoded.table ≡ add_suffixes m suffixes (w + length encoded.octets)))
-      ⊎ (((s : Labels × ℕ) × IsAmong s suffixes × (pointer_end ≤ s.1)) × (encoded.table ≡ m))
-
--- Each compressor writes a name as chosen by the first suffix in the table and the first suffix that can't enter it.
-pub record NamesByChoice : Type 0 where
-  pub static : (m : CompressionTable) (w : ℕ) (name : Labels) → EncodesByChoice Static m w name (encode_name Static name m w)
-  pub tree : (m : CompressionTable) (w : ℕ) (name : Labels) → EncodesByChoice Tree m w name (encode_name Tree name m w)
-  pub hash : (m : CompressionTable) (w : ℕ) (name : Labels) → EncodesByHash m w name (encode_name Hash name m w)
+-- Each compressor encodes every name so.
+abbrev pub NamesByChoice : Type 0
+NamesByChoice = (rule : Rule) → compresses rule ≡ true → (m : CompressionTable) (w : ℕ) (name : Labels) → EncodesByChoice rule m w name (encode_name rule name m w)

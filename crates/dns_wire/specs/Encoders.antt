@@ -45,10 +45,15 @@ ends_within len (Some table_entry) = nat_le table_entry.end len
 unfoldable pub cut : CompressionTable → ℕ → CompressionTable
 cut m len = retain_keys m (λ suffix. ends_within len (get m suffix))
 
--- The table with entries for these suffixes at their offsets, from a name that ends at `end`.
-abbrev pub add_suffixes : CompressionTable → List (Labels × ℕ) → ℕ → CompressionTable
+-- A suffix that is written as labels, and its offset.
+pub record Suffix : Type 0 where
+  pub labels : Labels
+  pub offset : ℕ
+
+-- The table with entries for these suffixes, from a name that ends at `end`.
+abbrev pub add_suffixes : CompressionTable → List Suffix → ℕ → CompressionTable
 add_suffixes m [] end = m
-add_suffixes m (s ∷ ss) end = insert (add_suffixes m ss end) s.0 (record { offset = s.1; end = end })
+add_suffixes m (s ∷ ss) end = insert (add_suffixes m ss end) s.labels (record { offset = s.offset; end = end })
 
 -- Each name in the table ends within the first w octets.
 abbrev pub IsWithin : CompressionTable → ℕ → Type 0
@@ -124,36 +129,42 @@ pointer offset = (192 + offset / 256) ∷ offset % 256 ∷ []
 abbrev pub static_entries : ℕ
 static_entries = 24
 
--- Whether a suffix at offset `offset` may enter the table, which has `entry_count` entries. The hash rule decides later, in `kept`.
-abbrev pub is_kept : Rule → ℕ → ℕ → Bool
-is_kept Plain offset entry_count = false
-is_kept Static offset entry_count = nat_lt offset pointer_end && nat_lt entry_count static_entries
-is_kept Tree offset entry_count = nat_lt offset pointer_end
-is_kept Hash offset entry_count = true
+-- Whether a suffix at this offset may enter the table, which has `entry_count` entries. The hash rule decides later, in `entering_suffixes`.
+abbrev pub may_enter : Rule → ℕ → ℕ → Bool
+may_enter Plain offset entry_count = false
+may_enter Static offset entry_count = nat_lt offset pointer_end && nat_lt entry_count static_entries
+may_enter Tree offset entry_count = nat_lt offset pointer_end
+may_enter Hash offset entry_count = true
+
+-- A name as it is compressed: its octets, and its suffixes that are written as labels and may enter the table.
+pub record CompressedName : Type 0 where
+  pub octets : List ℕ
+  pub suffixes : List Suffix
 
 -- A suffix in the table: a pointer. Else, if the table may take it here: the label, then its parent encoded after it. Else: the whole name uncompressed.
--- The second component lists the suffixes that are written as labels and may enter the table, each with its offset.
-abbrev pub compress_label : Option TableEntry → Bool → List ℕ → Labels → ℕ → List ℕ × List (Labels × ℕ) → List ℕ × List (Labels × ℕ)
-compress_label (Some table_entry) keep label parent offset after = (pointer table_entry.offset, [])
-compress_label None true label parent offset after = (framed label ++ after.0, (label ∷ parent, offset) ∷ after.1)
-compress_label None false label parent offset after = (uncompressed (label ∷ parent), [])
+abbrev pub compress_label : Option TableEntry → Bool → List ℕ → Suffix → CompressedName → CompressedName
+compress_label (Some entry) enters label suffix parent = record { octets = pointer entry.offset; suffixes = [] }
+compress_label None true label suffix parent = record { octets = framed label ++ parent.octets; suffixes = suffix ∷ parent.suffixes }
+compress_label None false label suffix parent = record { octets = uncompressed suffix.labels; suffixes = [] }
 
--- A name encoded at offset `offset`, with `entry_count` entries in the table.
-abbrev pub compress : Rule → CompressionTable → ℕ → ℕ → Labels → List ℕ × List (Labels × ℕ)
-compress rule m offset entry_count [] = (0 ∷ [], [])
+-- A name compressed at this offset, with `entry_count` entries in the table.
+abbrev pub compress : Rule → CompressionTable → ℕ → ℕ → Labels → CompressedName
+compress rule m offset entry_count [] = record { octets = 0 ∷ []; suffixes = [] }
 compress rule m offset entry_count (label ∷ parent) =
-    compress_label (get m (label ∷ parent)) (is_kept rule offset entry_count) label parent offset (compress rule m (offset + 1 + length label) (entry_count + 1) parent)
+    let suffix : Suffix = record { labels = label ∷ parent; offset = offset } in
+    let compressed_parent = compress rule m (offset + 1 + length label) (entry_count + 1) parent in
+    compress_label (get m suffix.labels) (may_enter rule offset entry_count) label suffix compressed_parent
 
 -- The suffixes that enter the table. Under the hash rule it is all or none: none if one of them is past pointer range.
-abbrev pub kept : Rule → List (Labels × ℕ) → List (Labels × ℕ)
-kept Hash suffixes = if list_all (λ s. nat_lt s.1 pointer_end) suffixes then suffixes else []
-kept Plain suffixes = []
-kept Static suffixes = suffixes
-kept Tree suffixes = suffixes
+abbrev pub entering_suffixes : Rule → List Suffix → List Suffix
+entering_suffixes Hash suffixes = if list_all (λ s. nat_lt s.offset pointer_end) suffixes then suffixes else []
+entering_suffixes Plain suffixes = []
+entering_suffixes Static suffixes = suffixes
+entering_suffixes Tree suffixes = suffixes
 
 -- The encoding of a name under a rule.
 unfoldable pub encode_name : Rule → Labels → Encoder
 encode_name Plain name m w = record { octets = uncompressed name; table = m }
 encode_name rule name m w =
     let compressed = compress rule m w (len m) name in
-    record { octets = compressed.0; table = add_suffixes m (kept rule compressed.1) (w + length compressed.0) }
+    record { octets = compressed.octets; table = add_suffixes m (entering_suffixes rule compressed.suffixes) (w + length compressed.octets) }

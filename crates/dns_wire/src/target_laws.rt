@@ -42,8 +42,8 @@ pub fn names_and_parts_read_back()
     ensures parts { PartsReadBack }
 {}
 
-/// How each compressor writes a name, in terms of the first suffix in the table and the first label
-/// whose suffix can't enter it.
+/// How each compressor writes a name, in terms of the longest suffix in the table and the first
+/// suffix that may not enter it.
 pub fn names_by_choice()
     ensures { NamesByChoice }
 {}

@@ -9,7 +9,7 @@ use Rattle.std.specs.Ordering.{eq_by_cmp}
 use Rattle.std.proofs.lemmas.Bool.Decides.{nat_tests}
 use Rattle.std.proofs.lemmas.Cmp.{eq_by_cmp_equiv}
 use Rattle.dns_name.specs.Names.{Labels}
-use Rattle.dns_wire.specs.Encoders.{suffix_cmp, suffix_total, suffix_exact, TableEntry, CompressionTable, ends_within, cut, IsWithin, IsAtOrAfter, IsOldOrWithin, Extends, add_suffixes, nothing, IsClear}
+use Rattle.dns_wire.specs.Encoders.{suffix_cmp, suffix_total, suffix_exact, TableEntry, CompressionTable, ends_within, cut, IsWithin, IsAtOrAfter, IsOldOrWithin, Extends, Suffix, add_suffixes, nothing, IsClear}
 use Rattle.dns_wire.specs.Targets.{IsTableOf}
 
 -- What a truncated table has for a suffix.
@@ -157,15 +157,15 @@ cut-insert_late m k x len none l = same_table _ _ (λ q. get-cut (insert m k x) 
     late_by q (inr h) = ap (λ o. cond (ends_within len o) o None) h
 
 -- Each suffix has fewer than n labels.
-abbrev pub AreShorter : ℕ → List (Labels × ℕ) → Type 0
+abbrev pub AreShorter : ℕ → List Suffix → Type 0
 AreShorter n [] = Unit {0}
-AreShorter n (s ∷ ss) = (length s.0 < n) × AreShorter n ss
+AreShorter n (s ∷ ss) = (length s.labels < n) × AreShorter n ss
 
 -- Adding shorter suffixes doesn't add a longer one.
-pub get-add_suffixes_longer : (m : CompressionTable) (ss : List (Labels × ℕ)) (end : ℕ) (k : Labels) → get m k ≡ None → AreShorter (length k) ss → get (add_suffixes m ss end) k ≡ None
+pub get-add_suffixes_longer : (m : CompressionTable) (ss : List Suffix) (end : ℕ) (k : Labels) → get m k ≡ None → AreShorter (length k) ss → get (add_suffixes m ss end) k ≡ None
 get-add_suffixes_longer m [] end k none h = none
 get-add_suffixes_longer m (s ∷ ss) end k none h =
-    get-insert_other (add_suffixes m ss end) s.0 (record { offset = s.1; end = end }) k (λ e. let z = ap length e in let l = h.0 in omega arith)
+    get-insert_other (add_suffixes m ss end) s.labels (record { offset = s.offset; end = end }) k (λ e. let z = ap length e in let l = h.0 in omega arith)
     ∙ get-add_suffixes_longer m ss end k none h.1
 
 -- Targets with an empty table.

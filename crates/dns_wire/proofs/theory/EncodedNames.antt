@@ -8,7 +8,7 @@ use Rattle.std.proofs.lemmas.Grind.{common_steps}
 use Rattle.std.specs.Ordering.{eq_by_cmp}
 use Rattle.dns_name.specs.Names.{Labels, IsName, name_size, max_size, uncompressed, framed}
 use Rattle.dns_name.proofs.theory.UncompressedNames.{name_tail}
-use Rattle.dns_wire.specs.Encoders.{TableEntry, CompressionTable, add_suffixes, Extends, IsGrowing, Rule, Plain, Static, Tree, Hash, Encoder, encode_octets, both, with_length, compress_label, compress, kept, pointer as encode_pointer, encode_name, IsWithin, suffix_cmp, suffix_total, is_kept}
+use Rattle.dns_wire.specs.Encoders.{TableEntry, CompressionTable, add_suffixes, Extends, IsGrowing, Rule, Plain, Static, Tree, Hash, Encoder, encode_octets, both, with_length, Suffix, CompressedName, compress_label, compress, entering_suffixes, pointer as encode_pointer, encode_name, IsWithin, suffix_cmp, suffix_total, may_enter}
 use Rattle.dns_wire.specs.Parts.{Part, Octets, CompressibleName, encode_part, encode_parts}
 use Rattle.dns_wire.specs.Targets.{At, Compressed, Labelled, IsTableEntry, IsTableOf}
 use Rattle.dns_wire.specs.Targets.Compressed.{root, label, pointer}
@@ -18,58 +18,58 @@ use Rattle.dns_wire.proofs.theory.CompressedNames.{at_end, label_part, after_lab
 -- The encodings of names, octets and parts add only suffixes of their own octets.
 
 -- The suffixes aren't in the table, and are at or after offset w.
-abbrev AreNew : CompressionTable → ℕ → List (Labels × ℕ) → Type 0
+abbrev AreNew : CompressionTable → ℕ → List Suffix → Type 0
 AreNew m w [] = Unit {0}
-AreNew m w (s ∷ ss) = (get m s.0 ≡ None) × (w ≤ s.1) × AreNew m w ss
+AreNew m w (s ∷ ss) = (get m s.labels ≡ None) × (w ≤ s.offset) × AreNew m w ss
 
-newer : (m : CompressionTable) (w w' : ℕ) (ss : List (Labels × ℕ)) → w' ≤ w → AreNew m w ss → AreNew m w' ss
+newer : (m : CompressionTable) (w w' : ℕ) (ss : List Suffix) → w' ≤ w → AreNew m w ss → AreNew m w' ss
 newer m w w' [] l h = tt
 newer m w w' (s ∷ ss) l h = (h.0, omega (arith, h.1), newer m w w' ss l h.2)
 
 -- How a name is encoded: its octets, and the suffixes that are written out.
-pub data CompressesAs (rule : Rule) (m : CompressionTable) : ℕ → ℕ → Labels → List ℕ → List (Labels × ℕ) → Type 0 where
+pub data CompressesAs (rule : Rule) (m : CompressionTable) : ℕ → ℕ → Labels → List ℕ → List Suffix → Type 0 where
   at_root : {p entry_count : ℕ} → CompressesAs rule m p entry_count [] (0 ∷ []) []
   at_entry : {p entry_count : ℕ} {first : List ℕ} {rest : Labels} {x : TableEntry} → get m (first ∷ rest) ≡ Some x → CompressesAs rule m p entry_count (first ∷ rest) (encode_pointer x.offset) []
-  at_kept : {p entry_count : ℕ} {first : List ℕ} {rest : Labels} {text : List ℕ} {ss : List (Labels × ℕ)} → get m (first ∷ rest) ≡ None → is_kept rule p entry_count ≡ true
-      → CompressesAs rule m (p + 1 + length first) (entry_count + 1) rest text ss → CompressesAs rule m p entry_count (first ∷ rest) (framed first ++ text) ((first ∷ rest, p) ∷ ss)
-  at_far : {p entry_count : ℕ} {first : List ℕ} {rest : Labels} → get m (first ∷ rest) ≡ None → is_kept rule p entry_count ≡ false → CompressesAs rule m p entry_count (first ∷ rest) (uncompressed (first ∷ rest)) []
+  at_kept : {p entry_count : ℕ} {first : List ℕ} {rest : Labels} {text : List ℕ} {ss : List Suffix} → get m (first ∷ rest) ≡ None → may_enter rule p entry_count ≡ true
+      → CompressesAs rule m (p + 1 + length first) (entry_count + 1) rest text ss → CompressesAs rule m p entry_count (first ∷ rest) (framed first ++ text) (record { labels = first ∷ rest; offset = p } ∷ ss)
+  at_far : {p entry_count : ℕ} {first : List ℕ} {rest : Labels} → get m (first ∷ rest) ≡ None → may_enter rule p entry_count ≡ false → CompressesAs rule m p entry_count (first ∷ rest) (uncompressed (first ∷ rest)) []
 
-label_as : (rule : Rule) (m : CompressionTable) (p entry_count : ℕ) (o : Option TableEntry) (keep : Bool) (first : List ℕ) (rest : Labels) (after : List ℕ × List (Labels × ℕ)) → get m (first ∷ rest) ≡ o → is_kept rule p entry_count ≡ keep
-    → CompressesAs rule m (p + 1 + length first) (entry_count + 1) rest after.0 after.1 → let compressed = compress_label o keep first rest p after in CompressesAs rule m p entry_count (first ∷ rest) compressed.0 compressed.1
+label_as : (rule : Rule) (m : CompressionTable) (p entry_count : ℕ) (o : Option TableEntry) (keep : Bool) (first : List ℕ) (rest : Labels) (after : CompressedName) → get m (first ∷ rest) ≡ o → may_enter rule p entry_count ≡ keep
+    → CompressesAs rule m (p + 1 + length first) (entry_count + 1) rest after.octets after.suffixes → let compressed = compress_label o keep first (record { labels = first ∷ rest; offset = p }) after in CompressesAs rule m p entry_count (first ∷ rest) compressed.octets compressed.suffixes
 label_as rule m p entry_count (Some x) keep first rest after e k s = at_entry e
 label_as rule m p entry_count None true first rest after e k s = at_kept e k s
 label_as rule m p entry_count None false first rest after e k s = at_far e k
 
-pub compresses_as : (rule : Rule) (m : CompressionTable) (p entry_count : ℕ) (name : Labels) → let compressed = compress rule m p entry_count name in CompressesAs rule m p entry_count name compressed.0 compressed.1
+pub compresses_as : (rule : Rule) (m : CompressionTable) (p entry_count : ℕ) (name : Labels) → let compressed = compress rule m p entry_count name in CompressesAs rule m p entry_count name compressed.octets compressed.suffixes
 compresses_as rule m p entry_count [] = at_root
 compresses_as rule m p entry_count (first ∷ rest) = label_as rule m p entry_count _ _ first rest _ refl refl (compresses_as rule m (p + 1 + length first) (entry_count + 1) rest)
 
 -- The suffixes that are written out are new.
-compress_new : {rule : Rule} {m : CompressionTable} {p entry_count : ℕ} {name : Labels} {text : List ℕ} {ss : List (Labels × ℕ)} → CompressesAs rule m p entry_count name text ss → AreNew m p ss
+compress_new : {rule : Rule} {m : CompressionTable} {p entry_count : ℕ} {name : Labels} {text : List ℕ} {ss : List Suffix} → CompressesAs rule m p entry_count name text ss → AreNew m p ss
 compress_new at_root = tt
 compress_new (at_entry e) = tt
 compress_new {m = m} (at_kept {p = p} {first = first} {ss = ss} e k s) = (e, omega arith, newer m (p + 1 + length first) p ss (omega arith) (compress_new s))
 compress_new (at_far e k) = tt
 
-chosen_new : (m : CompressionTable) (w : ℕ) (b : Bool) (ss : List (Labels × ℕ)) → AreNew m w ss → AreNew m w (cond b ss [])
+chosen_new : (m : CompressionTable) (w : ℕ) (b : Bool) (ss : List Suffix) → AreNew m w ss → AreNew m w (cond b ss [])
 chosen_new m w true ss h = h
 chosen_new m w false ss h = tt
 
 -- Those of them that enter the table are new.
-kept_new : (rule : Rule) (m : CompressionTable) (w : ℕ) (ss : List (Labels × ℕ)) → AreNew m w ss → AreNew m w (kept rule ss)
+kept_new : (rule : Rule) (m : CompressionTable) (w : ℕ) (ss : List Suffix) → AreNew m w ss → AreNew m w (entering_suffixes rule ss)
 kept_new Plain m w ss h = tt
 kept_new Static m w ss h = h
 kept_new Tree m w ss h = h
 kept_new Hash m w ss h = chosen_new m w _ ss h
 
 -- Adding new suffixes extends the table.
-extends-add_suffixes : (m : CompressionTable) (ss : List (Labels × ℕ)) (w end : ℕ) → w < end → AreNew m w ss → Extends m (add_suffixes m ss end) w end
+extends-add_suffixes : (m : CompressionTable) (ss : List Suffix) (w end : ℕ) → w < end → AreNew m w ss → Extends m (add_suffixes m ss end) w end
 extends-add_suffixes m [] w end l h = extends_refl m w end
 extends-add_suffixes m (s ∷ ss) w end l h =
-    inserted m (add_suffixes m ss end) s.0 (record { offset = s.1; end = end }) w end (extends-add_suffixes m ss w end l h.2) h.0 h.1 l (omega arith)
+    inserted m (add_suffixes m ss end) s.labels (record { offset = s.offset; end = end }) w end (extends-add_suffixes m ss w end l h.2) h.0 h.1 l (omega arith)
 
 -- A written name takes at least one octet.
-compress_long : {rule : Rule} {m : CompressionTable} {p entry_count : ℕ} {name : Labels} {text : List ℕ} {ss : List (Labels × ℕ)} → CompressesAs rule m p entry_count name text ss → 0 < length text
+compress_long : {rule : Rule} {m : CompressionTable} {p entry_count : ℕ} {name : Labels} {text : List ℕ} {ss : List Suffix} → CompressesAs rule m p entry_count name text ss → 0 < length text
 compress_long at_root = omega arith
 compress_long (at_entry e) = omega arith
 compress_long (at_kept e k s) = omega arith
@@ -77,7 +77,7 @@ compress_long (at_far e k) = omega arith
 
 -- Adding the suffixes of a name extends the table.
 named : (rule : Rule) (name : Labels) (m : CompressionTable) (w entry_count : ℕ)
-    → let compressed = compress rule m w entry_count name in Extends m (add_suffixes m (kept rule compressed.1) (w + length compressed.0)) w (w + length compressed.0)
+    → let compressed = compress rule m w entry_count name in Extends m (add_suffixes m (entering_suffixes rule compressed.suffixes) (w + length compressed.octets)) w (w + length compressed.octets)
 named rule name m w entry_count = let long = compress_long (compresses_as rule m w entry_count name) in extends-add_suffixes m _ w _ (omega arith) (kept_new rule m w _ (compress_new (compresses_as rule m w entry_count name)))
 
 -- The encoding of a name is growing.
@@ -126,7 +126,7 @@ encode_parts_grows rule [] = encode_octets_grows []
 encode_parts_grows rule (part ∷ parts) = both_grows _ _ (encode_part_grows rule part) (encode_parts_grows rule parts)
 
 -- P holds of each suffix.
-abbrev pub Each : (Labels × ℕ → Type 0) → List (Labels × ℕ) → Type 0
+abbrev pub Each : (Suffix → Type 0) → List Suffix → Type 0
 Each P [] = Unit {0}
 Each P (s ∷ ss) = P s × Each P ss
 
@@ -144,7 +144,7 @@ later : (m : CompressionTable) (p q : ℕ) → p ≤ q → IsWithin m p → IsWi
 later m p q l ends s x e = omega (arith, ends s x e)
 
 -- The written octets of a name encode it.
-compressed_by : {rule : Rule} {m : CompressionTable} {p entry_count : ℕ} {name : Labels} {text : List ℕ} {ss : List (Labels × ℕ)} (b : List ℕ) (q : ℕ) → CompressesAs rule m p entry_count name text ss → IsName name → IsWithin m p
+compressed_by : {rule : Rule} {m : CompressionTable} {p entry_count : ℕ} {name : Labels} {text : List ℕ} {ss : List Suffix} (b : List ℕ) (q : ℕ) → CompressesAs rule m p entry_count name text ss → IsName name → IsWithin m p
     → At b p text → q ≡ p + length text → Compressed m b q p name
 compressed_by b q at_root is ends h e = root h e
 compressed_by b q (at_entry {first = first} {rest = rest} {x = x} g) is ends h e = pointer g (ends (first ∷ rest) x g) h (omega arith)
@@ -166,20 +166,20 @@ InRangeFor Tree p = IsInPointerRange p
 InRangeFor Hash p = Unit {0}
 
 -- This holds of a suffix that may enter the table.
-in_range_for : (rule : Rule) (p entry_count : ℕ) → is_kept rule p entry_count ≡ true → InRangeFor rule p
+in_range_for : (rule : Rule) (p entry_count : ℕ) → may_enter rule p entry_count ≡ true → InRangeFor rule p
 in_range_for Plain p entry_count e = tt
 in_range_for Static p entry_count e = grind (arith, common_steps)
 in_range_for Tree p entry_count e = grind (arith, common_steps)
 in_range_for Hash p entry_count e = tt
 
 -- A suffix that is written out is encoded at its offset, of which `InRange` holds.
-record Out (InRange : ℕ → Type 0) (m : CompressionTable) (b : List ℕ) (q : ℕ) (s : Labels × ℕ) : Type 0 where
-  compressed : Labelled m b q s.1 s.0
-  short : name_size s.0 ≤ max_size
-  in_range : InRange s.1
+record Out (InRange : ℕ → Type 0) (m : CompressionTable) (b : List ℕ) (q : ℕ) (s : Suffix) : Type 0 where
+  compressed : Labelled m b q s.offset s.labels
+  short : name_size s.labels ≤ max_size
+  in_range : InRange s.offset
 
 -- Each suffix that is written out is encoded at its offset.
-all_out : {rule : Rule} {m : CompressionTable} {p entry_count : ℕ} {name : Labels} {text : List ℕ} {ss : List (Labels × ℕ)} (b : List ℕ) (q : ℕ) → CompressesAs rule m p entry_count name text ss → IsName name → IsWithin m p
+all_out : {rule : Rule} {m : CompressionTable} {p entry_count : ℕ} {name : Labels} {text : List ℕ} {ss : List Suffix} (b : List ℕ) (q : ℕ) → CompressesAs rule m p entry_count name text ss → IsName name → IsWithin m p
     → At b p text → q ≡ p + length text → Each (Out (InRangeFor rule) m b q) ss
 all_out b q at_root is ends h e = tt
 all_out b q (at_entry g) is ends h e = tt
@@ -192,42 +192,42 @@ all_out {rule = rule} {m = m} b q (at_kept {p = p} {entry_count = entry_count} {
     (record { compressed = (tail.0, label_part first text h, compressed_by b q s tail.1 ends' after end); short = is.short; in_range = in_range_for rule p entry_count k }, all_out b q s tail.1 ends' after end)
 all_out b q (at_far g k) is ends h e = tt
 
-in_range_tested : (m : CompressionTable) (b : List ℕ) (q : ℕ) (ss : List (Labels × ℕ)) → list_all (λ s. nat_lt s.1 16384) ss ≡ true
+in_range_tested : (m : CompressionTable) (b : List ℕ) (q : ℕ) (ss : List Suffix) → list_all (λ s. nat_lt s.offset 16384) ss ≡ true
     → Each (Out (InRangeFor Hash) m b q) ss → Each (Out IsInPointerRange m b q) ss
 in_range_tested m b q [] t h = tt
 in_range_tested m b q (s ∷ ss) t h =
-    let both = and_parts (nat_lt s.1 16384) (list_all (λ (s : Labels × ℕ). nat_lt s.1 16384) ss) t in
+    let both = and_parts (nat_lt s.offset 16384) (list_all (λ (s : Suffix). nat_lt s.offset 16384) ss) t in
     (record { compressed = h.0.compressed; short = h.0.short; in_range = let small = both.0 in grind (arith, common_steps) }, in_range_tested m b q ss both.1 h.1)
 
-in_range_chosen : (m : CompressionTable) (b : List ℕ) (q : ℕ) (ss : List (Labels × ℕ)) (test : Bool) → list_all (λ s. nat_lt s.1 16384) ss ≡ test
+in_range_chosen : (m : CompressionTable) (b : List ℕ) (q : ℕ) (ss : List Suffix) (test : Bool) → list_all (λ s. nat_lt s.offset 16384) ss ≡ test
     → Each (Out (InRangeFor Hash) m b q) ss → Each (Out IsInPointerRange m b q) (cond test ss [])
 in_range_chosen m b q ss true t h = in_range_tested m b q ss t h
 in_range_chosen m b q ss false t h = tt
 
 -- Each suffix that enters the table is within pointer range.
-in_range_kept : (rule : Rule) (m : CompressionTable) (b : List ℕ) (q : ℕ) (ss : List (Labels × ℕ)) → Each (Out (InRangeFor rule) m b q) ss → Each (Out IsInPointerRange m b q) (kept rule ss)
+in_range_kept : (rule : Rule) (m : CompressionTable) (b : List ℕ) (q : ℕ) (ss : List Suffix) → Each (Out (InRangeFor rule) m b q) ss → Each (Out IsInPointerRange m b q) (entering_suffixes rule ss)
 in_range_kept Plain m b q ss h = tt
 in_range_kept Static m b q ss h = h
 in_range_kept Tree m b q ss h = h
-in_range_kept Hash m b q ss h = in_range_chosen m b q ss (list_all (λ s. nat_lt s.1 16384) ss) refl h
+in_range_kept Hash m b q ss h = in_range_chosen m b q ss (list_all (λ s. nat_lt s.offset 16384) ss) refl h
 
-found_one : (m r : CompressionTable) (s : Labels × ℕ) (q : ℕ) (P : Labels × ℕ → Type 0) (k : Labels) (x : TableEntry) (same : Bool)
-    → (same ≡ true → k ≡ s.0) → P s
-    → (get r k ≡ Some x → (get m k ≡ Some x) ⊎ (P (k, x.offset) × (x.end ≡ q)))
-    → cond same (Some (let y : TableEntry = record { offset = s.1; end = q } in y)) (get r k) ≡ Some x → (get m k ≡ Some x) ⊎ (P (k, x.offset) × (x.end ≡ q))
+found_one : (m r : CompressionTable) (s : Suffix) (q : ℕ) (P : Suffix → Type 0) (k : Labels) (x : TableEntry) (same : Bool)
+    → (same ≡ true → k ≡ s.labels) → P s
+    → (get r k ≡ Some x → (get m k ≡ Some x) ⊎ (P (record { labels = k; offset = x.offset }) × (x.end ≡ q)))
+    → cond same (Some (let y : TableEntry = record { offset = s.offset; end = q } in y)) (get r k) ≡ Some x → (get m k ≡ Some x) ⊎ (P (record { labels = k; offset = x.offset }) × (x.end ≡ q))
 found_one m r s q P k x true is p rec e =
-    let y : TableEntry = record { offset = s.1; end = q } in
+    let y : TableEntry = record { offset = s.offset; end = q } in
     let same : y ≡ x = cc in
-    inr (subst (λ (z : TableEntry). P (k, z.offset) × (z.end ≡ q)) same (subst (λ (n : Labels). P (n, s.1)) (sym (is refl)) p, refl))
+    inr (subst (λ (z : TableEntry). P (record { labels = k; offset = z.offset }) × (z.end ≡ q)) same (subst (λ (n : Labels). P (record { labels = n; offset = s.offset })) (sym (is refl)) p, refl))
 found_one m r s q P k x false is p rec e = rec e
 
 -- A suffix in the table was there before, or is one of the added ones.
-pub found : (m : CompressionTable) (ss : List (Labels × ℕ)) (q : ℕ) (P : Labels × ℕ → Type 0) (k : Labels) (x : TableEntry) → Each P ss
-    → get (add_suffixes m ss q) k ≡ Some x → (get m k ≡ Some x) ⊎ (P (k, x.offset) × (x.end ≡ q))
+pub found : (m : CompressionTable) (ss : List Suffix) (q : ℕ) (P : Suffix → Type 0) (k : Labels) (x : TableEntry) → Each P ss
+    → get (add_suffixes m ss q) k ≡ Some x → (get m k ≡ Some x) ⊎ (P (record { labels = k; offset = x.offset }) × (x.end ≡ q))
 found m [] q P k x all e = inl e
 found m (s ∷ ss) q P k x all e =
-    found_one m (add_suffixes m ss q) s q P k x (eq_by_cmp suffix_cmp k s.0) (tied k s.0) all.0 (found m ss q P k x all.1)
-    (sym (get-insert suffix_total (add_suffixes m ss q) s.0 (record { offset = s.1; end = q }) k) ∙ e)
+    found_one m (add_suffixes m ss q) s q P k x (eq_by_cmp suffix_cmp k s.labels) (tied k s.labels) all.0 (found m ss q P k x all.1)
+    (sym (get-insert suffix_total (add_suffixes m ss q) s.labels (record { offset = s.offset; end = q }) k) ∙ e)
 
 -- Each name in a sound table ends within the content.
 pub ends_within_content : {m : CompressionTable} {b : List ℕ} → IsTableOf b m → IsWithin m (length b)
@@ -235,7 +235,7 @@ ends_within_content r s x e = (compressed_long (kept_compressed s x (r.each s x 
 
 -- The entry of a suffix that was written out within pointer range is sound.
 new_kept : (m n : CompressionTable) (b : List ℕ) (s : Labels) (x : TableEntry) → ((s : Labels) (x : TableEntry) → get m s ≡ Some x → get n s ≡ Some x)
-    → Out IsInPointerRange m b x.end (s, x.offset) → IsTableEntry b n s x
+    → Out IsInPointerRange m b x.end (record { labels = s; offset = x.offset }) → IsTableEntry b n s x
 new_kept m n b s x g h =
     kept_moved m n b b s x (λ p xs l fits h. h) (λ t y e less. g t y e) (record { in_range = h.in_range; short = h.short; compressed = h.compressed })
 
@@ -245,24 +245,24 @@ pub record EncodesName (b : List ℕ) (name : Labels) (text : List ℕ) (n : Com
   pub is_table : IsTableOf (b ++ text) n
 
 by_rule : (rule : Rule) (m n : CompressionTable) (b : List ℕ) (name : Labels) (entry_count : ℕ) → IsName name → IsTableOf b m
-    → n ≡ add_suffixes m (kept rule (compress rule m (length b) entry_count name).1) (length b + length (compress rule m (length b) entry_count name).0)
+    → n ≡ add_suffixes m (entering_suffixes rule (compress rule m (length b) entry_count name).suffixes) (length b + length (compress rule m (length b) entry_count name).octets)
     → ((s : Labels) (x : TableEntry) → get m s ≡ Some x → get n s ≡ Some x)
-    → EncodesName b name (compress rule m (length b) entry_count name).0 n
+    → EncodesName b name (compress rule m (length b) entry_count name).octets n
 by_rule rule m n b name entry_count l r is g =
     let w = length b in
     let written = compress rule m w entry_count name in
-    let text = written.0 in
+    let text = written.octets in
     let q = w + length text in
     let h = at_end b text in
     let within = ends_within_content r in
-    let all = in_range_kept rule m (b ++ text) q written.1 (all_out (b ++ text) q (compresses_as rule m w entry_count name) l within h refl) in
+    let all = in_range_kept rule m (b ++ text) q written.suffixes (all_out (b ++ text) q (compresses_as rule m w entry_count name) l within h refl) in
     record {
       compressed = moved m n (b ++ text) (b ++ text) 0 q (λ p xs low fits h. h) (λ t x e less. g t x e) (omega arith) (compressed_by (b ++ text) q (compresses_as rule m w entry_count name) l within h refl);
       is_table = record {
         each = λ s x e.
-            elim (found m (kept rule written.1) q (Out IsInPointerRange m (b ++ text) q) s x all (ap (λ (n : CompressionTable). get n s) (sym is) ∙ e)) [
+            elim (found m (entering_suffixes rule written.suffixes) q (Out IsInPointerRange m (b ++ text) q) s x all (ap (λ (n : CompressionTable). get n s) (sym is) ∙ e)) [
               | inl old ↦ kept_more n text s x g (r.each s x old)
-              | inr new ↦ new_kept m n (b ++ text) s x g (subst (λ q. Out IsInPointerRange m (b ++ text) q (s, x.offset)) (sym new.1) new.0)
+              | inr new ↦ new_kept m n (b ++ text) s x g (subst (λ q. Out IsInPointerRange m (b ++ text) q (record { labels = s; offset = x.offset })) (sym new.1) new.0)
             ];
       };
     }

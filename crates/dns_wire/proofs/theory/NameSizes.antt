@@ -1,7 +1,7 @@
 -- The octets that a written name takes.
 use Rattle.std.proofs.Common.{ℕ, ◌+◌, ◌≤◌, List, [], ◌∷◌, length, length-append, arith}
 use Rattle.dns_name.specs.Names.{Labels, uncompressed}
-use Rattle.dns_wire.specs.Encoders.{CompressionTable, Rule, Plain, Static, Tree, Hash, encode_name}
+use Rattle.dns_wire.specs.Encoders.{CompressionTable, Suffix, Rule, Plain, Static, Tree, Hash, encode_name}
 use Rattle.dns_wire.specs.Parts.{Part, Octets, CompressibleName, encode_part, encode_parts, part_size, parts_size}
 use Rattle.dns_wire.specs.TargetLaws.{NamesAreShort}
 use Rattle.dns_name.proofs.theory.LabelsLemmas.{length-uncompressed}
@@ -9,7 +9,7 @@ use Rattle.dns_wire.proofs.theory.EncodedNames.{CompressesAs, compresses_as}
 use Rattle.dns_wire.proofs.theory.EncodedNames.CompressesAs.{at_root, at_entry, at_kept, at_far}
 
 -- A written name takes at most as many octets as it does uncompressed: a pointer takes two, and a length octet and the root's zero octet take as many.
-compress_short : {rule : Rule} {m : CompressionTable} {p entry_count : ℕ} {name : Labels} {text : List ℕ} {ss : List (Labels × ℕ)} → CompressesAs rule m p entry_count name text ss → length text ≤ length (uncompressed name)
+compress_short : {rule : Rule} {m : CompressionTable} {p entry_count : ℕ} {name : Labels} {text : List ℕ} {ss : List Suffix} → CompressesAs rule m p entry_count name text ss → length text ≤ length (uncompressed name)
 compress_short at_root = omega arith
 compress_short (at_entry {first = first} {rest = rest} e) =
     let size = length-uncompressed rest in

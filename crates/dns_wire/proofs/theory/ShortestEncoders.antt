@@ -4,7 +4,7 @@ use Rattle.std.specs.Prelude.{Some, None}
 use Rattle.std.specs.Int.{to_be_bytes, w16}
 use Rattle.std.specs.FinMap.{get, len, get-empty}
 use Rattle.dns_name.specs.Names.{Labels, IsName, name_size, max_size, NameEndsAt}
-use Rattle.dns_wire.specs.Encoders.{CompressionTable, TableEntry, nothing, suffix_cmp, add_suffixes, Rule, Plain, Static, Tree, Hash, Encoder, Encoded, encode_octets, both, with_length, compress, kept, encode_name}
+use Rattle.dns_wire.specs.Encoders.{CompressionTable, TableEntry, nothing, suffix_cmp, Suffix, add_suffixes, Rule, Plain, Static, Tree, Hash, Encoder, Encoded, encode_octets, both, with_length, compress, entering_suffixes, encode_name}
 use Rattle.dns_wire.specs.Parts.{Part, Octets, CompressibleName, AreParts, encode_parts, PartsInPointerRange}
 use Rattle.dns_wire.specs.Targets.{At, IsTableOf, Written, IsTarget, append}
 use Rattle.dns_wire.specs.Compression.{IsShared, Compression, SharesAll, AddsShortest, PartsAreShortest}
@@ -119,8 +119,8 @@ least_name names name rest l n (inr a) (inr b) = let m = a.5 b.0 b.1 b.2 b.3 in 
 -- A rule that writes names as `compress` does, and by which each suffix within pointer range enters the table while `SharesAll` holds.
 pub record CompressesShortest (rule : Rule) : Type 0 where
   pub in_range : KeepsInPointerRange rule
-  pub few : (name : Labels) (m : CompressionTable) (w : ℕ) → SharesAll rule (len (encode_name rule name m w).table) → SharesAll rule (len m + length (compress rule m w (len m) name).1)
-  pub writes : (name : Labels) (m : CompressionTable) (w : ℕ) → let compressed = compress rule m w (len m) name in encode_name rule name m w ≡ record { octets = compressed.0; table = add_suffixes m (kept rule compressed.1) (w + length compressed.0) }
+  pub few : (name : Labels) (m : CompressionTable) (w : ℕ) → SharesAll rule (len (encode_name rule name m w).table) → SharesAll rule (len m + length (compress rule m w (len m) name).suffixes)
+  pub writes : (name : Labels) (m : CompressionTable) (w : ℕ) → let compressed = compress rule m w (len m) name in encode_name rule name m w ≡ record { octets = compressed.octets; table = add_suffixes m (entering_suffixes rule compressed.suffixes) (w + length compressed.octets) }
 
 -- The tree rule is one.
 compresses_tree : CompressesShortest Tree
@@ -132,7 +132,7 @@ compresses_static : CompressesShortest Static
 unfolding encode_name
 compresses_static = record {
   in_range = static_keeps_in_range;
-  few = λ name m w h. let compressed = compress Static m w (len m) name in let e = len_compress (w + length compressed.0) (compresses_as Static m w (len m) name) in omega arith;
+  few = λ name m w h. let compressed = compress Static m w (len m) name in let e = len_compress (w + length compressed.octets) (compresses_as Static m w (len m) name) in omega arith;
   writes = λ name m w. refl;
 }
 
@@ -150,33 +150,33 @@ compresses_shortest Hash n few = compresses_hash
 
 -- A name written with the octets and the suffixes that `compress` gives is as short as possible.
 name_short : (rule : Rule) (name : Labels) (t : Written) (encoded : Encoded) (c : List ℕ) (names : List Labels) (rest : List Part) (end : ℕ) → KeepsInPointerRange rule → IsName name → Knows t.table names
-    → let compressed = compress rule t.table (length t.octets) (len t.table) name in encoded ≡ record { octets = compressed.0; table = add_suffixes t.table (kept rule compressed.1) (length t.octets + length compressed.0) }
+    → let compressed = compress rule t.table (length t.octets) (len t.table) name in encoded ≡ record { octets = compressed.octets; table = add_suffixes t.table (entering_suffixes rule compressed.suffixes) (length t.octets + length compressed.octets) }
     → ((s : Labels) (x : TableEntry) → get t.table s ≡ Some x → get encoded.table s ≡ Some x)
     → NameEndsAt ((t.octets ++ encoded.octets) ++ c) (length t.octets) (length (t.octets ++ encoded.octets))
     → PartsInPointerRange ((t.octets ++ encoded.octets) ++ c) end (length t.octets) (CompressibleName name ∷ rest)
-    → SharesAll rule (len t.table + length (compress rule t.table (length t.octets) (len t.table) name).1)
+    → SharesAll rule (len t.table + length (compress rule t.table (length t.octets) (len t.table) name).suffixes)
     → Short names (CompressibleName name ∷ []) rest ((t.octets ++ encoded.octets) ++ c) (length t.octets) (length (t.octets ++ encoded.octets)) end encoded.table
 name_short rule name t encoded c names rest end r is knows e g name_ends in_range few =
     let m = t.table in
     let w = length t.octets in
     let compressed = compress rule m w (len m) name in
     let b = (t.octets ++ encoded.octets) ++ c in
-    let text : encoded.octets ≡ compressed.0 = ap (λ (x : Encoded). x.octets) e in
+    let text : encoded.octets ≡ compressed.octets = ap (λ (x : Encoded). x.octets) e in
     let at = subst (λ (xs : List ℕ). At b w xs) text (at_append c (at_end t.octets encoded.octets)) in
     let all = in_range_kept r b in_range.0 (compresses_as rule m w (len m) name) is in_range.1 at few in
     let chosen = in_range_suffixes b in_range.0 (compresses_as rule m w (len m) name) is in_range.1 at in
-    let q = w + length compressed.0 in
-    let table : encoded.table ≡ add_suffixes m compressed.1 q = ap (λ (x : Encoded). x.table) e ∙ ap (λ (ss : List (Labels × ℕ)). add_suffixes m ss q) (r.chosen compressed.1 chosen) in
-    let shortest : Best names name (length compressed.0) = best names knows (compresses_as rule m w (len m) name) all in
-    let long : length (t.octets ++ encoded.octets) ≡ w + length compressed.0 = length-append t.octets encoded.octets ∙ ap (λ (xs : List ℕ). w + length xs) text in
+    let q = w + length compressed.octets in
+    let table : encoded.table ≡ add_suffixes m compressed.suffixes q = ap (λ (x : Encoded). x.table) e ∙ ap (λ (ss : List Suffix). add_suffixes m ss q) (r.chosen compressed.suffixes chosen) in
+    let shortest : Best names name (length compressed.octets) = best names knows (compresses_as rule m w (len m) name) all in
+    let long : length (t.octets ++ encoded.octets) ≡ w + length compressed.octets = length-append t.octets encoded.octets ∙ ap (λ (xs : List ℕ). w + length xs) text in
     record {
       knows = knows_more rule m encoded.table names w (len m) q name knows all table g;
       in_range = subst (λ k. PartsInPointerRange b end k rest) (in_range_end name_ends in_range.1) in_range.2;
       rises = omega arith;
       attains = λ n s.
-          let k : length compressed.0 + n ≡ length (t.octets ++ encoded.octets) - w + n = omega arith in
-          subst (λ k. Compression names (CompressibleName name ∷ rest) k) k (attains_name names name rest (length compressed.0) n shortest s);
-      least = λ n s. let l = least_name names name rest (length compressed.0) n shortest (name_parts s) in (l.0, l.1, omega (arith, l.2));
+          let k : length compressed.octets + n ≡ length (t.octets ++ encoded.octets) - w + n = omega arith in
+          subst (λ k. Compression names (CompressibleName name ∷ rest) k) k (attains_name names name rest (length compressed.octets) n shortest s);
+      least = λ n s. let l = least_name names name rest (length compressed.octets) n shortest (name_parts s) in (l.0, l.1, omega (arith, l.2));
     }
 
 -- A sound table is sound for more octets.
@@ -191,7 +191,7 @@ shortens_name rule name r is t =
     let compressed = compress rule t.table w (len t.table) name in
     let p = encodes_name rule name is in
     record {
-      longer = subst (λ (x : Encoded). len t.table ≤ len x.table) (sym (r.writes name t.table w)) (len_add_suffixes t.table (kept rule compressed.1) (w + length compressed.0));
+      longer = subst (λ (x : Encoded). len t.table ≤ len x.table) (sym (r.writes name t.table w)) (len_add_suffixes t.table (entering_suffixes rule compressed.suffixes) (w + length compressed.octets));
       keeps = p.keeps t;
       short = λ c names rest end h knows in_range few.
           let after = is_table_more encoded.table (t.octets ++ encoded.octets) c (p.keeps t h) in

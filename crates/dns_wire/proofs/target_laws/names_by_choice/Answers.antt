@@ -1,4 +1,4 @@
-use Rattle.dns_wire.proofs.Choices as choices
+use Rattle.dns_wire.proofs.theory.Choices as choices
 use Rattle.dns_wire.proofs.target_laws.names_by_choice.Goals as goal
 
 pub returns : goal.returns

@@ -1,6 +1,6 @@
 use Rattle.std.proofs.Common.{arith, List, ap, sym, subst, ◌∙◌, length, ◌≡◌, ◌≤◌, ◌+◌, ◌-◌}
 use Rattle.dns_target.specs.FingerprintIndex.{hash_of, FingerprintEntry, AreHashed, table_entries_at}
-use Rattle.dns_target.proofs.Choosing.{found_within}
+use Rattle.dns_wire.proofs.theory.Choices.{found_within}
 use Rattle.dns_target.proofs.EntryLists.{none_added, one_added, next_added}
 use Rattle.dns_target.proofs.fingerprint_index.FingerprintIndexSuffixIndex.add_suffixes.Goals as goal
 

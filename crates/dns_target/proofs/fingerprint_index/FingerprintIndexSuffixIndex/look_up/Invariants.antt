@@ -1,7 +1,7 @@
 use Rattle.std.proofs.Common.{◌≡◌, ◌<◌, ◌-◌, drop}
 use Rattle.dns_target.specs.FingerprintIndex.{table_entries_at, hash_of}
 use Rattle.dns_target.specs.TableEntries.{table_in}
-use Rattle.dns_target.specs.Indexes.{IsNew}
+use Rattle.dns_wire.specs.Choice.{IsNew}
 use Rattle.dns_target.proofs.fingerprint_index.FingerprintIndexSuffixIndex.look_up.Given as goal
 
 abbrev pub invariant-loop-from : goal.invariant-loop-from

@@ -1,7 +1,7 @@
 use Rattle.std.proofs.Common.{Option, ℕ, List, length, ap, ◌∙◌, sym, subst, ◌≡◌, ◌≤◌, ◌+◌, ◌-◌, drop, arith}
 use Rattle.dns_target.specs.TableEntries.{table_in}
 use Rattle.dns_target.specs.HashIndex.{KeyedSuffix, AreKeyed, IsParent, table_entries_in, ParentIsName}
-use Rattle.dns_target.proofs.Choosing.{found_within}
+use Rattle.dns_wire.proofs.theory.Choices.{found_within}
 use Rattle.dns_target.proofs.EntryLists.{none_added, one_added}
 use Rattle.dns_target.proofs.KeyedNames.{key_next, first_parent, first_of_parents, found_refers}
 use Rattle.dns_target.proofs.hash_index.HashIndexSuffixIndex.add_suffixes.Goals as goal

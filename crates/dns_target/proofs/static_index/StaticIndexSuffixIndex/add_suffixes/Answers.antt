@@ -1,5 +1,5 @@
 use Rattle.std.proofs.Common.{arith, ◌≡◌, ◌≤◌, ◌+◌, ◌-◌, ap, length}
-use Rattle.dns_target.proofs.Choosing.{found_within}
+use Rattle.dns_wire.proofs.theory.Choices.{found_within}
 use Rattle.dns_target.proofs.EntryLists.{none_added, one_added}
 use Rattle.dns_target.proofs.static_index.StaticIndexSuffixIndex.add_suffixes.Goals as goal
 

@@ -1,5 +1,5 @@
 use Rattle.dns_target.specs.TableEntries.{table_in}
-use Rattle.dns_target.specs.Indexes.{IsNew}
+use Rattle.dns_wire.specs.Choice.{IsNew}
 use Rattle.dns_target.proofs.static_index.StaticIndexSuffixIndex.look_up.Given as goal
 
 abbrev pub invariant-loop-from : goal.invariant-loop-from

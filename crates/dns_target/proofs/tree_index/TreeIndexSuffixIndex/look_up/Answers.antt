@@ -1,6 +1,6 @@
 use Rattle.std.proofs.Common.{subst, sym}
 use Rattle.dns_wire.specs.Encoders.{CompressionTable}
-use Rattle.dns_target.specs.Indexes.{IsFound}
+use Rattle.dns_wire.specs.Choice.{IsFound}
 use Rattle.dns_target.proofs.TreeStates.{tree_table}
 use Rattle.dns_target.proofs.tree_index.TreeIndexSuffixIndex.look_up.Goals as goal
 
