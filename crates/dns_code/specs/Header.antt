@@ -42,7 +42,7 @@ pub record IsHeader (f : HeaderFields) : Type 0 where
   pub rcode : f.rcode < 2 ^ 4
 
 -- the four octets with these fields
-abbrev pub octets_of_fields : HeaderFields → List ℕ
+unfoldable pub octets_of_fields : HeaderFields → List ℕ
 octets_of_fields f = to_be_bytes w16 f.id
     ++ (one_bit 7 f.qr + f.opcode * 2 ^ 3 + one_bit 2 f.aa + one_bit 1 f.tc + one_bit 0 f.rd)
     ∷ (one_bit 7 f.ra + one_bit 6 f.z + one_bit 5 f.ad + one_bit 4 f.cd + f.rcode) ∷ []

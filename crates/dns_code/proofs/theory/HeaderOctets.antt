@@ -1,5 +1,5 @@
 -- A header's fields and its octets determine each other.
-use Rattle.std.proofs.Common.{◌≡◌, ◌∙◌, ℕ, ◌+◌, ◌*◌, ◌<◌, ◌≤◌, ◌^◌, Bool, true, false, List, length, get_or, ap, sym, refl, arith, slice_index, nat_eq}
+use Rattle.std.proofs.Common.{◌≡◌, ◌∙◌, ℕ, ◌+◌, ◌*◌, ◌<◌, ◌≤◌, ◌^◌, Bool, true, false, List, [], ◌∷◌, length, take, get_or, ap, sym, refl, arith, slice_index, nat_eq}
 use Rattle.std.proofs.lemmas.List.{ext_get_or}
 use Rattle.std.proofs.lemmas.List.Elements.{All-get_or}
 use Rattle.std.proofs.lemmas.Grind.{common_steps}
@@ -53,9 +53,14 @@ record Third (x r z a c o : ℕ) : Type 0 where
 third : (x r z a c o : ℕ) → x ≡ r * 128 + z * 64 + a * 32 + c * 16 + o → r ≤ 1 → z ≤ 1 → a ≤ 1 → c ≤ 1 → o < 16 → Third x r z a c o
 third x r z a c o is h7 h6 h5 h4 h0 = record { small = omega arith; ra = omega arith; z_bit = omega arith; ad = omega arith; cd = omega arith; rcode = omega arith }
 
+pub length-octets_of_fields : (f : HeaderFields) → length (octets_of_fields f) ≡ 4
+unfolding octets_of_fields
+length-octets_of_fields f = refl
+
 -- the third and the fourth octet of `octets_of_fields`, and the fields in them
 module _ (f : HeaderFields) (is : IsHeader f) where
   second_in : Second (slice_index (octets_of_fields f) 2) (one_bit 0 f.qr) f.opcode (one_bit 0 f.aa) (one_bit 0 f.tc) (one_bit 0 f.rd)
+  unfolding octets_of_fields
   second_in =
       let qr = placed 7 f.qr in
       let aa = placed 2 f.aa in
@@ -65,6 +70,7 @@ module _ (f : HeaderFields) (is : IsHeader f) where
       second _ _ _ _ _ _ (omega arith) qr.small opcode aa.small tc.small rd.small
 
   third_in : Third (slice_index (octets_of_fields f) 3) (one_bit 0 f.ra) (one_bit 0 f.z) (one_bit 0 f.ad) (one_bit 0 f.cd) f.rcode
+  unfolding octets_of_fields
   third_in =
       let ra = placed 7 f.ra in
       let z = placed 6 f.z in
@@ -74,6 +80,7 @@ module _ (f : HeaderFields) (is : IsHeader f) where
       third _ _ _ _ _ _ (omega arith) ra.small z.small ad.small cd.small rcode
 
   pub fields_in-octets_of_fields : fields_in (octets_of_fields f) ≡ f
+  unfolding octets_of_fields
   fields_in-octets_of_fields =
       let h = second_in in
       let k = third_in in
@@ -90,6 +97,7 @@ module _ (f : HeaderFields) (is : IsHeader f) where
       λ i. record { id = id i; qr = qr i; opcode = h.opcode i; aa = aa i; tc = tc i; rd = rd i; ra = ra i; z = z i; ad = ad i; cd = cd i; rcode = k.rcode i }
 
   octets_below : (i d : ℕ) → i < 4 → get_or (octets_of_fields f) i d < 256
+  unfolding octets_of_fields
   octets_below i d within =
       let h : slice_index (octets_of_fields f) 2 < 256 = second_in.small in
       let k : slice_index (octets_of_fields f) 3 < 256 = third_in.small in
@@ -98,7 +106,7 @@ module _ (f : HeaderFields) (is : IsHeader f) where
       grind (arith, common_steps)
 
   pub are_octets : AreOctets (octets_of_fields f) 4
-  are_octets = record { length = refl; below = octets_below }
+  are_octets = record { length = length-octets_of_fields f; below = λ i d within. octets_below i d (omega (arith, within, length-octets_of_fields f)) }
 
 -- two lists of four numbers are equal if their elements are
 same_from_4 : (b c : List ℕ) → length b ≡ 4 → length c ≡ 4 → slice_index b 0 ≡ slice_index c 0 → slice_index b 1 ≡ slice_index c 1
@@ -111,6 +119,7 @@ bit_value m offset small = let p = placed offset (bit m offset) in p.value ∙ a
 
 module _ (b : List ℕ) (are : AreOctets b 4) where
   pub octets_of_fields-fields_in : octets_of_fields (fields_in b) ≡ b
+  unfolding octets_of_fields
   octets_of_fields-fields_in =
       let m = slice_index b 2 in
       let n = slice_index b 3 in
@@ -133,3 +142,19 @@ octets_have_fields f is = (are_octets f is, fields_in-octets_of_fields f is)
 
 pub octets_are_of_fields : OctetsAreOfFields
 octets_are_of_fields b are = (is_header b are, octets_of_fields-fields_in b are)
+
+-- the fields are in the first four octets
+pub fields_in-take : (b : List ℕ) → fields_in (take 4 b) ≡ fields_in b
+fields_in-take [] = refl
+fields_in-take (x ∷ []) = refl
+fields_in-take (x ∷ y ∷ []) = refl
+fields_in-take (x ∷ y ∷ z ∷ []) = refl
+fields_in-take (x ∷ y ∷ z ∷ w ∷ b) = refl
+
+-- octets that begin with those of fields have these fields
+pub fields_in-octets : (b : List ℕ) (f : HeaderFields) → IsHeader f → take 4 b ≡ octets_of_fields f → fields_in b ≡ f
+fields_in-octets b f is begins = sym (fields_in-take b) ∙ ap fields_in begins ∙ fields_in-octets_of_fields f is
+
+-- four octets are those of their fields
+pub octets-fields_in : (header : List ℕ) (f : HeaderFields) → AreOctets header 4 → fields_in header ≡ f → header ≡ octets_of_fields f
+octets-fields_in header f are is = sym (octets_of_fields-fields_in header are) ∙ ap octets_of_fields is
