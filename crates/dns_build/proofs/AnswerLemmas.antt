@@ -1,18 +1,16 @@
--- The questions pushed when an answer is started, and the header of the answer.
-use Rattle.std.proofs.Common.{◌≡◌, ◌⊎◌, ℕ, ◌+◌, ◌*◌, Bool, true, min, max, nat_eq, Option, Result, Ok, Err, List, [], ◌∷◌, ◌++◌, append_assoc, append-nil, bit_and, bit_or, slice_index, ap, sym, ◌∙◌, refl, subst, inl, inr, arith}
-use Rattle.std.proofs.lemmas.Nat.Bits.{bit_at_and, bit_at_or, bit_at-lt}
+-- The questions pushed when an answer is started.
+use Rattle.std.proofs.Common.{◌≡◌, ◌⊎◌, ℕ, Bool, Option, Result, Ok, Err, List, [], ◌∷◌, ◌++◌, append_assoc, append-nil, ap, sym, ◌∙◌, refl, subst, inl, inr}
 use Rattle.std.specs.List.{filter_map}
 use Rattle.std.specs.Result.{result_ok}
 use Rattle.dns_octets.specs.declared.error.ParseError.{ParseError}
 use Rattle.dns_name.specs.Names.{Fault}
 use Rattle.dns_wire.specs.Encoders.{Rule}
-use Rattle.dns_code.specs.Bits.{bit, bits}
 use Rattle.dns_question.specs.Questions.{QuestionItem}
 use Rattle.dns_section.specs.QuestionSection.{questions_left, to_come, position, octets_of}
 use Rattle.dns_section.specs.QuestionsFrom.{questions_from}
 use Rattle.dns_section.specs.Skipping.{items_left}
 use Rattle.dns_section.specs.declared.question_section.QuestionSection.{QuestionSection}
-use Rattle.dns_build.specs.Answers.{ReturnsQuestion, AreAccepted, AnswerHeaderIsSet, Asks, GivesEither, IsEither}
+use Rattle.dns_build.specs.Answers.{ReturnsQuestion, AreAccepted, Asks, GivesEither, IsEither}
 use Rattle.dns_build.specs.BuilderStates.{Built, Represents, MovesState, InEach}
 use Rattle.dns_build.specs.State.{State, InQuestion, with_question, with_questions}
 use Rattle.dns_build.specs.declared.push_error.PushError.{PushError}
@@ -113,40 +111,3 @@ pub takes_either : (capacity : Option ℕ) (grows : Bool) (rule : Rule) (s : Sta
     → (result ≡ Ok b) ⊎ (result ≡ Err b) → GivesEither capacity grows rule s xs result → IsEither capacity grows rule s xs b
 takes_either capacity grows rule s xs result b (inl is) gives = inl (subst (GivesEither capacity grows rule s xs) is gives)
 takes_either capacity grows rule s xs result b (inr is) gives = inr (subst (GivesEither capacity grows rule s xs) is gives)
-
--- a bit of octet 2 of an answer's header
-second_bit : (own asked k : ℕ) → bits (bit_or (bit_or (bit_and own 6) (bit_and asked 121)) 128) k 1 ≡ max (max (min (bits own k 1) (bits 6 k 1)) (min (bits asked k 1) (bits 121 k 1))) (bits 128 k 1)
-second_bit own asked k =
-    bit_at_or (bit_or (bit_and own 6) (bit_and asked 121)) 128 k
-    ∙ ap (λ (t : ℕ). max t (bits 128 k 1)) (bit_at_or (bit_and own 6) (bit_and asked 121) k ∙ (λ i. max (bit_at_and own 6 k i) (bit_at_and asked 121 k i)))
-
--- a bit of octet 3 of an answer's header
-third_bit : (own rcode k : ℕ) → bits (bit_or (bit_and own 240) rcode) k 1 ≡ max (min (bits own k 1) (bits 240 k 1)) (bits rcode k 1)
-third_bit own rcode k = bit_at_or (bit_and own 240) rcode k ∙ ap (λ (t : ℕ). max t (bits rcode k 1)) (bit_at_and own 240 k)
-
--- bits that are equal as numbers are equal as Booleans
-same_bit : (m n k : ℕ) → bits n k 1 ≡ bits m k 1 → bit n k ≡ bit m k
-same_bit m n k same = ap (λ (x : ℕ). nat_eq x 1) same
-
--- octets with the same four opcode bits have the same opcode
-opcode_kept : (m n : ℕ) → bits n 3 1 ≡ bits m 3 1 → bits n 4 1 ≡ bits m 4 1 → bits n 5 1 ≡ bits m 5 1 → bits n 6 1 ≡ bits m 6 1 → bits n 3 4 ≡ bits m 3 4
-opcode_kept m n h3 h4 h5 h6 = omega arith
-
-pub answer_header_is_set : AnswerHeaderIsSet
-answer_header_is_set rcode asked own four own_four low =
-    let a : ℕ = slice_index asked.octets 2 in
-    let o : ℕ = slice_index own.octets 2 in
-    let n : ℕ = slice_index own.octets 3 in
-    let x : ℕ = bit_or (bit_or (bit_and o 6) (bit_and a 121)) 128 in
-    let y : ℕ = bit_or (bit_and n 240) rcode in
-    let qr : bit x 7 ≡ true = same_bit 128 x 7 (omega (arith, second_bit o a 7)) in
-    let opcode = opcode_kept a x (omega (arith, second_bit o a 3, bit_at-lt a 3)) (omega (arith, second_bit o a 4, bit_at-lt a 4)) (omega (arith, second_bit o a 5, bit_at-lt a 5)) (omega (arith, second_bit o a 6, bit_at-lt a 6)) in
-    let aa = same_bit o x 2 (omega (arith, second_bit o a 2, bit_at-lt o 2)) in
-    let tc = same_bit o x 1 (omega (arith, second_bit o a 1, bit_at-lt o 1)) in
-    let rd = same_bit a x 0 (omega (arith, second_bit o a 0, bit_at-lt a 0)) in
-    let ra = same_bit n y 7 (omega (arith, third_bit n rcode 7, bit_at-lt n 7)) in
-    let z = same_bit n y 6 (omega (arith, third_bit n rcode 6, bit_at-lt n 6)) in
-    let ad = same_bit n y 5 (omega (arith, third_bit n rcode 5, bit_at-lt n 5)) in
-    let cd = same_bit n y 4 (omega (arith, third_bit n rcode 4, bit_at-lt n 4)) in
-    let code : bits y 0 4 ≡ rcode = omega (arith, third_bit n rcode 0, third_bit n rcode 1, third_bit n rcode 2, third_bit n rcode 3) in
-    λ i. record { id = slice_index asked.octets 0 * 256 + slice_index asked.octets 1; qr = qr i; opcode = opcode i; aa = aa i; tc = tc i; rd = rd i; ra = ra i; z = z i; ad = ad i; cd = cd i; rcode = code i }

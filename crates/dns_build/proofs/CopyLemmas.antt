@@ -1,38 +1,27 @@
 -- How the steps of a copy combine.
-use Rattle.std.proofs.Common.{◌≡◌, sym, refl, subst, ap, ℕ, ◌<◌, ◌≤◌, Bool, List, [], ◌∷◌, length}
-use Rattle.std.specs.Prelude.{Option, Result, Ok, Err, OnOk, OnErr, IsTrue}
+use Rattle.std.proofs.Common.{◌≡◌, sym, refl, subst, ℕ, Bool, List, [], ◌∷◌, length}
+use Rattle.std.specs.Prelude.{Option, Result, Ok, Err, OnOk, OnErr}
 use Rattle.dns_octets.specs.declared.error.ParseError.{ParseError}
 use Rattle.dns_name.specs.Names.{Fault, fault_of}
 use Rattle.dns_wire.specs.Encoders.{Rule}
-use Rattle.dns_wire.specs.Targets.{Fits, Exceeds}
 use Rattle.dns_item.specs.Items.{RecordItem}
 use Rattle.dns_item.specs.ParsedRecord.{EncodedRecord}
 use Rattle.dns_item.specs.declared.parsed_record.ParsedRecord.{ParsedRecord}
 use Rattle.dns_build.specs.CopyRecords.{PushesRecord, CopiesList, CopiesRecordTo, CopiesListTo}
 use Rattle.dns_build.specs.CopyRecords.CopiesList.{none, copied, refused, fault}
-use Rattle.dns_build.specs.State.{Stage, State, with_record, records_at, most_entries}
-use Rattle.dns_build.specs.BuilderStates.{Built, Represents, MovesState, InEach, size_after}
+use Rattle.dns_build.specs.State.{Stage, State, with_record, records_at}
+use Rattle.dns_build.specs.BuilderStates.{Built, Represents, MovesState, PushReturnsInEach}
 use Rattle.dns_build.specs.declared.push_error.PushError.{PushError}
-use Rattle.dns_build.specs.declared.push_error.PushError.TheVariants.{CountOverflow, LimitExceeded, ShortBuf, OutOfMemory}
 use Rattle.dns_build.specs.declared.copy_records_error.CopyRecordsError.{CopyRecordsError}
 use Rattle.dns_build.specs.declared.copy_records_error.CopyRecordsError.TheVariants.{Parse, Push}
-use Rattle.dns_build.proofs.OptLemmas.{refused_returns}
 
 -- the clauses of a push, for one state
 pub pushes_record : (capacity : Option ℕ) (grows : Bool) (rule : Rule) (stage : Stage) (x : RecordItem) (s : State) (old new : Built) (result : Result (Unit {0}) PushError)
     → Represents stage rule s old → OnOk result (MovesState stage stage rule (with_record stage x) old new) → OnErr result (new ≡ old)
-    → OnOk result (InEach stage rule old (λ t. Fits capacity (size_after rule (with_record stage x) t) × (size_after rule (with_record stage x) t ≤ t.limit) × (length (records_at stage t) < most_entries)))
-    → (result ≡ Err ShortBuf → InEach stage rule old (λ t. Exceeds capacity (size_after rule (with_record stage x) t)))
-    → (result ≡ Err OutOfMemory → IsTrue grows)
-    → (result ≡ Err LimitExceeded → InEach stage rule old (λ t. Fits capacity (size_after rule (with_record stage x) t) × (t.limit < size_after rule (with_record stage x) t)))
-    → (result ≡ Err CountOverflow → InEach stage rule old (λ t. Fits capacity (size_after rule (with_record stage x) t) × (size_after rule (with_record stage x) t ≤ t.limit) × (length (records_at stage t) ≡ most_entries)))
+    → PushReturnsInEach stage capacity grows rule (with_record stage x) (λ t. length (records_at stage t)) old result
     → (left : State) × PushesRecord capacity grows rule stage x s result left × Represents stage rule left new
-pushes_record capacity grows rule stage x s old new (Ok u) represents accepted same fits short memory limit count = (with_record stage x s, (fits s represents, refl), accepted s represents)
-pushes_record capacity grows rule stage x s old new (Err e) represents accepted same fits short memory limit count = (
-  s,
-  (refused_returns capacity grows s.limit (size_after rule (with_record stage x) s) (length (records_at stage s)) e (λ is. short (ap Err is) s represents) (λ is. memory (ap Err is)) (λ is. limit (ap Err is) s represents) (λ is. count (ap Err is) s represents), refl),
-  subst (Represents stage rule s) (sym same) represents,
-)
+pushes_record capacity grows rule stage x s old new (Ok u) represents accepted same outcome = (with_record stage x s, (outcome.each s represents, refl), accepted s represents)
+pushes_record capacity grows rule stage x s old new (Err e) represents accepted same outcome = (s, (outcome.each s represents, refl), subst (Represents stage rule s) (sym same) represents)
 
 module _ {F R : Type 0} (call : F → ParsedRecord → Option R → F → Type 0) (item : R → RecordItem) (capacity : Option ℕ) (grows : Bool) (rule : Rule) (stage : Stage) where
   -- a reading is copied up to `ys`: whatever copying `ys` gives, copying all of `xs` gives

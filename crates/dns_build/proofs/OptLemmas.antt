@@ -1,10 +1,9 @@
 -- Pushing the OPT record that a closure gathers.
-use Rattle.std.proofs.Common.{◌≡◌, ap, sym, refl, subst, ℕ, ◌<◌, ◌≤◌, Bool, List, [], ◌∷◌, length, arith}
+use Rattle.std.proofs.Common.{◌≡◌, ap, sym, refl, subst, ℕ, ◌<◌, Bool, List, [], ◌∷◌, length, arith}
 use Rattle.std.specs.Option.{option_map_or}
 use Rattle.std.specs.Prelude.{Option, Some, None, is_some, Result, Ok, Err, IsTrue}
 use Rattle.dns_octets.specs.declared.error.AppendError.{AppendError}
 use Rattle.dns_wire.specs.Parts.Part.{Octets}
-use Rattle.dns_wire.specs.Targets.{Fits, Exceeds}
 use Rattle.dns_opt.specs.OptHeader.{ttl_in}
 use Rattle.dns_opt.specs.Options.{OptionItem, AreOptions, encode_options}
 use Rattle.dns_opt.specs.OptionsOf.{options_of}
@@ -13,21 +12,12 @@ use Rattle.dns_opt_builder.specs.Gathered.{Gathered, IsGathered, gathered, optio
 use Rattle.dns_opt_builder.specs.declared.builder.OptBuilder.{OptBuilder}
 use Rattle.dns_item.specs.Items.{RecordItem}
 use Rattle.dns_build.specs.Opt.{opt_record, OptReturns}
-use Rattle.dns_build.specs.State.{most_entries}
 use Rattle.dns_build.specs.BuilderStates.{PushReturns, push_error}
 use Rattle.dns_build.specs.declared.push_error.PushError.{PushError}
-use Rattle.dns_build.specs.declared.push_error.PushError.TheVariants.{CountOverflow, LimitExceeded, ShortBuf, OutOfMemory}
 
 -- a record with the fields of the OPT record of `g` is that record
 pub same_item : (x : RecordItem) (g : Gathered) → x.owner ≡ [] → x.rtype ≡ 41 → x.class ≡ g.fields.udp_payload_size → x.ttl ≡ ttl_in g.fields → x.parts ≡ Octets (encode_options g.options) ∷ [] → x ≡ opt_record g
 same_item x g o r c t p = λ i. record { owner = o i; rtype = r i; class = c i; ttl = t i; parts = p i }
-
--- the result of a failed push, from the cause of each error
-pub refused_returns : (capacity : Option ℕ) (grows : Bool) (limit n count : ℕ) (e : PushError) → (e ≡ ShortBuf → Exceeds capacity n) → (e ≡ OutOfMemory → IsTrue grows) → (e ≡ LimitExceeded → Fits capacity n × (limit < n)) → (e ≡ CountOverflow → Fits capacity n × (n ≤ limit) × (count ≡ most_entries)) → PushReturns capacity grows limit n count (Err e)
-refused_returns capacity grows limit n count CountOverflow s m l c = c refl
-refused_returns capacity grows limit n count LimitExceeded s m l c = l refl
-refused_returns capacity grows limit n count ShortBuf s m l c = s refl
-refused_returns capacity grows limit n count OutOfMemory s m l c = m refl
 
 -- the result if the closure fails, and if it doesn't
 pub closure_refused : (capacity : Option ℕ) (grows : Bool) (limit n count : ℕ) (e : AppendError) (r : Result (Unit {0}) AppendError) → r ≡ Err e → OptReturns capacity grows limit n count r (Err (push_error e))

@@ -9,8 +9,8 @@ use Rattle.std.specs.Prelude.{◌==◌, if◌then◌else◌, IsTrue, Option, Som
 use Rattle.dns_name.specs.Names.{Fault}
 use Rattle.dns_wire.specs.Parts.{Part, PartsAt}
 use Rattle.dns_wire.specs.Parts.Part.{Octets}
-use Rattle.dns_code.specs.Header.{header_octets, fields_in}
-use Rattle.dns_code.proofs.theory.HeaderLemmas.{rcode_changed}
+use Rattle.dns_code.specs.Header.{HeaderFields}
+use Rattle.dns_code.proofs.theory.HeaderOctets.{fields_in-take}
 use Rattle.dns_opt.specs.OptHeader.{OptFields, ttl_in, fields_in as opt_fields_in}
 use Rattle.dns_opt.specs.Options.{OptionItem, encode_options}
 use Rattle.dns_opt.specs.OptionsOf.{options_of}
@@ -37,7 +37,7 @@ use Rattle.dns_read.specs.SectionStarts.{records_of}
 use Rattle.dns_read.proofs.theory.SectionStartLemmas.{start_found}
 use Rattle.dns_build.specs.MessageOf.{AllReported, ReadsBack}
 use Rattle.dns_build.specs.Opt.{opt_record}
-use Rattle.dns_build.specs.OptReading.{said, HasNoOpt, OptsReadBack, RcodeIsSet}
+use Rattle.dns_build.specs.OptReading.{said, HasNoOpt, OptsReadBack}
 use Rattle.dns_build.specs.State.{State}
 use Rattle.dns_build.proofs.OptLemmas.{same_item}
 
@@ -166,9 +166,5 @@ opt_read g s b xs ys is ok none h =
 pub opts_read_back : OptsReadBack
 opts_read_back g s b xs ys is ok none h =
     let opt = opt_read g s b xs ys is ok none h in
-    let rcode = ap (λ (octets : List ℕ). (fields_in octets).rcode) h.header in
+    let rcode = ap (λ (header : HeaderFields). header.rcode) (fields_in-take b ∙ h.header) in
     (opt, λ i. extended_rcode (opt i) (rcode i))
-
--- setting the rcode changes no other field of a header
-pub rcode_is_set : RcodeIsSet
-rcode_is_set header rcode four below = rcode_changed (header_octets header) rcode four below

@@ -3,7 +3,8 @@ use Rattle.std.proofs.Common.{◌≡◌, ℕ, ◌+◌, ◌*◌, ◌-◌, ◌<◌
 use Rattle.std.proofs.lemmas.List.{length-map, map-append}
 use Rattle.dns_wire.specs.Encoders.{IsGrowing, Rule, Encoder}
 use Rattle.dns_wire.specs.Targets.{Written, append}
-use Rattle.dns_code.specs.Header.{header_octets}
+use Rattle.dns_code.specs.Header.{octets_of_fields}
+use Rattle.dns_code.proofs.theory.HeaderOctets.{length-octets_of_fields}
 use Rattle.dns_question.specs.Questions.{QuestionItem, IsQuestion, encode_question}
 use Rattle.dns_item.specs.Items.{RecordItem, IsRecord, encode_record}
 use Rattle.dns_question.proofs.theory.QuestionItemLemmas.{questions_grow}
@@ -85,8 +86,8 @@ record Splits (k : Kind) (rule : Rule) (s : State) : Type 0 where
   all : length (before k rule s) + length (empty k) ≡ 3
   number : length (before k rule s) ≡ number k
   last : encoders (empty k) ≡ []
-  whole : encode rule (up_to (at k) s) ≡ message (header_octets s.header) (sections k rule s (map (encode_item k rule) (items k s)))
-  less : encode rule (up_to (prior k) s) ≡ message (header_octets s.header) (sections k rule s [])
+  whole : encode rule (up_to (at k) s) ≡ message (octets_of_fields s.header) (sections k rule s (map (encode_item k rule) (items k s)))
+  less : encode rule (up_to (prior k) s) ≡ message (octets_of_fields s.header) (sections k rule s [])
   grow : Every IsGrowing (encoders (sections k rule s (map (encode_item k rule) (items k s))))
   front : Every IsGrowing (encoders (sections k rule s []))
 
@@ -97,23 +98,23 @@ splits (Records Authority) rule s = record { all = refl; number = refl; last = r
 splits (Records Additional) rule s = record { all = refl; number = refl; last = refl; whole = encode-message rule _; less = encode-message rule _; grow = sections_grow rule s; front = sections_grow rule (up_to InAuthority s) }
 
 -- the encoding of a state with one more item, without the sections after this one
-splits_more : (k : Kind) (rule : Rule) (s : State) (x : Item k) → encode rule (with_item k x (up_to (at k) s)) ≡ message (header_octets s.header) (sections k rule s (map (encode_item k rule) (items k s ++ x ∷ [])))
+splits_more : (k : Kind) (rule : Rule) (s : State) (x : Item k) → encode rule (with_item k x (up_to (at k) s)) ≡ message (octets_of_fields s.header) (sections k rule s (map (encode_item k rule) (items k s ++ x ∷ [])))
 splits_more Questions rule s x = encode-message rule _
 splits_more (Records Answer) rule s x = encode-message rule _
 splits_more (Records Authority) rule s x = encode-message rule _
 splits_more (Records Additional) rule s x = encode-message rule _
 
-module _ (k : Kind) (rule : Rule) (s : State) (four : length (header_octets s.header) ≡ 4) (last : s ≡ up_to (at k) s) where
+module _ (k : Kind) (rule : Rule) (s : State) (last : s ≡ up_to (at k) s) where
   offset : 4 + 2 * length (before k rule s) ≡ count_offset_of k
   offset = let is = splits k rule s in ap (λ n. 4 + 2 * n) is.number
 
-  whole : encode rule s ≡ message (header_octets s.header) (sections k rule s (map (encode_item k rule) (items k s)))
+  whole : encode rule s ≡ message (octets_of_fields s.header) (sections k rule s (map (encode_item k rule) (items k s)))
   whole = let is = splits k rule s in ap (encode rule) last ∙ is.whole
 
-  more : (x : Item k) → encode rule (with_item k x s) ≡ message (header_octets s.header) (sections k rule s (map (encode_item k rule) (items k s) ++ encode_item k rule x ∷ []))
+  more : (x : Item k) → encode rule (with_item k x s) ≡ message (octets_of_fields s.header) (sections k rule s (map (encode_item k rule) (items k s) ++ encode_item k rule x ∷ []))
   more x =
       ap (λ (t : State). encode rule (with_item k x t)) last ∙ splits_more k rule s x
-      ∙ ap (λ ps. message (header_octets s.header) (sections k rule s ps)) (map-append (encode_item k rule) (items k s) (x ∷ []))
+      ∙ ap (λ ps. message (octets_of_fields s.header) (sections k rule s ps)) (map-append (encode_item k rule) (items k s) (x ∷ []))
 
   -- the section's count is the number of its items
   pub encode-count : length (items k s) < 65536 → count_at (count_offset_of k) (encode rule s) ≡ length (items k s)
@@ -121,14 +122,14 @@ module _ (k : Kind) (rule : Rule) (s : State) (four : length (header_octets s.he
       let is = splits k rule s in
       let size = length-map (items k s) (encode_item k rule) in
       (λ i. count_at (sym offset i) (whole i))
-      ∙ count-message (header_octets s.header) four (before k rule s) (empty k) is.all is.last (map (encode_item k rule) (items k s)) is.grow (omega arith) ∙ size
+      ∙ count-message (octets_of_fields s.header) (length-octets_of_fields s.header) (before k rule s) (empty k) is.all is.last (map (encode_item k rule) (items k s)) is.grow (omega arith) ∙ size
 
   -- the length of an encoding with one more item, even one that can't be counted
   pub encode-size : (x : Item k) → length (append (encode_item k rule x) (encode rule s)).octets ≡ length (encode rule (with_item k x s)).octets
   encode-size x =
       let is = splits k rule s in
       ap (λ (w : Written). length (append (encode_item k rule x) w).octets) whole
-      ∙ size-more (header_octets s.header) four (before k rule s) (empty k) is.all is.last (map (encode_item k rule) (items k s)) is.grow (encode_item k rule x)
+      ∙ size-more (octets_of_fields s.header) (length-octets_of_fields s.header) (before k rule s) (empty k) is.all is.last (map (encode_item k rule) (items k s)) is.grow (encode_item k rule x)
       ∙ ap (λ (w : Written). length w.octets) (sym (more x))
 
   -- the encoding of a state with one more item
@@ -137,7 +138,7 @@ module _ (k : Kind) (rule : Rule) (s : State) (four : length (header_octets s.he
       let is = splits k rule s in
       let size = length-map (items k s) (encode_item k rule) in
       (λ i. counted (sym offset i) (append (encode_item k rule x) (whole i)))
-      ∙ message-more (header_octets s.header) four (before k rule s) (empty k) is.all is.last (map (encode_item k rule) (items k s)) is.grow (encode_item k rule x) (omega arith)
+      ∙ message-more (octets_of_fields s.header) (length-octets_of_fields s.header) (before k rule s) (empty k) is.all is.last (map (encode_item k rule) (items k s)) is.grow (encode_item k rule x) (omega arith)
       ∙ sym (more x)
 
   -- the encoding of a state without the section's items
@@ -145,5 +146,5 @@ module _ (k : Kind) (rule : Rule) (s : State) (four : length (header_octets s.he
   encode-less =
       let is = splits k rule s in
       (λ i. emptied_from (length (is.less i).octets) (sym offset i) (whole i))
-      ∙ message-less (header_octets s.header) four (before k rule s) (empty k) is.all is.last (map (encode_item k rule) (items k s)) is.grow is.front (every_map IsGrowing (encode_item k rule) (items_grow k rule) (items k s))
+      ∙ message-less (octets_of_fields s.header) (length-octets_of_fields s.header) (before k rule s) (empty k) is.all is.last (map (encode_item k rule) (items k s)) is.grow is.front (every_map IsGrowing (encode_item k rule) (items_grow k rule) (items k s))
       ∙ sym is.less

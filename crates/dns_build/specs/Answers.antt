@@ -1,11 +1,10 @@
 -- How an answer to a message is started: its header and its questions. RFC 1035 section 4.1.
-use Rattle.std.specs.Prelude.{◌≡◌, ◌<◌, ◌⊎◌, ℕ, Bool, true, List, [], ◌∷◌, ◌++◌, length, take, bit_and, bit_or, slice_index, Option, Result, Ok, Err}
+use Rattle.std.specs.Prelude.{◌≡◌, ◌⊎◌, ℕ, Bool, true, List, ◌∷◌, ◌++◌, length, Option, Result, Ok, Err}
 use Rattle.std.specs.List.{filter_map}
 use Rattle.std.specs.Result.{result_ok}
 use Rattle.dns_wire.specs.Encoders.{Rule}
-use Rattle.dns_code.specs.Header.{header_octets, fields}
+use Rattle.dns_code.specs.Header.{HeaderFields, fields_in}
 use Rattle.dns_code.specs.HeaderSection.{header_size}
-use Rattle.dns_code.specs.declared.header.Header.{Header}
 use Rattle.dns_question.specs.Questions.{QuestionItem}
 use Rattle.dns_section.specs.QuestionsFrom.{questions_from}
 use Rattle.dns_section.specs.Sections.{question_count}
@@ -18,21 +17,13 @@ use Rattle.dns_build.specs.declared.push_error.PushError.{PushError}
 abbrev pub readable_questions : List ℕ → List QuestionItem
 readable_questions b = filter_map result_ok (questions_from b (question_count b) header_size)
 
--- the header of a message: its first four octets
-abbrev pub header_in : List ℕ → Header
-header_in b = record { octets = take 4 b }
-
--- The header of an answer, by its octets: ID, opcode and RD of `asked`, QR set, and the rcode. The other bits are those of `own`. In octet 2, 0x06 is AA and TC, 0x79 is opcode and RD, and 0x80 is QR. RFC 1035 section 4.1.1.
-abbrev pub answer_header : ℕ → Header → Header → Header
-answer_header rcode asked own = record {
-  octets = slice_index asked.octets 0 ∷ slice_index asked.octets 1
-      ∷ bit_or (bit_or (bit_and (slice_index own.octets 2) 0x06) (bit_and (slice_index asked.octets 2) 0x79)) 0x80
-      ∷ bit_or (bit_and (slice_index own.octets 3) 0xf0) rcode ∷ [];
-}
+-- The header of an answer: ID, opcode and RD of the message that is answered, QR set, and the rcode. The other fields are the builder's own. RFC 1035 section 4.1.1.
+abbrev pub answer_header : ℕ → HeaderFields → HeaderFields → HeaderFields
+answer_header rcode asked own = record own { id = asked.id; qr = true; opcode = asked.opcode; rd = asked.rd; rcode = rcode }
 
 -- the state onto which the questions of an answer are pushed
 abbrev pub answering : ℕ → List ℕ → State → State
-answering rcode b s = move_to InQuestion (with_header (answer_header rcode (header_in b) s.header) s)
+answering rcode b s = move_to InQuestion (with_header (answer_header rcode (fields_in b) s.header) s)
 
 -- the result of pushing a question onto a state
 abbrev pub ReturnsQuestion : Option ℕ → Bool → Rule → QuestionItem → State → Result (Unit {0}) PushError → Type 0
@@ -79,8 +70,3 @@ module _ (capacity : Option ℕ) (grows : Bool) (rule : Rule) (s : State) where
   -- an answer builder as in either case of `GivesEither`
   abbrev pub IsEither : List QuestionItem → Built → Type 0
   IsEither xs b = GivesEither xs (Ok b) ⊎ GivesEither xs (Err b)
-
--- The header of an answer has ID, opcode and RD of `asked`, QR set, and the rcode. Its other fields are those of `own`. RFC 1035 section 4.1.1.
-abbrev pub AnswerHeaderIsSet : Type 0
-AnswerHeaderIsSet = (rcode : ℕ) (asked own : Header) → length (header_octets asked) ≡ 4 → length (header_octets own) ≡ 4 → rcode < 16
-    → fields (answer_header rcode asked own) ≡ record (fields own) { id = (fields asked).id; qr = true; opcode = (fields asked).opcode; rd = (fields asked).rd; rcode = rcode }

@@ -1,20 +1,19 @@
 -- The octets of a message with a state's header and items: what they are, and what reading them gives. RFC 1035 section 4.1.
-use Rattle.std.specs.Prelude.{◌≡◌, ℕ, List, [], ◌∷◌, length, map, take, Ok, ◌+◌, ◌++◌, ◌≤◌, true}
+use Rattle.std.specs.Prelude.{◌≡◌, ℕ, List, [], ◌∷◌, length, map, Ok, ◌+◌, ◌++◌, ◌≤◌}
 use Rattle.std.specs.FinMap.{len}
 use Rattle.dns_name.specs.Names.{pointer_end}
 use Rattle.dns_wire.specs.Parts.{Part, Octets, CompressibleName, PartsInPointerRange, PartsPointed}
 use Rattle.dns_wire.specs.Compression.{IsShortest, SharesAll}
 use Rattle.dns_wire.specs.Encoders.{Rule, IsAtOrAfter}
 use Rattle.dns_wire.specs.Targets.{IsTarget}
-use Rattle.dns_code.specs.Header.{header_octets, fields}
+use Rattle.dns_code.specs.Header.{fields_in}
 use Rattle.dns_code.specs.HeaderSection.{header_size}
-use Rattle.dns_code.specs.declared.header.Header.{Header}
 use Rattle.dns_question.specs.Questions.{QuestionItem, question_fields}
 use Rattle.dns_item.specs.Items.{SkipsRecord, RecordEntry, ReportsRecord, RecordItem, record_fields}
 use Rattle.dns_section.specs.QuestionsFrom.{questions_from}
 use Rattle.dns_section.specs.Reading.{Skipped}
 use Rattle.dns_section.specs.Sections.{question_count, answer_count, authority_count, additional_count, AnswersStart, AuthoritiesStart, AdditionalsStart, ReadingRecords}
-use Rattle.dns_build.specs.State.{State, encode, IsState, with_tc}
+use Rattle.dns_build.specs.State.{State, encode, IsState}
 
 -- Reading the octets of a state gives back the state. RFC 1035 section 4.1.
 
@@ -33,7 +32,7 @@ pub record GivesRecords (b : List ℕ) (n p : ℕ) (xs : List RecordItem) : Type
 
 -- The header section has the state's header and the lengths of its lists as counts. Each section has a start, and reading it yields its list without a fault. The last section ends where the octets end.
 pub record ReadsBack (s : State) (b : List ℕ) : Type 0 where
-  pub header : take 4 b ≡ header_octets s.header
+  pub header : fields_in b ≡ s.header
   pub questions_counted : question_count b ≡ length s.questions
   pub answers_counted : answer_count b ≡ length s.answers
   pub authorities_counted : authority_count b ≡ length s.authorities
@@ -90,7 +89,7 @@ pub record IsMessageOf (rule : Rule) (s : State) (b : List ℕ) : Type 0 where
   pub shortest : SharesAll rule (len (encode rule s).table) → HasLabelsInPointerRange s b → IsShortestOf s b
   pub in_range : length b ≤ pointer_end → HasLabelsInPointerRange s b
 
--- Theorems over all states, rules and headers. RFC 1035 section 4.1.
+-- Theorems over all states and rules. RFC 1035 section 4.1.
 
 -- the encoding of a state reads back as the state
 abbrev pub EncodingsReadBack : Type 0
@@ -99,10 +98,6 @@ EncodingsReadBack = (rule : Rule) (s : State) → IsState s → ReadsBack s (enc
 -- each suffix in its compression table is encoded at its offset, after the header section
 abbrev pub EncodingsAreTargets : Type 0
 EncodingsAreTargets = (rule : Rule) (s : State) → IsState s → IsTarget (encode rule s) × IsAtOrAfter (encode rule s).table header_size
-
--- setting TC changes no other field of a header
-abbrev pub TcIsSet : Type 0
-TcIsSet = (header : Header) → length (header_octets header) ≡ 4 → fields (with_tc header) ≡ record (fields header) { tc = true }
 
 -- the encoding of a state is the octets of a message with the state's header and items
 abbrev pub EncodingsAreMessages : Type 0

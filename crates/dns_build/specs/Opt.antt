@@ -1,9 +1,9 @@
 -- How a builder pushes an OPT record whose fields and options a closure sets. RFC 6891 sections 6.1.1 to 6.1.3.
-use Rattle.std.specs.Prelude.{◌≡◌, ℕ, Bool, [], ◌∷◌, length, bit_and, bit_or, slice_index, slice_set, Option, OnOk, Result, Ok, Err}
+use Rattle.std.specs.Prelude.{◌≡◌, ℕ, Bool, [], ◌∷◌, length, Option, OnOk, Result, Ok, Err}
 use Rattle.dns_octets.specs.declared.error.AppendError.{AppendError}
 use Rattle.dns_wire.specs.Parts.Part.{Octets}
 use Rattle.dns_wire.specs.Encoders.{Rule}
-use Rattle.dns_code.specs.declared.header.Header.{Header}
+use Rattle.dns_code.specs.Header.{HeaderFields}
 use Rattle.dns_opt.specs.OptHeader.{ttl_in}
 use Rattle.dns_opt.specs.Options.{encode_options}
 use Rattle.dns_opt_builder.specs.Gathered.{Gathered, IsGathered, gathered, nothing_gathered}
@@ -23,16 +23,16 @@ opt_record g = record {
   parts = Octets (encode_options g.options) ∷ [];
 }
 
--- sets the rcode, the lower four bits of octet 3, and changes nothing else
-abbrev pub with_rcode : ℕ → Header → Header
-with_rcode rcode header = record header { octets = slice_set header.octets 3 (bit_or (bit_and (slice_index header.octets 3) 240) rcode) }
+-- sets the rcode, and changes nothing else
+abbrev pub with_rcode : ℕ → HeaderFields → HeaderFields
+with_rcode rcode header = record header { rcode = rcode }
 
 -- appends the OPT record to the additional section, and sets the gathered rcode in the header
 abbrev pub with_opt : Gathered → State → State
 with_opt g s = with_header (with_rcode g.header.rcode s.header) (with_record InAdditional (opt_record g) s)
 
--- The closure was called on a new `OptBuilder` with a copy of `header`. It returned `outcome`, and the builder had then gathered `g`.
-pub record Gathers (call : OptBuilder → Result (Unit {0}) AppendError → OptBuilder → Type 0) (header : Header) (outcome : Result (Unit {0}) AppendError) (g : Gathered) : Type 0 where
+-- The closure was called on a new `OptBuilder` that has a copy of `header`. It returned `outcome`, and the builder had then gathered `g`.
+pub record Gathers (call : OptBuilder → Result (Unit {0}) AppendError → OptBuilder → Type 0) (header : HeaderFields) (outcome : Result (Unit {0}) AppendError) (g : Gathered) : Type 0 where
   pub before : OptBuilder
   pub after : OptBuilder
   pub fresh : gathered before ≡ nothing_gathered header

@@ -1,5 +1,6 @@
 //! Starting an answer to a message (RFC 1035 section 4.1).
 ghost use Rattle.std.specs.Prelude.{◌≡◌};
+ghost use Rattle.dns_code.specs.Header.{fields};
 ghost use Rattle.dns_read.specs.Message.{message_octets};
 ghost use Rattle.dns_build.specs.State.{InBuilder, InQuestion};
 ghost use Rattle.dns_build.specs.BuilderStates.{InEach, MovesState};
@@ -109,15 +110,16 @@ fn push_questions<T: Composer, Octs: Octets>(
     Ok(())
 }
 
+/// The header of an answer: ID, opcode and RD of `asked`, QR, and the rcode. The other fields are
+/// those of `own`.
 fn answer_header(rcode: Rcode, asked: Header, own: Header) -> Header
-    ensures { result ≡ answer_header rcode asked own }
+    ensures { fields result ≡ answer_header rcode (fields asked) (fields own) }
 {
-    let asked = asked.as_slice();
-    let own = own.as_slice();
-    Header::for_message_slice(&[
-        asked[0],
-        asked[1],
-        own[2] & 0x06 | asked[2] & 0x79 | 0x80,
-        own[3] & 0xf0 | rcode.to_int(),
-    ])
+    let mut header = own;
+    header.set_id(asked.id());
+    header.set_qr(true);
+    header.set_opcode(asked.opcode());
+    header.set_rd(asked.rd());
+    header.set_rcode(rcode);
+    header
 }

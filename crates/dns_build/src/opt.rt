@@ -2,6 +2,7 @@
 ghost use Rattle.std.specs.Prelude.{◌≡◌, [], OnErr};
 ghost use Rattle.std.specs.Fn.{FnOnceReturnsAtMut};
 ghost use Rattle.dns_name.specs.NameReading.{name_labels};
+ghost use Rattle.dns_code.specs.Header.{fields};
 ghost use Rattle.dns_opt.specs.OptHeader.{ttl_in};
 ghost use Rattle.dns_opt.specs.Options.{encode_options};
 ghost use Rattle.dns_data.specs.Opt.{opt_octets};
@@ -60,13 +61,11 @@ fn record_of(builder: &OptBuilder) -> Record<Name<&'static [u8]>, Opt<&[u8]>>
     Record::new(Name::root_slice(), header.class(), ttl, data)
 }
 
-/// Sets the rcode and changes nothing else. The contract is on octets; that of `set_rcode` is on
-/// fields.
+/// Sets the rcode and changes nothing else.
 pub(crate) fn with_rcode(header: Header, rcode: Rcode) -> Header
-    ensures { result ≡ with_rcode rcode header }
+    ensures { fields result ≡ with_rcode rcode (fields header) }
 {
-    let mut octets = [0; 4];
-    octets.copy_from_slice(header.as_slice());
-    octets[3] = octets[3] & 0xf0 | rcode.to_int();
-    Header::for_message_slice(&octets)
+    let mut changed = header;
+    changed.set_rcode(rcode);
+    changed
 }

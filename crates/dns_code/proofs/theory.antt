@@ -1,2 +1,3 @@
 -- Lemmas that other crates cite: a changed statement changes for them too.
 pub mod HeaderLemmas
+pub mod HeaderOctets

@@ -1,5 +1,5 @@
 -- Parts of octets: bits, and numbers of two octets.
-use Rattle.std.specs.Prelude.{◌≡◌, ◌≢◌, ◌==◌, ℕ, Bool, ◌+◌, ◌*◌, ◌/◌, ◌%◌, ◌^◌, ◌<◌, List, slice_index}
+use Rattle.std.specs.Prelude.{◌≡◌, ◌≢◌, ◌==◌, if◌then◌else◌, ℕ, Bool, ◌+◌, ◌*◌, ◌/◌, ◌%◌, ◌^◌, ◌<◌, List, slice_index}
 
 -- the number in the `count` bits of an octet from bit `lowest` up; bit 7 is the most significant
 abbrev pub bits : ℕ → ℕ → ℕ → ℕ
@@ -8,6 +8,10 @@ bits octet lowest count = octet / 2 ^ lowest % 2 ^ count
 -- whether the bit at the index is 1
 abbrev pub bit : ℕ → ℕ → Bool
 bit octet offset = bits octet offset 1 == 1
+
+-- the number whose bit at the index is 1 if `set`, and whose other bits are 0
+abbrev pub one_bit : ℕ → Bool → ℕ
+one_bit offset set = if set then 2 ^ offset else 0
 
 -- the 16-bit number at offset `offset`, big-endian
 abbrev pub number_in : List ℕ → ℕ → ℕ

@@ -2,7 +2,7 @@
 use Rattle.std.specs.Prelude.{◌≡◌, ◌↔◌, IsTrue, ℕ, ◌<◌, List, ◌++◌, length, All, Some}
 use Rattle.std.specs.List.{list_all}
 use Rattle.dns_code.specs.Flags.{is_flags_token, joined, flags_named, flags_read, flags_text}
-use Rattle.dns_code.specs.Header.{fields_in, header_octets}
+use Rattle.dns_code.specs.Header.{HeaderFields, IsHeader, fields_in, octets_of_fields, header_octets}
 use Rattle.dns_code.specs.HeaderCounts.{counts_in, counts_octets}
 use Rattle.dns_code.specs.HeaderSection.{section_octets, section_header, section_counts}
 use Rattle.dns_code.specs.declared.flags.Flags.{Flags}
@@ -12,6 +12,14 @@ use Rattle.dns_code.specs.declared.section.HeaderSection.{HeaderSection}
 pub record AreOctets (b : List ℕ) (count : ℕ) : Type 0 where
   pub length : length b ≡ count
   pub below : All (λ octet. octet < 256) b
+
+-- fields that four octets can hold are the fields in their octets
+abbrev pub OctetsHaveFields : Type 0
+OctetsHaveFields = (f : HeaderFields) → IsHeader f → AreOctets (octets_of_fields f) 4 × (fields_in (octets_of_fields f) ≡ f)
+
+-- each four octets are those of their fields
+abbrev pub OctetsAreOfFields : Type 0
+OctetsAreOfFields = (b : List ℕ) → AreOctets b 4 → IsHeader (fields_in b) × (octets_of_fields (fields_in b) ≡ b)
 
 -- headers with equal fields have equal octets: the fields are all 32 bits
 abbrev pub FieldsAreAllBits : Type 0

@@ -1,7 +1,6 @@
 -- What an OPT builder has collected. RFC 6891 section 6.1.
 use Rattle.std.specs.Prelude.{vec_capacity, ℕ, ◌/◌, ◌%◌, ◌<◌, ◌≤◌, List, [], length, false}
 use Rattle.dns_code.specs.Header.{HeaderFields, fields as header_fields}
-use Rattle.dns_code.specs.declared.header.Header.{Header}
 use Rattle.dns_opt.specs.OptHeader.{OptFields, fields as opt_fields}
 use Rattle.dns_opt.specs.Options.{OptionItem, AreOptions, encode_options}
 use Rattle.dns_opt.specs.OptionsOf.{options_in}
@@ -30,9 +29,9 @@ gathered builder = record {
 }
 
 -- what a new builder has collected: the header, fields that are 0 or false, and no options
-abbrev pub nothing_gathered : Header → Gathered
+abbrev pub nothing_gathered : HeaderFields → Gathered
 nothing_gathered header = record {
-  header = header_fields header;
+  header = header;
   fields = record { udp_payload_size = 0; ext = 0; version = 0; dnssec_ok = false; z = 0 };
   options = [];
 }

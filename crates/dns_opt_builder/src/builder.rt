@@ -41,7 +41,7 @@ impl OptBuilder {
     /// A builder with a copy of the message's header and without options. The fields of the OPT
     /// record are 0 or false.
     pub fn new(alloc: Global, header: Header) -> Self
-        ensures { gathered result ≡ nothing_gathered header }
+        ensures { gathered result ≡ nothing_gathered (header_fields header) }
     {
         OptBuilder {
             header,

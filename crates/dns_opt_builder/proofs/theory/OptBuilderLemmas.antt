@@ -115,7 +115,7 @@ of_memory OutOfMemory never = refl
 
 -- a class and a TTL of 0, and no octets, are what a new builder has collected
 pub nothing_yet : (header : Header) (class ttl : ℕ) (b : List ℕ) → class ≡ 0 → ttl ≡ 0 → b ≡ []
-    → (let all : Gathered = record { header = header_fields header; fields = fields_in class ttl; options = options_in b } in all ≡ nothing_gathered header)
+    → (let all : Gathered = record { header = header_fields header; fields = fields_in class ttl; options = options_in b } in all ≡ nothing_gathered (header_fields header))
 nothing_yet header class ttl b same_class same_ttl empty =
     let e = ap options_of empty ∙ options_of-nil in
     let none = ap (λ (o : Option (List OptionItem)). option_map_or (λ (xs : List OptionItem). xs) o []) e in

@@ -1,9 +1,7 @@
 use Rattle.std.proofs.Common.{ap}
-use Rattle.std.specs.Prelude.{Err}
 use Rattle.std.specs.List.{filter_map}
 use Rattle.std.specs.Result.{result_ok}
 use Rattle.dns_build.proofs.AnswerLemmas.{begins, takes-next, refuses-next, ends, readable-next, readable-fault}
-use Rattle.dns_build.proofs.OptLemmas.{refused_returns}
 use Rattle.dns_build.proofs.answer.push_questions.Goals as goal
 
 pub loop-question-init : goal.loop-question-init
@@ -14,16 +12,14 @@ loop-question-preserved g c = record {
   pushing = λ s represents.
       let steps = rw c.in-Ok.is at c.in-Some.ensures.steps in
       let pushed = c.in_default-push.ensures in
-      takes-next _ _ _ s _ _ _ _ (readable-next _ _ _ steps) _ _ pushed.capacity pushed.accepted (c.loop-question.invariant.pushing s represents);
+      takes-next _ _ _ s _ _ _ _ (readable-next _ _ _ steps) _ _ pushed.outcome.each pushed.accepted (c.loop-question.invariant.pushing s represents);
 }
 
 pub returns-in-Err : goal.returns-in-Err
 returns-in-Err g c s represents =
     let steps = rw c.in-Ok.is at c.in-Some.ensures.steps in
     let h = c.in-Err.ensures in
-    refuses-next _ _ _ s _ _ _ _ (readable-next _ _ _ steps) _ _ c.in-Err.error
-    (λ t there. refused_returns _ _ _ _ _ c.in-Err.error (λ is. h.short (ap Err is) t there) (λ is. h.memory (ap Err is)) (λ is. h.limit (ap Err is) t there) (λ is. h.count (ap Err is) t there))
-    h.refused (c.loop-question.invariant.pushing s represents)
+    refuses-next _ _ _ s _ _ _ _ (readable-next _ _ _ steps) _ _ c.in-Err.error h.outcome.each h.refused (c.loop-question.invariant.pushing s represents)
 
 pub returns-in_default-question : goal.returns-in_default-question
 returns-in_default-question g c s represents =

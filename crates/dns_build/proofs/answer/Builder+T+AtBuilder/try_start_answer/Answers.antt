@@ -1,5 +1,5 @@
 use Rattle.std.proofs.Common.{◌≡◌, ◌∙◌, ap, subst}
-use Rattle.dns_code.specs.declared.header.Header.{Header}
+use Rattle.dns_code.specs.Header.{HeaderFields, fields}
 use Rattle.dns_read.specs.Message.{message_octets}
 use Rattle.dns_build.specs.Opt.{with_rcode}
 use Rattle.dns_build.specs.Answers.{RepresentsAnswer, answering}
@@ -15,9 +15,9 @@ pub returns-in-Err : goal.returns-in-Err
 returns-in-Err g c s represents =
     let asks = rw c.in-Err.is at c.push_questions.ensures _ (c.answering-builder.ensures s represents) in
     let left : State = with_questions asks.0 (answering c.args.rcode (message_octets c.args.msg.now) s) in
-    let header : c.with_rcode.result ≡ with_rcode 2 left.header = c.with_rcode.ensures ∙ ap (with_rcode 2) (c.header.ensures left asks.2) in (
+    let header : fields c.with_rcode.result ≡ with_rcode 2 left.header = c.with_rcode.ensures ∙ ap (with_rcode 2) (c.header.ensures left asks.2) in (
       _,
       asks.0,
       asks.1,
-      subst (λ (h : Header). RepresentsAnswer g.T.Composer.rule (with_header h left) c.answer-in-Err.result) header (c.answer-in-Err.ensures _ (c.set_header.ensures left asks.2)),
+      subst (λ (h : HeaderFields). RepresentsAnswer g.T.Composer.rule (with_header h left) c.answer-in-Err.result) header (c.answer-in-Err.ensures _ (c.set_header.ensures left asks.2)),
     )

@@ -1,15 +1,14 @@
-use Rattle.std.proofs.Common.{◌≡◌, ◌∙◌, ℕ, ◌<◌, ◌≤◌, [], ◌∷◌, ap, subst, refl, length}
-use Rattle.std.specs.Prelude.{Err}
+use Rattle.std.proofs.Common.{◌≡◌, ◌∙◌, ℕ, [], ◌∷◌, ap, subst, refl, length}
+use Rattle.std.specs.Prelude.{Ok, Err}
 use Rattle.std.proofs.lemmas.Result.{err_from_is_err_and}
 use Rattle.dns_opt_builder.specs.Gathered.{gathered, nothing_gathered}
 use Rattle.dns_item.specs.Items.{RecordItem}
 use Rattle.dns_wire.specs.Parts.Part.{Octets}
-use Rattle.dns_wire.specs.Targets.{Fits, Exceeds}
-use Rattle.dns_code.specs.declared.header.Header.{Header}
+use Rattle.dns_code.specs.Header.{HeaderFields, fields}
 use Rattle.dns_build.specs.Opt.{opt_record, with_rcode}
-use Rattle.dns_build.specs.State.{State, InAdditional, with_record, with_header, most_entries}
-use Rattle.dns_build.specs.BuilderStates.{size_after, Represents}
-use Rattle.dns_build.proofs.OptLemmas.{same_item, refused_returns, closure_refused, closure_done}
+use Rattle.dns_build.specs.State.{State, InAdditional, with_record, with_header}
+use Rattle.dns_build.specs.BuilderStates.{PushReturns, size_after, Represents}
+use Rattle.dns_build.proofs.OptLemmas.{same_item, closure_refused, closure_done}
 use Rattle.dns_build.proofs.opt.Builder+T+AtAdditional.opt.Goals as goal
 
 pub returns-in_err-gather-clause-pushes : goal.returns-in_err-gather-clause-pushes
@@ -49,11 +48,7 @@ returns-in_err-push-clause-pushes g c = λ s represents.
         called = record { shown = _; shows = refl; left = _; met = c.gather.ensures; leaves = refl };
         left = refl;
       };
-      answers = closure_done _ _ _ _ _ _ _ c.in_ok-gather.was (refused_returns _ _ _ _ _ e
-          (λ is. subst (λ x. Exceeds g.T.Composer.capacity (size x)) same (h.short (ap Err is) s represents))
-          (λ is. h.memory (ap Err is))
-          (λ is. subst (λ x. Fits g.T.Composer.capacity (size x) × (s.limit < size x)) same (h.limit (ap Err is) s represents))
-          (λ is. subst (λ x. Fits g.T.Composer.capacity (size x) × (size x ≤ s.limit) × (length s.additionals ≡ most_entries)) same (h.count (ap Err is) s represents)));
+      answers = closure_done _ _ _ _ _ _ _ c.in_ok-gather.was (subst (λ x. PushReturns g.T.Composer.capacity g.T.Composer.grows s.limit (size x) (length s.additionals) (Err e)) same (h.outcome.each s represents));
       is_gathered = tt;
       accepted = tt;
     })
@@ -66,7 +61,7 @@ returns-clause-pushes g c = λ s represents.
     let pushed : State = with_record InAdditional (opt_record (gathered c.gather.new.arg2)) s in
     let there = subst (λ x. Represents InAdditional g.T.Composer.rule (with_record InAdditional x s) c.push.new.self) same (c.in_ok-push.ensures.accepted s represents) in
     let rcode : c.rcode.result ≡ (gathered c.gather.new.arg2).header.rcode = c.rcode.ensures ∙ ap (λ f. f.rcode) c.header-3.ensures in
-    let header : c.with_rcode.result ≡ with_rcode (gathered c.gather.new.arg2).header.rcode s.header = c.with_rcode.ensures ∙ (λ i. with_rcode (rcode i) (c.header-2.ensures pushed there i)) in
+    let header : fields c.with_rcode.result ≡ with_rcode (gathered c.gather.new.arg2).header.rcode s.header = c.with_rcode.ensures ∙ (λ i. with_rcode (rcode i) (c.header-2.ensures pushed there i)) in
     record {
       g = gathered c.gather.new.arg2;
       outcome = _;
@@ -78,7 +73,7 @@ returns-clause-pushes g c = λ s represents.
         left = refl;
       };
       answers = closure_done _ _ _ _ _ _ _ c.in_ok-gather.was
-          (subst (λ x. Fits g.T.Composer.capacity (size x) × (size x ≤ s.limit) × (length s.additionals < most_entries)) same (c.in_ok-push.ensures.capacity s represents));
+          (subst (λ x. PushReturns g.T.Composer.capacity g.T.Composer.grows s.limit (size x) (length s.additionals) (Ok tt)) same (c.in_ok-push.ensures.outcome.each s represents));
       is_gathered = made.is_gathered;
-      accepted = subst (λ (header : Header). Represents InAdditional g.T.Composer.rule (with_header header pushed) c.set_header.new.self) header (c.set_header.ensures pushed there);
+      accepted = subst (λ (header : HeaderFields). Represents InAdditional g.T.Composer.rule (with_header header pushed) c.set_header.new.self) header (c.set_header.ensures pushed there);
     }
