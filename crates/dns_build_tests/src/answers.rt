@@ -1,6 +1,6 @@
 //! Answers that are started from a message: the header, the questions that can be read, and a
 //! question that is refused.
-use crate::rows::{assert_holds, assert_octets};
+use crate::asserts::{assert_holds, assert_octets};
 use arrayvec::ArrayVec;
 use dns_build::{AnswerBuilder, MessageBuilder, PushError};
 use dns_code::Rcode;
@@ -38,25 +38,23 @@ fn assert_builder<T: Composer>(
 
 /// A builder over an empty target.
 fn over<T: Composer>(rt: &impl Abort, target: T) -> MessageBuilder<T> {
-    MessageBuilder::from_target(target).expect(rt, "room for the header")
+    MessageBuilder::from_target(target).expect(rt, "a capacity for the header")
 }
-
-const READ: &str = "Start an answer";
 
 /// Checks that `start_answer` and `start_error` push the readable questions.
 fn assert_answers<T: Composer>(rt: &impl Abort, first: T, second: T) {
-    let message = Message::from_slice(&UNREADABLE).expect(rt, READ);
+    let message = Message::from_slice(&UNREADABLE).expect(rt, "a message");
     let given = over(rt, first).start_answer(&message, Rcode::REFUSED);
-    assert_builder(rt, READ, given.ok(), &REFUSED);
+    assert_builder(rt, "start_answer", given.ok(), &REFUSED);
     let given = over(rt, second).start_error(&message, Rcode::REFUSED);
-    assert_builder(rt, READ, Some(given), &REFUSED);
+    assert_builder(rt, "start_error", Some(given), &REFUSED);
 }
 
 /// Checks that `try_start_answer` pushes the readable questions.
 fn assert_tries<T: Composer>(rt: &impl Abort, target: T) {
-    let message = Message::from_slice(&UNREADABLE).expect(rt, READ);
+    let message = Message::from_slice(&UNREADABLE).expect(rt, "a message");
     let given = over(rt, target).try_start_answer(&message, Rcode::REFUSED);
-    assert_builder(rt, READ, given.ok(), &REFUSED);
+    assert_builder(rt, "try_start_answer", given.ok(), &REFUSED);
 }
 
 #[test]
@@ -66,27 +64,22 @@ fn answers_the_readable_questions(rt: HostRuntime) {
     assert_tries(&rt, Vec::new(alloc));
 }
 
-const NO_CAPACITY: &str = "Start an answer without room";
-
 /// Checks `try_start_answer` and `start_answer` on targets that have the capacity for one question
 /// of `READABLE`, but not for two.
 fn assert_refuses<T: Composer>(rt: &impl Abort, first: T, second: T) {
-    let message = Message::from_slice(&READABLE).expect(rt, NO_CAPACITY);
+    let message = Message::from_slice(&READABLE).expect(rt, "a message");
     let given = over(rt, first).try_start_answer(&message, Rcode::NOERROR);
-    assert_builder(rt, NO_CAPACITY, given.err(), &SERVFAIL);
+    assert_builder(rt, "try_start_answer", given.err(), &SERVFAIL);
     let given = over(rt, second).start_answer(&message, Rcode::NOERROR);
-    assert_holds(
-        rt,
-        NO_CAPACITY,
-        matches!(given.err(), Some(PushError::ShortBuf)),
-    );
+    let is_refused = matches!(given.err(), Some(PushError::ShortBuf));
+    assert_holds(rt, "start_answer", is_refused);
 }
 
 /// Checks `start_error` on such a target.
 fn assert_reports<T: Composer>(rt: &impl Abort, target: T) {
-    let message = Message::from_slice(&READABLE).expect(rt, NO_CAPACITY);
+    let message = Message::from_slice(&READABLE).expect(rt, "a message");
     let given = over(rt, target).start_error(&message, Rcode::NOERROR);
-    assert_builder(rt, NO_CAPACITY, Some(given), &SERVFAIL);
+    assert_builder(rt, "start_error", Some(given), &SERVFAIL);
 }
 
 #[test]

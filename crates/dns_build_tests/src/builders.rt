@@ -1,8 +1,7 @@
 //! Builders over targets that don't compress: limits and counts, moves, conversions and clones.
-use crate::rows::Answer::{CountOverflow, Done, LimitExceeded, ShortBuf};
-use crate::rows::{
-    Ask, Call, EMPTY, LETTER_A, ROOT, Row, assert_holds, assert_octets, name, push_question, run,
-};
+use crate::asserts::{LETTER_A, ROOT, assert_holds, assert_octets, name_of};
+use crate::steps::Answer::{CountOverflow, Done, LimitExceeded, ShortBuf};
+use crate::steps::{Ask, Call, Case, EMPTY, push_question, run};
 use arrayvec::ArrayVec;
 use dns_build::{
     AdditionalBuilder, AnswerBuilder, AuthorityBuilder, Builder, BuilderStage, MessageBuilder,
@@ -20,20 +19,20 @@ use std::convert::AsSlice;
 use std::process::Abort;
 
 /// Fails unless the section has no record.
-fn assert_no_record(rt: &impl Abort, section: Result<RecordSection<'_>, ParseError>) {
-    let mut records = section.expect(rt, "Empty message");
-    assert_holds(rt, "Empty message", records.next().is_none());
+fn assert_no_record(rt: &impl Abort, row: &str, section: Result<RecordSection<'_>, ParseError>) {
+    let mut records = section.expect(rt, row);
+    assert_holds(rt, row, records.next().is_none());
 }
 
 #[test]
 fn builds_an_empty_message(rt: HostRuntime) {
     let builder = MessageBuilder::new_vec(rt.alloc()).expect(&rt, "memory");
     let message = builder.into_message();
-    assert_octets(&rt, "Empty message", message.as_slice(), &[0; 12]);
-    assert_holds(&rt, "Empty message", message.question().next().is_none());
-    assert_no_record(&rt, message.answer());
-    assert_no_record(&rt, message.authority());
-    assert_no_record(&rt, message.additional());
+    assert_octets(&rt, "the octets", message.as_slice(), &[0; 12]);
+    assert_holds(&rt, "no question", message.question().next().is_none());
+    assert_no_record(&rt, "no answer", message.answer());
+    assert_no_record(&rt, "no authority record", message.authority());
+    assert_no_record(&rt, "no additional record", message.additional());
 }
 
 /// Pushes a question for the root.
@@ -41,9 +40,9 @@ const PUSH: Ask = Ask::Question(ROOT);
 
 /// Limits, which are inclusive, and the most questions of a section. The limit is checked before
 /// the count.
-static QUESTIONS: [Row; 3] = [
-    Row {
-        name: "Limit is inclusive",
+static QUESTIONS: [Case; 3] = [
+    Case {
+        name: "a limit is inclusive",
         questions: &[
             (Ask::Limit(16), Done, 12, b""),
             (PUSH, LimitExceeded, 12, b""),
@@ -53,8 +52,8 @@ static QUESTIONS: [Row; 3] = [
         start: b"\x00\x00\x00\x00\x00\x01\x00\x00\x00\x00\x00\x00",
         ..EMPTY
     },
-    Row {
-        name: "Limit is inclusive, on a fresh builder",
+    Case {
+        name: "a limit is inclusive, before any push",
         questions: &[
             (Ask::Limit(18), Done, 12, b""),
             (PUSH, Done, 17, b""),
@@ -66,8 +65,8 @@ static QUESTIONS: [Row; 3] = [
         start: b"\x00\x00\x00\x00\x00\x01\x00\x00\x00\x00\x00\x00",
         ..EMPTY
     },
-    Row {
-        name: "Full question section; Limit before count",
+    Case {
+        name: "a full question section, with and without a limit",
         questions: &[
             (Ask::Roots(65_535), Done, 327_687, b""),
             (PUSH, CountOverflow, 327_687, b""),
@@ -85,14 +84,14 @@ static QUESTIONS: [Row; 3] = [
 
 #[test]
 fn refuses_questions(rt: HostRuntime) {
-    for row in &QUESTIONS {
-        run(&rt, rt.alloc(), Vec::new(rt.alloc()), row);
+    for case in &QUESTIONS {
+        run(&rt, rt.alloc(), case.name, Vec::new(rt.alloc()), case);
     }
 }
 
 /// A limit below the length of the content, and a full target of 100 octets.
-static ANSWERS: Row = Row {
-    name: "Limit below the content",
+static ANSWERS: Case = Case {
+    name: "a limit below the content",
     answers: &[
         (Call::Opaque(ROOT, 39), Done, 62, b""),
         (Call::Limit(25), Done, 62, b""),
@@ -107,13 +106,14 @@ static ANSWERS: Row = Row {
 
 #[test]
 fn refuses_answers(rt: HostRuntime) {
-    run(&rt, rt.alloc(), ArrayVec::<u8, 100>::new(), &ANSWERS);
+    let target = ArrayVec::<u8, 100>::new();
+    run(&rt, rt.alloc(), ANSWERS.name, target, &ANSWERS);
 }
 
 /// Opaque data of 16 octets, the most that is appended together with the fields, and of 17. They
 /// fill the target.
-static DATA: Row = Row {
-    name: "Opaque data of 16 and of 17 octets",
+static DATA: Case = Case {
+    name: "opaque data of 16 and of 17 octets",
     answers: &[
         (
             Call::Opaque(ROOT, 16),
@@ -134,7 +134,8 @@ static DATA: Row = Row {
 
 #[test]
 fn appends_short_data(rt: HostRuntime) {
-    run(&rt, rt.alloc(), ArrayVec::<u8, 67>::new(), &DATA);
+    let target = ArrayVec::<u8, 67>::new();
+    run(&rt, rt.alloc(), DATA.name, target, &DATA);
 }
 
 /// A message with the ID 1 and two addresses of the root.
@@ -216,12 +217,17 @@ fn converted(builder: AnswerBuilder<Vec<u8>>) -> AnswerBuilder<Vec<u8>> {
 #[test]
 fn converts_between_sections(rt: HostRuntime) {
     let builder = converted(answered(&rt, rt.alloc()));
-    assert_octets(&rt, "From", builder.as_slice(), &ANSWERED);
+    assert_octets(
+        &rt,
+        "through record sections",
+        builder.as_slice(),
+        &ANSWERED,
+    );
     let builder = AnswerBuilder::from(QuestionBuilder::from(builder));
     let builder = QuestionBuilder::from(MessageBuilder::from(builder));
     let builder = AuthorityBuilder::from(MessageBuilder::from(builder));
     let header = b"\x00\x01\x00\x00\x00\x00\x00\x00\x00\x00\x00\x00";
-    assert_octets(&rt, "From", builder.as_slice(), header);
+    assert_octets(&rt, "back to the start", builder.as_slice(), header);
 }
 
 /// A message with the question a. A.
@@ -238,82 +244,90 @@ static COMPRESSED: [u8; 25] =
 
 /// Pushes the question a. A.
 fn push_first<T: Composer>(rt: &impl Abort, builder: &mut QuestionBuilder<T>) {
-    push_question(builder, name(rt, LETTER_A), Rtype::A).expect(rt, "Clones");
+    push_question(builder, name_of(rt, LETTER_A), Rtype::A).expect(rt, "a question");
 }
 
 /// Checks that a clone of the builder has these octets and the limit of 500. Returns the builder.
 fn cloned<T: CloneTarget, S: BuilderStage>(
     rt: &impl Abort,
+    row: &str,
     builder: Builder<T, S>,
     octets: &[u8],
 ) -> Builder<T, S> {
-    let clone = builder.clone().expect(rt, "memory");
-    assert_octets(rt, "Clones", clone.as_slice(), octets);
-    assert_holds(rt, "Clones", clone.push_limit() == Some(500));
+    let clone = builder.clone().expect(rt, row);
+    assert_octets(rt, row, clone.as_slice(), octets);
+    assert_holds(rt, row, clone.push_limit() == Some(500));
     builder
 }
 
 /// Clones a builder with a limit of 500 at each section, and at the start again.
-fn assert_each_stage<T: CloneTarget>(rt: &impl Abort, builder: QuestionBuilder<T>) {
-    let builder = cloned(rt, builder, &FIRST).answer();
-    let builder = cloned(rt, builder, &FIRST).authority();
-    let builder = cloned(rt, builder, &FIRST).additional();
-    let builder = cloned(rt, builder, &FIRST).builder();
-    cloned(rt, builder, &[0; 12]);
+fn assert_each_stage<T: CloneTarget>(rt: &impl Abort, row: &str, builder: QuestionBuilder<T>) {
+    let builder = cloned(rt, row, builder, &FIRST).answer();
+    let builder = cloned(rt, row, builder, &FIRST).authority();
+    let builder = cloned(rt, row, builder, &FIRST).additional();
+    let builder = cloned(rt, row, builder, &FIRST).builder();
+    cloned(rt, row, builder, &[0; 12]);
 }
 
 /// Clones a builder with the question a. A, and pushes the same question onto the clone, which has
 /// these octets then.
-fn assert_clones<T: CloneTarget>(rt: &impl Abort, target: T, octets: &[u8]) {
+fn assert_clones<T: CloneTarget>(rt: &impl Abort, row: &str, target: T, octets: &[u8]) {
     let mut builder = MessageBuilder::from_target(target)
-        .expect(rt, "room")
+        .expect(rt, row)
         .question();
     push_first(rt, &mut builder);
     builder.set_push_limit(500);
-    let mut clone = builder.clone().expect(rt, "memory");
+    let mut clone = builder.clone().expect(rt, row);
     push_first(rt, &mut clone);
-    assert_octets(rt, "Clones", clone.as_slice(), octets);
-    assert_octets(rt, "Clones", builder.as_slice(), &FIRST);
-    assert_each_stage(rt, builder);
+    assert_octets(rt, row, clone.as_slice(), octets);
+    assert_octets(rt, row, builder.as_slice(), &FIRST);
+    assert_each_stage(rt, row, builder);
 }
 
 #[test]
 fn clones_over_plain_targets(rt: HostRuntime) {
     let alloc = rt.alloc();
-    assert_clones(&rt, Vec::new(alloc), &TWICE);
-    assert_clones(&rt, ArrayVec::<u8, 26>::new(), &TWICE);
-    assert_clones(
-        &rt,
-        StreamTarget::new_vec(alloc).expect(&rt, "memory"),
-        &TWICE,
-    );
+    assert_clones(&rt, "a vector", Vec::new(alloc), &TWICE);
+    let array = ArrayVec::<u8, 26>::new();
+    assert_clones(&rt, "an array vector", array, &TWICE);
+    let stream = StreamTarget::new_vec(alloc).expect(&rt, "memory");
+    assert_clones(&rt, "a stream target over a vector", stream, &TWICE);
     let array = ArrayVec::<u8, 28>::new();
-    assert_clones(&rt, StreamTarget::new(array).expect(&rt, "room"), &TWICE);
+    let stream = StreamTarget::new(array).expect(&rt, "a capacity for the length");
+    assert_clones(&rt, "a stream target over an array vector", stream, &TWICE);
 }
 
 #[test]
 fn clones_over_compressors(rt: HostRuntime) {
     let alloc = rt.alloc();
-    assert_clones(&rt, StaticCompressor::new(Vec::new(alloc)), &COMPRESSED);
-    assert_clones(
-        &rt,
-        TreeCompressor::new(alloc, Vec::new(alloc)),
-        &COMPRESSED,
-    );
-    assert_clones(
-        &rt,
-        HashCompressor::new(alloc, Vec::new(alloc)),
-        &COMPRESSED,
-    );
-    assert_clones(
-        &rt,
-        FingerprintCompressor::new(alloc, Vec::new(alloc)),
-        &COMPRESSED,
-    );
+    let target = StaticCompressor::new(Vec::new(alloc));
+    assert_clones(&rt, "a static compressor", target, &COMPRESSED);
+    let target = TreeCompressor::new(alloc, Vec::new(alloc));
+    assert_clones(&rt, "a tree compressor", target, &COMPRESSED);
+    let target = HashCompressor::new(alloc, Vec::new(alloc));
+    assert_clones(&rt, "a hash compressor", target, &COMPRESSED);
+    let target = FingerprintCompressor::new(alloc, Vec::new(alloc));
+    assert_clones(&rt, "a fingerprint compressor", target, &COMPRESSED);
+}
+
+#[test]
+fn clones_over_compressors_over_other_targets(rt: HostRuntime) {
+    let alloc = rt.alloc();
     let stream = StreamTarget::new_vec(alloc).expect(&rt, "memory");
-    assert_clones(&rt, StaticCompressor::new(stream), &COMPRESSED);
-    let array = ArrayVec::<u8, 25>::new();
-    assert_clones(&rt, TreeCompressor::new(alloc, array), &COMPRESSED);
+    let target = StaticCompressor::new(stream);
+    assert_clones(
+        &rt,
+        "a static compressor over a stream",
+        target,
+        &COMPRESSED,
+    );
+    let target = TreeCompressor::new(alloc, ArrayVec::<u8, 25>::new());
+    assert_clones(
+        &rt,
+        "a tree compressor over an array vector",
+        target,
+        &COMPRESSED,
+    );
 }
 
 #[test]
@@ -323,6 +337,6 @@ fn clones_a_message(rt: HostRuntime) {
     push_first(&rt, &mut builder);
     let message = builder.into_message();
     let clone = message.clone().expect(&rt, "memory");
-    assert_octets(&rt, "Clones", message.as_slice(), &FIRST);
-    assert_octets(&rt, "Clones", clone.as_slice(), &FIRST);
+    assert_octets(&rt, "the message", message.as_slice(), &FIRST);
+    assert_octets(&rt, "its clone", clone.as_slice(), &FIRST);
 }

@@ -1,10 +1,8 @@
-//! Rows over compressors: which name becomes a pointer, what a rewind or a refused push removes
+//! Messages over compressors: which name becomes a pointer, what a rewind or a refused push removes
 //! from the compression table, and capacities that are exceeded.
-use crate::rows::Answer::{Done, ShortBuf};
-use crate::rows::{
-    ADDRESS, Ask, Call, EMPTY, EXAMPLE_COM, LETTER_A, ROOT, Row, assert_holds, assert_octets,
-    push_question, run,
-};
+use crate::asserts::{EXAMPLE_COM, LETTER_A, ROOT, assert_holds, assert_octets};
+use crate::steps::Answer::{Done, ShortBuf};
+use crate::steps::{ADDRESS, Ask, Call, Case, EMPTY, push_question, run};
 use arrayvec::ArrayVec;
 use dns_build::{MessageBuilder, QuestionBuilder};
 use dns_code::Rtype;
@@ -22,38 +20,71 @@ enum Target {
     Static,
     Tree,
     Hash,
-    Index,
+    Fingerprint,
 }
 
-const ANY: &[Target] = &[Target::Static, Target::Tree, Target::Hash, Target::Index];
+const ANY: &[Target] = &[
+    Target::Static,
+    Target::Tree,
+    Target::Hash,
+    Target::Fingerprint,
+];
 
 /// The compressors whose table has an entry for each suffix below the bound.
-const BY_SUFFIX: &[Target] = &[Target::Static, Target::Tree, Target::Index];
+const BY_SUFFIX: &[Target] = &[Target::Static, Target::Tree, Target::Fingerprint];
 
-/// Makes the calls of a row on an empty target.
-fn run_over(rt: &impl Abort, alloc: Global, target: Target, row: &Row) {
-    let vector = Vec::new(alloc);
-    match target {
-        Target::Plain => run(rt, alloc, vector, row),
-        Target::Static => run(rt, alloc, StaticCompressor::new(vector), row),
-        Target::Tree => run(rt, alloc, TreeCompressor::new(alloc, vector), row),
-        Target::Hash => run(rt, alloc, HashCompressor::new(alloc, vector), row),
-        Target::Index => run(rt, alloc, FingerprintCompressor::new(alloc, vector), row),
-    }
-}
-
-/// Makes the calls of each row on each of its targets.
-fn run_rows(rt: &impl Abort, alloc: Global, rows: &[(&[Target], Row)]) {
-    for (targets, row) in rows {
-        for target in *targets {
-            run_over(rt, alloc, *target, row);
+impl Target {
+    /// What the target is called.
+    fn name(self) -> &'static str {
+        match self {
+            Target::Plain => "a vector",
+            Target::Static => "a static compressor",
+            Target::Tree => "a tree compressor",
+            Target::Hash => "a hash compressor",
+            Target::Fingerprint => "a fingerprint compressor",
         }
     }
 }
 
+/// Makes the calls of a case on an empty target.
+fn run_over(rt: &impl Abort, alloc: Global, row: &str, target: Target, case: &Case) {
+    let vector = Vec::new(alloc);
+    match target {
+        Target::Plain => run(rt, alloc, row, vector, case),
+        Target::Static => run(rt, alloc, row, StaticCompressor::new(vector), case),
+        Target::Tree => run(rt, alloc, row, TreeCompressor::new(alloc, vector), case),
+        Target::Hash => run(rt, alloc, row, HashCompressor::new(alloc, vector), case),
+        Target::Fingerprint => {
+            run(
+                rt,
+                alloc,
+                row,
+                FingerprintCompressor::new(alloc, vector),
+                case,
+            );
+        }
+    }
+}
+
+/// Makes the calls of a case on each of its targets.
+fn run_each(rt: &impl Abort, alloc: Global, targets: &[Target], case: &Case) {
+    for target in targets {
+        let name = target.name();
+        let row = format!(in alloc; "{}, over {name}", case.name).expect(rt, case.name);
+        run_over(rt, alloc, &row, *target, case);
+    }
+}
+
+/// Makes the calls of each case on each of its targets.
+fn run_cases(rt: &impl Abort, alloc: Global, cases: &[(&[Target], Case)]) {
+    for (targets, case) in cases {
+        run_each(rt, alloc, targets, case);
+    }
+}
+
 /// A message with a question and an answer, both for example.com.
-const POSITIVE_RESPONSE: Row = Row {
-    name: "Positive response",
+const POSITIVE_RESPONSE: Case = Case {
+    name: "a positive response",
     questions: &[
         (Ask::Header([0, 0, 0x81, 0xA0]), Done, 12, b""),
         (Ask::Question(EXAMPLE_COM), Done, 29, EXAMPLE_COM),
@@ -64,8 +95,8 @@ const POSITIVE_RESPONSE: Row = Row {
 };
 
 /// The response that a name doesn't exist, with the SOA record of the zone above it.
-const NEGATIVE_RESPONSE: Row = Row {
-    name: "Negative response",
+const NEGATIVE_RESPONSE: Case = Case {
+    name: "a negative response",
     questions: &[
         (Ask::Header([0, 0, 0x81, 0x83]), Done, 12, b""),
         (Ask::Servers(b"\x07example\x00"), Done, 25, b""),
@@ -75,23 +106,18 @@ const NEGATIVE_RESPONSE: Row = Row {
     ..EMPTY
 };
 
-static RESPONSES: [(&[Target], Row); 2] = [(ANY, POSITIVE_RESPONSE), (ANY, NEGATIVE_RESPONSE)];
+static RESPONSES: [(&[Target], Case); 2] = [(ANY, POSITIVE_RESPONSE), (ANY, NEGATIVE_RESPONSE)];
 
 #[test]
 fn compresses_responses(rt: HostRuntime) {
-    run_rows(&rt, rt.alloc(), &RESPONSES);
+    run_cases(&rt, rt.alloc(), &RESPONSES);
 }
 
-/// Makes the calls of "Positive response" twice on one target.
+/// Makes the calls of a positive response twice on one target.
 fn assert_kept<T: Composer>(rt: &impl Abort, alloc: Global, mut target: T) {
-    for _ in 0..2 {
-        run(rt, alloc, &mut target, &CAPACITY_FOR_ALL);
-        assert_octets(
-            rt,
-            "a target that is kept",
-            target.as_slice(),
-            CAPACITY_FOR_ALL.start,
-        );
+    for row in ["the first time", "the second time"] {
+        run(rt, alloc, row, &mut target, &CAPACITY_FOR_ALL);
+        assert_octets(rt, row, target.as_slice(), CAPACITY_FOR_ALL.start);
     }
 }
 
@@ -102,11 +128,11 @@ fn writes_twice_to_a_target_that_is_kept(rt: HostRuntime) {
 }
 
 /// A suffix is found only in its own letter case, and a name in RDATA is compressed too.
-static NAMES: [(&[Target], Row); 3] = [
+static NAMES: [(&[Target], Case); 3] = [
     (
         ANY,
-        Row {
-            name: "Letter case is kept",
+        Case {
+            name: "names in different letter case",
             questions: &[(Ask::Question(b"\x07Example\x03COM\x00"), Done, 29, b"")],
             answers: &[(Call::Address(EXAMPLE_COM, ADDRESS), Done, 56, EXAMPLE_COM)],
             start: b"\x00\x00\x00\x00\x00\x01\x00\x01\x00\x00\x00\x00\x07Example\x03COM\x00",
@@ -115,8 +141,8 @@ static NAMES: [(&[Target], Row); 3] = [
     ),
     (
         ANY,
-        Row {
-            name: "Letter case of one label",
+        Case {
+            name: "a label in different letter case",
             questions: &[(Ask::Question(b"\x07Example\x03com\x00"), Done, 29, b"")],
             answers: &[(
                 Call::Address(EXAMPLE_COM, ADDRESS),
@@ -130,8 +156,8 @@ static NAMES: [(&[Target], Row); 3] = [
     ),
     (
         ANY,
-        Row {
-            name: "Name in data",
+        Case {
+            name: "a name in RDATA",
             questions: &[(Ask::Servers(EXAMPLE_COM), Done, 29, b"")],
             answers: &[(
                 Call::Server(EXAMPLE_COM, 60, b"\x02ns\x07example\x03com\x00"),
@@ -147,7 +173,7 @@ static NAMES: [(&[Target], Row); 3] = [
 
 #[test]
 fn compresses_names(rt: HostRuntime) {
-    run_rows(&rt, rt.alloc(), &NAMES);
+    run_cases(&rt, rt.alloc(), &NAMES);
 }
 
 const A_B: &[u8] = b"\x01a\x01b\x00";
@@ -163,11 +189,11 @@ const C: &[u8] = b"\x01c\x00";
 const Y: &[u8] = b"\x01y\x00";
 
 /// Suffixes of suffixes, and the 25th suffix, which a static compressor has no entry for.
-static SUFFIXES: [(&[Target], Row); 4] = [
+static SUFFIXES: [(&[Target], Case); 4] = [
     (
         ANY,
-        Row {
-            name: "Suffixes of suffixes",
+        Case {
+            name: "suffixes of suffixes",
             questions: &[
                 (Ask::Question(A_B_C), Done, 23, A_B_C),
                 (Ask::Question(B_C), Done, 29, b"\xC0\x0E"),
@@ -180,8 +206,8 @@ static SUFFIXES: [(&[Target], Row); 4] = [
     ),
     (
         &[Target::Plain],
-        Row {
-            name: "Suffixes of suffixes, over a plain target",
+        Case {
+            name: "suffixes of suffixes, uncompressed",
             questions: &[
                 (Ask::Question(A_B_C), Done, 23, A_B_C),
                 (Ask::Question(B_C), Done, 32, B_C),
@@ -194,8 +220,8 @@ static SUFFIXES: [(&[Target], Row); 4] = [
     ),
     (
         &[Target::Static],
-        Row {
-            name: "The 25th suffix, over a static compressor",
+        Case {
+            name: "the 25th suffix, which has no entry",
             questions: &[
                 (Ask::Letters, Done, 180, b""),
                 (Ask::Question(Y), Done, 187, Y),
@@ -206,9 +232,9 @@ static SUFFIXES: [(&[Target], Row); 4] = [
         },
     ),
     (
-        &[Target::Tree, Target::Hash, Target::Index],
-        Row {
-            name: "The 25th suffix",
+        &[Target::Tree, Target::Hash, Target::Fingerprint],
+        Case {
+            name: "the 25th suffix",
             questions: &[
                 (Ask::Letters, Done, 180, b""),
                 (Ask::Question(Y), Done, 187, Y),
@@ -222,15 +248,15 @@ static SUFFIXES: [(&[Target], Row); 4] = [
 
 #[test]
 fn compresses_suffixes(rt: HostRuntime) {
-    run_rows(&rt, rt.alloc(), &SUFFIXES);
+    run_cases(&rt, rt.alloc(), &SUFFIXES);
 }
 
 /// A suffix at offset 16,384 or above isn't entered in the table.
-static AT_THE_BOUND: [(&[Target], Row); 3] = [
+static AT_THE_BOUND: [(&[Target], Case); 3] = [
     (
         ANY,
-        Row {
-            name: "Names past the bound",
+        Case {
+            name: "names past the bound",
             answers: &[
                 (
                     Call::Opaque(b"\x03pad\x07example\x03com\x00", 16_400),
@@ -247,8 +273,8 @@ static AT_THE_BOUND: [(&[Target], Row); 3] = [
     ),
     (
         ANY,
-        Row {
-            name: "Last place below the bound",
+        Case {
+            name: "the last offset below the bound",
             answers: &[
                 (Call::Opaque(ROOT, 16_360), Done, 16_383, b""),
                 (Call::Address(LETTER_A, ADDRESS), Done, 16_400, LETTER_A),
@@ -260,8 +286,8 @@ static AT_THE_BOUND: [(&[Target], Row); 3] = [
     ),
     (
         ANY,
-        Row {
-            name: "First place at the bound",
+        Case {
+            name: "the first offset at the bound",
             answers: &[
                 (Call::Opaque(ROOT, 16_361), Done, 16_384, b""),
                 (Call::Address(LETTER_A, ADDRESS), Done, 16_401, LETTER_A),
@@ -275,16 +301,16 @@ static AT_THE_BOUND: [(&[Target], Row); 3] = [
 
 #[test]
 fn enters_offsets_below_the_bound(rt: HostRuntime) {
-    run_rows(&rt, rt.alloc(), &AT_THE_BOUND);
+    run_cases(&rt, rt.alloc(), &AT_THE_BOUND);
 }
 
 /// Names across the bound: one that is pushed twice, and one with a suffix of the table after
 /// labels past the bound.
-static ACROSS_THE_BOUND: [(&[Target], Row); 4] = [
+static ACROSS_THE_BOUND: [(&[Target], Case); 4] = [
     (
         BY_SUFFIX,
-        Row {
-            name: "Second label past the bound",
+        Case {
+            name: "the second label past the bound",
             answers: &[
                 (Call::Opaque(ROOT, 16_359), Done, 16_382, b""),
                 (Call::Address(A_B, [1, 2, 3, 4]), Done, 16_401, A_B),
@@ -296,8 +322,8 @@ static ACROSS_THE_BOUND: [(&[Target], Row); 4] = [
     ),
     (
         &[Target::Hash],
-        Row {
-            name: "Second label past the bound, over a hash compressor",
+        Case {
+            name: "the second label past the bound, without an entry",
             answers: &[
                 (Call::Opaque(ROOT, 16_359), Done, 16_382, b""),
                 (Call::Address(A_B, [1, 2, 3, 4]), Done, 16_401, A_B),
@@ -309,8 +335,8 @@ static ACROSS_THE_BOUND: [(&[Target], Row); 4] = [
     ),
     (
         BY_SUFFIX,
-        Row {
-            name: "Known suffix past the bound",
+        Case {
+            name: "a suffix of the table past the bound",
             questions: &[(Ask::Question(C), Done, 19, b"")],
             answers: &[
                 (Call::Opaque(ROOT, 16_354), Done, 16_384, b""),
@@ -322,8 +348,8 @@ static ACROSS_THE_BOUND: [(&[Target], Row); 4] = [
     ),
     (
         &[Target::Hash],
-        Row {
-            name: "Known suffix past the bound, over a hash compressor",
+        Case {
+            name: "a suffix of the table past the bound, compressed",
             questions: &[(Ask::Question(C), Done, 19, b"")],
             answers: &[
                 (Call::Opaque(ROOT, 16_354), Done, 16_384, b""),
@@ -342,17 +368,17 @@ static ACROSS_THE_BOUND: [(&[Target], Row); 4] = [
 
 #[test]
 fn writes_names_across_the_bound(rt: HostRuntime) {
-    run_rows(&rt, rt.alloc(), &ACROSS_THE_BOUND);
+    run_cases(&rt, rt.alloc(), &ACROSS_THE_BOUND);
 }
 
 const WWW: &[u8] = b"\x03www\x07example\x03com\x00";
 
 /// Names that a rewind removes, also across the bound.
-static FORGOTTEN: [(&[Target], Row); 2] = [
+static FORGOTTEN: [(&[Target], Case); 2] = [
     (
         ANY,
-        Row {
-            name: "Rewind forgets",
+        Case {
+            name: "a rewind removes entries",
             answers: &[
                 (Call::Address(EXAMPLE_COM, ADDRESS), Done, 39, EXAMPLE_COM),
                 (Call::Rewind, Done, 12, b""),
@@ -365,8 +391,8 @@ static FORGOTTEN: [(&[Target], Row); 2] = [
     ),
     (
         ANY,
-        Row {
-            name: "Rewind across the bound",
+        Case {
+            name: "a rewind across the bound",
             answers: &[(Call::Opaque(ROOT, 16_359), Done, 16_382, b"")],
             authorities: &[
                 (Call::Address(A_B, ADDRESS), Done, 16_401, A_B),
@@ -382,11 +408,11 @@ static FORGOTTEN: [(&[Target], Row); 2] = [
 
 #[test]
 fn forgets_names(rt: HostRuntime) {
-    run_rows(&rt, rt.alloc(), &FORGOTTEN);
+    run_cases(&rt, rt.alloc(), &FORGOTTEN);
 }
 
-static REFUSED_RECORD: Row = Row {
-    name: "A refused record forgets only itself",
+static REFUSED_RECORD: Case = Case {
+    name: "a refused record removes only its entries",
     questions: &[(Ask::Question(EXAMPLE_COM), Done, 29, b"")],
     answers: &[
         (Call::Opaque(WWW, 30), ShortBuf, 29, b""),
@@ -400,48 +426,36 @@ static REFUSED_RECORD: Row = Row {
 #[test]
 fn forgets_a_refused_record(rt: HostRuntime) {
     let alloc = rt.alloc();
-    let capacity = ArrayVec::<u8, 60>::new;
-    run(
-        &rt,
-        alloc,
-        StaticCompressor::new(capacity()),
-        &REFUSED_RECORD,
-    );
-    run(
-        &rt,
-        alloc,
-        TreeCompressor::new(alloc, capacity()),
-        &REFUSED_RECORD,
-    );
-    run(
-        &rt,
-        alloc,
-        HashCompressor::new(alloc, capacity()),
-        &REFUSED_RECORD,
-    );
+    let case = &REFUSED_RECORD;
+    let target = StaticCompressor::new(ArrayVec::<u8, 60>::new());
+    run(&rt, alloc, "a static compressor", target, case);
+    let target = TreeCompressor::new(alloc, ArrayVec::<u8, 60>::new());
+    run(&rt, alloc, "a tree compressor", target, case);
+    let target = HashCompressor::new(alloc, ArrayVec::<u8, 60>::new());
+    run(&rt, alloc, "a hash compressor", target, case);
 }
 
-/// The pushes of "Positive response" if the question doesn't fit.
-static NO_QUESTION: Row = Row {
-    name: "No room for the question",
+/// The pushes of a positive response if the question doesn't fit.
+static NO_QUESTION: Case = Case {
+    name: "no capacity for the question",
     questions: &[(Ask::Question(EXAMPLE_COM), ShortBuf, 12, b"")],
     answers: &[(Call::Address(EXAMPLE_COM, ADDRESS), ShortBuf, 12, b"")],
     start: &[0; 12],
     ..EMPTY
 };
 
-/// The pushes of "Positive response" if the answer doesn't fit.
-static NO_ANSWER: Row = Row {
-    name: "No room for the answer",
+/// The pushes of a positive response if the answer doesn't fit.
+static NO_ANSWER: Case = Case {
+    name: "no capacity for the answer",
     questions: &[(Ask::Question(EXAMPLE_COM), Done, 29, b"")],
     answers: &[(Call::Address(EXAMPLE_COM, ADDRESS), ShortBuf, 29, b"")],
     start: b"\x00\x00\x00\x00\x00\x01\x00\x00\x00\x00\x00\x00",
     ..EMPTY
 };
 
-/// The pushes of "Positive response" if all fit.
-static CAPACITY_FOR_ALL: Row = Row {
-    name: "Room for all",
+/// The pushes of a positive response if all fit.
+static CAPACITY_FOR_ALL: Case = Case {
+    name: "a capacity for all",
     ..POSITIVE_RESPONSE
 };
 
@@ -453,11 +467,17 @@ fn over_array<const N: usize>() -> StaticCompressor<ArrayVec<u8, N>> {
 #[test]
 fn refuses_what_exceeds_the_capacity(rt: HostRuntime) {
     let alloc = rt.alloc();
-    run(&rt, alloc, over_array::<12>(), &NO_QUESTION);
-    run(&rt, alloc, over_array::<28>(), &NO_QUESTION);
-    run(&rt, alloc, over_array::<29>(), &NO_ANSWER);
-    run(&rt, alloc, over_array::<44>(), &NO_ANSWER);
-    run(&rt, alloc, over_array::<45>(), &CAPACITY_FOR_ALL);
+    run(&rt, alloc, "12 octets", over_array::<12>(), &NO_QUESTION);
+    run(&rt, alloc, "28 octets", over_array::<28>(), &NO_QUESTION);
+    run(&rt, alloc, "29 octets", over_array::<29>(), &NO_ANSWER);
+    run(&rt, alloc, "44 octets", over_array::<44>(), &NO_ANSWER);
+    run(
+        &rt,
+        alloc,
+        "45 octets",
+        over_array::<45>(),
+        &CAPACITY_FOR_ALL,
+    );
 }
 
 /// Fails unless the header exceeds the capacity of the target.
@@ -468,31 +488,30 @@ fn assert_no_header<T: Composer>(rt: &impl Abort, row: &str, target: T) {
 
 #[test]
 fn has_no_capacity_for_the_header(rt: HostRuntime) {
-    assert_no_header(&rt, "No room for the header", over_array::<0>());
-    assert_no_header(&rt, "No room for the header", over_array::<11>());
-    let target = StreamTarget::new(ArrayVec::<u8, 13>::new()).expect(&rt, "room");
-    assert_no_header(&rt, "No room for prefix or header", target);
+    assert_no_header(&rt, "no octet", over_array::<0>());
+    assert_no_header(&rt, "eleven octets", over_array::<11>());
+    let target = StreamTarget::new(ArrayVec::<u8, 13>::new());
+    let target = target.expect(&rt, "a capacity for the length");
+    assert_no_header(&rt, "eleven octets after the length", target);
 }
 
 /// Fails unless an empty message over the target is twelve zero octets.
-fn assert_frozen_empty<T: FreezeBuilder>(rt: &impl Abort, target: T) {
+fn assert_frozen_empty<T: FreezeBuilder>(rt: &impl Abort, row: &str, target: T) {
     let message = MessageBuilder::from_target(target)
-        .expect(rt, "room")
+        .expect(rt, row)
         .into_message();
-    assert_octets(
-        rt,
-        "into_message over a compressor",
-        message.as_slice(),
-        &[0; 12],
-    );
+    assert_octets(rt, row, message.as_slice(), &[0; 12]);
 }
 
 #[test]
 fn compressors_give_their_message(rt: HostRuntime) {
     let alloc = rt.alloc();
-    assert_frozen_empty(&rt, StaticCompressor::new(Vec::new(alloc)));
-    assert_frozen_empty(&rt, TreeCompressor::new(alloc, Vec::new(alloc)));
-    assert_frozen_empty(&rt, HashCompressor::new(alloc, Vec::new(alloc)));
+    let target = StaticCompressor::new(Vec::new(alloc));
+    assert_frozen_empty(&rt, "a static compressor", target);
+    let target = TreeCompressor::new(alloc, Vec::new(alloc));
+    assert_frozen_empty(&rt, "a tree compressor", target);
+    let target = HashCompressor::new(alloc, Vec::new(alloc));
+    assert_frozen_empty(&rt, "a hash compressor", target);
 }
 
 /// Pushes the questions for h0.example.com. to h1999.example.com. Returns the octets of the
@@ -517,7 +536,7 @@ fn assert_pushed_again<T: Composer>(rt: &impl Abort, alloc: Global, target: T) {
     let first = push_two_thousand(rt, alloc, &mut builder);
     builder.rewind();
     let second = push_two_thousand(rt, alloc, &mut builder);
-    assert_octets(rt, "Two thousand questions", &second, &first);
+    assert_octets(rt, "the same octets", &second, &first);
 }
 
 #[test]

@@ -1,5 +1,5 @@
 //! Records that are copied from one message into another.
-use crate::rows::{assert_holds, assert_octets};
+use crate::asserts::{assert_holds, assert_octets};
 use dns_build::{
     AdditionalBuilder, AnswerBuilder, CopyRecords, CopyRecordsError, MessageBuilder, PushError,
     copy_records,
@@ -59,9 +59,9 @@ fn answers<T: Composer>(rt: &impl Abort, target: T) -> AnswerBuilder<T> {
 fn assert_copies<T: Composer>(rt: &impl Abort, first: T, second: T) {
     let source = Message::from_slice(&SOURCE).expect(rt, "a message");
     let copied = copy_records(&source, answers(rt, first), keep_cname);
-    assert_copied(rt, "Copy records, keeping CNAME", copied, &ANSWER);
+    assert_copied(rt, "the CNAME records", copied, &ANSWER);
     let copied = copy_records(&source, answers(rt, second), keep_any);
-    assert_copied(rt, "Copy records, keeping both", copied, &SOURCE);
+    assert_copied(rt, "all records", copied, &SOURCE);
 }
 
 #[test]
@@ -85,21 +85,53 @@ fn copies_other_records_in_place_of_those_read(rt: HostRuntime) {
 }
 
 /// Fails unless the error is printed as this text.
-fn assert_text(rt: &impl Abort, alloc: Global, error: CopyRecordsError, text: &str) {
-    let shown = format!(in alloc; "{error}").expect(rt, "memory");
-    assert_holds(rt, text, shown.as_str() == text);
+fn assert_text(rt: &impl Abort, alloc: Global, row: &str, error: CopyRecordsError, text: &str) {
+    let shown = format!(in alloc; "{error}").expect(rt, row);
+    assert_holds(rt, row, shown.as_str() == text);
 }
+
+/// An error of a push, and its text.
+struct Error {
+    name: &'static str,
+    error: PushError,
+    text: &'static str,
+}
+
+const ERRORS: &[Error] = &[
+    Error {
+        name: "the limit",
+        error: PushError::LimitExceeded,
+        text: "limit exceeded",
+    },
+    Error {
+        name: "the count",
+        error: PushError::CountOverflow,
+        text: "counter overflow",
+    },
+    Error {
+        name: "the capacity",
+        error: PushError::ShortBuf,
+        text: "buffer size exceeded",
+    },
+    Error {
+        name: "the memory",
+        error: PushError::OutOfMemory,
+        text: "out of memory",
+    },
+];
 
 #[test]
 fn an_error_has_the_text_of_its_part(rt: HostRuntime) {
     let unread = CopyRecordsError::from(ParseError::ShortInput);
-    assert_text(&rt, rt.alloc(), unread, "unexpected end of input");
-    for (error, text) in [
-        (PushError::LimitExceeded, "limit exceeded"),
-        (PushError::CountOverflow, "counter overflow"),
-        (PushError::ShortBuf, "buffer size exceeded"),
-        (PushError::OutOfMemory, "out of memory"),
-    ] {
-        assert_text(&rt, rt.alloc(), CopyRecordsError::from(error), text);
+    assert_text(
+        &rt,
+        rt.alloc(),
+        "a missing octet",
+        unread,
+        "unexpected end of input",
+    );
+    for case in ERRORS {
+        let error = CopyRecordsError::from(case.error);
+        assert_text(&rt, rt.alloc(), case.name, error, case.text);
     }
 }

@@ -1,11 +1,14 @@
 //! Tests of building messages: items pushed, refused and removed again, over each target. The
 //! expected values come from outside this library.
 //!
-//! Nothing is exported.
+//! Nothing is exported. A module tests what it is named after; `asserts` and `steps` have what many
+//! tests use. The rows of a table have names, which failures print.
 #![tactic(auto)]
 
 #[cfg(test)]
 mod answers;
+#[cfg(test)]
+mod asserts;
 #[cfg(test)]
 mod builders;
 #[cfg(test)]
@@ -13,8 +16,8 @@ mod compressors;
 #[cfg(test)]
 mod copies;
 #[cfg(test)]
-mod opts;
+mod opt;
 #[cfg(test)]
-mod rows;
+mod steps;
 #[cfg(test)]
 mod stream;

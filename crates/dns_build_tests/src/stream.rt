@@ -1,8 +1,7 @@
 //! Messages that are built after their length, as on a TCP stream.
-use crate::rows::Answer::{Done, ShortBuf};
-use crate::rows::{
-    Ask, Call, EMPTY, EXAMPLE_COM, ROOT, Row, assert_holds, assert_octets, name, run_on,
-};
+use crate::asserts::{EXAMPLE_COM, ROOT, assert_holds, assert_octets, name_of};
+use crate::steps::Answer::{Done, ShortBuf};
+use crate::steps::{Ask, Call, Case, EMPTY, run_on};
 use arrayvec::ArrayVec;
 use dns_build::MessageBuilder;
 use dns_code::{Class, Rtype};
@@ -20,21 +19,21 @@ fn assert_prefix<T: Composer>(rt: &impl Abort, row: &str, target: &StreamTarget<
     assert_octets(rt, row, length, prefix);
 }
 
-/// Makes the calls of a row. Fails unless this length precedes the message then.
+/// Makes the calls of a case. Fails unless this length precedes the message then.
 fn run_after<T: Composer>(
     rt: &impl Abort,
     alloc: Global,
     builder: MessageBuilder<StreamTarget<T>>,
-    row: &Row,
+    case: &Case,
     prefix: &[u8],
 ) {
-    let target = run_on(rt, alloc, builder, row);
-    assert_prefix(rt, row.name, &target, prefix);
+    let target = run_on(rt, alloc, case.name, builder, case);
+    assert_prefix(rt, case.name, &target, prefix);
 }
 
 /// Two questions for the root, of which one fits.
-static FULL_ARRAY: Row = Row {
-    name: "Full stream target of fixed size",
+static FULL_ARRAY: Case = Case {
+    name: "a full target of fixed size",
     questions: &[
         (Ask::Question(ROOT), Done, 17, b""),
         (Ask::Question(ROOT), ShortBuf, 17, b""),
@@ -45,22 +44,28 @@ static FULL_ARRAY: Row = Row {
 
 #[test]
 fn fills_an_array(rt: HostRuntime) {
-    let target = StreamTarget::new(ArrayVec::<u8, 20>::new()).expect(&rt, "room");
-    let builder = MessageBuilder::from_target(target).expect(&rt, "room");
+    let target = StreamTarget::new(ArrayVec::<u8, 20>::new()).expect(
+        &rt,
+        "a capacity for the length and the header",
+    );
+    let builder = MessageBuilder::from_target(target).expect(
+        &rt,
+        "a capacity for the length and the header",
+    );
     run_after(&rt, rt.alloc(), builder, &FULL_ARRAY, b"\x00\x11");
 }
 
 /// A record with which the message would have more than 65,535 octets.
-static TOO_LONG: Row = Row {
-    name: "Full stream message, refused",
+static TOO_LONG: Case = Case {
+    name: "a record that exceeds the most octets",
     answers: &[(Call::Opaque(ROOT, 65_513), ShortBuf, 12, b"")],
     start: &[0; 12],
     ..EMPTY
 };
 
 /// Like `TOO_LONG`, followed by a record with which the message has 65,535 octets.
-static FULL: Row = Row {
-    name: "Full stream message",
+static FULL: Case = Case {
+    name: "the most octets",
     answers: &[
         (Call::Opaque(ROOT, 65_513), ShortBuf, 12, b""),
         (Call::Opaque(ROOT, 65_512), Done, 65_535, b""),
@@ -72,12 +77,12 @@ static FULL: Row = Row {
 #[test]
 fn fills_a_message(rt: HostRuntime) {
     let alloc = rt.alloc();
-    for (row, prefix) in [(&TOO_LONG, b"\x00\x0C"), (&FULL, b"\xFF\xFF")] {
+    for (case, prefix) in [(&TOO_LONG, b"\x00\x0C"), (&FULL, b"\xFF\xFF")] {
         let builder = MessageBuilder::new_stream_vec(alloc).expect(&rt, "memory");
-        run_after(&rt, alloc, builder, row, prefix);
+        run_after(&rt, alloc, builder, case, prefix);
         let target = StreamTarget::new_vec(alloc).expect(&rt, "memory");
         let builder = MessageBuilder::from_target(target).expect(&rt, "memory");
-        run_after(&rt, alloc, builder, row, prefix);
+        run_after(&rt, alloc, builder, case, prefix);
     }
 }
 
@@ -87,8 +92,8 @@ static MESSAGE: [u8; 91] =
     *b"\x00\x00\x01\x00\x00\x01\x00\x02\x00\x01\x00\x01\x07example\x03com\x00\x00\x01\x00\x01\xC0\x0C\x00\x01\x00\x01\x00\x01\x51\x80\x00\x04\xC0\x00\x02\x01\xC0\x0C\x00\x01\x00\x01\x00\x01\x51\x80\x00\x04\xC0\x00\x02\x02\xC0\x0C\x00\x02\x00\x01\x00\x00\x00\x00\x00\x02\xC0\x0C\xC0\x0C\x00\x01\x00\x01\x00\x01\x51\x80\x00\x04\xC0\x00\x02\x01";
 
 /// The calls that build `MESSAGE`.
-static CALLS: Row = Row {
-    name: "Static compressor over a stream",
+static CALLS: Case = Case {
+    name: "a static compressor over a stream",
     questions: &[
         (Ask::Header([0, 0, 1, 0]), Done, 12, b""),
         (Ask::Question(EXAMPLE_COM), Done, 29, EXAMPLE_COM),
@@ -107,7 +112,7 @@ static CALLS: Row = Row {
     start: b"\x00\x00\x01\x00\x00\x01\x00\x02\x00\x01\x00\x01",
 };
 
-/// Fails unless the message and its length are those of the row.
+/// Fails unless the message and its length are those of the calls.
 fn assert_message<T: Composer>(rt: &impl Abort, target: &StreamTarget<T>) {
     assert_octets(rt, CALLS.name, target.as_dgram_slice(), &MESSAGE);
     assert_prefix(rt, CALLS.name, target, b"\x00\x5B");
@@ -119,13 +124,13 @@ fn compresses_after_the_length(rt: HostRuntime) {
     let target = StreamTarget::new_vec(rt.alloc()).expect(&rt, "memory");
     let target = StaticCompressor::new(target);
     let builder = MessageBuilder::from_target(target).expect(&rt, "memory");
-    let target = run_on(&rt, rt.alloc(), builder, &CALLS);
+    let target = run_on(&rt, rt.alloc(), CALLS.name, builder, &CALLS);
     assert_message(&rt, target.as_target());
 }
 
 /// A name whose labels fit and whose pointer doesn't.
-static BETWEEN: Row = Row {
-    name: "Room that ends between labels and a pointer",
+static BETWEEN: Case = Case {
+    name: "a capacity that ends between labels and a pointer",
     questions: &[
         (Ask::Question(EXAMPLE_COM), Done, 29, EXAMPLE_COM),
         (
@@ -141,36 +146,49 @@ static BETWEEN: Row = Row {
 
 #[test]
 fn refuses_a_pointer(rt: HostRuntime) {
-    let target = StreamTarget::new(ArrayVec::<u8, 33>::new()).expect(&rt, "room");
+    let target = StreamTarget::new(ArrayVec::<u8, 33>::new()).expect(
+        &rt,
+        "a capacity for the length and the header",
+    );
     let target = StaticCompressor::new(target);
-    let builder = MessageBuilder::from_target(target).expect(&rt, "room");
-    let target = run_on(&rt, rt.alloc(), builder, &BETWEEN);
+    let builder = MessageBuilder::from_target(target).expect(
+        &rt,
+        "a capacity for the length and the header",
+    );
+    let target = run_on(&rt, rt.alloc(), BETWEEN.name, builder, &BETWEEN);
     assert_prefix(&rt, BETWEEN.name, target.as_target(), b"\x00\x1D");
 }
 
 /// Fails unless the name is example.com. and the class IN.
-fn assert_example_com<N: ToName>(rt: &impl Abort, found: &N, class: Class) {
-    let is_it = found.octets_eq(&name(rt, EXAMPLE_COM)) && class == Class::IN;
-    assert_holds(rt, CALLS.name, is_it);
+fn assert_example_com<N: ToName>(rt: &impl Abort, row: &str, found: &N, class: Class) {
+    let is_it = found.octets_eq(&name_of(rt, EXAMPLE_COM)) && class == Class::IN;
+    assert_holds(rt, row, is_it);
 }
 
 /// Fails unless the record is an address of example.com. with a TTL of a day.
-fn assert_address(rt: &impl Abort, record: &Record<ParsedName<'_>, A>, address: [u8; 4]) {
-    assert_example_com(rt, record.owner(), record.class());
+fn assert_address(
+    rt: &impl Abort,
+    row: &str,
+    record: &Record<ParsedName<'_>, A>,
+    address: [u8; 4],
+) {
+    assert_example_com(rt, row, record.owner(), record.class());
     let is_it = record.ttl().as_secs() == 86_400 && record.data().octets() == address;
-    assert_holds(rt, CALLS.name, is_it);
+    assert_holds(rt, row, is_it);
 }
 
 /// Fails unless the records are these addresses of example.com.
-fn assert_addresses(rt: &impl Abort, mut records: RecordIter<'_, A>, addresses: &[[u8; 4]]) {
+fn assert_addresses(
+    rt: &impl Abort,
+    row: &str,
+    mut records: RecordIter<'_, A>,
+    addresses: &[[u8; 4]],
+) {
     for address in addresses {
-        let record = records
-            .next()
-            .expect(rt, "a record")
-            .expect(rt, "an address");
-        assert_address(rt, &record, *address);
+        let record = records.next().expect(rt, row).expect(rt, row);
+        assert_address(rt, row, &record, *address);
     }
-    assert_holds(rt, CALLS.name, records.next().is_none());
+    assert_holds(rt, row, records.next().is_none());
 }
 
 #[test]
@@ -178,25 +196,25 @@ fn reads_the_addresses_back(rt: HostRuntime) {
     let message = Message::from_slice(&MESSAGE).expect(&rt, "a message");
     let addresses = [[192, 0, 2, 1], [192, 0, 2, 2]];
     let records = message.answer().expect(&rt, "answers").limit_to();
-    assert_addresses(&rt, records, &addresses);
+    assert_addresses(&rt, "the answers", records, &addresses);
     let records = message
         .additional()
         .expect(&rt, "additional records")
         .limit_to();
-    assert_addresses(&rt, records, &addresses[..1]);
+    assert_addresses(&rt, "the additional record", records, &addresses[..1]);
 }
 
 /// Fails unless the question is for the A records of example.com.
 fn assert_question(rt: &impl Abort, question: &Question<ParsedName<'_>>) {
-    assert_example_com(rt, question.qname(), question.qclass());
-    assert_holds(rt, CALLS.name, question.qtype() == Rtype::A);
+    assert_example_com(rt, "the name", question.qname(), question.qclass());
+    assert_holds(rt, "the type", question.qtype() == Rtype::A);
 }
 
 /// Fails unless the record is the NS record of example.com. with TTL 0.
 fn assert_server(rt: &impl Abort, record: &Record<ParsedName<'_>, Ns<ParsedName<'_>>>) {
-    assert_example_com(rt, record.owner(), record.class());
-    assert_example_com(rt, record.data().nsdname(), record.class());
-    assert_holds(rt, CALLS.name, record.ttl().as_secs() == 0);
+    assert_example_com(rt, "the owner", record.owner(), record.class());
+    assert_example_com(rt, "the server", record.data().nsdname(), record.class());
+    assert_holds(rt, "the TTL", record.ttl().as_secs() == 0);
 }
 
 #[test]
@@ -217,5 +235,5 @@ fn reads_the_server_back(rt: HostRuntime) {
         .expect(&rt, "a record")
         .expect(&rt, "a server");
     assert_server(&rt, &server);
-    assert_holds(&rt, CALLS.name, servers.next().is_none());
+    assert_holds(&rt, "no further record", servers.next().is_none());
 }

@@ -1,20 +1,23 @@
 //! Tests of reading messages: sections, cursors, iterators and searches. The expected values come
 //! from outside this library.
 //!
-//! Nothing is exported.
+//! Nothing is exported. A module tests what it is named after; `asserts` has what many tests use,
+//! and `callers` proved callers. The rows of a table have names, which failures print.
 #![tactic(auto)]
 
 #[cfg(test)]
-mod aliases;
+mod asserts;
 #[cfg(test)]
-mod iterators;
+mod callers;
+#[cfg(test)]
+mod canonical_name;
 #[cfg(test)]
 mod messages;
 #[cfg(test)]
 mod questions;
 #[cfg(test)]
+mod record_iter;
+#[cfg(test)]
 mod records;
 #[cfg(test)]
 mod searches;
-#[cfg(test)]
-mod section_order;

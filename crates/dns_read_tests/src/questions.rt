@@ -1,11 +1,9 @@
 //! Questions of messages, and where the answers after them begin.
-use crate::messages::{POSITIVE_RESPONSE, is_name, message_of};
+use crate::asserts::{POSITIVE_RESPONSE, assert_holds, is_name, message_of, start_of};
 use dns_code::{Class, Rtype};
-use dns_read::{Message, QuestionSection, RecordSection};
+use dns_read::{Message, QuestionSection};
 use dns_wire::{FormError, ParseError};
 use std::process::Abort;
-
-pub(crate) const EXAMPLE: &[u8] = b"\x07example\x03com\x00";
 
 const BAD_LABEL: ParseError = ParseError::Form(FormError::BAD_LABEL);
 
@@ -15,55 +13,52 @@ const LONG_NAME: ParseError = ParseError::Form(FormError::LONG_NAME);
 
 const SHORT: ParseError = ParseError::ShortInput;
 
-/// Messages whose first question can't be read, why, and where their answers begin.
-const FAULTY: &[(&str, &[u8], ParseError, Result<usize, ParseError>)] = &[
-    (
-        "Compression loop",
-        b"\x00\x00\x00\x00\x00\x01\x00\x00\x00\x00\x00\x00\x01\x61\xC0\x0C\x00\x01\x00\x01",
-        LONG_NAME,
-        Ok(20),
-    ),
-    (
-        "Pointer to its own place",
-        b"\x00\x00\x00\x00\x00\x01\x00\x00\x00\x00\x00\x00\xC0\x0C\x00\x01\x00\x01",
-        BAD_POINTER,
-        Ok(18),
-    ),
-    (
-        "Reserved label types, 40",
-        b"\x00\x00\x00\x00\x00\x01\x00\x00\x00\x00\x00\x00\x40\x00\x00\x01\x00\x01",
-        BAD_LABEL,
-        Err(BAD_LABEL),
-    ),
-    (
-        "Reserved label types, 80",
-        b"\x00\x00\x00\x00\x00\x01\x00\x00\x00\x00\x00\x00\x80\x00\x00\x01\x00\x01",
-        BAD_LABEL,
-        Err(BAD_LABEL),
-    ),
-    (
-        "Missing question",
-        b"\x00\x00\x00\x00\x00\x01\x00\x00\x00\x00\x00\x00",
-        SHORT,
-        Err(SHORT),
-    ),
-    (
-        "Counts without entries",
-        b"\x00\x00\x00\x00\xFF\xFF\x00\x00\x00\x00\x00\x00",
-        SHORT,
-        Err(SHORT),
-    ),
-];
-
-/// Where a section begins.
-pub(crate) fn start_of(
-    section: Result<RecordSection<'_>, ParseError>,
-) -> Result<usize, ParseError> {
-    match section {
-        Ok(records) => Ok(records.pos()),
-        Err(error) => Err(error),
-    }
+/// A message whose first question can't be read, why, and where its answers begin.
+struct Faulty {
+    name: &'static str,
+    message: &'static [u8],
+    fault: ParseError,
+    answers: Result<usize, ParseError>,
 }
+
+const FAULTY: &[Faulty] = &[
+    Faulty {
+        name: "a label and a pointer to it",
+        message: b"\x00\x00\x00\x00\x00\x01\x00\x00\x00\x00\x00\x00\x01\x61\xC0\x0C\x00\x01\x00\x01",
+        fault: LONG_NAME,
+        answers: Ok(20),
+    },
+    Faulty {
+        name: "a pointer to its own offset",
+        message: b"\x00\x00\x00\x00\x00\x01\x00\x00\x00\x00\x00\x00\xC0\x0C\x00\x01\x00\x01",
+        fault: BAD_POINTER,
+        answers: Ok(18),
+    },
+    Faulty {
+        name: "the reserved label type 01",
+        message: b"\x00\x00\x00\x00\x00\x01\x00\x00\x00\x00\x00\x00\x40\x00\x00\x01\x00\x01",
+        fault: BAD_LABEL,
+        answers: Err(BAD_LABEL),
+    },
+    Faulty {
+        name: "the reserved label type 10",
+        message: b"\x00\x00\x00\x00\x00\x01\x00\x00\x00\x00\x00\x00\x80\x00\x00\x01\x00\x01",
+        fault: BAD_LABEL,
+        answers: Err(BAD_LABEL),
+    },
+    Faulty {
+        name: "a missing question",
+        message: b"\x00\x00\x00\x00\x00\x01\x00\x00\x00\x00\x00\x00",
+        fault: SHORT,
+        answers: Err(SHORT),
+    },
+    Faulty {
+        name: "the greatest count without questions",
+        message: b"\x00\x00\x00\x00\xFF\xFF\x00\x00\x00\x00\x00\x00",
+        fault: SHORT,
+        answers: Err(SHORT),
+    },
+];
 
 /// The error that a cursor yields before it ends.
 fn sole_fault(mut questions: QuestionSection<'_>) -> Option<ParseError> {
@@ -84,36 +79,31 @@ fn assert_faulty(
     start: Result<usize, ParseError>,
 ) {
     let message = message_of(rt, octets);
-    assert!(rt;
-        sole_fault(message.question()) == Some(fault)
-            && start_of(message.answer()) == start
-            && message.iter().next().is_none(),
-        "{row}, {} octets",
-        octets.len()
-    );
+    let is_faulty = sole_fault(message.question()) == Some(fault)
+        && start_of(message.answer()) == start
+        && message.iter().next().is_none();
+    assert!(rt; is_faulty, "{row}, {} octets", octets.len());
 }
 
 #[test]
 fn ends_at_the_first_fault(rt: HostRuntime) {
-    for &(row, octets, fault, start) in FAULTY {
-        assert_faulty(&rt, row, octets, fault, start);
+    for case in FAULTY {
+        assert_faulty(&rt, case.name, case.message, case.fault, case.answers);
     }
+}
+
+#[test]
+fn refuses_a_name_of_256_octets(rt: HostRuntime) {
     let octets = long_question(62);
-    assert_faulty(
-        &rt,
-        "One octet too long",
-        &octets,
-        LONG_NAME,
-        Err(LONG_NAME),
-    );
-    for n in 12..29 {
-        assert_faulty(
-            &rt,
-            "Cut in the question",
-            &POSITIVE_RESPONSE[..n],
-            SHORT,
-            Err(SHORT),
-        );
+    let fault = LONG_NAME;
+    assert_faulty(&rt, "one octet too long", &octets, fault, Err(fault));
+}
+
+#[test]
+fn refuses_a_question_that_is_cut(rt: HostRuntime) {
+    for len in 12..29 {
+        let octets = &POSITIVE_RESPONSE[..len];
+        assert_faulty(&rt, "cut in the question", octets, SHORT, Err(SHORT));
     }
 }
 
@@ -154,10 +144,12 @@ fn long_question(last: u8) -> [u8; 272] {
 #[test]
 fn reads_a_sole_question(rt: HostRuntime) {
     let message = message_of(&rt, POINTER_INTO_THE_HEADER);
-    assert!(rt; has_sole(&message, b"\x00", 18), "Pointer into the header");
+    let is_read = has_sole(&message, b"\x00", 18);
+    assert_holds(&rt, "a pointer into the header", is_read);
     let octets = long_question(61);
     let message = message_of(&rt, &octets);
-    assert!(rt; has_sole(&message, &octets[12..267], 271), "Longest name");
+    let is_read = has_sole(&message, &octets[12..267], 271);
+    assert_holds(&rt, "the longest name", is_read);
 }
 
 /// Questions for a. and b., and one that can't be read.
@@ -174,6 +166,6 @@ fn goes_over_questions(rt: HostRuntime) {
             readable = readable.wrapping_add(1);
         }
     }
-    // The loop advances a copy.
-    assert!(rt; readable == 2 && questions.pos() == 12);
+    assert_holds(&rt, "the questions that can be read", readable == 2);
+    assert_holds(&rt, "the loop advances a copy", questions.pos() == 12);
 }

@@ -1,6 +1,9 @@
 //! Sections of records: what their cursors and the iterator over all of them yield.
-use crate::messages::{POSITIVE_RESPONSE, is_name, message_of};
-use crate::questions::{EXAMPLE, has_sole, start_of};
+use crate::asserts::{
+    EXAMPLE_COM, POSITIVE_RESPONSE, answers_of, assert_holds, is_name, message_of, next_start,
+    start_of,
+};
+use crate::questions::has_sole;
 use dns_data::{A, Cname, UnknownRecordData};
 use dns_item::ParsedRecord;
 use dns_read::{Message, MessageIter, RecordSection, Section};
@@ -12,50 +15,38 @@ const BAD_POINTER: ParseError = ParseError::Form(FormError::BAD_POINTER);
 
 const SHORT: ParseError = ParseError::ShortInput;
 
-/// Messages whose only answer can't be read, why, and where their authority section begins.
-const FAULTY: &[(&str, &[u8], ParseError, Result<usize, ParseError>)] = &[
-    (
-        "Unreadable answer is passed over",
-        b"\x00\x00\x00\x00\x00\x00\x00\x01\x00\x00\x00\x00\xC0\x0C\x00\x01\x00\x01\x00\x00\x00\x00\x00\x00",
-        BAD_POINTER,
-        Ok(24),
-    ),
-    (
-        "Data cut off",
-        b"\x00\x00\x00\x00\x00\x00\x00\x01\x00\x00\x00\x00\x00\x00\x01\x00\x01\x00\x00\x00\x00\x00\x05\x01\x02\x03\x04",
-        SHORT,
-        Err(SHORT),
-    ),
-    (
-        "Missing records in `iter`",
-        b"\x00\x00\x00\x00\x00\x00\x00\x01\x00\x00\x00\x00",
-        SHORT,
-        Err(SHORT),
-    ),
+/// A message whose only answer can't be read, why, and where its authority section begins.
+struct Faulty {
+    name: &'static str,
+    message: &'static [u8],
+    fault: ParseError,
+    authority: Result<usize, ParseError>,
+}
+
+const FAULTY: &[Faulty] = &[
+    Faulty {
+        name: "a record that can be skipped",
+        message: b"\x00\x00\x00\x00\x00\x00\x00\x01\x00\x00\x00\x00\xC0\x0C\x00\x01\x00\x01\x00\x00\x00\x00\x00\x00",
+        fault: BAD_POINTER,
+        authority: Ok(24),
+    },
+    Faulty {
+        name: "RDATA that is cut off",
+        message: b"\x00\x00\x00\x00\x00\x00\x00\x01\x00\x00\x00\x00\x00\x00\x01\x00\x01\x00\x00\x00\x00\x00\x05\x01\x02\x03\x04",
+        fault: SHORT,
+        authority: Err(SHORT),
+    },
+    Faulty {
+        name: "a missing record",
+        message: b"\x00\x00\x00\x00\x00\x00\x00\x01\x00\x00\x00\x00",
+        fault: SHORT,
+        authority: Err(SHORT),
+    },
 ];
 
 /// An additional section with one record whose owner is a pointer to its own offset.
 const UNREADABLE_ADDITIONAL: &[u8; 24] =
     b"\x00\x00\x00\x00\x00\x00\x00\x00\x00\x00\x00\x01\xC0\x0C\x00\x01\x00\x01\x00\x00\x00\x00\x00\x00";
-
-/// The answer section of a message whose questions can be skipped.
-pub(crate) fn answers_of<'a>(rt: &impl Abort, message: &'a Message<&[u8]>) -> RecordSection<'a> {
-    match message.answer() {
-        Ok(answers) => answers,
-        Err(_) => panic!(rt; "no answer section"),
-    }
-}
-
-/// Where the section that follows a cursor's begins.
-pub(crate) fn next_start(
-    section: Result<Option<RecordSection<'_>>, ParseError>,
-) -> Result<Option<usize>, ParseError> {
-    match section {
-        Ok(Some(records)) => Ok(Some(records.pos())),
-        Ok(None) => Ok(None),
-        Err(error) => Err(error),
-    }
-}
 
 /// The error that a cursor yields before it ends, and where its next section begins then.
 fn sole_fault(
@@ -105,14 +96,20 @@ fn is_faulty(
 
 #[test]
 fn ends_at_an_answer_that_cant_be_read(rt: HostRuntime) {
-    for &(row, octets, fault, authority) in FAULTY {
-        let message = message_of(&rt, octets);
-        assert!(rt; is_faulty(&message, 12, fault, authority), "{row}");
+    for case in FAULTY {
+        let message = message_of(&rt, case.message);
+        let is_faulty = is_faulty(&message, 12, case.fault, case.authority);
+        assert_holds(&rt, case.name, is_faulty);
     }
-    for n in 29..45 {
-        let message = message_of(&rt, &POSITIVE_RESPONSE[..n]);
-        let is_cut = has_sole(&message, EXAMPLE, 29) && is_faulty(&message, 29, SHORT, Err(SHORT));
-        assert!(rt; is_cut, "Cut in the answer, {n}");
+}
+
+#[test]
+fn ends_at_an_answer_that_is_cut(rt: HostRuntime) {
+    for len in 29..45 {
+        let message = message_of(&rt, &POSITIVE_RESPONSE[..len]);
+        let is_cut = has_sole(&message, EXAMPLE_COM, 29)
+            && is_faulty(&message, 29, SHORT, Err(SHORT));
+        assert!(rt; is_cut, "cut in the answer, {len} octets");
     }
 }
 
@@ -120,16 +117,12 @@ fn ends_at_an_answer_that_cant_be_read(rt: HostRuntime) {
 fn ends_at_an_additional_record_that_cant_be_read(rt: HostRuntime) -> Result<(), Fail> {
     let message = message_of(&rt, UNREADABLE_ADDITIONAL);
     let fault = sole_fault(message.additional()?);
-    assert!(rt;
-        fault == Some((BAD_POINTER, Ok(None))),
-        "Unreadable additional record"
-    );
+    let is_last = fault == Some((BAD_POINTER, Ok(None)));
+    assert_holds(&rt, "an owner that points to itself", is_last);
     let message = message_of(&rt, &UNREADABLE_ADDITIONAL[..12]);
     let items = given(message.iter());
-    assert!(rt;
-        items == [Some(Err(SHORT)), None, None],
-        "Missing records in `iter`"
-    );
+    let is_missing = items == [Some(Err(SHORT)), None, None];
+    assert_holds(&rt, "a missing record", is_missing);
     Ok(())
 }
 
@@ -146,7 +139,7 @@ fn is_address(record: &ParsedRecord<'_>) -> Result<bool, ParseError> {
     let is_alias = record.to_record::<Cname<ParsedName<'_>>>()?.is_some();
     Ok(
         fields == (1, 1, 3600, 4)
-            && is_name(&record.owner(), EXAMPLE)
+            && is_name(&record.owner(), EXAMPLE_COM)
             && address == Some([203, 0, 113, 1])
             && *opaque.data().data() == [203, 0, 113, 1].as_slice()
             && !is_alias,
@@ -160,8 +153,11 @@ fn reads_an_answer(rt: HostRuntime) -> Result<(), Fail> {
     let Some(Ok(answer)) = answers.next() else {
         panic!(rt; "no record")
     };
-    assert!(rt; answers.pos() == 45 && answers.section() == Section::Answer);
-    assert!(rt; is_address(&answer)? && is_address(&answer.clone()?)?);
+    assert_holds(&rt, "the offset after it", answers.pos() == 45);
+    let is_answer = answers.section() == Section::Answer;
+    assert_holds(&rt, "the section", is_answer);
+    assert_holds(&rt, "the record", is_address(&answer)?);
+    assert_holds(&rt, "its clone", is_address(&answer.clone()?)?);
     Ok(())
 }
 
@@ -189,9 +185,8 @@ fn iterates_over_sections(rt: HostRuntime) {
         Some(Ok((Section::Authority, 86_000))),
         None,
     ];
-    assert!(rt; given((&message).into_iter()) == sections, "Copy records");
-    assert!(rt;
-        is_alias_of(&message, b"\x03baz\x07example\x03com\x00"),
-        "`into_record` to `Cname`"
-    );
+    let is_given = given((&message).into_iter()) == sections;
+    assert_holds(&rt, "the records of two sections", is_given);
+    let is_alias = is_alias_of(&message, b"\x03baz\x07example\x03com\x00");
+    assert_holds(&rt, "the RDATA of an alias", is_alias);
 }

@@ -1,28 +1,34 @@
 //! Searches in messages: for their questions, their OPT record, and records of a type.
-use crate::messages::{is_name, message_of};
+use crate::asserts::{assert_holds, assert_octets, is_name, message_of};
 use dns_data::{A, Ns};
 use dns_read::Message;
 use dns_wire::{FormError, ParseError, ParsedName};
 use std::process::Abort;
 use std::test::Fail;
 
-/// Messages, and the type of their sole question.
-const SOLE: &[(&str, &[u8], Result<u16, ParseError>)] = &[
-    (
-        "Sole question, none",
-        b"\x00\x00\x00\x00\x00\x00\x00\x00\x00\x00\x00\x00",
-        Err(ParseError::Form(FormError::NO_QUESTION)),
-    ),
-    (
-        "Sole question, two",
-        b"\x00\x00\x00\x00\x00\x02\x00\x00\x00\x00\x00\x00\x00\x00\x01\x00\x01\x00\x00\x01\x00\x01",
-        Err(ParseError::Form(FormError::MULTIPLE_QUESTIONS)),
-    ),
-    (
-        "Sole question, one",
-        b"\x00\x00\x00\x00\x00\x01\x00\x00\x00\x00\x00\x00\x00\x00\x1C\x00\x01",
-        Ok(28),
-    ),
+/// A message, and the type of its sole question.
+struct Sole {
+    name: &'static str,
+    message: &'static [u8],
+    qtype: Result<u16, ParseError>,
+}
+
+const SOLE: &[Sole] = &[
+    Sole {
+        name: "no question",
+        message: b"\x00\x00\x00\x00\x00\x00\x00\x00\x00\x00\x00\x00",
+        qtype: Err(ParseError::Form(FormError::NO_QUESTION)),
+    },
+    Sole {
+        name: "two questions",
+        message: b"\x00\x00\x00\x00\x00\x02\x00\x00\x00\x00\x00\x00\x00\x00\x01\x00\x01\x00\x00\x01\x00\x01",
+        qtype: Err(ParseError::Form(FormError::MULTIPLE_QUESTIONS)),
+    },
+    Sole {
+        name: "one question",
+        message: b"\x00\x00\x00\x00\x00\x01\x00\x00\x00\x00\x00\x00\x00\x00\x1C\x00\x01",
+        qtype: Ok(28),
+    },
 ];
 
 /// The type of a message's sole question.
@@ -35,8 +41,9 @@ fn sole_type(message: &Message<&[u8]>) -> Result<u16, ParseError> {
 
 #[test]
 fn has_a_sole_question(rt: HostRuntime) {
-    for &(row, octets, expected) in SOLE {
-        assert!(rt; sole_type(&message_of(&rt, octets)) == expected, "{row}");
+    for case in SOLE {
+        let qtype = sole_type(&message_of(&rt, case.message));
+        assert_holds(&rt, case.name, qtype == case.qtype);
     }
 }
 
@@ -47,7 +54,8 @@ const TRANSFER: &[u8] =
 #[test]
 fn has_a_first_question(rt: HostRuntime) {
     let message = message_of(&rt, TRANSFER);
-    assert!(rt; asks_for_transfer(&message) && message.is_xfr());
+    assert_holds(&rt, "the question", asks_for_transfer(&message));
+    assert_holds(&rt, "a transfer", message.is_xfr());
 }
 
 /// Whether the first question of a message is for AXFR of a. in class CH.
@@ -71,63 +79,87 @@ const BROKEN: &[u8] = b"\x00\x07\x80\x00\x00\x01\x00\x00\x00\x00\x00\x00\xC0\x0C
 
 /// Two messages, whether the first is an answer to the second, and whether their questions are the
 /// same.
-const PAIRS: &[(&str, &[u8], &[u8], bool, bool)] = &[
-    ("An answer", RESPONSE, QUERY, true, true),
-    ("A query is no answer", QUERY, QUERY, false, true),
-    (
-        "No answer over broken questions",
-        BROKEN,
-        BROKEN,
-        false,
-        false,
-    ),
+struct Pair {
+    name: &'static str,
+    message: &'static [u8],
+    other: &'static [u8],
+    is_answer: bool,
+    asks_the_same: bool,
+}
+
+const PAIRS: &[Pair] = &[
+    Pair {
+        name: "a response",
+        message: RESPONSE,
+        other: QUERY,
+        is_answer: true,
+        asks_the_same: true,
+    },
+    Pair {
+        name: "a query",
+        message: QUERY,
+        other: QUERY,
+        is_answer: false,
+        asks_the_same: true,
+    },
+    Pair {
+        name: "a question that can't be read",
+        message: BROKEN,
+        other: BROKEN,
+        is_answer: false,
+        asks_the_same: false,
+    },
 ];
 
 #[test]
 fn knows_an_answer(rt: HostRuntime) {
-    for &(row, octets, other, is_answer, asks_the_same) in PAIRS {
-        let message = message_of(&rt, octets);
-        let other = message_of(&rt, other);
-        assert!(rt; message.is_answer(&other) == is_answer, "{row}");
-        let questions = message.question();
-        assert!(rt;
-            questions.same_questions(&other.question()) == asks_the_same,
-            "{row}"
-        );
+    for case in PAIRS {
+        let message = message_of(&rt, case.message);
+        let other = message_of(&rt, case.other);
+        let is_answer = message.is_answer(&other);
+        assert_holds(&rt, case.name, is_answer == case.is_answer);
+        let is_same = message.question().same_questions(&other.question());
+        assert_holds(&rt, case.name, is_same == case.asks_the_same);
     }
 }
 
-/// Messages, and the UDP payload size and the rcode of their OPT record.
-const OPTS: &[(&str, &[u8], Option<u16>, u16)] = &[
-    (
-        "OPT found",
-        b"\x00\x00\x00\x00\x00\x00\x00\x00\x00\x00\x00\x01\x00\x00\x29\x10\x00\x01\x00\x00\x00\x00\x00",
-        Some(4096),
-        16,
-    ),
-    (
-        "OPT with broken options",
-        b"\x00\x00\x00\x00\x00\x00\x00\x00\x00\x00\x00\x01\x00\x00\x29\x10\x00\x01\x00\x00\x00\x00\x01\x00",
-        None,
-        0,
-    ),
-    (
-        "OPT behind a record of another type",
-        b"\x00\x00\x80\x05\x00\x00\x00\x00\x00\x00\x00\x02\x00\x00\x01\x00\x01\x00\x00\x00\x00\x00\x00\x00\x00\x29\x04\xD0\x02\x00\x00\x00\x00\x00",
-        Some(1232),
-        37,
-    ),
+/// A message, and the UDP payload size and the rcode of its OPT record.
+struct OptRecord {
+    name: &'static str,
+    message: &'static [u8],
+    size: Option<u16>,
+    rcode: u16,
+}
+
+const OPT_RECORDS: &[OptRecord] = &[
+    OptRecord {
+        name: "one record",
+        message: b"\x00\x00\x00\x00\x00\x00\x00\x00\x00\x00\x00\x01\x00\x00\x29\x10\x00\x01\x00\x00\x00\x00\x00",
+        size: Some(4096),
+        rcode: 16,
+    },
+    OptRecord {
+        name: "an option that is cut",
+        message: b"\x00\x00\x00\x00\x00\x00\x00\x00\x00\x00\x00\x01\x00\x00\x29\x10\x00\x01\x00\x00\x00\x00\x01\x00",
+        size: None,
+        rcode: 0,
+    },
+    OptRecord {
+        name: "after a record of another type",
+        message: b"\x00\x00\x80\x05\x00\x00\x00\x00\x00\x00\x00\x02\x00\x00\x01\x00\x01\x00\x00\x00\x00\x00\x00\x00\x00\x29\x04\xD0\x02\x00\x00\x00\x00\x00",
+        size: Some(1232),
+        rcode: 37,
+    },
 ];
 
 #[test]
 fn has_an_opt_record(rt: HostRuntime) {
-    for &(row, octets, size, rcode) in OPTS {
-        let message = message_of(&rt, octets);
-        let found = message.opt().map(|record| record.udp_payload_size());
-        assert!(rt;
-            found == size && message.opt_rcode().to_int() == rcode,
-            "{row}"
-        );
+    for case in OPT_RECORDS {
+        let message = message_of(&rt, case.message);
+        let size = message.opt().map(|record| record.udp_payload_size());
+        assert_holds(&rt, case.name, size == case.size);
+        let rcode = message.opt_rcode().to_int();
+        assert_holds(&rt, case.name, rcode == case.rcode);
     }
 }
 
@@ -147,9 +179,13 @@ const LAST_ADDITIONAL: [u8; 39] =
 #[test]
 fn a_faulty_answer_counts(rt: HostRuntime) {
     let message = message_of(&rt, FAULTY_ANSWER);
-    assert!(rt; message.contains_answer::<A>(), "A faulty answer counts");
+    let is_found = message.contains_answer::<A>();
+    assert_holds(&rt, "an answer that can't be read", is_found);
     let message = message_of(&rt, ANSWER);
-    assert!(rt; message.contains_answer::<A>() && !message.contains_answer::<Ns<ParsedName<'_>>>());
+    let is_found = message.contains_answer::<A>();
+    assert_holds(&rt, "an address", is_found);
+    let is_found = message.contains_answer::<Ns<ParsedName<'_>>>();
+    assert_holds(&rt, "an answer of another type", !is_found);
 }
 
 /// The address in the last additional record.
@@ -172,14 +208,13 @@ fn has_a_last_additional(rt: HostRuntime) -> Result<(), Fail> {
     let mut octets = *ANSWER;
     octets[7] = 0;
     octets[11] = 1;
-    assert!(rt; last_address(&octets) == Some([1, 2, 3, 4]));
-    assert!(rt;
-        last_address(&LAST_ADDITIONAL).is_none(),
-        "Last additional record"
-    );
+    let found = last_address(&octets);
+    assert_holds(&rt, "the last record", found == Some([1, 2, 3, 4]));
+    let found = last_address(&LAST_ADDITIONAL);
+    assert_holds(&rt, "after a record that can't be read", found.is_none());
     let octets = without_last(Message::from_octets(LAST_ADDITIONAL)?);
     let mut expected = LAST_ADDITIONAL;
     expected[11] = 1;
-    assert!(rt; octets == expected, "Last additional record, removed");
+    assert_octets(&rt, "without the last record", &octets, &expected);
     Ok(())
 }

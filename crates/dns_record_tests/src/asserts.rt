@@ -1,20 +1,25 @@
-//! Values and comparisons that many tests use.
+//! Assertions, and values that many tests use. The `row` of an assertion is the name of the row of a
+//! table, or says what a test compares.
 use arrayvec::ArrayVec;
 use dns_code::Rtype;
-use dns_data::{ComposeRecordData, Opt, UnknownRecordData};
-use dns_item::{ComposeQuestion, ComposeRecord};
+use dns_data::{ComposeRecordData, Opt, ParseRecordData, UnknownRecordData};
+use dns_item::{ComposeQuestion, ComposeRecord, ParsedRecord};
+use dns_message::builder::MessageBuilder;
+use dns_message::message::Message;
+use dns_message::target::StaticCompressor;
 use dns_wire::Name;
 use std::alloc::Global;
 use std::cmp::Ordering;
 use std::fmt::Display;
 use std::hash::{DefaultHasher, Hash, Hasher};
 use std::process::Abort;
+use std::test::Fail;
 
 /// A name over static octets.
 pub(crate) type SliceName = Name<&'static [u8]>;
 
-/// The name in these octets.
-pub(crate) fn name(rt: &impl Abort, octets: &'static [u8]) -> SliceName {
+/// The uncompressed name in these octets.
+pub(crate) fn name_of(rt: &impl Abort, octets: &'static [u8]) -> SliceName {
     let Ok(name) = Name::from_octets(octets) else {
         panic!(rt; "no name");
     };
@@ -42,62 +47,66 @@ pub(crate) fn options(rt: &impl Abort, octets: &'static [u8]) -> Opt<&'static [u
 }
 
 /// Fails unless the condition holds.
-pub(crate) fn assert_holds(rt: &impl Abort, what: &str, holds: bool) {
-    assert!(rt; holds, "{what}");
+pub(crate) fn assert_holds(rt: &impl Abort, row: &str, holds: bool) {
+    assert!(rt; holds, "{row}");
 }
 
-/// Fails unless the octets are the expected ones.
-pub(crate) fn assert_octets(rt: &impl Abort, what: &str, octets: &[u8], expected: &[u8]) {
-    assert_eq!(rt; octets, expected, "{what}");
+/// Fails unless the octets equal the expected ones.
+pub(crate) fn assert_octets(rt: &impl Abort, row: &str, octets: &[u8], expected: &[u8]) {
+    assert_eq!(rt; octets, expected, "{row}");
 }
 
-/// Fails unless the numbers are the expected ones.
-pub(crate) fn assert_numbers(rt: &impl Abort, what: &str, numbers: &[u32], expected: &[u32]) {
-    assert_eq!(rt; numbers, expected, "{what}");
+/// Fails unless the numbers equal the expected ones.
+pub(crate) fn assert_numbers(rt: &impl Abort, row: &str, numbers: &[u32], expected: &[u32]) {
+    assert_eq!(rt; numbers, expected, "{row}");
 }
 
 /// Fails unless the question has these octets.
 pub(crate) fn assert_question<Q: ComposeQuestion>(
     rt: &impl Abort,
-    what: &str,
+    row: &str,
     question: &Q,
     expected: &[u8],
 ) {
     let mut target = ArrayVec::<u8, 64>::new();
-    assert!(rt; question.compose_question(&mut target).is_ok(), "{what}");
-    assert_octets(rt, what, target.as_slice(), expected);
+    assert!(rt; question.compose_question(&mut target).is_ok(), "{row}");
+    assert_octets(rt, row, target.as_slice(), expected);
 }
 
 /// Fails unless the record has these octets.
 pub(crate) fn assert_record<R: ComposeRecord>(
     rt: &impl Abort,
-    what: &str,
+    row: &str,
     record: &R,
     expected: &[u8],
 ) {
     let mut target = ArrayVec::<u8, 64>::new();
-    assert!(rt; record.compose_record(&mut target).is_ok(), "{what}");
-    assert_octets(rt, what, target.as_slice(), expected);
+    assert!(rt; record.compose_record(&mut target).is_ok(), "{row}");
+    assert_octets(rt, row, target.as_slice(), expected);
 }
 
 /// Fails unless the RDATA has these octets.
 pub(crate) fn assert_data<D: ComposeRecordData>(
     rt: &impl Abort,
-    what: &str,
+    row: &str,
     data: &D,
     expected: &[u8],
 ) {
     let mut target = ArrayVec::<u8, 64>::new();
-    assert!(rt; data.compose_rdata(&mut target).is_ok(), "{what}");
-    assert_octets(rt, what, target.as_slice(), expected);
+    assert!(rt; data.compose_rdata(&mut target).is_ok(), "{row}");
+    assert_octets(rt, row, target.as_slice(), expected);
 }
 
 /// Fails unless the value is printed as `text`.
-pub(crate) fn assert_printed<T: Display>(rt: &impl Abort, alloc: Global, value: &T, text: &str) {
-    let Ok(printed) = value.to_string(alloc) else {
-        panic!(rt; "{text}");
-    };
-    assert_eq!(rt; printed.as_str(), text);
+pub(crate) fn assert_prints<T: Display>(
+    rt: &impl Abort,
+    alloc: Global,
+    row: &str,
+    value: &T,
+    text: &str,
+) {
+    let printed = value.to_string(alloc).expect(rt, row);
+    assert_eq!(rt; printed.as_str(), text, "{row}");
 }
 
 fn hash_of<T: Hash>(value: &T) -> u64 {
@@ -107,13 +116,55 @@ fn hash_of<T: Hash>(value: &T) -> u64 {
 }
 
 /// Fails unless the two values are equal, compare as equal, and have the same hash.
-pub(crate) fn assert_same<T: Ord + Hash>(rt: &impl Abort, what: &str, first: &T, second: &T) {
+pub(crate) fn assert_alike<T: Ord + Hash>(rt: &impl Abort, row: &str, first: &T, second: &T) {
     let is_same = first == second && first.cmp(second) == Ordering::Equal;
-    assert!(rt; is_same && hash_of(first) == hash_of(second), "{what}");
+    assert!(rt; is_same && hash_of(first) == hash_of(second), "{row}");
 }
 
 /// Fails unless the first value precedes the second, and differs from it.
-pub(crate) fn assert_less<T: Ord>(rt: &impl Abort, what: &str, first: &T, second: &T) {
+pub(crate) fn assert_less<T: Ord>(rt: &impl Abort, row: &str, first: &T, second: &T) {
     let is_less = first.cmp(second) == Ordering::Less;
-    assert!(rt; is_less && first < second && first != second, "{what}");
+    assert!(rt; is_less && first < second && first != second, "{row}");
+}
+
+/// Fails unless the message with this answer has these octets, over a compressor.
+pub(crate) fn assert_answer<R: ComposeRecord + Drop>(
+    rt: &impl Abort,
+    alloc: Global,
+    row: &str,
+    record: R,
+    expected: &[u8],
+) -> Result<(), Fail> {
+    let target = StaticCompressor::new(Vec::new(alloc));
+    let mut builder = MessageBuilder::from_target(target)?.answer();
+    builder.push(record)?;
+    assert_octets(rt, row, builder.as_slice(), expected);
+    Ok(())
+}
+
+/// The message in these octets.
+pub(crate) fn message_of(rt: &impl Abort, octets: &'static [u8]) -> Message<&'static [u8]> {
+    let Ok(message) = Message::from_slice(octets) else {
+        panic!(rt; "no message");
+    };
+    message
+}
+
+/// The first answer, if it can be read.
+fn first_answer<'a>(message: &'a Message<&'a [u8]>) -> Option<ParsedRecord<'a>> {
+    message.answer().ok()?.next()?.ok()
+}
+
+/// The RDATA of the first answer.
+pub(crate) fn first_data<'a, D: ParseRecordData<'a> + Drop>(
+    rt: &impl Abort,
+    message: &'a Message<&'a [u8]>,
+) -> D {
+    let Some(answer) = first_answer(message) else {
+        panic!(rt; "no answer");
+    };
+    let Ok(Some(record)) = answer.to_record::<D>() else {
+        panic!(rt; "no data");
+    };
+    record.into_data()
 }

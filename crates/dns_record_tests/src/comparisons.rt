@@ -1,99 +1,119 @@
-//! Comparisons of records, and their canonical form.
-use crate::asserts::{SliceName, assert_holds, assert_octets, assert_same, name};
-use arrayvec::ArrayVec;
+//! Comparisons of questions, records, their headers and their RDATA: equality, and two orders, that
+//! of values and that of canonical forms.
+use crate::asserts::{SliceName, assert_alike, assert_less, name_of, opaque, options};
 use dns_code::{Class, Rtype};
-use dns_data::{
-    A, ComposeRecordData, Ns, RecordData, compose_canonical_len_rdata, compose_len_rdata,
-};
-use dns_item::{Record, RecordHeader, Ttl};
-use dns_message::target::{
-    FingerprintCompressor, HashCompressor, StaticCompressor, StreamTarget, TreeCompressor,
-};
-use dns_wire::{AppendError, Composer};
+use dns_data::{A, Cname, Ns, Soa, UnknownRecordData};
+use dns_item::{Question, Record, RecordHeader, Ttl};
+use dns_wire::CanonicalOrd;
+use std::cmp::Ordering;
 use std::process::Abort;
-use std::test::Fail;
+
+type Opaque = UnknownRecordData<&'static [u8]>;
+
+/// Fails unless the first value precedes the second in canonical order, and each equals itself.
+fn assert_canonical_order<T: CanonicalOrd>(rt: &impl Abort, row: &str, first: &T, second: &T) {
+    let orders = [
+        first.canonical_cmp(second),
+        second.canonical_cmp(first),
+        first.canonical_cmp(first),
+    ];
+    let expected = [Ordering::Less, Ordering::Greater, Ordering::Equal];
+    assert_eq!(rt; orders, expected, "{row}");
+}
 
 /// A record of 1.2.3.4.
 fn address(rt: &impl Abort, owner: &'static [u8], ttl: Ttl) -> Record<SliceName, A> {
-    Record::new(name(rt, owner), Class::IN, ttl, A::from_octets(1, 2, 3, 4))
+    Record::new(
+        name_of(rt, owner),
+        Class::IN,
+        ttl,
+        A::from_octets(1, 2, 3, 4),
+    )
 }
 
 #[test]
 fn equality_leaves_out_ttl_and_case(rt: HostRuntime) {
     let record = address(&rt, b"\x07example\x03com\x00", Ttl::MINUTE);
     let same = address(&rt, b"\x07EXAMPLE\x03com\x00", Ttl::HOUR);
-    assert_same(&rt, "Equality leaves out TTL and case", &record, &same);
-}
-
-/// Composes Example.COM. NS NS.Example.COM. in canonical form on an empty target.
-fn assert_canonical<T: Composer>(rt: &impl Abort, mut target: T) {
-    let owner = name(rt, b"\x07Example\x03COM\x00");
-    let server = Ns::new(name(rt, b"\x02NS\x07Example\x03COM\x00"));
-    let record = Record::new(owner, Class::IN, Ttl::HOUR, server);
-    assert!(rt;
-        record.compose_canonical(&mut target).is_ok(),
-        "Canonical record"
-    );
-    assert_octets(
-        rt,
-        "Canonical record",
-        target.as_slice(),
-        b"\x07example\x03com\x00\x00\x02\x00\x01\x00\x00\x0E\x10\x00\x10\x02ns\x07example\x03com\x00",
-    );
+    assert_alike(&rt, "another TTL and letter case", &record, &same);
 }
 
 #[test]
-fn composes_a_canonical_record(rt: HostRuntime) -> Result<(), Fail> {
-    let alloc = rt.alloc();
-    assert_canonical(&rt, Vec::new(alloc));
-    assert_canonical(&rt, ArrayVec::<u8, 39>::new());
-    assert_canonical(&rt, StreamTarget::new_vec(alloc)?);
-    assert_canonical(&rt, StaticCompressor::new(Vec::new(alloc)));
-    assert_canonical(&rt, TreeCompressor::new(alloc, Vec::new(alloc)));
-    assert_canonical(&rt, HashCompressor::new(alloc, Vec::new(alloc)));
-    assert_canonical(&rt, FingerprintCompressor::new(alloc, Vec::new(alloc)));
-    Ok(())
+fn orders_questions_in_two_ways(rt: HostRuntime) {
+    let short = Question::new_in(name_of(&rt, b"\x01b\x00"), Rtype::A);
+    let long = Question::new_in(name_of(&rt, b"\x02aa\x00"), Rtype::A);
+    assert_less(&rt, "by labels", &long, &short);
+    assert_canonical_order(&rt, "by the length of a label", &short, &long);
 }
 
-/// Composes a header as it is and in canonical form, RDATA in canonical form, RDATA with its length
-/// before it, and the former RDATA in canonical form with its length before it.
-fn compose_parts(name: SliceName, target: &mut ArrayVec<u8, 64>) -> Result<(), AppendError> {
-    let header = RecordHeader::new(name, Rtype::TXT, Class::CH, Ttl::MINUTE, 7);
-    header.compose(target)?;
-    header.compose_canonical(target)?;
-    let server = Ns::new(name);
-    server.compose_canonical_rdata(target)?;
-    compose_len_rdata(&A::from_octets(1, 2, 3, 4), target)?;
-    compose_canonical_len_rdata(&server, target)
+/// A record of 1.2.3.4 as opaque data.
+fn record(rt: &impl Abort, owner: &'static [u8], class: Class) -> Record<SliceName, Opaque> {
+    let data = opaque(rt, Rtype::A, b"\x01\x02\x03\x04");
+    Record::new(name_of(rt, owner), class, Ttl::HOUR, data)
 }
 
 #[test]
-fn composes_headers_and_data(rt: HostRuntime) {
-    let mut target = ArrayVec::new();
-    let composed = compose_parts(name(&rt, b"\x01A\x00"), &mut target);
-    assert_holds(&rt, "composed", composed.is_ok());
-    assert_octets(
+fn orders_records_in_two_ways(rt: HostRuntime) {
+    let last_name = record(&rt, b"\x01z\x00", Class::IN);
+    let last_class = record(&rt, b"\x01a\x00", Class::CH);
+    assert_less(&rt, "by owner", &last_class, &last_name);
+    assert_canonical_order(&rt, "by class", &last_name, &last_class);
+    let first_class = record(&rt, b"\x01A\x00", Class::IN);
+    assert_less(&rt, "classes of one owner", &first_class, &last_class);
+    let ending = record(&rt, b"\x01b\x00", Class::IN);
+    let longer = record(&rt, b"\x01a\x01b\x00", Class::IN);
+    assert_canonical_order(&rt, "owners from the root leftwards", &ending, &longer);
+}
+
+#[test]
+fn orders_headers(rt: HostRuntime) {
+    let owner = name_of(&rt, b"\x01b\x00");
+    let chaos = RecordHeader::new(owner, Rtype::NS, Class::CH, Ttl::MINUTE, 9);
+    let short = RecordHeader::new(owner, Rtype::NS, Class::CH, Ttl::MINUTE, 8);
+    assert_less(&rt, "lengths", &short, &chaos);
+    let internet = RecordHeader::new(owner, Rtype::NS, Class::IN, Ttl::HOUR, 9);
+    assert_less(&rt, "classes", &internet, &short);
+}
+
+#[test]
+fn orders_data_by_its_canonical_octets(rt: HostRuntime) {
+    let low = A::from_octets(9, 255, 255, 255);
+    assert_canonical_order(&rt, "addresses", &low, &A::from_octets(10, 0, 0, 0));
+    // The name with the shorter first label comes first, since its length octet is smaller.
+    let short = name_of(&rt, b"\x01Z\x00");
+    let long = name_of(&rt, b"\x02aa\x00");
+    assert_canonical_order(&rt, "servers", &Ns::new(short), &Ns::new(long));
+    assert_canonical_order(&rt, "aliases", &Cname::new(short), &Cname::new(long));
+    // The first name decides first, and after the names the serial.
+    let first = Soa::new(short, long, 9, 1, 1, 1, 1);
+    assert_canonical_order(&rt, "zones", &first, &Soa::new(long, short, 1, 1, 1, 1, 1));
+    assert_canonical_order(
         &rt,
-        "headers and data",
-        target.as_slice(),
-        b"\x01A\x00\x00\x10\x00\x03\x00\x00\x00\x3C\x00\x07\x01a\x00\x00\x10\x00\x03\x00\x00\x00\x3C\x00\x07\x01a\x00\x00\x04\x01\x02\x03\x04\x00\x03\x01a\x00",
+        "serials",
+        &first,
+        &Soa::new(short, long, 10, 0, 0, 0, 0),
     );
 }
 
-/// The length is that of what is written.
 #[test]
-fn composes_compressed_data_after_its_length(rt: HostRuntime) {
-    let server = Ns::new(name(&rt, b"\x01a\x00"));
-    assert_holds(&rt, "type", server.rtype() == Rtype::NS);
-    let mut target = StaticCompressor::new(Vec::new(rt.alloc()));
-    for _ in 0..2 {
-        let composed = compose_len_rdata(&server, &mut target);
-        assert_holds(&rt, "composed", composed.is_ok());
-    }
-    assert_octets(
+fn compares_opaque_data_by_type_and_octets(rt: HostRuntime) {
+    let data = opaque(&rt, Rtype::TXT, b"\x01b");
+    assert_alike(&rt, "octets", &data, &opaque(&rt, Rtype::TXT, b"\x01b"));
+    let other_type = opaque(&rt, Rtype::from_int(33), b"\x01a");
+    assert_less(&rt, "types", &data, &other_type);
+    assert_canonical_order(&rt, "types, canonically", &data, &other_type);
+}
+
+#[test]
+fn compares_options_by_their_octets(rt: HostRuntime) {
+    let none = options(&rt, b"");
+    let nsid = options(&rt, b"\x00\x03\x00\x00");
+    assert_alike(
         &rt,
-        "data",
-        target.as_slice(),
-        b"\x00\x03\x01a\x00\x00\x02\xC0\x02",
+        "the same option",
+        &nsid,
+        &options(&rt, b"\x00\x03\x00\x00"),
     );
+    assert_less(&rt, "no option", &none, &nsid);
+    assert_canonical_order(&rt, "no option, canonically", &none, &nsid);
 }

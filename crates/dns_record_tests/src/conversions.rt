@@ -1,7 +1,7 @@
 //! Questions, records and RDATA: converted to other octets, read from a message, and cloned.
 use crate::asserts::{
     SliceName, assert_data, assert_holds, assert_numbers, assert_octets, assert_question,
-    assert_record, name, opaque, options,
+    assert_record, name_of, opaque, options,
 };
 use arrayvec::ArrayVec;
 use dns_code::{Class, Rtype};
@@ -37,12 +37,12 @@ fn flattened<T, S: FlattenInto<T>>(rt: &impl Abort, alloc: Global, source: S) ->
 
 /// The record example.com. NS example.com.
 fn server(rt: &impl Abort) -> Record<SliceName, Ns<SliceName>> {
-    let name = name(rt, EXAMPLE_COM);
+    let name = name_of(rt, EXAMPLE_COM);
     Record::new(name, Class::CH, Ttl::MINUTE, Ns::new(name))
 }
 
 fn question(rt: &impl Abort) -> Question<SliceName> {
-    Question::new(name(rt, EXAMPLE_COM), Rtype::NS, Class::CH)
+    Question::new(name_of(rt, EXAMPLE_COM), Rtype::NS, Class::CH)
 }
 
 #[test]
@@ -66,9 +66,11 @@ fn converts_items(rt: HostRuntime) {
 #[test]
 fn refuses_names_that_are_too_long(rt: HostRuntime) {
     let short = Question::<ShortName>::try_octets_from(rt.alloc(), question(&rt));
-    assert!(rt; matches!(short, Err(AppendError::ShortBuf)));
+    let is_refused = matches!(short, Err(AppendError::ShortBuf));
+    assert_holds(&rt, "a question", is_refused);
     let short = Record::<VecName, Ns<ShortName>>::try_octets_from(rt.alloc(), server(&rt));
-    assert!(rt; matches!(short, Err(AppendError::ShortBuf)));
+    let is_refused = matches!(short, Err(AppendError::ShortBuf));
+    assert_holds(&rt, "the RDATA of a record", is_refused);
 }
 
 #[test]
@@ -76,7 +78,7 @@ fn converts_data(rt: HostRuntime) {
     let address: A = converted(&rt, rt.alloc(), A::from_octets(1, 2, 3, 4));
     let address: A = flattened(&rt, rt.alloc(), address);
     assert_octets(&rt, "address", &address.octets(), &[1, 2, 3, 4]);
-    let source = Soa::new(name(&rt, EXAMPLE_COM), Name::root_slice(), 1, 2, 3, 4, 5);
+    let source = Soa::new(name_of(&rt, EXAMPLE_COM), Name::root_slice(), 1, 2, 3, 4, 5);
     let zone: Soa<VecName> = converted(&rt, rt.alloc(), source);
     assert_octets(&rt, "first name", zone.mname().as_slice(), EXAMPLE_COM);
     assert_octets(&rt, "second name", zone.rname().as_slice(), b"\x00");
@@ -143,39 +145,39 @@ fn flattens_a_zone(rt: HostRuntime) {
 }
 
 /// Fails unless a clone of the value is equal to it.
-fn assert_cloned<T: Clone + PartialEq + Drop>(rt: &impl Abort, what: &str, value: T) {
+fn assert_cloned<T: Clone + PartialEq + Drop>(rt: &impl Abort, row: &str, value: T) {
     let Ok(clone) = value.clone() else {
-        panic!(rt; "{what}");
+        panic!(rt; "{row}");
     };
-    assert!(rt; clone == value, "{what}");
+    assert!(rt; clone == value, "{row}");
 }
 
 /// Fails unless a clone of the name has the same octets.
-fn assert_name_cloned(rt: &impl Abort, what: &str, name: &VecName) {
+fn assert_name_cloned(rt: &impl Abort, row: &str, name: &VecName) {
     let Ok(clone) = name.clone() else {
-        panic!(rt; "{what}");
+        panic!(rt; "{row}");
     };
-    assert_octets(rt, what, clone.as_slice(), EXAMPLE_COM);
+    assert_octets(rt, row, clone.as_slice(), EXAMPLE_COM);
 }
 
 /// Fails unless a clone of the record example.com. 3600 IN A 1.2.3.4 is equal to it, and has its
 /// octets.
-fn assert_record_cloned(rt: &impl Abort, what: &str, record: &Record<VecName, A>) {
+fn assert_record_cloned(rt: &impl Abort, row: &str, record: &Record<VecName, A>) {
     let Ok(clone) = record.clone() else {
-        panic!(rt; "{what}");
+        panic!(rt; "{row}");
     };
     let lent: &Record<VecName, A> = clone.as_ref();
-    assert_holds(rt, what, lent == record);
+    assert_holds(rt, row, lent == record);
     assert_record(
         rt,
-        what,
+        row,
         lent,
         b"\x07example\x03com\x00\x00\x01\x00\x01\x00\x00\x0E\x10\x00\x04\x01\x02\x03\x04",
     );
 }
 
 fn vec_name(rt: &impl Abort, alloc: Global) -> VecName {
-    converted(rt, alloc, name(rt, EXAMPLE_COM))
+    converted(rt, alloc, name_of(rt, EXAMPLE_COM))
 }
 
 #[test]
@@ -188,23 +190,18 @@ fn clones_data(rt: HostRuntime) {
     assert_cloned(&rt, "zone", Soa::new(mname, rname, 1, 2, 3, 4, 5));
 }
 
-/// The clones of "Name conversions and clones".
 #[test]
 fn clones_items(rt: HostRuntime) {
-    let what = "Name conversions and clones";
-    assert_name_cloned(&rt, what, &vec_name(&rt, rt.alloc()));
+    assert_name_cloned(&rt, "name", &vec_name(&rt, rt.alloc()));
     let qname = vec_name(&rt, rt.alloc());
-    assert_cloned(&rt, what, Question::new_in(qname, Rtype::A));
+    assert_cloned(&rt, "question", Question::new_in(qname, Rtype::A));
     let owner = vec_name(&rt, rt.alloc());
-    assert_cloned(
-        &rt,
-        what,
-        RecordHeader::new(owner, Rtype::A, Class::IN, Ttl::HOUR, 4),
-    );
+    let header = RecordHeader::new(owner, Rtype::A, Class::IN, Ttl::HOUR, 4);
+    assert_cloned(&rt, "header", header);
     let owner = vec_name(&rt, rt.alloc());
     let data = A::from_octets(1, 2, 3, 4);
     let record = Record::new(owner, Class::IN, Ttl::HOUR, data);
-    assert_record_cloned(&rt, what, &record);
+    assert_record_cloned(&rt, "record", &record);
 }
 
 /// Three records at offsets 0, 15 and 30. The owner of the second has other letter case. The
@@ -225,7 +222,7 @@ fn compares_unread_records_by_their_octets(rt: HostRuntime) {
     let mut parser = Parser::new(POINTING);
     let record = next_record(&rt, &mut parser);
     let same = next_record(&rt, &mut parser);
-    assert_holds(&rt, "owner up to its letter case", record == same);
+    assert_holds(&rt, "an owner in other letter case", record == same);
     let other = next_record(&rt, &mut parser);
     assert_holds(&rt, "another pointer to the same name", record != other);
 }
@@ -235,8 +232,8 @@ fn compares_records_without_data(rt: HostRuntime) -> Result<(), Fail> {
     let header = RecordHeader::parse(&mut Parser::new(POINTING))?;
     let missing = ParsedRecord::new(header, Parser::new(b"\xC0"));
     let also_missing = ParsedRecord::new(header, Parser::new(b""));
-    assert_holds(&rt, "missing data", missing == also_missing);
+    assert_holds(&rt, "missing RDATA", missing == also_missing);
     let present = ParsedRecord::new(header, Parser::new(b"\xC0\x00"));
-    assert_holds(&rt, "data", missing != present);
+    assert_holds(&rt, "RDATA of two octets", missing != present);
     Ok(())
 }

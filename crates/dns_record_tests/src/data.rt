@@ -1,5 +1,5 @@
 //! RDATA: what data types accept, what they refuse, and how records are printed.
-use crate::asserts::{assert_holds, assert_printed, name, opaque};
+use crate::asserts::{assert_holds, assert_prints, name_of, opaque};
 use dns_code::{Class, Rtype};
 use dns_data::{A, Cname, LongRecordData, Ns, ParseRecordData, Soa, UnknownRecordData};
 use dns_item::record::RecordParseError;
@@ -33,37 +33,48 @@ fn takes_its_own_type_alone(rt: HostRuntime) {
 #[test]
 fn prints_records(rt: HostRuntime) {
     let alloc = rt.alloc();
-    let owner = name(&rt, b"\x07example\x03com\x00");
+    let owner = name_of(&rt, b"\x07example\x03com\x00");
     let mut record = Record::new(owner, Class::IN, Ttl::HOUR, A::from_octets(203, 0, 113, 1));
-    assert_printed(&rt, alloc, &record, "example.com. 3600 IN A 203.0.113.1");
+    let text = "example.com. 3600 IN A 203.0.113.1";
+    assert_prints(&rt, alloc, "an address", &record, text);
     record.set_class(Class::CH);
     record.set_ttl(Ttl::MINUTE);
     *record.data_mut() = A::from_octets(192, 0, 2, 2);
-    assert_printed(&rt, alloc, &record, "example.com. 60 CH A 192.0.2.2");
+    let text = "example.com. 60 CH A 192.0.2.2";
+    assert_prints(&rt, alloc, "a changed record", &record, text);
     let server = Record::new(Name::root_slice(), Class::CH, Ttl::ZERO, Ns::new(owner));
-    assert_printed(&rt, alloc, &server, ". 0 CH NS example.com.");
+    assert_prints(&rt, alloc, "a server", &server, ". 0 CH NS example.com.");
     let soa = Soa::new(owner, owner, 1, 2, 3, 4, 5);
-    assert_printed(&rt, alloc, &soa, "example.com. example.com. 1 2 3 4 5");
+    let text = "example.com. example.com. 1 2 3 4 5";
+    assert_prints(&rt, alloc, "a zone", &soa, text);
 }
 
 #[test]
 fn prints_opaque_data(rt: HostRuntime) {
     let data = opaque(&rt, Rtype::A, b"\x01\x02\x03\x04\xAB");
     let record = Record::new(Name::root_slice(), Class::IN, Ttl::ZERO, data);
-    assert_printed(&rt, rt.alloc(), &record, ". 0 IN A \\# 5 01020304ab");
-    assert_printed(&rt, rt.alloc(), &opaque(&rt, Rtype::TXT, b""), "\\# 0");
+    let text = ". 0 IN A \\# 5 01020304ab";
+    assert_prints(&rt, rt.alloc(), "a record", &record, text);
+    let data = opaque(&rt, Rtype::TXT, b"");
+    assert_prints(&rt, rt.alloc(), "no octet", &data, "\\# 0");
 }
 
 type ReadingError = RecordParseError<ParseError, LongRecordData>;
 
 #[test]
-fn reports_errors(rt: HostRuntime) {
+fn prints_errors(rt: HostRuntime) {
     let alloc = rt.alloc();
     let name = ReadingError::Name(ParseError::ShortInput);
-    assert_printed(&rt, alloc, &name, "unexpected end of input");
+    assert_prints(&rt, alloc, "a name", &name, "unexpected end of input");
     let data = ReadingError::Data(LongRecordData);
-    assert_printed(&rt, alloc, &data, "record data too long");
+    assert_prints(&rt, alloc, "RDATA", &data, "record data too long");
     let short = ReadingError::from(ShortBuf);
-    assert_printed(&rt, alloc, &short, "unexpected end of buffer");
-    assert_printed(&rt, alloc, &LongOptData, "option data too long");
+    assert_prints(&rt, alloc, "a buffer", &short, "unexpected end of buffer");
+    assert_prints(
+        &rt,
+        alloc,
+        "an option",
+        &LongOptData,
+        "option data too long",
+    );
 }

@@ -5,12 +5,15 @@ ghost use Rattle.dns_wire.specs.Parts.{Octets};
 ghost use Rattle.dns_data.specs.Layout.{CharacterString, End};
 ghost use Rattle.dns_data.specs.RecordData.{only};
 
-use crate::char_str::CharStr;
+use crate::asserts::{assert_answer, assert_octets, first_data, message_of, name_of};
+use crate::char_str::{CharStr, string};
 use crate::fields::compose_fields;
-use dns_message::code::Rtype;
+use dns_message::code::{Class, Rtype};
 use dns_message::data::{ComposeRecordData, ParseRecordData, RecordData};
+use dns_message::record::{Record, Ttl};
 use dns_message::target::Composer;
 use dns_message::wire::{AppendError, ParseError, Parser};
+use std::test::Fail;
 
 /// The CPU type and the operating system of a host (RFC 1035 section 3.3.2).
 #[derive(Clone, Copy)]
@@ -56,35 +59,25 @@ impl<'a> ParseRecordData<'a> for Hinfo<'a> {
     ghost laid_out = { Prim.search rules };
 }
 
-mod tests {
-    use super::*;
-    use crate::answers::{assert_answer, first_data, message};
-    use crate::asserts::{assert_octets, name};
-    use crate::char_str::string;
-    use dns_message::code::Class;
-    use dns_message::record::{Record, Ttl};
-    use std::test::Fail;
+/// An answer with the HINFO record of host.example., a DEC-2060 with TOPS20.
+const MESSAGE: &[u8; 52] =
+    b"\x00\x00\x00\x00\x00\x00\x00\x01\x00\x00\x00\x00\x04host\x07example\x00\x00\x0D\x00\x01\x00\x00\x0E\x10\x00\x10\x08DEC-2060\x06TOPS20";
 
-    /// An answer with the HINFO record of host.example., a DEC-2060 with TOPS20.
-    const MESSAGE: &[u8; 52] =
-        b"\x00\x00\x00\x00\x00\x00\x00\x01\x00\x00\x00\x00\x04host\x07example\x00\x00\x0D\x00\x01\x00\x00\x0E\x10\x00\x10\x08DEC-2060\x06TOPS20";
+#[test]
+fn composes_its_strings(rt: HostRuntime) -> Result<(), Fail> {
+    let hinfo = Hinfo {
+        cpu: string(&rt, b"\x08DEC-2060"),
+        os: string(&rt, b"\x06TOPS20"),
+    };
+    let owner = name_of(&rt, b"\x04host\x07example\x00");
+    let record = Record::new(owner, Class::IN, Ttl::HOUR, hinfo);
+    assert_answer(&rt, rt.alloc(), "an answer", record, MESSAGE)
+}
 
-    #[test]
-    fn composes_its_strings(rt: HostRuntime) -> Result<(), Fail> {
-        let hinfo = Hinfo {
-            cpu: string(&rt, b"\x08DEC-2060"),
-            os: string(&rt, b"\x06TOPS20"),
-        };
-        let owner = name(&rt, b"\x04host\x07example\x00");
-        let record = Record::new(owner, Class::IN, Ttl::HOUR, hinfo);
-        assert_answer(&rt, rt.alloc(), record, MESSAGE)
-    }
-
-    #[test]
-    fn reads_its_own_data_back(rt: HostRuntime) {
-        let message = message(&rt, MESSAGE);
-        let hinfo: Hinfo<'_> = first_data(&rt, &message);
-        assert_octets(&rt, "hardware", hinfo.cpu.as_slice(), b"\x08DEC-2060");
-        assert_octets(&rt, "system", hinfo.os.as_slice(), b"\x06TOPS20");
-    }
+#[test]
+fn reads_its_own_data_back(rt: HostRuntime) {
+    let message = message_of(&rt, MESSAGE);
+    let hinfo: Hinfo<'_> = first_data(&rt, &message);
+    assert_octets(&rt, "hardware", hinfo.cpu.as_slice(), b"\x08DEC-2060");
+    assert_octets(&rt, "system", hinfo.os.as_slice(), b"\x06TOPS20");
 }

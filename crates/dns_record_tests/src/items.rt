@@ -1,5 +1,5 @@
 //! Records and their headers: read, taken apart, and made anew.
-use crate::asserts::{assert_holds, assert_numbers, assert_octets, assert_record, name};
+use crate::asserts::{assert_holds, assert_numbers, assert_octets, assert_record, name_of};
 use dns_code::{Class, Rtype};
 use dns_data::{A, UnknownRecordData};
 use dns_item::{ParsedRecord, Question, Record, RecordHeader, Ttl};
@@ -13,11 +13,11 @@ const ADDRESS: &[u8; 17] = b"\x01a\x00\x00\x01\x00\x01\x00\x00\x0E\x10\x00\x04\x
 /// Fails unless the header is that of `ADDRESS`.
 fn assert_header(
     rt: &impl Abort,
-    what: &str,
+    row: &str,
     header: Result<RecordHeader<ParsedName<'_>>, ParseError>,
 ) {
     let Ok(header) = header else {
-        panic!(rt; "{what}");
+        panic!(rt; "{row}");
     };
     let numbers = [
         u32::from(header.rtype().to_int()),
@@ -25,9 +25,9 @@ fn assert_header(
         header.ttl().as_secs(),
         u32::from(header.rdlen()),
     ];
-    assert_numbers(rt, what, &numbers, &[1, 1, 3600, 4]);
-    let owner = name(rt, b"\x01a\x00");
-    assert_holds(rt, what, header.owner().octets_eq(&owner));
+    assert_numbers(rt, row, &numbers, &[1, 1, 3600, 4]);
+    let owner = name_of(rt, b"\x01a\x00");
+    assert_holds(rt, row, header.owner().octets_eq(&owner));
 }
 
 #[test]
@@ -44,11 +44,8 @@ fn reads_headers(rt: HostRuntime) {
         "parse_and_skip",
         RecordHeader::parse_and_skip(&mut parser),
     );
-    assert_holds(
-        &rt,
-        "parse_and_skip stops behind the data",
-        parser.pos() == 17,
-    );
+    let is_skipped = parser.pos() == 17;
+    assert_holds(&rt, "parse_and_skip stops after the data", is_skipped);
 }
 
 /// The address after a header.
@@ -142,7 +139,7 @@ fn assert_records<N: ToName + Copy>(rt: &impl Abort, owner: N, data: A) {
 
 #[test]
 fn composes_tuples(rt: HostRuntime) {
-    let owner = name(&rt, b"\x01a\x00");
+    let owner = name_of(&rt, b"\x01a\x00");
     let data = A::from_octets(203, 0, 113, 1);
     assert_tuples(&rt, owner, data);
     assert_records(&rt, owner, data);

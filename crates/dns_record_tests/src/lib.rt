@@ -1,13 +1,15 @@
 //! Tests of items and OPT records: questions, record data, data types of the tests' own, OPT
 //! records and what is gathered for one. The expected values come from outside this library.
 //!
-//! Nothing is exported.
+//! Nothing is exported. A module tests what it is named after; `asserts` has what many tests use,
+//! and `char_str` and `fields` what the data types of the tests' own share. The rows of a table have
+//! names, which failures print.
 #![tactic(auto)]
 
 #[cfg(test)]
-mod answers;
-#[cfg(test)]
 mod asserts;
+#[cfg(test)]
+mod canonical;
 #[cfg(test)]
 mod char_str;
 #[cfg(test)]
@@ -28,7 +30,5 @@ mod mx;
 mod naptr;
 #[cfg(test)]
 mod opt;
-#[cfg(test)]
-mod orders;
 #[cfg(test)]
 mod questions;

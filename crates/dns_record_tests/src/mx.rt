@@ -6,8 +6,9 @@ ghost use Rattle.dns_wire.specs.Parts.{Octets, CompressibleName};
 ghost use Rattle.dns_data.specs.Layout.{Fixed, DomainName, End};
 ghost use Rattle.dns_data.specs.RecordData.{only};
 
-use crate::answers::{assert_answer, first_data, message};
-use crate::asserts::{assert_holds, assert_numbers, name};
+use crate::asserts::{
+    assert_answer, assert_holds, assert_numbers, first_data, message_of, name_of,
+};
 use dns_message::code::{Class, Rtype};
 use dns_message::data::laws::{names_are_bounded, parts_compose};
 use dns_message::data::{ComposeRecordData, ParseRecordData, RecordData};
@@ -87,17 +88,17 @@ const MESSAGE: &[u8; 40] =
 fn compresses_its_exchange(rt: HostRuntime) -> Result<(), Fail> {
     let mx = Mx {
         preference: 10,
-        exchange: name(&rt, b"\x04mail\x07example\x00"),
+        exchange: name_of(&rt, b"\x04mail\x07example\x00"),
     };
     let record = Record::new(mx.exchange, Class::IN, Ttl::HOUR, mx);
-    assert_answer(&rt, rt.alloc(), record, MESSAGE)
+    assert_answer(&rt, rt.alloc(), "an answer", record, MESSAGE)
 }
 
 #[test]
 fn reads_its_own_data_back(rt: HostRuntime) {
-    let message = message(&rt, MESSAGE);
+    let message = message_of(&rt, MESSAGE);
     let mx: Mx<ParsedName<'_>> = first_data(&rt, &message);
     assert_numbers(&rt, "preference", &[u32::from(mx.preference)], &[10]);
-    let exchange = name(&rt, b"\x04mail\x07example\x00");
+    let exchange = name_of(&rt, b"\x04mail\x07example\x00");
     assert_holds(&rt, "exchange", mx.exchange.octets_eq(&exchange));
 }

@@ -9,14 +9,20 @@ ghost use Rattle.dns_data.specs.Layout.{Fixed, CharacterString, DomainName, End}
 ghost use Rattle.dns_data.specs.RecordData.{only};
 ghost use Rattle.dns_record_tests.specs.Naptr.{naptr_parts, verbatim};
 
-use crate::char_str::CharStr;
+use crate::asserts::{
+    assert_answer, assert_holds, assert_numbers, assert_octets, first_data, message_of, name_of,
+};
+use crate::char_str::{CharStr, string};
 use crate::fields::compose_fields;
-use dns_message::code::Rtype;
+use dns_message::code::{Class, Rtype};
 use dns_message::data::laws::names_are_bounded;
 use dns_message::data::{ComposeRecordData, ParseRecordData, RecordData};
-use dns_message::name::{Name, ParsedName, ToName};
+use dns_message::name::{Name, ParsedName, ToName, ToNameExt};
+use dns_message::record::{Record, Ttl};
 use dns_message::target::Composer;
 use dns_message::wire::{AppendError, Octets, ParseError, Parser};
+use std::process::Abort;
+use std::test::Fail;
 
 /// A naming authority pointer (RFC 3403 section 4.1).
 ///
@@ -116,58 +122,49 @@ impl<'a> ParseRecordData<'a> for Naptr<'a, ParsedName<'a>> {
     ghost laid_out = { Prim.search rules };
 }
 
-mod tests {
-    use super::*;
-    use crate::answers::{assert_answer, first_data, message};
-    use crate::asserts::{assert_holds, assert_numbers, assert_octets, name};
-    use crate::char_str::string;
-    use dns_message::code::Class;
-    use dns_message::name::ToNameExt;
-    use dns_message::record::{Record, Ttl};
-    use std::process::Abort;
-    use std::test::Fail;
+/// An answer with the NAPTR record of example., uncompressed.
+const MESSAGE: &[u8; 67] =
+    b"\x00\x00\x00\x00\x00\x00\x00\x01\x00\x00\x00\x00\x07example\x00\x00\x23\x00\x01\x00\x00\x0E\x10\x00\x24\x00\x64\x00\x32\x01s\x0Dz3950+N2L+N2C\x00\x05z3950\x07example\x00";
 
-    /// An answer with the NAPTR record of example., uncompressed.
-    const MESSAGE: &[u8; 67] =
-        b"\x00\x00\x00\x00\x00\x00\x00\x01\x00\x00\x00\x00\x07example\x00\x00\x23\x00\x01\x00\x00\x0E\x10\x00\x24\x00\x64\x00\x32\x01s\x0Dz3950+N2L+N2C\x00\x05z3950\x07example\x00";
+/// The same with a compressed replacement.
+const COMPRESSED: &[u8; 60] =
+    b"\x00\x00\x00\x00\x00\x00\x00\x01\x00\x00\x00\x00\x07example\x00\x00\x23\x00\x01\x00\x00\x0E\x10\x00\x1D\x00\x64\x00\x32\x01s\x0Dz3950+N2L+N2C\x00\x05z3950\xC0\x0C";
 
-    /// The same with a compressed replacement.
-    const COMPRESSED: &[u8; 60] =
-        b"\x00\x00\x00\x00\x00\x00\x00\x01\x00\x00\x00\x00\x07example\x00\x00\x23\x00\x01\x00\x00\x0E\x10\x00\x1D\x00\x64\x00\x32\x01s\x0Dz3950+N2L+N2C\x00\x05z3950\xC0\x0C";
+/// Fails unless the NAPTR data has these fields.
+fn assert_pointer(rt: &impl Abort, naptr: &Naptr<'_, ParsedName<'_>>) {
+    let numbers = [u32::from(naptr.order), u32::from(naptr.preference)];
+    assert_numbers(rt, "numbers", &numbers, &[100, 50]);
+    assert_octets(rt, "flags", naptr.flags.as_slice(), b"\x01s");
+    let services = naptr.services.as_slice();
+    assert_octets(rt, "services", services, b"\x0Dz3950+N2L+N2C");
+    assert_octets(rt, "expression", naptr.regexp.as_slice(), b"\x00");
+    let replacement = name_of(rt, b"\x05z3950\x07example\x00");
+    assert_holds(rt, "replacement", naptr.replacement.octets_eq(&replacement));
+}
 
-    /// Fails unless the NAPTR data has these fields.
-    fn assert_pointer(rt: &impl Abort, naptr: &Naptr<'_, ParsedName<'_>>) {
-        let numbers = [u32::from(naptr.order), u32::from(naptr.preference)];
-        assert_numbers(rt, "numbers", &numbers, &[100, 50]);
-        assert_octets(rt, "flags", naptr.flags.as_slice(), b"\x01s");
-        let services = naptr.services.as_slice();
-        assert_octets(rt, "services", services, b"\x0Dz3950+N2L+N2C");
-        assert_octets(rt, "expression", naptr.regexp.as_slice(), b"\x00");
-        let replacement = name(rt, b"\x05z3950\x07example\x00");
-        assert_holds(rt, "replacement", naptr.replacement.octets_eq(&replacement));
-    }
+#[test]
+fn reads_its_own_data_back(rt: HostRuntime) {
+    let message = message_of(&rt, MESSAGE);
+    assert_pointer(&rt, &first_data(&rt, &message));
+}
 
-    #[test]
-    fn reads_its_own_data_back(rt: HostRuntime) {
-        for octets in [MESSAGE.as_slice(), COMPRESSED.as_slice()] {
-            let message = message(&rt, octets);
-            let naptr: Naptr<'_, ParsedName<'_>> = first_data(&rt, &message);
-            assert_pointer(&rt, &naptr);
-        }
-    }
+#[test]
+fn reads_a_compressed_replacement(rt: HostRuntime) {
+    let message = message_of(&rt, COMPRESSED);
+    assert_pointer(&rt, &first_data(&rt, &message));
+}
 
-    #[test]
-    fn never_compresses_its_replacement(rt: HostRuntime) -> Result<(), Fail> {
-        let naptr = Naptr {
-            order: 100,
-            preference: 50,
-            flags: string(&rt, b"\x01s"),
-            services: string(&rt, b"\x0Dz3950+N2L+N2C"),
-            regexp: string(&rt, b"\x00"),
-            replacement: Name::from_octets(*b"\x05z3950\x07example\x00")?,
-        };
-        let owner = Name::from_octets(*b"\x07example\x00")?;
-        let record = Record::new(owner, Class::IN, Ttl::HOUR, naptr);
-        assert_answer(&rt, rt.alloc(), record, MESSAGE)
-    }
+#[test]
+fn never_compresses_its_replacement(rt: HostRuntime) -> Result<(), Fail> {
+    let naptr = Naptr {
+        order: 100,
+        preference: 50,
+        flags: string(&rt, b"\x01s"),
+        services: string(&rt, b"\x0Dz3950+N2L+N2C"),
+        regexp: string(&rt, b"\x00"),
+        replacement: Name::from_octets(*b"\x05z3950\x07example\x00")?,
+    };
+    let owner = Name::from_octets(*b"\x07example\x00")?;
+    let record = Record::new(owner, Class::IN, Ttl::HOUR, naptr);
+    assert_answer(&rt, rt.alloc(), "an answer", record, MESSAGE)
 }

@@ -1,5 +1,5 @@
 //! Questions: read from text and from octets, printed, and composed.
-use crate::asserts::{assert_holds, assert_printed, assert_question};
+use crate::asserts::{assert_holds, assert_prints, assert_question};
 use arrayvec::ArrayVec;
 use dns_code::{Class, Rtype};
 use dns_item::Question;
@@ -11,68 +11,134 @@ use std::process::Abort;
 /// The octets of example.com. A IN.
 const EXAMPLE: &[u8] = b"\x07example\x03com\x00\x00\x01\x00\x01";
 
-/// Texts of the question example.com. A IN.
-const SPELLINGS: &[&str] = &[
-    "example.com A",
-    "example.com. IN a",
-    "example.com A IN",
-    "\t example.com\u{3000}in  TYPE1\n",
-    "example.com. a class1",
+/// A text of the question example.com. A IN.
+struct Spelling {
+    name: &'static str,
+    text: &'static str,
+}
+
+const SPELLINGS: &[Spelling] = &[
+    Spelling {
+        name: "without a class",
+        text: "example.com A",
+    },
+    Spelling {
+        name: "the class before the type",
+        text: "example.com. IN a",
+    },
+    Spelling {
+        name: "the class after the type",
+        text: "example.com A IN",
+    },
+    Spelling {
+        name: "white space of all kinds, and a type by its number",
+        text: "\t example.com\u{3000}in  TYPE1\n",
+    },
+    Spelling {
+        name: "lower case, and a class by its number",
+        text: "example.com. a class1",
+    },
 ];
 
-/// Texts, the error of each, and how that is printed. Those of "Question texts" are among them.
-const FAULTY: &[(&str, PresentationErrorEnum, &str)] = &[
-    ("", PresentationErrorEnum::MissingQname, "missing qname"),
-    (
-        " \t\u{2003}\n",
-        PresentationErrorEnum::MissingQname,
-        "missing qname",
-    ),
-    (
-        "a",
-        PresentationErrorEnum::MissingClassAndQtype,
-        "missing class and qtype",
-    ),
-    ("a IN", PresentationErrorEnum::MissingQtype, "missing qtype"),
-    ("a xx", PresentationErrorEnum::BadQtype, "invalid qtype"),
-    (
-        "a xx IN b",
-        PresentationErrorEnum::BadQtype,
-        "invalid qtype",
-    ),
-    ("a IN IN", PresentationErrorEnum::BadQtype, "invalid qtype"),
-    (
-        "a IN xx b",
-        PresentationErrorEnum::BadQtype,
-        "invalid qtype",
-    ),
-    ("a A xx", PresentationErrorEnum::BadClass, "invalid class"),
-    ("a A xx b", PresentationErrorEnum::BadClass, "invalid class"),
-    (
-        "a IN A b",
-        PresentationErrorEnum::TrailingData,
-        "trailing data",
-    ),
-    (
-        "a A IN b c",
-        PresentationErrorEnum::TrailingData,
-        "trailing data",
-    ),
-    (
-        "a..b",
-        PresentationErrorEnum::BadName(name::PresentationError::EmptyLabel),
-        "empty label",
-    ),
-    (
-        "a\\256 xx b c",
-        PresentationErrorEnum::BadName(name::PresentationError::BadEscape),
-        "illegal escape",
-    ),
-    (
-        "\u{e9} IN A",
-        PresentationErrorEnum::BadName(name::PresentationError::BadSymbol),
-        "illegal symbol",
-    ),
+/// A text, the error that it is refused with, and how that is printed.
+struct Faulty {
+    name: &'static str,
+    text: &'static str,
+    kind: PresentationErrorEnum,
+    printed: &'static str,
+}
+
+const FAULTY: &[Faulty] = &[
+    Faulty {
+        name: "no words",
+        text: "",
+        kind: PresentationErrorEnum::MissingQname,
+        printed: "missing qname",
+    },
+    Faulty {
+        name: "white space alone",
+        text: " \t\u{2003}\n",
+        kind: PresentationErrorEnum::MissingQname,
+        printed: "missing qname",
+    },
+    Faulty {
+        name: "a name alone",
+        text: "a",
+        kind: PresentationErrorEnum::MissingClassAndQtype,
+        printed: "missing class and qtype",
+    },
+    Faulty {
+        name: "a class without a type",
+        text: "a IN",
+        kind: PresentationErrorEnum::MissingQtype,
+        printed: "missing qtype",
+    },
+    Faulty {
+        name: "an unknown word after the name",
+        text: "a xx",
+        kind: PresentationErrorEnum::BadQtype,
+        printed: "invalid qtype",
+    },
+    Faulty {
+        name: "an unknown word before the class",
+        text: "a xx IN b",
+        kind: PresentationErrorEnum::BadQtype,
+        printed: "invalid qtype",
+    },
+    Faulty {
+        name: "the class twice",
+        text: "a IN IN",
+        kind: PresentationErrorEnum::BadQtype,
+        printed: "invalid qtype",
+    },
+    Faulty {
+        name: "an unknown word after the class",
+        text: "a IN xx b",
+        kind: PresentationErrorEnum::BadQtype,
+        printed: "invalid qtype",
+    },
+    Faulty {
+        name: "an unknown word after the type",
+        text: "a A xx",
+        kind: PresentationErrorEnum::BadClass,
+        printed: "invalid class",
+    },
+    Faulty {
+        name: "two unknown words after the type",
+        text: "a A xx b",
+        kind: PresentationErrorEnum::BadClass,
+        printed: "invalid class",
+    },
+    Faulty {
+        name: "a word after class and type",
+        text: "a IN A b",
+        kind: PresentationErrorEnum::TrailingData,
+        printed: "trailing data",
+    },
+    Faulty {
+        name: "two words after type and class",
+        text: "a A IN b c",
+        kind: PresentationErrorEnum::TrailingData,
+        printed: "trailing data",
+    },
+    Faulty {
+        name: "an empty label",
+        text: "a..b",
+        kind: PresentationErrorEnum::BadName(name::PresentationError::EmptyLabel),
+        printed: "empty label",
+    },
+    Faulty {
+        name: "a bad escape, and an unknown word",
+        text: "a\\256 xx b c",
+        kind: PresentationErrorEnum::BadName(name::PresentationError::BadEscape),
+        printed: "illegal escape",
+    },
+    Faulty {
+        name: "a letter outside ASCII",
+        text: "\u{e9} IN A",
+        kind: PresentationErrorEnum::BadName(name::PresentationError::BadSymbol),
+        printed: "illegal symbol",
+    },
 ];
 
 /// Reads a question into a buffer.
@@ -82,53 +148,42 @@ fn buffered(text: &str) -> Result<Question<Name<ArrayVec<u8, 255>>>, FromStrErro
 
 /// The question of this text.
 fn question_of(rt: &impl Abort, text: &str) -> Question<Name<ArrayVec<u8, 255>>> {
-    let Ok(question) = buffered(text) else {
-        panic!(rt; "{text}");
-    };
-    question
+    buffered(text).expect(rt, text)
 }
 
-/// Fails unless the text is refused with this error.
-fn assert_faulty(
-    rt: &impl Abort,
-    alloc: Global,
-    text: &str,
-    error: Option<FromStrError>,
-    kind: PresentationErrorEnum,
-    printed: &str,
-) {
+/// Fails unless the error is that of the case.
+fn assert_faulty(rt: &impl Abort, alloc: Global, case: &Faulty, error: Option<FromStrError>) {
     let Some(FromStrError::Presentation(error)) = error else {
-        panic!(rt; "{text}");
+        panic!(rt; "{}", case.name);
     };
-    assert!(rt; error.kind() == kind, "{text}");
-    assert_printed(rt, alloc, &error, printed);
-    assert_printed(rt, alloc, &kind, printed);
-    assert_printed(rt, alloc, &FromStrError::Presentation(error), printed);
+    assert_holds(rt, case.name, error.kind() == case.kind);
+    assert_prints(rt, alloc, case.name, &error, case.printed);
+    assert_prints(rt, alloc, case.name, &case.kind, case.printed);
+    let error = FromStrError::Presentation(error);
+    assert_prints(rt, alloc, case.name, &error, case.printed);
 }
 
 #[test]
-fn reports_what_is_wrong(rt: HostRuntime) {
-    for &(text, kind, printed) in FAULTY {
-        let read = Question::vec_from_str(rt.alloc(), text);
-        assert_faulty(&rt, rt.alloc(), text, read.err(), kind, printed);
-        assert_faulty(&rt, rt.alloc(), text, buffered(text).err(), kind, printed);
+fn refuses_texts(rt: HostRuntime) {
+    for case in FAULTY {
+        let read = Question::vec_from_str(rt.alloc(), case.text);
+        assert_faulty(&rt, rt.alloc(), case, read.err());
+        assert_faulty(&rt, rt.alloc(), case, buffered(case.text).err());
     }
 }
 
 /// Fails unless both ways to read the text give the question example.com. A IN.
-fn assert_spelled(rt: &impl Abort, alloc: Global, text: &str) {
-    assert_question(rt, text, &question_of(rt, text), EXAMPLE);
-    let Ok(question) = Question::vec_from_str(alloc, text) else {
-        panic!(rt; "{text}");
-    };
-    assert_question(rt, text, &question, EXAMPLE);
+fn assert_spelled(rt: &impl Abort, alloc: Global, case: &Spelling) {
+    let question = buffered(case.text).expect(rt, case.name);
+    assert_question(rt, case.name, &question, EXAMPLE);
+    let question = Question::vec_from_str(alloc, case.text).expect(rt, case.name);
+    assert_question(rt, case.name, &question, EXAMPLE);
 }
 
-/// The spellings of "Question texts", and further ones.
 #[test]
 fn reads_spellings(rt: HostRuntime) {
-    for &text in SPELLINGS {
-        assert_spelled(&rt, rt.alloc(), text);
+    for case in SPELLINGS {
+        assert_spelled(&rt, rt.alloc(), case);
     }
 }
 
@@ -136,9 +191,9 @@ fn reads_spellings(rt: HostRuntime) {
 fn compares(rt: HostRuntime) {
     let question = question_of(&rt, "example.com A");
     let same = question_of(&rt, "EXAMPLE.com. IN a");
-    assert_holds(&rt, "case", question == same);
+    assert_holds(&rt, "another letter case", question == same);
     let other = question_of(&rt, "example.com CH A");
-    assert_holds(&rt, "class", question != other);
+    assert_holds(&rt, "another class", question != other);
 }
 
 #[test]
@@ -157,17 +212,19 @@ fn converts_errors(rt: HostRuntime) {
         presentation == FromStrError::Presentation(error),
     );
     let short = FromStrError::from(name::FromStrError::ShortBuf);
-    assert_printed(&rt, rt.alloc(), &short, "buffer size exceeded");
+    assert_prints(&rt, rt.alloc(), "capacity", &short, "buffer size exceeded");
     let memory = FromStrError::from(name::FromStrError::OutOfMemory);
-    assert_printed(&rt, rt.alloc(), &memory, "out of memory");
+    assert_prints(&rt, rt.alloc(), "memory", &memory, "out of memory");
 }
 
 #[test]
 fn prints(rt: HostRuntime) {
     let question = question_of(&rt, "Example.COM aaaa");
-    assert_printed(&rt, rt.alloc(), &question, "Example.COM.\tAAAA\tIN");
+    let text = "Example.COM.\tAAAA\tIN";
+    assert_prints(&rt, rt.alloc(), "a known type and class", &question, text);
     let question = question_of(&rt, ". CLASS254 TYPE65280");
-    assert_printed(&rt, rt.alloc(), &question, ".\tTYPE65280\tCLASS254");
+    let text = ".\tTYPE65280\tCLASS254";
+    assert_prints(&rt, rt.alloc(), "another type and class", &question, text);
 }
 
 /// Fails unless tuples of the root, and questions made of tuples, have the octets of questions.

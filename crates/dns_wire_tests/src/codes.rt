@@ -1,48 +1,159 @@
 //! Record types, classes and codes, as numbers and as text.
-use crate::assertions::{assert_prints, assert_same};
+use crate::asserts::{assert_prints, assert_same};
 use dns_code::{Class, Opcode, OptRcode, OptionCode, Rcode, Rtype, class, rtype};
 
-/// Texts, each with the number of the record type and that of the class that it spells.
-const TEXTS: &[(&str, Option<u16>, Option<u16>)] = &[
-    ("aAaA", Some(28), None),
-    ("A", Some(1), None),
-    ("any", Some(255), None),
-    ("type0", Some(0), None),
-    ("TyPe0000000000000000000000000000028", Some(28), None),
-    ("TYPE65535", Some(65535), None),
-    ("TYPE65536", None, None),
-    ("TYPE", None, None),
-    ("TYPE+1", None, None),
-    ("TYPE-1", None, None),
-    ("TYPE1 ", None, None),
-    ("TYP\u{e9}1", None, None),
-    ("", None, None),
-    ("28", None, None),
-    ("SRV", None, None),
-    ("CLASS1", None, Some(1)),
-    ("in", None, Some(1)),
-    ("Class3", None, Some(3)),
-    ("NONE", None, None),
+/// A text, and the numbers of the record type and of the class that it spells.
+struct Case {
+    name: &'static str,
+    text: &'static str,
+    rtype: Option<u16>,
+    class: Option<u16>,
+}
+
+const CASES: &[Case] = &[
+    Case {
+        name: "a mnemonic in both letter cases",
+        text: "aAaA",
+        rtype: Some(28),
+        class: None,
+    },
+    Case {
+        name: "a mnemonic of one letter",
+        text: "A",
+        rtype: Some(1),
+        class: None,
+    },
+    Case {
+        name: "the type ANY in lower case",
+        text: "any",
+        rtype: Some(255),
+        class: None,
+    },
+    Case {
+        name: "type 0",
+        text: "type0",
+        rtype: Some(0),
+        class: None,
+    },
+    Case {
+        name: "leading zeros",
+        text: "TyPe0000000000000000000000000000028",
+        rtype: Some(28),
+        class: None,
+    },
+    Case {
+        name: "the greatest type",
+        text: "TYPE65535",
+        rtype: Some(65535),
+        class: None,
+    },
+    Case {
+        name: "a type of more than 16 bits",
+        text: "TYPE65536",
+        rtype: None,
+        class: None,
+    },
+    Case {
+        name: "a type without a number",
+        text: "TYPE",
+        rtype: None,
+        class: None,
+    },
+    Case {
+        name: "a plus sign",
+        text: "TYPE+1",
+        rtype: None,
+        class: None,
+    },
+    Case {
+        name: "a minus sign",
+        text: "TYPE-1",
+        rtype: None,
+        class: None,
+    },
+    Case {
+        name: "a space after the number",
+        text: "TYPE1 ",
+        rtype: None,
+        class: None,
+    },
+    Case {
+        name: "a letter outside ASCII",
+        text: "TYP\u{e9}1",
+        rtype: None,
+        class: None,
+    },
+    Case {
+        name: "the empty text",
+        text: "",
+        rtype: None,
+        class: None,
+    },
+    Case {
+        name: "a number alone",
+        text: "28",
+        rtype: None,
+        class: None,
+    },
+    Case {
+        name: "an unknown mnemonic",
+        text: "SRV",
+        rtype: None,
+        class: None,
+    },
+    Case {
+        name: "a class by its number",
+        text: "CLASS1",
+        rtype: None,
+        class: Some(1),
+    },
+    Case {
+        name: "a class in lower case",
+        text: "in",
+        rtype: None,
+        class: Some(1),
+    },
+    Case {
+        name: "a class by its number in both letter cases",
+        text: "Class3",
+        rtype: None,
+        class: Some(3),
+    },
+    Case {
+        name: "an unknown class",
+        text: "NONE",
+        rtype: None,
+        class: None,
+    },
 ];
 
 #[test]
 fn reads_types_and_classes(rt: HostRuntime) {
-    for &(text, rtype, class) in TEXTS {
-        let read_type = text.parse::<Rtype>().ok().map(Rtype::to_int);
-        let read_class = text.parse::<Class>().ok().map(Class::to_int);
-        assert_same(&rt, text, (read_type, read_class), (rtype, class));
+    for case in CASES {
+        let rtype = case.text.parse::<Rtype>().ok().map(Rtype::to_int);
+        let class = case.text.parse::<Class>().ok().map(Class::to_int);
+        assert_same(&rt, case.name, (rtype, class), (case.rtype, case.class));
     }
 }
 
 #[test]
 fn prints_types_and_classes(rt: HostRuntime) {
     let alloc = rt.alloc();
-    assert_prints(&rt, alloc, &Rtype::AXFR, "AXFR");
-    assert_prints(&rt, alloc, &Rtype::from_int(3), "TYPE3");
-    assert_prints(&rt, alloc, &Class::from_int(255), "CLASS255");
-    assert_prints(&rt, alloc, &Class::HS, "HS");
-    assert_prints(&rt, alloc, &rtype::FromStrError, "unknown record type");
-    assert_prints(&rt, alloc, &class::FromStrError, "unknown class");
+    assert_prints(&rt, alloc, "a known type", &Rtype::AXFR, "AXFR");
+    let unknown = Rtype::from_int(3);
+    assert_prints(&rt, alloc, "another type", &unknown, "TYPE3");
+    assert_prints(&rt, alloc, "a known class", &Class::HS, "HS");
+    let unknown = Class::from_int(255);
+    assert_prints(&rt, alloc, "another class", &unknown, "CLASS255");
+}
+
+#[test]
+fn prints_errors(rt: HostRuntime) {
+    let alloc = rt.alloc();
+    let error = rtype::FromStrError;
+    assert_prints(&rt, alloc, "no type", &error, "unknown record type");
+    let error = class::FromStrError;
+    assert_prints(&rt, alloc, "no class", &error, "unknown class");
 }
 
 #[test]

@@ -3,7 +3,7 @@
 //!
 //! A compression is one free choice for each name: all its labels, or its first k >= 0 labels and a
 //! pointer to a suffix of an earlier name.
-use crate::assertions::assert_same;
+use crate::asserts::assert_same;
 use crate::steps::append_name;
 use dns_target::{FingerprintCompressor, HashCompressor, StaticCompressor, TreeCompressor};
 use dns_wire::Composer;
@@ -84,16 +84,17 @@ fn compression_lens(alloc: Global, names: &[&[u8]]) -> Result<Vec<usize>, AllocE
 /// Fails unless the names take `len` octets on an empty target.
 fn assert_written<T: Composer>(
     rt: &impl Abort,
+    row: &str,
     mut target: T,
     names: &[&[u8]],
     len: Option<usize>,
 ) {
     for name in names {
         let answer = append_name(rt, &mut target, name);
-        assert_same(rt, "a name appended", answer, Ok(()));
+        assert_same(rt, row, answer, Ok(()));
     }
     let written = (names, Some(target.as_slice().len()));
-    assert_same(rt, "the shortest spelling", written, (names, len));
+    assert_same(rt, row, written, (names, len));
 }
 
 /// Checks that each compressor writes the names in as many octets as their shortest compression
@@ -101,25 +102,14 @@ fn assert_written<T: Composer>(
 fn assert_shortest(rt: &impl Abort, alloc: Global, names: &[&[u8]]) -> Result<usize, AllocError> {
     let lens = compression_lens(alloc, names)?;
     let least = lens.iter().min().copied();
-    assert_written(rt, StaticCompressor::new(Vec::new(alloc)), names, least);
-    assert_written(
-        rt,
-        TreeCompressor::new(alloc, Vec::new(alloc)),
-        names,
-        least,
-    );
-    assert_written(
-        rt,
-        HashCompressor::new(alloc, Vec::new(alloc)),
-        names,
-        least,
-    );
-    assert_written(
-        rt,
-        FingerprintCompressor::new(alloc, Vec::new(alloc)),
-        names,
-        least,
-    );
+    let offsets = StaticCompressor::new(Vec::new(alloc));
+    assert_written(rt, "a static compressor", offsets, names, least);
+    let tree = TreeCompressor::new(alloc, Vec::new(alloc));
+    assert_written(rt, "a tree compressor", tree, names, least);
+    let hash = HashCompressor::new(alloc, Vec::new(alloc));
+    assert_written(rt, "a hash compressor", hash, names, least);
+    let fingerprints = FingerprintCompressor::new(alloc, Vec::new(alloc));
+    assert_written(rt, "a fingerprint compressor", fingerprints, names, least);
     Ok(lens.len())
 }
 
@@ -143,7 +133,7 @@ fn assert_longer(rt: &impl Abort, alloc: Global, names: &[&[u8]]) -> Result<usiz
 /// yet another. After two names, the 13 possible third names have 13 choices in all, 4 more for
 /// each label that ends one of the two, and 1 more for each name of two labels among them. Such a
 /// sum, times the number for the two names, adds up to 4519 over all pairs of first names.
-const SPELLINGS: [usize; 4] = [1, 13, 226, 4519];
+const COUNTS: [usize; 4] = [1, 13, 226, 4519];
 
 #[test]
 fn none_is_shorter_than_what_is_written(rt: HostRuntime) -> Result<(), Fail> {
@@ -158,27 +148,70 @@ fn none_is_shorter_than_what_is_written(rt: HostRuntime) -> Result<(), Fail> {
             three = three.saturating_add(assert_longer(&rt, alloc, &[first, second])?);
         }
     }
-    assert_same(&rt, "spellings", [none, one, two, three], SPELLINGS);
+    assert_same(
+        &rt,
+        "the numbers of compressions",
+        [none, one, two, three],
+        COUNTS,
+    );
     Ok(())
 }
 
-/// Lists of names, each with the octets of its compressions.
-const BY_HAND: &[(&[&[u8]], &[usize])] = &[
-    (&[], &[0]),
-    (&[ROOT, ROOT], &[2]),
-    (&[A_B], &[5]),
-    (&[A_B, A_B], &[7, 9, 10]),
-    (&[A, UPPER_A], &[6]),
-    (&[A_B, A], &[8]),
-    (&[B_B], &[5]),
-    (&[B, A_B, B_B], &[11, 12, 12, 13]),
+/// A list of names, and the octets of each of its compressions.
+struct Case {
+    name: &'static str,
+    names: &'static [&'static [u8]],
+    lens: &'static [usize],
+}
+
+const BY_HAND: &[Case] = &[
+    Case {
+        name: "no name",
+        names: &[],
+        lens: &[0],
+    },
+    Case {
+        name: "the root twice",
+        names: &[ROOT, ROOT],
+        lens: &[2],
+    },
+    Case {
+        name: "one name",
+        names: &[A_B],
+        lens: &[5],
+    },
+    Case {
+        name: "a name of two labels twice",
+        names: &[A_B, A_B],
+        lens: &[7, 9, 10],
+    },
+    Case {
+        name: "names in different letter case",
+        names: &[A, UPPER_A],
+        lens: &[6],
+    },
+    Case {
+        name: "a name that is no suffix",
+        names: &[A_B, A],
+        lens: &[8],
+    },
+    Case {
+        name: "a name of the same label twice",
+        names: &[B_B],
+        lens: &[5],
+    },
+    Case {
+        name: "a suffix of two names",
+        names: &[B, A_B, B_B],
+        lens: &[11, 12, 12, 13],
+    },
 ];
 
 #[test]
 fn compressions_by_hand(rt: HostRuntime) -> Result<(), Fail> {
-    for &(names, expected) in BY_HAND {
-        let lens = compression_lens(rt.alloc(), names)?;
-        assert_same(&rt, "spellings by hand", lens.as_slice(), expected);
+    for case in BY_HAND {
+        let lens = compression_lens(rt.alloc(), case.names)?;
+        assert_same(&rt, case.name, lens.as_slice(), case.lens);
     }
     Ok(())
 }

@@ -2,7 +2,7 @@
 ghost use Rattle.std.specs.Prelude.{◌≡◌};
 ghost use Rattle.dns_wire.specs.Encoders.{Plain};
 
-use crate::assertions::{assert_octets, assert_same};
+use crate::asserts::{assert_octets, assert_same};
 use crate::steps::{Step, assert_row, assert_steps, take};
 use crate::targets::{Refusing, WANT};
 use arrayvec::ArrayVec;
@@ -32,7 +32,7 @@ const ARPA: &[u8] = b"\x04ARPA\x00";
 
 /// Steps on an empty target, and the length of its content after them. Then steps on a clone, which
 /// the rules of the compressors take in different ways.
-pub(crate) struct Row {
+pub(crate) struct Case {
     pub(crate) name: &'static str,
     pub(crate) steps: &'static [Step],
     pub(crate) len: usize,
@@ -44,8 +44,8 @@ pub(crate) struct Row {
     pub(crate) by_hash: &'static [Step],
 }
 
-/// A row without steps on a clone, for all compressors.
-pub(crate) const ALIKE: Row = Row {
+/// No steps on a clone, for all compressors.
+pub(crate) const ALIKE: Case = Case {
     name: "",
     steps: &[],
     len: 0,
@@ -60,11 +60,11 @@ const A_AGAIN: &[Step] = &[
     Step::Octets(b"\x00\x01\x00\x01", Ok(b"\x00\x01\x00\x01")),
 ];
 
-/// Rows over an empty `Vec`.
-const ROWS: &[Row] = &[
+/// On an empty `Vec`.
+const CASES: &[Case] = &[
     // The names of the RFC's example at their offsets. Then a cut within the first of them, which
     // is written in full again, and once more with letters of the other case.
-    Row {
+    Case {
         name: "the example of RFC 1035",
         steps: &[
             Step::Fill(20),
@@ -83,8 +83,8 @@ const ROWS: &[Row] = &[
         len: 49,
         ..ALIKE
     },
-    Row {
-        name: "Cut inside a name",
+    Case {
+        name: "a cut inside a name",
         steps: &[
             Step::Name(A_BC_DE, Ok(A_BC_DE)),
             Step::Cut(5),
@@ -94,8 +94,8 @@ const ROWS: &[Row] = &[
         len: 16,
         ..ALIKE
     },
-    Row {
-        name: "Cut inside a pointer",
+    Case {
+        name: "a cut inside a pointer",
         steps: &[
             Step::Name(A_BC_DE, Ok(A_BC_DE)),
             Step::Name(BC_DE, Ok(b"\xc0\x02")),
@@ -105,8 +105,8 @@ const ROWS: &[Row] = &[
         len: 12,
         ..ALIKE
     },
-    Row {
-        name: "Cut of the last octet",
+    Case {
+        name: "a cut of the last octet",
         steps: &[
             Step::Name(A_BC_DE, Ok(A_BC_DE)),
             Step::Cut(8),
@@ -115,8 +115,8 @@ const ROWS: &[Row] = &[
         len: 12,
         ..ALIKE
     },
-    Row {
-        name: "Suffixes of suffixes",
+    Case {
+        name: "suffixes of suffixes",
         steps: &[
             Step::Fill(12),
             Step::Name(b"\x01a\x01b\x01c\x00", Ok(b"\x01a\x01b\x01c\x00")),
@@ -131,8 +131,8 @@ const ROWS: &[Row] = &[
         len: 43,
         ..ALIKE
     },
-    Row {
-        name: "Last place below the bound",
+    Case {
+        name: "the last offset below the bound",
         steps: &[
             Step::Fill(16_383),
             Step::Name(A, Ok(A)),
@@ -142,8 +142,8 @@ const ROWS: &[Row] = &[
         len: 16_402,
         ..ALIKE
     },
-    Row {
-        name: "First place at the bound",
+    Case {
+        name: "the first offset at the bound",
         steps: &[
             Step::Fill(16_384),
             Step::Name(A, Ok(A)),
@@ -153,8 +153,8 @@ const ROWS: &[Row] = &[
         len: 16_404,
         ..ALIKE
     },
-    Row {
-        name: "Rewind across the bound",
+    Case {
+        name: "a cut across the bound",
         steps: &[
             Step::Fill(16_382),
             Step::Name(A_B, Ok(A_B)),
@@ -167,24 +167,24 @@ const ROWS: &[Row] = &[
         ..ALIKE
     },
     // The second label is past the bound.
-    Row {
-        name: "Second label past the bound",
+    Case {
+        name: "the second label past the bound",
         steps: &[Step::Fill(16_383), Step::Name(A_B, Ok(A_B))],
         len: 16_388,
         by_offset: &[Step::Name(A_B, Ok(b"\xff\xff"))],
         by_tree: &[Step::Name(A_B, Ok(b"\xff\xff"))],
         by_hash: &[Step::Name(A_B, Ok(A_B))],
     },
-    Row {
-        name: "The 25th suffix",
+    Case {
+        name: "the 25th suffix",
         steps: &[Step::Fill(12), Step::Letters],
         len: 187,
         by_offset: &[Step::Name(b"\x01y\x00", Ok(b"\x01y\x00"))],
         by_tree: &[Step::Name(b"\x01y\x00", Ok(b"\xc0\xb4"))],
         by_hash: &[Step::Name(b"\x01y\x00", Ok(b"\xc0\xb4"))],
     },
-    Row {
-        name: "Clones",
+    Case {
+        name: "a clone with the same table",
         steps: &[Step::Fill(12), Step::Name(A, Ok(A)), Step::Fill(19)],
         len: 19,
         by_offset: A_AGAIN,
@@ -193,10 +193,10 @@ const ROWS: &[Row] = &[
     },
 ];
 
-/// Rows over an `ArrayVec` of 11 octets. A name that exceeds the remaining capacity is refused, and
-/// then a shorter one is accepted.
-const SHORT_ROWS: &[Row] = &[Row {
-    name: "room for 11 octets",
+/// On an `ArrayVec` of 11 octets. A name that exceeds the remaining capacity is refused, and then a
+/// shorter one is accepted.
+const SHORT_CASES: &[Case] = &[Case {
+    name: "a capacity of eleven octets",
     steps: &[
         Step::Name(b"\x02Ab\x00", Ok(b"\x02Ab\x00")),
         Step::Name(b"\x05Short\x02Ab\x00", Err(AppendError::ShortBuf)),
@@ -206,63 +206,93 @@ const SHORT_ROWS: &[Row] = &[Row {
     ..ALIKE
 }];
 
-/// Takes the steps of a row on the target, and then other steps on a clone of it. The target
+/// Takes the steps of a case on the target, and then other steps on a clone of it. The target
 /// doesn't change then.
-fn assert_clone_row<T: CloneTarget + FreezeBuilder>(
+fn assert_case<T: CloneTarget + FreezeBuilder>(
     rt: &impl Abort,
-    row: &Row,
+    row: &str,
+    case: &Case,
     mut target: T,
     others: &[Step],
 ) {
-    assert_steps(rt, row.name, &mut target, row.steps);
-    assert_same(rt, row.name, target.as_slice().len(), row.len);
-    let mut clone = target.clone_target().expect(rt, "a clone");
-    assert_same(rt, row.name, clone.as_slice(), target.as_slice());
-    assert_steps(rt, row.name, &mut clone, others);
+    assert_steps(rt, row, &mut target, case.steps);
+    assert_same(rt, row, target.as_slice().len(), case.len);
+    let mut clone = target.clone_target().expect(rt, row);
+    assert_octets(rt, row, clone.as_slice(), target.as_slice());
+    assert_steps(rt, row, &mut clone, others);
     let frozen = target.freeze();
-    clone.truncate(row.len);
-    assert_octets(rt, row.name, frozen.octets(), clone.as_slice());
+    clone.truncate(case.len);
+    assert_octets(rt, row, frozen.octets(), clone.as_slice());
 }
 
 fn clone_of<T: CloneTarget>(rt: &impl Abort, target: &T) -> T {
     target.clone_target().expect(rt, "a clone")
 }
 
-/// Takes the rows on each compressor over an empty target.
-pub(crate) fn assert_rows<T: CloneTarget + FreezeBuilder>(
+/// Takes a case on a compressor, which the name of the row says.
+fn assert_on<T: CloneTarget + FreezeBuilder>(
+    rt: &impl Abort,
+    alloc: Global,
+    case: &Case,
+    compressor: &str,
+    target: T,
+    others: &[Step],
+) {
+    let row = format!(in alloc; "{}, on a {compressor} compressor", case.name).expect(
+        rt, case.name,
+    );
+    assert_case(rt, &row, case, target, others);
+}
+
+/// Takes a case on each compressor over an empty target.
+fn assert_each<T: CloneTarget + FreezeBuilder>(
     rt: &impl Abort,
     alloc: Global,
     empty: &T,
-    rows: &[Row],
+    case: &Case,
 )
     requires { T.rule ≡ Plain }
 {
-    for row in rows {
-        let offsets = StaticCompressor::new(clone_of(rt, empty));
-        assert_clone_row(rt, row, offsets, row.by_offset);
-        let tree = TreeCompressor::new(alloc, clone_of(rt, empty));
-        assert_clone_row(rt, row, tree, row.by_tree);
-        let index = FingerprintCompressor::new(alloc, clone_of(rt, empty));
-        assert_clone_row(rt, row, index, row.by_tree);
-        let hash = HashCompressor::new(alloc, clone_of(rt, empty));
-        assert_clone_row(rt, row, hash, row.by_hash);
+    let offsets = StaticCompressor::new(clone_of(rt, empty));
+    assert_on(rt, alloc, case, "static", offsets, case.by_offset);
+    let tree = TreeCompressor::new(alloc, clone_of(rt, empty));
+    assert_on(rt, alloc, case, "tree", tree, case.by_tree);
+    let fingerprints = FingerprintCompressor::new(alloc, clone_of(rt, empty));
+    assert_on(rt, alloc, case, "fingerprint", fingerprints, case.by_tree);
+    let hash = HashCompressor::new(alloc, clone_of(rt, empty));
+    assert_on(rt, alloc, case, "hash", hash, case.by_hash);
+}
+
+/// Takes the cases on each compressor over an empty target.
+pub(crate) fn assert_cases<T: CloneTarget + FreezeBuilder>(
+    rt: &impl Abort,
+    alloc: Global,
+    empty: &T,
+    cases: &[Case],
+)
+    requires { T.rule ≡ Plain }
+{
+    for case in cases {
+        assert_each(rt, alloc, empty, case);
     }
 }
 
 #[test]
-fn each_writes_these_rows(rt: HostRuntime) {
-    assert_rows(&rt, rt.alloc(), &Vec::new(rt.alloc()), ROWS);
-    assert_rows(&rt, rt.alloc(), &ArrayVec::<u8, 11>::new(), SHORT_ROWS);
+fn each_writes_these_names(rt: HostRuntime) {
+    assert_cases(&rt, rt.alloc(), &Vec::new(rt.alloc()), CASES);
+    assert_cases(&rt, rt.alloc(), &ArrayVec::<u8, 11>::new(), SHORT_CASES);
 }
 
 /// Each growth of the target is refused.
 #[test]
 fn out_of_memory_is_reported(rt: HostRuntime) {
-    let row = "no memory";
     let alloc = rt.alloc();
-    assert_row(&rt, row, StaticCompressor::new(Refusing), WANT);
-    assert_row(&rt, row, TreeCompressor::new(alloc, Refusing), WANT);
-    assert_row(&rt, row, HashCompressor::new(alloc, Refusing), WANT);
+    let offsets = StaticCompressor::new(Refusing);
+    assert_row(&rt, "a static compressor", offsets, WANT);
+    let tree = TreeCompressor::new(alloc, Refusing);
+    assert_row(&rt, "a tree compressor", tree, WANT);
+    let hash = HashCompressor::new(alloc, Refusing);
+    assert_row(&rt, "a hash compressor", hash, WANT);
 }
 
 fn octets_of<T: AsSlice<u8>>(target: &T) -> &[u8] {
@@ -278,7 +308,7 @@ fn write_nothing<T: Composer>(target: &mut T) {
 
 #[test]
 fn gives_its_target(rt: HostRuntime) {
-    let row = "a compressor's target";
+    let row = "a tree compressor";
     let mut target = TreeCompressor::new(rt.alloc(), Vec::new(rt.alloc()));
     take(&rt, row, &mut target, Step::Name(DE, Ok(DE)));
     assert_same(&rt, row, target.can_compress(), true);

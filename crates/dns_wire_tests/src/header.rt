@@ -1,5 +1,5 @@
 //! Headers, flags and counts of messages.
-use crate::assertions::{assert_octets, assert_prints, assert_same};
+use crate::asserts::{assert_octets, assert_prints, assert_same};
 use dns_code::{Flags, Header, HeaderCounts, HeaderSection, Opcode, Rcode};
 use dns_wire::{ParseError, Parser};
 use std::process::Abort;
@@ -28,15 +28,14 @@ const ALL_FLAGS: Flags = Flags {
 
 #[test]
 fn takes_a_slice_of_a_message(rt: HostRuntime) {
-    let row = "Header and counts of a slice";
     let section = HeaderSection::for_message_slice(&SECTION);
     let header = Header::for_message_slice(&SECTION);
     let counts = HeaderCounts::for_message_slice(&SECTION);
-    assert_octets(&rt, row, header.as_slice(), b"\x01\x02\x00\x00");
-    assert_octets(&rt, row, counts.as_slice(), &SECTION[4..]);
-    assert_octets(&rt, row, section.as_slice(), &SECTION);
+    assert_octets(&rt, "the header", header.as_slice(), b"\x01\x02\x00\x00");
+    assert_octets(&rt, "the counts", counts.as_slice(), &SECTION[4..]);
+    assert_octets(&rt, "the section", section.as_slice(), &SECTION);
     let parts = (section.header(), section.counts());
-    assert_same(&rt, row, parts, (header, counts));
+    assert_same(&rt, "the parts", parts, (header, counts));
 }
 
 #[test]
@@ -69,8 +68,14 @@ fn replaces_the_parts_of_a_section(rt: HostRuntime) {
 }
 
 /// Fails unless the header has this ID, opcode, rcode and these flags, and its Z bit is clear.
-fn assert_header(rt: &impl Abort, header: Header, id: u16, codes: (Opcode, Rcode), flags: Flags) {
-    let row = "each field";
+fn assert_header(
+    rt: &impl Abort,
+    row: &str,
+    header: Header,
+    id: u16,
+    codes: (Opcode, Rcode),
+    flags: Flags,
+) {
     assert_same(rt, row, (header.id(), header.z()), (id, false));
     assert_same(rt, row, (header.opcode(), header.rcode()), codes);
     assert_same(rt, row, header.flags(), flags);
@@ -80,7 +85,7 @@ fn assert_header(rt: &impl Abort, header: Header, id: u16, codes: (Opcode, Rcode
 fn keeps_each_field_apart(rt: HostRuntime) {
     let mut header = Header::new();
     let codes = (Opcode::QUERY, Rcode::NOERROR);
-    assert_header(&rt, header, 0, codes, Flags::new());
+    assert_header(&rt, "no field is set", header, 0, codes, Flags::new());
     header.set_id(0x1234);
     header.set_opcode(Opcode::NOTIFY);
     header.set_rcode(Rcode::REFUSED);
@@ -90,8 +95,13 @@ fn keeps_each_field_apart(rt: HostRuntime) {
     };
     header.set_flags(flags);
     let codes = (Opcode::NOTIFY, Rcode::REFUSED);
-    assert_header(&rt, header, 0x1234, codes, flags);
-    assert_octets(&rt, "each field", header.as_slice(), b"\x12\x34\xA0\x05");
+    assert_header(&rt, "each field is set", header, 0x1234, codes, flags);
+    assert_octets(
+        &rt,
+        "each field is set",
+        header.as_slice(),
+        b"\x12\x34\xA0\x05",
+    );
 }
 
 /// Sets or clears each flag, and the Z bit.
@@ -144,32 +154,37 @@ fn clears_every_other_flag(rt: HostRuntime) {
     header.set_ra(false);
     header.set_ad(false);
     let octets = b"\x00\x00\x05\x50";
-    assert_octets(&rt, "AA, RD, Z and CD", header.as_slice(), octets);
+    assert_octets(&rt, "AA, RD, Z and CD stay", header.as_slice(), octets);
     let mut header = with_all_flags();
     header.set_aa(false);
     header.set_rd(false);
     header.set_z(false);
     header.set_cd(false);
     let octets = b"\x00\x00\x82\xA0";
-    assert_octets(&rt, "QR, TC, RA and AD", header.as_slice(), octets);
+    assert_octets(&rt, "QR, TC, RA and AD stay", header.as_slice(), octets);
 }
 
 #[test]
 fn writes_four_bits_of_an_opcode(rt: HostRuntime) {
-    let row = "Opcode keeps to four bits";
     let mut header = Header::new();
     header.set_opcode(Opcode::from_int(0x10));
-    assert_octets(&rt, row, header.as_slice(), b"\x00\x00\x00\x00");
+    assert_octets(&rt, "no low bit", header.as_slice(), b"\x00\x00\x00\x00");
     header.set_opcode(Opcode::from_int(0x1f));
-    assert_octets(&rt, row, header.as_slice(), b"\x00\x00\x78\x00");
+    assert_octets(&rt, "four low bits", header.as_slice(), b"\x00\x00\x78\x00");
 }
 
-/// Rows, each with a text, and the flags that it spells with how they are printed.
-const FLAG_TEXTS: &[(&str, &str, Option<(Flags, &str)>)] = &[
-    (
-        "Flags texts",
-        "tC Aa CD rd",
-        Some((
+/// A text, and the flags that it spells with how they are printed.
+struct FlagText {
+    name: &'static str,
+    text: &'static str,
+    read: Option<(Flags, &'static str)>,
+}
+
+const FLAG_TEXTS: &[FlagText] = &[
+    FlagText {
+        name: "flags in any order and letter case",
+        text: "tC Aa CD rd",
+        read: Some((
             Flags {
                 aa: true,
                 tc: true,
@@ -179,18 +194,26 @@ const FLAG_TEXTS: &[(&str, &str, Option<(Flags, &str)>)] = &[
             },
             "AA TC RD CD",
         )),
-    ),
-    ("Flags texts", "XXXX", None),
-    ("Flags texts", "", Some((NO_FLAG, ""))),
-    (
-        "Flags texts",
-        "QR AA TC RD RA AD CD",
-        Some((ALL_FLAGS, "QR AA TC RD RA AD CD")),
-    ),
-    (
-        "Flags with extra spaces",
-        "  qr  aa ",
-        Some((
+    },
+    FlagText {
+        name: "an unknown flag",
+        text: "XXXX",
+        read: None,
+    },
+    FlagText {
+        name: "no flag",
+        text: "",
+        read: Some((NO_FLAG, "")),
+    },
+    FlagText {
+        name: "all flags",
+        text: "QR AA TC RD RA AD CD",
+        read: Some((ALL_FLAGS, "QR AA TC RD RA AD CD")),
+    },
+    FlagText {
+        name: "extra spaces",
+        text: "  qr  aa ",
+        read: Some((
             Flags {
                 qr: true,
                 aa: true,
@@ -198,13 +221,21 @@ const FLAG_TEXTS: &[(&str, &str, Option<(Flags, &str)>)] = &[
             },
             "QR AA",
         )),
-    ),
-    ("Flags with other separators", "QR,AA", None),
-    ("Flags with other separators", "QR\tAA", None),
-    (
-        "two flags",
-        "RD CD",
-        Some((
+    },
+    FlagText {
+        name: "a comma between flags",
+        text: "QR,AA",
+        read: None,
+    },
+    FlagText {
+        name: "a tab between flags",
+        text: "QR\tAA",
+        read: None,
+    },
+    FlagText {
+        name: "two flags",
+        text: "RD CD",
+        read: Some((
             Flags {
                 rd: true,
                 cd: true,
@@ -212,16 +243,16 @@ const FLAG_TEXTS: &[(&str, &str, Option<(Flags, &str)>)] = &[
             },
             "RD CD",
         )),
-    ),
+    },
 ];
 
 #[test]
 fn reads_and_prints_flags(rt: HostRuntime) {
-    for &(row, text, answer) in FLAG_TEXTS {
-        let read = text.parse::<Flags>().ok();
-        assert_same(&rt, row, read, answer.map(|(flags, _)| flags));
-        if let Some((flags, printed)) = answer {
-            assert_prints(&rt, rt.alloc(), &flags, printed);
+    for case in FLAG_TEXTS {
+        let read = case.text.parse::<Flags>().ok();
+        assert_same(&rt, case.name, read, case.read.map(|(flags, _)| flags));
+        if let Some((flags, printed)) = case.read {
+            assert_prints(&rt, rt.alloc(), case.name, &flags, printed);
         }
     }
 }
@@ -298,61 +329,65 @@ fn lower(counts: &mut HeaderCounts) {
 
 #[test]
 fn counts_up_and_down(rt: HostRuntime) {
-    let row = "Counts go up";
     let mut counts = some_counts();
-    assert_same(&rt, row, raise(&mut counts), [false; 4]);
+    assert_same(&rt, "no error", raise(&mut counts), [false; 4]);
     let raised = b"\x01\x03\x03\x05\x05\x07\x07\x09";
-    assert_octets(&rt, row, counts.as_slice(), raised);
+    assert_octets(&rt, "counts go up", counts.as_slice(), raised);
     let mut counts = some_counts();
     lower(&mut counts);
     let lowered = b"\x01\x01\x03\x03\x05\x05\x07\x07";
     assert_octets(&rt, "counts go down", counts.as_slice(), lowered);
 }
 
-/// Messages in which one count is 65,534 and the others are 65,535, each with the increments that
-/// fail.
-const NEARLY_FULL: &[(&str, &[u8; 12], [bool; 4])] = &[
-    (
-        "Counts go up: QDCOUNT",
-        b"\x00\x00\x00\x00\xff\xfe\xff\xff\xff\xff\xff\xff",
-        [false, true, true, true],
-    ),
-    (
-        "Counts go up: ANCOUNT",
-        b"\x00\x00\x00\x00\xff\xff\xff\xfe\xff\xff\xff\xff",
-        [true, false, true, true],
-    ),
-    (
-        "Counts go up: NSCOUNT",
-        b"\x00\x00\x00\x00\xff\xff\xff\xff\xff\xfe\xff\xff",
-        [true, true, false, true],
-    ),
-    (
-        "Counts go up: ARCOUNT",
-        b"\x00\x00\x00\x00\xff\xff\xff\xff\xff\xff\xff\xfe",
-        [true, true, true, false],
-    ),
+/// A message in which one count is 65,534 and the others are 65,535, and the increments that fail.
+struct NearlyFull {
+    name: &'static str,
+    message: &'static [u8; 12],
+    refused: [bool; 4],
+}
+
+const NEARLY_FULL: &[NearlyFull] = &[
+    NearlyFull {
+        name: "QDCOUNT can go up",
+        message: b"\x00\x00\x00\x00\xff\xfe\xff\xff\xff\xff\xff\xff",
+        refused: [false, true, true, true],
+    },
+    NearlyFull {
+        name: "ANCOUNT can go up",
+        message: b"\x00\x00\x00\x00\xff\xff\xff\xfe\xff\xff\xff\xff",
+        refused: [true, false, true, true],
+    },
+    NearlyFull {
+        name: "NSCOUNT can go up",
+        message: b"\x00\x00\x00\x00\xff\xff\xff\xff\xff\xfe\xff\xff",
+        refused: [true, true, false, true],
+    },
+    NearlyFull {
+        name: "ARCOUNT can go up",
+        message: b"\x00\x00\x00\x00\xff\xff\xff\xff\xff\xff\xff\xfe",
+        refused: [true, true, true, false],
+    },
 ];
 
 #[test]
 fn raises_each_count_to_65535(rt: HostRuntime) {
-    for &(row, message, refused) in NEARLY_FULL {
-        let mut counts = HeaderCounts::for_message_slice(message);
-        assert_same(&rt, row, raise(&mut counts), refused);
-        assert_same(&rt, row, raise(&mut counts), [true; 4]);
-        assert_octets(&rt, row, counts.as_slice(), &[0xff; 8]);
+    for case in NEARLY_FULL {
+        let mut counts = HeaderCounts::for_message_slice(case.message);
+        assert_same(&rt, case.name, raise(&mut counts), case.refused);
+        assert_same(&rt, case.name, raise(&mut counts), [true; 4]);
+        assert_octets(&rt, case.name, counts.as_slice(), &[0xff; 8]);
     }
 }
 
 #[test]
-fn reports_what_is_wrong(rt: HostRuntime) {
+fn prints_errors(rt: HostRuntime) {
     let alloc = rt.alloc();
     let overflow = HeaderCounts::for_message_slice(&[0xff; 12])
         .inc_qdcount()
         .err()
         .expect(&rt, "no overflow");
     let text = "increasing a header count lead to an overflow";
-    assert_prints(&rt, alloc, &overflow, text);
+    assert_prints(&rt, alloc, "a full count", &overflow, text);
     let token = "XXXX".parse::<Flags>().err().expect(&rt, "no error");
-    assert_prints(&rt, alloc, &token, "illegal flags token");
+    assert_prints(&rt, alloc, "an unknown flag", &token, "illegal flags token");
 }

@@ -2,13 +2,18 @@
 //! printed, and targets to which names and octets are appended and from which they are cut away.
 //! The expected values come from outside this library.
 //!
-//! Nothing is exported.
+//! Nothing is exported. A module tests what it is named after; `asserts` and `steps` have what many
+//! tests use, and `callers` proved callers. The rows of a table have names, which failures print.
 #![tactic(auto)]
 
 #[cfg(test)]
-mod assertions;
+mod asserts;
+#[cfg(test)]
+mod callers;
 #[cfg(test)]
 mod codes;
+#[cfg(test)]
+mod comparisons;
 #[cfg(test)]
 mod compressions;
 #[cfg(test)]
@@ -18,15 +23,11 @@ mod errors;
 #[cfg(test)]
 mod header;
 #[cfg(test)]
-mod history;
-#[cfg(test)]
 mod name_texts;
 #[cfg(test)]
 mod names;
 #[cfg(test)]
 mod octets;
-#[cfg(test)]
-mod orders;
 #[cfg(test)]
 mod parser;
 #[cfg(test)]

@@ -1,5 +1,5 @@
 //! Names in presentation format, read and printed.
-use crate::assertions::{assert_prints, assert_same, name_at};
+use crate::asserts::{assert_prints, assert_same, name_at};
 use arrayvec::ArrayVec;
 use dns_wire::name::{FromStrError, PresentationError};
 use dns_wire::{Name, ToName};
@@ -9,100 +9,99 @@ use std::process::Abort;
 
 /// A text, and the octets of its name with how that is printed, or the error.
 struct Case {
-    row: &'static str,
+    name: &'static str,
     text: &'static str,
     octets: Result<&'static [u8], PresentationError>,
     printed: &'static str,
 }
 
-/// Texts, each with the octets of its name and how that is printed, or with the error.
 const CASES: &[Case] = &[
     Case {
-        row: "Name text escapes: a dot and a number",
+        name: "escapes of a dot and of a number",
         text: "a\\.\\200b.",
         octets: Ok(b"\x04\x61\x2e\xc8\x62\x00"),
         printed: "a\\.\\200b",
     },
     Case {
-        row: "a name without a dot at its end",
+        name: "a name without a dot at its end",
         text: "example.com",
         octets: Ok(b"\x07example\x03com\x00"),
         printed: "example.com",
     },
     Case {
-        row: "a name in both letter cases",
+        name: "a name in both letter cases",
         text: "Example.COM.",
         octets: Ok(b"\x07Example\x03COM\x00"),
         printed: "Example.COM",
     },
     Case {
-        row: "the root",
+        name: "the root",
         text: ".",
         octets: Ok(b"\x00"),
         printed: "",
     },
     Case {
-        row: "escapes of a letter, a backslash and numbers",
+        name: "escapes of a letter, a backslash and numbers",
         text: "\\a\\\\\\032\\000",
         octets: Ok(b"\x04a\\ \x00\x00"),
         printed: "a\\\\\\032\\000",
     },
     Case {
-        row: "the empty text",
+        name: "the empty text",
         text: "",
         octets: Err(PresentationError::EmptyLabel),
         printed: "",
     },
     Case {
-        row: "Name text escapes: an empty label",
+        name: "an empty label between others",
         text: "a..b",
         octets: Err(PresentationError::EmptyLabel),
         printed: "",
     },
     Case {
-        row: "an empty label at the front",
+        name: "an empty label at the front",
         text: ".a",
         octets: Err(PresentationError::EmptyLabel),
         printed: "",
     },
     Case {
-        row: "a space",
+        name: "a space",
         text: "a b",
         octets: Err(PresentationError::BadSymbol),
         printed: "",
     },
     Case {
-        row: "Name text escapes: a number above 255",
+        name: "an escape of a number above 255",
         text: "a\\256",
         octets: Err(PresentationError::BadEscape),
         printed: "",
     },
     Case {
-        row: "a number of two digits",
+        name: "an escape of two digits",
         text: "a\\12",
         octets: Err(PresentationError::BadEscape),
         printed: "",
     },
     Case {
-        row: "a backslash at the end",
+        name: "a backslash at the end",
         text: "a\\",
         octets: Err(PresentationError::BadEscape),
         printed: "",
     },
     Case {
-        row: "a backslash before a space",
+        name: "a backslash before a space",
         text: "a\\ b..",
         octets: Err(PresentationError::BadEscape),
         printed: "",
     },
     Case {
-        row: "a label of 64 octets",
+        name: "a label of 64 octets",
         text: "0123456789012345678901234567890123456789012345678901234567890123",
         octets: Err(PresentationError::LongLabel),
         printed: "",
     },
     Case {
-        row: "labels of 63, 63, 63 and 62 octets",
+        name: "labels of 63, 63, 63 and 62 octets",
         text: "012345678901234567890123456789012345678901234567890123456789012.012345678901234567890123456789012345678901234567890123456789012.012345678901234567890123456789012345678901234567890123456789012.01234567890123456789012345678901234567890123456789012345678901",
         octets: Err(PresentationError::LongName),
         printed: "",
@@ -120,10 +119,10 @@ fn assert_read<T: ToName + Display + Drop>(
     match read {
         Ok(name) => {
             let octets = name.as_parsed().uncompressed();
-            assert_same(rt, case.row, Ok(octets.as_slice()), expected);
-            assert_prints(rt, alloc, &name, case.printed);
+            assert_same(rt, case.name, Ok(octets.as_slice()), expected);
+            assert_prints(rt, alloc, case.name, &name, case.printed);
         }
-        Err(fault) => assert_same(rt, case.row, Err(fault), expected),
+        Err(fault) => assert_same(rt, case.name, Err(fault), expected),
     }
 }
 
@@ -140,41 +139,61 @@ fn reads_and_prints(rt: HostRuntime) {
 #[test]
 fn prints_a_parsed_name(rt: HostRuntime) {
     let name = name_at(&rt, b"\x03com\x00\x07ex.mple\xC0\x00", 5);
-    assert_prints(&rt, rt.alloc(), &name, "ex\\.mple.com");
+    assert_prints(&rt, rt.alloc(), "a parsed name", &name, "ex\\.mple.com");
 }
 
-const FAULTS: &[(FromStrError, &str)] = &[
-    (
-        FromStrError::Presentation(PresentationError::EmptyLabel),
-        "empty label",
-    ),
-    (
-        FromStrError::Presentation(PresentationError::BadSymbol),
-        "illegal symbol",
-    ),
-    (
-        FromStrError::Presentation(PresentationError::BadEscape),
-        "illegal escape",
-    ),
-    (
-        FromStrError::Presentation(PresentationError::LongLabel),
-        "long label",
-    ),
-    (
-        FromStrError::Presentation(PresentationError::LongName),
-        "long name",
-    ),
-    (FromStrError::OutOfMemory, "out of memory"),
-    (FromStrError::ShortBuf, "buffer size exceeded"),
+/// An error, and its text.
+struct Fault {
+    name: &'static str,
+    error: FromStrError,
+    text: &'static str,
+}
+
+const FAULTS: &[Fault] = &[
+    Fault {
+        name: "an empty label",
+        error: FromStrError::Presentation(PresentationError::EmptyLabel),
+        text: "empty label",
+    },
+    Fault {
+        name: "a symbol that a label can't have",
+        error: FromStrError::Presentation(PresentationError::BadSymbol),
+        text: "illegal symbol",
+    },
+    Fault {
+        name: "an escape that stands for nothing",
+        error: FromStrError::Presentation(PresentationError::BadEscape),
+        text: "illegal escape",
+    },
+    Fault {
+        name: "a label of more than 63 octets",
+        error: FromStrError::Presentation(PresentationError::LongLabel),
+        text: "long label",
+    },
+    Fault {
+        name: "a name of more than 255 octets",
+        error: FromStrError::Presentation(PresentationError::LongName),
+        text: "long name",
+    },
+    Fault {
+        name: "no memory",
+        error: FromStrError::OutOfMemory,
+        text: "out of memory",
+    },
+    Fault {
+        name: "no capacity",
+        error: FromStrError::ShortBuf,
+        text: "buffer size exceeded",
+    },
 ];
 
 #[test]
-fn reports_faults(rt: HostRuntime) {
+fn prints_errors(rt: HostRuntime) {
     let alloc = rt.alloc();
-    for (fault, text) in FAULTS {
-        assert_prints(&rt, alloc, fault, text);
-        if let FromStrError::Presentation(fault) = fault {
-            assert_prints(&rt, alloc, fault, text);
+    for case in FAULTS {
+        assert_prints(&rt, alloc, case.name, &case.error, case.text);
+        if let FromStrError::Presentation(error) = &case.error {
+            assert_prints(&rt, alloc, case.name, error, case.text);
         }
     }
 }

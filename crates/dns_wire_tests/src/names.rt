@@ -1,6 +1,6 @@
 //! Names in wire format: parsed, skipped, iterated over from both ends, and stored in octets of
 //! their own.
-use crate::assertions::{assert_same, name_at, name_of, parser_at};
+use crate::asserts::{assert_octets, assert_same, name_at, name_of, parser_at};
 use dns_wire::{
     Composer, FormError, Label, LabelIter, Name, ParseError, ParsedName, Parser, ToName, ToNameExt,
 };
@@ -21,7 +21,7 @@ const POSITIVE_RESPONSE: &[u8] =
 /// An offset in a message, and what parsing and skipping a name there return. A name that parses
 /// ends where it is skipped to.
 struct Case {
-    row: &'static str,
+    name: &'static str,
     message: &'static [u8],
     offset: usize,
     /// The octets of the uncompressed name.
@@ -32,35 +32,35 @@ struct Case {
 
 const CASES: &[Case] = &[
     Case {
-        row: "Positive response: the name of the question",
+        name: "the name of a question",
         message: POSITIVE_RESPONSE,
         offset: 12,
         parsed: Ok(b"\x07example\x03com\x00"),
         skipped: Ok(25),
     },
     Case {
-        row: "Positive response: the owner, which points there",
+        name: "an owner that points to the question",
         message: POSITIVE_RESPONSE,
         offset: 29,
         parsed: Ok(b"\x07example\x03com\x00"),
         skipped: Ok(31),
     },
     Case {
-        row: "a pointer to the middle of a name",
+        name: "a pointer to the middle of a name",
         message: b"\x07example\x03com\x00\x01a\xC0\x08",
         offset: 13,
         parsed: Ok(b"\x01a\x03com\x00"),
         skipped: Ok(17),
     },
     Case {
-        row: "Compression loop",
+        name: "a label and a pointer to it",
         message: b"\x00\x00\x00\x00\x00\x01\x00\x00\x00\x00\x00\x00\x01\x61\xC0\x0C\x00\x01\x00\x01",
         offset: 12,
         parsed: Err(LONG_NAME),
         skipped: Ok(16),
     },
     Case {
-        row: "Pointer to its own place",
+        name: "a pointer to its own offset",
         message: b"\x00\x00\x00\x00\x00\x01\x00\x00\x00\x00\x00\x00\xC0\x0C\x00\x01\x00\x01",
         offset: 12,
         parsed: Err(BAD_POINTER),
@@ -68,42 +68,42 @@ const CASES: &[Case] = &[
     },
     // Octet 4 of the header is zero.
     Case {
-        row: "Pointer into the header",
+        name: "a pointer into the header",
         message: b"\x00\x00\x00\x00\x00\x01\x00\x00\x00\x00\x00\x00\xC0\x04\x00\x01\x00\x01",
         offset: 12,
         parsed: Ok(b"\x00"),
         skipped: Ok(14),
     },
     Case {
-        row: "Reserved label types: 01",
+        name: "the reserved label type 01",
         message: b"\x00\x00\x00\x00\x00\x01\x00\x00\x00\x00\x00\x00\x40\x00\x00\x01\x00\x01",
         offset: 12,
         parsed: Err(BAD_LABEL),
         skipped: Err(BAD_LABEL),
     },
     Case {
-        row: "Reserved label types: 10",
+        name: "the reserved label type 10",
         message: b"\x00\x00\x00\x00\x00\x01\x00\x00\x00\x00\x00\x00\x80\x00\x00\x01\x00\x01",
         offset: 12,
         parsed: Err(BAD_LABEL),
         skipped: Err(BAD_LABEL),
     },
     Case {
-        row: "Missing question",
+        name: "no octet",
         message: b"\x00\x00\x00\x00\x00\x01\x00\x00\x00\x00\x00\x00",
         offset: 12,
         parsed: Err(SHORT),
         skipped: Err(SHORT),
     },
     Case {
-        row: "half a pointer",
+        name: "half a pointer",
         message: b"\x00\xC0",
         offset: 1,
         parsed: Err(SHORT),
         skipped: Err(SHORT),
     },
     Case {
-        row: "a label that runs past the end",
+        name: "a label that runs past the end",
         message: b"\x03co",
         offset: 0,
         parsed: Err(SHORT),
@@ -149,7 +149,7 @@ fn assert_skipped(
 #[test]
 fn parses_and_skips(rt: HostRuntime) {
     for case in CASES {
-        let row = case.row;
+        let row = case.name;
         let after = case.skipped.unwrap_or(case.offset);
         let parsed = if case.parsed.is_ok() {
             after
@@ -184,8 +184,7 @@ const HALF_A_POINTER: &[u8; 25] =
 fn sees_no_further_than_the_data(rt: HostRuntime) {
     let mut parser = parser_at(&rt, HALF_A_POINTER, 23);
     let mut inner = parser.parse_parser(1).expect(&rt, "the data");
-    let row = "Name past the data's end";
-    assert_refused(&rt, row, &mut inner, SHORT, 23);
+    assert_refused(&rt, "half a pointer", &mut inner, SHORT, 23);
 }
 
 /// A name with labels of 63, 63, 63 and 61 octets.
@@ -214,42 +213,47 @@ fn longer_name() -> [u8; 256] {
 fn has_at_most_255_octets(rt: HostRuntime) {
     let longest = longest_name();
     let mut parser = Parser::new(&longest);
-    assert_parsed(&rt, "Longest name", &mut parser, Ok(&longest), 255);
-    let row = "One octet too long";
+    assert_parsed(&rt, "the longest name", &mut parser, Ok(&longest), 255);
     let longer = longer_name();
     let refused = Name::from_octets(longer.as_slice()).err();
-    assert_same(&rt, row, refused, Some(LONG_NAME));
+    assert_same(&rt, "one octet too long", refused, Some(LONG_NAME));
+    let mut parser = Parser::new(&longer);
+    assert_refused(&rt, "one octet too long, parsed", &mut parser, LONG_NAME, 0);
     // The size is checked before the octets are read.
-    for len in [256, 200] {
-        let mut parser = Parser::new(&longer[..len]);
-        assert_refused(&rt, row, &mut parser, LONG_NAME, 0);
-    }
+    let mut parser = Parser::new(&longer[..200]);
+    assert_refused(&rt, "too long, and cut", &mut parser, LONG_NAME, 0);
 }
 
 /// Fails unless there is a label with these octets.
-fn assert_label(rt: &impl Abort, label: Option<Label<'_>>, octets: &[u8]) {
-    let label = label.expect(rt, "a label");
-    assert_same(rt, "a label", label.as_slice(), octets);
+fn assert_label(rt: &impl Abort, row: &str, label: Option<Label<'_>>, octets: &[u8]) {
+    let label = label.expect(rt, row);
+    assert_same(rt, row, label.as_slice(), octets);
     let shape = (label.len(), label.is_root());
-    assert_same(rt, "a label", shape, (octets.len(), octets.is_empty()));
+    assert_same(rt, row, shape, (octets.len(), octets.is_empty()));
 }
 
 fn assert_no_label(rt: &impl Abort, labels: &mut LabelIter<'_>) {
     let ends = [labels.next().is_none(), labels.next_back().is_none()];
-    assert_same(rt, "no label", ends, [true; 2]);
+    assert_same(rt, "no label is left", ends, [true; 2]);
 }
 
 /// com., example.com. at offset 5, and a.example.com., through two pointers, at offset 15.
 const EXAMPLE: &[u8] = b"\x03com\x00\x07example\xC0\x00\x01a\xC0\x05";
 
-const LABELS: &[&[u8]] = &[b"a", b"example", b"com", b""];
+/// The labels of a.example.com., each with its name.
+const LABELS: &[(&str, &[u8])] = &[
+    ("the first label", b"a"),
+    ("the second label", b"example"),
+    ("the third label", b"com"),
+    ("the root label", b""),
+];
 
 #[test]
 fn goes_over_labels(rt: HostRuntime) {
     let name = name_at(&rt, EXAMPLE, 15);
     let mut labels = name.iter_labels();
-    for &text in LABELS {
-        assert_label(&rt, labels.next(), text);
+    for &(row, text) in LABELS {
+        assert_label(&rt, row, labels.next(), text);
     }
     assert_no_label(&rt, &mut labels);
     let longest = name.iter_labels().map(|label| label.len()).max();
@@ -259,45 +263,91 @@ fn goes_over_labels(rt: HostRuntime) {
 #[test]
 fn goes_over_labels_from_both_ends(rt: HostRuntime) {
     let mut labels = name_at(&rt, EXAMPLE, 15).iter_labels();
-    assert_label(&rt, labels.next(), b"a");
-    assert_label(&rt, labels.next_back(), b"");
-    assert_label(&rt, labels.next_back(), b"com");
-    assert_label(&rt, labels.next(), b"example");
+    assert_label(&rt, "the first label", labels.next(), b"a");
+    assert_label(&rt, "the last label", labels.next_back(), b"");
+    assert_label(&rt, "the last label but one", labels.next_back(), b"com");
+    assert_label(&rt, "the label between", labels.next(), b"example");
     assert_no_label(&rt, &mut labels);
 }
 
-/// Octets, each with the error for which they are no uncompressed name.
-const WHOLE: &[(&[u8], Option<ParseError>)] = &[
-    (b"\x00", None),
-    (b"\x02Ab\x00", None),
-    (b"\x02Ab\x00\x00", Some(LONG_NAME)),
-    (b"\x02Ab\xC0\x00", Some(BAD_POINTER)),
-    (b"\x40\x00", Some(BAD_LABEL)),
-    (b"\x80\x00", Some(BAD_LABEL)),
-    (b"\x02Ab", Some(SHORT)),
-    (b"\x02A", Some(SHORT)),
-    (b"\xC0", Some(SHORT)),
-    (b"", Some(SHORT)),
+/// Octets, and the error for which they are no uncompressed name.
+struct Whole {
+    name: &'static str,
+    octets: &'static [u8],
+    fault: Option<ParseError>,
+}
+
+const WHOLE: &[Whole] = &[
+    Whole {
+        name: "the root",
+        octets: b"\x00",
+        fault: None,
+    },
+    Whole {
+        name: "one label",
+        octets: b"\x02Ab\x00",
+        fault: None,
+    },
+    Whole {
+        name: "an octet after the root label",
+        octets: b"\x02Ab\x00\x00",
+        fault: Some(LONG_NAME),
+    },
+    Whole {
+        name: "a pointer",
+        octets: b"\x02Ab\xC0\x00",
+        fault: Some(BAD_POINTER),
+    },
+    Whole {
+        name: "the reserved label type 01",
+        octets: b"\x40\x00",
+        fault: Some(BAD_LABEL),
+    },
+    Whole {
+        name: "the reserved label type 10",
+        octets: b"\x80\x00",
+        fault: Some(BAD_LABEL),
+    },
+    Whole {
+        name: "no root label",
+        octets: b"\x02Ab",
+        fault: Some(SHORT),
+    },
+    Whole {
+        name: "a label that is cut",
+        octets: b"\x02A",
+        fault: Some(SHORT),
+    },
+    Whole {
+        name: "half a pointer",
+        octets: b"\xC0",
+        fault: Some(SHORT),
+    },
+    Whole {
+        name: "no octet",
+        octets: b"",
+        fault: Some(SHORT),
+    },
 ];
 
 #[test]
 fn takes_whole_octets_alone(rt: HostRuntime) {
-    for &(octets, fault) in WHOLE {
-        let answer = Name::from_octets(octets).err();
-        assert_same(&rt, "whole octets", (octets, answer), (octets, fault));
+    for case in WHOLE {
+        let fault = Name::from_octets(case.octets).err();
+        assert_same(&rt, case.name, fault, case.fault);
     }
     let name = name_of(&rt, b"\x02Ab\x00");
-    assert_same(&rt, "a name", name.as_slice(), b"\x02Ab\x00".as_slice());
+    assert_octets(&rt, "a name", name.as_slice(), b"\x02Ab\x00");
     let root = Name::root_slice();
-    assert_same(&rt, "the root", root.as_slice(), b"\x00".as_slice());
+    assert_octets(&rt, "the root slice", root.as_slice(), b"\x00");
 }
 
 /// Fails unless the value represents Ab. and lends `lent` as its uncompressed octets.
-fn assert_is_ab<N: ToName>(rt: &impl Abort, name: &N, lent: Option<&[u8]>) {
+fn assert_is_ab<N: ToName>(rt: &impl Abort, row: &str, name: &N, lent: Option<&[u8]>) {
     let parsed = name.as_parsed();
-    assert_label(rt, parsed.iter_labels().next(), b"Ab");
-    assert_same(rt, "the length", parsed.compose_len(), 4);
-    assert_same(rt, "octets lent", name.as_flat_slice(), lent);
+    assert_label(rt, row, parsed.iter_labels().next(), b"Ab");
+    assert_same(rt, row, parsed.compose_len(), 4);
+    assert_same(rt, row, name.as_flat_slice(), lent);
 }
 
 #[test]
@@ -305,11 +355,11 @@ fn represents_a_name(rt: HostRuntime) {
     let octets = b"\x02Ab\x00\xC0\x00".as_slice();
     let ab = Some(b"\x02Ab\x00".as_slice());
     let name = name_of(&rt, b"\x02Ab\x00");
-    assert_is_ab(&rt, &name, ab);
-    assert_is_ab(&rt, &&name, ab);
-    assert_is_ab(&rt, &name_at(&rt, octets, 0), ab);
-    assert_is_ab(&rt, &name_at(&rt, octets, 4), None);
-    assert_is_ab(&rt, &Alias { target: name }, ab);
+    assert_is_ab(&rt, "a name", &name, ab);
+    assert_is_ab(&rt, "a name by reference", &&name, ab);
+    assert_is_ab(&rt, "a parsed name", &name_at(&rt, octets, 0), ab);
+    assert_is_ab(&rt, "a pointer", &name_at(&rt, octets, 4), None);
+    assert_is_ab(&rt, "a type of the test's own", &Alias { target: name }, ab);
 }
 
 /// A type of the test's own that represents a name: it wraps one.

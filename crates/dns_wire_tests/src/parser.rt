@@ -1,5 +1,5 @@
 //! The parser: offsets, numbers, and inner parsers with their own end.
-use crate::assertions::{assert_same, parser_at};
+use crate::asserts::{assert_same, parser_at};
 use dns_wire::{ParseError, Parser};
 
 const SHORT: ParseError = ParseError::ShortInput;
@@ -12,11 +12,11 @@ fn reads_and_moves(rt: HostRuntime) {
     let numbers = (parser.parse_u16_be(), parser.parse_u32_be());
     assert_same(&rt, "numbers", numbers, (Ok(0x0102), Ok(0x0304_0506)));
     let offset = (parser.pos(), parser.remaining());
-    assert_same(&rt, "behind numbers", offset, (6, 2));
+    assert_same(&rt, "after numbers", offset, (6, 2));
     let moves = [parser.advance(2), parser.seek(8), parser.seek(1)];
     assert_same(&rt, "moves", moves, [Ok(()); 3]);
     let offset = (parser.pos(), parser.remaining());
-    assert_same(&rt, "behind moves", offset, (1, 7));
+    assert_same(&rt, "after moves", offset, (1, 7));
     assert_same(&rt, "the input", parser.as_slice(), OCTETS.as_slice());
 }
 
@@ -31,8 +31,8 @@ fn stays_where_octets_are_missing(rt: HostRuntime) {
         parser.seek(2).err(),
         parser.parse_parser(2).err(),
     ];
-    assert_same(&rt, "faults", faults, [Some(SHORT); 6]);
-    assert_same(&rt, "behind faults", parser.pos(), 0);
+    assert_same(&rt, "errors", faults, [Some(SHORT); 6]);
+    assert_same(&rt, "after errors", parser.pos(), 0);
 }
 
 #[test]
@@ -45,6 +45,6 @@ fn makes_an_inner_parser(rt: HostRuntime) {
     assert_same(&rt, "moves", moves, [Err(SHORT), Ok(())]);
     assert_same(&rt, "a number", inner.parse_u16_be(), Err(SHORT));
     let offset = (inner.pos(), inner.remaining());
-    assert_same(&rt, "behind moves", offset, (2, 1));
+    assert_same(&rt, "after moves", offset, (2, 1));
     assert_same(&rt, "the input", inner.as_slice(), OCTETS.as_slice());
 }

@@ -1,6 +1,6 @@
 //! Steps on a target, each with the octets that it has to write.
-use crate::assertions::{assert_same, name_of};
-use crate::history::take_history;
+use crate::asserts::{assert_same, name_of};
+use crate::callers::take_history;
 use dns_wire::{AppendError, Composer, ToNameExt};
 use std::process::Abort;
 

@@ -1,7 +1,7 @@
 //! Messages after their length, as on a TCP stream.
 ghost use Rattle.std.specs.Prelude.{◌≡◌, []};
 
-use crate::assertions::{assert_octets, assert_same};
+use crate::asserts::{assert_octets, assert_same};
 use crate::steps::{Step, assert_steps, take};
 use arrayvec::ArrayVec;
 use dns_target::StreamTarget;
@@ -15,13 +15,13 @@ const SHORT: AppendError = AppendError::ShortBuf;
 /// Checks the message of a target, alone and after its length.
 fn assert_message<T: Composer>(
     rt: &impl Abort,
+    row: &str,
     target: &StreamTarget<T>,
     message: &[u8],
     stream: &[u8],
 ) {
-    assert_octets(rt, "the message", target.as_dgram_slice(), message);
-    assert_octets(rt, "the message", target.as_slice(), message);
-    let row = "behind its length";
+    assert_octets(rt, row, target.as_dgram_slice(), message);
+    assert_octets(rt, row, target.as_slice(), message);
     assert_octets(rt, row, target.as_stream_slice(), stream);
     assert_octets(rt, row, target.as_target().as_slice(), stream);
 }
@@ -31,7 +31,7 @@ fn fixed<const N: usize>(
     rt: &impl Abort,
     target: ArrayVec<u8, N>,
 ) -> StreamTarget<ArrayVec<u8, N>> {
-    StreamTarget::new(target).expect(rt, "room for the length")
+    StreamTarget::new(target).expect(rt, "a capacity for the length")
 }
 
 /// A stream target over a `Vec`.
@@ -44,10 +44,9 @@ fn growing(rt: &impl Abort, alloc: Global) -> StreamTarget<Vec<u8>>
 #[test]
 fn has_capacity_for_the_length(rt: HostRuntime) {
     let refused = StreamTarget::new(ArrayVec::<u8, 1>::new()).err();
-    let row = "No room for prefix or header";
-    assert_same(&rt, row, refused, Some(SHORT));
+    assert_same(&rt, "a capacity of one octet", refused, Some(SHORT));
     let target = fixed(&rt, ArrayVec::<u8, 2>::from(*b"ab"));
-    assert_message(&rt, &target, b"", b"\x00\x00");
+    assert_message(&rt, "a capacity of two octets", &target, b"", b"\x00\x00");
 }
 
 const ABC: &[Step] = &[
@@ -57,32 +56,37 @@ const ABC: &[Step] = &[
 
 #[test]
 fn reports_its_length(rt: HostRuntime) {
-    let row = "the length of a message";
+    let row = "appended";
     let mut target = growing(&rt, rt.alloc());
     assert_steps(&rt, row, &mut target, ABC);
     assert_same(&rt, row, target.can_compress(), false);
-    assert_message(&rt, &target, b"ab\x01C\x00", b"\x00\x05ab\x01C\x00");
+    assert_message(&rt, row, &target, b"ab\x01C\x00", b"\x00\x05ab\x01C\x00");
     target.truncate(usize::MAX);
     target.truncate(usize::MAX - 1);
     target.truncate(5);
-    assert_message(&rt, &target, b"ab\x01C\x00", b"\x00\x05ab\x01C\x00");
+    let row = "cut at its length or above";
+    assert_message(&rt, row, &target, b"ab\x01C\x00", b"\x00\x05ab\x01C\x00");
     target.truncate(1);
-    assert_message(&rt, &target, b"a", b"\x00\x01a");
+    assert_message(&rt, "cut to one octet", &target, b"a", b"\x00\x01a");
     let target = target.into_target();
-    assert_same(&rt, row, target.as_slice(), b"\x00\x01a".as_slice());
+    assert_octets(&rt, "the inner target", target.as_slice(), b"\x00\x01a");
 }
 
 #[test]
 fn writes_over_its_message(rt: HostRuntime) {
-    let row = "a message written over";
     let mut target = growing(&rt, rt.alloc());
     target.append_slice(b"ab").expect(&rt, "memory");
     target.write_at(1, b"d");
     let clone = target.clone_target().expect(&rt, "a clone");
     target.truncate(1);
-    assert_message(&rt, &target, b"a", b"\x00\x01a");
-    assert_message(&rt, &clone, b"ad", b"\x00\x02ad");
-    assert_same(&rt, row, AsSlice::as_slice(&clone), b"ad".as_slice());
+    assert_message(&rt, "cut to one octet", &target, b"a", b"\x00\x01a");
+    assert_message(&rt, "its clone", &clone, b"ad", b"\x00\x02ad");
+    assert_octets(
+        &rt,
+        "its clone as a slice",
+        AsSlice::as_slice(&clone),
+        b"ad",
+    );
 }
 
 /// One further octet fits, and none after it.
@@ -91,13 +95,12 @@ const ONE_MORE: &[Step] = &[Step::Octets(b"b", Ok(b"b")), Step::Octets(b"c", Err
 /// A clone of a target of fixed capacity has its own length, and its own content from there on.
 #[test]
 fn clones_a_target_of_fixed_size(rt: HostRuntime) {
-    let row = "a clone of fixed size";
     let mut target = fixed(&rt, ArrayVec::<u8, 4>::new());
-    take(&rt, row, &mut target, Step::Octets(b"a", Ok(b"a")));
+    take(&rt, "one octet", &mut target, Step::Octets(b"a", Ok(b"a")));
     let mut clone = target.clone().expect(&rt, "a clone");
-    assert_steps(&rt, row, &mut clone, ONE_MORE);
-    assert_message(&rt, &clone, b"ab", b"\x00\x02ab");
-    assert_message(&rt, &target, b"a", b"\x00\x01a");
+    assert_steps(&rt, "its clone", &mut clone, ONE_MORE);
+    assert_message(&rt, "its clone", &clone, b"ab", b"\x00\x02ab");
+    assert_message(&rt, "one octet", &target, b"a", b"\x00\x01a");
 }
 
 /// All but one of the octets that a message may have, and two that exceed them.
@@ -105,11 +108,12 @@ const NEARLY_FULL: &[Step] = &[Step::Fill(65_534), Step::Octets(b"ab", Err(SHORT
 
 #[test]
 fn is_full_at_65535_octets(rt: HostRuntime) {
-    let row = "the most octets of a message";
+    let row = "one octet less";
     let mut target = growing(&rt, rt.alloc());
     assert_steps(&rt, row, &mut target, NEARLY_FULL);
     let is_prefix = target.as_stream_slice().starts_with(b"\xFF\xFE");
     assert_same(&rt, row, is_prefix, true);
+    let row = "the most octets";
     assert_steps(&rt, row, &mut target, ONE_MORE);
     let is_prefix = target.as_stream_slice().starts_with(b"\xFF\xFF");
     let full = (is_prefix, target.as_dgram_slice().len());
@@ -123,10 +127,11 @@ const AB: &[Step] = &[
 
 #[test]
 fn is_full_where_its_target_is(rt: HostRuntime) {
-    let row = "a full target of fixed size";
+    let row = "a capacity for one more octet";
     let mut target = fixed(&rt, ArrayVec::<u8, 5>::new());
     assert_steps(&rt, row, &mut target, AB);
-    assert_message(&rt, &target, b"ab", b"\x00\x02ab");
+    assert_message(&rt, row, &target, b"ab", b"\x00\x02ab");
+    let row = "a full target";
     take(&rt, row, &mut target, Step::Octets(b"c", Ok(b"c")));
-    assert_message(&rt, &target, b"abc", b"\x00\x03abc");
+    assert_message(&rt, row, &target, b"abc", b"\x00\x03abc");
 }

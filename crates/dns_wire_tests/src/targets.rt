@@ -2,7 +2,7 @@
 ghost use Rattle.std.specs.Prelude.{◌≤◌, length};
 ghost use Rattle.dns_wire.specs.Encoders.{IsClear};
 
-use crate::assertions::{assert_same, in_memory};
+use crate::asserts::{assert_octets, assert_same, in_memory};
 use crate::steps::{Step, assert_row, assert_steps};
 use arrayvec::ArrayVec;
 use dns_wire::{AppendError, CloneTarget, Composer, FreezeBuilder, Octets, ToName};
@@ -23,40 +23,39 @@ const WRITES: &[Step] = &[
 ];
 
 /// Takes the steps on an empty target, and freezes a clone of it.
-fn assert_writes<T: CloneTarget + FreezeBuilder>(rt: &impl Abort, mut target: T) {
-    let row = "a plain target";
+fn assert_writes<T: CloneTarget + FreezeBuilder>(rt: &impl Abort, row: &str, mut target: T) {
     assert_steps(rt, row, &mut target, WRITES);
     assert_same(rt, row, target.can_compress(), false);
     let clone = target.clone_target().expect(rt, "a clone");
-    assert_freezes(rt, clone, b"\x00\x01\x02");
-    let octets = b"\x00\x01\x02".as_slice();
-    assert_same(rt, row, target.as_slice(), octets);
+    assert_freezes(rt, row, clone, b"\x00\x01\x02");
+    assert_octets(rt, row, target.as_slice(), b"\x00\x01\x02");
 }
 
-fn assert_freezes<T: FreezeBuilder>(rt: &impl Abort, target: T, octets: &[u8]) {
+fn assert_freezes<T: FreezeBuilder>(rt: &impl Abort, row: &str, target: T, octets: &[u8]) {
     let frozen = target.freeze();
-    assert_same(rt, "a frozen target", frozen.octets(), octets);
+    assert_octets(rt, row, frozen.octets(), octets);
 }
 
 #[test]
 fn writes_to_a_vec_and_to_an_array_vec(rt: HostRuntime) {
-    assert_writes(&rt, Vec::new(rt.alloc()));
-    assert_writes(&rt, ArrayVec::<u8, 12>::new());
+    assert_writes(&rt, "a vector", Vec::new(rt.alloc()));
+    assert_writes(&rt, "an array vector", ArrayVec::<u8, 12>::new());
 }
 
-fn assert_written_over<T: Composer>(rt: &impl Abort, target: &mut T)
+fn assert_written_over<T: Composer>(rt: &impl Abort, row: &str, target: &mut T)
     requires within { 4 ≤ length (T.written target.old).octets }
     requires clear { IsClear (T.written target.old).table 1 2 }
 {
     target.write_at(1, b"XY");
-    let octets = b"aXYd".as_slice();
-    assert_same(rt, "a target written over", target.as_slice(), octets);
+    assert_octets(rt, row, target.as_slice(), b"aXYd");
 }
 
 #[test]
 fn writes_over_octets(rt: HostRuntime) {
-    assert_written_over(&rt, &mut in_memory(&rt, rt.alloc(), b"abcd"));
-    assert_written_over(&rt, &mut ArrayVec::<u8, 4>::from(*b"abcd"));
+    let mut vec = in_memory(&rt, rt.alloc(), b"abcd");
+    assert_written_over(&rt, "a vector", &mut vec);
+    let mut array = ArrayVec::<u8, 4>::from(*b"abcd");
+    assert_written_over(&rt, "an array vector", &mut array);
 }
 
 /// Appends to an `ArrayVec` of five octets.
@@ -82,12 +81,8 @@ pub(crate) const WANT: &[Step] = &[
 
 #[test]
 fn refuses_what_exceeds_the_capacity_or_the_memory(rt: HostRuntime) {
-    assert_row(
-        &rt,
-        "room for five octets",
-        ArrayVec::<u8, 5>::new(),
-        CAPACITY,
-    );
+    let target = ArrayVec::<u8, 5>::new();
+    assert_row(&rt, "a capacity of five octets", target, CAPACITY);
     assert_row(&rt, "no memory", Refusing, WANT);
 }
 

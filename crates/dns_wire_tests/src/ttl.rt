@@ -1,16 +1,15 @@
 //! TTLs: arithmetic, other units, and reading.
-use crate::assertions::assert_same;
+use crate::asserts::assert_same;
 use dns_item::Ttl;
 use dns_wire::{ParseError, Parser};
 use std::time::Duration;
 
 #[test]
 fn stays_within_32_bits(rt: HostRuntime) {
-    let row = "TTL arithmetic";
     let product = Ttl::from_secs(u32::MAX - 1).saturating_mul(2);
-    assert_same(&rt, row, product, Ttl::MAX);
+    assert_same(&rt, "a product past 32 bits", product, Ttl::MAX);
     let capped = Ttl::from_days(50).cap().as_secs();
-    assert_same(&rt, row, capped, 604_800);
+    assert_same(&rt, "capped to a week", capped, 604_800);
     let bounds = [Ttl::ZERO.as_secs(), Ttl::MAX.as_secs()];
     assert_same(&rt, "bounds", bounds, [0, u32::MAX]);
     let second = Ttl::from_secs(1);
@@ -19,10 +18,15 @@ fn stays_within_32_bits(rt: HostRuntime) {
         second.checked_add(Ttl::MAX),
         second.saturating_add(Ttl::MAX),
     );
-    assert_same(&rt, row, sums, (None, Ttl::MAX));
+    assert_same(&rt, "sums past 32 bits", sums, (None, Ttl::MAX));
     let minute = Ttl::from_mins(1);
     let quotients = [minute.checked_div(2), minute.checked_div(0)];
-    assert_same(&rt, row, quotients, [Some(Ttl::from_secs(30)), None]);
+    assert_same(
+        &rt,
+        "quotients",
+        quotients,
+        [Some(Ttl::from_secs(30)), None],
+    );
     let products = [second.checked_mul(60), minute.checked_mul(u32::MAX)];
     assert_same(&rt, "products", products, [Some(Ttl::from_secs(60)), None]);
     let differences = (second.checked_sub(minute), second.saturating_sub(minute));
@@ -31,12 +35,11 @@ fn stays_within_32_bits(rt: HostRuntime) {
 
 #[test]
 fn sums_up(rt: HostRuntime) {
-    let row = "Checked sums";
     let sums = [
         Ttl::checked_sum(&[Ttl::MAX, Ttl::SECOND]),
         Ttl::checked_sum(&[]),
     ];
-    assert_same(&rt, row, sums, [None, Some(Ttl::ZERO)]);
+    assert_same(&rt, "checked sums", sums, [None, Some(Ttl::ZERO)]);
     let sum = Ttl::sum(&[Ttl::MINUTE, Ttl::HOUR]);
     assert_same(&rt, "a sum", sum.as_secs(), 3_660);
 }
@@ -46,11 +49,11 @@ fn has_operators(rt: HostRuntime) {
     let mut ttl = Ttl::DAY - Ttl::HOUR;
     ttl += Ttl::MINUTE;
     ttl *= 2;
-    assert_same(&rt, "of the left side", ttl.as_secs(), 165_720);
+    assert_same(&rt, "assigning operators", ttl.as_secs(), 165_720);
     ttl = ttl / 2 + Ttl::MINUTE * 3;
     ttl -= Ttl::SECOND;
     ttl /= 7;
-    assert_same(&rt, "of both sides", ttl.as_secs(), 11_862);
+    assert_same(&rt, "all operators", ttl.as_secs(), 11_862);
     let zeros = [Ttl::default().is_zero(), Ttl::SECOND.is_zero()];
     assert_same(&rt, "no seconds", zeros, [true, false]);
 }
@@ -59,12 +62,16 @@ fn has_operators(rt: HostRuntime) {
 fn reports_other_units(rt: HostRuntime) {
     let most = Ttl::MAX;
     let units = [most.as_days().into(), most.as_hours(), most.as_minutes()];
-    let row = "Largest TTL in other units";
-    assert_same(&rt, row, units, [49_710, 1_193_046, 71_582_788]);
+    assert_same(
+        &rt,
+        "the greatest TTL",
+        units,
+        [49_710, 1_193_046, 71_582_788],
+    );
     let days = Ttl::from_days(49_710).as_secs();
-    assert_same(&rt, "Most days", days, 4_294_944_000);
+    assert_same(&rt, "the most days", days, 4_294_944_000);
     let lossy = Ttl::from_duration_lossy(Duration::from_secs(4_294_967_301));
-    assert_same(&rt, "Duration past 32 bits", lossy.as_secs(), 5);
+    assert_same(&rt, "a duration past 32 bits", lossy.as_secs(), 5);
     assert_same(&rt, "hours", Ttl::from_hours(2).as_minutes(), 120);
     let hour = [Duration::from(Ttl::HOUR), Ttl::HOUR.into_duration()];
     assert_same(&rt, "an hour", hour, [Duration::from_secs(3_600); 2]);

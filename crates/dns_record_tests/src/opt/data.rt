@@ -11,23 +11,45 @@ use std::test::Fail;
 const OPTIONS: [u8; 20] =
     *b"\x00\x03\x00\x00\x00\x05\x00\x02\x08\x0D\x00\x09\x00\x00\x00\x0B\x00\x02\x01\x2C";
 
-/// The codes of these options, and their octets.
-const EXPECTED: &[(u16, &[u8])] = &[(3, b""), (5, b"\x08\x0D"), (9, b""), (11, b"\x01\x2C")];
+/// The code of an option, and its octets.
+struct Expected {
+    name: &'static str,
+    code: u16,
+    octets: &'static [u8],
+}
+
+const EXPECTED: &[Expected] = &[
+    Expected {
+        name: "NSID",
+        code: 3,
+        octets: b"",
+    },
+    Expected {
+        name: "DAU",
+        code: 5,
+        octets: b"\x08\x0D",
+    },
+    Expected {
+        name: "EXPIRE",
+        code: 9,
+        octets: b"",
+    },
+    Expected {
+        name: "keepalive",
+        code: 11,
+        octets: b"\x01\x2C",
+    },
+];
 
 /// Fails unless the iterator yields these options, and then none.
 fn assert_options(rt: &impl Abort, mut options: OptionIter<'_>) {
-    for &(code, expected) in EXPECTED {
-        let Some((option_code, octets)) = options.next() else {
-            panic!(rt; "no option {code}");
-        };
-        assert_holds(rt, "code", option_code == OptionCode::from_int(code));
-        assert_octets(rt, "option", octets, expected);
+    for case in EXPECTED {
+        let (code, octets) = options.next().expect(rt, case.name);
+        assert_holds(rt, case.name, code == OptionCode::from_int(case.code));
+        assert_octets(rt, case.name, octets, case.octets);
     }
-    assert_holds(
-        rt,
-        "end",
-        options.next().is_none() && options.next().is_none(),
-    );
+    let is_end = options.next().is_none() && options.next().is_none();
+    assert_holds(rt, "no further option", is_end);
 }
 
 #[test]
@@ -49,15 +71,19 @@ fn refuses_a_torn_option_and_another_type(rt: HostRuntime) {
     for len in 0..21 {
         // At every other length, an option is incomplete.
         let whole = [0, 4, 10, 14, 20].contains(&len);
-        assert!(rt; are_options(&OPTIONS[..len]) == whole, "at {len}");
+        assert!(rt; are_options(&OPTIONS[..len]) == whole, "{len} octets");
     }
     let mut parser = Parser::new(&OPTIONS[..19]);
     let torn = Opt::parse_rdata(Rtype::OPT, &mut parser);
     let is_short = torn == Err(ParseError::ShortInput);
-    assert_holds(&rt, "torn", is_short && parser.remaining() == 19);
+    assert_holds(&rt, "a torn option", is_short && parser.remaining() == 19);
     let mut parser = Parser::new(&OPTIONS);
     let other = Opt::parse_rdata(Rtype::A, &mut parser);
-    assert_holds(&rt, "type", other == Ok(None) && parser.remaining() == 20);
+    assert_holds(
+        &rt,
+        "another type",
+        other == Ok(None) && parser.remaining() == 20,
+    );
 }
 
 #[test]

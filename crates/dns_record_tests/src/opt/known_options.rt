@@ -1,5 +1,5 @@
 //! The options that RFCs define, as they are added.
-use crate::asserts::{assert_octets, name};
+use crate::asserts::{assert_holds, assert_octets, name_of};
 use dns_code::Header;
 use dns_opt::SubnetAddr;
 use dns_opt_builder::OptBuilder;
@@ -23,48 +23,61 @@ fn adds_them_in_order(rt: HostRuntime) -> Result<(), Fail> {
     opt.tcp_keepalive(Some(300))?;
     assert_octets(
         &rt,
-        "Several known options",
+        "several known options",
         opt.option_octets(),
         b"\x00\x03\x00\x00\x00\x05\x00\x02\x08\x0D\x00\x09\x00\x00\x00\x0B\x00\x02\x01\x2C",
     );
     Ok(())
 }
 
-/// Source and scope prefix lengths with an address, and the option: those of "Client subnets", and
-/// one of 16 octets.
-const SUBNETS: &[(u8, u8, SubnetAddr, &[u8])] = &[
-    (
-        20,
-        0,
-        SubnetAddr::V4([192, 0, 255, 1]),
-        b"\x00\x08\x00\x07\x00\x01\x14\x00\xC0\x00\xF0",
-    ),
-    (
-        40,
-        33,
-        SubnetAddr::V4([192, 0, 2, 1]),
-        b"\x00\x08\x00\x08\x00\x01\x20\x20\xC0\x00\x02\x01",
-    ),
-    (
-        0,
-        0,
-        SubnetAddr::V4([192, 0, 2, 1]),
-        b"\x00\x08\x00\x04\x00\x01\x00\x00",
-    ),
-    (
-        17,
-        200,
-        SubnetAddr::V6(*b"\x20\x01\xFF\x00\x00\x00\x00\x00\x00\x00\x00\x00\x00\x00\x00\x00"),
-        b"\x00\x08\x00\x07\x00\x02\x11\x80\x20\x01\x80",
-    ),
+/// The prefix lengths of source and scope with an address, and the option.
+struct Subnet {
+    name: &'static str,
+    source: u8,
+    scope: u8,
+    address: SubnetAddr,
+    option: &'static [u8],
+}
+
+const SUBNETS: &[Subnet] = &[
+    Subnet {
+        name: "a prefix that ends within an octet",
+        source: 20,
+        scope: 0,
+        address: SubnetAddr::V4([192, 0, 255, 1]),
+        option: b"\x00\x08\x00\x07\x00\x01\x14\x00\xC0\x00\xF0",
+    },
+    Subnet {
+        name: "prefixes of more than 32 bits",
+        source: 40,
+        scope: 33,
+        address: SubnetAddr::V4([192, 0, 2, 1]),
+        option: b"\x00\x08\x00\x08\x00\x01\x20\x20\xC0\x00\x02\x01",
+    },
+    Subnet {
+        name: "no prefix",
+        source: 0,
+        scope: 0,
+        address: SubnetAddr::V4([192, 0, 2, 1]),
+        option: b"\x00\x08\x00\x04\x00\x01\x00\x00",
+    },
+    Subnet {
+        name: "an address of 16 octets",
+        source: 17,
+        scope: 200,
+        address: SubnetAddr::V6(
+            *b"\x20\x01\xFF\x00\x00\x00\x00\x00\x00\x00\x00\x00\x00\x00\x00\x00",
+        ),
+        option: b"\x00\x08\x00\x07\x00\x02\x11\x80\x20\x01\x80",
+    },
 ];
 
 #[test]
 fn draws_subnets(rt: HostRuntime) -> Result<(), Fail> {
-    for &(source, scope, address, expected) in SUBNETS {
+    for case in SUBNETS {
         let mut opt = builder(&rt);
-        opt.client_subnet(source, scope, address)?;
-        assert_octets(&rt, "Client subnets", opt.option_octets(), expected);
+        opt.client_subnet(case.source, case.scope, case.address)?;
+        assert_octets(&rt, case.name, opt.option_octets(), case.option);
     }
     Ok(())
 }
@@ -92,7 +105,7 @@ fn draws_cookies(rt: HostRuntime) -> Result<(), Fail> {
     opt.cookie(CLIENT, Some(&[0xFF; 8]))?;
     assert_octets(
         &rt,
-        "Cookies",
+        "cookies",
         opt.option_octets(),
         b"\x00\x0A\x00\x08\x01\x02\x03\x04\x05\x06\x07\x08\x00\x0A\x00\x10\x01\x02\x03\x04\x05\x06\x07\x08\xFF\xFF\xFF\xFF\xFF\xFF\xFF\xFF",
     );
@@ -102,12 +115,12 @@ fn draws_cookies(rt: HostRuntime) -> Result<(), Fail> {
 #[test]
 fn draws_names_and_texts(rt: HostRuntime) -> Result<(), Fail> {
     let mut opt = builder(&rt);
-    opt.chain(&name(&rt, b"\x02Ab\x00"))?;
+    opt.chain(&name_of(&rt, b"\x02Ab\x00"))?;
     opt.key_tag(&[0x4F66])?;
     opt.extended_error(18, Some("no"))?;
     assert_octets(
         &rt,
-        "Chain, key tag, extended error",
+        "CHAIN, key tag, extended error",
         opt.option_octets(),
         b"\x00\x0D\x00\x04\x02Ab\x00\x00\x0E\x00\x02\x4F\x66\x00\x0F\x00\x04\x00\x12no",
     );
@@ -119,12 +132,13 @@ fn pads_with_zeros_or_given_octets(rt: HostRuntime) -> Result<(), Fail> {
     let mut opt = builder(&rt);
     // A refused option adds nothing.
     let refused = opt.padding(65_532);
-    assert!(rt; refused == Err(AppendError::ShortBuf), "Paddings");
+    let is_refused = refused == Err(AppendError::ShortBuf);
+    assert_holds(&rt, "too many octets", is_refused);
     opt.padding(3)?;
     opt.random_padding(b"\xAA\xBB")?;
     assert_octets(
         &rt,
-        "Paddings",
+        "paddings",
         opt.option_octets(),
         b"\x00\x0C\x00\x03\x00\x00\x00\x00\x0C\x00\x02\xAA\xBB",
     );

@@ -1,4 +1,5 @@
-//! Assertions, octets and names that many tests use.
+//! Assertions, and values that many tests use. The `row` of an assertion is the name of the row of a
+//! table, or says what a test compares.
 ghost use Rattle.std.specs.Prelude.{◌≡◌};
 
 use dns_wire::{Name, ParsedName, Parser};
@@ -9,22 +10,28 @@ use std::process::Abort;
 /// Fails unless the value equals the expected one.
 pub(crate) fn assert_same<T: PartialEq + Debug + Drop>(
     rt: &impl Abort,
-    what: &str,
+    row: &str,
     value: T,
     expected: T,
 ) {
-    assert_eq!(rt; value, expected, "{what}");
+    assert_eq!(rt; value, expected, "{row}");
 }
 
 /// Fails unless the octets equal the expected ones.
-pub(crate) fn assert_octets(rt: &impl Abort, what: &str, octets: &[u8], expected: &[u8]) {
-    assert_same(rt, what, octets, expected);
+pub(crate) fn assert_octets(rt: &impl Abort, row: &str, octets: &[u8], expected: &[u8]) {
+    assert_eq!(rt; octets, expected, "{row}");
 }
 
 /// Fails unless the value is printed as `text`.
-pub(crate) fn assert_prints<T: Display>(rt: &impl Abort, alloc: Global, value: &T, text: &str) {
-    let printed = value.to_string(alloc).expect(rt, text);
-    assert_same(rt, "printed", printed.as_str(), text);
+pub(crate) fn assert_prints<T: Display>(
+    rt: &impl Abort,
+    alloc: Global,
+    row: &str,
+    value: &T,
+    text: &str,
+) {
+    let printed = value.to_string(alloc).expect(rt, row);
+    assert_eq!(rt; printed.as_str(), text, "{row}");
 }
 
 /// The uncompressed name in these octets.
@@ -41,7 +48,7 @@ pub(crate) fn name_at<'a>(rt: &impl Abort, message: &'a [u8], offset: usize) -> 
 /// A parser at offset `offset` of a message.
 pub(crate) fn parser_at<'a>(rt: &impl Abort, message: &'a [u8], offset: usize) -> Parser<'a> {
     let mut parser = Parser::new(message);
-    parser.seek(offset).expect(rt, "a place in a message");
+    parser.seek(offset).expect(rt, "an offset in a message");
     parser
 }
 

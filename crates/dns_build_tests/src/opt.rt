@@ -1,5 +1,5 @@
 //! OPT records that are pushed (RFC 6891 section 6.1).
-use crate::rows::{assert_holds, assert_octets};
+use crate::asserts::{assert_holds, assert_octets};
 use dns_build::{AdditionalBuilder, MessageBuilder, OptBuilder, PushError};
 use dns_code::{Class, OptRcode, OptionCode, Rcode};
 use dns_data::{Opt, UnknownOptData};
@@ -11,7 +11,7 @@ use std::process::Abort;
 
 /// A builder at the additional section of an empty message.
 fn additional<T: Composer>(rt: &impl Abort, target: T) -> AdditionalBuilder<T> {
-    let builder = MessageBuilder::from_target(target).expect(rt, "room for the header");
+    let builder = MessageBuilder::from_target(target).expect(rt, "a capacity for the header");
     builder.additional()
 }
 
@@ -66,7 +66,7 @@ fn pushes_one_option(rt: HostRuntime) {
     assert_pushed(
         &rt,
         alloc,
-        "OPT with one option",
+        "one raw option",
         Vec::new(alloc),
         gather,
         0,
@@ -86,7 +86,7 @@ fn pushes_one_typed_option(rt: HostRuntime) {
     assert_pushed(
         &rt,
         alloc,
-        "OPT with one option",
+        "one typed option",
         Vec::new(alloc),
         gather,
         0,
@@ -101,7 +101,13 @@ fn returns_what_the_closure_returns(rt: HostRuntime) {
         opt.set_rcode(OptRcode::from(Rcode::NXDOMAIN));
         Err(AppendError::ShortBuf)
     };
-    assert_refused(&rt, alloc, "Closure that errs", Vec::new(alloc), gather);
+    assert_refused(
+        &rt,
+        alloc,
+        "a closure that returns an error",
+        Vec::new(alloc),
+        gather,
+    );
 }
 
 /// Adds an option, with which there are 65,535 octets of options, and ignores that one more is
@@ -121,12 +127,12 @@ fn most_octets(rt: &impl Abort, alloc: Global) -> Vec<u8> {
 
 /// Fails unless the message has `len` octets and an OPT record with one option.
 fn assert_one_option<T: Composer>(rt: &impl Abort, builder: &AdditionalBuilder<T>, len: usize) {
-    assert_holds(rt, "Most options", builder.as_slice().len() == len);
+    assert_holds(rt, "the length", builder.as_slice().len() == len);
     let message = builder.as_message();
-    let opt = message.opt().expect(rt, "Most options");
+    let opt = message.opt().expect(rt, "an OPT record");
     let mut options = opt.opt().iter();
     let is_one = options.next().is_some() && options.next().is_none();
-    assert_holds(rt, "Most options", is_one);
+    assert_holds(rt, "one option", is_one);
 }
 
 #[test]
@@ -140,7 +146,7 @@ fn pushes_the_most_options(rt: HostRuntime) {
 
 #[test]
 fn refuses_the_most_options_in_a_stream(rt: HostRuntime) {
-    let row = "Most options on a stream";
+    let row = "the most options in a stream";
     let alloc = rt.alloc();
     let octets = most_octets(&rt, alloc);
     let target = StreamTarget::new_vec(alloc).expect(&rt, "memory");
@@ -174,7 +180,7 @@ fn takes_the_fields_of_a_record(rt: HostRuntime) {
     assert_pushed(
         &rt,
         alloc,
-        "Clone from a record",
+        "the fields of a record",
         Vec::new(alloc),
         gather,
         0,
@@ -199,7 +205,7 @@ fn pushes_known_options(rt: HostRuntime) {
     assert_pushed(
         &rt,
         alloc,
-        "Several known options",
+        "several known options",
         Vec::new(alloc),
         gather,
         23,

@@ -2,7 +2,7 @@ use Rattle.std.proofs.Common.{◌∙◌, ap, arith, length}
 use Rattle.dns_wire.specs.Targets.{cut_to}
 use Rattle.dns_wire.proofs.theory.EncodedNames.{encode_name_grows, encode_octets_grows}
 use Rattle.dns_wire_tests.proofs.CutAway.{whole, goes_on}
-use Rattle.dns_wire_tests.proofs.history.append_and_cut.Goals as goal
+use Rattle.dns_wire_tests.proofs.callers.append_and_cut.Goals as goal
 
 pub loop-name-init : goal.loop-name-init
 loop-name-init g c = record { long = omega arith; cut = whole _ c.as_slice-len.ensures.is_target }

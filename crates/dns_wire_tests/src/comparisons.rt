@@ -1,5 +1,5 @@
 //! Comparisons and hashes of labels and names.
-use crate::assertions::{assert_same, name_at, name_of};
+use crate::asserts::{assert_same, name_at, name_of};
 use dns_wire::{Label, Name, ParsedName, Parser, ToName, ToNameExt};
 use std::cmp::Ordering;
 use std::hash::{DefaultHasher, Hash, Hasher};
@@ -19,6 +19,18 @@ fn compare<T: Ord>(value: &T, other: &T) -> Ordering {
 const CANONICAL_ORDER: &[u8] =
     b"\x07example\x00\x01a\x07example\x00\x08yljkjljk\x01a\x07example\x00\x01Z\x01a\x07example\x00\x04zABC\x01a\x07EXAMPLE\x00\x01z\x07example\x00\x01\x01\x01z\x07example\x00\x01*\x01z\x07example\x00\x01\xC8\x01z\x07example\x00";
 
+/// How the names after the first one are printed: each is greater than the one before it.
+const PRINTED: [&str; 8] = [
+    "a.example",
+    "yljkjljk.a.example",
+    "Z.a.example",
+    "zABC.a.EXAMPLE",
+    "z.example",
+    "\\001.z.example",
+    "*.z.example",
+    "\\200.z.example",
+];
+
 /// The next name in canonical order.
 fn next_name(rt: &impl Abort, parser: &mut Parser<'static>) -> ParsedName<'static> {
     ParsedName::parse(parser).expect(rt, "a name of the RFC")
@@ -28,7 +40,7 @@ fn next_name(rt: &impl Abort, parser: &mut Parser<'static>) -> ParsedName<'stati
 fn orders_names_from_the_root(rt: HostRuntime) {
     let mut parser = Parser::new(CANONICAL_ORDER);
     let mut before = next_name(&rt, &mut parser);
-    for _ in 0..8 {
+    for row in PRINTED {
         let name = next_name(&rt, &mut parser);
         let orders = [
             before.name_cmp(&name),
@@ -36,7 +48,7 @@ fn orders_names_from_the_root(rt: HostRuntime) {
             name.name_cmp(&before),
         ];
         let expected = [Ordering::Less, Ordering::Less, Ordering::Greater];
-        assert_same(&rt, "RFC 4034", (orders, before < name), (expected, true));
+        assert_same(&rt, row, (orders, before < name), (expected, true));
         before = name;
     }
     assert_same(&rt, "octets left over", parser.remaining(), 0);
@@ -45,35 +57,65 @@ fn orders_names_from_the_root(rt: HostRuntime) {
 /// www.dE., a pointer to it, WwW.De. and x.de.
 const NAMES: &[u8] = b"\x03www\x02dE\x00\xC0\x00\x03WwW\x02De\x00\x01x\x02de\x00";
 
-/// Offsets of names, each with whether the name equals www.dE. octet for octet and ignoring ASCII
-/// case, and with how www.dE. compares to it: by labels from the root, and by octets.
-const COMPARED: &[(usize, bool, bool, Ordering, Ordering)] = &[
-    (8, true, true, Ordering::Equal, Ordering::Equal),
-    (10, false, true, Ordering::Equal, Ordering::Equal),
+/// The offset of a name, whether the name equals www.dE. octet for octet and ignoring ASCII case,
+/// and how www.dE. compares to it: by labels from the root, and by octets.
+struct Case {
+    name: &'static str,
+    offset: usize,
+    is_same: bool,
+    is_equal: bool,
+    by_labels: Ordering,
+    by_octets: Ordering,
+}
+
+const CASES: &[Case] = &[
+    Case {
+        name: "a pointer to the name",
+        offset: 8,
+        is_same: true,
+        is_equal: true,
+        by_labels: Ordering::Equal,
+        by_octets: Ordering::Equal,
+    },
+    Case {
+        name: "the name in other letter case",
+        offset: 10,
+        is_same: false,
+        is_equal: true,
+        by_labels: Ordering::Equal,
+        by_octets: Ordering::Equal,
+    },
     // www precedes x by its letters, and follows it by the length of the first label.
-    (18, false, false, Ordering::Less, Ordering::Greater),
+    Case {
+        name: "a name with a shorter first label",
+        offset: 18,
+        is_same: false,
+        is_equal: false,
+        by_labels: Ordering::Less,
+        by_octets: Ordering::Greater,
+    },
 ];
 
 #[test]
 fn ignores_letter_case_but_for_octets_eq(rt: HostRuntime) {
     let name = name_at(&rt, NAMES, 0);
-    for &(offset, octets, letters, from_root, composed) in COMPARED {
-        let other = name_at(&rt, NAMES, offset);
+    for case in CASES {
+        let other = name_at(&rt, NAMES, case.offset);
         let equal = [
             name.octets_eq(&other),
             name.name_eq(&other),
             name == other,
             hash_of(&name) == hash_of(&other),
         ];
-        let expected = [octets, letters, letters, letters];
-        assert_same(&rt, "equality", (offset, equal), (offset, expected));
+        let expected = [case.is_same, case.is_equal, case.is_equal, case.is_equal];
+        assert_same(&rt, case.name, equal, expected);
         let orders = [
             name.name_cmp(&other),
             compare(&name, &other),
             name.lowercase_composed_cmp(&other),
         ];
-        let expected = [from_root, from_root, composed];
-        assert_same(&rt, "order", (offset, orders), (offset, expected));
+        let expected = [case.by_labels, case.by_labels, case.by_octets];
+        assert_same(&rt, case.name, orders, expected);
     }
 }
 

@@ -1,8 +1,8 @@
-//! What was appended and then cut away leaves no trace in a target.
+//! A proved caller: what was appended and then cut away leaves no trace in a target.
 ghost use Rattle.std.specs.Prelude.{◌≡◌};
 
-use crate::assertions::name_of;
-use crate::compressors::{ALIKE, Row, assert_rows};
+use crate::asserts::name_of;
+use crate::compressors::{ALIKE, Case, assert_cases};
 use crate::steps::Step;
 use arrayvec::ArrayVec;
 use dns_wire::{Composer, ToName};
@@ -31,7 +31,7 @@ pub(crate) fn take_history<T: Composer>(rt: &impl Abort, target: &mut T) {
 }
 
 /// A name is written in the same octets before and after that.
-const HISTORY: &[Row] = &[Row {
+const HISTORY: &[Case] = &[Case {
     name: "a history cut away",
     steps: &[
         Step::Name(b"\x02de\x00", Ok(b"\x02de\x00")),
@@ -44,6 +44,6 @@ const HISTORY: &[Row] = &[Row {
 
 #[test]
 fn what_is_cut_away_is_forgotten(rt: HostRuntime) {
-    assert_rows(&rt, rt.alloc(), &Vec::new(rt.alloc()), HISTORY);
-    assert_rows(&rt, rt.alloc(), &ArrayVec::<u8, 12>::new(), HISTORY);
+    assert_cases(&rt, rt.alloc(), &Vec::new(rt.alloc()), HISTORY);
+    assert_cases(&rt, rt.alloc(), &ArrayVec::<u8, 12>::new(), HISTORY);
 }

@@ -1,6 +1,5 @@
-//! Records of a section, read with their RDATA.
-use crate::messages::message_of;
-use crate::records::{answers_of, next_start};
+//! Iterators over the records of a section, read with their RDATA.
+use crate::asserts::{answers_of, assert_holds, message_of, next_start};
 use dns_data::{A, Cname, UnknownRecordData};
 use dns_read::{AnyRecordIter, RecordIter, RecordSection};
 use dns_wire::{FormError, ParseError, ParsedName};
@@ -29,44 +28,52 @@ const ALL_SECTIONS: &[u8] =
 const ADDRESS_BETWEEN: &[u8] =
     b"\x00\x00\x00\x00\x00\x00\x00\x03\x00\x00\x00\x00\x00\x00\x05\x00\x01\x00\x00\x00\x00\x00\x01\x00\x00\x00\x01\x00\x01\x00\x00\x00\x00\x00\x04\xC0\x00\x02\x01\x00\x00\x05\x00\x01\x00\x00\x00\x00\x00\x01\x00";
 
-/// Messages; the addresses in their answers, those in class IN, and the offset that the iterators
-/// end at.
-const ROWS: &[(&str, &[u8], Addresses, Addresses, usize)] = &[
-    (
-        "A record with octets left over",
-        b"\x00\x00\x00\x00\x00\x00\x00\x01\x00\x00\x00\x00\x00\x00\x01\x00\x01\x00\x00\x00\x00\x00\x05\x01\x02\x03\x04\x05",
-        &[Err(LEFT_OVER)],
-        &[Err(LEFT_OVER)],
-        28,
-    ),
-    (
-        "Octets left over in class CH",
-        b"\x00\x00\x00\x00\x00\x00\x00\x01\x00\x00\x00\x00\x00\x00\x01\x00\x03\x00\x00\x00\x00\x00\x05\x01\x02\x03\x04\x05",
-        &[Err(LEFT_OVER)],
-        &[],
-        28,
-    ),
-    (
-        "Owner that points to its own place",
-        b"\x00\x00\x00\x00\x00\x00\x00\x01\x00\x00\x00\x00\xC0\x0C\x00\x01\x00\x01\x00\x00\x00\x00\x00\x00",
-        &[Err(BAD_POINTER)],
-        &[Err(BAD_POINTER)],
-        12,
-    ),
-    (
-        "Records of another type",
-        ADDRESS_BETWEEN,
-        &[Ok(FIRST)],
-        &[Ok(FIRST)],
-        51,
-    ),
-    (
-        "Two addresses",
-        ALL_SECTIONS,
-        &[Ok(FIRST), Ok(SECOND)],
-        &[Ok(FIRST), Ok(SECOND)],
-        61,
-    ),
+/// A message; the addresses in its answers, those in class IN, and the offset that the iterators end
+/// at.
+struct Case {
+    name: &'static str,
+    message: &'static [u8],
+    in_any_class: Addresses,
+    in_class_in: Addresses,
+    end: usize,
+}
+
+const CASES: &[Case] = &[
+    Case {
+        name: "an octet left over",
+        message: b"\x00\x00\x00\x00\x00\x00\x00\x01\x00\x00\x00\x00\x00\x00\x01\x00\x01\x00\x00\x00\x00\x00\x05\x01\x02\x03\x04\x05",
+        in_any_class: &[Err(LEFT_OVER)],
+        in_class_in: &[Err(LEFT_OVER)],
+        end: 28,
+    },
+    Case {
+        name: "an octet left over in class CH",
+        message: b"\x00\x00\x00\x00\x00\x00\x00\x01\x00\x00\x00\x00\x00\x00\x01\x00\x03\x00\x00\x00\x00\x00\x05\x01\x02\x03\x04\x05",
+        in_any_class: &[Err(LEFT_OVER)],
+        in_class_in: &[],
+        end: 28,
+    },
+    Case {
+        name: "an owner that points to itself",
+        message: b"\x00\x00\x00\x00\x00\x00\x00\x01\x00\x00\x00\x00\xC0\x0C\x00\x01\x00\x01\x00\x00\x00\x00\x00\x00",
+        in_any_class: &[Err(BAD_POINTER)],
+        in_class_in: &[Err(BAD_POINTER)],
+        end: 12,
+    },
+    Case {
+        name: "records of another type",
+        message: ADDRESS_BETWEEN,
+        in_any_class: &[Ok(FIRST)],
+        in_class_in: &[Ok(FIRST)],
+        end: 51,
+    },
+    Case {
+        name: "two addresses",
+        message: ALL_SECTIONS,
+        in_any_class: &[Ok(FIRST), Ok(SECOND)],
+        in_class_in: &[Ok(FIRST), Ok(SECOND)],
+        end: 61,
+    },
 ];
 
 /// The next item of an iterator over addresses.
@@ -87,21 +94,27 @@ fn assert_addresses(
     end: usize,
 ) {
     for &address in addresses {
-        assert!(rt; next_address(&mut given) == Some(address), "{row}");
+        assert_holds(rt, row, next_address(&mut given) == Some(address));
     }
-    assert!(rt;
-        given.next().is_none() && given.unwrap().pos() == end,
-        "{row}"
-    );
+    let is_end = given.next().is_none() && given.unwrap().pos() == end;
+    assert_holds(rt, row, is_end);
 }
 
 #[test]
 fn reads_addresses(rt: HostRuntime) {
-    for &(row, octets, in_any_class, in_class_in, end) in ROWS {
-        let message = message_of(&rt, octets);
-        let answers = answers_of(&rt, &message);
-        assert_addresses(&rt, row, answers.limit_to(), in_any_class, end);
-        assert_addresses(&rt, row, answers.limit_to_in(), in_class_in, end);
+    for case in CASES {
+        let message = message_of(&rt, case.message);
+        let given = answers_of(&rt, &message).limit_to();
+        assert_addresses(&rt, case.name, given, case.in_any_class, case.end);
+    }
+}
+
+#[test]
+fn reads_addresses_in_class_in(rt: HostRuntime) {
+    for case in CASES {
+        let message = message_of(&rt, case.message);
+        let given = answers_of(&rt, &message).limit_to_in();
+        assert_addresses(&rt, case.name, given, case.in_class_in, case.end);
     }
 }
 
@@ -147,14 +160,17 @@ fn gives_three(mut records: Opaque<'_>) -> bool {
 }
 
 #[test]
-fn reads_data_of_a_type_and_of_any_type(rt: HostRuntime) {
+fn refuses_a_name_past_the_end_of_its_data(rt: HostRuntime) {
     let message = message_of(&rt, NAME_PAST_THE_END);
-    assert!(rt;
-        is_short(answers_of(&rt, &message)),
-        "Name past the data's end"
-    );
+    let is_short = is_short(answers_of(&rt, &message));
+    assert_holds(&rt, "half a pointer", is_short);
+}
+
+#[test]
+fn reads_data_of_any_type(rt: HostRuntime) {
     let message = message_of(&rt, ADDRESS_BETWEEN);
-    assert!(rt; gives_three(answers_of(&rt, &message).into_records()));
+    let are_given = gives_three(answers_of(&rt, &message).into_records());
+    assert_holds(&rt, "three records", are_given);
 }
 
 /// Three addresses of the root: 192.0.2.1 in class IN, 192.0.2.2 in class CH, and the first again.
@@ -168,7 +184,7 @@ fn assert_cloned(
     mut given: RecordIter<'_, A>,
     others: Addresses,
 ) -> Result<(), Fail> {
-    assert!(rt; next_address(&mut given) == Some(Ok(FIRST)), "{row}");
+    assert_holds(rt, row, next_address(&mut given) == Some(Ok(FIRST)));
     let clone = given.clone()?;
     assert_addresses(rt, row, given, others, 57);
     assert_addresses(rt, row, clone, others, 57);
@@ -184,16 +200,13 @@ fn gives_two(mut records: Opaque<'_>) -> bool {
 fn clones_give_the_same(rt: HostRuntime) -> Result<(), Fail> {
     let message = message_of(&rt, TWO_CLASSES);
     let answers = answers_of(&rt, &message);
-    assert_cloned(
-        &rt,
-        "limit_to",
-        answers.limit_to(),
-        &[Ok(SECOND), Ok(FIRST)],
-    )?;
+    let others = &[Ok(SECOND), Ok(FIRST)];
+    assert_cloned(&rt, "limit_to", answers.limit_to(), others)?;
     assert_cloned(&rt, "limit_to_in", answers.limit_to_in(), &[Ok(FIRST)])?;
     let mut records: Opaque<'_> = answers.into_records();
-    assert!(rt; gives(&mut records, &FIRST), "into_records");
+    assert_holds(&rt, "into_records", gives(&mut records, &FIRST));
     let clone = records.clone()?;
-    assert!(rt; gives_two(records) && gives_two(clone), "into_records");
+    assert_holds(&rt, "into_records, after it", gives_two(records));
+    assert_holds(&rt, "into_records, its clone", gives_two(clone));
     Ok(())
 }

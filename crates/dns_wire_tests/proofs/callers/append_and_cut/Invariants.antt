@@ -1,6 +1,6 @@
 use Rattle.std.proofs.Common.{length}
 use Rattle.dns_wire_tests.proofs.CutAway.{GoesOn}
-use Rattle.dns_wire_tests.proofs.history.append_and_cut.Given as goal
+use Rattle.dns_wire_tests.proofs.callers.append_and_cut.Given as goal
 
 abbrev pub invariant-loop-name : goal.invariant-loop-name
 invariant-loop-name g l =

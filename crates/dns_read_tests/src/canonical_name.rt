@@ -1,21 +1,43 @@
 //! Canonical names: the name that the first question's name is an alias of.
-use crate::messages::{is_name, message_of};
+use crate::asserts::{assert_holds, is_name, message_of};
 use arrayvec::ArrayVec;
 use std::process::Abort;
 use std::test::Fail;
 
 /// A question for example.com. and these answers: bar is an alias of baz, example.com. of foo, foo
-/// of bar, baz of foo, and baz has an address. Each row sets ANCOUNT, so that it has the first of
+/// of bar, baz of foo, and baz has an address. Each case sets ANCOUNT, so that it has the first of
 /// these answers.
 const ALIASES: &[u8; 113] =
     b"\x00\x00\x80\x00\x00\x01\x00\x05\x00\x00\x00\x00\x07example\x03com\x00\x00\x01\x00\x01\x03bar\xC0\x0C\x00\x05\x00\x01\x00\x00\x00\x00\x00\x06\x03baz\xC0\x0C\xC0\x0C\x00\x05\x00\x01\x00\x00\x00\x00\x00\x06\x03foo\xC0\x0C\xC0\x3F\x00\x05\x00\x01\x00\x00\x00\x00\x00\x02\xC0\x1D\xC0\x2D\x00\x05\x00\x01\x00\x00\x00\x00\x00\x02\xC0\x3F\xC0\x2D\x00\x01\x00\x01\x00\x00\x00\x00\x00\x04\x7F\x00\x00\x01";
 
-/// The row "Canonical names": how many answers there are, and the canonical name.
-const CANONICAL_NAMES: &[(u8, Option<&[u8]>)] = &[
-    (0, Some(b"\x07example\x03com\x00")),
-    (3, Some(b"\x03baz\x07example\x03com\x00")),
-    (4, None),
-    (5, None),
+/// The number of answers, and the octets of the canonical name.
+struct Case {
+    name: &'static str,
+    answers: u8,
+    canonical: Option<&'static [u8]>,
+}
+
+const CASES: &[Case] = &[
+    Case {
+        name: "no alias",
+        answers: 0,
+        canonical: Some(b"\x07example\x03com\x00"),
+    },
+    Case {
+        name: "three aliases in any order",
+        answers: 3,
+        canonical: Some(b"\x03baz\x07example\x03com\x00"),
+    },
+    Case {
+        name: "a loop of aliases",
+        answers: 4,
+        canonical: None,
+    },
+    Case {
+        name: "a loop of aliases, and an address",
+        answers: 5,
+        canonical: None,
+    },
 ];
 
 /// A question for a., which is an alias of b. in class CH.
@@ -30,7 +52,7 @@ fn assert_canonical(rt: &impl Abort, row: &str, octets: &[u8], expected: Option<
         (None, None) => true,
         _ => false,
     };
-    assert!(rt; is_canonical, "{row}");
+    assert_holds(rt, row, is_canonical);
 }
 
 /// A question for a., and CNAME records from each letter to the next one, up to the last.
@@ -63,16 +85,20 @@ fn chain(last: u8) -> Result<ArrayVec<u8, 400>, Fail> {
 }
 
 #[test]
-fn follows_aliases(rt: HostRuntime) -> Result<(), Fail> {
-    for &(answers, expected) in CANONICAL_NAMES {
+fn follows_aliases(rt: HostRuntime) {
+    for case in CASES {
         let mut octets = *ALIASES;
-        octets[7] = answers;
-        assert_canonical(&rt, "Canonical names", &octets, expected);
+        octets[7] = case.answers;
+        assert_canonical(&rt, case.name, &octets, case.canonical);
     }
-    let row = "Canonical names, a straight chain";
-    assert_canonical(&rt, row, &chain(b't')?, Some(b"\x01t\x00"));
-    assert_canonical(&rt, row, &chain(b'u')?, None);
-    let row = "Canonical name in any class";
-    assert_canonical(&rt, row, IN_CLASS_CH, Some(b"\x01b\x00"));
+    let expected = Some(b"\x01b\x00".as_slice());
+    assert_canonical(&rt, "an alias in class CH", IN_CLASS_CH, expected);
+}
+
+#[test]
+fn follows_nineteen_aliases(rt: HostRuntime) -> Result<(), Fail> {
+    let longest = chain(b't')?;
+    assert_canonical(&rt, "nineteen aliases", &longest, Some(b"\x01t\x00"));
+    assert_canonical(&rt, "twenty aliases", &chain(b'u')?, None);
     Ok(())
 }

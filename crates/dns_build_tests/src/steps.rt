@@ -1,5 +1,6 @@
-//! Rows: calls on a builder as data, each with its result and with what it appends. They work over
-//! any target.
+//! Steps on a builder, each with its result and the octets that it has to write. They work over any
+//! target.
+use crate::asserts::{assert_holds, name_of};
 use dns_build::{Builder, MessageBuilder, PushError, QuestionBuilder, RecordStage};
 use dns_code::{Header, Rtype};
 use dns_data::{A, Ns, Soa, UnknownRecordData};
@@ -7,13 +8,7 @@ use dns_wire::{Composer, Name, ToName};
 use std::alloc::Global;
 use std::process::Abort;
 
-pub(crate) const EXAMPLE_COM: &[u8] = b"\x07example\x03com\x00";
-
-pub(crate) const LETTER_A: &[u8] = b"\x01a\x00";
-
-pub(crate) const ROOT: &[u8] = b"\x00";
-
-/// The address of a record if a row gives none.
+/// The address of a record if a case gives none.
 pub(crate) const ADDRESS: [u8; 4] = [203, 0, 113, 1];
 
 /// The result of a call: `Done`, or the error.
@@ -70,8 +65,7 @@ pub(crate) type Step<C> = (C, Answer, usize, &'static [u8]);
 
 /// The calls at each section.
 #[derive(Drop)]
-pub(crate) struct Row {
-    /// The name of the row.
+pub(crate) struct Case {
     pub(crate) name: &'static str,
     pub(crate) questions: &'static [Step<Ask>],
     pub(crate) answers: &'static [Step<Call>],
@@ -82,29 +76,14 @@ pub(crate) struct Row {
 }
 
 /// No call.
-pub(crate) const EMPTY: Row = Row {
-    name: "Empty message",
+pub(crate) const EMPTY: Case = Case {
+    name: "an empty message",
     questions: &[],
     answers: &[],
     authorities: &[],
     additionals: &[],
     start: &[0; 12],
 };
-
-/// Fails unless the octets are the expected ones.
-pub(crate) fn assert_octets(rt: &impl Abort, row: &str, octets: &[u8], expected: &[u8]) {
-    assert_eq!(rt; octets, expected, "{row}");
-}
-
-/// Fails unless the condition of a row holds.
-pub(crate) fn assert_holds(rt: &impl Abort, row: &str, holds: bool) {
-    assert!(rt; holds, "{row}");
-}
-
-/// The name in octets that are one.
-pub(crate) fn name<'a>(rt: &impl Abort, octets: &'a [u8]) -> Name<&'a [u8]> {
-    Name::from_octets(octets).expect(rt, "a name")
-}
 
 /// Whether a push had this result.
 fn gave(pushed: Pushed, answer: &Answer) -> bool {
@@ -128,7 +107,7 @@ pub(crate) fn push_question<T: Composer, N: ToName + Drop>(
 /// Pushes the questions for a. to x.
 fn push_letters<T: Composer>(rt: &impl Abort, builder: &mut QuestionBuilder<T>) -> Pushed {
     for letter in b'a'..=b'x' {
-        push_question(builder, name(rt, &[1, letter, 0]), Rtype::A).expect(rt, "memory");
+        push_question(builder, name_of(rt, &[1, letter, 0]), Rtype::A).expect(rt, "memory");
     }
     Ok(())
 }
@@ -148,8 +127,8 @@ fn push_roots<T: Composer>(
 /// Makes a call at the question section.
 fn ask_one<T: Composer>(rt: &impl Abort, builder: &mut QuestionBuilder<T>, call: &Ask) -> Pushed {
     match call {
-        Ask::Question(qname) => return push_question(builder, name(rt, qname), Rtype::A),
-        Ask::Servers(qname) => return push_question(builder, name(rt, qname), Rtype::NS),
+        Ask::Question(qname) => return push_question(builder, name_of(rt, qname), Rtype::A),
+        Ask::Servers(qname) => return push_question(builder, name_of(rt, qname), Rtype::NS),
         Ask::Letters => return push_letters(rt, builder),
         Ask::Roots(count) => return push_roots(rt, builder, *count),
         Ask::Rewind => builder.rewind(),
@@ -161,8 +140,8 @@ fn ask_one<T: Composer>(rt: &impl Abort, builder: &mut QuestionBuilder<T>, call:
 
 /// Pushes the SOA record of the root zone.
 fn push_start<T: Composer, S: RecordStage>(rt: &impl Abort, builder: &mut Builder<T, S>) -> Pushed {
-    let mname = name(rt, b"\x01a\x0Croot-servers\x03net\x00");
-    let rname = name(rt, b"\x05nstld\x0Cverisign-grs\x03com\x00");
+    let mname = name_of(rt, b"\x01a\x0Croot-servers\x03net\x00");
+    let rname = name_of(rt, b"\x05nstld\x0Cverisign-grs\x03com\x00");
     let soa = Soa::new(mname, rname, 2_020_081_701, 1_800, 900, 604_800, 86_400);
     builder.push((Name::root_slice(), 86_390, soa))
 }
@@ -177,7 +156,7 @@ fn push_opaque<T: Composer, S: RecordStage>(
 ) -> Pushed {
     let octets = vec![in alloc; 0; count].expect(rt, "memory");
     let data = UnknownRecordData::from_octets(Rtype::TXT, octets.as_slice()).expect(rt, "data");
-    builder.push((name(rt, owner), 3600, data))
+    builder.push((name_of(rt, owner), 3600, data))
 }
 
 /// Pushes an address with a TTL in seconds.
@@ -189,7 +168,7 @@ fn push_address<T: Composer, S: RecordStage>(
     [first, second, third, last]: [u8; 4],
 ) -> Pushed {
     let address = A::from_octets(first, second, third, last);
-    builder.push((name(rt, owner), seconds, address))
+    builder.push((name_of(rt, owner), seconds, address))
 }
 
 /// Makes a call at a section of records.
@@ -205,8 +184,8 @@ fn make_one<T: Composer, S: RecordStage>(
             return push_address(rt, builder, owner, 86_400, [192, 0, 2, *last]);
         }
         Call::Server(owner, seconds, server) => {
-            let server = Ns::new(name(rt, server));
-            return builder.push((name(rt, owner), *seconds, server));
+            let server = Ns::new(name_of(rt, server));
+            return builder.push((name_of(rt, owner), *seconds, server));
         }
         Call::Start => return push_start(rt, builder),
         Call::Opaque(owner, count) => return push_opaque(rt, alloc, builder, owner, *count),
@@ -217,7 +196,7 @@ fn make_one<T: Composer, S: RecordStage>(
     Ok(())
 }
 
-/// Checks a call of a row on a message of `old` octets: its result, and the octets after it.
+/// Checks a call of a case on a message of `old` octets: its result, and the octets after it.
 fn assert_step<C>(
     rt: &impl Abort,
     row: &str,
@@ -231,7 +210,7 @@ fn assert_step<C>(
     assert!(rt; holds, "{row}, at the length {len}");
 }
 
-/// Makes the calls of a row at the question section.
+/// Makes the calls of a case at the question section.
 fn ask_all<T: Composer>(
     rt: &impl Abort,
     row: &str,
@@ -245,7 +224,7 @@ fn ask_all<T: Composer>(
     }
 }
 
-/// Makes the calls of a row at a section of records.
+/// Makes the calls of a case at a section of records.
 fn make_all<T: Composer, S: RecordStage>(
     rt: &impl Abort,
     alloc: Global,
@@ -260,27 +239,28 @@ fn make_all<T: Composer, S: RecordStage>(
     }
 }
 
-/// Makes the calls of a row on a builder without items. Returns the target.
+/// Makes the calls of a case on a builder without items. Returns the target.
 pub(crate) fn run_on<T: Composer>(
     rt: &impl Abort,
     alloc: Global,
+    row: &str,
     builder: MessageBuilder<T>,
-    row: &Row,
+    case: &Case,
 ) -> T {
     let mut builder = builder.question();
-    ask_all(rt, row.name, &mut builder, row.questions);
+    ask_all(rt, row, &mut builder, case.questions);
     let mut builder = builder.answer();
-    make_all(rt, alloc, row.name, &mut builder, row.answers);
+    make_all(rt, alloc, row, &mut builder, case.answers);
     let mut builder = builder.authority();
-    make_all(rt, alloc, row.name, &mut builder, row.authorities);
+    make_all(rt, alloc, row, &mut builder, case.authorities);
     let mut builder = builder.additional();
-    make_all(rt, alloc, row.name, &mut builder, row.additionals);
-    assert_holds(rt, row.name, builder.as_slice().starts_with(row.start));
+    make_all(rt, alloc, row, &mut builder, case.additionals);
+    assert_holds(rt, row, builder.as_slice().starts_with(case.start));
     builder.finish()
 }
 
-/// Makes the calls of a row on a target.
-pub(crate) fn run<T: Composer>(rt: &impl Abort, alloc: Global, target: T, row: &Row) {
-    let builder = MessageBuilder::from_target(target).expect(rt, row.name);
-    run_on(rt, alloc, builder, row);
+/// Makes the calls of a case on a target.
+pub(crate) fn run<T: Composer>(rt: &impl Abort, alloc: Global, row: &str, target: T, case: &Case) {
+    let builder = MessageBuilder::from_target(target).expect(rt, row);
+    run_on(rt, alloc, row, builder, case);
 }

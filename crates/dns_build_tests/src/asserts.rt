@@ -1,0 +1,28 @@
+//! Assertions, and values that many tests use. The `row` of an assertion is the name of the row of a
+//! table, or says what a test compares.
+use dns_wire::Name;
+use std::process::Abort;
+
+/// Fails unless the condition holds.
+pub(crate) fn assert_holds(rt: &impl Abort, row: &str, holds: bool) {
+    assert!(rt; holds, "{row}");
+}
+
+/// Fails unless the octets equal the expected ones.
+pub(crate) fn assert_octets(rt: &impl Abort, row: &str, octets: &[u8], expected: &[u8]) {
+    assert_eq!(rt; octets, expected, "{row}");
+}
+
+/// The octets of example.com.
+pub(crate) const EXAMPLE_COM: &[u8] = b"\x07example\x03com\x00";
+
+/// The octets of a.
+pub(crate) const LETTER_A: &[u8] = b"\x01a\x00";
+
+/// The octets of the root.
+pub(crate) const ROOT: &[u8] = b"\x00";
+
+/// The uncompressed name in these octets.
+pub(crate) fn name_of<'a>(rt: &impl Abort, octets: &'a [u8]) -> Name<&'a [u8]> {
+    Name::from_octets(octets).expect(rt, "a name")
+}
