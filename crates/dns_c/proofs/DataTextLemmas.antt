@@ -22,7 +22,7 @@ use Rattle.dns_item.specs.Record.{data_of}
 use Rattle.dns_item.specs.RecordReading.{GivesTaken}
 use Rattle.dns_item.specs.declared.record.Record.{Record}
 use Rattle.dns_item.proofs.theory.TypedLemmas.{data_is_parsed}
-use Rattle.dns_show.specs.Show.{IsRead, data_parts, zone_numbers_text}
+use Rattle.dns_tool.specs.Show.{IsRead, data_parts, zone_numbers_text}
 use Rattle.dns_c.specs.Texts.{absolute_name, hex_octets}
 
 module _ (x : EncodedRecord) (read : IsRead x) where

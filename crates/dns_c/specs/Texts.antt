@@ -7,7 +7,7 @@ use Rattle.dns_data.specs.Printing.{hex_octet}
 use Rattle.dns_item.specs.Items.{RecordEntry, ReadsRecord, RecordFaultAt}
 use Rattle.dns_item.specs.ParsedRecord.{EncodedRecord}
 use Rattle.dns_item.specs.RecordReading.{up_to_rdata_end}
-use Rattle.dns_show.specs.Show.{shown_data, typed_parts}
+use Rattle.dns_tool.specs.Show.{shown_data, typed_parts}
 use Rattle.dns_c.specs.NameFaults.{ReportsAt}
 
 -- the buffer holds a text from its beginning up to this end; the end is None if the buffer is too short for the text

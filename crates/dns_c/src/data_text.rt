@@ -8,7 +8,7 @@ ghost use Rattle.dns_data.specs.Printing.{opaque_text};
 ghost use Rattle.dns_data.specs.Soa.{soa_parts};
 ghost use Rattle.dns_item.specs.Items.{RecordEntry, RecordFaultAt};
 ghost use Rattle.dns_item.specs.ParsedRecord.{octets_of, parsed_entry, encoded_record};
-ghost use Rattle.dns_show.specs.Show.{IsRead, data_parts, address_octets_text, parts_text};
+ghost use Rattle.dns_tool.specs.Show.{IsRead, data_parts, address_octets_text, parts_text};
 ghost use Rattle.dns_c.specs.Codes.{number_of};
 ghost use Rattle.dns_c.specs.Texts.{Holds, NoRecordAt, RecordAt, data_octets, data_text};
 

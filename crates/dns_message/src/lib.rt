@@ -1,14 +1,7 @@
 //! DNS messages: read lazily from octets, and built section by section.
 //!
-//! Users depend on this crate alone: its modules re-export what the crates below it have.
-//!
-//! After any list of calls on a builder (`script::run`), the octets are what writing the current
-//! header and items once, from scratch, would give. They read back as exactly those, in order.
-//! Every compression pointer leads to an earlier label. A failed push changes nothing, and fails
-//! only for capacity, memory, limit or count. While all labels are within pointer range, no
-//! compression of the names is shorter than that of a compressor (`StaticCompressor`: while fewer
-//! than 24 suffixes are in its table). The contract is `Runs` of `specs/Script.antt`.
-//!
+//! Users depend on this crate alone: its modules re-export what the crates below it have, and it has
+//! no code of its own. What any list of calls on a builder leaves is the contract of `script::run`.
 //! `tool` is the program `dnsmsg`, which is safe and terminates on every input.
 #![tactic(auto)]
 
@@ -66,17 +59,10 @@ pub mod data {
     pub use dns_opt::laws as option_laws;
 }
 
-mod fault;
-mod hex;
-mod line;
-mod opt_line;
-mod opt_plan;
-mod output;
-mod program;
-mod record_line;
-pub mod script;
-mod script_data;
-mod stage;
+pub mod script {
+    //! Calls on the builders of a message, one or a list, and the replies to them.
+    pub use dns_script::{Call, OptPlan, Reply, Stage, run, step};
+}
 
 pub mod target {
     //! The targets that messages are written to.
@@ -97,5 +83,4 @@ pub mod wire {
 }
 
 pub use dns_item::question;
-pub use dns_show::print_message;
-pub use program::tool;
+pub use dns_tool::{print_message, tool};

@@ -1,7 +1,7 @@
 //! The work of the program `dnsview`.
 ghost use Rattle.std.specs.Prelude.{◌≡◌, ◌≤◌, ◌||◌, IfOk, IfSome, MatchOption, OnOk, length, map, string_bytes};
 ghost use Rattle.std.specs.Char.{is_ascii_hexdigit, is_ascii_whitespace};
-ghost use Rattle.dns_message.specs.Hex.{unspaced};
+ghost use Rattle.dns_tool.specs.Hex.{unspaced};
 ghost use Rattle.dns_view.specs.Viewing.{is_digits, words_of, AskNothing, Gives, IsOdd, IsPrinted, IsViewed, PrintsRows, Reports};
 
 use crate::html::print_page;

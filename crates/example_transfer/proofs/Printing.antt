@@ -21,7 +21,7 @@ use Rattle.dns_item.specs.RecordReading.{ReturnsTaken, ReturnsLaidOut, GivesTake
 use Rattle.dns_item.specs.declared.parsed_record.ParsedRecord.{ParsedRecord}
 use Rattle.dns_item.specs.declared.record.Record.{Record}
 use Rattle.dns_section.specs.RecordSection.{record_result}
-use Rattle.dns_show.proofs.theory.AppendedTexts.{appends_both, appends_none}
+use Rattle.dns_tool.proofs.theory.AppendedTexts.{appends_both, appends_none}
 use Rattle.example_transfer.specs.Printed.{ending, HasNoOctets, IsItemText, IsItemsText, IsRecordLine, IsTransferText, Prints}
 use Rattle.example_transfer.specs.Transfer.{AreMessagesOf, AreTransferred, Taken, is_whole}
 

@@ -1,0 +1,3 @@
+mod Histories
+mod PlannedOpts
+mod PushedRecords

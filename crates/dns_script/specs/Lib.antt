@@ -1,0 +1,2 @@
+pub mod OptPlans
+pub mod Script

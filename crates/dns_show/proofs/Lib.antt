@@ -1,5 +1,0 @@
-pub mod theory
-mod Lines
-mod ShownHeader
-mod ShownRecords
-mod TypedText

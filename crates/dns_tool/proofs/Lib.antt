@@ -1,0 +1,7 @@
+pub mod theory
+mod HexLemmas
+mod OutputLemmas
+mod PrintedLines
+mod ShownHeader
+mod ShownRecords
+mod TypedText

@@ -1,0 +1,8 @@
+pub mod Faults
+pub mod Hex
+pub mod Lines
+pub mod Output
+pub mod ScriptData
+pub mod Show
+pub mod ShowDigits
+pub mod TypedData

@@ -1,0 +1,25 @@
+//! The work of the program `dnsmsg`: it prints a message as text, and builds one by a script.
+//!
+//! `tool` is the whole program, which is safe and terminates on every input.
+//!
+//! `print_message` prints a line for the header of a message, one for its counts, and one for each
+//! item of each section. The text is a function of the message's octets. It has the line of each
+//! item that reading the sections gives, in order (RFC 1035 sections 4.1 and 5.1, RFC 3597 section
+//! 5).
+//!
+//! A script has a call on a builder in each line. Its calls are made by `dns_script`.
+#![tactic(auto)]
+
+mod fault;
+mod hex;
+mod line;
+mod opt_line;
+mod output;
+mod print;
+mod program;
+mod record_line;
+mod script_data;
+mod typed_data;
+
+pub use print::print_message;
+pub use program::tool;

@@ -1,0 +1,188 @@
+//! Prints a message as text: its header, its counts, and a line for each item of each section.
+ghost use Rattle.std.specs.Prelude.{◌≡◌, ◌++◌, None, Ok, IfOk, OnOk, codes};
+ghost use Rattle.std.specs.Io.KnownBytes.{Appends};
+ghost use Rattle.std.specs.List.{flat_map};
+ghost use Rattle.dns_code.specs.Header.{fields};
+ghost use Rattle.dns_code.specs.HeaderCounts.{counts as count_fields};
+ghost use Rattle.dns_item.specs.ParsedRecord.{encoded_record};
+ghost use Rattle.dns_read.specs.Message.{message_octets};
+ghost use Rattle.dns_section.specs.QuestionSection.{question_result, questions_left};
+ghost use Rattle.dns_section.specs.RecordSection.{record_result, records_left};
+ghost use Rattle.dns_tool.specs.Show.{header_line, counts_line, line, question_line, record_line, section_word, IsRead, HasShortData, text_with, records_text, message_text};
+
+use crate::typed_data::TypedData;
+use dns_code::{Header, HeaderCounts};
+use dns_data::UnknownRecordData;
+use dns_item::{ParsedRecord, Question};
+use dns_read::{Message, QuestionSection, RecordSection, Section};
+use dns_wire::{ParseError, ParsedName};
+use std::io;
+use std::io::Write;
+
+/// Prints a message: a line for its header, one for its counts, and one for each item of each
+/// section.
+///
+/// If a section has no start, prints that it is missing, and nothing after that. Returns the error
+/// of `writer` if it fails.
+pub fn print_message<W: Write>(writer: &mut W, message: &Message<&[u8]>) -> io::Result<()>
+    ensures { OnOk result (Appends (W.contents writer.old) (W.contents writer.new)
+        (message_text (message_octets message.now))) }
+{
+    print_header(writer, message.header())?;
+    print_counts(writer, message.header_counts())?;
+    print_questions(writer, message.question())?;
+    print_sections(writer, message)
+}
+
+fn print_header<W: Write>(writer: &mut W, header: Header) -> io::Result<()>
+    ensures { OnOk result (Appends (W.contents writer.old) (W.contents writer.new)
+        (header_line (fields header))) }
+{
+    let id = header.id();
+    let opcode = header.opcode().to_int();
+    let rcode = header.rcode().to_int();
+    let z = u8::from(header.z());
+    let flags = header.flags();
+    writeln!(
+        writer,
+        "header id={id} opcode={opcode} rcode={rcode} z={z} flags={flags}"
+    )
+}
+
+fn print_counts<W: Write>(writer: &mut W, counts: HeaderCounts) -> io::Result<()>
+    ensures { OnOk result (Appends (W.contents writer.old) (W.contents writer.new)
+        (counts_line (count_fields counts))) }
+{
+    let questions = counts.qdcount();
+    let answers = counts.ancount();
+    let authorities = counts.nscount();
+    let additionals = counts.arcount();
+    writeln!(
+        writer,
+        "counts {questions} {answers} {authorities} {additionals}"
+    )
+}
+
+/// Prints a line for each question, and one for the error of the first that can't be read.
+fn print_questions<W: Write>(writer: &mut W, questions: QuestionSection<'_>) -> io::Result<()>
+    ensures { OnOk result (Appends (W.contents writer.old) (W.contents writer.new)
+        (flat_map question_line (questions_left questions.entry))) }
+{
+    let mut questions = questions;
+    while let Some(question) = questions.next() {
+        print_question(writer, question)?;
+    }
+    Ok(())
+}
+
+fn print_question<W: Write>(
+    writer: &mut W,
+    question: Result<Question<ParsedName<'_>>, ParseError>,
+) -> io::Result<()>
+    ensures { OnOk result (Appends (W.contents writer.old) (W.contents writer.new)
+        (question_line (question_result question.entry))) }
+{
+    match question {
+        Ok(question) => writeln!(writer, "question {question}"),
+        Err(_) => writeln!(writer, "question error"),
+    }
+}
+
+/// Prints the sections of records, up to the first that has no start.
+fn print_sections<W: Write>(writer: &mut W, message: &Message<&[u8]>) -> io::Result<()>
+    ensures { OnOk result (Appends (W.contents writer.old) (W.contents writer.new)
+        (records_text (message_octets message.now))) }
+{
+    let Ok(answer) = message.answer() else {
+        return print_missing(writer, Section::Answer);
+    };
+    print_records(writer, Section::Answer, answer)?;
+    let Ok(authority) = message.authority() else {
+        return print_missing(writer, Section::Authority);
+    };
+    print_records(writer, Section::Authority, authority)?;
+    let Ok(additional) = message.additional() else {
+        return print_missing(writer, Section::Additional);
+    };
+    print_records(writer, Section::Additional, additional)
+}
+
+/// The word that begins each line of a section.
+fn word_of(section: Section) -> &'static str
+    ensures { result.now ≡ section_word section }
+{
+    match section {
+        Section::Answer => "answer",
+        Section::Authority => "authority",
+        Section::Additional => "additional",
+    }
+}
+
+/// Prints that a section has no start.
+fn print_missing<W: Write>(writer: &mut W, section: Section) -> io::Result<()>
+    ensures { OnOk result (Appends (W.contents writer.old) (W.contents writer.new)
+        (line (section_word section ++ codes " missing"))) }
+{
+    let word = word_of(section);
+    writeln!(writer, "{word} missing")
+}
+
+/// Prints a line for each record, and one for the error of the first that can't be read.
+fn print_records<W: Write>(
+    writer: &mut W,
+    section: Section,
+    records: RecordSection<'_>,
+) -> io::Result<()>
+    ensures { OnOk result (Appends (W.contents writer.old) (W.contents writer.new)
+        (flat_map (record_line (section_word section)) (records_left records.entry))) }
+{
+    let word = word_of(section);
+    let mut records = records;
+    while let Some(record) = records.next() {
+        print_record(writer, word, record)?;
+    }
+    Ok(())
+}
+
+/// Prints a line for a record, or for the error of one that can't be read.
+fn print_record<W: Write>(
+    writer: &mut W,
+    word: &str,
+    record: Result<ParsedRecord<'_>, ParseError>,
+) -> io::Result<()>
+    requires read { IfOk «record» (λ r. IsRead (encoded_record r)) }
+    requires short { IfOk «record» (λ r. HasShortData (encoded_record r)) }
+    ensures { OnOk result (Appends (W.contents writer.old) (W.contents writer.new)
+        (record_line word.now (record_result «record».entry))) }
+{
+    match record {
+        Ok(record) => print_parsed(writer, word, &record),
+        Err(_) => writeln!(writer, "{word} error"),
+    }
+}
+
+/// Prints a record: its RDATA by its fields if `TypedData` accepts its type and the RDATA is
+/// well-formed, else as octets.
+fn print_parsed<W: Write>(writer: &mut W, word: &str, record: &ParsedRecord<'_>) -> io::Result<()>
+    requires read { IsRead (encoded_record «record».now) }
+    requires short { HasShortData (encoded_record «record».now) }
+    ensures { OnOk result (Appends (W.contents writer.old) (W.contents writer.new)
+        (record_line word.now (Ok (encoded_record «record».now)))) }
+{
+    match record.to_record::<TypedData<'_>>() {
+        Ok(Some(record)) => writeln!(writer, "{word} {record}"),
+        Ok(None) => print_opaque(writer, word, record),
+        Err(_) => print_opaque(writer, word, record),
+    }
+}
+
+/// Prints a record with its RDATA as octets.
+fn print_opaque<W: Write>(writer: &mut W, word: &str, record: &ParsedRecord<'_>) -> io::Result<()>
+    requires read { IsRead (encoded_record «record».now) }
+    requires short { HasShortData (encoded_record «record».now) }
+    ensures { OnOk result (Appends (W.contents writer.old) (W.contents writer.new)
+        (line (word.now ++ codes " " ++ text_with (encoded_record «record».now) None))) }
+{
+    let record = record.to_any_record::<UnknownRecordData<&[u8]>>().unwrap();
+    writeln!(writer, "{word} {record}")
+}
