@@ -15,6 +15,7 @@ ghost use Rattle.dns_section.specs.RecordIter.{typed_left};
 ghost use Rattle.dns_section.specs.Sections.{AnswersStart};
 ghost use Rattle.dns_message_tests.specs.Callers.{IsShortMessage, EncodedFirst, AreAnswers, data_among, sections_among, SaysWhatIsGathered};
 
+use crate::asserts::{assert_holds, assert_octets};
 use dns_message::builder::laws::{opts_read_back, rcode_is_set};
 use dns_message::builder::{MessageBuilder, OptBuilder, PushError};
 use dns_message::code::{OptRcode, OptionCode, Rtype};
@@ -49,7 +50,8 @@ fn replies_with_the_id(rt: HostRuntime) {
     query.set_id(0x1234);
     query.set_rd(true);
     let reply = reply_header(query);
-    assert!(rt; reply.id() == 0x1234 && reply.rd() && reply.qr());
+    let is_reply = reply.id() == 0x1234 && reply.rd() && reply.qr();
+    assert_holds(&rt, "the fields of the reply", is_reply);
 }
 
 /// Octets as opaque record data, if RDATA can have that many.
@@ -62,7 +64,8 @@ fn opaque(rtype: Rtype, octets: &[u8]) -> Option<UnknownRecordData<&[u8]>>
 #[test]
 fn takes_opaque_data(rt: HostRuntime) -> Result<(), Fail> {
     let long = vec![in rt.alloc(); 0; 65536]?;
-    assert!(rt; opaque(Rtype::TXT, &long).is_none() && opaque(Rtype::TXT, b"\x01a").is_some());
+    assert_holds(&rt, "65,536 octets", opaque(Rtype::TXT, &long).is_none());
+    assert_holds(&rt, "two octets", opaque(Rtype::TXT, b"\x01a").is_some());
     Ok(())
 }
 
@@ -76,9 +79,10 @@ fn kept_for(ttl: Ttl, least: Ttl) -> Ttl
 #[test]
 fn keeps_for_a_week(rt: HostRuntime) {
     let minute = Ttl::MINUTE;
-    assert!(rt;
-        kept_for(Ttl::from_secs(5), minute) == minute && kept_for(Ttl::MAX, minute) == Ttl::CAP
-    );
+    let kept = kept_for(Ttl::from_secs(5), minute);
+    assert_holds(&rt, "less than a minute", kept == minute);
+    let kept = kept_for(Ttl::MAX, minute);
+    assert_holds(&rt, "more than a week", kept == Ttl::CAP);
 }
 
 /// Where the answers of a message begin, if each question can be skipped.
@@ -95,7 +99,8 @@ fn answers_start<Octs: Octets>(message: &Message<Octs>) -> Option<usize>
 fn finds_the_answers(rt: HostRuntime) -> Result<(), Fail> {
     let octets = b"\x00\x00\x00\x00\x00\x01\x00\x00\x00\x00\x00\x00\x01a\x00\x00\x01\x00\x01";
     let message = Message::from_octets(octets.as_slice())?;
-    assert!(rt; answers_start(&message) == Some(19));
+    let start = answers_start(&message);
+    assert_holds(&rt, "after the question", start == Some(19));
     Ok(())
 }
 
@@ -119,7 +124,8 @@ fn reads_the_first_answer(rt: HostRuntime) -> Result<(), Fail> {
         b"\x00\x00\x81\xA0\x00\x00\x00\x01\x00\x00\x00\x00\x01a\x00\x00\x01\x00\x01\x00\x00\x0E\x10\x00\x04\xCB\x00\x71\x01";
     let message = Message::from_octets(octets.as_slice())?;
     let address = first_answer::<_, A>(&message).ok_or("address")?;
-    assert!(rt; address.data().octets() == [203, 0, 113, 1]);
+    let octets = address.data().octets();
+    assert_octets(&rt, "the address", &octets, &[203, 0, 113, 1]);
     Ok(())
 }
 
@@ -161,7 +167,8 @@ fn collects_the_addresses(rt: HostRuntime) -> Result<(), Fail> {
         b"\x00\x00\x81\xA0\x00\x00\x00\x01\x00\x00\x00\x00\x01a\x00\x00\x01\x00\x01\x00\x00\x0E\x10\x00\x04\xCB\x00\x71\x01";
     let message = Message::from_octets(octets.as_slice())?;
     let addresses = data_of_answers::<_, A>(rt.alloc(), &message).ok_or("addresses")?;
-    assert!(rt; addresses.len() == 1 && addresses[0].octets() == [203, 0, 113, 1]);
+    let is_one = addresses.len() == 1 && addresses[0].octets() == [203, 0, 113, 1];
+    assert_holds(&rt, "the address", is_one);
     Ok(())
 }
 
@@ -196,7 +203,9 @@ fn knows_the_sections(rt: HostRuntime) -> Result<(), Fail> {
     let message = Message::from_octets(octets.as_slice())?;
     let sections = sections_of(rt.alloc(), &message)?;
     let expected = [Section::Answer, Section::Additional];
-    assert!(rt; has_address(&message) && sections.as_slice() == expected.as_slice());
+    assert_holds(&rt, "an address", has_address(&message));
+    let are_known = sections.as_slice() == expected.as_slice();
+    assert_holds(&rt, "the sections", are_known);
     Ok(())
 }
 
@@ -228,7 +237,8 @@ fn spells_a_name_once(rt: HostRuntime) -> Result<(), Fail> {
         Call::PushRecord((name, 3600, A::from_octets(203, 0, 113, 1))),
     ];
     let stage = compressed(rt.alloc(), &calls).ok_or("memory")?;
-    assert!(rt; stage.as_slice().len() == 12 + 13 + 4 + 2 + 10 + 4);
+    let len = 12 + 13 + 4 + 2 + 10 + 4;
+    assert_holds(&rt, "one pointer", stage.as_slice().len() == len);
     Ok(())
 }
 
@@ -258,9 +268,11 @@ fn reads_what_was_gathered(rt: HostRuntime) -> Result<(), Fail> {
         opt.push_raw_option(OptionCode::from_int(3), b"")
     })?;
     let opt = message.opt().ok_or("no record")?;
-    assert!(rt; message.opt_rcode() == rcode && opt.udp_payload_size() == 1232);
-    assert!(rt; opt.version() == 0 && opt.dnssec_ok());
+    assert_holds(&rt, "the rcode", message.opt_rcode() == rcode);
+    let is_gathered = opt.udp_payload_size() == 1232 && opt.version() == 0 && opt.dnssec_ok();
+    assert_holds(&rt, "the fields", is_gathered);
     let mut options = opt.opt().iter();
-    assert!(rt; options.next().is_some() && options.next().is_none());
+    let is_one = options.next().is_some() && options.next().is_none();
+    assert_holds(&rt, "one option", is_one);
     Ok(())
 }

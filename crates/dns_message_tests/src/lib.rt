@@ -2,23 +2,28 @@
 //! values from outside this library, lists of calls that end with the same octets, and calls that
 //! allocate.
 //!
-//! Nothing is exported.
+//! Nothing is exported. `callers`, `tour` and `typed` have proved callers; `program`, `input_output`
+//! and `long_data` test `dnsmsg`, `script` lists of calls, and `memory` calls that allocate.
+//! `asserts` and `runs` have what many tests use. The rows of a table have names, which failures
+//! print.
 #![tactic(auto)]
 
 #[cfg(test)]
+mod asserts;
+#[cfg(test)]
 mod callers;
 #[cfg(test)]
-mod failing;
+mod input_output;
 #[cfg(test)]
-mod filled;
-#[cfg(test)]
-mod histories;
+mod long_data;
 #[cfg(test)]
 mod memory;
 #[cfg(test)]
 mod program;
 #[cfg(test)]
 mod runs;
+#[cfg(test)]
+mod script;
 #[cfg(test)]
 mod tour;
 #[cfg(test)]

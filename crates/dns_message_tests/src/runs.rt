@@ -1,21 +1,37 @@
-//! Runs of the program `dnsmsg`.
+//! Runs of a program.
 use dns_message::tool;
 use std::alloc::Global;
 use std::io::{Read, Write};
 use std::test::Fail;
 
-/// Runs the program with arguments that are separated by spaces. Returns its exit status.
+/// A run of a program: the arguments after its name, separated by spaces, standard input, what is
+/// printed, and the exit status.
+#[derive(Clone, Copy)]
+pub(crate) struct Run<'a> {
+    pub(crate) name: &'a str,
+    pub(crate) words: &'a str,
+    pub(crate) input: &'a [u8],
+    pub(crate) printed: &'a str,
+    pub(crate) status: u8,
+}
+
+/// Arguments that are separated by spaces, as a program takes them.
+fn words_of(alloc: Global, words: &str) -> Result<Vec<String>, Fail> {
+    let mut strings = Vec::new(alloc);
+    for word in words.split_whitespace() {
+        strings.push(String::from_str(alloc, word)?)?;
+    }
+    Ok(strings)
+}
+
+/// Runs `dnsmsg` with these arguments. Returns its exit status.
 pub(crate) fn run<R: Read + Drop, W: Write + Drop>(
     alloc: Global,
     words: &str,
     reader: R,
     writer: W,
 ) -> Result<u8, Fail> {
-    let mut strings = Vec::new(alloc);
-    for word in words.split_whitespace() {
-        strings.push(String::from_str(alloc, word)?)?;
-    }
-    Ok(tool(alloc, &strings, reader, writer))
+    Ok(tool(alloc, &words_of(alloc, words)?, reader, writer))
 }
 
 /// Whether the program prints this, with this exit status.

@@ -4,6 +4,7 @@ ghost use Rattle.dns_name.specs.Names.{Labels, lowered, NameAt};
 ghost use Rattle.dns_read.specs.Message.{message_octets};
 ghost use Rattle.dns_message_tests.specs.Tour.{HasQuestions};
 
+use crate::asserts::assert_holds;
 use dns_message::builder::{MessageBuilder, PushError};
 use dns_message::code::Rtype;
 use dns_message::message::Message;
@@ -26,8 +27,12 @@ fn begins_with<N: ToName>(octets: &[u8], name: &N) -> bool
 #[test]
 fn finds_a_name(rt: HostRuntime) -> Result<(), Fail> {
     let name = Name::from_octets(*b"\x07example\x03com\x00")?;
-    assert!(rt; begins_with(b"\x07EXAMPLE\x03com\x00\x00\x01\x00\x01", &name));
-    assert!(rt; !begins_with(b"\x03com\x00", &name) && !begins_with(b"\x07example", &name));
+    let found = begins_with(b"\x07EXAMPLE\x03com\x00\x00\x01\x00\x01", &name);
+    assert_holds(&rt, "the name in other letter case", found);
+    let found = begins_with(b"\x03com\x00", &name);
+    assert_holds(&rt, "another name", !found);
+    let found = begins_with(b"\x07example", &name);
+    assert_holds(&rt, "a name that is cut", !found);
     Ok(())
 }
 
@@ -44,12 +49,13 @@ fn address_query<N: ToName + Drop>(alloc: Global, name: N) -> Result<Message<Vec
 #[test]
 fn asks_for_an_address(rt: HostRuntime) -> Result<(), Fail> {
     let query = address_query(rt.alloc(), Name::from_octets(*b"\x07example\x03com\x00")?)?;
-    assert_eq!(rt; query.as_slice().len(), 29);
+    assert_holds(&rt, "the length", query.as_slice().len() == 29);
     let mut questions = query.question();
     let Some(Ok(question)) = questions.next() else {
         panic!(rt; "no question");
     };
-    assert!(rt; begins_with(b"\x07EXAMPLE\x03com\x00", question.qname()));
-    assert!(rt; questions.next().is_none());
+    let is_asked = begins_with(b"\x07EXAMPLE\x03com\x00", question.qname());
+    assert_holds(&rt, "the name", is_asked);
+    assert_holds(&rt, "one question", questions.next().is_none());
     Ok(())
 }

@@ -10,6 +10,7 @@ ghost use Rattle.dns_build.specs.BuilderStates.{Represents};
 ghost use Rattle.dns_build.specs.State.{InAnswer, State};
 ghost use Rattle.dns_message_tests.specs.Typed.{HasOneAnswer, WasPushedFirst};
 
+use crate::asserts::assert_octets;
 use arrayvec::ArrayVec;
 use dns_message::builder::laws::{
     builders_are_known_by_states, records_read_back, to_record_reads_back,
@@ -116,10 +117,15 @@ fn reads_back_by_types(rt: HostRuntime) -> Result<(), Fail> {
     let server = Name::vec_from_str(alloc, "ns.example.com.")?;
     let address = A::from_octets(192, 0, 2, 1);
     let (name, glue) = reported(alloc, zone, server, address)?;
-    assert_eq!(rt; name.as_slice(), b"\x02ns\x07example\x03com\x00".as_slice());
-    assert_eq!(rt; glue.octets(), [192, 0, 2, 1]);
+    assert_octets(
+        &rt,
+        "the server",
+        name.as_slice(),
+        b"\x02ns\x07example\x03com\x00",
+    );
+    assert_octets(&rt, "its address", &glue.octets(), &[192, 0, 2, 1]);
     let read = address_reported(alloc, Name::vec_from_str(alloc, "a.")?, address)?;
-    assert_eq!(rt; read.octets(), [192, 0, 2, 1]);
+    assert_octets(&rt, "the first address", &read.octets(), &[192, 0, 2, 1]);
     Ok(())
 }
 
@@ -130,6 +136,6 @@ fn leaves_nothing(rt: HostRuntime) -> Result<(), Fail> {
     let owner = Name::vec_from_str(alloc, "a.")?;
     let address = A::from_octets(192, 0, 2, 1);
     push_in_vain(&mut builder, (owner, Ttl::from_secs(60), address))?;
-    assert_eq!(rt; builder.as_slice(), [0; 12].as_slice());
+    assert_octets(&rt, "an empty message", builder.as_slice(), &[0; 12]);
     Ok(())
 }

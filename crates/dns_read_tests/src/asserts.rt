@@ -1,4 +1,4 @@
-//! Assertions, and values that many tests use. The `row` of an assertion is the name of the row of a
+//! Assertions, and values that many tests use. The `row` of an assertion is the name of a row of a
 //! table, or says what a test compares.
 use dns_read::{Message, RecordSection};
 use dns_wire::{Name, ParseError, ParsedName, ToNameExt};

@@ -28,8 +28,8 @@ const ALL_SECTIONS: &[u8] =
 const ADDRESS_BETWEEN: &[u8] =
     b"\x00\x00\x00\x00\x00\x00\x00\x03\x00\x00\x00\x00\x00\x00\x05\x00\x01\x00\x00\x00\x00\x00\x01\x00\x00\x00\x01\x00\x01\x00\x00\x00\x00\x00\x04\xC0\x00\x02\x01\x00\x00\x05\x00\x01\x00\x00\x00\x00\x00\x01\x00";
 
-/// A message; the addresses in its answers, those in class IN, and the offset that the iterators end
-/// at.
+/// A message; the addresses in its answers, those in class IN, and the offset that the iterators
+/// end at.
 struct Case {
     name: &'static str,
     message: &'static [u8],

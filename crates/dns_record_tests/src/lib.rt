@@ -2,8 +2,8 @@
 //! records and what is gathered for one. The expected values come from outside this library.
 //!
 //! Nothing is exported. A module tests what it is named after; `asserts` has what many tests use,
-//! and `char_str` and `fields` what the data types of the tests' own share. The rows of a table have
-//! names, which failures print.
+//! and `char_str` and `fields` what the data types of the tests' own share. The rows of a table
+//! have names, which failures print.
 #![tactic(auto)]
 
 #[cfg(test)]

@@ -4,14 +4,15 @@ mod knotd;
 mod named;
 mod nsd;
 
-use crate::runs::{Run, assert_status, assert_text, words_of};
+use crate::asserts::{assert_status, assert_text};
+use crate::runs::{Run, words_of};
 use dns_message::message::Message;
 use dns_message::tool;
 use std::alloc::Global;
 use std::process::Abort;
 use std::test::Fail;
 
-const SHOW: &[&str] = &["show"];
+const SHOW: &str = "show";
 
 #[test]
 fn shows_worked_examples(rt: HostRuntime) -> Result<(), Fail> {
@@ -28,15 +29,16 @@ fn shows_what_name_servers_sent(rt: HostRuntime) -> Result<(), Fail> {
     assert_captures(&rt, rt.alloc(), nsd::CAPTURES)
 }
 
-fn assert_run(
-    rt: &impl Abort,
-    alloc: Global,
-    (row, words, input, status, text): Run<'_>,
-) -> Result<(), Fail> {
+fn assert_run(rt: &impl Abort, alloc: Global, case: Run<'_>) -> Result<(), Fail> {
     let mut output = Vec::new(alloc);
-    let ended = tool(alloc, &words_of(alloc, words)?, input, &mut output);
-    assert_text(rt, row, &String::from_utf8(output)?, text);
-    assert_status(rt, row, ended, status);
+    let ended = tool(
+        alloc,
+        &words_of(alloc, case.words)?,
+        case.input,
+        &mut output,
+    );
+    assert_text(rt, case.name, &String::from_utf8(output)?, case.printed);
+    assert_status(rt, case.name, ended, case.status);
     Ok(())
 }
 
@@ -50,10 +52,17 @@ fn assert_captures(rt: &impl Abort, alloc: Global, captures: &str) -> Result<(),
 }
 
 fn assert_capture(rt: &impl Abort, alloc: Global, capture: &str) -> Result<(), Fail> {
-    let (row, rest) = capture.split_once('\n').ok_or("no digits")?;
-    let (digits, text) = rest.split_once('\n').ok_or("no lines")?;
-    assert_run(rt, alloc, (row, SHOW, digits.as_bytes(), 0, text))?;
-    assert_opt(rt, alloc, row, digits, text)
+    let (name, rest) = capture.split_once('\n').ok_or("no digits")?;
+    let (digits, printed) = rest.split_once('\n').ok_or("no lines")?;
+    let run = Run {
+        name,
+        words: SHOW,
+        input: digits.as_bytes(),
+        printed,
+        status: 0,
+    };
+    assert_run(rt, alloc, run)?;
+    assert_opt(rt, alloc, name, digits, printed)
 }
 
 /// Checks that `Message::opt` returns the OPT record that is printed, or `None` if there is none.

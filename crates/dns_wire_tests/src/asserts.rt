@@ -1,4 +1,4 @@
-//! Assertions, and values that many tests use. The `row` of an assertion is the name of the row of a
+//! Assertions, and values that many tests use. The `row` of an assertion is the name of a row of a
 //! table, or says what a test compares.
 ghost use Rattle.std.specs.Prelude.{◌≡◌};
 

@@ -1,5 +1,5 @@
 //! Pushes that are made again if an allocation failed.
-use crate::memory::written::assert_octets;
+use crate::asserts::{assert_holds, assert_octets};
 use arrayvec::ArrayVec;
 use dns_message::builder::{Builder, BuilderStage, PushError, QuestionBuilder, RecordStage};
 use dns_message::question::ComposeQuestion;
@@ -35,8 +35,9 @@ pub(crate) fn assert_unchanged<R: Abort, T: Composer, S: BuilderStage>(
     builder: &Builder<T, S>,
     before: &BuilderState,
 ) {
-    assert!(rt; builder.push_limit() == before.limit, "refused call: limit");
-    assert_octets(rt, builder.as_slice(), &before.octets, "refused call");
+    let is_kept = builder.push_limit() == before.limit;
+    assert_holds(rt, "refused call: limit", is_kept);
+    assert_octets(rt, "refused call", builder.as_slice(), &before.octets);
 }
 
 /// Whether a push failed with `OutOfMemory`, which is printed. Any other failure is an error.

@@ -1,5 +1,5 @@
 //! Calls that allocate, each with enough memory.
-use crate::memory::written::assert_octets;
+use crate::asserts::assert_octets;
 use dns_message::code::{Class, Rtype};
 use dns_message::data::{
     A, Cname, ComposeRecordData, Opt, Soa, UnknownRecordData, compose_canonical_len_rdata,
@@ -34,13 +34,13 @@ const OPT: &[u8] = b"\x00\x04\x00\x03\x00\x00";
 fn assert_data<D: ComposeRecordData>(
     rt: &impl Abort,
     alloc: Global,
+    row: &str,
     data: &D,
     expected: &[u8],
-    what: &str,
 ) -> Result<(), Fail> {
     let mut target = Vec::new(alloc);
     compose_len_rdata(data, &mut target)?;
-    assert_octets(rt, target.as_slice(), expected, what);
+    assert_octets(rt, row, target.as_slice(), expected);
     Ok(())
 }
 
@@ -48,39 +48,39 @@ fn assert_data<D: ComposeRecordData>(
 fn assert_converts<D: OctetsFrom<S> + ComposeRecordData + Drop, S>(
     rt: &impl Abort,
     alloc: Global,
+    row: &str,
     source: S,
     expected: &[u8],
-    what: &str,
 ) -> Result<(), Fail> {
     let data = D::try_octets_from(alloc, source)?;
-    assert_data(rt, alloc, &data, expected, what)
+    assert_data(rt, alloc, row, &data, expected)
 }
 
 /// Fails unless the source is flattened into RDATA with these octets.
 fn assert_flattens<D: ComposeRecordData + Drop, S: FlattenInto<D>>(
     rt: &impl Abort,
     alloc: Global,
+    row: &str,
     source: S,
     expected: &[u8],
-    what: &str,
 ) -> Result<(), Fail> {
     let data: D = source.try_flatten_into(alloc)?;
-    assert_data(rt, alloc, &data, expected, what)
+    assert_data(rt, alloc, row, &data, expected)
 }
 
 #[test]
 fn converts_and_flattens_data(rt: HostRuntime) -> Result<(), Fail> {
     let alloc = rt.alloc();
     let alias = Cname::new(Name::from_octets(NAME)?);
-    assert_converts::<Cname<VecName>, _>(&rt, alloc, alias, ALIAS, "alias")?;
+    assert_converts::<Cname<VecName>, _>(&rt, alloc, "alias", alias, ALIAS)?;
     let opt = Opt::from_octets(*OPTION)?;
-    assert_converts::<Opt<Vec<u8>>, _>(&rt, alloc, opt, OPT, "OPT data")?;
-    assert_flattens::<Opt<Vec<u8>>, _>(&rt, alloc, opt, OPT, "flat OPT data")?;
+    assert_converts::<Opt<Vec<u8>>, _>(&rt, alloc, "OPT data", opt, OPT)?;
+    assert_flattens::<Opt<Vec<u8>>, _>(&rt, alloc, "flat OPT data", opt, OPT)?;
     let alias = Cname::new(ParsedName::parse(&mut Parser::new(QUESTION))?);
-    assert_flattens::<Cname<VecName>, _>(&rt, alloc, alias, ALIAS, "flat alias")?;
+    assert_flattens::<Cname<VecName>, _>(&rt, alloc, "flat alias", alias, ALIAS)?;
     let opaque = UnknownRecordData::from_octets(Rtype::TXT, *b"\x01a")?;
     let expected = b"\x00\x02\x01a";
-    assert_flattens::<UnknownRecordData<Vec<u8>>, _>(&rt, alloc, opaque, expected, "opaque data")
+    assert_flattens::<UnknownRecordData<Vec<u8>>, _>(&rt, alloc, "opaque data", opaque, expected)
 }
 
 #[test]
@@ -88,7 +88,7 @@ fn flattens_a_question(rt: HostRuntime) -> Result<(), Fail> {
     let name = ParsedName::parse(&mut Parser::new(QUESTION))?;
     let question = Question::new_in(name, Rtype::CNAME);
     let question: Question<VecName> = question.try_flatten_into(rt.alloc())?;
-    assert_octets(&rt, question.qname().as_slice(), NAME, "name of a question");
+    assert_octets(&rt, "name of a question", question.qname().as_slice(), NAME);
     Ok(())
 }
 
@@ -96,9 +96,9 @@ fn flattens_a_question(rt: HostRuntime) -> Result<(), Fail> {
 fn clones(rt: HostRuntime) -> Result<(), Fail> {
     let text = b"\x01a".to_vec(rt.alloc())?;
     let opaque = UnknownRecordData::from_octets(Rtype::TXT, text)?.clone()?;
-    assert_octets(&rt, opaque.data().as_slice(), b"\x01a", "opaque data");
+    assert_octets(&rt, "opaque data", opaque.data().as_slice(), b"\x01a");
     let stream = StreamTarget::new_vec(rt.alloc())?.clone()?;
-    assert_octets(&rt, stream.as_stream_slice(), b"\x00\x00", "stream");
+    assert_octets(&rt, "stream", stream.as_stream_slice(), b"\x00\x00");
     Ok(())
 }
 
@@ -106,12 +106,12 @@ fn clones(rt: HostRuntime) -> Result<(), Fail> {
 fn composes_items(rt: HostRuntime) -> Result<(), Fail> {
     let mut target = Vec::new(rt.alloc());
     Question::new_in(Name::from_octets(NAME)?, Rtype::CNAME).compose(&mut target)?;
-    assert_octets(&rt, target.as_slice(), QUESTION, "question");
+    assert_octets(&rt, "question", target.as_slice(), QUESTION);
     let mut target = Vec::new(rt.alloc());
     let root = Cname::new(Name::root_slice());
     Record::new(Name::root_slice(), Class::IN, Ttl::MINUTE, root).compose(&mut target)?;
     let record = b"\x00\x00\x05\x00\x01\x00\x00\x00\x3C\x00\x01\x00";
-    assert_octets(&rt, target.as_slice(), record, "record");
+    assert_octets(&rt, "record", target.as_slice(), record);
     Ok(())
 }
 
@@ -119,13 +119,13 @@ fn composes_items(rt: HostRuntime) -> Result<(), Fail> {
 fn assert_canonical<D: ComposeRecordData>(
     rt: &impl Abort,
     alloc: Global,
+    row: &str,
     data: &D,
     expected: &[u8],
-    what: &str,
 ) -> Result<(), Fail> {
     let mut target = Vec::new(alloc);
     data.compose_canonical_rdata(&mut target)?;
-    assert_octets(rt, target.as_slice(), expected, what);
+    assert_octets(rt, row, target.as_slice(), expected);
     Ok(())
 }
 
@@ -133,18 +133,18 @@ fn assert_canonical<D: ComposeRecordData>(
 fn composes_canonical_data(rt: HostRuntime) -> Result<(), Fail> {
     let alloc = rt.alloc();
     let address = A::from_octets(1, 2, 3, 4);
-    assert_canonical(&rt, alloc, &address, &[1, 2, 3, 4], "address")?;
+    assert_canonical(&rt, alloc, "address", &address, &[1, 2, 3, 4])?;
     let opaque = UnknownRecordData::from_octets(Rtype::TXT, *b"\x01A")?;
-    assert_canonical(&rt, alloc, &opaque, b"\x01A", "opaque data")?;
-    assert_canonical(&rt, alloc, &Opt::from_octets(*OPTION)?, OPTION, "OPT data")?;
+    assert_canonical(&rt, alloc, "opaque data", &opaque, b"\x01A")?;
+    assert_canonical(&rt, alloc, "OPT data", &Opt::from_octets(*OPTION)?, OPTION)?;
     let name = Name::from_octets(NAME)?;
     let start = Soa::new(name, name, 1, 2, 3, 4, 5);
     let expected =
         b"\x07example\x03com\x00\x07example\x03com\x00\x00\x00\x00\x01\x00\x00\x00\x02\x00\x00\x00\x03\x00\x00\x00\x04\x00\x00\x00\x05";
-    assert_canonical(&rt, alloc, &start, expected, "start of a zone")?;
+    assert_canonical(&rt, alloc, "start of a zone", &start, expected)?;
     let mut target = Vec::new(alloc);
     compose_canonical_len_rdata(&Cname::new(name), &mut target)?;
     let expected = b"\x00\x0D\x07example\x03com\x00";
-    assert_octets(&rt, target.as_slice(), expected, "alias behind its length");
+    assert_octets(&rt, "alias after its length", target.as_slice(), expected);
     Ok(())
 }

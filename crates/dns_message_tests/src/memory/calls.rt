@@ -1,8 +1,8 @@
 //! Lists of calls that are made again if an allocation failed.
+use crate::asserts::{assert_holds, assert_octets};
 use crate::memory::again::Array;
 use crate::memory::fresh::{Fresh, started};
 use crate::memory::messages::{EXAMPLE_COM, NS_EXAMPLE_COM, response_header};
-use crate::memory::written::assert_octets;
 use dns_message::builder::PushError;
 use dns_message::code::{Rcode, Rtype};
 use dns_message::data::{A, Ns, UnknownRecordData};
@@ -33,7 +33,8 @@ fn count_done<R: Abort + Print>(rt: &R, replies: &[Reply], count: usize) -> Resu
     if replies.is_empty() {
         println!(rt; "refused replies")?;
     } else {
-        assert!(rt; replies.len() == count && done.saturating_add(1) >= count);
+        let is_done = replies.len() == count && done.saturating_add(1) >= count;
+        assert_holds(rt, "all calls but one are done", is_done);
     }
     Ok(done)
 }
@@ -48,7 +49,8 @@ fn made<R: Abort + Print, T: Composer, Q: ComposeQuestion, D: ComposeRecord>(
 ) -> Result<(Stage<T>, usize), Fail> {
     let mut replies = Vec::new(alloc);
     let answer = run(alloc, stage, calls, &mut replies);
-    assert!(rt; answer.is_err() == replies.is_empty(), "replies");
+    let is_answered = answer.is_err() == replies.is_empty();
+    assert_holds(rt, "replies", is_answered);
     let (Ok(stage) | Err(stage)) = answer;
     Ok((stage, count_done(rt, &replies, calls.len())?))
 }
@@ -67,10 +69,10 @@ fn make<R: Abort + Print, T: Composer, Q: ComposeQuestion, D: ComposeRecord>(
         return Ok(stage);
     }
     if done == 0 {
-        assert_octets(rt, stage.as_slice(), &before, "refused call");
+        assert_octets(rt, "refused call", stage.as_slice(), &before);
     }
     let (stage, done) = made(rt, alloc, stage, calls)?;
-    assert!(rt; done == calls.len());
+    assert_holds(rt, "all calls are done again", done == calls.len());
     Ok(stage)
 }
 
@@ -156,7 +158,7 @@ pub(crate) fn assert_list<R: Abort + Print, T: Fresh>(
 ) -> Result<(), Fail> {
     let stage: Stage<T> = Stage::Builder(started(rt, alloc)?);
     let stage = make(rt, alloc, stage, &positive_calls()?)?;
-    assert_octets(rt, stage.as_slice(), expected, "Positive response");
+    assert_octets(rt, "a positive response", stage.as_slice(), expected);
     Ok(())
 }
 
@@ -173,6 +175,6 @@ pub(crate) fn assert_moves<R: Abort + Print, T: Fresh>(
     let stage = add_server(rt, alloc, stage, server)?;
     let stage = add_text(rt, alloc, stage, text)?;
     let expected = b"\x00\x00\x02\x00\x00\x00\x00\x00\x00\x00\x00\x00";
-    assert_octets(rt, stage.as_slice(), expected, "All moves");
+    assert_octets(rt, "all moves", stage.as_slice(), expected);
     Ok(())
 }

@@ -1,6 +1,6 @@
 //! Records that are copied, into another builder if an allocation failed.
+use crate::asserts::assert_octets;
 use crate::memory::fresh::{Fresh, started};
-use crate::memory::written::assert_octets;
 use dns_message::builder::{AdditionalBuilder, CopyRecordsError, PushError, copy_records};
 use dns_message::data::UnknownRecordData;
 use dns_message::message::Message;
@@ -41,11 +41,11 @@ pub(crate) fn assert_copies<R: Abort + Print, T: Fresh>(
     let copied: AdditionalBuilder<T> = match copy(rt, alloc, &source)? {
         Err(CopyRecordsError::Push(PushError::OutOfMemory)) => {
             println!(rt; "refused copy")?;
-            assert_octets(rt, source.as_slice(), SOURCE, "source");
+            assert_octets(rt, "source", source.as_slice(), SOURCE);
             copy(rt, alloc, &source)??
         }
         answer => answer?,
     };
-    assert_octets(rt, copied.as_slice(), expected, "Copy records");
+    assert_octets(rt, "copied records", copied.as_slice(), expected);
     Ok(())
 }

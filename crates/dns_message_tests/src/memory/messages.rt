@@ -1,7 +1,7 @@
 //! A positive response, a negative one, and a name in RDATA.
+use crate::asserts::assert_octets;
 use crate::memory::again::{push_question, push_record};
 use crate::memory::fresh::{Fresh, started};
-use crate::memory::written::assert_octets;
 use dns_message::builder::{AnswerBuilder, Builder, RecordStage};
 use dns_message::code::{Rcode, Rtype};
 use dns_message::data::{A, Ns, Soa};
@@ -51,13 +51,13 @@ fn asked<R: Abort + Print, T: Fresh>(
 /// Fails unless the message with this further record has these octets.
 fn assert_record<R: Abort + Print, T: Composer, S: RecordStage, D: ComposeRecord>(
     rt: &R,
+    row: &str,
     mut builder: Builder<T, S>,
     record: &D,
     expected: &[u8],
-    row: &str,
 ) -> Result<(), Fail> {
     push_record(rt, &mut builder, record)?;
-    assert_octets(rt, builder.as_slice(), expected, row);
+    assert_octets(rt, row, builder.as_slice(), expected);
     Ok(())
 }
 
@@ -71,7 +71,7 @@ pub(crate) fn assert_positive<R: Abort + Print, T: Fresh>(
     let builder: AnswerBuilder<T> = asked(rt, alloc, header, EXAMPLE_COM, Rtype::A)?;
     let address = A::from_octets(203, 0, 113, 1);
     let record = (Name::from_octets(*EXAMPLE_COM)?, 3600, address);
-    assert_record(rt, builder, &record, expected, "Positive response")
+    assert_record(rt, "a positive response", builder, &record, expected)
 }
 
 /// The RDATA of the authority record of `NEGATIVE_RESPONSE`.
@@ -91,10 +91,10 @@ pub(crate) fn assert_negative<R: Abort + Print, T: Fresh>(
     let record = (Name::root_slice(), 86_390, soa()?);
     assert_record(
         rt,
+        "a negative response",
         builder.authority(),
         &record,
         NEGATIVE_RESPONSE,
-        "Negative response",
     )
 }
 
@@ -107,5 +107,5 @@ pub(crate) fn assert_name_in_data<R: Abort + Print, T: Fresh>(
     let builder: AnswerBuilder<T> = asked(rt, alloc, Header::new(), EXAMPLE_COM, Rtype::NS)?;
     let server = Ns::new(Name::from_octets(*NS_EXAMPLE_COM)?);
     let record = (Name::from_octets(*EXAMPLE_COM)?, 60, server);
-    assert_record(rt, builder, &record, expected, "Name in data")
+    assert_record(rt, "a name in RDATA", builder, &record, expected)
 }

@@ -1,7 +1,7 @@
 //! OPT records whose closure pushes an option, or returns an error.
+use crate::asserts::{assert_holds, assert_octets};
 use crate::memory::again::{assert_unchanged, is_refused, state_before};
 use crate::memory::fresh::{Fresh, started};
-use crate::memory::written::assert_octets;
 use dns_message::builder::{AdditionalBuilder, PushError};
 use dns_message::code::{OptRcode, OptionCode, Rcode};
 use dns_message::target::Composer;
@@ -32,7 +32,7 @@ pub(crate) fn assert_option<R: Abort + Print, T: Fresh>(rt: &R, alloc: Global) -
         assert_unchanged(rt, &builder, &before);
         push_option(alloc, &mut builder)?;
     }
-    assert_octets(rt, builder.as_slice(), ONE_OPTION, "OPT with one option");
+    assert_octets(rt, "one option", builder.as_slice(), ONE_OPTION);
     Ok(())
 }
 
@@ -44,8 +44,14 @@ pub(crate) fn assert_error<R: Abort + Print, T: Fresh>(rt: &R, alloc: Global) ->
         opt.set_rcode(OptRcode::from(Rcode::NXDOMAIN));
         Err(AppendError::ShortBuf)
     });
-    assert!(rt; matches!(answer, Err(PushError::ShortBuf)));
+    let is_reported = matches!(answer, Err(PushError::ShortBuf));
+    assert_holds(rt, "the error of the closure", is_reported);
     assert_unchanged(rt, &builder, &before);
-    assert_octets(rt, builder.as_slice(), &[0; 12], "Closure that errs");
+    assert_octets(
+        rt,
+        "a closure that returns an error",
+        builder.as_slice(),
+        &[0; 12],
+    );
     Ok(())
 }

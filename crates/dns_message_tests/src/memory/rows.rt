@@ -1,10 +1,11 @@
 //! Each allocation fails in turn: each message over each target that allocates.
+use crate::asserts::assert_octets;
 use crate::memory::calls::{assert_list, assert_moves};
 use crate::memory::copies::assert_copies;
 use crate::memory::fresh::Fresh;
 use crate::memory::messages::{assert_name_in_data, assert_negative, assert_positive};
 use crate::memory::opts::{assert_error, assert_option};
-use crate::memory::written::{COMPRESSED, PLAIN, Written, assert_octets};
+use crate::memory::written::{COMPRESSED, PLAIN, Written};
 use dns_message::target::{
     Composer, FingerprintCompressor, HashCompressor, StaticCompressor, StreamTarget, TreeCompressor,
 };
@@ -70,8 +71,8 @@ fn over_an_index_compressor(rt: HostRuntime) -> Result<(), Fail> {
 fn takes_what_it_needs_where_more_is_refused(rt: HostRuntime) -> Result<(), Fail> {
     let mut target = Vec::new(rt.alloc());
     target.append_slice(b"\x01a\x00")?;
-    assert_octets(&rt, target.as_slice(), b"\x01a\x00", "first octets");
+    assert_octets(&rt, "first octets", target.as_slice(), b"\x01a\x00");
     let stream = StreamTarget::new_vec(rt.alloc())?;
-    assert_octets(&rt, stream.as_stream_slice(), b"\x00\x00", "stream");
+    assert_octets(&rt, "stream", stream.as_stream_slice(), b"\x00\x00");
     Ok(())
 }

@@ -1,12 +1,6 @@
 //! The octets of messages that have a name more than once, with each name uncompressed and with
 //! pointers.
 use crate::memory::copies::SOURCE;
-use std::process::Abort;
-
-/// Fails unless these octets are written.
-pub(crate) fn assert_octets(rt: &impl Abort, octets: &[u8], expected: &[u8], what: &str) {
-    assert_eq!(rt; octets, expected, "{what}");
-}
 
 /// How the messages are written that have a name more than once.
 #[derive(Clone, Copy)]

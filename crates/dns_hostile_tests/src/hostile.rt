@@ -1,0 +1,132 @@
+//! All that is read, skipped, searched and copied over untrusted input.
+use crate::asserts::assert_same;
+use crate::messages::{
+    BOUNDS, NAME_IN_DATA, OPT, POSITIVE_RESPONSE, REPLACEMENTS, long_question, random_message,
+};
+use crate::plain_searches::line_count;
+use crate::searches::{
+    assert_copies, assert_distinguished, assert_question_searches, assert_record_searches,
+};
+use crate::sections::{assert_iter, assert_questions, assert_sections};
+use crate::walks::assert_walks;
+use arrayvec::ArrayVec;
+use dns_message::tool;
+use dns_read::Message;
+use std::alloc::Global;
+use std::process::Abort;
+use std::str;
+use std::test::Fail;
+
+/// The hexadecimal digits.
+const DIGITS: &[u8; 16] = b"0123456789abcdef";
+
+/// The octets in hexadecimal.
+fn digits_of(octets: &[u8]) -> ArrayVec<u8, 1024> {
+    let mut digits = ArrayVec::new();
+    for octet in octets {
+        let octet = usize::from(*octet);
+        let _ = digits.try_extend_from_slice(&[DIGITS[octet / 16], DIGITS[octet % 16]]);
+    }
+    digits
+}
+
+/// Fails unless `dnsmsg show` prints the expected number of lines.
+fn assert_shows(rt: &impl Abort, alloc: Global, row: &str, octets: &[u8]) -> Result<(), Fail> {
+    let words = [String::from_str(alloc, "show")?];
+    let digits = digits_of(octets);
+    let mut output = Vec::new(alloc);
+    let status = tool(alloc, &words, digits.as_slice(), &mut output);
+    let lines = str::from_utf8(&output)?.lines().count();
+    assert_same(
+        rt,
+        row,
+        "status and lines",
+        (status, lines),
+        (0, line_count(octets)),
+    );
+    Ok(())
+}
+
+/// Fails unless each result of the library is that of the plain reader.
+fn assert_all(rt: &impl Abort, alloc: Global, row: &str, octets: &[u8]) -> Result<(), Fail> {
+    let message = Message::from_octets(octets)?;
+    assert_questions(rt, row, &message);
+    assert_sections(rt, row, &message);
+    assert_iter(rt, row, &message);
+    assert_question_searches(rt, row, &message);
+    assert_record_searches(rt, row, &message);
+    assert_distinguished(rt, row, &message);
+    assert_copies(rt, alloc, row, &message)?;
+    assert_walks(rt, alloc, row, octets)?;
+    assert_shows(rt, alloc, row, octets)
+}
+
+/// Replaces each octet of a message in turn.
+fn assert_replaced<const N: usize>(
+    rt: &impl Abort,
+    alloc: Global,
+    octets: [u8; N],
+) -> Result<(), Fail> {
+    for offset in 0..N {
+        for octet in REPLACEMENTS {
+            let row = format!(in alloc; "octet {offset} replaced with {octet}")?;
+            let mut replaced = octets;
+            replaced[offset] = octet;
+            assert_all(rt, alloc, &row, &replaced)?;
+        }
+    }
+    Ok(())
+}
+
+#[test]
+fn reads_an_option_with_replaced_octets(rt: HostRuntime) -> Result<(), Fail> {
+    assert_replaced(&rt, rt.alloc(), *OPT)
+}
+
+#[test]
+fn reads_a_name_in_data_with_replaced_octets(rt: HostRuntime) -> Result<(), Fail> {
+    assert_replaced(&rt, rt.alloc(), *NAME_IN_DATA)
+}
+
+/// Cuts the message after each octet. Without a header section there is no message.
+#[test]
+fn reads_messages_that_are_cut(rt: HostRuntime) -> Result<(), Fail> {
+    for len in 0..=45 {
+        let row = format!(in rt.alloc(); "cut after {len} octets")?;
+        let octets = &POSITIVE_RESPONSE[..len];
+        if len < 12 {
+            let is_short = Message::from_octets(octets).is_err();
+            assert_same(&rt, &row, "no message", is_short, true);
+        } else {
+            assert_all(&rt, rt.alloc(), &row, octets)?;
+        }
+    }
+    Ok(())
+}
+
+/// Names of at most 255 octets, and of more.
+#[test]
+fn reads_long_questions(rt: HostRuntime) -> Result<(), Fail> {
+    for last in 59..=63 {
+        let row = format!(in rt.alloc(); "a last label of {last} octets")?;
+        assert_all(&rt, rt.alloc(), &row, &long_question(last))?;
+    }
+    Ok(())
+}
+
+#[test]
+fn reads_messages_at_the_bounds(rt: HostRuntime) -> Result<(), Fail> {
+    for bound in BOUNDS {
+        assert_all(&rt, rt.alloc(), bound.name, bound.octets)?;
+    }
+    Ok(())
+}
+
+#[test]
+fn reads_messages_drawn_at_random(rt: HostRuntime) -> Result<(), Fail> {
+    for seed in 1..=64 {
+        let row = format!(in rt.alloc(); "random message {seed}")?;
+        assert_all(&rt, rt.alloc(), &row, random_message(seed).as_slice())?;
+    }
+    Ok(())
+}

@@ -1,0 +1,150 @@
+//! Input that comes in parts or fails, and output that fails. The program `dnsmsg` then exits with
+//! status 3, and prints that it failed if it can.
+use crate::asserts::assert_holds;
+use crate::runs::{Run, prints, run};
+use std::alloc::Global;
+use std::io;
+use std::io::{ErrorKind, Read, Write};
+use std::test::Fail;
+
+const BUILD: Run<'_> = Run {
+    name: "a built message",
+    words: "build plain",
+    input: b"question\nlimit 17\npush . A\npush . A\n",
+    printed: "ok 12\nok 12\nok 17\nrefused limit 17\n0000000000010000000000000000010001\n",
+    status: 0,
+};
+
+const BAD_LINE: Run<'_> = Run {
+    name: "a bad line",
+    words: "build static",
+    input: b"question\nbogus\n",
+    printed: "ok 12\nbad line 2\n",
+    status: 1,
+};
+
+const SHOW: Run<'_> = Run {
+    name: "a shown message",
+    words: "show",
+    input: b"000000000002000000000000076578616d706c6503636f6d0000010001",
+    printed: "header id=0 opcode=0 rcode=0 z=0 flags=\ncounts 2 0 0 0\nquestion example.com.\tA\tIN\nquestion error\nanswer missing\n",
+    status: 0,
+};
+
+const USAGE: Run<'_> = Run {
+    name: "no arguments",
+    words: "",
+    input: b"",
+    printed: "usage: dnsmsg build TARGET | dnsmsg show\n",
+    status: 2,
+};
+
+/// Returns octets, one at each read, and then ends or fails.
+#[derive(Drop)]
+struct Cut<'a> {
+    octets: &'a [u8],
+    fails: bool,
+}
+
+impl Read for Cut<'_> {
+    fn read(&mut self, buf: &mut [u8]) -> io::Result<usize> {
+        if self.fails && self.octets.is_empty() {
+            return Err(io::Error::from(ErrorKind::BrokenPipe));
+        }
+        let len = buf.len().min(1);
+        self.octets.read(&mut buf[..len])
+    }
+}
+
+/// Accepts octets, one at each write, except that the writes and flushes with these numbers,
+/// counted from 0, fail.
+#[derive(Drop)]
+struct Gap {
+    taken: Vec<u8>,
+    steps: usize,
+    from: usize,
+    to: usize,
+}
+
+impl Gap {
+    fn step(&mut self) -> io::Result<()> {
+        let fails = self.from <= self.steps && self.steps < self.to;
+        self.steps = self.steps.saturating_add(1);
+        if fails {
+            Err(io::Error::from(ErrorKind::BrokenPipe))
+        } else {
+            Ok(())
+        }
+    }
+}
+
+impl Write for Gap {
+    fn write(&mut self, buf: &[u8]) -> io::Result<usize> {
+        self.step()?;
+        let len = buf.len().min(1);
+        self.taken.write(&buf[..len])
+    }
+
+    fn flush(&mut self) -> io::Result<()> {
+        self.step()
+    }
+}
+
+/// The input is read octet by octet. Reading may fail after each of them.
+#[test]
+fn fails_where_input_is_cut(rt: HostRuntime) -> Result<(), Fail> {
+    for case in [BUILD, SHOW] {
+        let (octets, fails) = (case.input, false);
+        let whole = Cut { octets, fails };
+        let printed = case.printed.as_bytes();
+        let is_whole = prints(rt.alloc(), case.words, whole, printed, case.status)?;
+        assert_holds(&rt, case.name, is_whole);
+        for len in 0..=case.input.len() {
+            let (octets, fails) = (&case.input[..len], true);
+            let cut = Cut { octets, fails };
+            let is_cut = prints(rt.alloc(), case.words, cut, b"failed\n", 3)?;
+            assert!(rt; is_cut, "{}: cut after {len} octets", case.name);
+        }
+    }
+    Ok(())
+}
+
+/// Whether the writer gets what is printed before the steps that fail, followed by `after`, and
+/// the exit status is this one.
+fn is_cut(
+    alloc: Global,
+    case: Run<'_>,
+    gap: (usize, usize),
+    after: &[u8],
+    status: u8,
+) -> Result<bool, Fail> {
+    let (from, to) = gap;
+    let mut writer = Gap {
+        taken: Vec::new(alloc),
+        steps: 0,
+        from,
+        to,
+    };
+    let ended = run(alloc, case.words, case.input, &mut writer)?;
+    let printed = case.printed.as_bytes();
+    let before = &printed[..from.min(printed.len())];
+    Ok(writer.taken.strip_suffix(after) == Some(before) && ended == status)
+}
+
+/// One step fails, the write of an octet or the last flush; and then all steps from it on. The
+/// program prints `failed` if it can.
+#[test]
+fn fails_where_output_is_not_written(rt: HostRuntime) -> Result<(), Fail> {
+    for case in [BUILD, BAD_LINE, SHOW, USAGE] {
+        let whole = (usize::MAX, usize::MAX);
+        let is_whole = is_cut(rt.alloc(), case, whole, b"", case.status)?;
+        assert_holds(&rt, case.name, is_whole);
+        for step in 0..=case.printed.len() {
+            let one = (step, step.saturating_add(1));
+            let is_cut = is_cut(rt.alloc(), case, one, b"failed\n", 3)?
+                && is_cut(rt.alloc(), case, (step, usize::MAX), b"", 3)?;
+            assert!(rt; is_cut, "{}: from step {step}", case.name);
+        }
+    }
+    Ok(())
+}

@@ -1,9 +1,0 @@
-mod caller;
-mod captured;
-mod faults;
-mod fields;
-mod names;
-mod options;
-mod page;
-mod printed;
-mod program;
