@@ -2,10 +2,9 @@
 use Rattle.std.proofs.Common.{lit<, subst, sym}
 use Rattle.std.proofs.lemmas.Bool.{le-leb}
 use Rattle.std.specs.Prelude.{◌≡◌, ◌<◌, ◌≤◌, ℕ, List, [], ◌∷◌, length, refl}
-use Rattle.dns_name.specs.ParsedName.{labels}
-use Rattle.dns_wire.specs.Parts.{Part}
-use Rattle.dns_wire.specs.Parts.Part.{Octets, CompressibleName}
-use Rattle.dns_data.specs.Layout.{IsLaidOut}
+use Rattle.dns_message.specs.Names.{labels}
+use Rattle.dns_message.specs.Data.{Part, IsLaidOut}
+use Rattle.dns_message.specs.Data.Part.{Octets, CompressibleName}
 use Rattle.dns_any_data.specs.AnyLayout.{any_layout, layout_of, count_of}
 use Rattle.dns_any_data.specs.declared.any_data.AnyData.{AnyData}
 use Rattle.dns_any_data.specs.declared.any_data.Names.{Names}

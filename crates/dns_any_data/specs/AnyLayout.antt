@@ -1,8 +1,7 @@
 -- Which names in RDATA may be compressed: RFC 1035 section 3.3. Names in RDATA of other types are never compressed: RFC 3597 section 4.
 use Rattle.std.specs.Prelude.{ℕ, zero, suc, ◌==◌, ◌||◌, if◌then◌else◌}
-use Rattle.dns_data.specs.Layout.{Layout}
-use Rattle.dns_data.specs.Layout.Layout.{DomainName, End, Fixed}
-use Rattle.dns_data.specs.UnknownData.{opaque_layout}
+use Rattle.dns_message.specs.Data.{Layout, opaque_layout}
+use Rattle.dns_message.specs.Data.Layout.{DomainName, End, Fixed}
 use Rattle.dns_any_data.specs.declared.any_data.Names.{Names}
 use Rattle.dns_any_data.specs.declared.any_data.Names.TheVariants as names
 

@@ -1,12 +1,8 @@
 //! RDATA that may have compressed names beside other octets (RFC 1035 section 3.3).
 ghost use Rattle.std.specs.Prelude.{◌≡◌, ◌<◌, ◌≤◌, ◌∷◌, [], length};
-ghost use Rattle.dns_name.specs.Names.{IsName};
-ghost use Rattle.dns_name.specs.ParsedName.{labels};
-ghost use Rattle.dns_wire.specs.Parts.{Octets, CompressibleName, encode_parts};
-ghost use Rattle.dns_wire.specs.Targets.{Composes};
-ghost use Rattle.dns_data.specs.Layout.{DomainName, End, Fixed};
-ghost use Rattle.dns_data.specs.RecordData.{ParsesLaidOut, canonical};
-ghost use Rattle.dns_data.specs.UnknownData.{opaque_layout};
+ghost use Rattle.dns_message.specs.Names.{IsName, labels};
+ghost use Rattle.dns_message.specs.Targets.{Composes};
+ghost use Rattle.dns_message.specs.Data.{Octets, CompressibleName, encode_parts, DomainName, End, Fixed, ParsesLaidOut, canonical, opaque_layout};
 ghost use Rattle.dns_any_data.specs.AnyLayout.{count_of, names_in, octets_in, any_layout};
 
 use dns_message::code::Rtype;

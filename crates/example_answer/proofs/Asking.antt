@@ -3,10 +3,10 @@ use Rattle.std.proofs.Common.{◌≡◌}
 use Rattle.std.proofs.lemmas.Bool.Decides.{Decides-and, Decides-eqb}
 use Rattle.std.specs.Bool.{Decides, one_answer}
 use Rattle.std.specs.Prelude.{Bool, IsTrue, ◌↔◌, ◌==◌, ◌&&◌}
-use Rattle.dns_name.specs.Names.{lowered}
-use Rattle.dns_name.specs.NameOrders.{names_equal, names_equal-Decides}
-use Rattle.dns_question.specs.Questions.{QuestionItem}
-use Rattle.dns_item.specs.Items.{RecordItem}
+use Rattle.dns_message.specs.Names.{lowered, names_equal}
+use Rattle.dns_message.specs.Questions.{QuestionItem}
+use Rattle.dns_message.specs.Records.{RecordItem}
+use Rattle.dns_message.proofs.CallerLemmas.{names_equal-Decides}
 use Rattle.example_answer.specs.Answering.{is_asked}
 
 -- the owner is equal, ignoring ASCII case, and type and class are

@@ -5,14 +5,12 @@ use Rattle.std.proofs.Math.Seq.{take-length}
 use Rattle.std.proofs.lemmas.List.{take_more, append-nil, map-append, take-append-drop}
 use Rattle.std.proofs.lemmas.List.Elements.{filter-append}
 use Rattle.std.specs.Prelude.{map, nat_le, Result, Ok, Err}
-use Rattle.dns_wire.specs.Encoders.{Plain}
-use Rattle.dns_wire.specs.Targets.{Fits, Exceeds}
-use Rattle.dns_question.specs.Questions.{QuestionItem}
-use Rattle.dns_item.specs.Items.{RecordItem}
-use Rattle.dns_build.specs.BuilderStates.{Built, Represents, MovesState, InEach, size_after}
-use Rattle.dns_build.specs.State.{InAnswer, State, with_record, most_entries, tc_rewound}
-use Rattle.dns_build.specs.declared.push_error.PushError.{PushError}
-use Rattle.dns_build.specs.declared.push_error.PushError.TheVariants.{CountOverflow, LimitExceeded, ShortBuf, OutOfMemory}
+use Rattle.dns_message.specs.Targets.{Plain, Fits, Exceeds}
+use Rattle.dns_message.specs.Questions.{QuestionItem}
+use Rattle.dns_message.specs.Records.{RecordItem}
+use Rattle.dns_message.specs.Builders.{Built, Represents, MovesState, InEach, size_after, InAnswer, State, with_record, most_entries, tc_rewound}
+use Rattle.dns_message.specs.declared.builder.PushError.{PushError}
+use Rattle.dns_message.specs.declared.builder.PushError.TheVariants.{CountOverflow, LimitExceeded, ShortBuf, OutOfMemory}
 use Rattle.example_answer.specs.Answering.{is_asked, asked_records, with_answers, size, all_or_none}
 use Rattle.example_answer.specs.Pushing.{MoreAnswers, PushesEach, AddsRecords}
 use Rattle.example_answer.proofs.Sizes.{longer_answers, items_within}

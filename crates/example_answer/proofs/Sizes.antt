@@ -2,11 +2,11 @@
 use Rattle.std.proofs.Common.{◌≡◌, ◌∙◌, ℕ, ◌+◌, ◌≤◌, List, [], ◌∷◌, ◌++◌, length, length-append, append_assoc, ap, sym, refl, arith}
 use Rattle.std.proofs.lemmas.List.{append-nil, map-append, length-map}
 use Rattle.std.specs.Prelude.{map}
-use Rattle.dns_wire.specs.Encoders.{CompressionTable, Encoder, Plain, nothing}
-use Rattle.dns_code.specs.Header.{header_octets}
-use Rattle.dns_question.specs.Questions.{QuestionItem, encode_question}
-use Rattle.dns_item.specs.Items.{RecordItem, encode_record}
-use Rattle.dns_build.specs.State.{InAnswer, InQuestion, State, Every, all_of, encoders_of, head_of, encode, tc_rewound, with_tc, move_to, up_to}
+use Rattle.dns_message.specs.Targets.{CompressionTable, Encoder, Plain, nothing}
+use Rattle.dns_message.specs.Headers.{header_octets}
+use Rattle.dns_message.specs.Questions.{QuestionItem, encode_question}
+use Rattle.dns_message.specs.Records.{RecordItem, encode_record}
+use Rattle.dns_message.specs.Builders.{InAnswer, InQuestion, State, Every, all_of, encoders_of, head_of, encode, tc_rewound, with_tc, move_to, up_to}
 use Rattle.example_answer.specs.Answering.{size, with_answers}
 
 -- further encodings don't shorten the octets

@@ -4,26 +4,17 @@ use Rattle.std.proofs.lemmas.Bool.{leb-true}
 use Rattle.std.specs.List.{filter_map}
 use Rattle.std.specs.Result.{result_ok}
 use Rattle.std.specs.Prelude.{nat_le, Result, Ok, Err, Option, Some, None}
-use Rattle.dns_name.specs.Names.{Fault}
-use Rattle.dns_wire.specs.Encoders.{Plain}
-use Rattle.dns_wire.specs.Targets.{Written}
-use Rattle.dns_code.specs.HeaderSection.{header_size}
-use Rattle.dns_question.specs.Questions.{QuestionItem}
-use Rattle.dns_item.specs.Items.{RecordItem}
-use Rattle.dns_item.specs.OptRecord.{OptItem}
-use Rattle.dns_read.specs.OptSearches.{opt_of}
-use Rattle.dns_read.specs.Searches.{asked_first, first_value}
-use Rattle.dns_section.specs.QuestionsFrom.{questions_from}
-use Rattle.dns_section.specs.Sections.{question_count}
-use Rattle.dns_section.proofs.theory.QuestionsFromLemmas.{questions_from_are_read}
-use Rattle.dns_section.proofs.theory.ReadingLemmas.{readings_of_questions_end}
-use Rattle.dns_build.proofs.theory.Asking.{accepted_within}
-use Rattle.dns_build.specs.Answers.{AreAccepted, GivesAnswer, IsEither, answering, readable_questions}
-use Rattle.dns_build.specs.MessageOf.{ReadsBack}
-use Rattle.dns_build.specs.BuilderStates.{Built, InEach, Represents, fresh}
-use Rattle.dns_build.specs.State.{InAnswer, State, with_limit, with_questions, tc_rewound}
-use Rattle.dns_build.specs.declared.push_error.PushError.{PushError}
-use Rattle.dns_build.specs.declared.push_error.PushError.TheVariants.{CountOverflow, LimitExceeded, ShortBuf, OutOfMemory}
+use Rattle.dns_message.specs.Names.{Fault}
+use Rattle.dns_message.specs.Targets.{Plain, Written}
+use Rattle.dns_message.specs.Headers.{header_size}
+use Rattle.dns_message.specs.Questions.{QuestionItem}
+use Rattle.dns_message.specs.Records.{RecordItem, OptItem}
+use Rattle.dns_message.specs.Messages.{opt_of, asked_first, first_value}
+use Rattle.dns_message.specs.Sections.{questions_from, question_count}
+use Rattle.dns_message.specs.Builders.{AreAccepted, GivesAnswer, IsEither, answering, readable_questions, ReadsBack, Built, InEach, Represents, fresh, InAnswer, State, with_limit, with_questions, tc_rewound}
+use Rattle.dns_message.specs.declared.builder.PushError.{PushError}
+use Rattle.dns_message.specs.declared.builder.PushError.TheVariants.{CountOverflow, LimitExceeded, ShortBuf, OutOfMemory}
+use Rattle.dns_message.proofs.CallerLemmas.{questions_from_are_read, readings_of_questions_end, accepted_within}
 use Rattle.example_answer.specs.declared.answering.NoAnswer.TheVariants.{Refused}
 use Rattle.example_answer.specs.Answering.{HasNoAnswer, IsMessage, answer_to, asked_again, asked_records, format_error, payload_size, size, size_said, with_answers}
 use Rattle.example_answer.specs.Pushing.{AddsRecords, RefusesMore}

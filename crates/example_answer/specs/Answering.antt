@@ -1,17 +1,13 @@
 -- Answers from a table of records that are no longer than the client accepts. RFC 1035 sections 4.1 and 4.2.1, RFC 6891 section 6.2.
 use Rattle.std.specs.Prelude.{◌≡◌, ◌<◌, ◌==◌, ◌&&◌, nat_le, if◌then◌else◌, ℕ, Bool, List, ◌++◌, length, filter, max, Option, Some, None}
-use Rattle.dns_name.specs.NameOrders.{names_equal}
-use Rattle.dns_wire.specs.Encoders.{Plain}
-use Rattle.dns_code.specs.HeaderSection.{header_size}
-use Rattle.dns_question.specs.Questions.{QuestionItem}
-use Rattle.dns_item.specs.Items.{RecordItem}
-use Rattle.dns_item.specs.OptRecord.{OptItem}
-use Rattle.dns_read.specs.OptSearches.{opt_of}
-use Rattle.dns_build.specs.Answers.{answer_header, header_in, readable_questions}
-use Rattle.dns_build.specs.MessageOf.{ReadsBack}
-use Rattle.dns_build.specs.BuilderStates.{fresh, size_after}
-use Rattle.dns_build.specs.State.{InAnswer, State, encode, tc_rewound}
-use Rattle.dns_build.specs.declared.push_error.PushError.TheVariants.{CountOverflow, LimitExceeded, ShortBuf, OutOfMemory}
+use Rattle.dns_message.specs.Names.{names_equal}
+use Rattle.dns_message.specs.Targets.{Plain}
+use Rattle.dns_message.specs.Headers.{header_size}
+use Rattle.dns_message.specs.Questions.{QuestionItem}
+use Rattle.dns_message.specs.Records.{RecordItem, OptItem}
+use Rattle.dns_message.specs.Messages.{opt_of}
+use Rattle.dns_message.specs.Builders.{answer_header, header_in, readable_questions, ReadsBack, fresh, size_after, InAnswer, State, encode, tc_rewound}
+use Rattle.dns_message.specs.declared.builder.PushError.TheVariants.{CountOverflow, LimitExceeded, ShortBuf, OutOfMemory}
 use Rattle.example_answer.specs.declared.answering.NoAnswer.{NoAnswer}
 use Rattle.example_answer.specs.declared.answering.NoAnswer.TheVariants.{ShortQuery, Refused}
 

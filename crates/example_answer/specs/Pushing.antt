@@ -1,11 +1,10 @@
 -- How the records that match a question are pushed. RFC 1035 section 4.1.
 use Rattle.std.specs.Prelude.{◌≤◌, ◌<◌, List, Result, Ok, Err}
-use Rattle.dns_wire.specs.Encoders.{Plain}
-use Rattle.dns_item.specs.Items.{RecordItem}
-use Rattle.dns_build.specs.BuilderStates.{Built, Represents}
-use Rattle.dns_build.specs.State.{InAnswer, State, most_entries}
-use Rattle.dns_build.specs.declared.push_error.PushError.{PushError}
-use Rattle.dns_build.specs.declared.push_error.PushError.TheVariants.{CountOverflow, LimitExceeded, ShortBuf, OutOfMemory}
+use Rattle.dns_message.specs.Targets.{Plain}
+use Rattle.dns_message.specs.Records.{RecordItem}
+use Rattle.dns_message.specs.Builders.{Built, Represents, InAnswer, State, most_entries}
+use Rattle.dns_message.specs.declared.builder.PushError.{PushError}
+use Rattle.dns_message.specs.declared.builder.PushError.TheVariants.{CountOverflow, LimitExceeded, ShortBuf, OutOfMemory}
 use Rattle.example_answer.specs.Answering.{all_or_none, size, with_answers}
 
 -- a builder with these records appended to the answers of a state, and within the limit if the state is

@@ -1,15 +1,12 @@
 //! Answers queries from a table of records. An answer is no longer than the client accepts
 //! (RFC 1035 section 4.1, RFC 6891 section 6.2).
 ghost use Rattle.std.specs.Prelude.{◌≡◌, ◌≤◌, ◌<◌, IfOk, IfErr, Some, None, Err, length, map, max};
-ghost use Rattle.dns_wire.specs.Encoders.{Plain};
-ghost use Rattle.dns_code.specs.HeaderSection.{header_size};
-ghost use Rattle.dns_question.specs.Question.{parsed_question};
-ghost use Rattle.dns_question.specs.Questions.{QuestionItem};
-ghost use Rattle.dns_item.specs.Record.{record_item};
-ghost use Rattle.dns_read.specs.Message.{message_octets};
-ghost use Rattle.dns_read.specs.Searches.{asked_first};
-ghost use Rattle.dns_build.specs.State.{InAnswer, InBuilder, with_limit};
-ghost use Rattle.dns_build.specs.BuilderStates.{InEach, Represents, fresh};
+ghost use Rattle.dns_message.specs.Targets.{Plain};
+ghost use Rattle.dns_message.specs.Headers.{header_size};
+ghost use Rattle.dns_message.specs.Questions.{parsed_question, QuestionItem};
+ghost use Rattle.dns_message.specs.Records.{record_item};
+ghost use Rattle.dns_message.specs.Messages.{message_octets, asked_first};
+ghost use Rattle.dns_message.specs.Builders.{InAnswer, InBuilder, with_limit, InEach, Represents, fresh};
 ghost use Rattle.example_answer.specs.Answering.{HasNoAnswer, IsMessage, answer_to, asked_records, format_error, is_asked, payload_size};
 ghost use Rattle.example_answer.specs.Pushing.{AddsRecords, PushesEach};
 

@@ -6,22 +6,15 @@ use Rattle.std.specs.Prelude.{is_ok, if◌then◌else◌}
 use Rattle.std.proofs.lemmas.List.{map-append, take_more}
 use Rattle.std.proofs.lemmas.Bool.{cases_lt}
 use Rattle.std.proofs.lemmas.List.Folds.{concat-append}
-use Rattle.dns_octets.specs.declared.error.ParseError.{ParseError}
-use Rattle.dns_name.specs.Names.{fault_of}
-use Rattle.dns_name.specs.NameTexts.{name_text}
-use Rattle.dns_name.specs.ParsedName.{labels}
-use Rattle.dns_name.specs.declared.parsed_name.ParsedName.{ParsedName}
-use Rattle.dns_wire.specs.Parts.{Part}
-use Rattle.dns_data.specs.Layout.{Layout}
-use Rattle.dns_data.specs.UnknownData.{opaque_layout}
-use Rattle.dns_item.specs.ParsedRecord.{EncodedRecord}
-use Rattle.dns_item.specs.Record.{owner_of, class_of, ttl_of, data_of}
-use Rattle.dns_item.specs.RecordPrinting.{record_fields_text}
-use Rattle.dns_item.specs.RecordReading.{ReturnsTaken, ReturnsLaidOut, GivesTaken, IsRecordOf}
-use Rattle.dns_item.specs.declared.parsed_record.ParsedRecord.{ParsedRecord}
-use Rattle.dns_item.specs.declared.record.Record.{Record}
-use Rattle.dns_section.specs.RecordSection.{record_result}
-use Rattle.dns_tool.proofs.theory.AppendedTexts.{appends_both, appends_none}
+use Rattle.dns_message.specs.Names.{fault_of, name_text, labels}
+use Rattle.dns_message.specs.Data.{Part, Layout, opaque_layout}
+use Rattle.dns_message.specs.Records.{EncodedRecord, owner_of, class_of, ttl_of, data_of, record_fields_text, ReturnsTaken, ReturnsLaidOut, GivesTaken, IsRecordOf}
+use Rattle.dns_message.specs.Sections.RecordSection.{record_result}
+use Rattle.dns_message.specs.declared.name.ParsedName.{ParsedName}
+use Rattle.dns_message.specs.declared.record.ParsedRecord.{ParsedRecord}
+use Rattle.dns_message.specs.declared.record.Record.{Record}
+use Rattle.dns_message.specs.declared.wire.ParseError.{ParseError}
+use Rattle.dns_message.proofs.CallerLemmas.{appends_both, appends_none}
 use Rattle.example_transfer.specs.Printed.{ending, HasNoOctets, IsItemText, IsItemsText, IsRecordLine, IsTransferText, Prints}
 use Rattle.example_transfer.specs.Transfer.{AreMessagesOf, AreTransferred, Taken, is_whole}
 

@@ -2,18 +2,16 @@
 use Rattle.std.proofs.Common.{◌≡◌, ◌∙◌, ◌<◌, ◌≤◌, ◌+◌, ℕ, List, [], ◌∷◌, ◌++◌, Bool, true, false, map, drop, length, get_or, ap, sym, refl, subst, append_assoc, Result, Ok, Err}
 use Rattle.std.proofs.Math.ListN.{drop_of_length-le}
 use Rattle.std.proofs.lemmas.List.{map-append, at_drop_more, append-nil}
-use Rattle.dns_octets.specs.declared.error.ParseError.{ParseError}
-use Rattle.dns_name.specs.Names.{Fault, fault_of}
-use Rattle.dns_item.specs.Items.{RecordEntry, ReadsRecord, RecordFaultAt}
-use Rattle.dns_item.specs.declared.parsed_record.ParsedRecord.{ParsedRecord}
-use Rattle.dns_section.specs.Reading.{Reading}
-use Rattle.dns_section.specs.Reading.Reading.{none, entry, stop}
-use Rattle.dns_section.specs.RecordSection.{position, records_left, record_result, BeginsSection}
-use Rattle.dns_section.specs.RecordsFrom.{in_octets, records_in}
-use Rattle.dns_section.specs.Sections.{answer_count, AnswersFault}
-use Rattle.dns_section.specs.declared.record_section.RecordSection.{RecordSection}
-use Rattle.dns_section.specs.declared.section.Section.TheVariants.{Answer}
-use Rattle.dns_section.proofs.theory.RecordsFromLemmas.{records_from_are_read}
+use Rattle.dns_message.specs.Names.{Fault, fault_of}
+use Rattle.dns_message.specs.Records.{RecordEntry, ReadsRecord, RecordFaultAt}
+use Rattle.dns_message.specs.Sections.{Reading, in_octets, records_in, answer_count, AnswersFault}
+use Rattle.dns_message.specs.Sections.Reading.{none, entry, stop}
+use Rattle.dns_message.specs.Sections.RecordSection.{position, records_left, record_result, BeginsSection}
+use Rattle.dns_message.specs.declared.message.RecordSection.{RecordSection}
+use Rattle.dns_message.specs.declared.message.Section.TheVariants.{Answer}
+use Rattle.dns_message.specs.declared.record.ParsedRecord.{ParsedRecord}
+use Rattle.dns_message.specs.declared.wire.ParseError.{ParseError}
+use Rattle.dns_message.proofs.CallerLemmas.{records_from_are_read}
 use Rattle.example_transfer.specs.Transfer.{AreTransferred, Taken}
 use Rattle.example_transfer.specs.Transfer.AreAnswersOf.{section, no_section}
 use Rattle.example_transfer.specs.Transfer.AreTransferred.{none as no_message, message, fault}

@@ -1,9 +1,8 @@
 -- What messages give is one list.
 use Rattle.std.proofs.Common.{◌≡◌, ◌∙◌, ℕ, ◌⊎◌, inl, inr, List, [], ◌∷◌, ◌++◌, true, false, ap, sym, refl, Err}
-use Rattle.dns_name.specs.Names.{Fault}
-use Rattle.dns_section.specs.RecordsFrom.{records_in}
-use Rattle.dns_section.specs.Sections.{answer_count}
-use Rattle.dns_section.proofs.theory.StartLemmas.{start_or_fault}
+use Rattle.dns_message.specs.Names.{Fault}
+use Rattle.dns_message.specs.Sections.{records_in, answer_count}
+use Rattle.dns_message.proofs.CallerLemmas.{start_or_fault}
 use Rattle.example_transfer.specs.Transfer.{AreAnswersOf, AreTransferred, Taken, is_whole}
 use Rattle.example_transfer.specs.Transfer.AreAnswersOf.{section, no_section}
 use Rattle.example_transfer.specs.Transfer.AreTransferred.{none, message, fault}

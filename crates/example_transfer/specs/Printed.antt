@@ -2,12 +2,9 @@
 use Rattle.std.specs.Prelude.{◌≡◌, ℕ, ◌⊎◌, List, [], ◌∷◌, ◌++◌, if◌then◌else◌, Option, Ok, Err, codes}
 use Rattle.std.specs.Io.KnownBytes.{Appends}
 use Rattle.std.specs.List.{concat, AllZip}
-use Rattle.dns_name.specs.Names.{Fault}
-use Rattle.dns_name.specs.NameTexts.{name_text}
-use Rattle.dns_data.specs.UnknownData.{opaque_layout}
-use Rattle.dns_item.specs.ParsedRecord.{EncodedRecord}
-use Rattle.dns_item.specs.RecordPrinting.{record_fields_text}
-use Rattle.dns_item.specs.RecordReading.{IsThere, HasDataFault}
+use Rattle.dns_message.specs.Names.{Fault, name_text}
+use Rattle.dns_message.specs.Data.{opaque_layout}
+use Rattle.dns_message.specs.Records.{EncodedRecord, record_fields_text, IsThere, HasDataFault}
 use Rattle.example_transfer.specs.Transfer.{AreMessagesOf, AreTransferred, Taken, is_whole}
 
 -- the line of a record: its owner, TTL, class and type, and some text of its RDATA

@@ -1,6 +1,6 @@
 -- How the messages of a stream and the records of a section are taken one by one.
 use Rattle.std.specs.Prelude.{◌≡◌, ℕ, Bool, List, [], ◌∷◌, ◌++◌, Ok, Err}
-use Rattle.dns_wire.specs.Stream.{with_prefix}
+use Rattle.dns_message.specs.Targets.{with_prefix}
 use Rattle.example_transfer.specs.Transfer.{AreAnswersOf, IsMessage, Taken, is_whole}
 
 -- a stream begins with the length of a message and the message, followed by these octets

@@ -1,12 +1,11 @@
 -- What a zone transfer gives: the messages of a stream, and the records of their answer sections. RFC 1035 section 4.2.2, RFC 5936 section 2.2.
 use Rattle.std.specs.Prelude.{◌≡◌, ◌≢◌, ◌≤◌, ℕ, Bool, true, false, List, [], ◌∷◌, ◌++◌, length, All, Result, Err, is_ok}
 use Rattle.std.specs.List.{flat_map, list_all}
-use Rattle.dns_name.specs.Names.{Fault}
-use Rattle.dns_code.specs.HeaderSection.{header_size}
-use Rattle.dns_item.specs.ParsedRecord.{EncodedRecord}
-use Rattle.dns_section.specs.RecordsFrom.{records_in}
-use Rattle.dns_section.specs.Sections.{answer_count, AnswersStart, AnswersFault}
-use Rattle.dns_wire.specs.Stream.{most_octets, with_prefix}
+use Rattle.dns_message.specs.Names.{Fault}
+use Rattle.dns_message.specs.Targets.{most_octets, with_prefix}
+use Rattle.dns_message.specs.Headers.{header_size}
+use Rattle.dns_message.specs.Records.{EncodedRecord}
+use Rattle.dns_message.specs.Sections.{records_in, answer_count, AnswersStart, AnswersFault}
 
 -- octets that are a message, and whose length fits in two octets
 abbrev pub IsMessage : List ℕ → Type 0

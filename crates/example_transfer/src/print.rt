@@ -2,8 +2,8 @@
 ghost use Rattle.std.specs.Prelude.{◌≡◌, map, is_ok, Ok, OnOk};
 ghost use Rattle.std.specs.Io.KnownBytes.{Appends};
 ghost use Rattle.std.specs.List.{list_all};
-ghost use Rattle.dns_item.specs.ParsedRecord.{encoded_record};
-ghost use Rattle.dns_section.specs.RecordSection.{record_result};
+ghost use Rattle.dns_message.specs.Records.{encoded_record};
+ghost use Rattle.dns_message.specs.Sections.RecordSection.{record_result};
 ghost use Rattle.example_transfer.specs.Printed.{ending, IsItemText, IsItemsText, IsTransferText, Prints};
 
 use crate::transfer::{Item, items, messages};

@@ -1,7 +1,7 @@
 //! The messages of a stream, and the records of their answer sections.
 ghost use Rattle.std.specs.Prelude.{◌≡◌, List, map, IfOk, MatchOption};
-ghost use Rattle.dns_read.specs.Message.{message_octets};
-ghost use Rattle.dns_section.specs.RecordSection.{record_result, records_left};
+ghost use Rattle.dns_message.specs.Messages.{message_octets};
+ghost use Rattle.dns_message.specs.Sections.RecordSection.{record_result, records_left};
 ghost use Rattle.example_transfer.specs.Transfer.{AreMessagesOf, AreTransferred, BeginsWithNone, Taken};
 ghost use Rattle.example_transfer.specs.Taking.{BeginsWith, Takes, TakesAnswers};
 

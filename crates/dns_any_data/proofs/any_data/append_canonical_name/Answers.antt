@@ -1,8 +1,7 @@
 use Rattle.std.proofs.Common.{Err, [], ◌∷◌, ap, ◌∙◌}
 use Rattle.std.proofs.lemmas.Result.{err_from_is_err_and}
-use Rattle.dns_name.specs.Names.{lowered, uncompressed}
-use Rattle.dns_name.specs.ParsedName.{labels}
-use Rattle.dns_wire.specs.Parts.{Octets}
+use Rattle.dns_message.specs.Names.{lowered, uncompressed, labels}
+use Rattle.dns_message.specs.Data.{Octets}
 use Rattle.dns_any_data.proofs.any_data.append_canonical_name.Goals as goal
 
 pub returns-in_err-append_slice : goal.returns-in_err-append_slice

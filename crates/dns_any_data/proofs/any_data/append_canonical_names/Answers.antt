@@ -1,8 +1,7 @@
 use Rattle.std.proofs.Common.{Err, [], ◌∷◌, ap, ◌∙◌}
 use Rattle.std.proofs.lemmas.Result.{err_from_is_err_and}
-use Rattle.dns_name.specs.ParsedName.{labels}
-use Rattle.dns_wire.specs.Parts.{Octets, CompressibleName}
-use Rattle.dns_data.specs.RecordData.{canonical_part}
+use Rattle.dns_message.specs.Names.{labels}
+use Rattle.dns_message.specs.Data.{Octets, CompressibleName, canonical_part}
 use Rattle.dns_any_data.proofs.any_data.append_canonical_names.Goals as goal
 
 pub returns-in_err-compose_canonical : goal.returns-in_err-compose_canonical

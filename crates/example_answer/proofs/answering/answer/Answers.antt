@@ -1,11 +1,10 @@
 use Rattle.std.proofs.Common.{◌≡◌, ◌∙◌, ◌≤◌, ap, sym, subst, List, ℕ, map, Vec, Global, length, None, true, Ok, Err}
 use Rattle.std.proofs.lemmas.Result.{err_from_is_err_and}
-use Rattle.dns_wire.specs.Encoders.{Plain}
-use Rattle.dns_question.specs.Question.{parsed_question}
-use Rattle.dns_question.specs.Questions.{QuestionItem}
-use Rattle.dns_item.specs.Record.{record_item}
-use Rattle.dns_read.specs.Searches.{asked_first}
-use Rattle.dns_build.specs.Answers.{GivesAnswer, IsEither}
+use Rattle.dns_message.specs.Targets.{Plain}
+use Rattle.dns_message.specs.Questions.{parsed_question, QuestionItem}
+use Rattle.dns_message.specs.Records.{record_item}
+use Rattle.dns_message.specs.Messages.{asked_first}
+use Rattle.dns_message.specs.Builders.{GivesAnswer, IsEither}
 use Rattle.example_answer.specs.Answering.{IsMessage, answer_to, asked_again, format_error, payload_size}
 use Rattle.example_answer.proofs.Starting.{for_query, started_within, answered, answer_within, error_started, error_within, message_of, message_within, not_started, no_records, some_same}
 use Rattle.example_answer.proofs.answering.answer.Goals as goal

@@ -1,6 +1,6 @@
 use Rattle.std.proofs.Common.{rules}
-use Rattle.dns_question.specs.Question.{parsed_question}
-use Rattle.dns_item.specs.Record.{record_item}
+use Rattle.dns_message.specs.Questions.{parsed_question}
+use Rattle.dns_message.specs.Records.{record_item}
 use Rattle.example_answer.proofs.Asking.{same_test}
 use Rattle.example_answer.proofs.answering.is_asked.Goals as goal
 

@@ -1,7 +1,7 @@
 use Rattle.std.proofs.Common.{◌∙◌, sym}
 use Rattle.std.proofs.lemmas.Result.{err_from_is_err_and}
-use Rattle.dns_question.specs.Question.{parsed_question}
-use Rattle.dns_item.specs.Record.{record_item}
+use Rattle.dns_message.specs.Questions.{parsed_question}
+use Rattle.dns_message.specs.Records.{record_item}
 use Rattle.example_answer.proofs.Pushing.{pushes_none, pushes_next, exceeds_next, refused_next}
 use Rattle.example_answer.proofs.answering.push_found.Goals.{then-is_asked+in_ok-push_ref, else-is_asked}
 use Rattle.example_answer.proofs.answering.push_found.Goals as goal

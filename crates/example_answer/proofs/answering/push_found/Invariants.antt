@@ -1,8 +1,7 @@
-use Rattle.dns_question.specs.Question.{parsed_question}
-use Rattle.dns_item.specs.Record.{record_item}
-use Rattle.dns_build.specs.State.{InAnswer}
-use Rattle.dns_build.specs.BuilderStates.{InEach}
-use Rattle.dns_wire.specs.Encoders.{Plain}
+use Rattle.dns_message.specs.Targets.{Plain}
+use Rattle.dns_message.specs.Questions.{parsed_question}
+use Rattle.dns_message.specs.Records.{record_item}
+use Rattle.dns_message.specs.Builders.{InAnswer, InEach}
 use Rattle.example_answer.specs.Pushing.{MoreAnswers}
 use Rattle.example_answer.proofs.Pushing.{first}
 use Rattle.example_answer.proofs.answering.push_found.Given as goal

@@ -1,6 +1,6 @@
 use Rattle.std.proofs.Common.{◌≡◌, ◌∙◌, arith, length, map, sym}
 use Rattle.std.proofs.lemmas.Bool.Decides.{nat_tests}
-use Rattle.dns_section.specs.RecordSection.{record_result}
+use Rattle.dns_message.specs.Sections.RecordSection.{record_result}
 use Rattle.example_transfer.proofs.Printing.{ending_printed, fault_reported, nothing_left}
 use Rattle.example_transfer.proofs.print.print_ending.Goals as goal
 use Rattle.example_transfer.proofs.print.print_ending.Goals.{then-is_empty-via-then-is_empty, then-is_empty-via-else-is_empty+then-not-is_whole}

@@ -1,5 +1,5 @@
 use Rattle.std.proofs.Common.{map, take}
-use Rattle.dns_section.specs.RecordSection.{record_result}
+use Rattle.dns_message.specs.Sections.RecordSection.{record_result}
 use Rattle.example_transfer.specs.Printed.{IsItemsText, Prints}
 use Rattle.example_transfer.proofs.print.print_items.Given as goal
 

@@ -1,5 +1,5 @@
 use Rattle.std.proofs.Common.{inr, refl}
-use Rattle.dns_item.specs.ParsedRecord.{encoded_record}
+use Rattle.dns_message.specs.Records.{encoded_record}
 use Rattle.example_transfer.proofs.Printing.{any_line, no_octets, on_printed, typed_line}
 use Rattle.example_transfer.proofs.print.print_record.Goals as goal
 

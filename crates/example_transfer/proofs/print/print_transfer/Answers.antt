@@ -1,6 +1,6 @@
 use Rattle.std.proofs.Common.{ap, map}
-use Rattle.dns_read.specs.Message.{message_octets}
-use Rattle.dns_section.specs.RecordSection.{record_result}
+use Rattle.dns_message.specs.Messages.{message_octets}
+use Rattle.dns_message.specs.Sections.RecordSection.{record_result}
 use Rattle.example_transfer.proofs.Printing.{transfer_printed}
 use Rattle.example_transfer.proofs.print.print_transfer.Goals as goal
 

@@ -1,4 +1,4 @@
-use Rattle.dns_read.specs.Message.{message_octets}
+use Rattle.dns_message.specs.Messages.{message_octets}
 use Rattle.example_transfer.proofs.Readings.{goes_on, ends, all_taken}
 use Rattle.example_transfer.proofs.Unique.{one_transfer}
 use Rattle.example_transfer.proofs.transfer.items.Goals as goal

@@ -1,6 +1,6 @@
 use Rattle.std.proofs.Common.{map}
-use Rattle.dns_read.specs.Message.{message_octets}
-use Rattle.dns_section.specs.RecordSection.{record_result}
+use Rattle.dns_message.specs.Messages.{message_octets}
+use Rattle.dns_message.specs.Sections.RecordSection.{record_result}
 use Rattle.example_transfer.proofs.Readings.{IsFront}
 use Rattle.example_transfer.proofs.transfer.items.Given as goal
 

@@ -1,7 +1,7 @@
 use Rattle.std.proofs.Common.{◌≡◌, ◌++◌, map, length}
 use Rattle.std.specs.List.{All, flat_map}
-use Rattle.dns_wire.specs.Stream.{with_prefix}
-use Rattle.dns_read.specs.Message.{message_octets}
+use Rattle.dns_message.specs.Targets.{with_prefix}
+use Rattle.dns_message.specs.Messages.{message_octets}
 use Rattle.example_transfer.specs.Transfer.{IsMessage}
 use Rattle.example_transfer.proofs.transfer.messages.Given as goal
 

@@ -1,7 +1,7 @@
 use Rattle.std.proofs.Common.{map}
 use Rattle.std.proofs.lemmas.Result.{IfOk-weaker}
-use Rattle.dns_read.specs.Message.{message_octets}
-use Rattle.dns_section.specs.RecordSection.{record_result, records_left}
+use Rattle.dns_message.specs.Messages.{message_octets}
+use Rattle.dns_message.specs.Sections.RecordSection.{record_result, records_left}
 use Rattle.example_transfer.specs.Taking.{Takes, TakesAnswers}
 use Rattle.example_transfer.proofs.Readings.{takes_section, takes_fault}
 use Rattle.example_transfer.proofs.transfer.take_answers.Goals as goal

@@ -1,5 +1,5 @@
 use Rattle.std.proofs.Common.{◌≡◌, ◌++◌, map}
-use Rattle.dns_section.specs.RecordSection.{record_result, records_left}
+use Rattle.dns_message.specs.Sections.RecordSection.{record_result, records_left}
 use Rattle.example_transfer.specs.Transfer.{is_whole}
 use Rattle.example_transfer.specs.Taking.{up_to_fault}
 use Rattle.example_transfer.proofs.transfer.take_records.Given as goal

@@ -1,4 +1,4 @@
-use Rattle.dns_wire.specs.Parts.{Octets}
+use Rattle.dns_message.specs.Data.{Octets}
 use Rattle.dns_any_data.proofs.any_data.AnyDataComposeRecordData.compose_canonical_rdata.Goals as goal
 
 pub returns-in-None : goal.returns-in-None

@@ -1,0 +1,32 @@
+-- The lemmas that callers' proofs cite: of names, sizes, records, sections, builders and printing. Above each is what it says.
+
+-- The uncompressed octets of a name are one more than its size, for the root's zero octet.
+pub use Rattle.dns_name.proofs.theory.LabelsLemmas.{length-uncompressed}
+-- `names_equal` is true exactly if the lowercased labels are the same.
+pub use Rattle.dns_name.specs.NameOrders.{names_equal-Decides}
+-- A name is encoded in at most as many octets as it takes uncompressed.
+pub use Rattle.dns_wire.proofs.theory.NameSizes.{names_are_short}
+-- So are the parts of RDATA.
+pub use Rattle.dns_wire.proofs.theory.NameSizes.{parts_are_short}
+-- `data_in` is the result of reading RDATA by a layout, and there is no other.
+pub use Rattle.dns_item.proofs.theory.TypedLemmas.{data_is_parsed}
+-- Reading a record by a layout returns what `laid_out` says, if the RDATA is all there.
+pub use Rattle.dns_item.proofs.theory.TypedLemmas.{laid_out-returned}
+-- A section of records has one start, or one error, of an entry before it.
+pub use Rattle.dns_section.proofs.theory.StartLemmas.{start_or_fault}
+-- What a cursor at the start of a section has left is the section's reading.
+pub use Rattle.dns_read.proofs.theory.SectionStartLemmas.{begins_reading}
+-- `questions_from` is the reading of questions from an offset, and there is no other.
+pub use Rattle.dns_section.proofs.theory.QuestionsFromLemmas.{questions_from_are_read}
+-- `records_from` is that of records.
+pub use Rattle.dns_section.proofs.theory.RecordsFromLemmas.{records_from_are_read}
+-- A reading has at most as many items as the count, and an error only as its last item.
+pub use Rattle.dns_section.proofs.theory.ReadingLemmas.{readings_of_questions_end, readings_of_records_end}
+-- A message within its limit stays so when accepted questions are pushed.
+pub use Rattle.dns_build.proofs.theory.Asking.{accepted_within}
+-- What holds of each element of two lists holds of each of their concatenation.
+pub use Rattle.dns_build.proofs.theory.Encodings.{every_append}
+-- A text is appended after another.
+pub use Rattle.dns_tool.proofs.theory.AppendedTexts.{appends_both}
+-- The empty text is appended if nothing changes.
+pub use Rattle.dns_tool.proofs.theory.AppendedTexts.{appends_none}

@@ -1,0 +1,28 @@
+-- Builders: the states that they represent, what a call makes of a state, and the message of a state.
+unfoldable pub use Rattle.dns_build.specs.State.{encode}
+pub use Rattle.dns_build.specs.State.{Stage, State, IsState, stage_of, depth_of, no_limit, Every, most_entries, up_to, move_to, rewound, with_question, with_questions, with_record, with_records, records_at, with_tc, with_header, with_limit, limit_shown, tc_rewound, item_counts, counts_of, all_of, encoders_of, head_of}
+pub use Rattle.dns_build.specs.State.Stage.{InBuilder, InQuestion, InAnswer, InAuthority, InAdditional}
+pub use Rattle.dns_build.specs.BuilderStates.{Built, built_code, push_error, IsMessage, Represents, RepresentsSome, fresh, MovesState, InEach, PushReturns, PushReturnsInEach, Pushes, starts_of, size_after}
+-- the message of a state: it reads back, its pointers lead to earlier labels, no compression of its names is shorter
+pub use Rattle.dns_build.specs.MessageOf.{IsMessageOf, ReadsBack, GivesRecords, AllReported, PointsToLabels, HasLabelsInPointerRange, IsShortestOf}
+pub use Rattle.dns_build.specs.TypedReading.{pushed, taken, IsLaidOutBy, IsTakenBy, EncodedAs, AllEncodedAs}
+-- answers
+pub use Rattle.dns_build.specs.Answers.{readable_questions, answer_header, answering, AreAccepted, RefusesAfter, RepresentsAnswer, GivesAnswer, GivesEither, IsEither, IsFailure}
+-- copied records
+pub use Rattle.dns_build.specs.CopyRecords.{record_sections, PushesKept, CopiesRecord, CopiesList, CopiesSection, CopiesSections, CopiesMessage}
+pub use Rattle.dns_build.specs.CopyRecords.CopiesList.{none, fault, refused, copied}
+pub use Rattle.dns_build.specs.CopyRecords.CopiesSection.{unstarted, started}
+pub use Rattle.dns_build.specs.CopyRecords.CopiesSections.{none, stopped, copied}
+pub use Rattle.dns_build.specs.KeptRecords.{with_copies, Keeps, KeepsSection, KeepsAll}
+pub use Rattle.dns_build.specs.KeptRecords.Keeps.{none, dropped, kept}
+-- OPT records
+pub use Rattle.dns_build.specs.Opt.{opt_record, with_opt, Gathers, OptReturns, PushesOpt}
+pub use Rattle.dns_build.specs.OptReading.{said, HasNoOpt}
+pub use Rattle.dns_opt_builder.specs.Gathered.{Gathered, gathered, nothing_gathered, option_octets, with_rcode}
+pub use Rattle.dns_opt_builder.specs.Additions.{Adds}
+pub use Rattle.dns_opt_builder.specs.KnownOptions.{nsid_option, dau_option, dhu_option, n3u_option, client_subnet_option, expire_option, cookie_option, IsServerCookie, tcp_keepalive_option, padding_option, chain_option, key_tag_option, extended_error_option}
+-- the statements of the theorems on builders
+pub use Rattle.dns_build.specs.MessageOf.{EncodingsReadBack, EncodingsAreTargets, EncodingsAreMessages}
+pub use Rattle.dns_build.specs.KnownByState.{BuildersAreKnown, RewindsLeaveNothing}
+pub use Rattle.dns_build.specs.TypedReading.{PushedRecordsAreEncoded, TypedRecordsReadBack, TypedRecordsInReadBack, AnyRecordsReadBack, ToRecordReadsBack, ToAnyRecordReadsBack}
+pub use Rattle.dns_build.specs.OptReading.{OptsReadBack}
