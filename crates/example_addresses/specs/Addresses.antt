@@ -1,0 +1,37 @@
+-- What is printed for the addresses of a message. RFC 1035 sections 3.4.1 and 4.1.
+use Rattle.std.specs.Prelude.{ℕ, List, [], ◌∷◌, ◌++◌, slice_index, Option, Some, None, Result, Ok, Err, codes, decimal}
+use Rattle.std.specs.List.{flat_map}
+use Rattle.dns_name.specs.Names.{Fault}
+use Rattle.dns_name.specs.NameTexts.{name_text}
+use Rattle.dns_wire.specs.Parts.{Part, Octets, CompressibleName}
+use Rattle.dns_data.specs.Layout.{Layout, Fixed, End}
+use Rattle.dns_data.specs.RecordData.{only}
+use Rattle.dns_item.specs.Items.{RecordItem}
+use Rattle.dns_section.specs.Limited.{limited}
+use Rattle.dns_section.specs.declared.section.Section.TheVariants.{Answer}
+use Rattle.dns_read.specs.SectionStarts.{records_of, start_of}
+
+-- the RDATA of an A record, whose type is 1: four octets
+abbrev pub a_layout : ℕ → Option Layout
+a_layout = only 1 (Fixed 4 End)
+
+-- an address: its four octets as decimal numbers, separated by dots
+abbrev pub dotted : List Part → List ℕ
+dotted [] = []
+dotted (CompressibleName name ∷ parts) = []
+dotted (Octets octets ∷ parts) =
+    let number = λ (k : ℕ). decimal (slice_index octets k) in number 0 ++ codes "." ++ number 1 ++ codes "." ++ number 2 ++ codes "." ++ number 3
+
+-- the line of an A record: its owner and its address; or that the record is malformed
+abbrev pub address_line : Result RecordItem Fault → List ℕ
+address_line (Ok x) = name_text x.owner ++ codes " " ++ dotted x.parts ++ codes "\n"
+address_line (Err f) = codes "malformed record\n"
+
+-- a line for each A record of a section, in order, if the section has a start
+abbrev pub lines_from : Option ℕ → List (Result RecordItem Fault) → List ℕ
+lines_from (Some start) records = flat_map address_line records
+lines_from None records = codes "malformed question\n"
+
+-- what is printed of a message: a line for each A record of its answer section, in order; or that a question before the section is malformed
+abbrev pub addresses_text : List ℕ → List ℕ
+addresses_text b = lines_from (start_of Answer b) (limited a_layout (records_of Answer b))

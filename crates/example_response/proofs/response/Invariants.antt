@@ -1,0 +1,10 @@
+use Rattle.dns_wire.specs.Encoders.{Tree}
+use Rattle.dns_build.specs.BuilderStates.{InEach}
+use Rattle.dns_build.specs.State.{InAnswer}
+use Rattle.example_response.proofs.Answering.{MoreAnswers, first}
+use Rattle.example_response.proofs.response.Given as goal
+
+abbrev pub invariant-loop-answer : goal.invariant-loop-answer
+invariant-loop-answer g l = record {
+  pushes : InEach InAnswer Tree l.initial.builder (λ s. MoreAnswers s l.builder (first g.R.ComposeRecord.item l.answers l.answer-index));
+}
