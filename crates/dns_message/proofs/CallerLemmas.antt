@@ -16,6 +16,8 @@ pub use Rattle.dns_item.proofs.theory.TypedLemmas.{laid_out-returned}
 pub use Rattle.dns_section.proofs.theory.StartLemmas.{start_or_fault}
 -- What a cursor at the start of a section has left is the section's reading.
 pub use Rattle.dns_read.proofs.theory.SectionStartLemmas.{begins_reading}
+-- The answer section starts where `start_of` says; without a start, the error is that of an entry before it.
+pub use Rattle.dns_read.proofs.theory.SectionStartLemmas.{start_found, no_answers}
 -- `questions_from` is the reading of questions from an offset, and there is no other.
 pub use Rattle.dns_section.proofs.theory.QuestionsFromLemmas.{questions_from_are_read}
 -- `records_from` is that of records.

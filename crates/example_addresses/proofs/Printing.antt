@@ -2,7 +2,7 @@
 use Rattle.std.proofs.Common.{◌≡◌, ◌∙◌, Option, List, [], ◌∷◌, ◌++◌, ℕ, ap, sym, refl, subst, append_assoc, append-nil}
 use Rattle.std.specs.Io.KnownBytes.{Appends}
 use Rattle.std.specs.List.{flat_map}
-use Rattle.dns_show.proofs.theory.AppendedTexts.{appends_both, appends_none}
+use Rattle.dns_message.proofs.CallerLemmas.{appends_both, appends_none}
 
 module _ {X : Type 0} (line_of : X → List ℕ) where
   -- from `old` to `new`, the writer got the lines of the items of `whole` that aren't in `left`

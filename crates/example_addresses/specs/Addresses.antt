@@ -1,15 +1,12 @@
 -- What is printed for the addresses of a message. RFC 1035 sections 3.4.1 and 4.1.
 use Rattle.std.specs.Prelude.{ℕ, List, [], ◌∷◌, ◌++◌, slice_index, Option, Some, None, Result, Ok, Err, codes, decimal}
 use Rattle.std.specs.List.{flat_map}
-use Rattle.dns_name.specs.Names.{Fault}
-use Rattle.dns_name.specs.NameTexts.{name_text}
-use Rattle.dns_wire.specs.Parts.{Part, Octets, CompressibleName}
-use Rattle.dns_data.specs.Layout.{Layout, Fixed, End}
-use Rattle.dns_data.specs.RecordData.{only}
-use Rattle.dns_item.specs.Items.{RecordItem}
-use Rattle.dns_section.specs.Limited.{limited}
-use Rattle.dns_section.specs.declared.section.Section.TheVariants.{Answer}
-use Rattle.dns_read.specs.SectionStarts.{records_of, start_of}
+use Rattle.dns_message.specs.Names.{Fault, name_text}
+use Rattle.dns_message.specs.Data.{Part, Octets, CompressibleName, Layout, Fixed, End, only}
+use Rattle.dns_message.specs.Records.{RecordItem}
+use Rattle.dns_message.specs.Sections.{limited}
+use Rattle.dns_message.specs.declared.message.Section.TheVariants.{Answer}
+use Rattle.dns_message.specs.Messages.{records_of, start_of}
 
 -- the RDATA of an A record, whose type is 1: four octets
 abbrev pub a_layout : ℕ → Option Layout

@@ -8,7 +8,7 @@
 
 ghost use Rattle.std.specs.Io.KnownBytes.{Appends};
 ghost use Rattle.std.specs.Prelude.{OnOk};
-ghost use Rattle.dns_read.specs.Message.{message_octets};
+ghost use Rattle.dns_message.specs.Messages.{message_octets};
 ghost use Rattle.example_addresses.specs.Addresses.{addresses_text};
 
 use anyhow::Result;

@@ -1,17 +1,15 @@
 use Rattle.std.proofs.Common.{◌≡◌, ◌∙◌, ap, sym, subst, codes, OnOk, List, ℕ, ◌++◌}
 use Rattle.std.specs.Io.KnownBytes.{Appends}
 use Rattle.std.specs.List.{flat_map}
-use Rattle.dns_name.specs.Names.{fault_of}
-use Rattle.dns_data.specs.Printing.{address_text}
-use Rattle.dns_name.specs.NameTexts.{name_text}
-use Rattle.dns_name.specs.ParsedName.{labels}
-use Rattle.dns_section.specs.Limited.{limited}
-use Rattle.dns_section.specs.RecordIter.{typed_left}
-use Rattle.dns_section.specs.RecordSection.{position}
-use Rattle.dns_section.specs.declared.section.Section.TheVariants.{Answer}
-use Rattle.dns_read.proofs.theory.SectionStartLemmas.{begins_reading, no_answers, start_found}
-use Rattle.dns_read.specs.Message.{message_octets}
-use Rattle.dns_read.specs.SectionStarts.{records_of}
+use Rattle.dns_message.specs.Names.{fault_of, name_text, labels}
+use Rattle.dns_message.specs.Data.{address_text}
+use Rattle.dns_message.specs.Sections.{limited}
+use Rattle.dns_message.specs.Sections.RecordIter.{typed_left}
+use Rattle.dns_message.specs.Sections.RecordSection.{position}
+use Rattle.dns_message.specs.declared.message.Section.TheVariants.{Answer}
+use Rattle.dns_message.proofs.CallerLemmas.{begins_reading}
+use Rattle.dns_message.proofs.CallerLemmas.{no_answers, start_found}
+use Rattle.dns_message.specs.Messages.{message_octets, records_of}
 use Rattle.example_addresses.specs.Addresses.{a_layout, address_line, addresses_text, lines_from}
 use Rattle.example_addresses.proofs.Printing.{all_printed, more_printed, regrouped}
 use Rattle.example_addresses.proofs.print_addresses.Goals as goal

@@ -1,4 +1,4 @@
-use Rattle.dns_section.specs.RecordIter.{typed_left}
+use Rattle.dns_message.specs.Sections.RecordIter.{typed_left}
 use Rattle.example_addresses.specs.Addresses.{a_layout, address_line}
 use Rattle.example_addresses.proofs.Printing.{Printed}
 use Rattle.example_addresses.proofs.print_addresses.Given as goal

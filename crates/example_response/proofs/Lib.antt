@@ -1,4 +1,0 @@
-mod Answering
-mod Opts
-mod Sizes
-mod Starting
