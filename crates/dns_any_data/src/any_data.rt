@@ -4,7 +4,7 @@ ghost use Rattle.dns_message.specs.Names.{IsName, labels};
 ghost use Rattle.dns_message.specs.Targets.{Composes};
 ghost use Rattle.dns_message.specs.Data.{Octets, CompressibleName, encode_parts, DomainName, End, Fixed, ParsesLaidOut, canonical, opaque_layout};
 ghost use Rattle.dns_any_data.specs.AnyLayout.{count_of, names_in, octets_in, any_layout};
-    ghost use Rattle.dns_any_data.specs.AnyData.{rtype_of, parts_of, any_laid_out, rtype_of, parts_of};
+ghost use Rattle.dns_any_data.specs.AnyData.{rtype_of, parts_of, any_laid_out, rtype_of, parts_of};
 
 use dns_message::code::Rtype;
 use dns_message::data::laws::{names_are_bounded, parts_compose};
@@ -60,7 +60,6 @@ fn octets_in(rtype: Rtype) -> usize
 }
 
 impl RecordData for AnyData<'_> {
-
     ghost rtype_of = { rtype_of };
 
     ghost parts = { parts_of };
@@ -171,7 +170,6 @@ fn append_canonical_names<T: Composer>(
 }
 
 impl<'a> ParseAnyRecordData<'a> for AnyData<'a> {
-
     ghost any_layout = { any_layout };
 
     fn parse_any_rdata(rtype: Rtype, parser: &mut Parser<'a>) -> Result<Self, ParseError> {
@@ -186,7 +184,6 @@ impl<'a> ParseAnyRecordData<'a> for AnyData<'a> {
 }
 
 impl<'a> AnyData<'a> {
-
     /// Reads RDATA without names that may be compressed, up to the end of the parser.
     fn parse_opaque(rtype: Rtype, parser: &mut Parser<'a>) -> Result<Self, ParseError>
         requires { names_in rtype ≡ 0 }
