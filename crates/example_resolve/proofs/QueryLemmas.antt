@@ -1,15 +1,15 @@
 -- How many octets a query has, and that building one never fails.
 use Rattle.std.proofs.Common.{◌≡◌, ◌≤◌, length, length-append, arith, refl}
 use Rattle.std.specs.Prelude.{Result, Ok, Err, IsOk}
-use Rattle.dns_name.specs.Names.{IsName}
-use Rattle.dns_name.proofs.theory.LabelsLemmas.{length-uncompressed}
-use Rattle.dns_wire.specs.Encoders.{Plain, encode_name}
-use Rattle.dns_code.specs.Header.{header_octets}
-use Rattle.dns_code.specs.declared.header.Header.{Header}
-use Rattle.dns_question.specs.Questions.{QuestionItem, encode_question}
-use Rattle.dns_build.specs.State.{encode}
-use Rattle.dns_build.specs.declared.push_error.PushError.{PushError}
-use Rattle.dns_build.specs.declared.push_error.PushError.TheVariants as errors
+use Rattle.dns_message.specs.Names.{IsName}
+use Rattle.dns_message.specs.Targets.{Plain, encode_name}
+use Rattle.dns_message.specs.Headers.{header_octets}
+use Rattle.dns_message.specs.Questions.{QuestionItem, encode_question}
+use Rattle.dns_message.specs.Builders.{encode}
+use Rattle.dns_message.specs.declared.builder.PushError.{PushError}
+use Rattle.dns_message.specs.declared.builder.PushError.TheVariants as errors
+use Rattle.dns_message.specs.declared.header.Header.{Header}
+use Rattle.dns_message.proofs.CallerLemmas.{length-uncompressed}
 use Rattle.example_resolve.specs.Resolving.{asking}
 
 -- the header section, the name and four octets

@@ -1,8 +1,7 @@
 use Rattle.std.proofs.Common.{◌≡◌, ◌<◌, arith, false, length, rules, true}
-use Rattle.dns_wire.specs.Encoders.{Plain}
-use Rattle.dns_question.specs.Questions.{QuestionItem}
-use Rattle.dns_build.specs.BuilderStates.{Represents, fresh}
-use Rattle.dns_build.specs.State.{InBuilder, encode, no_limit}
+use Rattle.dns_message.specs.Targets.{Plain}
+use Rattle.dns_message.specs.Questions.{QuestionItem}
+use Rattle.dns_message.specs.Builders.{Represents, fresh, InBuilder, encode, no_limit}
 use Rattle.example_resolve.specs.Resolving.{asking}
 use Rattle.example_resolve.proofs.QueryLemmas.{accepted, query_size}
 use Rattle.example_resolve.proofs.resolving.query.Goals as goal
