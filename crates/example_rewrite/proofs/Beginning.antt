@@ -1,11 +1,9 @@
 -- How the message that is written begins.
 use Rattle.std.proofs.Common.{◌≡◌, ap, List, ℕ, subst, take}
-use Rattle.dns_wire.specs.Encoders.{Rule}
-use Rattle.dns_code.specs.declared.header.Header.{Header}
-use Rattle.dns_code.specs.Header.{header_octets}
-use Rattle.dns_build.specs.Answers.{RepresentsAnswer, answering, header_in, readable_questions}
-use Rattle.dns_build.specs.BuilderStates.{Built, MovesState, Represents, fresh}
-use Rattle.dns_build.specs.State.{InAnswer, with_header, with_questions}
+use Rattle.dns_message.specs.Targets.{Rule}
+use Rattle.dns_message.specs.Headers.{header_octets}
+use Rattle.dns_message.specs.Builders.{RepresentsAnswer, answering, header_in, readable_questions, Built, MovesState, Represents, fresh, InAnswer, with_header, with_questions}
+use Rattle.dns_message.specs.declared.header.Header.{Header}
 use Rattle.example_rewrite.specs.Rewriting.{begun}
 
 -- an answer with the header of the message

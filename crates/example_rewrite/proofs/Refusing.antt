@@ -2,30 +2,23 @@
 use Rattle.std.proofs.Common.{◌≡◌, ◌∙◌, ℕ, ◌+◌, ◌<◌, ◌≤◌, Bool, List, [], ◌∷◌, ◌++◌, length, length-append, ap, sym, refl, subst, arith, None}
 use Rattle.std.proofs.lemmas.List.{length-map}
 use Rattle.std.specs.Prelude.{option_map, Option, Some, Result, Ok, Err}
-use Rattle.dns_name.specs.Names.{Fault}
-use Rattle.dns_wire.specs.Encoders.{Static}
-use Rattle.dns_question.specs.Questions.{QuestionItem}
-use Rattle.dns_item.specs.Items.{RecordItem}
-use Rattle.dns_item.specs.ParsedRecord.{EncodedRecord}
-use Rattle.dns_item.specs.declared.parsed_record.ParsedRecord.{ParsedRecord}
-use Rattle.dns_section.proofs.theory.ReadingLemmas.{readings_of_records_end}
-use Rattle.dns_section.proofs.theory.RecordsFromLemmas.{records_from_are_read}
-use Rattle.dns_section.specs.RecordsFrom.{in_octets, records_from, records_in}
-use Rattle.dns_section.specs.Sections.{record_count}
-use Rattle.dns_section.specs.declared.section.Section.{Section}
-use Rattle.dns_section.specs.declared.section.Section.TheVariants.{Answer, Authority, Additional}
-use Rattle.dns_build.specs.Answers.{RefusesAfter}
-use Rattle.dns_build.specs.CopyRecords.{CopiesList, CopiesSection, CopiesSections, PushesKept, record_sections}
-use Rattle.dns_build.specs.CopyRecords.CopiesList.{none as no_record, copied as record_copied, refused, fault}
-use Rattle.dns_build.specs.CopyRecords.CopiesSection.{started, unstarted}
-use Rattle.dns_build.specs.CopyRecords.CopiesSections.{none as no_section, copied as section_copied, stopped}
-use Rattle.dns_build.specs.BuilderStates.{PushReturns, size_after}
-use Rattle.dns_build.specs.State.{Every, InAdditional, InAnswer, InAuthority, InBuilder, InQuestion, Stage, State, most_entries, move_to, no_limit, records_at, stage_of, up_to, with_question, with_questions, with_record}
-use Rattle.dns_build.specs.declared.copy_records_error.CopyRecordsError.{CopyRecordsError}
-use Rattle.dns_build.specs.declared.copy_records_error.CopyRecordsError.TheVariants.{Push}
-use Rattle.dns_build.specs.declared.push_error.PushError.{PushError}
-use Rattle.dns_build.specs.declared.push_error.PushError.TheVariants.{CountOverflow, LimitExceeded, ShortBuf, OutOfMemory}
-use Rattle.dns_build.proofs.theory.Encodings.{every_append}
+use Rattle.dns_message.specs.Names.{Fault}
+use Rattle.dns_message.specs.Targets.{Static}
+use Rattle.dns_message.specs.Questions.{QuestionItem}
+use Rattle.dns_message.specs.Records.{RecordItem, EncodedRecord}
+use Rattle.dns_message.specs.Sections.{in_octets, records_from, records_in, record_count}
+use Rattle.dns_message.specs.Builders.{RefusesAfter, CopiesList, CopiesSection, CopiesSections, PushesKept, record_sections, PushReturns, size_after, Every, InAdditional, InAnswer, InAuthority, InBuilder, InQuestion, Stage, State, most_entries, move_to, no_limit, records_at, stage_of, up_to, with_question, with_questions, with_record}
+use Rattle.dns_message.specs.Builders.CopiesList.{none as no_record, copied as record_copied, refused, fault}
+use Rattle.dns_message.specs.Builders.CopiesSection.{started, unstarted}
+use Rattle.dns_message.specs.Builders.CopiesSections.{none as no_section, copied as section_copied, stopped}
+use Rattle.dns_message.specs.declared.builder.CopyRecordsError.{CopyRecordsError}
+use Rattle.dns_message.specs.declared.builder.CopyRecordsError.TheVariants.{Push}
+use Rattle.dns_message.specs.declared.builder.PushError.{PushError}
+use Rattle.dns_message.specs.declared.builder.PushError.TheVariants.{CountOverflow, LimitExceeded, ShortBuf, OutOfMemory}
+use Rattle.dns_message.specs.declared.message.Section.{Section}
+use Rattle.dns_message.specs.declared.message.Section.TheVariants.{Answer, Authority, Additional}
+use Rattle.dns_message.specs.declared.record.ParsedRecord.{ParsedRecord}
+use Rattle.dns_message.proofs.CallerLemmas.{readings_of_records_end, records_from_are_read, every_append}
 use Rattle.example_rewrite.proofs.Sizes.{HasShortItems, IsNamed, IsShort, items_of, short_message}
 
 -- a state without a limit, with short items, each section within the greatest count

@@ -2,15 +2,14 @@
 use Rattle.std.proofs.Common.{◌≡◌, ◌∙◌, ℕ, ◌+◌, ◌*◌, ◌≤◌, List, [], ◌∷◌, ◌++◌, length, length-append, ap, arith}
 use Rattle.std.proofs.lemmas.List.{length-map}
 use Rattle.std.specs.Prelude.{map}
-use Rattle.dns_name.specs.Names.{Labels, IsName}
-use Rattle.dns_name.proofs.theory.LabelsLemmas.{length-uncompressed}
-use Rattle.dns_wire.specs.Parts.{parts_size, encode_parts}
-use Rattle.dns_wire.specs.Encoders.{CompressionTable, Encoder, Static, both, nothing, encode_name, encode_octets, with_length}
-use Rattle.dns_wire.proofs.theory.NameSizes.{names_are_short, parts_are_short}
-use Rattle.dns_code.specs.Header.{header_octets}
-use Rattle.dns_question.specs.Questions.{QuestionItem, encode_question, question_fields}
-use Rattle.dns_item.specs.Items.{RecordItem, encode_record, record_fields}
-use Rattle.dns_build.specs.State.{State, Every, all_of, encode, head_of, encoders_of}
+use Rattle.dns_message.specs.Names.{Labels, IsName}
+use Rattle.dns_message.specs.Targets.{CompressionTable, Encoder, Static, both, nothing, encode_name, encode_octets, with_length}
+use Rattle.dns_message.specs.Headers.{header_octets}
+use Rattle.dns_message.specs.Questions.{QuestionItem, encode_question, question_fields}
+use Rattle.dns_message.specs.Data.{parts_size, encode_parts}
+use Rattle.dns_message.specs.Records.{RecordItem, encode_record, record_fields}
+use Rattle.dns_message.specs.Builders.{State, Every, all_of, encode, head_of, encoders_of}
+use Rattle.dns_message.proofs.CallerLemmas.{length-uncompressed, names_are_short, parts_are_short}
 
 -- an encoding has at most n octets, for any compression table and at any offset
 abbrev pub AtMost : ℕ → Encoder → Type 0
