@@ -1,18 +1,16 @@
 //! Proved callers: the examples of the pages that say how the crates are called.
 ghost use Rattle.std.specs.Prelude.{◌≡◌, ◌≤◌, ◌↔◌, List, length, map, max, min, true, IfOk, IfSome, IsSome, IsTrue};
 ghost use Rattle.std.specs.Fn.{FnOnceReturnsAtMut};
-ghost use Rattle.dns_code.specs.Header.{fields};
-ghost use Rattle.dns_data.specs.Layout.{End, Fixed};
-ghost use Rattle.dns_data.specs.RecordData.{only};
-ghost use Rattle.dns_item.specs.Ttl.{cap_seconds};
-ghost use Rattle.dns_build.specs.BuilderStates.{fresh};
+ghost use Rattle.dns_message.specs.Headers.{fields};
+ghost use Rattle.dns_message.specs.Data.{End, Fixed, only};
+ghost use Rattle.dns_message.specs.Records.{cap_seconds};
+ghost use Rattle.dns_message.specs.Messages.{message_octets, HasAnswer};
+ghost use Rattle.dns_message.specs.Messages.MessageIter.{message_items};
+ghost use Rattle.dns_message.specs.Sections.{AnswersStart};
+ghost use Rattle.dns_message.specs.Sections.RecordIter.{typed_left};
+ghost use Rattle.dns_message.specs.Builders.{fresh};
 ghost use Rattle.dns_message.specs.Script.{after_all, octets_of};
 ghost use Rattle.dns_message.specs.declared.script.Reply.{Reply};
-ghost use Rattle.dns_read.specs.Message.{message_octets};
-ghost use Rattle.dns_read.specs.MessageIter.{message_items};
-ghost use Rattle.dns_read.specs.RecordSearches.{HasAnswer};
-ghost use Rattle.dns_section.specs.RecordIter.{typed_left};
-ghost use Rattle.dns_section.specs.Sections.{AnswersStart};
 ghost use Rattle.dns_message_tests.specs.Callers.{IsShortMessage, EncodedFirst, AreAnswers, data_among, sections_among, SaysWhatIsGathered};
 
 use dns_message::builder::laws::{opts_read_back, rcode_is_set};

@@ -1,12 +1,11 @@
 use Rattle.std.proofs.Common.{◌≡◌, ◌∙◌, ap, refl, subst, ℕ, ◌+◌, ◌*◌, Bool, [], length, arith}
 use Rattle.std.specs.Fn.{FnOnceReturnsAtMut}
 use Rattle.std.specs.Prelude.{Option, Result, Ok, Err}
-use Rattle.dns_octets.specs.declared.error.AppendError.{AppendError}
-use Rattle.dns_wire.specs.Encoders.{Rule}
-use Rattle.dns_opt_builder.specs.declared.builder.OptBuilder.{OptBuilder}
-use Rattle.dns_build.specs.Opt.{Gathers, OptReturns, PushesOpt, opt_record, with_opt}
-use Rattle.dns_build.specs.BuilderStates.{Built, fresh, size_after}
-use Rattle.dns_build.specs.State.{State, InAdditional, move_to, with_record}
+use Rattle.dns_message.specs.Targets.{Rule}
+use Rattle.dns_message.specs.Builders.{Gathers, PushesOpt, opt_record, with_opt, Built, fresh, size_after, State, InAdditional, move_to, with_record}
+use Rattle.dns_message.specs.Builders.{OptReturns}
+use Rattle.dns_message.specs.declared.builder.OptBuilder.{OptBuilder}
+use Rattle.dns_message.specs.declared.wire.AppendError.{AppendError}
 use Rattle.dns_message_tests.proofs.callers.opt_message.Goals as goal
 
 -- an accepted record was gathered without an error
