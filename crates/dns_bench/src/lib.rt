@@ -95,7 +95,7 @@ pub extern "C" fn dns_bench_hash(alloc: Global, work: &Work<'_>, out: &mut [u8])
     write_reused(alloc, target, work, out)
 }
 
-/// Writes with one index compressor, which is emptied before each message.
+/// Writes with one fingerprint compressor, which is emptied before each message.
 #[unsafe(no_mangle)]
 pub extern "C" fn dns_bench_index(alloc: Global, work: &Work<'_>, out: &mut [u8]) -> usize
     ensures { HandsOut out.old out.new result }
@@ -131,7 +131,7 @@ pub extern "C" fn dns_bench_fresh_hash(alloc: Global, work: &Work<'_>, out: &mut
     write_fresh(alloc, new_target, work, out)
 }
 
-/// Writes each message with a new index compressor over a new `Vec`.
+/// Writes each message with a new fingerprint compressor over a new `Vec`.
 #[unsafe(no_mangle)]
 pub extern "C" fn dns_bench_fresh_index(alloc: Global, work: &Work<'_>, out: &mut [u8]) -> usize
     ensures { HandsOut out.old out.new result }
@@ -152,11 +152,11 @@ pub extern "C" fn dns_bench_walk(octets: &[u8]) -> u64 {
 /// Writes a response with the target of this number. The first name is that of the question and of
 /// one A record.
 ///
-/// Targets 0 to 4 are a `Vec`, and static, tree, hash and index compressors over a `Vec`, emptied
-/// before each message; 5 to 9 are the same, new for each message. Targets 10 and 11 are a static
-/// and an index compressor, emptied before each message, which each builder borrows. Targets 12 and
-/// 13 are borrowed too, but new for each message: static compressors over an array of 512 octets
-/// and over a `Vec`.
+/// Targets 0 to 4 are a `Vec`, and static, tree, hash and fingerprint compressors over a `Vec`,
+/// emptied before each message; 5 to 9 are the same, new for each message. Targets 10 and 11 are a
+/// static and a fingerprint compressor, emptied before each message, which each builder borrows.
+/// Targets 12 and 13 are borrowed too, but new for each message: static compressors over an array of
+/// 512 octets and over a `Vec`.
 #[unsafe(no_mangle)]
 pub extern "C" fn dns_bench_response(
     alloc: Global,

@@ -198,7 +198,7 @@ pub(crate) fn write_with(
 }
 
 /// Writes the messages with a target of number 5 or above: the five targets in the same order, new
-/// for each message; a static and an index compressor that are borrowed; new static compressors
+/// for each message; a static and a fingerprint compressor that are borrowed; new static compressors
 /// over an array and over a `Vec` that are borrowed.
 fn write_otherwise(alloc: Global, kind: Kind, target: u32, work: &Work<'_>, out: &mut [u8]) -> usize
     ensures { HandsOut out.old out.new result }

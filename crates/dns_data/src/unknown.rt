@@ -140,7 +140,8 @@ impl<Octs: Octets + Clone> Clone for UnknownRecordData<Octs> {
     ghost use Rattle.dns_octets.specs.Octets.{ClonesSurely};
     ghost use Rattle.dns_data.specs.UnknownData.{unknown_buffer, unknown_rtype_of, unknown_octets};
 
-    ghost is_clone = { λ unknown clone. (unknown_rtype_of clone ≡ unknown_rtype_of unknown) × (unknown_octets clone ≡ unknown_octets unknown) };
+    ghost is_clone = { λ unknown clone. (unknown_rtype_of clone ≡ unknown_rtype_of unknown)
+        × (unknown_octets clone ≡ unknown_octets unknown) };
 
     ghost is_infallible = { λ unknown. ClonesSurely Octs.is_infallible Octs.is_clone Octs.octets
         (unknown_buffer unknown) };

@@ -271,7 +271,8 @@ impl<N: ToName, D: ComposeRecordData> ComposeRecord for Record<N, D> {
 }
 
 impl<N: ToName, D: ComposeRecordData> ComposeRecord for (N, Class, Ttl, D) {
-    ghost item = { λ fields. item_of_fields N.name D.rtype_of D.parts fields.0 fields.1 fields.2 fields.3 };
+    ghost item = { λ fields.
+        item_of_fields N.name D.rtype_of D.parts fields.0 fields.1 fields.2 fields.3 };
 
     fn compose_record<T: Composer>(&self, target: &mut T) -> Result<(), AppendError> {
         let (owner, class, ttl, data) = self;
@@ -281,7 +282,8 @@ impl<N: ToName, D: ComposeRecordData> ComposeRecord for (N, Class, Ttl, D) {
 
 /// A record with the TTL in seconds.
 impl<N: ToName, D: ComposeRecordData> ComposeRecord for (N, Class, u32, D) {
-    ghost item = { λ fields. item_of_fields N.name D.rtype_of D.parts fields.0 fields.1 fields.2 fields.3 };
+    ghost item = { λ fields.
+        item_of_fields N.name D.rtype_of D.parts fields.0 fields.1 fields.2 fields.3 };
 
     fn compose_record<T: Composer>(&self, target: &mut T) -> Result<(), AppendError> {
         let (owner, class, seconds, data) = self;
@@ -291,7 +293,8 @@ impl<N: ToName, D: ComposeRecordData> ComposeRecord for (N, Class, u32, D) {
 
 /// A record in the class IN.
 impl<N: ToName, D: ComposeRecordData> ComposeRecord for (N, Ttl, D) {
-    ghost item = { λ fields. item_of_fields N.name D.rtype_of D.parts fields.0 1 fields.1 fields.2 };
+    ghost item = { λ fields.
+        item_of_fields N.name D.rtype_of D.parts fields.0 1 fields.1 fields.2 };
 
     fn compose_record<T: Composer>(&self, target: &mut T) -> Result<(), AppendError> {
         let (owner, ttl, data) = self;
@@ -301,7 +304,8 @@ impl<N: ToName, D: ComposeRecordData> ComposeRecord for (N, Ttl, D) {
 
 /// A record in the class IN, with the TTL in seconds.
 impl<N: ToName, D: ComposeRecordData> ComposeRecord for (N, u32, D) {
-    ghost item = { λ fields. item_of_fields N.name D.rtype_of D.parts fields.0 1 fields.1 fields.2 };
+    ghost item = { λ fields.
+        item_of_fields N.name D.rtype_of D.parts fields.0 1 fields.1 fields.2 };
 
     fn compose_record<T: Composer>(&self, target: &mut T) -> Result<(), AppendError> {
         let (owner, seconds, data) = self;

@@ -4,8 +4,8 @@ ghost use Rattle.dns_name.specs.Names.{max_size, pointer_end};
 /// A name read before in the same octets: its offset, the size of its labels, and the number of its
 /// labels.
 ///
-/// The names of a message often point to one offset. With the name there cached, `parse_cached` reads
-/// them without walking over it again.
+/// The names of a message often point to one offset. With the name there cached, `parse_cached`
+/// reads them without walking over it again.
 #[derive(Clone, Copy, Debug)]
 pub struct CachedName {
     pub(crate) pos: u16,

@@ -10,8 +10,8 @@ use crate::parsed_name::ParsedName;
 use crate::parser::Parser;
 use dns_octets::ParseError;
 
-/// Parses a name as [`ParsedName::parse`] does, without walking over the cached name `cached` if the
-/// first pointer leads to it.
+/// Parses a name as [`ParsedName::parse`] does, without walking over the cached name `cached` if
+/// the first pointer leads to it.
 ///
 /// `cached` becomes the name that the first pointer leads to, unless it is that name or parsing
 /// fails. The result doesn't depend on `cached`.

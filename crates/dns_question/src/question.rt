@@ -170,7 +170,8 @@ impl<Q: ComposeQuestion> ComposeQuestion for &Q {
 }
 
 impl<N: ToName> ComposeQuestion for (N, Rtype, Class) {
-    ghost question = { λ fields. record { name = N.name fields.0; rtype = fields.1; class = fields.2 } };
+    ghost question = { λ fields.
+        record { name = N.name fields.0; rtype = fields.1; class = fields.2 } };
 
     #[inline(always)]
     fn compose_question<T: Composer>(&self, target: &mut T) -> Result<(), AppendError> {

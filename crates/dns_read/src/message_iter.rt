@@ -95,7 +95,8 @@ impl<'a, Octs: Octets> IntoIterator for &'a Message<Octs> {
 
     type IntoIter = MessageIter<'a>;
 
-    ghost into_iter_gives = { λ message it. items_left it ≡ message_items (message_octets message.now) };
+    ghost into_iter_gives = { λ message it.
+        items_left it ≡ message_items (message_octets message.now) };
 
     fn into_iter(self) -> MessageIter<'a> {
         self.iter()

@@ -28,8 +28,8 @@ pub(crate) fn header(alloc: Global) -> Result<Vec<Row>, AllocError>
     Ok(rows)
 }
 
-/// Appends the row of the fault at `offset`, if there is one, and that of the octets from `offset` to
-/// `len`, if there are any.
+/// Appends the row of the fault at `offset`, if there is one, and that of the octets from `offset`
+/// to `len`, if there are any.
 pub(crate) fn push_rest(
     rows: &mut Vec<Row>,
     stop: Option<Fault>,

@@ -1,4 +1,4 @@
-//! The index of an index compressor: the offsets of suffixes and the hashes of their octets.
+//! The index of a fingerprint compressor: the offsets of suffixes and the hashes of their octets.
 ghost use Rattle.std.specs.Prelude.{◌≡◌, ◌+◌, ◌-◌, ◌<◌, ◌≤◌, ◌∷◌, ◌↔◌, [], length, drop, get_or, set, ℕ, IsTrue, OnOk, OnErr, vec_capacity};
 ghost use Rattle.dns_wire.specs.Choice.{label_offset};
 ghost use Rattle.dns_name.specs.Names.{Labels};

@@ -38,10 +38,12 @@ impl HashIndex {
     /// Finds the recent suffix if the name ends with it, and else nothing.
     #[inline(always)]
     fn recent_in(&self, content: &[u8], labels: &LabelStarts<'_>) -> Found
-        requires entries { AreTableEntries content.now (table_entries_in self.now.suffixes.suffixes) }
+        requires entries { AreTableEntries content.now
+            (table_entries_in self.now.suffixes.suffixes) }
         requires recent { IsParent content.now self.now.suffixes.suffixes self.now.recent }
         ensures within { result.from ≤ length labels.now }
-        ensures there { ParentIsName (table_in content.now (table_entries_in self.now.suffixes.suffixes))
+        ensures there { ParentIsName
+            (table_in content.now (table_entries_in self.now.suffixes.suffixes))
             result.offset (drop result.from labels.now) }
     {
         let Some(offset) = self.recent else {
@@ -101,7 +103,8 @@ impl SuffixIndex for HashIndex {
 
     ghost table_entries = { λ s. table_entries_in s.suffixes.suffixes };
 
-    ghost is_of = { λ b s. AreKeyed b s.suffixes.suffixes × IsParent b s.suffixes.suffixes s.recent };
+    ghost is_of = { λ b s.
+        AreKeyed b s.suffixes.suffixes × IsParent b s.suffixes.suffixes s.recent };
 
     ghost is_hint = { λ s name from hint. Unit {0} };
 
@@ -111,8 +114,10 @@ impl SuffixIndex for HashIndex {
 
     ghost lacks_capacity = { λ s from count. s.suffixes.spare_capacity < count };
 
-    ghost stays = { λ b c t l e h.
-        (keyed_again b c t.suffixes.suffixes e h.0, parent_again b c t.suffixes.suffixes t.recent e h.1) };
+    ghost stays = { λ b c t l e h. (
+      keyed_again b c t.suffixes.suffixes e h.0,
+      parent_again b c t.suffixes.suffixes t.recent e h.1,
+    ) };
 
     ghost compressing = { refl };
 

@@ -128,7 +128,8 @@ impl TreeIndex {
     fn older(&self, newer: usize, label: &[u8], hash: u32) -> Option<usize>
         requires tree { IsTree self.now.entries }
         requires walk { let parent = (entry_at self.now.entries newer).parent in
-            IsWalk self.now.entries parent (label.now ∷ name_at self.now.entries parent) (Some newer) }
+            IsWalk self.now.entries parent (label.now ∷ name_at self.now.entries parent)
+            (Some newer) }
         requires other { bytes_eq (entry_at self.now.entries newer).label label.now ≡ false }
         requires hash { hash ≡ hash_of label.now }
         ensures walk { let parent = (entry_at self.now.entries newer).parent in

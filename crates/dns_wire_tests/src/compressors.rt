@@ -38,7 +38,7 @@ pub(crate) struct Row {
     pub(crate) len: usize,
     /// The steps of a static compressor.
     pub(crate) by_offset: &'static [Step],
-    /// The steps of a tree compressor and of an index compressor.
+    /// The steps of a tree compressor and of a fingerprint compressor.
     pub(crate) by_tree: &'static [Step],
     /// The steps of a hash compressor.
     pub(crate) by_hash: &'static [Step],

@@ -1,5 +1,5 @@
-//! The program `example_resolve` is the core of a stub resolver (RFC 1034 section 5.3.1), without the
-//! network:
+//! The program `example_resolve` is the core of a stub resolver (RFC 1034 section 5.3.1), without
+//! the network:
 //!
 //!     example_resolve < NAME
 //!     example_resolve < QUERY-AND-ANSWER

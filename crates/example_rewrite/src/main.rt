@@ -1,5 +1,5 @@
-//! The program `example_rewrite` writes a message again as a cache may keep it: it caps each TTL, and
-//! leaves out OPT records, which must not be cached (RFC 6891 section 6.1.1).
+//! The program `example_rewrite` writes a message again as a cache may keep it: it caps each TTL,
+//! and leaves out OPT records, which must not be cached (RFC 6891 section 6.1.1).
 //!
 //!     example_rewrite < SECONDS-AND-DIGITS
 //!
