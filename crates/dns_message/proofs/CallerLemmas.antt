@@ -30,6 +30,8 @@ pub use Rattle.dns_section.proofs.theory.RecordsFromLemmas.{records_from_are_rea
 pub use Rattle.dns_section.proofs.theory.ReadingLemmas.{readings_of_questions_end, readings_of_records_end}
 -- A message within its limit stays so when accepted questions are pushed.
 pub use Rattle.dns_build.proofs.theory.Asking.{accepted_within}
+-- The encoding of a state is a message with its items.
+pub use Rattle.dns_build.proofs.theory.EncodingReading.{encodings_are_messages}
 -- What holds of each element of two lists holds of each of their concatenation.
 pub use Rattle.dns_build.proofs.theory.Encodings.{every_append}
 -- A text is appended after another.

@@ -1,13 +1,12 @@
 -- What the contracts of the modules' examples cite.
 use Rattle.std.specs.Prelude.{◌≡◌, ℕ, List, [], ◌∷◌, map, Option, Ok}
 use Rattle.dns_message.specs.Data.{Part, Octets, address_of, Layout, Fixed, End, only}
-use Rattle.dns_message.specs.Headers.{header_size}
+use Rattle.dns_message.specs.Headers.{header_size, fields_in}
 use Rattle.dns_message.specs.declared.data.A.{A}
 use Rattle.dns_message.specs.Questions.{QuestionItem}
 use Rattle.dns_message.specs.Records.{RecordItem}
 use Rattle.dns_message.specs.Sections.{questions_from, question_count}
 use Rattle.dns_message.specs.Builders.{answer_header, readable_questions, fresh, InAnswer, State}
-use Rattle.dns_build.specs.Answers.{header_in}
 
 -- reading the question section of these octets yields exactly these questions, without a fault
 abbrev pub HasQuestions : List ℕ → List QuestionItem → Type 0
@@ -24,7 +23,7 @@ address_parts a = Octets (address_of a) ∷ []
 abbrev pub response_with : List ℕ → RecordItem → State
 response_with query x = record fresh {
   stage = InAnswer;
-  header = answer_header 0 (header_in query) fresh.header;
+  header = answer_header 0 (fields_in query) fresh.header;
   questions = readable_questions query;
   answers = x ∷ [];
 }

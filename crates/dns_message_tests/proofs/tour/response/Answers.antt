@@ -1,7 +1,7 @@
 use Rattle.std.proofs.Common.{◌∙◌, ap, sym, subst}
 use Rattle.dns_message.specs.Targets.{Tree, Written}
 use Rattle.dns_message.specs.Messages.{message_octets}
-use Rattle.dns_build.proofs.theory.EncodingReading.{encodings_are_messages}
+use Rattle.dns_message.proofs.CallerLemmas.{encodings_are_messages}
 use Rattle.dns_message.specs.Builders.{fresh, IsMessageOf}
 use Rattle.dns_message_tests.specs.Tour.{response_with}
 use Rattle.dns_message_tests.proofs.tour.response.Goals as goal
