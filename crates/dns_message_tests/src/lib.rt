@@ -1,4 +1,4 @@
-//! Tests over `dns_message` alone: the examples of the pages, the program `dnsmsg` with expected
+//! Tests over `dns_message` alone: the examples of the pages and modules, the program `dnsmsg` with expected
 //! values from outside this library, lists of calls that end with the same octets, and calls that
 //! allocate.
 //!
@@ -17,6 +17,8 @@ mod histories;
 mod memory;
 #[cfg(test)]
 mod program;
+#[cfg(test)]
+mod ptr;
 #[cfg(test)]
 mod runs;
 #[cfg(test)]
