@@ -1,4 +1,17 @@
 //! Lists of calls on the builders of a message.
+//!
+//! A list of calls on a new builder over a compressor:
+//!
+//! ```rust
+//! let target = HashCompressor::new(alloc, Vec::new(alloc));
+//! let Ok(builder) = MessageBuilder::from_target(target) else {
+//!     return None;
+//! };
+//! match run(alloc, Stage::Builder(builder), calls, &mut Vec::new(alloc)) {
+//!     Ok(stage) => Some(stage),
+//!     Err(_) => None,
+//! }
+//! ```
 ghost use Rattle.std.specs.Prelude.{◌≡◌, ◌+◌, ◌<◌, true, false, length, vec_len, vec_capacity, IfOk, IfErr, OnErr, MatchResult};
 ghost use Rattle.dns_build.specs.State.{InQuestion, InAdditional};
 ghost use Rattle.dns_message.specs.Script.{Steps, StepsFrom, Stays, is_move, is_setting, has_opt, RunsAll, octets_of};

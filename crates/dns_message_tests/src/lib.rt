@@ -1,6 +1,6 @@
-//! Tests over `dns_message` alone: the examples of the pages and modules, the program `dnsmsg` with expected
-//! values from outside this library, lists of calls that end with the same octets, and calls that
-//! allocate.
+//! Tests over `dns_message` alone: the examples of the pages and modules, the program `dnsmsg` with
+//! expected values from outside this library, lists of calls that end with the same octets, and
+//! calls that allocate.
 //!
 //! Nothing is exported.
 #![tactic(auto)]
