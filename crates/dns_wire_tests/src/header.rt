@@ -372,7 +372,8 @@ const NEARLY_FULL: &[NearlyFull] = &[
 #[test]
 fn raises_each_count_to_65535(rt: HostRuntime) {
     for case in NEARLY_FULL {
-        let mut counts = HeaderCounts::for_message_slice(case.message);
+        let message = case.message;
+        let mut counts = HeaderCounts::for_message_slice(message);
         assert_same(&rt, case.name, raise(&mut counts), case.refused);
         assert_same(&rt, case.name, raise(&mut counts), [true; 4]);
         assert_octets(&rt, case.name, counts.as_slice(), &[0xff; 8]);
