@@ -44,7 +44,9 @@ const EXPECTED: &[Expected] = &[
 /// Fails unless the iterator yields these options, and then none.
 fn assert_options(rt: &impl Abort, mut options: OptionIter<'_>) {
     for case in EXPECTED {
-        let (code, octets) = options.next().expect(rt, case.name);
+        let Some((code, octets)) = options.next() else {
+            panic!(rt; "{}: no option", case.name)
+        };
         assert_holds(rt, case.name, code == OptionCode::from_int(case.code));
         assert_octets(rt, case.name, octets, case.octets);
     }
