@@ -4,6 +4,7 @@ ghost use Rattle.dns_message.specs.Names.{IsName, labels};
 ghost use Rattle.dns_message.specs.Targets.{Composes};
 ghost use Rattle.dns_message.specs.Data.{Octets, CompressibleName, encode_parts, DomainName, End, Fixed, ParsesLaidOut, canonical, opaque_layout};
 ghost use Rattle.dns_any_data.specs.AnyLayout.{count_of, names_in, octets_in, any_layout};
+ghost use Rattle.dns_any_data.specs.AnyData.{rtype_of, parts_of, any_laid_out, rtype_of, parts_of};
 
 use dns_message::code::Rtype;
 use dns_message::data::laws::{names_are_bounded, parts_compose};
@@ -59,8 +60,6 @@ fn octets_in(rtype: Rtype) -> usize
 }
 
 impl RecordData for AnyData<'_> {
-    ghost use Rattle.dns_any_data.specs.AnyData.{rtype_of, parts_of};
-
     ghost rtype_of = { rtype_of };
 
     ghost parts = { parts_of };
@@ -171,8 +170,6 @@ fn append_canonical_names<T: Composer>(
 }
 
 impl<'a> ParseAnyRecordData<'a> for AnyData<'a> {
-    ghost use Rattle.dns_any_data.specs.AnyData.{any_laid_out};
-
     ghost any_layout = { any_layout };
 
     fn parse_any_rdata(rtype: Rtype, parser: &mut Parser<'a>) -> Result<Self, ParseError> {
@@ -187,8 +184,6 @@ impl<'a> ParseAnyRecordData<'a> for AnyData<'a> {
 }
 
 impl<'a> AnyData<'a> {
-    ghost use Rattle.dns_any_data.specs.AnyData.{rtype_of, parts_of};
-
     /// Reads RDATA without names that may be compressed, up to the end of the parser.
     fn parse_opaque(rtype: Rtype, parser: &mut Parser<'a>) -> Result<Self, ParseError>
         requires { names_in rtype ≡ 0 }

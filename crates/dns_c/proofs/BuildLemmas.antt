@@ -8,8 +8,8 @@ use Rattle.dns_wire.specs.Encoders.{Rule}
 use Rattle.dns_octets.specs.declared.error.AppendError.{AppendError}
 use Rattle.dns_octets.specs.declared.error.AppendError.TheVariants as appending
 use Rattle.dns_wire.specs.Targets.{AppendReturns, Fits, Exceeds}
+use Rattle.dns_code.specs.Header.{HeaderFields}
 use Rattle.dns_code.specs.HeaderSection.{header_size}
-use Rattle.dns_code.specs.declared.header.Header.{Header}
 use Rattle.dns_question.specs.Questions.{QuestionItem}
 use Rattle.dns_item.specs.Items.{RecordItem}
 use Rattle.dns_section.specs.declared.section.Section.{Section}
@@ -75,14 +75,6 @@ check_refuses items left rest item n is refused h = h.refused n (subst (λ (xs :
 
 pub check_ends : (items left : List NewItem) → left ≡ [] → Checking items left → (xs : List NewEntry) × AllMean items xs
 check_ends items left is h = h.mean [] (subst (λ (xs : List NewItem). AllMean xs []) (sym is) tt)
-
--- the reasons for which a push fails, one by one
-pub refused_returns : (capacity : Option ℕ) (grows : Bool) (limit n count : ℕ) (e : PushError) → (e ≡ pushing.ShortBuf → Exceeds capacity n) → (e ≡ pushing.OutOfMemory → IsTrue grows)
-    → (e ≡ pushing.LimitExceeded → Fits capacity n × (limit < n)) → (e ≡ pushing.CountOverflow → Fits capacity n × (n ≤ limit) × (count ≡ most_entries)) → PushReturns capacity grows limit n count (Err e)
-refused_returns capacity grows limit n count pushing.ShortBuf short memory over full = short refl
-refused_returns capacity grows limit n count pushing.OutOfMemory short memory over full = memory refl
-refused_returns capacity grows limit n count pushing.LimitExceeded short memory over full = over refl
-refused_returns capacity grows limit n count pushing.CountOverflow short memory over full = full refl
 
 -- An invariant of pushing questions: the first questions are pushed, and the rest are those of the remaining items.
 pub record Asking (rule : Rule) (left : List NewItem) (xs : List NewEntry) (s : State) (now : Built) : Type 0 where
@@ -369,15 +361,15 @@ header_otherwise : (grows : Bool) (e : AppendError) → number_of (append_fault 
 header_otherwise grows appending.ShortBuf capacity refused = refused
 header_otherwise grows appending.OutOfMemory capacity refused = omega arith
 
-entry_otherwise : (grows : Bool) (rule : Rule) (header : Header) (xs : List NewEntry) (n : ℕ) → n ≡ number_of NoRoom → RefusesEntry None grows rule header xs n → ⊥
+entry_otherwise : (grows : Bool) (rule : Rule) (header : HeaderFields) (xs : List NewEntry) (n : ℕ) → n ≡ number_of NoRoom → RefusesEntry None grows rule header xs n → ⊥
 entry_otherwise grows rule header xs n capacity (inl h) = returns_otherwise grows _ _ _ h.error (sym h.number ∙ capacity) h.refused
 entry_otherwise grows rule header xs n capacity (inr h) = returns_otherwise grows _ _ _ h.1.error (sym h.1.number ∙ capacity) h.1.refused
 
-made_otherwise : (grows : Bool) (rule : Rule) (header : Header) (xs : List NewEntry) (n : ℕ) → n ≡ number_of NoRoom → RefusesHeader None grows rule n ⊎ RefusesEntry None grows rule header xs n → ⊥
+made_otherwise : (grows : Bool) (rule : Rule) (header : HeaderFields) (xs : List NewEntry) (n : ℕ) → n ≡ number_of NoRoom → RefusesHeader None grows rule n ⊎ RefusesEntry None grows rule header xs n → ⊥
 made_otherwise grows rule header xs n capacity (inl h) = header_otherwise grows h.error (sym h.number ∙ capacity) h.refused
 made_otherwise grows rule header xs n capacity (inr h) = entry_otherwise grows rule header xs n capacity h
 
-pub unbuilt_otherwise : (grows : Bool) (rule : Rule) (header : Header) (items : List NewItem) (n : ℕ) → n ≡ number_of NoRoom → IsUnbuilt None grows rule header items n → ⊥
+pub unbuilt_otherwise : (grows : Bool) (rule : Rule) (header : HeaderFields) (items : List NewItem) (n : ℕ) → n ≡ number_of NoRoom → IsUnbuilt None grows rule header items n → ⊥
 unbuilt_otherwise grows rule header items n capacity (inl h) = first_otherwise n (λ is. omega arith) (λ is. omega arith) (λ is. omega arith) items h
 unbuilt_otherwise grows rule header items n capacity (inr h) = made_otherwise grows rule header h.0 n capacity h.2
 
@@ -401,32 +393,32 @@ module _ (capacity : Option ℕ) (grows : Bool) (rule : Rule) where
       let whole = ap length all in
       omega arith
 
-  questions_full : (header : Header) (xs : List NewEntry) (n : ℕ) → n ≡ number_of TooMany → RefusesQuestion capacity grows rule (questions_among xs) (beginning_of InQuestion header xs) n → most_entries < length (questions_among xs)
+  questions_full : (header : HeaderFields) (xs : List NewEntry) (n : ℕ) → n ≡ number_of TooMany → RefusesQuestion capacity grows rule (questions_among xs) (beginning_of InQuestion header xs) n → most_entries < length (questions_among xs)
   questions_full header xs n many h = more_than _ h.first h.others h.next h.all (returns_full _ _ (length h.first) h.error (sym h.number ∙ many) h.refused)
 
-  records_full : (which : Section) (header : Header) (xs : List NewEntry) (n : ℕ) → n ≡ number_of TooMany
+  records_full : (which : Section) (header : HeaderFields) (xs : List NewEntry) (n : ℕ) → n ≡ number_of TooMany
       → RefusesRecord capacity grows rule (stage_of which) (records_among which xs) (beginning_of (stage_of which) header xs) n → most_entries < length (records_among which xs)
   records_full Answer header xs n many h = more_than _ h.first h.others h.next h.all (returns_full _ _ (length h.first) h.error (sym h.number ∙ many) h.refused)
   records_full Authority header xs n many h = more_than _ h.first h.others h.next h.all (returns_full _ _ (length h.first) h.error (sym h.number ∙ many) h.refused)
   records_full Additional header xs n many h = more_than _ h.first h.others h.next h.all (returns_full _ _ (length h.first) h.error (sym h.number ∙ many) h.refused)
 
-  entry_full : (header : Header) (xs : List NewEntry) (n : ℕ) → n ≡ number_of TooMany → RefusesEntry capacity grows rule header xs n
+  entry_full : (header : HeaderFields) (xs : List NewEntry) (n : ℕ) → n ≡ number_of TooMany → RefusesEntry capacity grows rule header xs n
       → (most_entries < length (questions_among xs)) ⊎ ((which : Section) × (most_entries < length (records_among which xs)))
   entry_full header xs n many (inl h) = inl (questions_full header xs n many h)
   entry_full header xs n many (inr h) = inr (h.0, records_full h.0 header xs n many h.1)
 
-  made_full : (header : Header) (xs : List NewEntry) (n : ℕ) → n ≡ number_of TooMany → RefusesHeader capacity grows rule n ⊎ RefusesEntry capacity grows rule header xs n
+  made_full : (header : HeaderFields) (xs : List NewEntry) (n : ℕ) → n ≡ number_of TooMany → RefusesHeader capacity grows rule n ⊎ RefusesEntry capacity grows rule header xs n
       → (most_entries < length (questions_among xs)) ⊎ ((which : Section) × (most_entries < length (records_among which xs)))
   made_full header xs n many (inl h) = absurd (header_others h.error (sym h.number ∙ many))
   made_full header xs n many (inr h) = entry_full header xs n many h
 
-  pub unbuilt_full : (header : Header) (items : List NewItem) (n : ℕ) → n ≡ number_of TooMany → IsUnbuilt capacity grows rule header items n → HasTooMany items
+  pub unbuilt_full : (header : HeaderFields) (items : List NewItem) (n : ℕ) → n ≡ number_of TooMany → IsUnbuilt capacity grows rule header items n → HasTooMany items
   unbuilt_full header items n many (inl h) = absurd (first_otherwise n (λ is. omega arith) (λ is. omega arith) (λ is. omega arith) items h)
   unbuilt_full header items n many (inr h) = (h.0, h.1, made_full header h.0 n many h.2)
 
 -- All items are entries, and writing them fails.
 
-module _ (capacity : Option ℕ) (grows : Bool) (rule : Rule) (header : Header) (items : List NewItem) (xs : List NewEntry) (mean : AllMean items xs) where
+module _ (capacity : Option ℕ) (grows : Bool) (rule : Rule) (header : HeaderFields) (items : List NewItem) (xs : List NewEntry) (mean : AllMean items xs) where
   -- at the header section
   header_refused : {X : Type 0} (r : Result X AppendError) (e : AppendError) → r ≡ Err e → AppendReturns capacity grows header_size r → AppendReturns {X = Unit {0}} capacity grows header_size (Err e)
   header_refused {X} r appending.ShortBuf is answer = subst (λ (q : Result X AppendError). AppendReturns capacity grows header_size q) is answer
@@ -436,14 +428,14 @@ module _ (capacity : Option ℕ) (grows : Bool) (rule : Rule) (header : Header) 
   unbuilt_header r e is answer = inr (xs, mean, inl (record { error = e; refused = header_refused r e is answer; number = refl }))
 
   -- at a question
-  pub unbuilt_question : (own : Header) (n : ℕ) → own ≡ header → RefusesQuestion capacity grows rule (questions_among xs) (beginning_of InQuestion own xs) n → IsUnbuilt capacity grows rule header items n
-  unbuilt_question own n is refuses = inr (xs, mean, inr (inl (subst (λ (h : Header). RefusesQuestion capacity grows rule (questions_among xs) (beginning_of InQuestion h xs) n) is refuses)))
+  pub unbuilt_question : (own : HeaderFields) (n : ℕ) → own ≡ header → RefusesQuestion capacity grows rule (questions_among xs) (beginning_of InQuestion own xs) n → IsUnbuilt capacity grows rule header items n
+  unbuilt_question own n is refuses = inr (xs, mean, inr (inl (subst (λ (h : HeaderFields). RefusesQuestion capacity grows rule (questions_among xs) (beginning_of InQuestion h xs) n) is refuses)))
 
   -- at a record
-  pub unbuilt_record : (which : Section) (own : Header) (n : ℕ) → own ≡ header → RefusesRecord capacity grows rule (stage_of which) (records_among which xs) (beginning_of (stage_of which) own xs) n
+  pub unbuilt_record : (which : Section) (own : HeaderFields) (n : ℕ) → own ≡ header → RefusesRecord capacity grows rule (stage_of which) (records_among which xs) (beginning_of (stage_of which) own xs) n
       → IsUnbuilt capacity grows rule header items n
   unbuilt_record which own n is refuses =
-      inr (xs, mean, inr (inr (which, subst (λ (h : Header). RefusesRecord capacity grows rule (stage_of which) (records_among which xs) (beginning_of (stage_of which) h xs) n) is refuses)))
+      inr (xs, mean, inr (inr (which, subst (λ (h : HeaderFields). RefusesRecord capacity grows rule (stage_of which) (records_among which xs) (beginning_of (stage_of which) h xs) n) is refuses)))
 
 -- the number of a section plus one is the depth of its stage
 pub at_depth : (stage : Stage) (which : Section) (depth m n : ℕ) → stage ≡ stage_of which → depth ≡ depth_of stage → m + 1 ≡ depth → m ≡ n → n + 1 ≡ depth_of (stage_of which)

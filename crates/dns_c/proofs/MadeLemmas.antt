@@ -1,19 +1,19 @@
 -- Queries and responses: how long they are, and that building them never fails.
 use Rattle.std.proofs.Common.{◌≡◌, ◌∙◌, ℕ, ◌+◌, ◌<◌, ◌≤◌, Some, None, true, false, Bool, List, [], ◌∷◌, ◌++◌, length, length-append, ap, sym, subst, refl, arith}
-use Rattle.std.specs.Prelude.{Option, IsTrue}
+use Rattle.std.specs.Prelude.{Option, Err, IsTrue}
 use Rattle.std.specs.FinMap.{get, len, get-empty, len-empty}
 use Rattle.dns_wire.proofs.theory.CompressionTables.{get-insert_same}
 use Rattle.dns_name.specs.Names.{Labels, IsName, framed}
 use Rattle.dns_name.proofs.theory.LabelsLemmas.{length-uncompressed}
 use Rattle.dns_wire.specs.Parts.{Part, Octets, encode_parts}
 use Rattle.dns_wire.specs.Encoders.{CompressionTable, Rule, Static, TableEntry, nothing, encode_name, Suffix, add_suffixes, CompressedName, compress, compress_label, may_enter, suffix_cmp}
-use Rattle.dns_wire.specs.Targets.{Fits, Exceeds}
 use Rattle.dns_wire.proofs.theory.NameSizes.{names_are_short}
-use Rattle.dns_code.specs.Header.{header_octets}
-use Rattle.dns_code.specs.declared.header.Header.{Header}
+use Rattle.dns_code.specs.Header.{HeaderFields, octets_of_fields}
+use Rattle.dns_code.proofs.theory.HeaderOctets.{length-octets_of_fields}
 use Rattle.dns_question.specs.Questions.{QuestionItem, encode_question}
 use Rattle.dns_item.specs.Items.{RecordItem, encode_record}
 use Rattle.dns_build.specs.State.{State, IsState, encode, no_limit, most_entries}
+use Rattle.dns_build.specs.BuilderStates.{PushReturns}
 use Rattle.dns_build.specs.MessageOf.{IsMessageOf}
 use Rattle.dns_build.specs.declared.push_error.PushError.{PushError}
 use Rattle.dns_build.specs.declared.push_error.PushError.TheVariants as pushing
@@ -28,12 +28,11 @@ is_message rule s octets state encoded = subst (IsMessageOf rule s) (sym encoded
 -- No push fails if the message fits.
 
 -- an item is pushed if the message has at most 512 octets, no limit, and a count that isn't full
-pub never_refused : (e : PushError) (n limit count : ℕ) → n ≤ 512 → limit ≡ no_limit → count < most_entries → (e ≡ pushing.ShortBuf → Exceeds (Some 512) n)
-    → (e ≡ pushing.OutOfMemory → IsTrue false) → (e ≡ pushing.LimitExceeded → Fits (Some 512) n × (limit < n)) → (e ≡ pushing.CountOverflow → Fits (Some 512) n × (n ≤ limit) × (count ≡ most_entries)) → ⊥
-never_refused pushing.ShortBuf n limit count small none few short memory over full = let h : 512 < n = short refl in omega arith
-never_refused pushing.OutOfMemory n limit count small none few short memory over full = let grows = memory refl in cc
-never_refused pushing.LimitExceeded n limit count small none few short memory over full = let h : limit < n = (over refl).1 in omega arith
-never_refused pushing.CountOverflow n limit count small none few short memory over full = let h : count ≡ most_entries = (full refl).2 in omega arith
+pub never_refused : (e : PushError) (n limit count : ℕ) → n ≤ 512 → limit ≡ no_limit → count < most_entries → PushReturns (Some 512) false limit n count (Err e) → ⊥
+never_refused pushing.ShortBuf n limit count small none few h = omega arith
+never_refused pushing.OutOfMemory n limit count small none few h = let grows : IsTrue false = h in cc
+never_refused pushing.LimitExceeded n limit count small none few h = let over = h.1 in omega arith
+never_refused pushing.CountOverflow n limit count small none few h = let full = h.2 in omega arith
 
 -- How long they are.
 
@@ -41,10 +40,11 @@ name_short : (rule : Rule) (name : Labels) (m : CompressionTable) (w : ℕ) → 
 name_short rule name m w is = let short = is.short in omega (arith, names_are_short rule name m w, length-uncompressed name)
 
 -- a header section and a question
-pub asked_short : (rule : Rule) (header : Header) (x : QuestionItem) → length (header_octets header) ≡ 4 → IsName x.name → length (encode rule (asking header x)).octets ≤ 512
+pub asked_short : (rule : Rule) (header : HeaderFields) (x : QuestionItem) → IsName x.name → length (encode rule (asking header x)).octets ≤ 512
 unfolding encode encode_question
-asked_short rule header x four is =
-    let name = name_short rule x.name nothing (length (header_octets header) + 8) is in
+asked_short rule header x is =
+    let four = length-octets_of_fields header in
+    let name = name_short rule x.name nothing (length (octets_of_fields header) + 8) is in
     simp length-append (omega (arith, name, four))
 
 -- if a name isn't in the table and may enter it, its first label is written before its parent
@@ -83,11 +83,12 @@ again_short : (name : Labels) (w v : ℕ) → w ≡ 12 → length (encode_name S
 again_short name w v first = subst (λ k. length (encode_name Static name (encode_name Static name nothing k).table v).octets ≤ 2) (sym first) (again_at name v)
 
 -- a message with a question and an A record
-pub answered_short : (header : Header) (x : QuestionItem) (ttl : ℕ) (address : List ℕ) → length (header_octets header) ≡ 4 → length address ≡ 4 → IsName x.name
+pub answered_short : (header : HeaderFields) (x : QuestionItem) (ttl : ℕ) (address : List ℕ) → length address ≡ 4 → IsName x.name
     → length (encode Static (answering header x (address_record x ttl address))).octets ≤ 512
 unfolding encode encode_question encode_record encode_parts
-answered_short header x ttl address four quad is =
-    let w = length (header_octets header) + 8 in
+answered_short header x ttl address quad is =
+    let four = length-octets_of_fields header in
+    let w = length (octets_of_fields header) + 8 in
     let name = name_short Static x.name nothing w is in
     let again = again_short x.name w (w + (length (encode_name Static x.name nothing w).octets + 4)) (omega (arith, four)) in
     simp length-append (omega (arith, name, again, four, quad))

@@ -8,8 +8,8 @@ use Rattle.dns_name.specs.NameTexts.{SpellsName}
 use Rattle.dns_wire.specs.Parts.{Octets}
 use Rattle.dns_wire.specs.Encoders.{Rule}
 use Rattle.dns_wire.specs.Targets.{AppendReturns}
+use Rattle.dns_code.specs.Header.{HeaderFields, fields_in}
 use Rattle.dns_code.specs.HeaderSection.{header_size}
-use Rattle.dns_code.specs.declared.header.Header.{Header}
 use Rattle.dns_question.specs.Questions.{QuestionItem}
 use Rattle.dns_item.specs.Items.{RecordItem}
 use Rattle.dns_section.specs.declared.section.Section.{Section}
@@ -79,12 +79,12 @@ questions_among xs = filter_map as_question xs
 abbrev pub records_among : Section → List NewEntry → List RecordItem
 records_among which xs = filter_map (as_record which) xs
 
--- the header with this ID, whose third and fourth octets are `flags`
-abbrev pub header_of : ℕ → ℕ → Header
-header_of id flags = record { octets = to_be_bytes w16 id ++ to_be_bytes w16 flags }
+-- the fields of the header with this ID, whose third and fourth octets are `flags`
+abbrev pub header_of : ℕ → ℕ → HeaderFields
+header_of id flags = fields_in (to_be_bytes w16 id ++ to_be_bytes w16 flags)
 
 -- the state of a builder with this header and these entries, each in its section, in order
-abbrev pub holding : Header → List NewEntry → State
+abbrev pub holding : HeaderFields → List NewEntry → State
 holding header xs = record fresh {
   stage = InAdditional;
   header = header;
@@ -121,7 +121,7 @@ FirstRefused [] n = ⊥
 FirstRefused (item ∷ items) n = IsRefused item n ⊎ (((x : NewEntry) × Means item x) × FirstRefused items n)
 
 -- the state at which a stage begins: the header, and the entries of the sections before it
-abbrev pub beginning_of : Stage → Header → List NewEntry → State
+abbrev pub beginning_of : Stage → HeaderFields → List NewEntry → State
 beginning_of stage header xs = rewound stage (move_to stage (holding header xs))
 
 -- what pushing a record onto a state returns
@@ -157,13 +157,13 @@ module _ (capacity : Option ℕ) (grows : Bool) (rule : Rule) where
     pub number : n ≡ number_of (push_fault error)
 
   -- pushing an entry fails, after the header and the entries before it. RFC 1035 section 4.1
-  abbrev pub RefusesEntry : Header → List NewEntry → ℕ → Type 0
+  abbrev pub RefusesEntry : HeaderFields → List NewEntry → ℕ → Type 0
   RefusesEntry header xs n =
       RefusesQuestion (questions_among xs) (beginning_of InQuestion header xs) n
       ⊎ ((which : Section) × RefusesRecord (stage_of which) (records_among which xs) (beginning_of (stage_of which) header xs) n)
 
   -- No message is built from the items: one of them is no entry; or all are, and the target refuses the header section or an entry.
-  abbrev pub IsUnbuilt : Header → List NewItem → ℕ → Type 0
+  abbrev pub IsUnbuilt : HeaderFields → List NewItem → ℕ → Type 0
   IsUnbuilt header items n = FirstRefused items n ⊎ ((xs : List NewEntry) × AllMean items xs × (RefusesHeader n ⊎ RefusesEntry header xs n))
 
 -- all items are entries, and a section has more of them than its 16-bit count can hold. RFC 1035 section 4.1.1

@@ -4,9 +4,8 @@ use Rattle.dns_name.specs.Names.{Fault, FaultAt, Labels}
 use Rattle.dns_name.specs.NameTexts.{SpellsName}
 use Rattle.dns_wire.specs.Parts.{Octets}
 use Rattle.dns_wire.specs.Encoders.{Plain, Static}
-use Rattle.dns_code.specs.Header.{fields, fields_in}
+use Rattle.dns_code.specs.Header.{HeaderFields, fields_in}
 use Rattle.dns_code.specs.HeaderSection.{header_size}
-use Rattle.dns_code.specs.declared.header.Header.{Header}
 use Rattle.dns_question.specs.Questions.{QuestionItem, ReadsQuestion, QuestionFaultAt}
 use Rattle.dns_item.specs.Items.{RecordItem}
 use Rattle.dns_section.specs.Sections.{question_count}
@@ -30,24 +29,26 @@ abbrev pub IsLonger : (List ℕ → Type 0) → ℕ → Type 0
 IsLonger P capacity = (octets : List ℕ) × P octets × (capacity < length octets)
 
 -- the state with a header and one question
-abbrev pub asking : Header → QuestionItem → State
+abbrev pub asking : HeaderFields → QuestionItem → State
 asking header x = record fresh { stage = InQuestion; header = header; questions = x ∷ [] }
 
 -- the state with one record in the answer section too
-abbrev pub answering : Header → QuestionItem → RecordItem → State
+abbrev pub answering : HeaderFields → QuestionItem → RecordItem → State
 answering header x answer = record (asking header x) { stage = InAnswer; answers = answer ∷ [] }
 
 -- the A record that answers a question, with its name and class. RFC 1035 section 3.4.1
 abbrev pub address_record : QuestionItem → ℕ → List ℕ → RecordItem
 address_record x ttl address = record { owner = x.name; rtype = 1; class = x.class; ttl = ttl; parts = Octets address ∷ [] }
 
--- The octets of a query: a header with this ID and RD and no other bit set, and one question for the name that the text spells.
+-- the header of a query: this ID and RD, and no other bit set
+abbrev pub query_header : ℕ → Bool → HeaderFields
+query_header id rd = record (fields_in (replicate 4 0)) { id = id; rd = rd }
+
+-- The octets of a query: its header, and one question for the name that the text spells.
 pub record IsQuery (id : ℕ) (rd : Bool) (text : List ℕ) (qtype qclass : ℕ) (octets : List ℕ) : Type 0 where
-  pub header : Header
   pub name : Labels
-  pub fields : fields header ≡ record (fields_in (replicate 4 0)) { id = id; rd = rd }
   pub spelled : SpellsName text name
-  pub message : IsMessageOf Plain (asking header (record { name = name; rtype = qtype; class = qclass })) octets
+  pub message : IsMessageOf Plain (asking (query_header id rd) (record { name = name; rtype = qtype; class = qclass })) octets
 
 -- the octets have a header section, and it is a query's: QR isn't set. RFC 1035 section 4.1.1
 pub record HoldsQuery (b : List ℕ) : Type 0 where
@@ -83,10 +84,12 @@ AsksNothing b n =
     ⊎ (((x : QuestionItem) × AsksOne b x × (x.class ≢ 1)) × (n ≡ number_of faults.OtherClass))
     ⊎ (((x : QuestionItem) × AsksOne b x × (x.class ≡ 1) × (x.rtype ≢ 1) × (x.rtype ≢ 255)) × (n ≡ number_of faults.OtherType))
 
--- The octets of the response to a query: its ID, opcode, RD and CD, QR, AA as given, and no other bit; its question; and the A record. RFC 1035 section 4.1.1.
+-- the header of the response to a query with the header `asked`: its ID, opcode, RD and CD, QR, AA as given, and no other bit. RFC 1035 section 4.1.1
+abbrev pub response_header : HeaderFields → Bool → HeaderFields
+response_header asked aa = record asked { qr = true; aa = aa; tc = false; ra = false; z = false; ad = false; rcode = 0 }
+
+-- The octets of the response to a query: its header, the query's question, and the A record.
 pub record IsResponse (query : List ℕ) (aa : Bool) (ttl : ℕ) (address octets : List ℕ) : Type 0 where
-  pub header : Header
   pub asked : QuestionItem
   pub asks : Asks query asked
-  pub fields : fields header ≡ record (fields_in (take 4 query)) { qr = true; aa = aa; tc = false; ra = false; z = false; ad = false; rcode = 0 }
-  pub message : IsMessageOf Static (answering header asked (address_record asked ttl address)) octets
+  pub message : IsMessageOf Static (answering (response_header (fields_in (take 4 query)) aa) asked (address_record asked ttl address)) octets

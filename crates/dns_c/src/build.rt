@@ -5,6 +5,7 @@ ghost use Rattle.dns_wire.specs.Parts.{Octets};
 ghost use Rattle.dns_wire.specs.Encoders.{Tree};
 ghost use Rattle.dns_data.specs.UnknownData.{unknown_rtype_of, unknown_octets};
 ghost use Rattle.dns_build.specs.State.{InQuestion, with_questions, with_records};
+ghost use Rattle.dns_code.specs.Header.{fields};
 ghost use Rattle.dns_build.specs.BuilderStates.{InEach, MovesState};
 ghost use Rattle.dns_c.specs.Codes.{number_of};
 ghost use Rattle.dns_c.specs.Made.{SpellsNoName};
@@ -159,7 +160,7 @@ fn push_records<T: Composer, S: RecordStage>(
 
 /// The header with this ID, whose third and fourth octets are `flags`.
 fn header_of(id: u16, flags: u16) -> Header
-    ensures { result ≡ header_of id flags }
+    ensures { fields result ≡ header_of id flags }
 {
     let [a, b] = id.to_be_bytes();
     let [c, d] = flags.to_be_bytes();

@@ -8,7 +8,6 @@ use dns_item::{ParsedRecord, Question, Record, RecordHeader, Ttl};
 use dns_read::{RecordSection, Section};
 use dns_wire::{Name, ParseError, ParsedName, ToName};
 use std::fmt::Debug;
-use std::process::Abort;
 
 /// RDATA as opaque octets.
 pub(crate) type Opaque<'a> = UnknownRecordData<&'a [u8]>;

@@ -4,6 +4,10 @@
 pub use Rattle.dns_name.proofs.theory.LabelsLemmas.{length-uncompressed}
 -- `names_equal` is true exactly if the lowercased labels are the same.
 pub use Rattle.dns_name.specs.NameOrders.{names_equal-Decides}
+-- A header has four octets.
+pub use Rattle.dns_code.proofs.theory.HeaderOctets.{length-octets_of_fields}
+-- The fields of a header are in the first four octets.
+pub use Rattle.dns_code.proofs.theory.HeaderOctets.{fields_in-take}
 -- A name is encoded in at most as many octets as it takes uncompressed.
 pub use Rattle.dns_wire.proofs.theory.NameSizes.{names_are_short}
 -- So are the parts of RDATA.

@@ -5,35 +5,22 @@ use Rattle.std.proofs.lemmas.List.Elements.{All-nil, All-cons}
 use Rattle.std.specs.Iterator.{YieldsFirstBy}
 use Rattle.std.specs.Option.{option_map_or}
 use Rattle.std.specs.Prelude.{map, IfErr, OnOk, OnErr, IsOk, IsSome, IsOkAnd, IsSomeAnd, Option, Some, None, Result, Ok, Err}
-use Rattle.dns_octets.specs.declared.error.ParseError.{ParseError}
-use Rattle.dns_name.specs.Names.{Fault, Labels, fault_of}
-use Rattle.dns_name.specs.ParsedName.{labels}
-use Rattle.dns_name.specs.declared.parsed_name.ParsedName.{ParsedName}
-use Rattle.dns_wire.specs.Parts.{Part, Octets, CompressibleName}
-use Rattle.dns_wire.specs.Encoders.{Rule}
-use Rattle.dns_data.specs.Layout.{Layout, DomainName, Fixed, End}
-use Rattle.dns_data.specs.RecordData.{only}
-use Rattle.dns_item.specs.Items.{RecordItem}
-use Rattle.dns_item.specs.ParsedRecord.{encoded_record}
-use Rattle.dns_item.specs.declared.parsed_record.ParsedRecord.{ParsedRecord}
-use Rattle.dns_item.specs.Record.{record_item}
-use Rattle.dns_item.specs.TypedRecords.{typed_result}
-use Rattle.dns_item.specs.declared.record.Record.{Record}
-use Rattle.dns_section.specs.Limited.{limited}
-use Rattle.dns_section.specs.Readings.{StartOrFault}
-use Rattle.dns_section.specs.RecordSection.{BeginsSection, position, records_left, record_result}
-use Rattle.dns_section.specs.RecordsFrom.{records_in}
-use Rattle.dns_section.specs.Sections.{AnswersStart, AnswersFault, answer_count}
-use Rattle.dns_section.specs.declared.record_iter.RecordIter.{RecordIter}
-use Rattle.dns_section.specs.declared.record_section.RecordSection.{RecordSection}
-use Rattle.dns_section.specs.declared.section.Section.TheVariants.{Answer}
-use Rattle.dns_read.specs.SectionStarts.{records_of, StartsAreFound}
-use Rattle.dns_build.specs.KnownByState.{RewindsLeaveNothing}
-use Rattle.dns_build.specs.MessageOf.{ReadsBack}
-use Rattle.dns_build.specs.BuilderStates.{Built, MovesState, Represents, fresh}
-use Rattle.dns_build.specs.State.{State, InAnswer, move_to, rewound, up_to, with_record, with_records}
-use Rattle.dns_build.specs.declared.push_error.PushError.{PushError}
-use Rattle.dns_build.specs.TypedReading.{AllEncodedAs, IsLaidOutBy, PushedRecordsAreEncoded, EncodedAs, taken, TypedRecordsReadBack}
+use Rattle.dns_message.specs.declared.wire.ParseError.{ParseError}
+use Rattle.dns_message.specs.Names.{Fault, Labels, fault_of, labels}
+use Rattle.dns_message.specs.declared.name.ParsedName.{ParsedName}
+use Rattle.dns_message.specs.Data.{Part, Octets, CompressibleName, Layout, DomainName, Fixed, End, only}
+use Rattle.dns_message.specs.Targets.{Rule}
+use Rattle.dns_message.specs.Records.{RecordItem, encoded_record, record_item, typed_result}
+use Rattle.dns_message.specs.declared.record.ParsedRecord.{ParsedRecord}
+use Rattle.dns_message.specs.declared.record.Record.{Record}
+use Rattle.dns_message.specs.Sections.{limited, StartOrFault, records_in, AnswersStart, AnswersFault, answer_count}
+use Rattle.dns_message.specs.Sections.RecordSection.{BeginsSection, position, records_left, record_result}
+use Rattle.dns_message.specs.declared.message.RecordIter.{RecordIter}
+use Rattle.dns_message.specs.declared.message.RecordSection.{RecordSection}
+use Rattle.dns_message.specs.declared.message.Section.TheVariants.{Answer}
+use Rattle.dns_message.specs.Messages.{records_of, StartsAreFound}
+use Rattle.dns_message.specs.Builders.{RewindsLeaveNothing, ReadsBack, Built, MovesState, Represents, fresh, State, InAnswer, move_to, rewound, up_to, with_record, with_records, AllEncodedAs, IsLaidOutBy, PushedRecordsAreEncoded, EncodedAs, taken, TypedRecordsReadBack}
+use Rattle.dns_message.specs.declared.builder.PushError.{PushError}
 use Rattle.dns_message_tests.specs.Typed.{HasOneAnswer, WasPushedFirst, server_record, address_record}
 
 -- an answer section that has a start can be opened

@@ -1,27 +1,18 @@
 -- What the contracts of the proved callers cite.
 use Rattle.std.specs.Prelude.{◌≡◌, ◌≤◌, ◌+◌, ◌*◌, ℕ, List, length, map, Option, Some, None, Result, Ok, Err}
 use Rattle.std.specs.List.{filter_map}
-use Rattle.dns_octets.specs.declared.error.AppendError.{AppendError}
-use Rattle.dns_name.specs.Names.{Fault}
-use Rattle.dns_name.specs.declared.parsed_name.ParsedName.{ParsedName}
-use Rattle.dns_wire.specs.Parts.{Part}
-use Rattle.dns_data.specs.Layout.{Layout}
-use Rattle.dns_opt_builder.specs.Gathered.{Gathered}
-use Rattle.dns_opt_builder.specs.declared.builder.OptBuilder.{OptBuilder}
-use Rattle.dns_item.specs.Items.{RecordEntry, ReadsRecord, RecordItem}
-use Rattle.dns_item.specs.RecordReading.{GivesTaken}
-use Rattle.dns_item.specs.declared.record.Record.{Record}
-use Rattle.dns_section.specs.Limited.{limited}
-use Rattle.dns_section.specs.RecordsFrom.{records_in}
-use Rattle.dns_section.specs.Sections.{AnswersStart, answer_count}
-use Rattle.dns_section.specs.declared.section.Section.{Section}
-use Rattle.dns_read.specs.MessageIter.{Item}
-use Rattle.dns_read.specs.OptSearches.{opt_of, opt_rcode_of}
-use Rattle.dns_build.specs.Opt.{Gathers}
-use Rattle.dns_build.specs.OptReading.{said}
-use Rattle.dns_build.specs.BuilderStates.{fresh}
-use Rattle.dns_build.specs.MessageOf.{ReadsBack, PointsToLabels, IsShortestOf}
-use Rattle.dns_build.specs.State.{State}
+use Rattle.dns_message.specs.declared.wire.AppendError.{AppendError}
+use Rattle.dns_message.specs.Names.{Fault}
+use Rattle.dns_message.specs.declared.name.ParsedName.{ParsedName}
+use Rattle.dns_message.specs.Data.{Part, Layout}
+use Rattle.dns_message.specs.Builders.{Gathered, Gathers, said, fresh, ReadsBack, PointsToLabels, IsShortestOf, State}
+use Rattle.dns_message.specs.declared.builder.OptBuilder.{OptBuilder}
+use Rattle.dns_message.specs.Records.{RecordEntry, ReadsRecord, RecordItem, GivesTaken}
+use Rattle.dns_message.specs.declared.record.Record.{Record}
+use Rattle.dns_message.specs.Sections.{limited, records_in, AnswersStart, answer_count}
+use Rattle.dns_message.specs.declared.message.Section.{Section}
+use Rattle.dns_message.specs.Messages.MessageIter.{Item}
+use Rattle.dns_message.specs.Messages.{opt_of, opt_rcode_of}
 
 -- The octets read back as a state's header and items. Each pointer of a name leads to an earlier label, and in at most 16,384 octets no compression of the names is shorter.
 pub record IsShortMessage (s : State) (b : List ℕ) : Type 0 where

@@ -1,16 +1,12 @@
 -- What the contracts of the proved callers that read by data types cite.
 use Rattle.std.specs.Prelude.{◌≡◌, ℕ, List, [], ◌∷◌, Option, Ok}
-use Rattle.dns_name.specs.Names.{Labels}
-use Rattle.dns_wire.specs.Parts.{Octets, CompressibleName}
-use Rattle.dns_data.specs.Layout.{Layout}
-use Rattle.dns_item.specs.Items.{RecordItem}
-use Rattle.dns_read.specs.SectionStarts.{records_of}
-use Rattle.dns_section.specs.Limited.{limited}
-use Rattle.dns_section.specs.Sections.{AnswersStart}
-use Rattle.dns_section.specs.declared.section.Section.TheVariants.{Answer}
-use Rattle.dns_build.specs.MessageOf.{ReadsBack}
-use Rattle.dns_build.specs.State.{State}
-use Rattle.dns_build.specs.TypedReading.{IsTakenBy}
+use Rattle.dns_message.specs.Names.{Labels}
+use Rattle.dns_message.specs.Data.{Octets, CompressibleName, Layout}
+use Rattle.dns_message.specs.Records.{RecordItem}
+use Rattle.dns_message.specs.Messages.{records_of}
+use Rattle.dns_message.specs.Sections.{limited, AnswersStart}
+use Rattle.dns_message.specs.declared.message.Section.TheVariants.{Answer}
+use Rattle.dns_message.specs.Builders.{ReadsBack, State, IsTakenBy}
 
 -- the answer section has a start, and reading it with a data type yields this record and nothing else, without a fault
 pub record HasOneAnswer (layouts : ℕ → Option Layout) (b : List ℕ) (x : RecordItem) : Type 0 where

@@ -1,22 +1,20 @@
 //! Proved callers: the examples of the pages that say how the crates are called.
 ghost use Rattle.std.specs.Prelude.{◌≡◌, ◌≤◌, ◌↔◌, List, length, map, max, min, true, IfOk, IfSome, IsSome, IsTrue};
 ghost use Rattle.std.specs.Fn.{FnOnceReturnsAtMut};
-ghost use Rattle.dns_code.specs.Header.{fields};
-ghost use Rattle.dns_data.specs.Layout.{End, Fixed};
-ghost use Rattle.dns_data.specs.RecordData.{only};
-ghost use Rattle.dns_item.specs.Ttl.{cap_seconds};
-ghost use Rattle.dns_build.specs.BuilderStates.{fresh};
-ghost use Rattle.dns_script.specs.Script.{after_all, octets_of};
-ghost use Rattle.dns_script.specs.declared.script.Reply.{Reply};
-ghost use Rattle.dns_read.specs.Message.{message_octets};
-ghost use Rattle.dns_read.specs.MessageIter.{message_items};
-ghost use Rattle.dns_read.specs.RecordSearches.{HasAnswer};
-ghost use Rattle.dns_section.specs.RecordIter.{typed_left};
-ghost use Rattle.dns_section.specs.Sections.{AnswersStart};
+ghost use Rattle.dns_message.specs.Headers.{fields};
+ghost use Rattle.dns_message.specs.Data.{End, Fixed, only};
+ghost use Rattle.dns_message.specs.Records.{cap_seconds};
+ghost use Rattle.dns_message.specs.Builders.{fresh};
+ghost use Rattle.dns_message.specs.Script.{after_all, octets_of};
+ghost use Rattle.dns_message.specs.declared.script.Reply.{Reply};
+ghost use Rattle.dns_message.specs.Messages.{message_octets, HasAnswer};
+ghost use Rattle.dns_message.specs.Messages.MessageIter.{message_items};
+ghost use Rattle.dns_message.specs.Sections.RecordIter.{typed_left};
+ghost use Rattle.dns_message.specs.Sections.{AnswersStart};
 ghost use Rattle.dns_message_tests.specs.Callers.{IsShortMessage, EncodedFirst, AreAnswers, data_among, sections_among, SaysWhatIsGathered};
 
 use crate::asserts::{assert_holds, assert_octets};
-use dns_message::builder::laws::{opts_read_back, rcode_is_set};
+use dns_message::builder::laws::opts_read_back;
 use dns_message::builder::{MessageBuilder, OptBuilder, PushError};
 use dns_message::code::{OptRcode, OptionCode, Rtype};
 use dns_message::data::{A, ParseRecordData, UnknownRecordData};
@@ -254,7 +252,6 @@ fn opt_message<F: FnOnce(&mut OptBuilder) -> Result<(), AppendError>>(
     let mut builder = MessageBuilder::new_vec(alloc)?.additional();
     builder.opt(alloc, gather)?;
     opts_read_back();
-    rcode_is_set();
     Ok(builder.into_message())
 }
 

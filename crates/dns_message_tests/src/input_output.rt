@@ -1,7 +1,7 @@
 //! Input that comes in parts or fails, and output that fails. The program `dnsmsg` then exits with
 //! status 3, and prints that it failed if it can.
 use crate::asserts::assert_holds;
-use crate::runs::{Run, prints, run};
+use crate::runs::{Run, prints, status_of};
 use std::alloc::Global;
 use std::io;
 use std::io::{ErrorKind, Read, Write};
@@ -125,7 +125,7 @@ fn is_cut(
         from,
         to,
     };
-    let ended = run(alloc, case.words, case.input, &mut writer)?;
+    let ended = status_of(alloc, case.words, case.input, &mut writer)?;
     let printed = case.printed.as_bytes();
     let before = &printed[..from.min(printed.len())];
     Ok(writer.taken.strip_suffix(after) == Some(before) && ended == status)

@@ -1,6 +1,6 @@
 //! The program `dnsmsg`: what it prints, and its exit status.
 use crate::asserts::assert_holds;
-use crate::runs::{Run, prints, run};
+use crate::runs::{Run, prints, status_of};
 use std::alloc::Global;
 use std::process::Abort;
 use std::str;
@@ -815,7 +815,7 @@ fn script_of(alloc: Global, long: &Long) -> Result<String, Fail> {
 fn is_printed(alloc: Global, long: &Long) -> Result<bool, Fail> {
     let script = script_of(alloc, long)?;
     let mut output = Vec::new(alloc);
-    let status = run(alloc, "build fixed", script.as_bytes(), &mut output)?;
+    let status = status_of(alloc, "build fixed", script.as_bytes(), &mut output)?;
     let line = str::from_utf8(&output)?.lines().nth(long.offset);
     Ok(status == long.status && line == Some(long.line))
 }

@@ -24,8 +24,8 @@ fn words_of(alloc: Global, words: &str) -> Result<Vec<String>, Fail> {
     Ok(strings)
 }
 
-/// Runs `dnsmsg` with these arguments. Returns its exit status.
-pub(crate) fn run<R: Read + Drop, W: Write + Drop>(
+/// Runs `dnsmsg` with these arguments. Returns the exit status.
+pub(crate) fn status_of<R: Read + Drop, W: Write + Drop>(
     alloc: Global,
     words: &str,
     reader: R,
@@ -43,6 +43,6 @@ pub(crate) fn prints<R: Read + Drop>(
     status: u8,
 ) -> Result<bool, Fail> {
     let mut output = Vec::new(alloc);
-    let ended = run(alloc, words, reader, &mut output)?;
+    let ended = status_of(alloc, words, reader, &mut output)?;
     Ok(output.as_slice() == printed && ended == status)
 }

@@ -1,7 +1,7 @@
 //! Histories: ten lists of calls, from each stage and over each target, after which the builder has
 //! the same items. The octets are the same.
 ghost use Rattle.std.specs.Prelude.{◌≡◌};
-ghost use Rattle.dns_wire.specs.Encoders.Rule.{Plain};
+ghost use Rattle.dns_message.specs.Targets.{Plain};
 
 use arrayvec::ArrayVec;
 use dns_message::builder::{MessageBuilder, PushError};

@@ -1,7 +1,7 @@
 //! The examples of README.md.
 ghost use Rattle.std.specs.Prelude.{◌≡◌, ◌↔◌, IsTrue, IfOk, ◌∷◌, []};
-ghost use Rattle.dns_name.specs.Names.{Labels, lowered, NameAt};
-ghost use Rattle.dns_read.specs.Message.{message_octets};
+ghost use Rattle.dns_message.specs.Names.{Labels, lowered, NameAt};
+ghost use Rattle.dns_message.specs.Messages.{message_octets};
 ghost use Rattle.dns_message_tests.specs.Tour.{HasQuestions};
 
 use crate::asserts::assert_holds;

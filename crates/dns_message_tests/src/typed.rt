@@ -1,13 +1,10 @@
 //! Proved callers that push records and read them back by their types.
 ghost use Rattle.std.specs.Prelude.{◌≡◌, [], IfOk};
-ghost use Rattle.dns_data.specs.A.{address_of};
-ghost use Rattle.dns_name.specs.NameReading.{name_labels};
-ghost use Rattle.dns_name.specs.ParsedName.{labels};
-ghost use Rattle.dns_item.specs.Items.{RecordItem};
-ghost use Rattle.dns_item.specs.Record.{record_item};
-ghost use Rattle.dns_read.specs.Message.{message_octets};
-ghost use Rattle.dns_build.specs.BuilderStates.{Represents};
-ghost use Rattle.dns_build.specs.State.{InAnswer, State};
+ghost use Rattle.dns_message.specs.Data.{address_of};
+ghost use Rattle.dns_message.specs.Names.{name_labels, labels};
+ghost use Rattle.dns_message.specs.Records.{RecordItem, record_item};
+ghost use Rattle.dns_message.specs.Messages.{message_octets};
+ghost use Rattle.dns_message.specs.Builders.{Represents, InAnswer, State};
 ghost use Rattle.dns_message_tests.specs.Typed.{HasOneAnswer, WasPushedFirst};
 
 use crate::asserts::assert_octets;

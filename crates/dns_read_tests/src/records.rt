@@ -8,7 +8,6 @@ use dns_data::{A, Cname, UnknownRecordData};
 use dns_item::ParsedRecord;
 use dns_read::{Message, MessageIter, RecordSection, Section};
 use dns_wire::{FormError, ParseError, ParsedName};
-use std::process::Abort;
 use std::test::Fail;
 
 const BAD_POINTER: ParseError = ParseError::Form(FormError::BAD_POINTER);

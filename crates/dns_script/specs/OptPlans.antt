@@ -2,7 +2,7 @@
 use Rattle.std.specs.Prelude.{◌≡◌, ◌⊎◌, ℕ, ◌+◌, ◌<◌, ◌≤◌, List, [], ◌∷◌, ◌++◌, length, map, Option, Some, None, Result, Ok, Err, OnOk}
 use Rattle.dns_octets.specs.declared.error.AppendError.{AppendError}
 use Rattle.dns_octets.specs.declared.error.AppendError.TheVariants.{ShortBuf, OutOfMemory}
-use Rattle.dns_code.specs.declared.header.Header.{Header}
+use Rattle.dns_code.specs.Header.{HeaderFields}
 use Rattle.dns_opt.specs.OptData.{option_of}
 use Rattle.dns_opt.specs.Options.{OptionItem, encode_options}
 use Rattle.dns_opt_builder.specs.Gathered.{Gathered, gathered, nothing_gathered, with_rcode}
@@ -33,7 +33,7 @@ abbrev pub planned : OptPlan → Gathered → Gathered
 planned plan g = with_options (planned_options plan) (with_fields plan g)
 
 -- what a plan gathers on a new builder, for this header
-abbrev pub planned_beside : Header → OptPlan → Gathered
+abbrev pub planned_beside : HeaderFields → OptPlan → Gathered
 planned_beside header plan = planned plan (nothing_gathered header)
 
 -- The result of adding options in order, when those already gathered take n octets. An option fails with `ShortBuf` if all would then take more than 65,535 octets; any other fails only with `OutOfMemory`. The first failure is the result.

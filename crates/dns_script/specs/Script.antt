@@ -2,6 +2,7 @@
 use Rattle.std.specs.Prelude.{◌≡◌, ℕ, Bool, true, false, Option, Result, Ok, Err, List, [], ◌∷◌, ◌++◌, length, ⊤}
 use Rattle.dns_octets.specs.declared.error.AppendError.{AppendError}
 use Rattle.dns_wire.specs.Encoders.{Rule}
+use Rattle.dns_code.specs.Header.{fields}
 use Rattle.dns_opt_builder.specs.Gathered.{Gathered, IsGathered}
 use Rattle.dns_question.specs.Questions.{QuestionItem}
 use Rattle.dns_item.specs.Items.{RecordItem}
@@ -93,7 +94,7 @@ module _ {Q R : Type 0} (question : Q → QuestionItem) (item : R → RecordItem
   after s ToAnswer Done = move_to InAnswer s
   after s ToAuthority Done = move_to InAuthority s
   after s ToAdditional Done = move_to InAdditional s
-  after s (SetHeader header) Done = with_header header s
+  after s (SetHeader header) Done = with_header (fields header) s
   after s (SetLimit limit) Done = with_limit limit s
   after s ClearLimit Done = with_limit no_limit s
   after s call (Refused error) = s

@@ -1,5 +1,6 @@
 //! The header of a stage, and its finished target.
 ghost use Rattle.std.specs.Prelude.{◌≡◌};
+ghost use Rattle.dns_code.specs.Header.{fields};
 ghost use Rattle.dns_build.specs.State.{State};
 ghost use Rattle.dns_script.specs.Script.{StageRepresents, built_of};
 
@@ -10,7 +11,7 @@ use dns_wire::Composer;
 impl<T: Composer> Stage<T> {
     /// The current header.
     pub fn header(&self) -> Header
-        ensures { (s : State) → StageRepresents T.rule s self.now → result ≡ s.header }
+        ensures { (s : State) → StageRepresents T.rule s self.now → fields result ≡ s.header }
     {
         match self {
             Stage::Builder(builder) => builder.header(),

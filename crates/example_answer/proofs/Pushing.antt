@@ -5,10 +5,10 @@ use Rattle.std.proofs.Math.Seq.{take-length}
 use Rattle.std.proofs.lemmas.List.{take_more, append-nil, map-append, take-append-drop}
 use Rattle.std.proofs.lemmas.List.Elements.{filter-append}
 use Rattle.std.specs.Prelude.{map, nat_le, Result, Ok, Err}
-use Rattle.dns_message.specs.Targets.{Plain, Fits, Exceeds}
+use Rattle.dns_message.specs.Targets.{Plain, Fits}
 use Rattle.dns_message.specs.Questions.{QuestionItem}
 use Rattle.dns_message.specs.Records.{RecordItem}
-use Rattle.dns_message.specs.Builders.{Built, Represents, MovesState, InEach, size_after, InAnswer, State, with_record, most_entries, tc_rewound}
+use Rattle.dns_message.specs.Builders.{Built, PushReturns, Represents, MovesState, InEach, size_after, InAnswer, State, with_record, most_entries, tc_rewound}
 use Rattle.dns_message.specs.declared.builder.PushError.{PushError}
 use Rattle.dns_message.specs.declared.builder.PushError.TheVariants.{CountOverflow, LimitExceeded, ShortBuf, OutOfMemory}
 use Rattle.example_answer.specs.Answering.{is_asked, asked_records, with_answers, size, all_or_none}
@@ -44,7 +44,7 @@ one_more s xs x mid new h moves capacity =
 -- with the first of further answers, a message is no longer than with all
 some_within : (s : State) (b : Built) → Represents InAnswer Plain s b → (xs ys : List RecordItem) → size (with_answers xs s) ≤ size (with_answers (xs ++ ys) s)
 some_within s b h xs ys =
-    subst (λ (t : State). size (with_answers xs t) ≤ size (with_answers (xs ++ ys) t)) (sym h.last) (longer_answers s xs ys h.state.header)
+    subst (λ (t : State). size (with_answers xs t) ≤ size (with_answers (xs ++ ys) t)) (sym h.last) (longer_answers s xs ys)
 
 -- if one answer exceeds the limit, all of them do
 limit_exceeded : (s : State) (xs : List RecordItem) (x : RecordItem) (ys : List RecordItem) (b mid : Built) → Represents InAnswer Plain s b → MoreAnswers s mid xs
@@ -60,7 +60,7 @@ count_exceeded : (s : State) (xs : List RecordItem) (x : RecordItem) (mid : Buil
 count_exceeded s xs x mid more exceeds =
     let t = with_answers xs s in
     let p = exceeds t more.represents in
-    let k = items_within (with_record InAnswer x t) more.represents.state.header in
+    let k = items_within (with_record InAnswer x t) in
     let n = length-append t.answers (x ∷ []) in
     omega (arith, p, k, n)
 
@@ -108,21 +108,19 @@ module _ {R : Type 0} (item : R → RecordItem) (asked : QuestionItem) (table : 
 
   -- if a push fails, the reason is one for all matches, or the matches before it have been pushed
   pub refused_next : (i : ℕ) (x d : R) → i < length table → x ≡ get_or table i d → is_asked asked (item x) ≡ true → (old mid : Built)
-      → InEach InAnswer Plain old (λ s. MoreAnswers s mid (first i)) → (result : Result (Unit {0}) PushError)
-      → (result ≡ Err ShortBuf → InEach InAnswer Plain mid (λ t. Exceeds None (size_after Plain (with_record InAnswer (item x)) t)))
-      → (result ≡ Err LimitExceeded → InEach InAnswer Plain mid (ExceedsLimit (item x)))
-      → (result ≡ Err CountOverflow → InEach InAnswer Plain mid (ExceedsCount (item x)))
-      → (e : PushError) → result ≡ Err e → InEach InAnswer Plain old (λ s. PushesEach (asked_records asked (map item table)) s (Err e) mid)
-  refused_next i x d l is asks old mid so_far result short limit count ShortBuf was s h = short was (with_answers (first i) s) (so_far s h).represents
-  refused_next i x d l is asks old mid so_far result short limit count OutOfMemory was s h = tt
-  refused_next i x d l is asks old mid so_far result short limit count CountOverflow was s h = count_exceeded s (first i) (item x) mid (so_far s h) (count was)
-  refused_next i x d l is asks old mid so_far result short limit count LimitExceeded was s h =
+      → InEach InAnswer Plain old (λ s. MoreAnswers s mid (first i)) → (e : PushError)
+      → InEach InAnswer Plain mid (λ t. PushReturns None true t.limit (size_after Plain (with_record InAnswer (item x)) t) (length t.answers) (Err e))
+      → InEach InAnswer Plain old (λ s. PushesEach (asked_records asked (map item table)) s (Err e) mid)
+  refused_next i x d l is asks old mid so_far ShortBuf fails s h = fails (with_answers (first i) s) (so_far s h).represents
+  refused_next i x d l is asks old mid so_far OutOfMemory fails s h = tt
+  refused_next i x d l is asks old mid so_far CountOverflow fails s h = count_exceeded s (first i) (item x) mid (so_far s h) fails
+  refused_next i x d l is asks old mid so_far LimitExceeded fails s h =
       let others = asked_records asked (map item (drop (i + 1) table)) in
       let all : (first i ++ item x ∷ []) ++ others ≡ asked_records asked (map item table) =
       ap (λ (ys : List RecordItem). ys ++ others) (sym (next_taken i x d l is asks)) ∙ first_then (i + 1) in (
         first i,
         so_far s h,
-        subst (λ (ys : List RecordItem). s.limit < size (with_answers ys s)) all (limit_exceeded s (first i) (item x) others old mid h (so_far s h) (limit was)),
+        subst (λ (ys : List RecordItem). s.limit < size (with_answers ys s)) all (limit_exceeded s (first i) (item x) others old mid h (so_far s h) fails),
       )
 
   -- at the end all matches are pushed

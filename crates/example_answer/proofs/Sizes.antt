@@ -3,10 +3,10 @@ use Rattle.std.proofs.Common.{◌≡◌, ◌∙◌, ℕ, ◌+◌, ◌≤◌, Lis
 use Rattle.std.proofs.lemmas.List.{append-nil, map-append, length-map}
 use Rattle.std.specs.Prelude.{map}
 use Rattle.dns_message.specs.Targets.{CompressionTable, Encoder, Plain, nothing}
-use Rattle.dns_message.specs.Headers.{header_octets}
+use Rattle.dns_message.proofs.CallerLemmas.{length-octets_of_fields}
 use Rattle.dns_message.specs.Questions.{QuestionItem, encode_question}
 use Rattle.dns_message.specs.Records.{RecordItem, encode_record}
-use Rattle.dns_message.specs.Builders.{InAnswer, InQuestion, State, Every, all_of, encoders_of, head_of, encode, tc_rewound, with_tc, move_to, up_to}
+use Rattle.dns_message.specs.Builders.{InAnswer, InQuestion, State, Every, all_of, encoders_of, head_of, encode, tc_rewound, move_to, up_to}
 use Rattle.example_answer.specs.Answering.{size, with_answers}
 
 -- further encodings don't shorten the octets
@@ -17,25 +17,25 @@ longer (p ∷ ps) qs m w =
     simp length-append (omega (arith, rest))
 
 -- the header and the counts take 12 octets
-head_size : (s : State) → length (header_octets s.header) ≡ 4 → length (head_of s).octets ≡ 12
-head_size s four = length-append _ _ ∙ ap (λ n. n + 8) four
+head_size : (s : State) → length (head_of s).octets ≡ 12
+head_size s = length-append _ _ ∙ ap (λ n. n + 8) (length-octets_of_fields s.header)
 
 -- the size of a message with these encodings after the header section
 abbrev after : List Encoder → ℕ
 after ps = 12 + length (all_of ps nothing 12).octets
 
 -- the size of a message is that of the header section and of the encodings after it
-pub sized : (s : State) → length (header_octets s.header) ≡ 4 → size s ≡ 12 + length (all_of (encoders_of Plain s) nothing 12).octets
+pub sized : (s : State) → size s ≡ 12 + length (all_of (encoders_of Plain s) nothing 12).octets
 unfolding encode
-sized s four = length-append _ _ ∙ (λ i. head_size s four i + length (all_of (encoders_of Plain s) nothing (head_size s four i)).octets)
+sized s = length-append _ _ ∙ (λ i. head_size s i + length (all_of (encoders_of Plain s) nothing (head_size s i)).octets)
 
 -- emptying the answer section and setting TC doesn't lengthen a message
-pub cut_within : (s : State) → length (header_octets s.header) ≡ 4 → length (header_octets (with_tc s.header)) ≡ 4 → size (tc_rewound InAnswer s) ≤ size s
-cut_within s four tc =
+pub cut_within : (s : State) → size (tc_rewound InAnswer s) ≤ size s
+cut_within s =
     let asked = map (encode_question Plain) s.questions in
     let l = longer asked (map (encode_record Plain) s.answers ++ (map (encode_record Plain) s.authorities ++ map (encode_record Plain) s.additionals)) nothing 12 in
-    let a = sized s four in
-    let b : size (tc_rewound InAnswer s) ≡ after asked = sized (tc_rewound InAnswer s) tc ∙ ap after (append-nil asked) in
+    let a = sized s in
+    let b : size (tc_rewound InAnswer s) ≡ after asked = sized (tc_rewound InAnswer s) ∙ ap after (append-nil asked) in
     omega (arith, a, b, l)
 
 -- moving to the answer section writes no octets if nothing follows the questions
@@ -44,28 +44,28 @@ unfolding encode
 size_moved s xs = refl
 
 -- further questions don't shorten the message
-pub longer_questions : (s : State) (xs ys : List QuestionItem) → length (header_octets s.header) ≡ 4 → size (record (up_to InQuestion s) { questions = xs }) ≤ size (record (up_to InQuestion s) { questions = xs ++ ys })
-longer_questions s xs ys four =
+pub longer_questions : (s : State) (xs ys : List QuestionItem) → size (record (up_to InQuestion s) { questions = xs }) ≤ size (record (up_to InQuestion s) { questions = xs ++ ys })
+longer_questions s xs ys =
     let encoding = encode_question Plain in
     let l = longer (map encoding xs) (map encoding ys) nothing 12 in
-    let a : size (record (up_to InQuestion s) { questions = xs }) ≡ after (map encoding xs) = sized (record (up_to InQuestion s) { questions = xs }) four ∙ ap after (append-nil (map encoding xs)) in
+    let a : size (record (up_to InQuestion s) { questions = xs }) ≡ after (map encoding xs) = sized (record (up_to InQuestion s) { questions = xs }) ∙ ap after (append-nil (map encoding xs)) in
     let b : size (record (up_to InQuestion s) { questions = xs ++ ys }) ≡ after (map encoding xs ++ map encoding ys) =
-    sized (record (up_to InQuestion s) { questions = xs ++ ys }) four ∙ ap after (append-nil (map encoding (xs ++ ys)) ∙ map-append encoding xs ys) in
+    sized (record (up_to InQuestion s) { questions = xs ++ ys }) ∙ ap after (append-nil (map encoding (xs ++ ys)) ∙ map-append encoding xs ys) in
     omega (arith, a, b, l)
 
 -- further answers don't shorten the message
-pub longer_answers : (s : State) (xs ys : List RecordItem) → length (header_octets s.header) ≡ 4 → size (with_answers xs (up_to InAnswer s)) ≤ size (with_answers (xs ++ ys) (up_to InAnswer s))
-longer_answers s xs ys four =
+pub longer_answers : (s : State) (xs ys : List RecordItem) → size (with_answers xs (up_to InAnswer s)) ≤ size (with_answers (xs ++ ys) (up_to InAnswer s))
+longer_answers s xs ys =
     let encoding = encode_record Plain in
     let asked = map (encode_question Plain) s.questions in
     let front = asked ++ map encoding (s.answers ++ xs) in
     let l = longer front (map encoding ys) nothing 12 in
     let a : size (with_answers xs (up_to InAnswer s)) ≡ after front =
-    sized (with_answers xs (up_to InAnswer s)) four ∙ ap (λ (ps : List Encoder). after (asked ++ ps)) (append-nil (map encoding (s.answers ++ xs))) in
+    sized (with_answers xs (up_to InAnswer s)) ∙ ap (λ (ps : List Encoder). after (asked ++ ps)) (append-nil (map encoding (s.answers ++ xs))) in
     let e : map encoding (s.answers ++ (xs ++ ys)) ≡ map encoding (s.answers ++ xs) ++ map encoding ys =
     ap (map encoding) (sym (append_assoc s.answers xs ys)) ∙ map-append encoding (s.answers ++ xs) ys in
     let b : size (with_answers (xs ++ ys) (up_to InAnswer s)) ≡ after (front ++ map encoding ys) =
-    sized (with_answers (xs ++ ys) (up_to InAnswer s)) four
+    sized (with_answers (xs ++ ys) (up_to InAnswer s))
     ∙ ap (λ (ps : List Encoder). after (asked ++ ps)) (append-nil (map encoding (s.answers ++ (xs ++ ys))) ∙ e)
     ∙ ap after (sym (append_assoc asked (map encoding (s.answers ++ xs)) (map encoding ys))) in
     omega (arith, a, b, l)
@@ -103,14 +103,14 @@ encoders_within (p ∷ ps) m w all =
     simp length-append (omega (arith, first, rest))
 
 -- questions and answers together are at most as many as the octets after the header section
-pub items_within : (s : State) → length (header_octets s.header) ≡ 4 → 12 + (length s.questions + length s.answers) ≤ size s
-items_within s four =
+pub items_within : (s : State) → 12 + (length s.questions + length s.answers) ≤ size s
+items_within s =
     let questions = map (encode_question Plain) s.questions in
     let answers = map (encode_record Plain) s.answers in
     let after_them = map (encode_record Plain) s.authorities ++ map (encode_record Plain) s.additionals in
     let l = encoders_within (questions ++ answers) nothing 12 (every_both questions answers (every_question s.questions) (every_record s.answers)) in
     let m = longer (questions ++ answers) after_them nothing 12 in
-    let a = sized s four ∙ ap after (sym (append_assoc questions answers after_them)) in
+    let a = sized s ∙ ap after (sym (append_assoc questions answers after_them)) in
     let n = length-append questions answers in
     let q = length-map s.questions (encode_question Plain) in
     let r = length-map s.answers (encode_record Plain) in

@@ -32,7 +32,7 @@ size_large (Some opt) = grind arith
 -- the first state of a reply is within the limit: it is a header section
 starts_within : (rcode : ℕ) (b : List ℕ) → size (answering rcode b (client b)) ≤ payload_size b
 starts_within rcode b =
-    let e = sized (answering rcode b (client b)) refl in
+    let e = sized (answering rcode b (client b)) in
     let l = size_large (opt_of b) in
     omega (arith, e, l)
 
@@ -61,14 +61,14 @@ module _ (b : List ℕ) where
       let s = answering 0 b (client b) in
       let p = gives.1 in
       let xs = gives.0 ++ p.next ∷ [] in
-      let l = longer_questions s xs p.others refl in
+      let l = longer_questions s xs p.others in
       let all : xs ++ p.others ≡ readable_questions b = append_assoc gives.0 (p.next ∷ []) p.others ∙ sym p.all in
       let e = size_moved s (readable_questions b) ∙ ap (λ (zs : List QuestionItem). size (asking zs)) (sym all) in
       let k = p.refused in
       omega (arith, e, k, l)
   not_started CountOverflow small gives =
       let p = gives.1 in
-      let k = items_within (asking (gives.0 ++ p.next ∷ [])) refl in
+      let k = items_within (asking (gives.0 ++ p.next ∷ [])) in
       let n = length-append gives.0 (p.next ∷ []) in
       let q = p.refused in
       omega (arith, k, n, q)
@@ -84,12 +84,12 @@ module _ (b : List ℕ) where
   pub answer_within : (table : List RecordItem) (asked : QuestionItem) → size (asked_again b) ≤ payload_size b → size (answer_to b table asked) ≤ payload_size b
   answer_within table asked l =
       let all = with_answers (asked_records asked table) (asked_again b) in
-      either_within all (tc_rewound InAnswer (asked_again b)) (payload_size b) (let m = cut_within (asked_again b) refl refl in omega (arith, l, m))
+      either_within all (tc_rewound InAnswer (asked_again b)) (payload_size b) (let m = cut_within (asked_again b) in omega (arith, l, m))
       (nat_le (size all) (payload_size b)) refl
 
   -- so is a FORMERR reply
   pub error_within : size (format_error b) ≤ payload_size b
-  error_within = let e = sized (format_error b) refl in let l = size_large (opt_of b) in omega (arith, e, l)
+  error_within = let e = sized (format_error b) in let l = size_large (opt_of b) in omega (arith, e, l)
 
   -- a started reply to which the matches are added is the answer
   pub answered : (table : List RecordItem) (asked : QuestionItem) (mid new : Built) → GivesAnswer None true Plain (answering 0 b (client b)) (readable_questions b) (Ok mid)

@@ -2,11 +2,11 @@
 use Rattle.std.specs.Prelude.{◌≡◌, ◌<◌, ◌==◌, ◌&&◌, nat_le, if◌then◌else◌, ℕ, Bool, List, ◌++◌, length, filter, max, Option, Some, None}
 use Rattle.dns_message.specs.Names.{names_equal}
 use Rattle.dns_message.specs.Targets.{Plain}
-use Rattle.dns_message.specs.Headers.{header_size}
+use Rattle.dns_message.specs.Headers.{fields_in, header_size}
 use Rattle.dns_message.specs.Questions.{QuestionItem}
 use Rattle.dns_message.specs.Records.{RecordItem, OptItem}
 use Rattle.dns_message.specs.Messages.{opt_of}
-use Rattle.dns_message.specs.Builders.{answer_header, header_in, readable_questions, ReadsBack, fresh, size_after, InAnswer, State, encode, tc_rewound}
+use Rattle.dns_message.specs.Builders.{answer_header, readable_questions, ReadsBack, fresh, size_after, InAnswer, State, encode, tc_rewound}
 use Rattle.dns_message.specs.declared.builder.PushError.TheVariants.{CountOverflow, LimitExceeded, ShortBuf, OutOfMemory}
 use Rattle.example_answer.specs.declared.answering.NoAnswer.{NoAnswer}
 use Rattle.example_answer.specs.declared.answering.NoAnswer.TheVariants.{ShortQuery, Refused}
@@ -44,7 +44,7 @@ all_or_none xs s = if nat_le (size (with_answers xs s)) s.limit then with_answer
 abbrev pub reply : ℕ → List ℕ → State
 reply rcode query = record fresh {
   stage = InAnswer;
-  header = answer_header rcode (header_in query) fresh.header;
+  header = answer_header rcode (fields_in query) fresh.header;
   limit = payload_size query;
 }
 

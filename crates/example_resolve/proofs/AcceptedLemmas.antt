@@ -2,17 +2,12 @@
 use Rattle.std.proofs.Common.{◌≡◌, ℕ, List, [], ◌∷◌, true}
 use Rattle.std.specs.Cmp.{second_so}
 use Rattle.std.specs.Prelude.{Result, Ok}
-use Rattle.dns_name.specs.Names.{Fault}
-use Rattle.dns_code.specs.HeaderSection.{header_size}
-use Rattle.dns_question.specs.Questions.{SkipsQuestion, ReadsQuestion, QuestionFaultAt, QuestionItem}
-use Rattle.dns_section.specs.Reading.{Skipped, Reading}
-use Rattle.dns_section.specs.Reading.Skipped.{none as all, more}
-use Rattle.dns_section.specs.Reading.Reading.{none, entry, stop}
-use Rattle.dns_section.specs.SameQuestions.{same_item, same_readings}
-use Rattle.dns_section.specs.Sections.{AnswersFault, question_count}
-use Rattle.dns_section.proofs.theory.QuestionsFromLemmas.{questions_from_are_read}
-use Rattle.dns_section.proofs.theory.StartLemmas.{start_or_fault}
-use Rattle.dns_read.specs.Searches.{answers_query, questions_of}
+use Rattle.dns_message.specs.Names.{Fault}
+use Rattle.dns_message.specs.Headers.{header_size}
+use Rattle.dns_message.specs.Questions.{SkipsQuestion, ReadsQuestion, QuestionFaultAt, QuestionItem}
+use Rattle.dns_message.specs.Sections.{Skipped, Reading, none as all, more, none, entry, stop, same_item, same_readings, AnswersFault, question_count}
+use Rattle.dns_message.proofs.CallerLemmas.{questions_from_are_read, start_or_fault}
+use Rattle.dns_message.specs.Messages.{answers_query, questions_of}
 
 module _ (b : List ℕ) where
   -- if questions equal those of another message, all of them can be skipped

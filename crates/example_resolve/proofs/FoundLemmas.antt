@@ -1,13 +1,11 @@
 -- What is found in a message, and why nothing is.
 use Rattle.std.proofs.Common.{◌≡◌, ◌∙◌, ap, sym, subst, ℕ, List, inr}
 use Rattle.std.specs.Prelude.{Some, None, option_map, Result}
-use Rattle.dns_name.specs.Names.{Fault, Labels}
-use Rattle.dns_data.specs.declared.a.A.{A}
-use Rattle.dns_question.specs.Questions.{QuestionItem}
-use Rattle.dns_item.specs.Items.{RecordItem}
-use Rattle.dns_read.specs.RecordSearches.{CanonicalName, nth_name}
-use Rattle.dns_read.specs.RecordSearches.CanonicalName.{no_question}
-use Rattle.dns_read.specs.Searches.{asked_first}
+use Rattle.dns_message.specs.Names.{Fault, Labels}
+use Rattle.dns_message.specs.declared.data.A.{A}
+use Rattle.dns_message.specs.Questions.{QuestionItem}
+use Rattle.dns_message.specs.Records.{RecordItem}
+use Rattle.dns_message.specs.Messages.{CanonicalName, nth_name, no_question, asked_first}
 use Rattle.example_resolve.specs.Resolving.{Finds, Gives, IsAccepted, IsReason, StopsAt, address_records, alias_records, first_fault}
 use Rattle.example_resolve.specs.declared.resolving.NoAddresses.{NoAddresses}
 use Rattle.example_resolve.specs.declared.resolving.NoAddresses.TheVariants.{OtherMessage, Failed, Truncated, OtherType, NoName, Unreadable, OutOfMemory}

@@ -2,28 +2,17 @@
 use Rattle.std.specs.Prelude.{◌≡◌, ◌≢◌, ◌⊎◌, ◌==◌, ◌&&◌, Bool, true, false, ℕ, List, [], ◌∷◌, map, filter, take, Option, Some, None, Result, Ok, Err}
 use Rattle.std.specs.List.{filter_map}
 use Rattle.std.specs.Result.{result_ok}
-use Rattle.dns_name.specs.Names.{Fault, Labels, fault_of}
-use Rattle.dns_name.specs.NameOrders.{names_equal}
-use Rattle.dns_wire.specs.Parts.{Part}
-use Rattle.dns_wire.specs.Parts.Part.{Octets}
-use Rattle.dns_wire.specs.Encoders.{Plain}
-use Rattle.dns_code.specs.Header.{HeaderFields, fields, fields_in}
-use Rattle.dns_code.specs.declared.header.Header.{Header}
-use Rattle.dns_data.specs.A.{address_of}
-use Rattle.dns_data.specs.Layout.{Layout}
-use Rattle.dns_data.specs.Layout.Layout.{Fixed, End}
-use Rattle.dns_data.specs.RecordData.{only}
-use Rattle.dns_data.specs.declared.a.A.{A}
-use Rattle.dns_question.specs.Questions.{QuestionItem}
-use Rattle.dns_item.specs.Items.{RecordItem}
-use Rattle.dns_section.specs.Limited.{limited}
-use Rattle.dns_section.specs.declared.section.Section.TheVariants.{Answer}
-use Rattle.dns_read.specs.OptSearches.{opt_rcode_of}
-use Rattle.dns_read.specs.RecordSearches.{CanonicalName, cname_layout}
-use Rattle.dns_read.specs.Searches.{answers_query, asked_first}
-use Rattle.dns_read.specs.SectionStarts.{records_of}
-use Rattle.dns_build.specs.MessageOf.{ReadsBack}
-use Rattle.dns_build.specs.State.{InQuestion, State, encode, no_limit}
+use Rattle.dns_message.specs.Names.{Fault, Labels, fault_of, names_equal}
+use Rattle.dns_message.specs.Data.{Part, Octets, address_of, Layout, Fixed, End, only}
+use Rattle.dns_message.specs.Targets.{Plain}
+use Rattle.dns_message.specs.Headers.{HeaderFields, fields_in}
+use Rattle.dns_message.specs.declared.data.A.{A}
+use Rattle.dns_message.specs.Questions.{QuestionItem}
+use Rattle.dns_message.specs.Records.{RecordItem}
+use Rattle.dns_message.specs.Sections.{limited}
+use Rattle.dns_message.specs.declared.message.Section.TheVariants.{Answer}
+use Rattle.dns_message.specs.Messages.{opt_rcode_of, CanonicalName, cname_layout, answers_query, asked_first, records_of}
+use Rattle.dns_message.specs.Builders.{ReadsBack, InQuestion, State, encode, no_limit}
 use Rattle.example_resolve.specs.declared.resolving.NoAddresses.{NoAddresses}
 use Rattle.example_resolve.specs.declared.resolving.NoAddresses.TheVariants.{OtherMessage, Failed, Truncated, OtherType, NoName, Unreadable, OutOfMemory}
 
@@ -46,7 +35,7 @@ query_fields id = record {
 }
 
 -- the state with a header, one question, and no record
-abbrev pub asking : Header → QuestionItem → State
+abbrev pub asking : HeaderFields → QuestionItem → State
 asking header asked = record {
   stage = InQuestion;
   header = header;
@@ -59,10 +48,8 @@ asking header asked = record {
 
 -- the octets are the query with this ID and question and nothing else, and read back as that
 pub record IsQuery (id : ℕ) (asked : QuestionItem) (b : List ℕ) : Type 0 where
-  pub header : Header
-  pub fields : fields header ≡ query_fields id
-  pub octets : b ≡ (encode Plain (asking header asked)).octets
-  pub reads_back : ReadsBack (asking header asked) b
+  pub octets : b ≡ (encode Plain (asking (query_fields id) asked)).octets
+  pub reads_back : ReadsBack (asking (query_fields id) asked) b
 
 -- Addresses.
 

@@ -1,12 +1,10 @@
 //! Queries for addresses, and the addresses in received messages (RFC 1034 sections 3.6.2 and
 //! 5.3.1).
 ghost use Rattle.std.specs.Prelude.{◌≡◌, ◌≤◌, IfOk, IfErr, MatchResult, None, Some, length};
-ghost use Rattle.dns_name.specs.Names.{fault_of};
-ghost use Rattle.dns_name.specs.ParsedName.{labels};
-ghost use Rattle.dns_read.specs.Message.{message_octets};
-ghost use Rattle.dns_section.specs.Limited.{limited};
-ghost use Rattle.dns_section.specs.RecordSection.{records_left};
-ghost use Rattle.dns_read.specs.RecordSearches.{cname_layout};
+ghost use Rattle.dns_message.specs.Names.{fault_of, labels};
+ghost use Rattle.dns_message.specs.Messages.{message_octets, cname_layout};
+ghost use Rattle.dns_message.specs.Sections.{limited};
+ghost use Rattle.dns_message.specs.Sections.RecordSection.{records_left};
 ghost use Rattle.example_resolve.specs.Resolving.{IsQuery, a_layout, first_fault, Gives, IsReason, Finds, StopsAt};
 
 use arrayvec::ArrayVec;

@@ -1,16 +1,16 @@
 -- Whether a message can be read, by the readings of its sections.
 use Rattle.std.proofs.Common.{◌≡◌, ◌∙◌, ap, sym, ℕ, List}
 use Rattle.std.specs.Prelude.{MatchResult, Option, Some, None, Result, Ok, Err}
-use Rattle.dns_octets.specs.declared.error.ParseError.{ParseError}
-use Rattle.dns_name.specs.Names.{Fault, fault_of}
-use Rattle.dns_section.specs.AnyRecordIter.{every}
-use Rattle.dns_section.specs.Limited.{limited}
-use Rattle.dns_section.specs.QuestionSection.{BeginsQuestions, questions_left}
-use Rattle.dns_section.specs.RecordSection.{BeginsSection, position, records_left}
-use Rattle.dns_section.specs.declared.question_section.QuestionSection.{QuestionSection}
-use Rattle.dns_section.specs.declared.record_section.RecordSection.{RecordSection}
-use Rattle.dns_section.specs.declared.section.Section.{Section}
-use Rattle.dns_section.specs.declared.section.Section.TheVariants.{Answer, Authority, Additional}
+use Rattle.dns_message.specs.declared.wire.ParseError.{ParseError}
+use Rattle.dns_message.specs.Names.{Fault, fault_of}
+use Rattle.dns_message.specs.Sections.AnyRecordIter.{every}
+use Rattle.dns_message.specs.Sections.{limited}
+use Rattle.dns_message.specs.Sections.QuestionSection.{BeginsQuestions, questions_left}
+use Rattle.dns_message.specs.Sections.RecordSection.{BeginsSection, position, records_left}
+use Rattle.dns_message.specs.declared.message.QuestionSection.{QuestionSection}
+use Rattle.dns_message.specs.declared.message.RecordSection.{RecordSection}
+use Rattle.dns_message.specs.declared.message.Section.{Section}
+use Rattle.dns_message.specs.declared.message.Section.TheVariants.{Answer, Authority, Additional}
 use Rattle.dns_any_data.specs.AnyLayout.{any_layout}
 use Rattle.example_rewrite.specs.Rewriting.{first_fault, HasFault, MessageReads, SectionReads, records_at}
 

@@ -2,21 +2,13 @@
 use Rattle.std.proofs.Common.{◌≡◌, ◌∙◌, ap, sym, refl, ℕ, ◌≤◌, List, inl, inr, length, arith, Bool, true, false}
 use Rattle.std.proofs.lemmas.Bool.Decides.{leb_tells}
 use Rattle.std.specs.Prelude.{◌==◌, if◌then◌else◌, min, not, Some, None, Result, Ok, Err}
-use Rattle.dns_octets.specs.declared.error.ParseError.{ParseError}
-use Rattle.dns_name.specs.Names.{Fault}
-use Rattle.dns_name.specs.ParsedName.{labels}
-use Rattle.dns_name.specs.declared.parsed_name.ParsedName.{ParsedName}
-use Rattle.dns_wire.specs.Parts.{Part}
-use Rattle.dns_data.specs.Layout.{Layout}
-use Rattle.dns_item.proofs.theory.TypedLemmas.{data_is_parsed, laid_out-returned}
-use Rattle.dns_item.specs.ParsedData.{HasSpan}
-use Rattle.dns_item.specs.ParsedData.IsParsedData.{missing}
-use Rattle.dns_item.specs.Items.{RecordEntry, RecordItem}
-use Rattle.dns_item.specs.ParsedRecord.{EncodedRecord}
-use Rattle.dns_item.specs.Record.{HasFields, class_of, data_of, owner_of, record_item, ttl_of}
-use Rattle.dns_item.specs.RecordReading.{ReturnsLaidOut, item_of}
-use Rattle.dns_item.specs.TypedRecords.{laid_out, typed_result, with_parts}
-use Rattle.dns_item.specs.declared.record.Record.{Record}
+use Rattle.dns_message.specs.declared.wire.ParseError.{ParseError}
+use Rattle.dns_message.specs.Names.{Fault, labels}
+use Rattle.dns_message.specs.declared.name.ParsedName.{ParsedName}
+use Rattle.dns_message.specs.Data.{Part, Layout}
+use Rattle.dns_message.proofs.CallerLemmas.{data_is_parsed, laid_out-returned}
+use Rattle.dns_message.specs.Records.{HasSpan, missing, RecordEntry, RecordItem, EncodedRecord, HasFields, class_of, data_of, owner_of, record_item, ttl_of, ReturnsLaidOut, item_of, laid_out, typed_result, with_parts}
+use Rattle.dns_message.specs.declared.record.Record.{Record}
 use Rattle.example_rewrite.specs.Rewriting.{cut_answer, with_ttl_cut}
 
 -- reading the RDATA of a record returns what its layout says, also if the RDATA is incomplete

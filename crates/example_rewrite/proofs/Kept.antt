@@ -2,18 +2,13 @@
 use Rattle.std.proofs.Common.{◌≡◌, ◌∙◌, ap, refl, ℕ, Bool, true, false, List, [], ◌∷◌, map}
 use Rattle.std.specs.List.{cons_option, filter_map}
 use Rattle.std.specs.Prelude.{cond, if◌then◌else◌, filter, Option, Some, None, option_map, Result, Ok, Err}
-use Rattle.dns_name.specs.Names.{Fault}
-use Rattle.dns_item.specs.Items.{RecordItem}
-use Rattle.dns_item.specs.ParsedRecord.{EncodedRecord, encoded_record}
-use Rattle.dns_item.specs.TypedRecords.{laid_out}
-use Rattle.dns_item.specs.declared.parsed_record.ParsedRecord.{ParsedRecord}
-use Rattle.dns_section.specs.AnyRecordIter.{every}
-use Rattle.dns_section.specs.Limited.{limited}
-use Rattle.dns_section.specs.RecordsFrom.{records_in}
-use Rattle.dns_section.specs.Sections.{record_count}
-use Rattle.dns_section.specs.declared.section.Section.{Section}
-use Rattle.dns_build.specs.KeptRecords.{Keeps, KeepsSection}
-use Rattle.dns_build.specs.KeptRecords.Keeps.{none, dropped, kept}
+use Rattle.dns_message.specs.Names.{Fault}
+use Rattle.dns_message.specs.Records.{RecordItem, EncodedRecord, encoded_record, laid_out}
+use Rattle.dns_message.specs.declared.record.ParsedRecord.{ParsedRecord}
+use Rattle.dns_message.specs.Sections.AnyRecordIter.{every}
+use Rattle.dns_message.specs.Sections.{limited, records_in, record_count}
+use Rattle.dns_message.specs.declared.message.Section.{Section}
+use Rattle.dns_message.specs.Builders.{Keeps, KeepsSection, none, dropped, kept}
 use Rattle.dns_any_data.specs.AnyLayout.{any_layout}
 use Rattle.example_rewrite.specs.Rewriting.{CutsSection, cut_answer, is_cached, values, with_ttl_cut}
 

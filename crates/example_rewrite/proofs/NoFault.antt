@@ -1,26 +1,19 @@
 -- A message that can be read is copied without an error.
 use Rattle.std.proofs.Common.{◌≡◌, ℕ, Bool, List, [], ◌∷◌, subst}
 use Rattle.std.specs.Prelude.{Option, None, Result, Ok, Err}
-use Rattle.dns_octets.specs.declared.error.ParseError.{ParseError}
-use Rattle.dns_name.specs.Names.{Fault}
-use Rattle.dns_wire.specs.Encoders.{Rule}
-use Rattle.dns_item.specs.Items.{RecordItem}
-use Rattle.dns_item.specs.ParsedRecord.{EncodedRecord}
-use Rattle.dns_item.specs.TypedRecords.{laid_out}
-use Rattle.dns_item.specs.declared.parsed_record.ParsedRecord.{ParsedRecord}
-use Rattle.dns_section.specs.AnyRecordIter.{every}
-use Rattle.dns_section.specs.Limited.{limited}
-use Rattle.dns_section.specs.Sections.{StartFault, StartsAt}
-use Rattle.dns_section.specs.declared.section.Section.{Section}
-use Rattle.dns_section.specs.declared.section.Section.TheVariants.{Answer, Authority, Additional}
-use Rattle.dns_section.proofs.theory.StartLemmas.{start_or_fault}
-use Rattle.dns_build.specs.CopyRecords.{CopiesList, CopiesSection, CopiesSections}
-use Rattle.dns_build.specs.CopyRecords.CopiesList.{none as no_record, copied as record_copied, refused, fault}
-use Rattle.dns_build.specs.CopyRecords.CopiesSection.{started, unstarted}
-use Rattle.dns_build.specs.CopyRecords.CopiesSections.{none as no_section, copied as section_copied, stopped}
-use Rattle.dns_build.specs.State.{Stage, State}
-use Rattle.dns_build.specs.declared.copy_records_error.CopyRecordsError.{CopyRecordsError}
-use Rattle.dns_build.specs.declared.copy_records_error.CopyRecordsError.TheVariants.{Parse}
+use Rattle.dns_message.specs.declared.wire.ParseError.{ParseError}
+use Rattle.dns_message.specs.Names.{Fault}
+use Rattle.dns_message.specs.Targets.{Rule}
+use Rattle.dns_message.specs.Records.{RecordItem, EncodedRecord, laid_out}
+use Rattle.dns_message.specs.declared.record.ParsedRecord.{ParsedRecord}
+use Rattle.dns_message.specs.Sections.AnyRecordIter.{every}
+use Rattle.dns_message.specs.Sections.{limited, StartFault, StartsAt}
+use Rattle.dns_message.specs.declared.message.Section.{Section}
+use Rattle.dns_message.specs.declared.message.Section.TheVariants.{Answer, Authority, Additional}
+use Rattle.dns_message.proofs.CallerLemmas.{start_or_fault}
+use Rattle.dns_message.specs.Builders.{CopiesList, CopiesSection, CopiesSections, none as no_record, copied as record_copied, refused, fault, started, unstarted, none as no_section, copied as section_copied, stopped, Stage, State}
+use Rattle.dns_message.specs.declared.builder.CopyRecordsError.{CopyRecordsError}
+use Rattle.dns_message.specs.declared.builder.CopyRecordsError.TheVariants.{Parse}
 use Rattle.dns_any_data.specs.AnyLayout.{any_layout}
 use Rattle.example_rewrite.specs.Rewriting.{MessageReads, SectionReads, first_fault, records_at}
 

@@ -3,35 +3,27 @@ use Rattle.std.proofs.Common.{◌≡◌, ◌≤◌, ℕ, Bool, List, [], length,
 use Rattle.std.specs.List.{filter_map}
 use Rattle.std.specs.Result.{result_ok}
 use Rattle.std.specs.Prelude.{Option, Result, Err}
-use Rattle.dns_name.specs.Names.{Fault}
-use Rattle.dns_name.specs.ParsedName.{labels}
-use Rattle.dns_name.specs.declared.parsed_name.ParsedName.{ParsedName}
-use Rattle.dns_name.proofs.theory.LabelsLemmas.{length-uncompressed}
-use Rattle.dns_wire.specs.Parts.{parts_size}
-use Rattle.dns_wire.specs.Encoders.{Static}
-use Rattle.dns_code.specs.HeaderSection.{header_size}
-use Rattle.dns_question.specs.Questions.{QuestionItem, QuestionFaultAt, ReadsQuestion}
-use Rattle.dns_item.specs.Record.{record_item}
-use Rattle.dns_item.specs.declared.parsed_record.ParsedRecord.{ParsedRecord}
-use Rattle.dns_item.specs.declared.record.Record.{Record}
-use Rattle.dns_section.specs.Reading.{Reading}
-use Rattle.dns_section.specs.Reading.Reading.{none, entry, stop}
-use Rattle.dns_section.specs.Sections.{question_count}
-use Rattle.dns_section.proofs.theory.QuestionsFromLemmas.{questions_from_are_read}
-use Rattle.dns_build.specs.Answers.{GivesAnswer, answering, readable_questions}
-use Rattle.dns_build.specs.CopyRecords.{CopiesMessage, record_sections}
-use Rattle.dns_build.specs.BuilderStates.{Built, Represents, fresh}
-use Rattle.dns_build.specs.State.{Every, InAnswer, most_entries}
-use Rattle.dns_build.specs.declared.copy_records_error.CopyRecordsError.{CopyRecordsError}
-use Rattle.dns_build.specs.declared.copy_records_error.CopyRecordsError.TheVariants.{Parse, Push}
-use Rattle.dns_build.specs.declared.push_error.PushError.{PushError}
-use Rattle.dns_build.specs.declared.push_error.PushError.TheVariants.{OutOfMemory}
+use Rattle.dns_message.specs.Names.{Fault, labels, encoded_name}
+use Rattle.dns_message.specs.declared.name.ParsedName.{ParsedName}
+use Rattle.dns_message.proofs.CallerLemmas.{length-uncompressed, questions_from_are_read}
+use Rattle.dns_message.specs.Data.{parts_size}
+use Rattle.dns_message.specs.Targets.{Static}
+use Rattle.dns_message.specs.Headers.{header_size}
+use Rattle.dns_message.specs.Questions.{QuestionItem, QuestionFaultAt, ReadsQuestion}
+use Rattle.dns_message.specs.Records.{record_item}
+use Rattle.dns_message.specs.declared.record.ParsedRecord.{ParsedRecord}
+use Rattle.dns_message.specs.declared.record.Record.{Record}
+use Rattle.dns_message.specs.Sections.{Reading, none, entry, stop, question_count}
+use Rattle.dns_message.specs.Builders.{GivesAnswer, answering, readable_questions, CopiesMessage, record_sections, Built, Represents, fresh, Every, InAnswer, most_entries}
+use Rattle.dns_message.specs.declared.builder.CopyRecordsError.{CopyRecordsError}
+use Rattle.dns_message.specs.declared.builder.CopyRecordsError.TheVariants.{Parse, Push}
+use Rattle.dns_message.specs.declared.builder.PushError.{PushError}
+use Rattle.dns_message.specs.declared.builder.PushError.TheVariants.{OutOfMemory}
 use Rattle.dns_any_data.specs.AnyData.{parts_of, parts_with, rtype_of}
 use Rattle.dns_any_data.specs.declared.any_data.AnyData.{AnyData}
 use Rattle.dns_any_data.specs.declared.any_data.Names.{Names}
 use Rattle.dns_any_data.specs.declared.any_data.Names.TheVariants as names
 use Rattle.example_rewrite.specs.Rewriting.{IsReason, MessageReads, begun}
-use Rattle.dns_name.specs.Unique.{encoded_name}
 use Rattle.example_rewrite.proofs.NoFault.{no_fault, section_reads}
 use Rattle.example_rewrite.proofs.Refusing.{AreFew, IsOpen, asking_refused, copying_refused}
 use Rattle.example_rewrite.proofs.Sizes.{IsNamed, IsShort}
@@ -70,7 +62,7 @@ module _ (b : List ℕ) where
       let l = readable_few reading in
       let s_is_open : IsOpen s = record {
         limit = refl;
-        short = record { header = refl; questions = tt; answers = tt; authorities = tt; additionals = tt };
+        short = record { questions = tt; answers = tt; authorities = tt; additionals = tt };
         questions = omega arith;
         answers = omega arith;
         authorities = omega arith;
@@ -85,7 +77,7 @@ module _ (b : List ℕ) where
       let l = readable_few reading in
       record {
         limit = refl;
-        short = record { header = represents.state.header; questions = readable_named reading; answers = tt; authorities = tt; additionals = tt };
+        short = record { questions = readable_named reading; answers = tt; authorities = tt; additionals = tt };
         questions = omega (arith, few, l);
         answers = omega arith;
         authorities = omega arith;

@@ -2,30 +2,20 @@
 use Rattle.std.proofs.Common.{◌≡◌, ◌∙◌, ℕ, ◌+◌, ◌<◌, ◌≤◌, Bool, List, [], ◌∷◌, ◌++◌, length, length-append, ap, sym, refl, subst, arith, None}
 use Rattle.std.proofs.lemmas.List.{length-map}
 use Rattle.std.specs.Prelude.{option_map, Option, Some, Result, Ok, Err}
-use Rattle.dns_name.specs.Names.{Fault}
-use Rattle.dns_wire.specs.Encoders.{Static}
-use Rattle.dns_question.specs.Questions.{QuestionItem}
-use Rattle.dns_item.specs.Items.{RecordItem}
-use Rattle.dns_item.specs.ParsedRecord.{EncodedRecord}
-use Rattle.dns_item.specs.declared.parsed_record.ParsedRecord.{ParsedRecord}
-use Rattle.dns_section.proofs.theory.ReadingLemmas.{readings_of_records_end}
-use Rattle.dns_section.proofs.theory.RecordsFromLemmas.{records_from_are_read}
-use Rattle.dns_section.specs.RecordsFrom.{in_octets, records_from, records_in}
-use Rattle.dns_section.specs.Sections.{record_count}
-use Rattle.dns_section.specs.declared.section.Section.{Section}
-use Rattle.dns_section.specs.declared.section.Section.TheVariants.{Answer, Authority, Additional}
-use Rattle.dns_build.specs.Answers.{RefusesAfter}
-use Rattle.dns_build.specs.CopyRecords.{CopiesList, CopiesSection, CopiesSections, PushesKept, record_sections}
-use Rattle.dns_build.specs.CopyRecords.CopiesList.{none as no_record, copied as record_copied, refused, fault}
-use Rattle.dns_build.specs.CopyRecords.CopiesSection.{started, unstarted}
-use Rattle.dns_build.specs.CopyRecords.CopiesSections.{none as no_section, copied as section_copied, stopped}
-use Rattle.dns_build.specs.BuilderStates.{PushReturns, size_after}
-use Rattle.dns_build.specs.State.{Every, InAdditional, InAnswer, InAuthority, InBuilder, InQuestion, Stage, State, most_entries, move_to, no_limit, records_at, stage_of, up_to, with_question, with_questions, with_record}
-use Rattle.dns_build.specs.declared.copy_records_error.CopyRecordsError.{CopyRecordsError}
-use Rattle.dns_build.specs.declared.copy_records_error.CopyRecordsError.TheVariants.{Push}
-use Rattle.dns_build.specs.declared.push_error.PushError.{PushError}
-use Rattle.dns_build.specs.declared.push_error.PushError.TheVariants.{CountOverflow, LimitExceeded, ShortBuf, OutOfMemory}
-use Rattle.dns_build.proofs.theory.Encodings.{every_append}
+use Rattle.dns_message.specs.Names.{Fault}
+use Rattle.dns_message.specs.Targets.{Static}
+use Rattle.dns_message.specs.Questions.{QuestionItem}
+use Rattle.dns_message.specs.Records.{RecordItem, EncodedRecord}
+use Rattle.dns_message.specs.declared.record.ParsedRecord.{ParsedRecord}
+use Rattle.dns_message.proofs.CallerLemmas.{readings_of_records_end, records_from_are_read, every_append}
+use Rattle.dns_message.specs.Sections.{in_octets, records_from, records_in, record_count}
+use Rattle.dns_message.specs.declared.message.Section.{Section}
+use Rattle.dns_message.specs.declared.message.Section.TheVariants.{Answer, Authority, Additional}
+use Rattle.dns_message.specs.Builders.{RefusesAfter, CopiesList, CopiesSection, CopiesSections, PushesKept, record_sections, none as no_record, copied as record_copied, refused, fault, started, unstarted, none as no_section, copied as section_copied, stopped, PushReturns, size_after, Every, InAdditional, InAnswer, InAuthority, InBuilder, InQuestion, Stage, State, most_entries, move_to, no_limit, records_at, stage_of, up_to, with_question, with_questions, with_record}
+use Rattle.dns_message.specs.declared.builder.CopyRecordsError.{CopyRecordsError}
+use Rattle.dns_message.specs.declared.builder.CopyRecordsError.TheVariants.{Push}
+use Rattle.dns_message.specs.declared.builder.PushError.{PushError}
+use Rattle.dns_message.specs.declared.builder.PushError.TheVariants.{CountOverflow, LimitExceeded, ShortBuf, OutOfMemory}
 use Rattle.example_rewrite.proofs.Sizes.{HasShortItems, IsNamed, IsShort, items_of, short_message}
 
 -- a state without a limit, with short items, each section within the greatest count
@@ -46,9 +36,9 @@ every_parts P (x ∷ xs) ys all = let rest = every_parts P xs ys all.1 in ((all.
 more_short : (stage : Stage) (s : State) (x : RecordItem) → HasShortItems s → IsShort x → HasShortItems (with_record stage x s)
 more_short InBuilder s x is one = is
 more_short InQuestion s x is one = is
-more_short InAnswer s x is one = record { header = is.header; questions = is.questions; answers = every_append IsShort s.answers (x ∷ []) is.answers (one, tt); authorities = is.authorities; additionals = is.additionals }
-more_short InAuthority s x is one = record { header = is.header; questions = is.questions; answers = is.answers; authorities = every_append IsShort s.authorities (x ∷ []) is.authorities (one, tt); additionals = is.additionals }
-more_short InAdditional s x is one = record { header = is.header; questions = is.questions; answers = is.answers; authorities = is.authorities; additionals = every_append IsShort s.additionals (x ∷ []) is.additionals (one, tt) }
+more_short InAnswer s x is one = record { questions = is.questions; answers = every_append IsShort s.answers (x ∷ []) is.answers (one, tt); authorities = is.authorities; additionals = is.additionals }
+more_short InAuthority s x is one = record { questions = is.questions; answers = is.answers; authorities = every_append IsShort s.authorities (x ∷ []) is.authorities (one, tt); additionals = is.additionals }
+more_short InAdditional s x is one = record { questions = is.questions; answers = is.answers; authorities = is.authorities; additionals = every_append IsShort s.additionals (x ∷ []) is.additionals (one, tt) }
 
 -- and it has one item more
 more_items : (stage : Stage) (s : State) (x : RecordItem) → items_of (with_record stage x s) ≤ items_of s + 1
@@ -88,7 +78,7 @@ more_open InAdditional s x is one few =
 moved_open : (section : Section) (s : State) → IsOpen s → IsOpen (move_to (stage_of section) s)
 moved_open Answer s is = record {
   limit = is.limit;
-  short = record { header = is.short.header; questions = is.short.questions; answers = is.short.answers; authorities = tt; additionals = tt };
+  short = record { questions = is.short.questions; answers = is.short.answers; authorities = tt; additionals = tt };
   questions = is.questions;
   answers = is.answers;
   authorities = omega arith;
@@ -96,7 +86,7 @@ moved_open Answer s is = record {
 }
 moved_open Authority s is = record {
   limit = is.limit;
-  short = record { header = is.short.header; questions = is.short.questions; answers = is.short.answers; authorities = is.short.authorities; additionals = tt };
+  short = record { questions = is.short.questions; answers = is.short.answers; authorities = is.short.authorities; additionals = tt };
   questions = is.questions;
   answers = is.answers;
   authorities = is.authorities;
@@ -104,7 +94,7 @@ moved_open Authority s is = record {
 }
 moved_open Additional s is = record {
   limit = is.limit;
-  short = record { header = is.short.header; questions = is.short.questions; answers = is.short.answers; authorities = is.short.authorities; additionals = is.short.additionals };
+  short = record { questions = is.short.questions; answers = is.short.answers; authorities = is.short.authorities; additionals = is.short.additionals };
   questions = is.questions;
   answers = is.answers;
   authorities = is.authorities;
@@ -113,7 +103,7 @@ moved_open Additional s is = record {
 
 -- further questions with valid names
 asked_short : (s : State) (xs : List QuestionItem) → HasShortItems s → Every IsNamed xs → HasShortItems (with_questions xs s)
-asked_short s xs is all = record { header = is.header; questions = every_append IsNamed s.questions xs is.questions all; answers = is.answers; authorities = is.authorities; additionals = is.additionals }
+asked_short s xs is all = record { questions = every_append IsNamed s.questions xs is.questions all; answers = is.answers; authorities = is.authorities; additionals = is.additionals }
 
 asked_within : (s : State) (x : QuestionItem) → IsOpen s → IsNamed x → size_after Static (with_question x) s ≤ s.limit
 asked_within s x is one =

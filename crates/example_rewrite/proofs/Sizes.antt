@@ -2,15 +2,13 @@
 use Rattle.std.proofs.Common.{◌≡◌, ◌∙◌, ℕ, ◌+◌, ◌*◌, ◌≤◌, List, [], ◌∷◌, ◌++◌, length, length-append, ap, arith}
 use Rattle.std.proofs.lemmas.List.{length-map}
 use Rattle.std.specs.Prelude.{map}
-use Rattle.dns_name.specs.Names.{Labels, IsName}
-use Rattle.dns_name.proofs.theory.LabelsLemmas.{length-uncompressed}
-use Rattle.dns_wire.specs.Parts.{parts_size, encode_parts}
-use Rattle.dns_wire.specs.Encoders.{CompressionTable, Encoder, Static, both, nothing, encode_name, encode_octets, with_length}
-use Rattle.dns_wire.proofs.theory.NameSizes.{names_are_short, parts_are_short}
-use Rattle.dns_code.specs.Header.{header_octets}
-use Rattle.dns_question.specs.Questions.{QuestionItem, encode_question, question_fields}
-use Rattle.dns_item.specs.Items.{RecordItem, encode_record, record_fields}
-use Rattle.dns_build.specs.State.{State, Every, all_of, encode, head_of, encoders_of}
+use Rattle.dns_message.specs.Names.{Labels, IsName}
+use Rattle.dns_message.proofs.CallerLemmas.{length-uncompressed, names_are_short, parts_are_short, length-octets_of_fields}
+use Rattle.dns_message.specs.Data.{parts_size, encode_parts}
+use Rattle.dns_message.specs.Targets.{CompressionTable, Encoder, Static, both, nothing, encode_name, encode_octets, with_length}
+use Rattle.dns_message.specs.Questions.{QuestionItem, encode_question, question_fields}
+use Rattle.dns_message.specs.Records.{RecordItem, encode_record, record_fields}
+use Rattle.dns_message.specs.Builders.{State, Every, all_of, encode, head_of, encoders_of}
 
 -- an encoding has at most n octets, for any compression table and at any offset
 abbrev pub AtMost : ℕ → Encoder → Type 0
@@ -93,17 +91,16 @@ few_octets (p ∷ ps) m w all =
 abbrev pub items_of : State → ℕ
 items_of s = length s.questions + (length s.answers + (length s.authorities + length s.additionals))
 
--- a state with a header of four octets whose items each have at most `most_octets` octets
+-- a state whose items each have at most `most_octets` octets
 pub record HasShortItems (s : State) : Type 0 where
-  pub header : length (header_octets s.header) ≡ 4
   pub questions : Every IsNamed s.questions
   pub answers : Every IsShort s.answers
   pub authorities : Every IsShort s.authorities
   pub additionals : Every IsShort s.additionals
 
 -- the header and the counts take 12 octets
-head_size : (s : State) → length (header_octets s.header) ≡ 4 → length (head_of s).octets ≡ 12
-head_size s four = length-append _ _ ∙ ap (λ n. n + 8) four
+head_size : (s : State) → length (head_of s).octets ≡ 12
+head_size s = length-append _ _ ∙ ap (λ n. n + 8) (length-octets_of_fields s.header)
 
 -- the message of such a state
 pub short_message : (s : State) → HasShortItems s → length (encode Static s).octets ≤ 12 + items_of s * most_octets
@@ -119,7 +116,7 @@ short_message s short =
     (few_both c d (record_encoders s.authorities short.authorities) (record_encoders s.additionals short.additionals))) in
     let encoded = few_octets (encoders_of Static s) nothing (length (head_of s).octets) few in
     let whole = length-append (head_of s).octets (all_of (encoders_of Static s) nothing (length (head_of s).octets)).octets in
-    let head = head_size s short.header in
+    let head = head_size s in
     let n = length-append a (b ++ (c ++ d)) in
     let n' = length-append b (c ++ d) in
     let n'' = length-append c d in

@@ -1,24 +1,20 @@
 -- A message with its TTLs capped. RFC 1035 sections 3.2.1 and 4.1, RFC 6891 section 6.1.1.
-use Rattle.std.specs.Prelude.{◌≡◌, ◌==◌, if◌then◌else◌, Bool, not, min, ℕ, List, [], ◌∷◌, map, filter, take, Option, Some, None, Result, Ok, Err}
+use Rattle.std.specs.Prelude.{◌≡◌, ◌==◌, if◌then◌else◌, Bool, not, min, ℕ, List, [], ◌∷◌, map, filter, Option, Some, None, Result, Ok, Err}
 use Rattle.std.specs.List.{filter_map}
 use Rattle.std.specs.Result.{result_ok}
-use Rattle.dns_name.specs.Names.{Fault, fault_of}
-use Rattle.dns_wire.specs.Encoders.{Static}
-use Rattle.dns_code.specs.Header.{header_octets}
-use Rattle.dns_item.specs.Items.{RecordItem}
-use Rattle.dns_section.specs.AnyRecordIter.{every}
-use Rattle.dns_section.specs.Limited.{limited}
-use Rattle.dns_section.specs.RecordsFrom.{records_in}
-use Rattle.dns_section.specs.Sections.{StartFault, StartsAt, record_count}
-use Rattle.dns_section.specs.declared.section.Section.{Section}
-use Rattle.dns_section.specs.declared.section.Section.TheVariants.{Answer, Authority, Additional}
-use Rattle.dns_read.specs.Searches.{questions_of}
-use Rattle.dns_build.specs.MessageOf.{ReadsBack}
-use Rattle.dns_build.specs.Answers.{header_in, readable_questions}
-use Rattle.dns_build.specs.State.{InAnswer, State, encode, no_limit}
-use Rattle.dns_build.specs.declared.copy_records_error.CopyRecordsError.{CopyRecordsError}
-use Rattle.dns_build.specs.declared.copy_records_error.CopyRecordsError.TheVariants.{Parse, Push}
-use Rattle.dns_build.specs.declared.push_error.PushError.TheVariants.{OutOfMemory}
+use Rattle.dns_message.specs.Names.{Fault, fault_of}
+use Rattle.dns_message.specs.Targets.{Static}
+use Rattle.dns_message.specs.Headers.{fields_in}
+use Rattle.dns_message.specs.Records.{RecordItem}
+use Rattle.dns_message.specs.Sections.AnyRecordIter.{every}
+use Rattle.dns_message.specs.Sections.{limited, records_in, StartFault, StartsAt, record_count}
+use Rattle.dns_message.specs.declared.message.Section.{Section}
+use Rattle.dns_message.specs.declared.message.Section.TheVariants.{Answer, Authority, Additional}
+use Rattle.dns_message.specs.Messages.{questions_of}
+use Rattle.dns_message.specs.Builders.{ReadsBack, readable_questions, InAnswer, State, encode, no_limit}
+use Rattle.dns_message.specs.declared.builder.CopyRecordsError.{CopyRecordsError}
+use Rattle.dns_message.specs.declared.builder.CopyRecordsError.TheVariants.{Parse, Push}
+use Rattle.dns_message.specs.declared.builder.PushError.TheVariants.{OutOfMemory}
 use Rattle.dns_any_data.specs.AnyLayout.{any_layout}
 
 -- the first fault of a reading
@@ -73,7 +69,7 @@ pub record IsCut (most : ℕ) (b new : List ℕ) : Type 0 where
   pub state : State
   pub octets : new ≡ (encode Static state).octets
   pub reads_back : ReadsBack state new
-  pub header : header_octets state.header ≡ take 4 b
+  pub header : state.header ≡ fields_in b
   pub questions : state.questions ≡ values (questions_of b)
   pub answers : CutsSection most b Answer state.answers
   pub authorities : CutsSection most b Authority state.authorities
@@ -93,7 +89,7 @@ cut_answer most (Err f) = None
 abbrev pub begun : List ℕ → State
 begun b = record {
   stage = InAnswer;
-  header = header_in b;
+  header = fields_in b;
   limit = no_limit;
   questions = readable_questions b;
   answers = [];

@@ -1,20 +1,15 @@
 //! Writes a message again with its TTLs capped, for a cache that keeps no record for longer
 //! (RFC 1035 section 3.2.1).
 ghost use Rattle.std.specs.Prelude.{◌≡◌, ◌≤◌, IfErr, IfOk, MatchResult, None, Some, option_map};
-ghost use Rattle.dns_name.specs.Names.{fault_of};
-ghost use Rattle.dns_name.specs.ParsedName.{labels};
-ghost use Rattle.dns_wire.specs.Encoders.{Static};
-ghost use Rattle.dns_item.specs.ParsedRecord.{encoded_record};
-ghost use Rattle.dns_item.specs.Record.{record_item};
-ghost use Rattle.dns_item.specs.TypedRecords.{laid_out};
-ghost use Rattle.dns_read.specs.Message.{message_octets};
-ghost use Rattle.dns_section.specs.AnyRecordIter.{every};
-ghost use Rattle.dns_section.specs.Limited.{limited};
-ghost use Rattle.dns_section.specs.QuestionSection.{questions_left};
-ghost use Rattle.dns_section.specs.RecordSection.{records_left};
-ghost use Rattle.dns_section.specs.Sections.{question_count, answer_count, authority_count, additional_count};
-ghost use Rattle.dns_build.specs.BuilderStates.{Represents};
-ghost use Rattle.dns_build.specs.State.{InAnswer, most_entries};
+ghost use Rattle.dns_message.specs.Names.{fault_of, labels};
+ghost use Rattle.dns_message.specs.Targets.{Static};
+ghost use Rattle.dns_message.specs.Records.{encoded_record, record_item, laid_out};
+ghost use Rattle.dns_message.specs.Messages.{message_octets};
+ghost use Rattle.dns_message.specs.Sections.AnyRecordIter.{every};
+ghost use Rattle.dns_message.specs.Sections.{limited, question_count, answer_count, authority_count, additional_count};
+ghost use Rattle.dns_message.specs.Sections.QuestionSection.{questions_left};
+ghost use Rattle.dns_message.specs.Sections.RecordSection.{records_left};
+ghost use Rattle.dns_message.specs.Builders.{Represents, InAnswer, most_entries};
 ghost use Rattle.dns_any_data.specs.AnyData.{rtype_of, parts_of};
 ghost use Rattle.dns_any_data.specs.AnyLayout.{any_layout};
 ghost use Rattle.example_rewrite.specs.Rewriting.{first_fault, MessageReads, HasFault, IsCut, IsReason, cut_answer, begun};

@@ -1,7 +1,7 @@
 use Rattle.std.proofs.Common.{ap, subst}
 use Rattle.std.proofs.lemmas.Result.{err_from_is_err_and}
 use Rattle.dns_wire.specs.Targets.{Written}
-use Rattle.dns_code.specs.declared.header.Header.{Header}
+use Rattle.dns_code.specs.Header.{HeaderFields}
 use Rattle.dns_section.specs.declared.section.Section.TheVariants.{Answer, Authority, Additional}
 use Rattle.dns_build.specs.MessageOf.{IsMessageOf}
 use Rattle.dns_c.specs.Built.{holding}
@@ -64,6 +64,6 @@ returns-clause-made g c =
       entries = m.0;
       mean = m.1;
       message =
-          subst (λ (h : Header). IsMessageOf t.rule (holding h m.0) octets) c.header_of.ensures
+          subst (λ (h : HeaderFields). IsMessageOf t.rule (holding h m.0) octets) c.header_of.ensures
           (is_message t.rule _ octets represents.state (ap (λ (w : Written). w.octets) (c.finish.ensures.encode _ represents)));
     }

@@ -2,7 +2,7 @@ use Rattle.std.proofs.Common.{◌+◌, ap, drop, refl, subst, sym}
 use Rattle.std.specs.Prelude.{Err}
 use Rattle.std.proofs.lemmas.Result.{err_from_is_err_and}
 use Rattle.dns_build.specs.BuilderStates.{Built}
-use Rattle.dns_c.proofs.BuildLemmas.{Asking, asking_begins, asking_ends, asking_named, asking_skips, asking_refused, asking_takes, next_item, no_items, refused_returns}
+use Rattle.dns_c.proofs.BuildLemmas.{Asking, asking_begins, asking_ends, asking_named, asking_skips, asking_refused, asking_takes, next_item, no_items}
 use Rattle.dns_c.proofs.build.push_questions.Goals as goal
 use Rattle.dns_c.proofs.build.push_questions.Goals.{then-item-eq-QUESTION+in_ok-question_of+in_ok-push, else-item-eq-QUESTION}
 
@@ -21,7 +21,7 @@ returns-in_err-push-clause-stopped g c =
     rw (p.1, p.2)
     (λ xs mean s represents.
     asking_refused _ _ _ _ next xs s _ (c.loop-item.invariant xs mean s represents) _ _ _ e c.if-item-eq-QUESTION.true c.in_ok-question_of.ensures.question
-    (λ t there. refused_returns _ _ _ _ _ e (λ is. h.short (ap Err is) t there) (λ is. h.memory (ap Err is)) (λ is. h.limit (ap Err is) t there) (λ is. h.count (ap Err is) t there)))
+    h.outcome.each)
 
 pub loop-item-init : goal.loop-item-init
 loop-item-init g c = λ xs mean s represents. asking_begins _ _ _ xs s _ refl mean represents

@@ -2,7 +2,7 @@ use Rattle.std.proofs.Common.{◌∙◌, ◌+◌, ap, drop, refl, subst, sym}
 use Rattle.std.specs.Prelude.{Err}
 use Rattle.std.proofs.lemmas.Result.{err_from_is_err_and}
 use Rattle.dns_build.specs.BuilderStates.{Built}
-use Rattle.dns_c.proofs.BuildLemmas.{Stating, at_depth, next_item, no_items, not_at_depth, refused_returns, stating_begins, stating_ends, stating_named, stating_skips, stating_refused, stating_takes}
+use Rattle.dns_c.proofs.BuildLemmas.{Stating, at_depth, next_item, no_items, not_at_depth, stating_begins, stating_ends, stating_named, stating_skips, stating_refused, stating_takes}
 use Rattle.dns_c.proofs.build.push_records.Goals as goal
 use Rattle.dns_c.proofs.build.push_records.Goals.{then-from-DEPTH+in_ok-record_of+in_ok-push, else-from-DEPTH}
 
@@ -26,7 +26,7 @@ returns-in_err-push-clause-stopped g c =
     (λ xs mean s represents.
     stating_refused _ _ _ _ _ _ next xs s _ (c.loop-item.invariant xs mean s represents) _ _ _ e (at_depth _ _ g.S.BuilderStage.DEPTH c.from.result _ g.met.S.RecordStage.at g.S.BuilderStage.depth (c.if-from-DEPTH.true ∙ c.DEPTH.ensures) c.from.ensures)
     c.in_ok-record_of.ensures.made
-    (λ t there. refused_returns _ _ _ _ _ e (λ is. h.short (ap Err is) t there) (λ is. h.memory (ap Err is)) (λ is. h.limit (ap Err is) t there) (λ is. h.count (ap Err is) t there)))
+    h.outcome.each)
 
 pub loop-item-init : goal.loop-item-init
 loop-item-init g c = λ xs mean s represents. stating_begins _ _ _ _ _ xs s _ refl mean represents

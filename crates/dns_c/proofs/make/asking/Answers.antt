@@ -1,8 +1,8 @@
 use Rattle.std.proofs.Common.{◌≤◌, ℕ, List, length, ap, refl, subst, sym, arith}
-use Rattle.std.specs.Prelude.{Err}
 use Rattle.dns_wire.specs.Encoders.{Plain}
 use Rattle.dns_wire.specs.Targets.{Written}
 use Rattle.dns_name.specs.Unique.{encoded_name}
+use Rattle.dns_code.specs.Header.{fields}
 use Rattle.dns_c.proofs.MadeLemmas.{asked_short, is_message, never_refused}
 use Rattle.dns_c.proofs.make.asking.Goals as goal
 
@@ -11,8 +11,7 @@ returns-in_err-push c =
     let first = c.set_header.ensures _ c.in_ok-builder.ensures.fresh in
     let second = c.question-builder.ensures _ first in
     let e = c.in_err-push.ensures in
-    absurd (never_refused c.in_err-push.field-0.0 _ _ _ (asked_short Plain c.args.header _ first.state.header (encoded_name c.args.name.whole.0.1)) refl (omega arith)
-    (λ is. e.short (ap Err is) _ second) (λ is. e.memory (ap Err is)) (λ is. e.limit (ap Err is) _ second) (λ is. e.count (ap Err is) _ second))
+    absurd (never_refused c.in_err-push.field-0.0 _ _ _ (asked_short Plain (fields c.args.header) _ (encoded_name c.args.name.whole.0.1)) refl (omega arith) (e.outcome.each _ second))
 
 pub returns : goal.returns
 returns c =
@@ -20,5 +19,5 @@ returns c =
     let second = c.question-builder.ensures _ first in
     let represents = c.in_ok-push.ensures.accepted _ second in
     let encoded = ap (λ (w : Written). w.octets) (c.finish.ensures.encode _ represents) in
-    let size = asked_short Plain c.args.header _ first.state.header (encoded_name c.args.name.whole.0.1) in
+    let size = asked_short Plain (fields c.args.header) _ (encoded_name c.args.name.whole.0.1) in
     (is_message Plain _ c.finish.result.items represents.state encoded, subst (λ (octets : List ℕ). length octets ≤ 512) (sym encoded) size)

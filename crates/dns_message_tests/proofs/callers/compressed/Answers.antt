@@ -1,4 +1,4 @@
-use Rattle.dns_build.specs.BuilderStates.{fresh}
+use Rattle.dns_message.specs.Builders.{fresh}
 use Rattle.dns_message_tests.proofs.callers.compressed.Goals as goal
 
 pub returns-in-Ok-run : goal.returns-in-Ok-run

@@ -1,5 +1,5 @@
 use Rattle.std.proofs.Common.{◌≡◌, ◌++◌, map}
-use Rattle.dns_section.specs.RecordIter.{typed_left}
+use Rattle.dns_message.specs.Sections.RecordIter.{typed_left}
 use Rattle.dns_message_tests.specs.Callers.{data_among}
 use Rattle.dns_message_tests.proofs.callers.data_of.Given as goal
 

@@ -1,12 +1,10 @@
-use Rattle.std.proofs.Common.{◌≡◌, ◌∙◌, ap, refl, subst, ℕ, ◌+◌, ◌*◌, Bool, [], length, arith}
+use Rattle.std.proofs.Common.{◌≡◌, refl, subst, ℕ, Bool, [], length, arith}
 use Rattle.std.specs.Fn.{FnOnceReturnsAtMut}
 use Rattle.std.specs.Prelude.{Option, Result, Ok, Err}
-use Rattle.dns_octets.specs.declared.error.AppendError.{AppendError}
-use Rattle.dns_wire.specs.Encoders.{Rule}
-use Rattle.dns_opt_builder.specs.declared.builder.OptBuilder.{OptBuilder}
-use Rattle.dns_build.specs.Opt.{Gathers, OptReturns, PushesOpt, opt_record, with_opt}
-use Rattle.dns_build.specs.BuilderStates.{Built, fresh, size_after}
-use Rattle.dns_build.specs.State.{State, InAdditional, move_to, with_record}
+use Rattle.dns_message.specs.declared.wire.AppendError.{AppendError}
+use Rattle.dns_message.specs.Targets.{Rule}
+use Rattle.dns_message.specs.declared.builder.OptBuilder.{OptBuilder}
+use Rattle.dns_message.specs.Builders.{Gathers, OptReturns, PushesOpt, opt_record, with_opt, Built, fresh, size_after, State, InAdditional, move_to, with_record}
 use Rattle.dns_message_tests.proofs.callers.opt_message.Goals as goal
 
 -- an accepted record was gathered without an error
@@ -26,10 +24,9 @@ returns g c =
     let p = c.in_ok-opt.ensures.pushes s represents in
     let done = was_done _ _ _ _ _ _ _ p in
     let read = c.opts_read_back.ensures p.g (with_opt p.g s) _ [] [] refl p.is_gathered (λ k d below is. omega (arith, below)) (c.into_message.ensures.reads_back (with_opt p.g s) p.accepted) in
-    let rcode = ap (λ f. f.rcode) (c.rcode_is_set.ensures s.header p.g.header.rcode refl p.is_gathered.rcode) in
     record {
       g = p.g;
       gathers = subst (λ a. Gathers (FnOnceReturnsAtMut g.F.FnOnce c.args.gather) s.header a p.g) done p.gathers;
       opt = read.0;
-      rcode = read.1 ∙ ap (λ (n : ℕ). p.g.fields.ext * 16 + n) rcode;
+      rcode = read.1;
     }

@@ -1,5 +1,5 @@
 use Rattle.std.proofs.Common.{◌≡◌, ◌++◌}
-use Rattle.dns_read.specs.MessageIter.{items_left}
+use Rattle.dns_message.specs.Messages.MessageIter.{items_left}
 use Rattle.dns_message_tests.specs.Callers.{sections_among}
 use Rattle.dns_message_tests.proofs.callers.sections_of.Given as goal
 

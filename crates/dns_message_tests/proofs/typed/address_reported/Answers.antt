@@ -1,9 +1,8 @@
 use Rattle.std.proofs.Common.{◌∙◌, ap, refl, []}
-use Rattle.dns_name.specs.NameReading.{name_labels}
-use Rattle.dns_data.specs.A.{address_of}
-use Rattle.dns_item.specs.Items.{RecordItem}
-use Rattle.dns_build.specs.BuilderStates.{fresh}
-use Rattle.dns_build.specs.State.{InAnswer, move_to, with_record}
+use Rattle.dns_message.specs.Names.{name_labels}
+use Rattle.dns_message.specs.Data.{address_of}
+use Rattle.dns_message.specs.Records.{RecordItem}
+use Rattle.dns_message.specs.Builders.{fresh, InAnswer, move_to, with_record}
 use Rattle.dns_message_tests.specs.Typed.{address_record}
 use Rattle.dns_message_tests.proofs.TypedReading.{octets_first}
 use Rattle.dns_message_tests.proofs.typed.address_reported.Goals as goal

@@ -1,12 +1,11 @@
 use Rattle.std.proofs.Common.{◌≡◌, subst}
 use Rattle.std.specs.Prelude.{IfOk, IsOkAnd, IsSomeAnd}
-use Rattle.dns_name.specs.ParsedName.{labels}
-use Rattle.dns_item.specs.ParsedRecord.{encoded_record}
-use Rattle.dns_item.specs.Record.{record_item}
-use Rattle.dns_read.specs.Message.{message_octets}
-use Rattle.dns_section.specs.RecordSection.{BeginsSection}
-use Rattle.dns_section.specs.declared.section.Section.TheVariants.{Answer}
-use Rattle.dns_build.specs.TypedReading.{EncodedAs}
+use Rattle.dns_message.specs.Names.{labels}
+use Rattle.dns_message.specs.Records.{encoded_record, record_item}
+use Rattle.dns_message.specs.Messages.{message_octets}
+use Rattle.dns_message.specs.Sections.RecordSection.{BeginsSection}
+use Rattle.dns_message.specs.declared.message.Section.TheVariants.{Answer}
+use Rattle.dns_message.specs.Builders.{EncodedAs}
 use Rattle.dns_message_tests.proofs.TypedReading.{opened, pushed_first, some_given, ok_given}
 use Rattle.dns_message_tests.proofs.typed.first_pushed.Goals as goal
 

@@ -1,11 +1,11 @@
 use Rattle.std.proofs.Common.{◌≡◌, ◌∙◌, subst}
 use Rattle.std.specs.Prelude.{IfOk, IsSomeAnd, IsOkAnd}
-use Rattle.dns_name.specs.ParsedName.{labels}
-use Rattle.dns_item.specs.Record.{record_item}
-use Rattle.dns_read.specs.Message.{message_octets}
-use Rattle.dns_section.specs.RecordSection.{BeginsSection}
-use Rattle.dns_section.specs.RecordIter.{typed_left}
-use Rattle.dns_section.specs.declared.section.Section.TheVariants.{Answer}
+use Rattle.dns_message.specs.Names.{labels}
+use Rattle.dns_message.specs.Records.{record_item}
+use Rattle.dns_message.specs.Messages.{message_octets}
+use Rattle.dns_message.specs.Sections.RecordSection.{BeginsSection}
+use Rattle.dns_message.specs.Sections.RecordIter.{typed_left}
+use Rattle.dns_message.specs.declared.message.Section.TheVariants.{Answer}
 use Rattle.dns_message_tests.proofs.TypedReading.{opened, one_left, one_given, some_given, ok_given}
 use Rattle.dns_message_tests.proofs.typed.one_answer.Goals as goal
 

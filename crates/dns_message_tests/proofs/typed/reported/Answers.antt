@@ -1,13 +1,9 @@
 use Rattle.std.proofs.Common.{◌∙◌, ap, refl}
-use Rattle.dns_name.specs.NameReading.{name_labels}
-use Rattle.dns_name.specs.ParsedName.{labels}
-use Rattle.dns_data.specs.A.{address_of}
-use Rattle.dns_data.specs.NameData.{nsdname_of}
-use Rattle.dns_item.specs.Items.{RecordItem}
-use Rattle.dns_item.specs.Record.{owner_of, class_of, ttl_of, data_of}
-use Rattle.dns_read.specs.Message.{message_octets}
-use Rattle.dns_build.specs.BuilderStates.{fresh}
-use Rattle.dns_build.specs.State.{InAnswer, move_to, with_record}
+use Rattle.dns_message.specs.Names.{name_labels, labels}
+use Rattle.dns_message.specs.Data.{address_of, nsdname_of}
+use Rattle.dns_message.specs.Records.{RecordItem, owner_of, class_of, ttl_of, data_of}
+use Rattle.dns_message.specs.Messages.{message_octets}
+use Rattle.dns_message.specs.Builders.{fresh, InAnswer, move_to, with_record}
 use Rattle.dns_message_tests.specs.Typed.{server_record, address_record}
 use Rattle.dns_message_tests.proofs.TypedReading.{state, one_server, one_address, name_first, octets_first}
 use Rattle.dns_message_tests.proofs.typed.reported.Goals as goal

@@ -18,7 +18,7 @@ loop-found-preserved g c =
       | then-is_asked+in_ok-push_ref w ↦
           rw w.builder-is (record {
             pushes = pushes_next item asked c.args.table.now c.loop-found.found-index c.found-item.result _ c.loop-found-test.true c.found-item.is (sym c.is_asked.ensures ∙ w.if-is_asked.true)
-                c.args.builder.now c.loop-found.builder _ w.in_ok-push_ref.ensures.accepted w.in_ok-push_ref.ensures.capacity c.loop-found.invariant.pushes;
+                c.args.builder.now c.loop-found.builder _ w.in_ok-push_ref.ensures.accepted w.in_ok-push_ref.ensures.outcome.each c.loop-found.invariant.pushes;
           })
       | else-is_asked w ↦
           rw w.builder-is (record {
@@ -31,7 +31,6 @@ pub returns-in_err-push_ref : goal.returns-in_err-push_ref
 returns-in_err-push_ref g c s h =
     let item = record_item g.N.ToName.name g.D.RecordData.rtype_of g.D.RecordData.parts in
     let p = err_from_is_err_and c.from_residual.result c.from_residual.ensures.1 in
-    let pushed = c.push_ref.ensures in
     rw (p.1, p.2, c.in_err-push_ref.ensures.refused)
     (refused_next item (parsed_question c.args.question.now) c.args.table.now c.loop-found.found-index c.found-item.result _ c.loop-found-test.true c.found-item.is (sym c.is_asked.ensures ∙ c.if-is_asked.true)
-    c.args.builder.now c.loop-found.builder c.loop-found.invariant.pushes c.push_ref.result pushed.short pushed.limit pushed.count c.in_err-push_ref.field-0.0 c.in_err-push_ref.was s h)
+    c.args.builder.now c.loop-found.builder c.loop-found.invariant.pushes c.in_err-push_ref.field-0.0 c.in_err-push_ref.ensures.outcome.each s h)

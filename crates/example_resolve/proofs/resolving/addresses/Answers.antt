@@ -1,14 +1,12 @@
 use Rattle.std.proofs.Common.{◌≡◌, ◌≢◌, ◌∙◌, ap, sym, arith, inl, rules, true}
 use Rattle.std.proofs.lemmas.Result.{MatchResult-weaker, err_from_is_err_and}
 use Rattle.std.specs.Prelude.{option_map}
-use Rattle.dns_name.specs.ParsedName.{labels}
-use Rattle.dns_question.specs.Question.{parsed_question}
-use Rattle.dns_read.specs.Message.{message_octets}
-use Rattle.dns_read.specs.RecordSearches.{cname_layout}
-use Rattle.dns_read.specs.Searches.{answers_query}
-use Rattle.dns_read.proofs.theory.SectionStartLemmas.{begins_reading}
-use Rattle.dns_section.specs.Limited.{limited}
-use Rattle.dns_section.specs.declared.section.Section.TheVariants.{Answer}
+use Rattle.dns_message.specs.Names.{labels}
+use Rattle.dns_message.specs.Questions.{parsed_question}
+use Rattle.dns_message.specs.Messages.{message_octets, cname_layout, answers_query}
+use Rattle.dns_message.proofs.CallerLemmas.{begins_reading}
+use Rattle.dns_message.specs.Sections.{limited}
+use Rattle.dns_message.specs.declared.message.Section.TheVariants.{Answer}
 use Rattle.example_resolve.specs.Resolving.{IsAccepted, a_layout, first_fault}
 use Rattle.example_resolve.proofs.AcceptedLemmas.{no_fault}
 use Rattle.example_resolve.proofs.FoundLemmas.{gives, no_name, stops}

@@ -1,8 +1,8 @@
 use Rattle.std.proofs.Common.{◌≡◌}
-use Rattle.dns_read.specs.RecordSearches.{cname_layout}
-use Rattle.dns_section.specs.Limited.{limited}
-use Rattle.dns_section.specs.RecordIter.{typed_left}
-use Rattle.dns_section.specs.RecordSection.{records_left}
+use Rattle.dns_message.specs.Messages.{cname_layout}
+use Rattle.dns_message.specs.Sections.{limited}
+use Rattle.dns_message.specs.Sections.RecordIter.{typed_left}
+use Rattle.dns_message.specs.Sections.RecordSection.{records_left}
 use Rattle.example_resolve.specs.Resolving.{first_fault}
 use Rattle.example_resolve.proofs.resolving.check_aliases.Given as goal
 

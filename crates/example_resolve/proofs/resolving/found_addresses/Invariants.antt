@@ -2,10 +2,10 @@ use Rattle.std.proofs.Common.{◌≡◌, ◌++◌, map}
 use Rattle.std.specs.List.{filter_map}
 use Rattle.std.specs.Prelude.{filter}
 use Rattle.std.specs.Result.{result_ok}
-use Rattle.dns_name.specs.ParsedName.{labels}
-use Rattle.dns_section.specs.Limited.{limited}
-use Rattle.dns_section.specs.RecordIter.{typed_left}
-use Rattle.dns_section.specs.RecordSection.{records_left}
+use Rattle.dns_message.specs.Names.{labels}
+use Rattle.dns_message.specs.Sections.{limited}
+use Rattle.dns_message.specs.Sections.RecordIter.{typed_left}
+use Rattle.dns_message.specs.Sections.RecordSection.{records_left}
 use Rattle.example_resolve.specs.Resolving.{a_layout, a_parts, first_fault, is_owned}
 use Rattle.example_resolve.proofs.resolving.found_addresses.Given as goal
 

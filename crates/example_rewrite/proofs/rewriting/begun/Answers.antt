@@ -1,5 +1,5 @@
 use Rattle.std.proofs.lemmas.Result.{err_from_is_err_and}
-use Rattle.dns_wire.specs.Encoders.{Static}
+use Rattle.dns_message.specs.Targets.{Static}
 use Rattle.example_rewrite.proofs.Beginning.{begins}
 use Rattle.example_rewrite.proofs.Reasons.{not_begun}
 use Rattle.example_rewrite.proofs.rewriting.begun.Goals as goal

@@ -1,6 +1,6 @@
 use Rattle.std.proofs.Common.{Err, ap, ◌∙◌}
 use Rattle.std.proofs.lemmas.Result.{err_from_is_err_and}
-use Rattle.dns_section.specs.declared.section.Section.TheVariants.{Answer, Authority, Additional}
+use Rattle.dns_message.specs.declared.message.Section.TheVariants.{Answer, Authority, Additional}
 use Rattle.example_rewrite.specs.Rewriting.HasFault.{before}
 use Rattle.example_rewrite.proofs.Checking.{checked, faulty_section}
 use Rattle.example_rewrite.proofs.rewriting.check.Goals as goal

@@ -1,5 +1,5 @@
 use Rattle.std.proofs.Common.{◌≡◌}
-use Rattle.dns_section.specs.QuestionSection.{questions_left}
+use Rattle.dns_message.specs.Sections.QuestionSection.{questions_left}
 use Rattle.example_rewrite.specs.Rewriting.{first_fault}
 use Rattle.example_rewrite.proofs.rewriting.check_questions.Given as goal
 

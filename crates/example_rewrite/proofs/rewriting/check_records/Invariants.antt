@@ -1,7 +1,7 @@
 use Rattle.std.proofs.Common.{◌≡◌}
-use Rattle.dns_section.specs.AnyRecordIter.{every, typed_left}
-use Rattle.dns_section.specs.Limited.{limited}
-use Rattle.dns_section.specs.RecordSection.{records_left}
+use Rattle.dns_message.specs.Sections.AnyRecordIter.{every, typed_left}
+use Rattle.dns_message.specs.Sections.{limited}
+use Rattle.dns_message.specs.Sections.RecordSection.{records_left}
 use Rattle.dns_any_data.specs.AnyLayout.{any_layout}
 use Rattle.example_rewrite.specs.Rewriting.{first_fault}
 use Rattle.example_rewrite.proofs.rewriting.check_records.Given as goal

@@ -1,6 +1,6 @@
 use Rattle.std.proofs.Common.{◌∙◌, sym, arith}
 use Rattle.std.specs.Prelude.{min}
-use Rattle.dns_item.specs.ParsedRecord.{encoded_record}
+use Rattle.dns_message.specs.Records.{encoded_record}
 use Rattle.dns_any_data.specs.AnyData.{rtype_of, parts_of}
 use Rattle.dns_any_data.specs.AnyLayout.{any_layout}
 use Rattle.example_rewrite.proofs.CutLemmas.{laid_out-read, record_cut, fault_dropped}

@@ -1,9 +1,9 @@
 use Rattle.std.proofs.Common.{◌≡◌, Err, ap, refl, rules, ◌∙◌}
 use Rattle.std.proofs.lemmas.Result.{err_from_is_err_and}
-use Rattle.dns_wire.specs.Targets.{Written}
-use Rattle.dns_read.specs.Message.{message_octets}
-use Rattle.dns_section.specs.declared.section.Section.TheVariants.{Answer, Authority, Additional}
-use Rattle.dns_build.specs.KeptRecords.{with_copies}
+use Rattle.dns_message.specs.Targets.{Written}
+use Rattle.dns_message.specs.Messages.{message_octets}
+use Rattle.dns_message.specs.declared.message.Section.TheVariants.{Answer, Authority, Additional}
+use Rattle.dns_message.specs.Builders.{with_copies}
 use Rattle.example_rewrite.specs.Rewriting.{begun}
 use Rattle.example_rewrite.proofs.Kept.{section_cut}
 use Rattle.example_rewrite.proofs.Reasons.{reason}
