@@ -3,10 +3,10 @@ use Rattle.std.proofs.Common.{◌≡◌, ◌≢◌, ◌∙◌, ℕ, ◌+◌, ◌
 use Rattle.std.proofs.lemmas.Bool.{le-leb, lt-leb}
 use Rattle.std.proofs.Math.Seq.{take-length}
 use Rattle.std.proofs.lemmas.List.{take_more, append-nil, map-append, take-append-drop}
-use Rattle.std.specs.Prelude.{map, nat_le, Result, Err}
-use Rattle.dns_message.specs.Targets.{Tree, Fits, Exceeds}
+use Rattle.std.specs.Prelude.{map, nat_le, Result, Ok, Err}
+use Rattle.dns_message.specs.Targets.{Tree}
 use Rattle.dns_message.specs.Records.{RecordItem}
-use Rattle.dns_message.specs.Builders.{Built, Represents, MovesState, InEach, size_after, InAnswer, State, with_record, with_records, most_entries, tc_rewound}
+use Rattle.dns_message.specs.Builders.{Built, PushReturns, Represents, MovesState, InEach, size_after, InAnswer, State, with_record, with_records, most_entries, tc_rewound}
 use Rattle.dns_message.specs.declared.builder.PushError.{PushError}
 use Rattle.dns_message.specs.declared.builder.PushError.TheVariants.{CountOverflow, LimitExceeded, ShortBuf, OutOfMemory}
 use Rattle.example_response.specs.Response.{all_or_none, size}
@@ -31,15 +31,9 @@ none_more s b h =
     let e : s ≡ with_answers [] s = λ i. record s { answers = sym (append-nil s.answers) i } in
     record { represents = subst (λ (t : State). Represents InAnswer Tree t b) e h; within = λ l. subst (λ (t : State). size t ≤ s.limit) e l }
 
--- when pushing an answer succeeds, and the reasons for which it fails
-abbrev HasCapacity : RecordItem → State → Type 0
-HasCapacity x t = let n = size_after Tree (with_record InAnswer x) t in Fits None n × (n ≤ t.limit) × (length t.answers < most_entries)
-
-abbrev ExceedsLimit : RecordItem → State → Type 0
-ExceedsLimit x t = let n = size_after Tree (with_record InAnswer x) t in Fits None n × (t.limit < n)
-
-abbrev ExceedsCount : RecordItem → State → Type 0
-ExceedsCount x t = let n = size_after Tree (with_record InAnswer x) t in Fits None n × (n ≤ t.limit) × (length t.answers ≡ most_entries)
+-- the result of pushing an answer onto a state
+abbrev pub ReturnsAnswer : RecordItem → Result (Unit {0}) PushError → State → Type 0
+ReturnsAnswer x result t = PushReturns None true t.limit (size_after Tree (with_record InAnswer x) t) (length t.answers) result
 
 -- an answer after others
 joined : (s : State) (xs : List RecordItem) (x : RecordItem) → with_record InAnswer x (with_answers xs s) ≡ with_answers (xs ++ x ∷ []) s
@@ -47,31 +41,31 @@ joined s xs x = λ i. record s { answers = append_assoc s.answers xs (x ∷ []) 
 
 -- one further answer after others
 one_more : (s : State) (xs : List RecordItem) (x : RecordItem) (mid new : Built) → MoreAnswers s mid xs
-    → MovesState InAnswer InAnswer Tree (with_record InAnswer x) mid new → InEach InAnswer Tree mid (HasCapacity x) → MoreAnswers s new (xs ++ x ∷ [])
-one_more s xs x mid new h moves capacity = record {
+    → MovesState InAnswer InAnswer Tree (with_record InAnswer x) mid new → InEach InAnswer Tree mid (ReturnsAnswer x (Ok tt)) → MoreAnswers s new (xs ++ x ∷ [])
+one_more s xs x mid new h moves accepted = record {
   represents = subst (λ (t : State). Represents InAnswer Tree t new) (joined s xs x) (moves (with_answers xs s) h.represents);
-  within = λ l. subst (λ (t : State). size t ≤ s.limit) (joined s xs x) (capacity (with_answers xs s) h.represents).1;
+  within = λ l. subst (λ (t : State). size t ≤ s.limit) (joined s xs x) (accepted (with_answers xs s) h.represents).1;
 }
 
 -- with the first of further answers, a message is no longer than with all
 some_within : (s : State) (b : Built) → Represents InAnswer Tree s b → (xs ys : List RecordItem) → size (with_answers xs s) ≤ size (with_answers (xs ++ ys) s)
 some_within s b h xs ys =
-    subst (λ (t : State). size (with_answers xs t) ≤ size (with_answers (xs ++ ys) t)) (sym h.last) (longer_answers s xs ys h.state.header)
+    subst (λ (t : State). size (with_answers xs t) ≤ size (with_answers (xs ++ ys) t)) (sym h.last) (longer_answers s xs ys)
 
 -- if one answer exceeds the limit, all of them do
 limit_exceeded : (s : State) (xs : List RecordItem) (x : RecordItem) (ys : List RecordItem) (b mid : Built) → Represents InAnswer Tree s b → MoreAnswers s mid xs
-    → InEach InAnswer Tree mid (ExceedsLimit x) → s.limit < size (with_answers ((xs ++ x ∷ []) ++ ys) s)
+    → InEach InAnswer Tree mid (ReturnsAnswer x (Err LimitExceeded)) → s.limit < size (with_answers ((xs ++ x ∷ []) ++ ys) s)
 limit_exceeded s xs x ys b mid h so_far exceeds =
     let l : s.limit < size (with_answers (xs ++ x ∷ []) s) = subst (λ (t : State). s.limit < size t) (joined s xs x) (exceeds (with_answers xs s) so_far.represents).1 in
     let m = some_within s b h (xs ++ x ∷ []) ys in
     omega (arith, l, m)
 
 -- if an answer can't be counted, the limit exceeds the greatest count
-count_exceeded : (s : State) (xs : List RecordItem) (x : RecordItem) (mid : Built) → MoreAnswers s mid xs → InEach InAnswer Tree mid (ExceedsCount x) → most_entries < s.limit
+count_exceeded : (s : State) (xs : List RecordItem) (x : RecordItem) (mid : Built) → MoreAnswers s mid xs → InEach InAnswer Tree mid (ReturnsAnswer x (Err CountOverflow)) → most_entries < s.limit
 count_exceeded s xs x mid so_far exceeds =
     let t = with_answers xs s in
     let p = exceeds t so_far.represents in
-    let k = items_within (with_record InAnswer x t) so_far.represents.state.header in
+    let k = items_within (with_record InAnswer x t) in
     let n = length-append t.answers (x ∷ []) in
     omega (arith, p, k, n)
 
@@ -99,14 +93,14 @@ module _ {R : Type 0} (item : R → RecordItem) (answers : List R) where
 
   -- an answer is pushed
   pub pushes_next : (i : ℕ) (x d : R) → i < length answers → x ≡ get_or answers i d → (old mid new : Built)
-      → MovesState InAnswer InAnswer Tree (with_record InAnswer (item x)) mid new → InEach InAnswer Tree mid (HasCapacity (item x))
+      → MovesState InAnswer InAnswer Tree (with_record InAnswer (item x)) mid new → InEach InAnswer Tree mid (ReturnsAnswer (item x) (Ok tt))
       → InEach InAnswer Tree old (λ s. MoreAnswers s mid (first i)) → InEach InAnswer Tree old (λ s. MoreAnswers s new (first (i + 1)))
-  pushes_next i x d l is old mid new moves capacity so_far s h =
-      subst (MoreAnswers s new) (sym (next i x d l is)) (one_more s (first i) (item x) mid new (so_far s h) moves capacity)
+  pushes_next i x d l is old mid new moves accepted so_far s h =
+      subst (MoreAnswers s new) (sym (next i x d l is)) (one_more s (first i) (item x) mid new (so_far s h) moves accepted)
 
   -- an answer exceeds the limit, so none is added
   pub adds_none : (i : ℕ) (x d : R) → i < length answers → x ≡ get_or answers i d → (old mid new : Built)
-      → InEach InAnswer Tree old (λ s. MoreAnswers s mid (first i)) → InEach InAnswer Tree mid (ExceedsLimit (item x)) → MovesState InAnswer InAnswer Tree (tc_rewound InAnswer) mid new
+      → InEach InAnswer Tree old (λ s. MoreAnswers s mid (first i)) → InEach InAnswer Tree mid (ReturnsAnswer (item x) (Err LimitExceeded)) → MovesState InAnswer InAnswer Tree (tc_rewound InAnswer) mid new
       → AddsAllOrNone (map item answers) old new
   adds_none i x d l is old mid new so_far exceeds moves s h within =
       let others = map item (drop (i + 1) answers) in
@@ -115,16 +109,14 @@ module _ {R : Type 0} (item : R → RecordItem) (answers : List R) where
       let other = lt-leb (size (with_answers (map item answers) s)) s.limit long in
       subst (λ (t : State). Represents InAnswer Tree t new) (sym (chosen (map item answers) s false other)) (moves (with_answers (first i) s) (so_far s h).represents)
 
-  -- an answer is refused for another reason: an allocation failed
-  pub refused_for_memory : (i : ℕ) (x : R) (old mid : Built) → InEach InAnswer Tree old (λ s. MoreAnswers s mid (first i)) → (result : Result (Unit {0}) PushError)
-      → (result ≡ Err ShortBuf → InEach InAnswer Tree mid (λ t. Exceeds None (size_after Tree (with_record InAnswer (item x)) t)))
-      → (result ≡ Err CountOverflow → InEach InAnswer Tree mid (ExceedsCount (item x)))
-      → (s : State) → Represents InAnswer Tree s old → s.limit ≤ 512 → (e : PushError) → result ≡ Err e → e ≢ LimitExceeded → e ≡ OutOfMemory
-  refused_for_memory i x old mid so_far result short count s h small ShortBuf was other = absurd (short was (with_answers (first i) s) (so_far s h).represents)
-  refused_for_memory i x old mid so_far result short count s h small OutOfMemory was other = refl
-  refused_for_memory i x old mid so_far result short count s h small LimitExceeded was other = absurd (other refl)
-  refused_for_memory i x old mid so_far result short count s h small CountOverflow was other =
-      let l = count_exceeded s (first i) (item x) mid (so_far s h) (count was) in absurd (omega (arith, l, small))
+  -- pushing an answer fails otherwise: an allocation failed
+  pub refused_for_memory : (i : ℕ) (x : R) (old mid : Built) → InEach InAnswer Tree old (λ s. MoreAnswers s mid (first i)) → (e : PushError) → InEach InAnswer Tree mid (ReturnsAnswer (item x) (Err e))
+      → (s : State) → Represents InAnswer Tree s old → s.limit ≤ 512 → e ≢ LimitExceeded → e ≡ OutOfMemory
+  refused_for_memory i x old mid so_far ShortBuf fails s h small other = absurd (fails (with_answers (first i) s) (so_far s h).represents)
+  refused_for_memory i x old mid so_far OutOfMemory fails s h small other = refl
+  refused_for_memory i x old mid so_far LimitExceeded fails s h small other = absurd (other refl)
+  refused_for_memory i x old mid so_far CountOverflow fails s h small other =
+      let l = count_exceeded s (first i) (item x) mid (so_far s h) fails in absurd (omega (arith, l, small))
 
   -- at the end all answers are added
   pub adds_all : (old new : Built) → InEach InAnswer Tree old (λ s. MoreAnswers s new (first (length answers))) → AddsAllOrNone (map item answers) old new

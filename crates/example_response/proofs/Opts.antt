@@ -8,7 +8,7 @@ use Rattle.dns_message.specs.Builders.{Gathered, gathered, Built, PushReturns, R
 use Rattle.dns_message.specs.declared.builder.OptBuilder.{OptBuilder}
 use Rattle.dns_message.specs.declared.builder.PushError.{PushError}
 use Rattle.dns_message.specs.declared.builder.PushError.TheVariants.{CountOverflow, LimitExceeded, ShortBuf, OutOfMemory}
-use Rattle.example_response.specs.Response.{most_octets, opt_if_asked, own_opt, size}
+use Rattle.example_response.specs.Response.{most_before_opt, opt_if_asked, own_opt, size}
 
 -- whether the query has an OPT record, by a test of what was found
 pub has_opt : {X : Type 0} (item : X → OptItem) (o : Option X) (p : Option OptItem) (has : Bool) → option_map item o ≡ p → has ≡ is_some o → has ≡ is_some p
@@ -16,7 +16,7 @@ has_opt item None p has is test = test ∙ ap is_some is
 has_opt item (Some x) p has is test = test ∙ ap is_some is
 
 -- the limit that is chosen by the test
-pub limit_of : (p : Option OptItem) (has : Bool) (n : ℕ) → has ≡ is_some p → ((has ≡ true) × (n ≡ 501)) ⊎ ((has ≡ false) × (n ≡ 512)) → n ≡ most_octets p
+pub limit_of : (p : Option OptItem) (has : Bool) (n : ℕ) → has ≡ is_some p → ((has ≡ true) × (n ≡ 501)) ⊎ ((has ≡ false) × (n ≡ 512)) → n ≡ most_before_opt p
 limit_of None has n test (inl (set, is)) = absurd (cc)
 limit_of None has n test (inr (clear, is)) = is
 limit_of (Some opt) has n test (inl (set, is)) = is
@@ -60,7 +60,7 @@ module _ (call : OptBuilder → Result (Unit {0}) AppendError → OptBuilder →
   -- it is refused only if an allocation fails
   pub opt_refused : size s + 11 ≤ s.limit → size_after Tree (with_record InAdditional (opt_record (own_opt s.header))) s ≡ size s + 11 → s.additionals ≡ [] → (e : PushError)
       → PushesOpt None true Tree call s new (Err e) → Sets → e ≡ OutOfMemory
-  opt_refused room n none e p sets =
+  opt_refused fits n none e p sets =
       let returned = without_error _ p.outcome (Err e) (sets _ _ _ p.gathers.called).0 p.answers in
       let own = subst (λ (g : Gathered). PushReturns None true s.limit (size_after Tree (with_record InAdditional (opt_record g)) s) (length s.additionals) (Err e)) (own_gathered (Err e) p sets) returned in
       by e own
@@ -68,5 +68,5 @@ module _ (call : OptBuilder → Result (Unit {0}) AppendError → OptBuilder →
       by : (e : PushError) → PushReturns None true s.limit (size_after Tree (with_record InAdditional (opt_record (own_opt s.header))) s) (length s.additionals) (Err e) → e ≡ OutOfMemory
       by ShortBuf h = absurd h
       by OutOfMemory h = refl
-      by LimitExceeded h = absurd (omega (arith, h, n, room))
+      by LimitExceeded h = absurd (omega (arith, h, n, fits))
       by CountOverflow h = let empty = ap length none in absurd (omega (arith, h, empty))

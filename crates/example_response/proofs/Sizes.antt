@@ -4,11 +4,11 @@ use Rattle.std.proofs.lemmas.List.{append-nil, map-append, length-map}
 use Rattle.std.specs.Prelude.{map}
 use Rattle.dns_message.specs.Targets.{CompressionTable, Encoder, Tree, encode_name, nothing}
 use Rattle.dns_message.specs.Data.{encode_parts, OptionItem}
-use Rattle.dns_message.specs.Headers.{header_octets}
-use Rattle.dns_message.specs.declared.header.Header.{Header}
-use Rattle.dns_message.specs.Builders.{Gathered, size_after, opt_record, InAdditional, InAnswer, InQuestion, State, Every, all_of, encode, encoders_of, head_of, move_to, tc_rewound, up_to, with_header, with_limit, with_record, with_records, with_tc}
+use Rattle.dns_message.specs.Headers.{HeaderFields}
+use Rattle.dns_message.specs.Builders.{Gathered, size_after, opt_record, InAdditional, InAnswer, InQuestion, State, Every, all_of, encode, encoders_of, head_of, move_to, tc_rewound, up_to, with_header, with_limit, with_record, with_records}
 use Rattle.dns_message.specs.Questions.{QuestionItem, encode_question}
 use Rattle.dns_message.specs.Records.{RecordItem, encode_record}
+use Rattle.dns_message.proofs.CallerLemmas.{every_append, every_map, length-octets_of_fields}
 use Rattle.example_response.specs.Response.{size}
 
 -- further encodings don't shorten the octets
@@ -27,25 +27,25 @@ more (p ∷ ps) q n sized m w =
     simp length-append (omega (arith, rest))
 
 -- the header and the counts take 12 octets
-head_size : (s : State) → length (header_octets s.header) ≡ 4 → length (head_of s).octets ≡ 12
-head_size s four = length-append _ _ ∙ ap (λ n. n + 8) four
+head_size : (s : State) → length (head_of s).octets ≡ 12
+head_size s = length-append _ _ ∙ ap (λ n. n + 8) (length-octets_of_fields s.header)
 
 -- the size of a message with these encodings after the header section
 abbrev after : List Encoder → ℕ
 after ps = 12 + length (all_of ps nothing 12).octets
 
 -- the size of a message is that of the header section and of the encodings after it
-pub sized : (s : State) → length (header_octets s.header) ≡ 4 → size s ≡ 12 + length (all_of (encoders_of Tree s) nothing 12).octets
+pub sized : (s : State) → size s ≡ 12 + length (all_of (encoders_of Tree s) nothing 12).octets
 unfolding encode
-sized s four = length-append _ _ ∙ (λ i. head_size s four i + length (all_of (encoders_of Tree s) nothing (head_size s four i)).octets)
+sized s = length-append _ _ ∙ (λ i. head_size s i + length (all_of (encoders_of Tree s) nothing (head_size s i)).octets)
 
 -- emptying the answer section and setting TC doesn't lengthen a message
-pub cut_within : (s : State) → length (header_octets s.header) ≡ 4 → length (header_octets (with_tc s.header)) ≡ 4 → size (tc_rewound InAnswer s) ≤ size s
-cut_within s four tc =
+pub cut_within : (s : State) → size (tc_rewound InAnswer s) ≤ size s
+cut_within s =
     let asked = map (encode_question Tree) s.questions in
     let l = longer asked (map (encode_record Tree) s.answers ++ (map (encode_record Tree) s.authorities ++ map (encode_record Tree) s.additionals)) nothing 12 in
-    let a = sized s four in
-    let b : size (tc_rewound InAnswer s) ≡ after asked = sized (tc_rewound InAnswer s) tc ∙ ap after (append-nil asked) in
+    let a = sized s in
+    let b : size (tc_rewound InAnswer s) ≡ after asked = sized (tc_rewound InAnswer s) ∙ ap after (append-nil asked) in
     omega (arith, a, b, l)
 
 -- moving to the answer section writes no octets if nothing follows the questions
@@ -59,28 +59,28 @@ unfolding encode
 size_entered s n = refl
 
 -- further questions don't shorten the message
-pub longer_questions : (s : State) (xs ys : List QuestionItem) → length (header_octets s.header) ≡ 4 → size (record (up_to InQuestion s) { questions = xs }) ≤ size (record (up_to InQuestion s) { questions = xs ++ ys })
-longer_questions s xs ys four =
+pub longer_questions : (s : State) (xs ys : List QuestionItem) → size (record (up_to InQuestion s) { questions = xs }) ≤ size (record (up_to InQuestion s) { questions = xs ++ ys })
+longer_questions s xs ys =
     let encoding = encode_question Tree in
     let l = longer (map encoding xs) (map encoding ys) nothing 12 in
-    let a : size (record (up_to InQuestion s) { questions = xs }) ≡ after (map encoding xs) = sized (record (up_to InQuestion s) { questions = xs }) four ∙ ap after (append-nil (map encoding xs)) in
+    let a : size (record (up_to InQuestion s) { questions = xs }) ≡ after (map encoding xs) = sized (record (up_to InQuestion s) { questions = xs }) ∙ ap after (append-nil (map encoding xs)) in
     let b : size (record (up_to InQuestion s) { questions = xs ++ ys }) ≡ after (map encoding xs ++ map encoding ys) =
-    sized (record (up_to InQuestion s) { questions = xs ++ ys }) four ∙ ap after (append-nil (map encoding (xs ++ ys)) ∙ map-append encoding xs ys) in
+    sized (record (up_to InQuestion s) { questions = xs ++ ys }) ∙ ap after (append-nil (map encoding (xs ++ ys)) ∙ map-append encoding xs ys) in
     omega (arith, a, b, l)
 
 -- further answers don't shorten the message
-pub longer_answers : (s : State) (xs ys : List RecordItem) → length (header_octets s.header) ≡ 4 → size (with_records InAnswer xs (up_to InAnswer s)) ≤ size (with_records InAnswer (xs ++ ys) (up_to InAnswer s))
-longer_answers s xs ys four =
+pub longer_answers : (s : State) (xs ys : List RecordItem) → size (with_records InAnswer xs (up_to InAnswer s)) ≤ size (with_records InAnswer (xs ++ ys) (up_to InAnswer s))
+longer_answers s xs ys =
     let encoding = encode_record Tree in
     let asked = map (encode_question Tree) s.questions in
     let front = asked ++ map encoding (s.answers ++ xs) in
     let l = longer front (map encoding ys) nothing 12 in
     let a : size (with_records InAnswer xs (up_to InAnswer s)) ≡ after front =
-    sized (with_records InAnswer xs (up_to InAnswer s)) four ∙ ap (λ (ps : List Encoder). after (asked ++ ps)) (append-nil (map encoding (s.answers ++ xs))) in
+    sized (with_records InAnswer xs (up_to InAnswer s)) ∙ ap (λ (ps : List Encoder). after (asked ++ ps)) (append-nil (map encoding (s.answers ++ xs))) in
     let e : map encoding (s.answers ++ (xs ++ ys)) ≡ map encoding (s.answers ++ xs) ++ map encoding ys =
     ap (map encoding) (sym (append_assoc s.answers xs ys)) ∙ map-append encoding (s.answers ++ xs) ys in
     let b : size (with_records InAnswer (xs ++ ys) (up_to InAnswer s)) ≡ after (front ++ map encoding ys) =
-    sized (with_records InAnswer (xs ++ ys) (up_to InAnswer s)) four
+    sized (with_records InAnswer (xs ++ ys) (up_to InAnswer s))
     ∙ ap (λ (ps : List Encoder). after (asked ++ ps)) (append-nil (map encoding (s.answers ++ (xs ++ ys))) ∙ e)
     ∙ ap after (sym (append_assoc asked (map encoding (s.answers ++ xs)) (map encoding ys))) in
     omega (arith, a, b, l)
@@ -91,19 +91,19 @@ unfolding encode_record encode_name encode_parts
 opt_octets g none m w = ap (λ (options : List OptionItem). length (encode_record Tree (opt_record (record g { options = options })) m w).octets) none
 
 -- pushing it as the first additional record adds 11 octets
-pub with_opt_size : (s : State) (g : Gathered) (header : Header) → length (header_octets s.header) ≡ 4 → length (header_octets header) ≡ 4 → s.additionals ≡ [] → g.options ≡ []
+pub with_opt_size : (s : State) (g : Gathered) (header : HeaderFields) → s.additionals ≡ [] → g.options ≡ []
     → size (with_header header (with_record InAdditional (opt_record g) s)) ≡ size s + 11
-with_opt_size s g header four other none options =
+with_opt_size s g header none options =
     let asked = map (encode_question Tree) s.questions in
     let answers = map (encode_record Tree) s.answers in
     let authorities = map (encode_record Tree) s.authorities in
     let opt = encode_record Tree (opt_record g) in
     let front = asked ++ (answers ++ authorities) in
     let a : size s ≡ after front =
-    sized s four ∙ ap (λ xs. after (asked ++ (answers ++ (authorities ++ map (encode_record Tree) xs)))) none
+    sized s ∙ ap (λ xs. after (asked ++ (answers ++ (authorities ++ map (encode_record Tree) xs)))) none
     ∙ ap (λ (ps : List Encoder). after (asked ++ (answers ++ ps))) (append-nil authorities) in
     let b : size (with_header header (with_record InAdditional (opt_record g) s)) ≡ after (front ++ opt ∷ []) =
-    sized (with_header header (with_record InAdditional (opt_record g) s)) other
+    sized (with_header header (with_record InAdditional (opt_record g) s))
     ∙ ap (λ xs. after (asked ++ (answers ++ (authorities ++ map (encode_record Tree) (xs ++ opt_record g ∷ []))))) none
     ∙ ap (λ (ps : List Encoder). after (asked ++ ps)) (sym (append_assoc answers authorities (opt ∷ [])))
     ∙ ap after (sym (append_assoc asked (answers ++ authorities) (opt ∷ []))) in
@@ -111,8 +111,8 @@ with_opt_size s g header four other none options =
     omega (arith, a, b, n)
 
 -- the same with the header as it is
-pub opt_size : (s : State) (g : Gathered) → length (header_octets s.header) ≡ 4 → s.additionals ≡ [] → g.options ≡ [] → size_after Tree (with_record InAdditional (opt_record g)) s ≡ size s + 11
-opt_size s g four none options = with_opt_size s g s.header four four none options
+pub opt_size : (s : State) (g : Gathered) → s.additionals ≡ [] → g.options ≡ [] → size_after Tree (with_record InAdditional (opt_record g)) s ≡ size s + 11
+opt_size s g none options = with_opt_size s g s.header none options
 
 -- an encoding has at least one octet, for any compression table and at any offset
 abbrev HasOctets : Encoder → Type 0
@@ -126,18 +126,6 @@ record_octets : (x : RecordItem) → HasOctets (encode_record Tree x)
 unfolding encode_record
 record_octets x m w = simp length-append (omega arith)
 
-every_question : (xs : List QuestionItem) → Every HasOctets (map (encode_question Tree) xs)
-every_question [] = tt
-every_question (x ∷ xs) = (question_octets x, every_question xs)
-
-every_record : (xs : List RecordItem) → Every HasOctets (map (encode_record Tree) xs)
-every_record [] = tt
-every_record (x ∷ xs) = (record_octets x, every_record xs)
-
-every_both : (ps qs : List Encoder) → Every HasOctets ps → Every HasOctets qs → Every HasOctets (ps ++ qs)
-every_both [] qs all others = others
-every_both (p ∷ ps) qs all others = (all.0, every_both ps qs all.1 others)
-
 -- so there are at least as many octets as encodings
 encoders_within : (ps : List Encoder) (m : CompressionTable) (w : ℕ) → Every HasOctets ps → length ps ≤ length (all_of ps m w).octets
 encoders_within [] m w all = omega arith
@@ -147,14 +135,15 @@ encoders_within (p ∷ ps) m w all =
     simp length-append (omega (arith, first, rest))
 
 -- questions and answers together are at most as many as the octets after the header section
-pub items_within : (s : State) → length (header_octets s.header) ≡ 4 → 12 + (length s.questions + length s.answers) ≤ size s
-items_within s four =
+pub items_within : (s : State) → 12 + (length s.questions + length s.answers) ≤ size s
+items_within s =
     let questions = map (encode_question Tree) s.questions in
     let answers = map (encode_record Tree) s.answers in
     let after_them = map (encode_record Tree) s.authorities ++ map (encode_record Tree) s.additionals in
-    let l = encoders_within (questions ++ answers) nothing 12 (every_both questions answers (every_question s.questions) (every_record s.answers)) in
+    let l = encoders_within (questions ++ answers) nothing 12 (every_append HasOctets questions answers (every_map HasOctets (encode_question Tree) question_octets s.questions)
+    (every_map HasOctets (encode_record Tree) record_octets s.answers)) in
     let m = longer (questions ++ answers) after_them nothing 12 in
-    let a = sized s four ∙ ap after (sym (append_assoc questions answers after_them)) in
+    let a = sized s ∙ ap after (sym (append_assoc questions answers after_them)) in
     let n = length-append questions answers in
     let q = length-map s.questions (encode_question Tree) in
     let r = length-map s.answers (encode_record Tree) in

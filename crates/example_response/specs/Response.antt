@@ -1,11 +1,10 @@
 -- The response to a query, in at most 512 octets. RFC 1035 sections 4.1.1 and 4.2.1, RFC 6891 section 6.1.1.
 use Rattle.std.specs.Prelude.{◌≤◌, ◌<◌, nat_le, if◌then◌else◌, ℕ, List, length, Option, Some, None}
 use Rattle.dns_message.specs.Targets.{Tree}
-use Rattle.dns_message.specs.declared.header.Header.{Header}
+use Rattle.dns_message.specs.Headers.{HeaderFields, fields_in}
 use Rattle.dns_message.specs.Records.{RecordItem, OptItem}
 use Rattle.dns_message.specs.Messages.{opt_of}
 use Rattle.dns_message.specs.Builders.{Gathered, nothing_gathered, answer_header, readable_questions, fresh, size_after, IsMessageOf, with_opt, InAnswer, InAdditional, State, move_to, tc_rewound, with_limit, with_records}
-use Rattle.dns_build.specs.Answers.{header_in}
 use Rattle.dns_message.specs.declared.builder.PushError.{PushError}
 use Rattle.dns_message.specs.declared.builder.PushError.TheVariants.{CountOverflow, LimitExceeded, ShortBuf, OutOfMemory}
 
@@ -13,17 +12,17 @@ use Rattle.dns_message.specs.declared.builder.PushError.TheVariants.{CountOverfl
 abbrev pub size : State → ℕ
 size = size_after Tree (λ s. s)
 
--- the most octets of a response before its OPT record, which takes 11: 512 with it
-abbrev pub most_octets : Option OptItem → ℕ
-most_octets None = 512
-most_octets (Some opt) = 501
+-- The most octets of a response before its OPT record. That record takes 11 octets, so there are at most 512 with it.
+abbrev pub most_before_opt : Option OptItem → ℕ
+most_before_opt None = 512
+most_before_opt (Some opt) = 501
 
--- A reply to a query without records: the query's ID, opcode, RD and readable questions, QR, and the rcode NOERROR, which is 0.
+-- A reply to a query, without records: the query's ID, opcode, RD and readable questions, QR, and the rcode NOERROR, which is 0.
 abbrev pub asked_again : List ℕ → State
 asked_again query = record fresh {
   stage = InAnswer;
-  header = answer_header 0 (header_in query) fresh.header;
-  limit = most_octets (opt_of query);
+  header = answer_header 0 (fields_in query) fresh.header;
+  limit = most_before_opt (opt_of query);
   questions = readable_questions query;
 }
 
@@ -33,7 +32,7 @@ all_or_none answers s =
     let all = with_records InAnswer answers s in if nat_le (size all) s.limit then all else tc_rewound InAnswer s
 
 -- what the OPT record of a response says: a UDP payload size of 1,232 octets, and else nothing
-abbrev pub own_opt : Header → Gathered
+abbrev pub own_opt : HeaderFields → Gathered
 own_opt header =
     let nothing = nothing_gathered header in record nothing { fields = record nothing.fields { udp_payload_size = 1232 } }
 
@@ -54,6 +53,6 @@ pub record IsResponse (query : List ℕ) (answers : List RecordItem) (b : List �
 -- Why a query gets no response: an allocation failed, or its questions alone are too long.
 abbrev pub IsReason : List ℕ → PushError → Type 0
 IsReason query OutOfMemory = Unit {0}
-IsReason query LimitExceeded = most_octets (opt_of query) < size (asked_again query)
+IsReason query LimitExceeded = most_before_opt (opt_of query) < size (asked_again query)
 IsReason query ShortBuf = ⊥
 IsReason query CountOverflow = ⊥

@@ -5,10 +5,10 @@ use Rattle.dns_message.specs.Records.{opt_item}
 use Rattle.dns_message.specs.Messages.{message_octets, opt_of}
 use Rattle.dns_message.specs.Builders.{GivesAnswer, answering, readable_questions, Represents, fresh, InAdditional, with_limit}
 use Rattle.dns_message.specs.declared.builder.PushError.TheVariants.{LimitExceeded}
-use Rattle.example_response.specs.Response.{asked_again, most_octets, response_to}
+use Rattle.example_response.specs.Response.{asked_again, most_before_opt, response_to}
 use Rattle.example_response.proofs.Answering.{AddsAllOrNone, adds_all, adds_none, pushes_next, refused_for_memory}
 use Rattle.example_response.proofs.Opts.{SetsSize, has_opt, limit_of, opt_pushed, opt_refused, with_none, with_one}
-use Rattle.example_response.proofs.Starting.{answered, for_memory, has_room, most_small, no_additional, not_started, record_size, response_of, started_within}
+use Rattle.example_response.proofs.Starting.{answered, for_memory, opt_fits, most_small, no_additional, not_started, record_size, response_of, started_within}
 use Rattle.example_response.proofs.response.Goals.{then-has_opt, else-has_opt, else-loop-answer-test, then-loop-answer-test+in-Err-LimitExceeded, then-has_opt-2+in_ok-opt, else-has_opt-2}
 use Rattle.example_response.proofs.response.Goals as goal
 
@@ -16,7 +16,7 @@ pub returns-in_err-builder-2-clause-err : goal.returns-in_err-builder-2-clause-e
 returns-in_err-builder-2-clause-err g c =
     let b = message_octets c.args.query.now in
     let has = has_opt opt_item c.opt.result (opt_of b) c.is_some-has_opt.result c.opt.ensures c.is_some-has_opt.ensures in
-    let limit : c.if-has_opt.set_push_limit ≡ most_octets (opt_of b) = limit_of (opt_of b) c.is_some-has_opt.result _ has
+    let limit : c.if-has_opt.set_push_limit ≡ most_before_opt (opt_of b) = limit_of (opt_of b) c.is_some-has_opt.result _ has
     (elim c.if-has_opt.branch [ then-has_opt w ↦ inl (w.if-has_opt.true, w.set_push_limit-is) | else-has_opt w ↦ inr (w.if-has_opt.false, w.set_push_limit-is) ]) in
     let p = err_from_is_err_and c.from_residual-in_err-builder-2.result c.from_residual-in_err-builder-2.ensures.1 in
     let start = subst (λ n. GivesAnswer None true Tree (answering 0 b (with_limit n fresh)) (readable_questions b) (Err c.in_err-builder-2.field-0.0)) limit
@@ -26,14 +26,14 @@ returns-in_err-builder-2-clause-err g c =
 pub loop-answer-preserved : goal.loop-answer-preserved
 loop-answer-preserved g c = record {
   pushes = pushes_next g.R.ComposeRecord.item c.args.answers.now c.loop-answer.answer-index c.answer-item.result _ c.loop-answer-test.true c.answer-item.is
-      c.in_ok-builder-2.builder c.loop-answer.builder _ c.in-Ok.ensures.accepted c.in-Ok.ensures.capacity c.loop-answer.invariant.pushes;
+      c.in_ok-builder-2.builder c.loop-answer.builder _ c.in-Ok.ensures.accepted c.in-Ok.ensures.outcome.each c.loop-answer.invariant.pushes;
 }
 
 pub returns-in-Err : goal.returns-in-Err
 returns-in-Err g c =
     let b = message_octets c.args.query.now in
     let has = has_opt opt_item c.opt.result (opt_of b) c.is_some-has_opt.result c.opt.ensures c.is_some-has_opt.ensures in
-    let limit : c.if-has_opt.set_push_limit ≡ most_octets (opt_of b) = limit_of (opt_of b) c.is_some-has_opt.result _ has
+    let limit : c.if-has_opt.set_push_limit ≡ most_before_opt (opt_of b) = limit_of (opt_of b) c.is_some-has_opt.result _ has
     (elim c.if-has_opt.branch [ then-has_opt w ↦ inl (w.if-has_opt.true, w.set_push_limit-is) | else-has_opt w ↦ inr (w.if-has_opt.false, w.set_push_limit-is) ]) in
     let xs = map g.R.ComposeRecord.item c.args.answers.now in
     let start = subst (λ n. GivesAnswer None true Tree (answering 0 b (with_limit n fresh)) (readable_questions b) (Ok c.in_ok-builder-2.builder)) limit
@@ -41,14 +41,14 @@ returns-in-Err g c =
     let within = started_within b start.0 in
     let other : c.in-Err.error ≢ LimitExceeded = first_of (search rules, grind arith) in
     let memory = refused_for_memory g.R.ComposeRecord.item c.args.answers.now c.loop-answer.answer-index c.answer-item.result c.in_ok-builder-2.builder c.loop-answer.builder c.loop-answer.invariant.pushes
-    c.push_ref.result c.push_ref.ensures.short c.push_ref.ensures.count (asked_again b) start.1 (most_small (opt_of b)) c.in-Err.error c.in-Err.is other in
+    c.in-Err.error c.in-Err.ensures.outcome.each (asked_again b) start.1 (most_small (opt_of b)) other in
     record { ok = tt; err = for_memory b c.in-Err.error memory }
 
 pub returns-in_err-opt-clause-err : goal.returns-in_err-opt-clause-err
 returns-in_err-opt-clause-err g c =
     let b = message_octets c.args.query.now in
     let has = has_opt opt_item c.opt.result (opt_of b) c.is_some-has_opt.result c.opt.ensures c.is_some-has_opt.ensures in
-    let limit : c.if-has_opt.set_push_limit ≡ most_octets (opt_of b) = limit_of (opt_of b) c.is_some-has_opt.result _ has
+    let limit : c.if-has_opt.set_push_limit ≡ most_before_opt (opt_of b) = limit_of (opt_of b) c.is_some-has_opt.result _ has
     (elim c.if-has_opt.branch [ then-has_opt w ↦ inl (w.if-has_opt.true, w.set_push_limit-is) | else-has_opt w ↦ inr (w.if-has_opt.false, w.set_push_limit-is) ]) in
     let xs = map g.R.ComposeRecord.item c.args.answers.now in
     let start = subst (λ n. GivesAnswer None true Tree (answering 0 b (with_limit n fresh)) (readable_questions b) (Ok c.in_ok-builder-2.builder)) limit
@@ -62,12 +62,12 @@ returns-in_err-opt-clause-err g c =
       | then-loop-answer-test+in-Err-LimitExceeded w ↦
           rw w.builder-is (adds_none g.R.ComposeRecord.item c.args.answers.now c.loop-answer.answer-index w.answer-item.result _ w.loop-answer-test.true w.answer-item.is
           c.in_ok-builder-2.builder w.push_ref.new.self _ (rw w.in-Err-LimitExceeded.ensures.refused c.loop-answer.invariant.pushes)
-          (rw w.in-Err-LimitExceeded.ensures.refused (w.push_ref.ensures.limit (w.in-Err-LimitExceeded.is ∙ ap Err w.in-Err-LimitExceeded.field-0-is))) w.tc_rewind_into-builder.ensures)
+          (rw w.in-Err-LimitExceeded.ensures.refused w.in-Err-LimitExceeded.ensures.outcome.each) w.tc_rewind_into-builder.ensures)
     ] in
     let ended = c.set_push_limit-2.ensures _ (c.additional-builder.ensures _ (added (asked_again b) start.1 within)) in
     let p = err_from_is_err_and c.from_residual-in_err-opt.result c.from_residual-in_err-opt.ensures.1 in
-    let room = has_room b xs (sym has ∙ c.if-has_opt-2.true) within in
-    let memory = opt_refused _ (answered b xs) _ (omega (arith, room)) (record_size b xs) (no_additional b xs) c.in_err-opt.field-0.0 (c.in_err-opt.ensures.pushes _ ended)
+    let fits = opt_fits b xs (sym has ∙ c.if-has_opt-2.true) within in
+    let memory = opt_refused _ (answered b xs) _ (omega (arith, fits)) (record_size b xs) (no_additional b xs) c.in_err-opt.field-0.0 (c.in_err-opt.ensures.pushes _ ended)
     (λ old outcome left called. subst (λ x. SetsSize x outcome left) called.shows (subst (λ x. SetsSize called.shown.now outcome x) called.leaves (search rules))) in
     rw (p.1, p.2) (for_memory b c.in_err-opt.field-0.0 memory)
 
@@ -75,7 +75,7 @@ pub returns-clause-ok : goal.returns-clause-ok
 returns-clause-ok g c =
     let b = message_octets c.args.query.now in
     let has = has_opt opt_item c.opt.result (opt_of b) c.is_some-has_opt.result c.opt.ensures c.is_some-has_opt.ensures in
-    let limit : c.if-has_opt.set_push_limit ≡ most_octets (opt_of b) = limit_of (opt_of b) c.is_some-has_opt.result _ has
+    let limit : c.if-has_opt.set_push_limit ≡ most_before_opt (opt_of b) = limit_of (opt_of b) c.is_some-has_opt.result _ has
     (elim c.if-has_opt.branch [ then-has_opt w ↦ inl (w.if-has_opt.true, w.set_push_limit-is) | else-has_opt w ↦ inr (w.if-has_opt.false, w.set_push_limit-is) ]) in
     let xs = map g.R.ComposeRecord.item c.args.answers.now in
     let start = subst (λ n. GivesAnswer None true Tree (answering 0 b (with_limit n fresh)) (readable_questions b) (Ok c.in_ok-builder-2.builder)) limit
@@ -89,7 +89,7 @@ returns-clause-ok g c =
       | then-loop-answer-test+in-Err-LimitExceeded w ↦
           rw w.builder-is (adds_none g.R.ComposeRecord.item c.args.answers.now c.loop-answer.answer-index w.answer-item.result _ w.loop-answer-test.true w.answer-item.is
           c.in_ok-builder-2.builder w.push_ref.new.self _ (rw w.in-Err-LimitExceeded.ensures.refused c.loop-answer.invariant.pushes)
-          (rw w.in-Err-LimitExceeded.ensures.refused (w.push_ref.ensures.limit (w.in-Err-LimitExceeded.is ∙ ap Err w.in-Err-LimitExceeded.field-0-is))) w.tc_rewind_into-builder.ensures)
+          (rw w.in-Err-LimitExceeded.ensures.refused w.in-Err-LimitExceeded.ensures.outcome.each) w.tc_rewind_into-builder.ensures)
     ] in
     let ended = c.set_push_limit-2.ensures _ (c.additional-builder.ensures _ (added (asked_again b) start.1 within)) in
     let represents : Represents InAdditional Tree (response_to b xs) c.if-has_opt-2.builder =
