@@ -32,6 +32,8 @@ pub use Rattle.dns_section.proofs.theory.ReadingLemmas.{readings_of_questions_en
 pub use Rattle.dns_build.proofs.theory.EncodingReading.{encodings_are_messages}
 -- A message within its limit stays so when accepted questions are pushed.
 pub use Rattle.dns_build.proofs.theory.Asking.{accepted_within}
+-- The encoding of a state is a message with its items.
+pub use Rattle.dns_build.proofs.theory.EncodingReading.{encodings_are_messages}
 -- What holds of each element of two lists holds of each of their concatenation.
 pub use Rattle.dns_build.proofs.theory.Encodings.{every_append}
 -- What holds of `f x` for each `x` holds of each element of `map f xs`.

@@ -1,16 +1,25 @@
-//! The examples of README.md.
-ghost use Rattle.std.specs.Prelude.{◌≡◌, ◌↔◌, IsTrue, IfOk, ◌∷◌, []};
-ghost use Rattle.dns_message.specs.Names.{Labels, lowered, NameAt};
+//! The examples of the modules of `dns_message`.
+ghost use Rattle.std.specs.Prelude.{◌≡◌, ◌↔◌, IsTrue, IfOk, IfSome, ◌∷◌, []};
+ghost use Rattle.std.specs.String.{string_bytes};
+ghost use Rattle.dns_message.specs.Names.{name_labels, Labels, lowered, NameAt, name_text};
+ghost use Rattle.dns_message.specs.Targets.{Tree};
+ghost use Rattle.dns_message.specs.Data.{address_text};
+ghost use Rattle.dns_message.specs.Records.{record_fields_text};
 ghost use Rattle.dns_message.specs.Messages.{message_octets};
-ghost use Rattle.dns_message_tests.specs.Tour.{HasQuestions};
+ghost use Rattle.dns_message.specs.Builders.{IsMessageOf};
+ghost use Rattle.dns_message_tests.specs.Callers.{AreAnswers};
+ghost use Rattle.dns_message_tests.specs.Tour.{HasQuestions, a_layout, address_parts, response_with};
 
-use crate::asserts::assert_holds;
+use arrayvec::ArrayVec;
 use dns_message::builder::{MessageBuilder, PushError};
-use dns_message::code::Rtype;
+use dns_message::code::{Class, Rcode, Rtype};
+use dns_message::data::A;
 use dns_message::message::Message;
 use dns_message::name::{Name, ParsedName, ToName, ToNameExt};
-use dns_message::wire::Parser;
-use std::alloc::Global;
+use dns_message::record::{ComposeRecord, Record, Ttl};
+use dns_message::target::{StaticCompressor, TreeCompressor};
+use dns_message::wire::{Octets, Parser};
+use std::alloc::{AllocError, Global};
 use std::test::Fail;
 
 /// Whether the name at the start of the octets equals this one, ignoring ASCII case.
@@ -27,12 +36,8 @@ fn begins_with<N: ToName>(octets: &[u8], name: &N) -> bool
 #[test]
 fn finds_a_name(rt: HostRuntime) -> Result<(), Fail> {
     let name = Name::from_octets(*b"\x07example\x03com\x00")?;
-    let found = begins_with(b"\x07EXAMPLE\x03com\x00\x00\x01\x00\x01", &name);
-    assert_holds(&rt, "the name in other letter case", found);
-    let found = begins_with(b"\x03com\x00", &name);
-    assert_holds(&rt, "another name", !found);
-    let found = begins_with(b"\x07example", &name);
-    assert_holds(&rt, "a name that is cut", !found);
+    assert!(rt; begins_with(b"\x07EXAMPLE\x03com\x00\x00\x01\x00\x01", &name));
+    assert!(rt; !begins_with(b"\x03com\x00", &name) && !begins_with(b"\x07example", &name));
     Ok(())
 }
 
@@ -49,13 +54,97 @@ fn address_query<N: ToName + Drop>(alloc: Global, name: N) -> Result<Message<Vec
 #[test]
 fn asks_for_an_address(rt: HostRuntime) -> Result<(), Fail> {
     let query = address_query(rt.alloc(), Name::from_octets(*b"\x07example\x03com\x00")?)?;
-    assert_holds(&rt, "the length", query.as_slice().len() == 29);
+    assert_eq!(rt; query.as_slice().len(), 29);
     let mut questions = query.question();
     let Some(Ok(question)) = questions.next() else {
         panic!(rt; "no question");
     };
-    let is_asked = begins_with(b"\x07EXAMPLE\x03com\x00", question.qname());
-    assert_holds(&rt, "the name", is_asked);
-    assert_holds(&rt, "one question", questions.next().is_none());
+    assert!(rt; begins_with(b"\x07EXAMPLE\x03com\x00", question.qname()));
+    assert!(rt; questions.next().is_none());
+    Ok(())
+}
+
+/// The addresses in the answer section that can be read, in order. Returns `None` if the section
+/// has no start, or an allocation fails.
+fn addresses<Octs: Octets>(alloc: Global, message: &Message<Octs>) -> Option<Vec<A>>
+    ensures { IfSome result (λ found. AreAnswers address_parts a_layout
+        (message_octets message.now) found.items) }
+{
+    let mut found = Vec::new(alloc);
+    for record in message.answer().ok()?.limit_to::<A>() {
+        if let Ok(record) = record {
+            found.push(record.into_data()).ok()?;
+        }
+    }
+    Some(found)
+}
+
+/// The response to a query with one record as its answer. Names are compressed.
+fn response<Octs: Octets, R: ComposeRecord + Drop>(
+    alloc: Global,
+    query: &Message<Octs>,
+    answer: R,
+) -> Result<Message<Vec<u8>>, PushError>
+    ensures { IfOk result (λ response. IsMessageOf Tree
+        (response_with (message_octets query.now) (R.item answer)) (message_octets response)) }
+{
+    let target = TreeCompressor::new(alloc, Vec::new(alloc));
+    let builder = MessageBuilder::from_target(target)?;
+    let mut response = builder.start_answer(query, Rcode::NOERROR)?;
+    response.push(answer)?;
+    Ok(response.into_message())
+}
+
+#[test]
+fn answers_with_an_address(rt: HostRuntime) -> Result<(), Fail> {
+    let name = Name::from_octets(*b"\x07example\x03com\x00")?;
+    let query = address_query(rt.alloc(), name)?;
+    let response = response(
+        rt.alloc(),
+        &query,
+        (name, 3600u32, A::from_octets(192, 0, 2, 1)),
+    )?;
+    assert_eq!(rt; response.as_slice().len(), 29 + 16);
+    let found = addresses(rt.alloc(), &response).ok_or("no answers")?;
+    assert!(rt; found.len() == 1 && found[0].octets() == [192, 0, 2, 1]);
+    Ok(())
+}
+
+/// The query for the records of a name and a type, in a buffer of 512 octets. Nothing is allocated.
+fn query_in_buffer<N: ToName + Drop>(
+    name: N,
+    rtype: Rtype,
+) -> Result<Message<ArrayVec<u8, 512>>, PushError>
+    ensures { IfOk result (λ message. HasQuestions (message_octets message)
+        (record { name = N.name name; rtype = rtype; class = 1 } ∷ [])) }
+{
+    let target = StaticCompressor::new(ArrayVec::<u8, 512>::new());
+    let mut builder = MessageBuilder::from_target(target)?.question();
+    builder.push((name, rtype))?;
+    Ok(builder.into_message())
+}
+
+#[test]
+fn asks_in_a_buffer(rt: HostRuntime) -> Result<(), Fail> {
+    let name = Name::from_octets(*b"\x07example\x03com\x00")?;
+    let query = query_in_buffer(name, Rtype::NS)?;
+    assert!(rt; query.as_slice().len() == 29 && query.qtype() == Some(Rtype::NS));
+    Ok(())
+}
+
+/// The line of an address record of class IN with a TTL of an hour.
+fn address_line(alloc: Global, owner: Name<Vec<u8>>, address: A) -> Result<String, AllocError>
+    ensures { IfOk result (λ text. string_bytes text
+        ≡ record_fields_text (name_text (name_labels owner)) 3600 1 1 (address_text address)) }
+{
+    let record = Record::new(owner, Class::IN, Ttl::HOUR, address);
+    format!(in alloc; "{record}")
+}
+
+#[test]
+fn prints_a_record(rt: HostRuntime) -> Result<(), Fail> {
+    let owner = Name::vec_from_str(rt.alloc(), "example.com")?;
+    let line = address_line(rt.alloc(), owner, A::from_octets(192, 0, 2, 1))?;
+    assert_eq!(rt; line.as_str(), "example.com. 3600 IN A 192.0.2.1");
     Ok(())
 }

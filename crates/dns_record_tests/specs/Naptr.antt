@@ -1,9 +1,9 @@
 -- The parts of naming authority pointers. RFC 3403 section 4.1.
 use Rattle.std.specs.Prelude.{ℕ, List, [], ◌∷◌}
 use Rattle.std.specs.Int.{to_be_bytes, w16}
-use Rattle.dns_name.specs.Names.{Labels, uncompressed}
-use Rattle.dns_wire.specs.Parts.{Part}
-use Rattle.dns_wire.specs.Parts.Part.{Octets}
+use Rattle.dns_message.specs.Names.{Labels, uncompressed}
+use Rattle.dns_message.specs.Data.{Part}
+use Rattle.dns_message.specs.Data.Part.{Octets}
 
 -- the order, the preference, the flags, the services, the regular expression and the replacement
 abbrev pub naptr_parts : ℕ → ℕ → List ℕ → List ℕ → List ℕ → Part → List Part

@@ -1,6 +1,6 @@
 //! Character strings, for data types of the test's own (RFC 1035 section 3.3).
 ghost use Rattle.std.specs.Prelude.{◌≡◌, ◌+◌, ◌≤◌, length};
-ghost use Rattle.dns_data.specs.Layout.{string_size};
+ghost use Rattle.dns_message.specs.Data.{string_size};
 
 use dns_message::wire::{ParseError, Parser};
 use std::process::Abort;
@@ -16,7 +16,7 @@ pub struct CharStr<'a> {
 
 impl<'a> CharStr<'a> {
     ghost use Rattle.std.specs.Prelude.{◌↔◌, slice_range, IfSome, IsSome};
-    ghost use Rattle.dns_name.specs.Parsers.{seen, offset, Takes};
+    ghost use Rattle.dns_message.specs.Wire.{seen, offset, Takes};
 
     /// The character string in these octets. `None` unless the first octet is the number of the
     /// others.

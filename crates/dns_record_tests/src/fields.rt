@@ -1,7 +1,7 @@
 //! RDATA of which all fields are octets.
 ghost use Rattle.std.specs.Prelude.{◌∷◌, map};
-ghost use Rattle.dns_wire.specs.Parts.{Octets, encode_parts};
-ghost use Rattle.dns_wire.specs.Targets.{Composes};
+ghost use Rattle.dns_message.specs.Targets.{Composes};
+ghost use Rattle.dns_message.specs.Data.{Octets, encode_parts};
 
 use dns_message::data::laws::parts_compose;
 use dns_message::target::Composer;

@@ -1,9 +1,7 @@
 //! HINFO: a data type of the test's own, proved against the contracts alone.
 ghost use Rattle.std.proofs.Common.{rules};
 ghost use Rattle.std.specs.Prelude.{[], ◌∷◌};
-ghost use Rattle.dns_wire.specs.Parts.{Octets};
-ghost use Rattle.dns_data.specs.Layout.{CharacterString, End};
-ghost use Rattle.dns_data.specs.RecordData.{only};
+ghost use Rattle.dns_message.specs.Data.{Octets, CharacterString, End, only};
 
 use crate::asserts::{assert_answer, assert_octets, first_data, message_of, name_of};
 use crate::char_str::{CharStr, string};

@@ -2,9 +2,7 @@
 ghost use Rattle.std.proofs.Common.{rules};
 ghost use Rattle.std.specs.Prelude.{◌≡◌, [], ◌∷◌, length};
 ghost use Rattle.std.specs.Int.{to_be_bytes, w16};
-ghost use Rattle.dns_wire.specs.Parts.{Octets, CompressibleName};
-ghost use Rattle.dns_data.specs.Layout.{Fixed, DomainName, End};
-ghost use Rattle.dns_data.specs.RecordData.{only};
+ghost use Rattle.dns_message.specs.Data.{Octets, CompressibleName, Fixed, DomainName, End, only};
 
 use crate::asserts::{
     assert_answer, assert_holds, assert_numbers, first_data, message_of, name_of,

@@ -2,11 +2,8 @@
 ghost use Rattle.std.proofs.Common.{rules};
 ghost use Rattle.std.specs.Prelude.{◌≡◌, [], ◌∷◌, length};
 ghost use Rattle.std.specs.Int.{to_be_bytes, w16};
-ghost use Rattle.dns_name.specs.NameReading.{name_labels};
-ghost use Rattle.dns_name.specs.ParsedName.{labels};
-ghost use Rattle.dns_wire.specs.Parts.{CompressibleName};
-ghost use Rattle.dns_data.specs.Layout.{Fixed, CharacterString, DomainName, End};
-ghost use Rattle.dns_data.specs.RecordData.{only};
+ghost use Rattle.dns_message.specs.Names.{name_labels, labels};
+ghost use Rattle.dns_message.specs.Data.{CompressibleName, Fixed, CharacterString, DomainName, End, only};
 ghost use Rattle.dns_record_tests.specs.Naptr.{naptr_parts, verbatim};
 
 use crate::asserts::{

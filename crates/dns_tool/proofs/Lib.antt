@@ -5,3 +5,4 @@ mod PrintedLines
 mod ShownHeader
 mod ShownRecords
 mod TypedText
+mod WalkLemmas

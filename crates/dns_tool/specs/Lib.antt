@@ -6,3 +6,4 @@ pub mod ScriptData
 pub mod Show
 pub mod ShowDigits
 pub mod TypedData
+pub mod Walk

@@ -7,14 +7,17 @@ ghost use Rattle.dns_code.specs.HeaderCounts.{counts as count_fields};
 ghost use Rattle.dns_item.specs.ParsedRecord.{encoded_record};
 ghost use Rattle.dns_read.specs.Message.{message_octets};
 ghost use Rattle.dns_section.specs.QuestionSection.{question_result, questions_left};
-ghost use Rattle.dns_section.specs.RecordSection.{record_result, records_left};
+ghost use Rattle.dns_section.specs.RecordSection.{octets_of, record_result, records_left, BeginsSection};
+ghost use Rattle.dns_section.specs.declared.section.Section.TheVariants.{Answer};
 ghost use Rattle.dns_tool.specs.Show.{header_line, counts_line, line, question_line, record_line, section_word, IsRead, HasShortData, text_with, records_text, message_text};
+ghost use Rattle.dns_tool.specs.Walk.{SameAnswersFollow, SameNextFollows};
 
 use crate::typed_data::TypedData;
 use dns_code::{Header, HeaderCounts};
 use dns_data::UnknownRecordData;
 use dns_item::{ParsedRecord, Question};
 use dns_read::{Message, QuestionSection, RecordSection, Section};
+use dns_section::following;
 use dns_wire::{ParseError, ParsedName};
 use std::io;
 use std::io::Write;
@@ -30,8 +33,11 @@ pub fn print_message<W: Write>(writer: &mut W, message: &Message<&[u8]>) -> io::
 {
     print_header(writer, message.header())?;
     print_counts(writer, message.header_counts())?;
-    print_questions(writer, message.question())?;
-    print_sections(writer, message)
+    let questions = print_questions(writer, message.question())?;
+    match questions.answer() {
+        Ok(answer) => print_sections(writer, answer),
+        Err(_) => print_missing(writer, Section::Answer),
+    }
 }
 
 fn print_header<W: Write>(writer: &mut W, header: Header) -> io::Result<()>
@@ -63,16 +69,25 @@ fn print_counts<W: Write>(writer: &mut W, counts: HeaderCounts) -> io::Result<()
     )
 }
 
-/// Prints a line for each question, and one for the error of the first that can't be read.
-fn print_questions<W: Write>(writer: &mut W, questions: QuestionSection<'_>) -> io::Result<()>
-    ensures { OnOk result (Appends (W.contents writer.old) (W.contents writer.new)
+/// Prints a line for each question, and one for the error of the first that can't be read. Returns
+/// the cursor after the questions that can be read, from which the answer section follows.
+fn print_questions<'a, W: Write>(
+    writer: &mut W,
+    questions: QuestionSection<'a>,
+) -> io::Result<QuestionSection<'a>>
+    ensures printed { OnOk result (Appends (W.contents writer.old) (W.contents writer.new)
         (flat_map question_line (questions_left questions.entry))) }
+    ensures follows { IfOk result (SameAnswersFollow questions.entry) }
 {
     let mut questions = questions;
+    let mut readable = questions;
     while let Some(question) = questions.next() {
+        if question.is_ok() {
+            readable = questions;
+        }
         print_question(writer, question)?;
     }
-    Ok(())
+    Ok(readable)
 }
 
 fn print_question<W: Write>(
@@ -88,23 +103,22 @@ fn print_question<W: Write>(
     }
 }
 
-/// Prints the sections of records, up to the first that has no start.
-fn print_sections<W: Write>(writer: &mut W, message: &Message<&[u8]>) -> io::Result<()>
+/// Prints the sections of records from the answer section on, up to the first that has no start.
+fn print_sections<W: Write>(writer: &mut W, answer: RecordSection<'_>) -> io::Result<()>
+    requires { BeginsSection Answer (octets_of answer) answer }
     ensures { OnOk result (Appends (W.contents writer.old) (W.contents writer.new)
-        (records_text (message_octets message.now))) }
+        (records_text (octets_of answer.entry))) }
 {
-    let Ok(answer) = message.answer() else {
-        return print_missing(writer, Section::Answer);
-    };
-    print_records(writer, Section::Answer, answer)?;
-    let Ok(authority) = message.authority() else {
+    let answer = print_records(writer, Section::Answer, answer)?;
+    let Ok(authority) = following(answer) else {
         return print_missing(writer, Section::Authority);
     };
-    print_records(writer, Section::Authority, authority)?;
-    let Ok(additional) = message.additional() else {
+    let authority = print_records(writer, Section::Authority, authority)?;
+    let Ok(additional) = following(authority) else {
         return print_missing(writer, Section::Additional);
     };
-    print_records(writer, Section::Additional, additional)
+    print_records(writer, Section::Additional, additional)?;
+    Ok(())
 }
 
 /// The word that begins each line of a section.
@@ -127,21 +141,27 @@ fn print_missing<W: Write>(writer: &mut W, section: Section) -> io::Result<()>
     writeln!(writer, "{word} missing")
 }
 
-/// Prints a line for each record, and one for the error of the first that can't be read.
-fn print_records<W: Write>(
+/// Prints a line for each record, and one for the error of the first that can't be read. Returns the
+/// cursor after the records that can be read, from which the next section follows.
+fn print_records<'a, W: Write>(
     writer: &mut W,
     section: Section,
-    records: RecordSection<'_>,
-) -> io::Result<()>
-    ensures { OnOk result (Appends (W.contents writer.old) (W.contents writer.new)
+    records: RecordSection<'a>,
+) -> io::Result<RecordSection<'a>>
+    ensures printed { OnOk result (Appends (W.contents writer.old) (W.contents writer.new)
         (flat_map (record_line (section_word section)) (records_left records.entry))) }
+    ensures follows { IfOk result (SameNextFollows records.entry) }
 {
     let word = word_of(section);
     let mut records = records;
+    let mut readable = records;
     while let Some(record) = records.next() {
+        if record.is_ok() {
+            readable = records;
+        }
         print_record(writer, word, record)?;
     }
-    Ok(())
+    Ok(readable)
 }
 
 /// Prints a line for a record, or for the error of one that can't be read.

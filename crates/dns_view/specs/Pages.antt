@@ -5,10 +5,10 @@ use Rattle.dns_rows.specs.Rows.{is_item, is_pointer, row_octets, target_in}
 use Rattle.dns_view.specs.Digits.{octet_text}
 use Rattle.dns_rows.specs.declared.row.Row.{Row}
 use Rattle.dns_rows.specs.declared.row.Kind.{Kind}
-use Rattle.dns_rows.specs.declared.row.Kind.TheVariants as kinds
 use Rattle.dns_rows.specs.declared.row.Field.{Field}
-use Rattle.dns_rows.specs.declared.row.Field.TheVariants as fields
 use Rattle.dns_view.specs.declared.html.TheConstants.{HEAD, TIP}
+use Rattle.dns_rows.specs.declared.row.Kind.TheVariants as kinds
+use Rattle.dns_rows.specs.declared.row.Field.TheVariants as fields
 
 -- the left edge of an octet's cell: a line has sixteen cells of width 36, after a margin of 60
 abbrev pub left_edge : ℕ → ℕ

@@ -4,7 +4,7 @@ use Rattle.std.specs.Char.{is_ascii_hexdigit, is_ascii_whitespace}
 use Rattle.std.specs.Io.KnownBytes.{Appends}
 use Rattle.std.specs.List.{list_all}
 use Rattle.hex.specs.Hex.{decode_of}
-use Rattle.dns_code.specs.HeaderSection.{header_size}
+use Rattle.dns_message.specs.Headers.{header_size}
 use Rattle.dns_tool.specs.Hex.{unspaced}
 use Rattle.dns_rows.specs.Shown.{short_header, ShowsMessage}
 use Rattle.dns_rows.specs.Tiles.{Tiles}

@@ -1,7 +1,7 @@
 use Rattle.std.proofs.Common.{Err, ap, ◌∙◌, arith, ℕ, ◌-◌, ◌≤◌, [], ◌∷◌, map, length, List, take, drop, get_or, ◌≡◌, Bor}
 use Rattle.std.proofs.lemmas.List.{nil_from_length, take_all}
 use Rattle.std.proofs.lemmas.Result.{err_from_is_err_and}
-use Rattle.dns_wire.specs.Parts.{Part, Octets}
+use Rattle.dns_message.specs.Data.{Part, Octets}
 use Rattle.dns_record_tests.proofs.fields.+compose_fields.Goals as goal
 
 -- the parts of fields

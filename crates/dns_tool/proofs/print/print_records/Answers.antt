@@ -2,10 +2,12 @@ use Rattle.std.proofs.Common.{arith}
 use Rattle.dns_tool.specs.Show.{record_line, section_word}
 use Rattle.dns_tool.proofs.PrintedLines.{none_printed, more_printed, all_printed}
 use Rattle.dns_tool.proofs.ShownRecords.{given_read, given_short}
+use Rattle.dns_tool.proofs.WalkLemmas.{no_record_read, record_read}
 use Rattle.dns_tool.proofs.print.print_records.Goals as goal
+use Rattle.dns_tool.proofs.print.print_records.Goals.{then-is_ok, else-is_ok}
 
 pub loop-record-init : goal.loop-record-init
-loop-record-init g c = none_printed (record_line (section_word c.args.section)) _ _
+loop-record-init g c = record { printed = none_printed (record_line (section_word c.args.section)) _ _; read = no_record_read _ }
 
 pub print_record-requires-clause-read : goal.print_record-requires-clause-read
 print_record-requires-clause-read g c = given_read c.loop-record.records c.next.new.self c.in-Some.record c.in-Some.ensures.moves
@@ -14,9 +16,14 @@ pub print_record-requires-clause-short : goal.print_record-requires-clause-short
 print_record-requires-clause-short g c = given_short c.in-Some.record (λ p e. let t = rw (c.in-Some.is, e) at c.next.type_inv in omega (arith, t))
 
 pub loop-record-preserved : goal.loop-record-preserved
-loop-record-preserved g c =
-    more_printed (record_line (section_word c.args.section)) _ _ _ _ _ _ _ c.loop-record.invariant c.in-Some.ensures.steps
-    (rw c.word_of-word.ensures at c.in_ok-print_record.ensures)
+loop-record-preserved g c = record {
+  printed = more_printed (record_line (section_word c.args.section)) _ _ _ _ _ _ _ c.loop-record.invariant.printed c.in-Some.ensures.steps
+      (rw c.word_of-word.ensures at c.in_ok-print_record.ensures);
+  read = record_read _ _ _ _ _ c.in-Some.record
+      (λ is. elim c.if-is_ok.branch [ then-is_ok w ↦ w.readable-is | else-is_ok w ↦ absurd (cc (c.is_ok.ensures.value, is, w.if-is_ok.false)) ])
+      (λ is. elim c.if-is_ok.branch [ then-is_ok w ↦ absurd (cc (c.is_ok.ensures.value, is, w.if-is_ok.true)) | else-is_ok w ↦ w.readable-is ])
+      c.in-Some.ensures.moves c.in-Some.ensures.counts c.in-Some.ensures.octets c.in-Some.ensures.section c.loop-record.invariant.read;
+}
 
-pub returns : goal.returns
-returns g c = all_printed (record_line (section_word c.args.section)) _ _ _ _ c.loop-record.invariant c.in_default.ensures.steps.0
+pub returns-clause-printed : goal.returns-clause-printed
+returns-clause-printed g c = all_printed (record_line (section_word c.args.section)) _ _ _ _ c.loop-record.invariant.printed c.in_default.ensures.steps.0

@@ -1,8 +1,8 @@
 use Rattle.std.proofs.Common.{Err, [], ◌∷◌, ap, ◌∙◌}
 use Rattle.std.proofs.lemmas.Result.{err_from_is_err_and}
 use Rattle.std.specs.Int.{to_be_bytes, w16}
-use Rattle.dns_name.specs.Names.{lowered, uncompressed}
-use Rattle.dns_wire.specs.Parts.{Octets}
+use Rattle.dns_message.specs.Names.{lowered, uncompressed}
+use Rattle.dns_message.specs.Data.{Octets}
 use Rattle.dns_record_tests.proofs.mx.MxComposeRecordData.compose_canonical_rdata.Goals as goal
 
 pub returns-in_err-append_slice : goal.returns-in_err-append_slice

@@ -1,7 +1,7 @@
 use Rattle.std.proofs.Common.{Err, [], ◌∷◌, ap, ◌∙◌, arith}
 use Rattle.std.proofs.lemmas.Result.{err_from_is_err_and}
 use Rattle.std.specs.Int.{to_be_bytes, w16}
-use Rattle.dns_wire.specs.Parts.{Octets, CompressibleName}
+use Rattle.dns_message.specs.Data.{Octets, CompressibleName}
 use Rattle.dns_record_tests.proofs.mx.MxComposeRecordData.compose_rdata.Goals as goal
 
 pub returns-in_err-append_slice-clause-composes : goal.returns-in_err-append_slice-clause-composes
