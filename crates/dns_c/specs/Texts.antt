@@ -7,7 +7,7 @@ use Rattle.dns_data.specs.Printing.{hex_octet}
 use Rattle.dns_item.specs.Items.{RecordEntry, ReadsRecord, RecordFaultAt}
 use Rattle.dns_item.specs.ParsedRecord.{EncodedRecord}
 use Rattle.dns_item.specs.RecordReading.{up_to_rdata_end}
-use Rattle.dns_tool.specs.Show.{shown_data, typed_parts}
+use Rattle.dns_tool.specs.Show.{shown_data, known_parts}
 use Rattle.dns_c.specs.NameFaults.{ReportsAt}
 
 -- the buffer holds a text from its beginning up to this end; the end is None if the buffer is too short for the text
@@ -37,4 +37,4 @@ data_octets b x = drop x.rdata_start (up_to_rdata_end b x)
 
 -- the text of RDATA, as `dnsmsg show` prints it: by its fields if it is well-formed data of a type with known fields, otherwise as octets
 abbrev pub data_text : List ℕ → RecordEntry → List ℕ
-data_text b x = let r : EncodedRecord = record { octets = b; entry = x } in shown_data r (typed_parts r)
+data_text b x = let r : EncodedRecord = record { octets = b; entry = x } in shown_data r (known_parts r)

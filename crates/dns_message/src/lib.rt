@@ -5,8 +5,18 @@
 //! `tool` is the program `dnsmsg`, which is safe and terminates on every input.
 #![tactic(auto)]
 
+/// Builders of messages, including answers and copied records, and theorems on what they build.
+///
+/// The response to `query` with one record as its answer, with names compressed:
+///
+/// ```rust
+/// let target = TreeCompressor::new(alloc, Vec::new(alloc));
+/// let builder = MessageBuilder::from_target(target)?;
+/// let mut response = builder.start_answer(query, Rcode::NOERROR)?;
+/// response.push(answer)?;
+/// Ok(response.into_message())
+/// ```
 pub mod builder {
-    //! Builders of messages, including answers and copied records, and theorems on what they build.
     pub use dns_build::{
         AdditionalBuilder, AnswerBuilder, AtAdditional, AtAnswer, AtAuthority, AtBuilder,
         AtQuestion, AuthorityBuilder, Builder, BuilderStage, CopyRecords, CopyRecordsError,
@@ -15,42 +25,124 @@ pub mod builder {
     };
 }
 
+/// Record types, classes and codes.
 pub mod code {
-    //! Record types, classes and codes.
     pub use dns_code::{Class, Opcode, OptRcode, OptionCode, Rcode, Rtype, class, rtype};
 }
 
+/// The header section of a message, and theorems on its fields and on numbers as texts.
+///
+/// The header of a reply, with the ID and RD of a query's header:
+///
+/// ```rust
+/// let mut header = Header::new();
+/// header.set_id(query.id());
+/// header.set_rd(query.rd());
+/// header.set_qr(true);
+/// header
+/// ```
 pub mod header {
-    //! The header section of a message, and theorems on its fields and on numbers as texts.
     pub use dns_code::{
         CountOverflow, Flags, FlagsFromStrError, Header, HeaderCounts, HeaderSection, laws,
     };
 }
 
+/// Messages, read lazily, and theorems on what reading them gives.
+///
+/// The addresses in the answer section that can be read:
+///
+/// ```rust
+/// let mut found = Vec::new(alloc);
+/// for record in message.answer().ok()?.limit_to::<A>() {
+///     if let Ok(record) = record {
+///         found.push(record.into_data()).ok()?;
+///     }
+/// }
+/// Some(found)
+/// ```
 pub mod message {
-    //! Messages, read lazily, and theorems on what reading them gives.
     pub use dns_read::{
         AnyRecordIter, Message, MessageIter, QuestionSection, RecordIter, RecordSection, Section,
         ShortMessage, laws, search_laws,
     };
 }
 
+/// Names, in octets and as texts.
+///
+/// Whether the name at the start of `octets` is `name`, ignoring ASCII case:
+///
+/// ```rust
+/// match ParsedName::parse(&mut Parser::new(octets)) {
+///     Ok(found) => found.name_eq(name),
+///     Err(_) => false,
+/// }
+/// ```
 pub mod name {
-    //! Names, in octets and as texts.
     pub use dns_wire::name::{FromStrError, PresentationError};
     pub use dns_wire::{Label, LabelIter, Name, ParsedName, ToName, ToNameExt};
 }
 
+/// Records and their parts, and theorems on how questions and records are encoded and read.
+///
+/// A record as a line of text, such as `example.com. 3600 IN A 192.0.2.1`:
+///
+/// ```rust
+/// let record = Record::new(owner, Class::IN, Ttl::HOUR, address);
+/// format!(in alloc; "{record}")
+/// ```
 pub mod record {
-    //! Records and their parts, and theorems on how questions and records are encoded and read.
     pub use dns_item::record::{
         ComposeRecord, ParsedRecord, Record, RecordHeader, RecordParseError,
     };
     pub use dns_item::{OptRecord, Ttl, laws};
 }
 
+/// Record data (RDATA), and the theorems for record data types of your own.
+///
+/// A type of one's own, for PTR records. Its ghost members say which parts a value has, and how its
+/// RDATA is laid out:
+///
+/// ```rust
+/// #[derive(Clone, Copy, Debug, Drop)]
+/// struct Ptr<N>(N);
+///
+/// impl<N: ToName> RecordData for Ptr<N> {
+///     ghost rtype_of = { λ _. 12 };
+///
+///     ghost parts = { λ ptr. CompressibleName (N.name ptr.0) ∷ [] };
+///
+///     fn rtype(&self) -> Rtype {
+///         Rtype::PTR
+///     }
+/// }
+///
+/// impl<N: ToName> ComposeRecordData for Ptr<N> {
+///     fn compose_rdata<T: Composer>(&self, target: &mut T) -> Result<(), AppendError> {
+///         parts_compose();
+///         names_are_bounded();
+///         target.append_compressed_name(&self.0)
+///     }
+///
+///     fn compose_canonical_rdata<T: Composer>(&self, target: &mut T) -> Result<(), AppendError> {
+///         parts_compose();
+///         self.0.compose_canonical(target)
+///     }
+/// }
+///
+/// impl<'a> ParseRecordData<'a> for Ptr<ParsedName<'a>> {
+///     ghost layout = { only 12 (DomainName End) };
+///
+///     fn parse_rdata(rtype: Rtype, parser: &mut Parser<'a>) -> Result<Option<Self>, ParseError> {
+///         if rtype != Rtype::PTR {
+///             return Ok(None);
+///         }
+///         Ok(Some(Ptr(ParsedName::parse(parser)?)))
+///     }
+///
+///     ghost laid_out = { λ _. refl };
+/// }
+/// ```
 pub mod data {
-    //! Record data (RDATA), and the theorems for record data types of your own.
     pub use dns_data::{
         A, Cname, ComposeOptData, ComposeRecordData, LongOptData, LongRecordData, Ns, Opt,
         OptHeader, OptionIter, ParseAnyRecordData, ParseRecordData, RecordData, Soa, SubnetAddr,
@@ -59,13 +151,35 @@ pub mod data {
     pub use dns_opt::laws as option_laws;
 }
 
+/// Calls on the builders of a message, one or a list, and the replies to them.
+///
+/// A list of calls on a new builder over a compressor:
+///
+/// ```rust
+/// let target = HashCompressor::new(alloc, Vec::new(alloc));
+/// let Ok(builder) = MessageBuilder::from_target(target) else {
+///     return None;
+/// };
+/// match run(alloc, Stage::Builder(builder), calls, &mut Vec::new(alloc)) {
+///     Ok(stage) => Some(stage),
+///     Err(_) => None,
+/// }
+/// ```
 pub mod script {
-    //! Calls on the builders of a message, one or a list, and the replies to them.
     pub use dns_script::{Call, OptPlan, Reply, Stage, run, step};
 }
 
+/// The targets that messages are written to.
+///
+/// A query in a buffer of 512 octets, with names compressed. Nothing is allocated:
+///
+/// ```rust
+/// let target = StaticCompressor::new(ArrayVec::<u8, 512>::new());
+/// let mut builder = MessageBuilder::from_target(target)?.question();
+/// builder.push((name, rtype))?;
+/// Ok(builder.into_message())
+/// ```
 pub mod target {
-    //! The targets that messages are written to.
     pub use dns_target::{
         Compressor, FingerprintCompressor, HashCompressor, StaticCompressor, StreamTarget,
         TreeCompressor,
@@ -73,9 +187,9 @@ pub mod target {
     pub use dns_wire::{CloneTarget, Composer, FreezeBuilder};
 }
 
+/// The parser, buffers of octets, the errors of both, canonical order, and theorems on names
+/// and targets.
 pub mod wire {
-    //! The parser, buffers of octets, the errors of both, canonical order, and theorems on names
-    //! and targets.
     pub use dns_wire::{
         AppendError, BufferFrom, CanonicalOrd, FlattenInto, FormError, Octets, OctetsFrom,
         OctetsMut, ParseError, Parser, ShortBuf, laws, target_laws,

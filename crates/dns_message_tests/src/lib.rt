@@ -1,6 +1,6 @@
-//! Tests over `dns_message` alone: the examples of the pages, the program `dnsmsg` with expected
-//! values from outside this library, lists of calls that end with the same octets, and calls that
-//! allocate.
+//! Tests over `dns_message` alone: the examples of the pages and modules, the program `dnsmsg` with
+//! expected values from outside this library, lists of calls that end with the same octets, and
+//! calls that allocate.
 //!
 //! Nothing is exported. `callers`, `tour` and `typed` have proved callers; `program`, `input_output`
 //! and `long_data` test `dnsmsg`, `script` lists of calls, and `memory` calls that allocate.
@@ -20,6 +20,8 @@ mod long_data;
 mod memory;
 #[cfg(test)]
 mod program;
+#[cfg(test)]
+mod ptr;
 #[cfg(test)]
 mod runs;
 #[cfg(test)]

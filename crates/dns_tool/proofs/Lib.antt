@@ -1,8 +1,8 @@
 pub mod theory
 mod HexLemmas
+mod KnownText
 mod OutputLemmas
 mod PrintedLines
 mod ShownHeader
 mod ShownRecords
-mod TypedText
 mod WalkLemmas

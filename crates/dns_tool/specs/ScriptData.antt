@@ -2,26 +2,18 @@
 use Rattle.std.specs.Prelude.{ℕ, List, [], ◌∷◌}
 use Rattle.dns_name.specs.NameReading.{name_labels}
 use Rattle.dns_wire.specs.Parts.{Part}
-use Rattle.dns_wire.specs.Parts.Part.{Octets, CompressibleName}
-use Rattle.dns_data.specs.A.{address_of}
-use Rattle.dns_data.specs.NameData.{nsdname_of, cname_of}
-use Rattle.dns_data.specs.Soa.{soa_parts}
+use Rattle.dns_wire.specs.Parts.Part.{Octets}
 use Rattle.dns_data.specs.UnknownData.{unknown_rtype_of, unknown_octets}
+use Rattle.dns_tool.specs.KnownData.{rtype_of, parts_of}
 use Rattle.dns_tool.specs.declared.script_data.ScriptData.{ScriptData}
-use Rattle.dns_tool.specs.declared.script_data.ScriptData.TheVariants as variants
+use Rattle.dns_tool.specs.declared.script_data.ScriptData.TheVariants.{Known, Opaque}
 
 -- the record type
-abbrev pub rtype_of : ScriptData → ℕ
-rtype_of (variants.A address) = 1
-rtype_of (variants.Ns server) = 2
-rtype_of (variants.Cname alias) = 5
-rtype_of (variants.Soa zone) = 6
-rtype_of (variants.Opaque opaque) = unknown_rtype_of opaque
+abbrev pub script_rtype_of : ScriptData → ℕ
+script_rtype_of (Known known) = rtype_of known
+script_rtype_of (Opaque opaque) = unknown_rtype_of opaque
 
 -- the parts of the RDATA
-abbrev pub parts_of : ScriptData → List Part
-parts_of (variants.A address) = Octets (address_of address) ∷ []
-parts_of (variants.Ns server) = CompressibleName (name_labels (nsdname_of server)) ∷ []
-parts_of (variants.Cname alias) = CompressibleName (name_labels (cname_of alias)) ∷ []
-parts_of (variants.Soa zone) = soa_parts name_labels zone
-parts_of (variants.Opaque opaque) = Octets (unknown_octets opaque) ∷ []
+abbrev pub script_parts_of : ScriptData → List Part
+script_parts_of (Known known) = parts_of name_labels known
+script_parts_of (Opaque opaque) = Octets (unknown_octets opaque) ∷ []

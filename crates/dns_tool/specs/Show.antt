@@ -29,7 +29,7 @@ use Rattle.dns_read.specs.Searches.{questions_of}
 use Rattle.dns_section.specs.Sections.{question_count, answer_count, authority_count, additional_count, record_count}
 use Rattle.dns_section.specs.declared.section.Section.{Section}
 use Rattle.dns_section.specs.declared.section.Section.TheVariants.{Answer, Authority, Additional}
-use Rattle.dns_tool.specs.TypedData.{typed_layout}
+use Rattle.dns_tool.specs.KnownData.{known_layout}
 
 -- a text and a line feed
 abbrev pub line : List ℕ → List ℕ
@@ -82,8 +82,8 @@ shown_data x (Some parts) = parts_text parts
 shown_data x None = opaque_text (drop x.entry.rdata_start (up_to_rdata_end x.octets x.entry))
 
 -- the parts of a record's RDATA; none if its type has no layout, or if the RDATA is malformed
-abbrev pub typed_parts : EncodedRecord → Option (List Part)
-typed_parts x = option_and_then (data_parts x) (typed_layout x.entry.rtype)
+abbrev pub known_parts : EncodedRecord → Option (List Part)
+known_parts x = option_and_then (data_parts x) (known_layout x.entry.rtype)
 
 -- the text of a record with the given parts of its RDATA, or with its RDATA as octets
 abbrev pub text_with : EncodedRecord → Option (List Part) → List ℕ
@@ -91,7 +91,7 @@ text_with x parts = record_fields_text (name_text x.entry.owner) x.entry.ttl x.e
 
 -- the text of a record: its RDATA by its fields if its type has a layout and the RDATA is well-formed, else as octets
 abbrev pub record_text : EncodedRecord → List ℕ
-record_text x = text_with x (typed_parts x)
+record_text x = text_with x (known_parts x)
 
 -- the word that begins each line of a section of records
 abbrev pub section_word : Section → List ℕ

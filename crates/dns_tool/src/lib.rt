@@ -12,6 +12,7 @@
 
 mod fault;
 mod hex;
+mod known_data;
 mod line;
 mod opt_line;
 mod output;
@@ -19,7 +20,6 @@ mod print;
 mod program;
 mod record_line;
 mod script_data;
-mod typed_data;
 
 pub use print::print_message;
 pub use program::tool;

@@ -12,7 +12,7 @@ ghost use Rattle.dns_section.specs.declared.section.Section.TheVariants.{Answer}
 ghost use Rattle.dns_tool.specs.Show.{header_line, counts_line, line, question_line, record_line, section_word, IsRead, HasShortData, text_with, records_text, message_text};
 ghost use Rattle.dns_tool.specs.Walk.{SameAnswersFollow, SameNextFollows};
 
-use crate::typed_data::TypedData;
+use crate::known_data::KnownData;
 use dns_code::{Header, HeaderCounts};
 use dns_data::UnknownRecordData;
 use dns_item::{ParsedRecord, Question};
@@ -181,7 +181,7 @@ fn print_record<W: Write>(
     }
 }
 
-/// Prints a record: its RDATA by its fields if `TypedData` accepts its type and the RDATA is
+/// Prints a record: its RDATA by its fields if `KnownData` accepts its type and the RDATA is
 /// well-formed, else as octets.
 fn print_parsed<W: Write>(writer: &mut W, word: &str, record: &ParsedRecord<'_>) -> io::Result<()>
     requires read { IsRead (encoded_record «record».now) }
@@ -189,7 +189,7 @@ fn print_parsed<W: Write>(writer: &mut W, word: &str, record: &ParsedRecord<'_>)
     ensures { OnOk result (Appends (W.contents writer.old) (W.contents writer.new)
         (record_line word.now (Ok (encoded_record «record».now)))) }
 {
-    match record.to_record::<TypedData<'_>>() {
+    match record.to_record::<KnownData<ParsedName<'_>>>() {
         Ok(Some(record)) => writeln!(writer, "{word} {record}"),
         Ok(None) => print_opaque(writer, word, record),
         Err(_) => print_opaque(writer, word, record),

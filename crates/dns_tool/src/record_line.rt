@@ -1,5 +1,6 @@
 //! Records in the lines of a script.
 use crate::hex;
+use crate::known_data::KnownData;
 use crate::line::{number, words};
 use crate::script_data::ScriptData;
 use dns_code::{Class, Rtype};
@@ -36,18 +37,32 @@ pub(crate) fn record(alloc: Global, text: &str) -> Result<Option<ScriptRecord>, 
     }
 }
 
-/// The RDATA of a record of this type: opaque after `\#` (RFC 3597 section 5), else the fields of
-/// an A, NS, CNAME or SOA record. Returns `None` if the words are malformed.
+/// The RDATA of a record of this type: opaque after `\#` (RFC 3597 section 5), else its fields.
+/// Returns `None` if the words are malformed.
 fn data_of(alloc: Global, rtype: Rtype, words: &[&str]) -> Result<Option<ScriptData>, AllocError> {
     match words {
-        ["\\#", len, digits @ ..] => opaque(alloc, rtype, len, digits),
-        [word] if rtype == Rtype::A => Ok(address(word).map(ScriptData::A)),
+        ["\\#", len, digits @ ..] => {
+            Ok(opaque(alloc, rtype, len, digits)?.map(ScriptData::Opaque))
+        }
+        _ => Ok(fields(alloc, rtype, words)?.map(ScriptData::Known)),
+    }
+}
+
+/// The fields of an A, NS, CNAME or SOA record. Returns `None` for any other type, and if the words
+/// are malformed.
+fn fields(
+    alloc: Global,
+    rtype: Rtype,
+    words: &[&str],
+) -> Result<Option<KnownData<Name<Vec<u8>>>>, AllocError> {
+    match words {
+        [word] if rtype == Rtype::A => Ok(address(word).map(KnownData::A)),
         [word] if rtype == Rtype::NS => match name(alloc, word)? {
-            Some(name) => Ok(Some(ScriptData::Ns(Ns::new(name)))),
+            Some(name) => Ok(Some(KnownData::Ns(Ns::new(name)))),
             None => Ok(None),
         },
         [word] if rtype == Rtype::CNAME => match name(alloc, word)? {
-            Some(name) => Ok(Some(ScriptData::Cname(Cname::new(name)))),
+            Some(name) => Ok(Some(KnownData::Cname(Cname::new(name)))),
             None => Ok(None),
         },
         [mname, rname, numbers @ ..] if rtype == Rtype::SOA => zone(alloc, mname, rname, numbers),
@@ -84,7 +99,7 @@ fn zone(
     mname: &str,
     rname: &str,
     numbers: &[&str],
-) -> Result<Option<ScriptData>, AllocError> {
+) -> Result<Option<KnownData<Name<Vec<u8>>>>, AllocError> {
     let Some(numbers) = zone_numbers(numbers) else {
         return Ok(None);
     };
@@ -95,7 +110,7 @@ fn zone(
     let Some(rname) = name(alloc, rname)? else {
         return Ok(None);
     };
-    Ok(Some(ScriptData::Soa(Soa::new(mname, rname, serial, refresh, retry, expire, minimum))))
+    Ok(Some(KnownData::Soa(Soa::new(mname, rname, serial, refresh, retry, expire, minimum))))
 }
 
 fn zone_numbers(words: &[&str]) -> Option<[u32; 5]> {
@@ -122,7 +137,7 @@ fn opaque(
     rtype: Rtype,
     len: &str,
     digits: &[&str],
-) -> Result<Option<ScriptData>, AllocError> {
+) -> Result<Option<UnknownRecordData<Vec<u8>>>, AllocError> {
     let digits = match digits {
         [] => "",
         [digits] => digits,
@@ -134,8 +149,5 @@ fn opaque(
     if number(len, 0xffff) != Some(octets.len()) {
         return Ok(None);
     }
-    match UnknownRecordData::from_octets(rtype, octets) {
-        Ok(data) => Ok(Some(ScriptData::Opaque(data))),
-        Err(_) => Ok(None),
-    }
+    Ok(UnknownRecordData::from_octets(rtype, octets).ok())
 }

@@ -1,31 +1,26 @@
 //! The RDATA of the records of a script.
-ghost use Rattle.dns_tool.specs.ScriptData.{rtype_of, parts_of};
+ghost use Rattle.dns_tool.specs.ScriptData.{script_rtype_of, script_parts_of};
 
+use crate::known_data::KnownData;
 use dns_code::Rtype;
-use dns_data::{A, Cname, ComposeRecordData, Ns, RecordData, Soa, UnknownRecordData};
+use dns_data::{ComposeRecordData, RecordData, UnknownRecordData};
 use dns_wire::{AppendError, Composer, Name};
 
-/// The RDATA of a record of a script.
+/// The RDATA of a record of a script: its fields, or opaque octets for any type.
 #[derive(Debug, Drop)]
 pub(crate) enum ScriptData {
-    A(A),
-    Ns(Ns<Name<Vec<u8>>>),
-    Cname(Cname<Name<Vec<u8>>>),
-    Soa(Soa<Name<Vec<u8>>>),
+    Known(KnownData<Name<Vec<u8>>>),
     Opaque(UnknownRecordData<Vec<u8>>),
 }
 
 impl RecordData for ScriptData {
-    ghost rtype_of = { rtype_of };
+    ghost rtype_of = { script_rtype_of };
 
-    ghost parts = { parts_of };
+    ghost parts = { script_parts_of };
 
     fn rtype(&self) -> Rtype {
         match self {
-            ScriptData::A(data) => data.rtype(),
-            ScriptData::Ns(data) => data.rtype(),
-            ScriptData::Cname(data) => data.rtype(),
-            ScriptData::Soa(data) => data.rtype(),
+            ScriptData::Known(data) => data.rtype(),
             ScriptData::Opaque(data) => data.rtype(),
         }
     }
@@ -34,20 +29,14 @@ impl RecordData for ScriptData {
 impl ComposeRecordData for ScriptData {
     fn compose_rdata<T: Composer>(&self, target: &mut T) -> Result<(), AppendError> {
         match self {
-            ScriptData::A(data) => data.compose_rdata(target),
-            ScriptData::Ns(data) => data.compose_rdata(target),
-            ScriptData::Cname(data) => data.compose_rdata(target),
-            ScriptData::Soa(data) => data.compose_rdata(target),
+            ScriptData::Known(data) => data.compose_rdata(target),
             ScriptData::Opaque(data) => data.compose_rdata(target),
         }
     }
 
     fn compose_canonical_rdata<T: Composer>(&self, target: &mut T) -> Result<(), AppendError> {
         match self {
-            ScriptData::A(data) => data.compose_canonical_rdata(target),
-            ScriptData::Ns(data) => data.compose_canonical_rdata(target),
-            ScriptData::Cname(data) => data.compose_canonical_rdata(target),
-            ScriptData::Soa(data) => data.compose_canonical_rdata(target),
+            ScriptData::Known(data) => data.compose_canonical_rdata(target),
             ScriptData::Opaque(data) => data.compose_canonical_rdata(target),
         }
     }
