@@ -28,16 +28,12 @@ pub use Rattle.dns_section.proofs.theory.QuestionsFromLemmas.{questions_from_are
 pub use Rattle.dns_section.proofs.theory.RecordsFromLemmas.{records_from_are_read}
 -- A reading has at most as many items as the count, and an error only as its last item.
 pub use Rattle.dns_section.proofs.theory.ReadingLemmas.{readings_of_questions_end, readings_of_records_end}
--- The encoding of a state is the message of the state.
-pub use Rattle.dns_build.proofs.theory.EncodingReading.{encodings_are_messages}
 -- A message within its limit stays so when accepted questions are pushed.
 pub use Rattle.dns_build.proofs.theory.Asking.{accepted_within}
 -- The encoding of a state is a message with its items.
 pub use Rattle.dns_build.proofs.theory.EncodingReading.{encodings_are_messages}
 -- What holds of each element of two lists holds of each of their concatenation.
 pub use Rattle.dns_build.proofs.theory.Encodings.{every_append}
--- What holds of `f x` for each `x` holds of each element of `map f xs`.
-pub use Rattle.dns_build.proofs.theory.Encodings.{every_map}
 -- A text is appended after another.
 pub use Rattle.dns_tool.proofs.theory.AppendedTexts.{appends_both}
 -- The empty text is appended if nothing changes.

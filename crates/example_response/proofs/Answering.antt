@@ -100,9 +100,10 @@ module _ {R : Type 0} (item : R → RecordItem) (answers : List R) where
 
   -- an answer exceeds the limit, so none is added
   pub adds_none : (i : ℕ) (x d : R) → i < length answers → x ≡ get_or answers i d → (old mid new : Built)
-      → InEach InAnswer Tree old (λ s. MoreAnswers s mid (first i)) → InEach InAnswer Tree mid (ReturnsAnswer (item x) (Err LimitExceeded)) → MovesState InAnswer InAnswer Tree (tc_rewound InAnswer) mid new
-      → AddsAllOrNone (map item answers) old new
-  adds_none i x d l is old mid new so_far exceeds moves s h within =
+      → InEach InAnswer Tree old (λ s. MoreAnswers s mid (first i)) → (e : PushError) → e ≡ LimitExceeded → InEach InAnswer Tree mid (ReturnsAnswer (item x) (Err e))
+      → MovesState InAnswer InAnswer Tree (tc_rewound InAnswer) mid new → AddsAllOrNone (map item answers) old new
+  adds_none i x d l is old mid new so_far e limit fails moves s h within =
+      let exceeds = subst (λ (e : PushError). InEach InAnswer Tree mid (ReturnsAnswer (item x) (Err e))) limit fails in
       let others = map item (drop (i + 1) answers) in
       let all : (first i ++ item x ∷ []) ++ others ≡ map item answers = ap (λ (ys : List RecordItem). ys ++ others) (sym (next i x d l is)) ∙ first_then (i + 1) in
       let long = subst (λ (ys : List RecordItem). s.limit < size (with_answers ys s)) all (limit_exceeded s (first i) (item x) others old mid h (so_far s h) exceeds) in

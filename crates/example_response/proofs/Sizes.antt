@@ -8,7 +8,7 @@ use Rattle.dns_message.specs.Headers.{HeaderFields}
 use Rattle.dns_message.specs.Builders.{Gathered, size_after, opt_record, InAdditional, InAnswer, InQuestion, State, Every, all_of, encode, encoders_of, head_of, move_to, tc_rewound, up_to, with_header, with_limit, with_record, with_records}
 use Rattle.dns_message.specs.Questions.{QuestionItem, encode_question}
 use Rattle.dns_message.specs.Records.{RecordItem, encode_record}
-use Rattle.dns_message.proofs.CallerLemmas.{every_append, every_map, length-octets_of_fields}
+use Rattle.dns_message.proofs.CallerLemmas.{every_append, length-octets_of_fields}
 use Rattle.example_response.specs.Response.{size}
 
 -- further encodings don't shorten the octets
@@ -126,6 +126,11 @@ record_octets : (x : RecordItem) → HasOctets (encode_record Tree x)
 unfolding encode_record
 record_octets x m w = simp length-append (omega arith)
 
+-- the encodings of items have octets if that of each item has
+all_have_octets : {X : Type 0} (encoding : X → Encoder) → ((x : X) → HasOctets (encoding x)) → (xs : List X) → Every HasOctets (map encoding xs)
+all_have_octets encoding each [] = tt
+all_have_octets encoding each (x ∷ xs) = (each x, all_have_octets encoding each xs)
+
 -- so there are at least as many octets as encodings
 encoders_within : (ps : List Encoder) (m : CompressionTable) (w : ℕ) → Every HasOctets ps → length ps ≤ length (all_of ps m w).octets
 encoders_within [] m w all = omega arith
@@ -140,8 +145,8 @@ items_within s =
     let questions = map (encode_question Tree) s.questions in
     let answers = map (encode_record Tree) s.answers in
     let after_them = map (encode_record Tree) s.authorities ++ map (encode_record Tree) s.additionals in
-    let l = encoders_within (questions ++ answers) nothing 12 (every_append HasOctets questions answers (every_map HasOctets (encode_question Tree) question_octets s.questions)
-    (every_map HasOctets (encode_record Tree) record_octets s.answers)) in
+    let l = encoders_within (questions ++ answers) nothing 12 (every_append HasOctets questions answers (all_have_octets (encode_question Tree) question_octets s.questions)
+    (all_have_octets (encode_record Tree) record_octets s.answers)) in
     let m = longer (questions ++ answers) after_them nothing 12 in
     let a = sized s ∙ ap after (sym (append_assoc questions answers after_them)) in
     let n = length-append questions answers in

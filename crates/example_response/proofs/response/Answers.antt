@@ -1,4 +1,4 @@
-use Rattle.std.proofs.Common.{◌≡◌, ◌≢◌, ◌∙◌, ap, sym, subst, rules, arith, inl, inr, length, map, None, true, Ok, Err}
+use Rattle.std.proofs.Common.{◌≡◌, ◌≢◌, ◌∙◌, sym, subst, rules, arith, inl, inr, length, map, None, true, Ok, Err}
 use Rattle.std.proofs.lemmas.Result.{err_from_is_err_and}
 use Rattle.dns_message.specs.Targets.{Tree}
 use Rattle.dns_message.specs.Records.{opt_item}
@@ -62,7 +62,7 @@ returns-in_err-opt-clause-err g c =
       | then-loop-answer-test+in-Err-LimitExceeded w ↦
           rw w.builder-is (adds_none g.R.ComposeRecord.item c.args.answers.now c.loop-answer.answer-index w.answer-item.result _ w.loop-answer-test.true w.answer-item.is
           c.in_ok-builder-2.builder w.push_ref.new.self _ (rw w.in-Err-LimitExceeded.ensures.refused c.loop-answer.invariant.pushes)
-          (rw w.in-Err-LimitExceeded.ensures.refused w.in-Err-LimitExceeded.ensures.outcome.each) w.tc_rewind_into-builder.ensures)
+          _ w.in-Err-LimitExceeded.field-0-is (rw w.in-Err-LimitExceeded.ensures.refused w.in-Err-LimitExceeded.ensures.outcome.each) w.tc_rewind_into-builder.ensures)
     ] in
     let ended = c.set_push_limit-2.ensures _ (c.additional-builder.ensures _ (added (asked_again b) start.1 within)) in
     let p = err_from_is_err_and c.from_residual-in_err-opt.result c.from_residual-in_err-opt.ensures.1 in
@@ -89,7 +89,7 @@ returns-clause-ok g c =
       | then-loop-answer-test+in-Err-LimitExceeded w ↦
           rw w.builder-is (adds_none g.R.ComposeRecord.item c.args.answers.now c.loop-answer.answer-index w.answer-item.result _ w.loop-answer-test.true w.answer-item.is
           c.in_ok-builder-2.builder w.push_ref.new.self _ (rw w.in-Err-LimitExceeded.ensures.refused c.loop-answer.invariant.pushes)
-          (rw w.in-Err-LimitExceeded.ensures.refused w.in-Err-LimitExceeded.ensures.outcome.each) w.tc_rewind_into-builder.ensures)
+          _ w.in-Err-LimitExceeded.field-0-is (rw w.in-Err-LimitExceeded.ensures.refused w.in-Err-LimitExceeded.ensures.outcome.each) w.tc_rewind_into-builder.ensures)
     ] in
     let ended = c.set_push_limit-2.ensures _ (c.additional-builder.ensures _ (added (asked_again b) start.1 within)) in
     let represents : Represents InAdditional Tree (response_to b xs) c.if-has_opt-2.builder =
