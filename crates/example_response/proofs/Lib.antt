@@ -1,0 +1,4 @@
+mod Answering
+mod Opts
+mod Sizes
+mod Starting

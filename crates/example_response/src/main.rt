@@ -1,0 +1,66 @@
+//! The program `example_response` answers a query with two addresses:
+//!
+//!     example_response < DIGITS
+//!
+//! It reads the query from standard input and prints the response, both as hexadecimal digits. The
+//! contract of `response` says which response.
+#![tactic(auto)]
+
+ghost use Rattle.std.specs.Prelude.{IfErr, IfOk, map};
+ghost use Rattle.dns_message.specs.Messages.{message_octets};
+ghost use Rattle.example_response.specs.Response.{IsReason, IsResponse};
+
+use dns_message::builder::{MessageBuilder, PushError};
+use dns_message::code::Rcode;
+use dns_message::data::A;
+use dns_message::message::Message;
+use dns_message::record::ComposeRecord;
+use dns_message::target::TreeCompressor;
+use std::alloc::Global;
+
+fn main(rt: HostRuntime) -> anyhow::Result<()> {
+    let digits = std::io::read_to_string(rt.alloc(), rt.stdin())?;
+    let query = Message::from_octets(hex::decode(rt.alloc(), digits.trim_ascii())?)?;
+    let question = query.sole_question()?;
+    let answers = [1, 2].map(|host| (question.qname(), 3600u32, A::from_octets(192, 0, 2, host)));
+    let response = response(rt.alloc(), &query, &answers)?;
+    println!(rt; "{}", hex::encode(rt.alloc(), response.as_slice())?)?;
+    Ok(())
+}
+
+/// The response to a query, with all of `answers` if it then has at most 512 octets, else with none
+/// of them and TC. It has an OPT record if the query has one.
+fn response<R: ComposeRecord>(
+    alloc: Global,
+    query: &Message<Vec<u8>>,
+    answers: &[R],
+) -> Result<Message<Vec<u8>>, PushError>
+    ensures ok { IfOk result (λ response. IsResponse (message_octets query.now)
+        (map R.item answers.now) (message_octets response)) }
+    ensures err { IfErr result (IsReason (message_octets query.now)) }
+{
+    let has_opt = query.opt().is_some();
+    let mut builder = MessageBuilder::from_target(TreeCompressor::new(alloc, Vec::new(alloc)))?;
+    // An OPT record without options takes 11 octets.
+    builder.set_push_limit(if has_opt { 512 - 11 } else { 512 });
+    let mut builder = builder.start_answer(query, Rcode::NOERROR)?;
+    for answer in answers {
+        match builder.push_ref(answer) {
+            Ok(()) => {}
+            Err(PushError::LimitExceeded) => {
+                builder = builder.tc_rewind_into();
+                break;
+            }
+            Err(error) => return Err(error),
+        }
+    }
+    let mut builder = builder.additional();
+    builder.set_push_limit(512);
+    if has_opt {
+        builder.opt(alloc, |opt| {
+            opt.set_udp_payload_size(1232);
+            Ok(())
+        })?;
+    }
+    Ok(builder.into_message())
+}
