@@ -8,7 +8,7 @@ use Rattle.dns_message.specs.Headers.{HeaderFields}
 use Rattle.dns_message.specs.Questions.{QuestionItem, encode_question}
 use Rattle.dns_message.specs.Builders.{PushReturns, encode, most_entries, no_limit}
 use Rattle.dns_message.specs.declared.builder.PushError.{PushError}
-use Rattle.dns_build.specs.declared.push_error.PushError.TheVariants as errors
+use Rattle.dns_message.specs.declared.builder.PushError.TheVariants as errors
 use Rattle.example_resolve.specs.Resolving.{asking}
 
 -- the header section, the name and four octets
