@@ -219,7 +219,11 @@ fn has_at_most_255_octets(rt: HostRuntime) {
     assert_same(&rt, "one octet too long", refused, Some(LONG_NAME));
     // The size is checked before the octets are read.
     for len in [256, 200] {
-        let row = if len == 256 { "parsed" } else { "parsed, and cut" };
+        let row = if len == 256 {
+            "parsed"
+        } else {
+            "parsed, and cut"
+        };
         let mut parser = Parser::new(&longer[..len]);
         assert_refused(&rt, row, &mut parser, LONG_NAME, 0);
     }
