@@ -2,7 +2,7 @@
 use Rattle.std.proofs.Common.{◌≡◌, ◌≢◌, ◌∙◌, ℕ, ◌+◌, ◌<◌, ◌≤◌, Bool, true, false, cond, List, [], ◌∷◌, ◌++◌, length, length-append, take, drop, get_or, append_assoc, ap, sym, refl, subst, arith, None}
 use Rattle.std.proofs.lemmas.Bool.{le-leb, lt-leb}
 use Rattle.std.proofs.Math.Seq.{take-length}
-use Rattle.std.proofs.lemmas.List.{take_more, append-nil, map-append, take-append-drop}
+use Rattle.std.proofs.lemmas.List.{take_more, map-append, take-append-drop}
 use Rattle.std.specs.Prelude.{map, nat_le, Result, Ok, Err}
 use Rattle.dns_message.specs.Targets.{Tree}
 use Rattle.dns_message.specs.Records.{RecordItem}
@@ -24,12 +24,6 @@ pub record MoreAnswers (s : State) (new : Built) (xs : List RecordItem) : Type 0
 -- a builder within its limit gets all of these answers, or none and TC
 abbrev pub AddsAllOrNone : List RecordItem → Built → Built → Type 0
 AddsAllOrNone xs old new = InEach InAnswer Tree old (λ s. size s ≤ s.limit → Represents InAnswer Tree (all_or_none xs s) new)
-
--- no further answers
-none_more : (s : State) (b : Built) → Represents InAnswer Tree s b → MoreAnswers s b []
-none_more s b h =
-    let e : s ≡ with_answers [] s = λ i. record s { answers = sym (append-nil s.answers) i } in
-    record { represents = subst (λ (t : State). Represents InAnswer Tree t b) e h; within = λ l. subst (λ (t : State). size t ≤ s.limit) e l }
 
 -- the result of pushing an answer onto a state
 abbrev pub ReturnsAnswer : RecordItem → Result (Unit {0}) PushError → State → Type 0
@@ -86,10 +80,6 @@ module _ {R : Type 0} (item : R → RecordItem) (answers : List R) where
   -- the first answers, followed by the others, are all
   first_then : (i : ℕ) → first i ++ map item (drop i answers) ≡ map item answers
   first_then i = sym (map-append item (take i answers) (drop i answers)) ∙ ap (map item) (take-append-drop i answers)
-
-  -- at first nothing is pushed
-  pub pushes_none : (s : State) (b : Built) → Represents InAnswer Tree s b → MoreAnswers s b (first 0)
-  pushes_none s b h = none_more s b h
 
   -- an answer is pushed
   pub pushes_next : (i : ℕ) (x d : R) → i < length answers → x ≡ get_or answers i d → (old mid new : Built)
