@@ -3,15 +3,16 @@ ghost use Rattle.std.specs.Prelude.{◌≤◌, OnOk, IfErr};
 ghost use Rattle.dns_tool.specs.ShowDigits.{Shows, IsFaultOf};
 
 use crate::fault::Fault;
+use crate::line::ScriptCall;
 use crate::print::print_message;
 use crate::{hex, line, output};
 use arrayvec::ArrayVec;
 use dns_build::MessageBuilder;
 use dns_read::Message;
-use dns_script::{Reply, Stage, step};
+use dns_script::{Reply, Stage, run};
 use dns_target::{HashCompressor, StaticCompressor, StreamTarget, TreeCompressor};
 use dns_wire::Composer;
-use std::alloc::Global;
+use std::alloc::{AllocError, Global};
 use std::io;
 use std::io::{Read, Write};
 
@@ -189,28 +190,30 @@ fn build<T: Composer, W: Write>(
     writer: &mut W,
 ) -> Result<T, Fault> {
     let mut stage = Stage::Builder(MessageBuilder::from_target(target)?);
+    let mut replies = Vec::new(alloc);
     let lines = script.split_inclusive(|octet| *octet == b'\n');
     for (number, line) in (1..=usize::MAX).zip(lines) {
         let line = line.strip_suffix(b"\n").unwrap_or(line);
         if !line::is_skipped_line(line) {
-            stage = follow(alloc, stage, number, line, writer)?;
+            stage = follow(alloc, stage, number, line, &mut replies, writer)?;
         }
     }
     Ok(stage.finish())
 }
 
-/// Makes the call of a line, and prints the reply.
+/// Makes the call of a line, and prints the reply. `replies` is a buffer for it.
 fn follow<T: Composer, W: Write>(
     alloc: Global,
     stage: Stage<T>,
     number: usize,
     line: &[u8],
+    replies: &mut Vec<Reply>,
     writer: &mut W,
 ) -> Result<Stage<T>, Fault> {
     let Some(call) = line::call_of(alloc, &stage, line)? else {
         return Err(Fault::BadLine(number));
     };
-    let (stage, reply) = step(alloc, stage, &call);
+    let (stage, reply) = make(alloc, stage, call, replies)?;
     print_reply(writer, reply, number, stage.as_slice().len())?;
     Ok(stage)
 }
@@ -229,4 +232,18 @@ fn print_reply<W: Write>(
         Reply::Misplaced => return Err(Fault::BadLine(number)),
     }
     Ok(())
+}
+
+/// Makes one call and returns the reply, which is then the only one in `replies`.
+fn make<T: Composer>(
+    alloc: Global,
+    stage: Stage<T>,
+    call: ScriptCall,
+    replies: &mut Vec<Reply>,
+) -> Result<(Stage<T>, Reply), AllocError> {
+    replies.clear();
+    match run(alloc, stage, &[call], replies) {
+        Ok(stage) => Ok((stage, replies[0])),
+        Err(_) => Err(AllocError),
+    }
 }
