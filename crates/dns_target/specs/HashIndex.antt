@@ -52,12 +52,12 @@ table_entry_in s = record { offset = s.offset; end = s.end }
 abbrev pub table_entries_in : List KeyedSuffix → List TableEntry
 table_entries_in ss = map table_entry_in ss
 
--- a parent is given as none for the root, or as the offset of a table entry, for the name of that entry
+-- the parent that a key gives is this name: the root for none, else the name of the table entry at the offset
 abbrev pub ParentIsName : CompressionTable → Option ℕ → Labels → Type 0
 ParentIsName m None name = name ≡ []
 ParentIsName m (Some offset) name = (x : TableEntry) × (get m name ≡ Some x) × (x.offset ≡ offset)
 
--- none, or the offset of one of the suffixes
+-- a key may give this parent: none, or the offset of one of the suffixes
 abbrev pub IsParent : List ℕ → List KeyedSuffix → Option ℕ → Type 0
 IsParent b ss offset = (name : Labels) × ParentIsName (table_in b (table_entries_in ss)) offset name
 

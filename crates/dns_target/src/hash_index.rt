@@ -64,8 +64,8 @@ impl HashIndex {
     }
 }
 
-/// The number of suffixes to add for a name at offset `offset`, whose new suffixes begin at the
-/// labels before `from`: all of these, or none if one begins at 16,384 or above.
+/// The number of suffixes to add for a name at `offset` whose first `from` suffixes are new: all of
+/// these, or none if one begins at 16,384 or above.
 fn in_range_count(labels: &LabelStarts<'_>, offset: usize, from: usize) -> usize
     requires { from ≤ length labels.now }
     ensures { result ≡ in_range_count_of offset labels.now from }
@@ -77,8 +77,8 @@ fn in_range_count(labels: &LabelStarts<'_>, offset: usize, from: usize) -> usize
     }
 }
 
-/// The label at which the suffix to try first for the next name begins: that of the suffix that was
-/// found, or else the first.
+/// The label at which the suffix begins that is tried first for the next name: the suffix that was
+/// found, or else the whole name.
 fn shared_from(found: Found) -> usize
     ensures { result ≤ found.from }
 {

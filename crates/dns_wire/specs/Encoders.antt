@@ -9,7 +9,7 @@ use Rattle.std.specs.Int.{to_be_bytes, w16}
 use Rattle.std.specs.List.{list_all}
 use Rattle.dns_name.specs.Names.{Labels, framed, uncompressed, pointer_end}
 
--- The compression table of a target: suffixes of names that were written, each with its offset. RFC 1035 section 4.1.4.
+-- The compression table of a target: suffixes of names that were written, each with its offset. RFC 1035 section 4.1.4. Below, `m` is a table and `w` the length of a content, which is the offset of what is written next.
 
 -- The order of the table's keys. Suffixes are looked up octet for octet, so suffixes that differ in case are different keys.
 abbrev pub suffix_cmp : Labels → Labels → Ordering
@@ -129,7 +129,7 @@ pointer offset = (192 + offset / 256) ∷ offset % 256 ∷ []
 abbrev pub static_entries : ℕ
 static_entries = 24
 
--- Whether a suffix at this offset may enter the table, which has `entry_count` entries. The hash rule decides later, in `entering_suffixes`.
+-- Whether a suffix at this offset may enter the table, which has `entry_count` entries. The hash rule decides when the whole name is written, in `entering_suffixes`, so here each may.
 abbrev pub may_enter : Rule → ℕ → ℕ → Bool
 may_enter Plain offset entry_count = false
 may_enter Static offset entry_count = nat_lt offset pointer_end && nat_lt entry_count static_entries

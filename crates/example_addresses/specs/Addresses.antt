@@ -24,11 +24,11 @@ abbrev pub address_line : Result RecordItem Fault → List ℕ
 address_line (Ok x) = name_text x.owner ++ codes " " ++ dotted x.parts ++ codes "\n"
 address_line (Err f) = codes "malformed record\n"
 
--- a line for each A record of a section, in order, if the section has a start
+-- A line for each item: an A record, or one that is malformed. Without a start of the section, a line that says so.
 abbrev pub lines_from : Option ℕ → List (Result RecordItem Fault) → List ℕ
 lines_from (Some start) records = flat_map address_line records
 lines_from None records = codes "malformed question\n"
 
--- what is printed of a message: a line for each A record of its answer section, in order; or that a question before the section is malformed
+-- What is printed of a message: a line for each A record of its answer section, in order, up to the first record that can't be read, which has a line too. If a question can't be skipped, one line says that.
 abbrev pub addresses_text : List ℕ → List ℕ
 addresses_text b = lines_from (start_of Answer b) (limited a_layout (records_of Answer b))

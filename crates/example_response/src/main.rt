@@ -29,7 +29,7 @@ fn main(rt: HostRuntime) -> anyhow::Result<()> {
 }
 
 /// The response to a query, with all of `answers` if it then has at most 512 octets, else with none
-/// of them and TC. It has an OPT record if the query has one.
+/// of them and TC. It has an OPT record if `query.opt()` finds one.
 fn response<R: ComposeRecord>(
     alloc: Global,
     query: &Message<Vec<u8>>,
