@@ -84,7 +84,7 @@ const CASES: &[Case] = &[
         ..ALIKE
     },
     Case {
-        name: "a cut inside a name",
+        name: "Cut inside a name",
         steps: &[
             Step::Name(A_BC_DE, Ok(A_BC_DE)),
             Step::Cut(5),
@@ -95,7 +95,7 @@ const CASES: &[Case] = &[
         ..ALIKE
     },
     Case {
-        name: "a cut inside a pointer",
+        name: "Cut inside a pointer",
         steps: &[
             Step::Name(A_BC_DE, Ok(A_BC_DE)),
             Step::Name(BC_DE, Ok(b"\xc0\x02")),
@@ -106,7 +106,7 @@ const CASES: &[Case] = &[
         ..ALIKE
     },
     Case {
-        name: "a cut of the last octet",
+        name: "Cut of the last octet",
         steps: &[
             Step::Name(A_BC_DE, Ok(A_BC_DE)),
             Step::Cut(8),
@@ -116,7 +116,7 @@ const CASES: &[Case] = &[
         ..ALIKE
     },
     Case {
-        name: "suffixes of suffixes",
+        name: "Suffixes of suffixes",
         steps: &[
             Step::Fill(12),
             Step::Name(b"\x01a\x01b\x01c\x00", Ok(b"\x01a\x01b\x01c\x00")),
@@ -132,7 +132,7 @@ const CASES: &[Case] = &[
         ..ALIKE
     },
     Case {
-        name: "the last offset below the bound",
+        name: "Last place below the bound",
         steps: &[
             Step::Fill(16_383),
             Step::Name(A, Ok(A)),
@@ -143,7 +143,7 @@ const CASES: &[Case] = &[
         ..ALIKE
     },
     Case {
-        name: "the first offset at the bound",
+        name: "First place at the bound",
         steps: &[
             Step::Fill(16_384),
             Step::Name(A, Ok(A)),
@@ -154,7 +154,7 @@ const CASES: &[Case] = &[
         ..ALIKE
     },
     Case {
-        name: "a cut across the bound",
+        name: "Rewind across the bound: a cut",
         steps: &[
             Step::Fill(16_382),
             Step::Name(A_B, Ok(A_B)),
@@ -168,7 +168,7 @@ const CASES: &[Case] = &[
     },
     // The second label is past the bound.
     Case {
-        name: "the second label past the bound",
+        name: "Second label past the bound",
         steps: &[Step::Fill(16_383), Step::Name(A_B, Ok(A_B))],
         len: 16_388,
         by_offset: &[Step::Name(A_B, Ok(b"\xff\xff"))],
@@ -176,7 +176,7 @@ const CASES: &[Case] = &[
         by_hash: &[Step::Name(A_B, Ok(A_B))],
     },
     Case {
-        name: "the 25th suffix",
+        name: "The 25th suffix",
         steps: &[Step::Fill(12), Step::Letters],
         len: 187,
         by_offset: &[Step::Name(b"\x01y\x00", Ok(b"\x01y\x00"))],
@@ -184,7 +184,7 @@ const CASES: &[Case] = &[
         by_hash: &[Step::Name(b"\x01y\x00", Ok(b"\xc0\xb4"))],
     },
     Case {
-        name: "a clone with the same table",
+        name: "Clones: the same table",
         steps: &[Step::Fill(12), Step::Name(A, Ok(A)), Step::Fill(19)],
         len: 19,
         by_offset: A_AGAIN,

@@ -26,6 +26,7 @@ const ALL_FLAGS: Flags = Flags {
     cd: true,
 };
 
+/// Header and counts of a slice: the header is the first four octets, and the counts the others.
 #[test]
 fn takes_a_slice_of_a_message(rt: HostRuntime) {
     let section = HeaderSection::for_message_slice(&SECTION);
@@ -164,6 +165,7 @@ fn clears_every_other_flag(rt: HostRuntime) {
     assert_octets(&rt, "QR, TC, RA and AD stay", header.as_slice(), octets);
 }
 
+/// Opcode keeps to four bits: of the number, only the low four are written.
 #[test]
 fn writes_four_bits_of_an_opcode(rt: HostRuntime) {
     let mut header = Header::new();
@@ -182,7 +184,7 @@ struct FlagText {
 
 const FLAG_TEXTS: &[FlagText] = &[
     FlagText {
-        name: "flags in any order and letter case",
+        name: "Flags texts: any order and letter case",
         text: "tC Aa CD rd",
         read: Some((
             Flags {
@@ -196,22 +198,22 @@ const FLAG_TEXTS: &[FlagText] = &[
         )),
     },
     FlagText {
-        name: "an unknown flag",
+        name: "Flags texts: an unknown flag",
         text: "XXXX",
         read: None,
     },
     FlagText {
-        name: "no flag",
+        name: "Flags texts: no flag",
         text: "",
         read: Some((NO_FLAG, "")),
     },
     FlagText {
-        name: "all flags",
+        name: "Flags texts: all flags",
         text: "QR AA TC RD RA AD CD",
         read: Some((ALL_FLAGS, "QR AA TC RD RA AD CD")),
     },
     FlagText {
-        name: "extra spaces",
+        name: "Flags with extra spaces",
         text: "  qr  aa ",
         read: Some((
             Flags {
@@ -223,12 +225,12 @@ const FLAG_TEXTS: &[FlagText] = &[
         )),
     },
     FlagText {
-        name: "a comma between flags",
+        name: "Flags with other separators: a comma",
         text: "QR,AA",
         read: None,
     },
     FlagText {
-        name: "a tab between flags",
+        name: "Flags with other separators: a tab",
         text: "QR\tAA",
         read: None,
     },
@@ -330,9 +332,14 @@ fn lower(counts: &mut HeaderCounts) {
 #[test]
 fn counts_up_and_down(rt: HostRuntime) {
     let mut counts = some_counts();
-    assert_same(&rt, "no error", raise(&mut counts), [false; 4]);
+    assert_same(
+        &rt,
+        "Counts go up: no error",
+        raise(&mut counts),
+        [false; 4],
+    );
     let raised = b"\x01\x03\x03\x05\x05\x07\x07\x09";
-    assert_octets(&rt, "counts go up", counts.as_slice(), raised);
+    assert_octets(&rt, "Counts go up", counts.as_slice(), raised);
     let mut counts = some_counts();
     lower(&mut counts);
     let lowered = b"\x01\x01\x03\x03\x05\x05\x07\x07";
@@ -348,22 +355,22 @@ struct NearlyFull {
 
 const NEARLY_FULL: &[NearlyFull] = &[
     NearlyFull {
-        name: "QDCOUNT can go up",
+        name: "Counts go up: QDCOUNT",
         message: b"\x00\x00\x00\x00\xff\xfe\xff\xff\xff\xff\xff\xff",
         refused: [false, true, true, true],
     },
     NearlyFull {
-        name: "ANCOUNT can go up",
+        name: "Counts go up: ANCOUNT",
         message: b"\x00\x00\x00\x00\xff\xff\xff\xfe\xff\xff\xff\xff",
         refused: [true, false, true, true],
     },
     NearlyFull {
-        name: "NSCOUNT can go up",
+        name: "Counts go up: NSCOUNT",
         message: b"\x00\x00\x00\x00\xff\xff\xff\xff\xff\xfe\xff\xff",
         refused: [true, true, false, true],
     },
     NearlyFull {
-        name: "ARCOUNT can go up",
+        name: "Counts go up: ARCOUNT",
         message: b"\x00\x00\x00\x00\xff\xff\xff\xff\xff\xff\xff\xfe",
         refused: [true, true, true, false],
     },

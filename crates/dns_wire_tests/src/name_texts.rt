@@ -17,7 +17,7 @@ struct Case {
 
 const CASES: &[Case] = &[
     Case {
-        name: "escapes of a dot and of a number",
+        name: "Name text escapes: a dot and a number",
         text: "a\\.\\200b.",
         octets: Ok(b"\x04\x61\x2e\xc8\x62\x00"),
         printed: "a\\.\\200b",
@@ -53,7 +53,7 @@ const CASES: &[Case] = &[
         printed: "",
     },
     Case {
-        name: "an empty label between others",
+        name: "Name text escapes: an empty label between others",
         text: "a..b",
         octets: Err(PresentationError::EmptyLabel),
         printed: "",
@@ -71,7 +71,7 @@ const CASES: &[Case] = &[
         printed: "",
     },
     Case {
-        name: "an escape of a number above 255",
+        name: "Name text escapes: a number above 255",
         text: "a\\256",
         octets: Err(PresentationError::BadEscape),
         printed: "",

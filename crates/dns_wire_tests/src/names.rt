@@ -32,14 +32,14 @@ struct Case {
 
 const CASES: &[Case] = &[
     Case {
-        name: "the name of a question",
+        name: "Positive response: the name of the question",
         message: POSITIVE_RESPONSE,
         offset: 12,
         parsed: Ok(b"\x07example\x03com\x00"),
         skipped: Ok(25),
     },
     Case {
-        name: "an owner that points to the question",
+        name: "Positive response: the owner, which points to the question",
         message: POSITIVE_RESPONSE,
         offset: 29,
         parsed: Ok(b"\x07example\x03com\x00"),
@@ -53,14 +53,14 @@ const CASES: &[Case] = &[
         skipped: Ok(17),
     },
     Case {
-        name: "a label and a pointer to it",
+        name: "Compression loop",
         message: b"\x00\x00\x00\x00\x00\x01\x00\x00\x00\x00\x00\x00\x01\x61\xC0\x0C\x00\x01\x00\x01",
         offset: 12,
         parsed: Err(LONG_NAME),
         skipped: Ok(16),
     },
     Case {
-        name: "a pointer to its own offset",
+        name: "Pointer to its own place",
         message: b"\x00\x00\x00\x00\x00\x01\x00\x00\x00\x00\x00\x00\xC0\x0C\x00\x01\x00\x01",
         offset: 12,
         parsed: Err(BAD_POINTER),
@@ -68,28 +68,28 @@ const CASES: &[Case] = &[
     },
     // Octet 4 of the header is zero.
     Case {
-        name: "a pointer into the header",
+        name: "Pointer into the header",
         message: b"\x00\x00\x00\x00\x00\x01\x00\x00\x00\x00\x00\x00\xC0\x04\x00\x01\x00\x01",
         offset: 12,
         parsed: Ok(b"\x00"),
         skipped: Ok(14),
     },
     Case {
-        name: "the reserved label type 01",
+        name: "Reserved label types: 01",
         message: b"\x00\x00\x00\x00\x00\x01\x00\x00\x00\x00\x00\x00\x40\x00\x00\x01\x00\x01",
         offset: 12,
         parsed: Err(BAD_LABEL),
         skipped: Err(BAD_LABEL),
     },
     Case {
-        name: "the reserved label type 10",
+        name: "Reserved label types: 10",
         message: b"\x00\x00\x00\x00\x00\x01\x00\x00\x00\x00\x00\x00\x80\x00\x00\x01\x00\x01",
         offset: 12,
         parsed: Err(BAD_LABEL),
         skipped: Err(BAD_LABEL),
     },
     Case {
-        name: "no octet",
+        name: "Missing question",
         message: b"\x00\x00\x00\x00\x00\x01\x00\x00\x00\x00\x00\x00",
         offset: 12,
         parsed: Err(SHORT),
@@ -184,7 +184,7 @@ const HALF_A_POINTER: &[u8; 25] =
 fn sees_no_further_than_the_data(rt: HostRuntime) {
     let mut parser = parser_at(&rt, HALF_A_POINTER, 23);
     let mut inner = parser.parse_parser(1).expect(&rt, "the data");
-    assert_refused(&rt, "half a pointer", &mut inner, SHORT, 23);
+    assert_refused(&rt, "Name past the data's end", &mut inner, SHORT, 23);
 }
 
 /// A name with labels of 63, 63, 63 and 61 octets.
@@ -213,16 +213,16 @@ fn longer_name() -> [u8; 256] {
 fn has_at_most_255_octets(rt: HostRuntime) {
     let longest = longest_name();
     let mut parser = Parser::new(&longest);
-    assert_parsed(&rt, "the longest name", &mut parser, Ok(&longest), 255);
+    assert_parsed(&rt, "Longest name", &mut parser, Ok(&longest), 255);
     let longer = longer_name();
     let refused = Name::from_octets(longer.as_slice()).err();
-    assert_same(&rt, "one octet too long", refused, Some(LONG_NAME));
+    assert_same(&rt, "One octet too long", refused, Some(LONG_NAME));
     // The size is checked before the octets are read.
     for len in [256, 200] {
         let row = if len == 256 {
-            "parsed"
+            "One octet too long: parsed"
         } else {
-            "parsed, and cut"
+            "One octet too long: parsed, and cut"
         };
         let mut parser = Parser::new(&longer[..len]);
         assert_refused(&rt, row, &mut parser, LONG_NAME, 0);

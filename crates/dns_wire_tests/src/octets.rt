@@ -120,6 +120,7 @@ fn assert_names<T: OctetsFrom<S> + ToName + Drop, S>(
     assert_same(rt, row, gives_name::<T, S>(alloc, source, name), Ok(true));
 }
 
+/// Name conversions and clones: from borrowed octets to octets of other types.
 #[test]
 fn converts_borrowed_names(rt: HostRuntime) {
     let alloc = rt.alloc();
@@ -160,6 +161,7 @@ fn flattens_to<T: ToName + Drop, S: FlattenInto<T> + ToName + Copy>(
     Ok(name.try_flatten_into(alloc)?.octets_eq(&name))
 }
 
+/// Name conversions and clones: from a name in a message to a name of its own.
 #[test]
 fn flattens(rt: HostRuntime) {
     let name = name_at(&rt, POINTED, 5);
@@ -192,6 +194,7 @@ fn held_clone_of(name: &Name<ArrayVec<u8, 13>>) -> Result<Name<ArrayVec<u8, 13>>
     name.clone()
 }
 
+/// Name conversions and clones: clones of names.
 #[test]
 fn clones_names(rt: HostRuntime) {
     let slice = name_of(&rt, &PLAIN);

@@ -44,7 +44,12 @@ fn growing(rt: &impl Abort, alloc: Global) -> StreamTarget<Vec<u8>>
 #[test]
 fn has_capacity_for_the_length(rt: HostRuntime) {
     let refused = StreamTarget::new(ArrayVec::<u8, 1>::new()).err();
-    assert_same(&rt, "a capacity of one octet", refused, Some(SHORT));
+    assert_same(
+        &rt,
+        "No room for prefix or header: a capacity of one octet",
+        refused,
+        Some(SHORT),
+    );
     let target = fixed(&rt, ArrayVec::<u8, 2>::from(*b"ab"));
     assert_message(&rt, "a capacity of two octets", &target, b"", b"\x00\x00");
 }

@@ -4,6 +4,7 @@ use dns_item::Ttl;
 use dns_wire::{ParseError, Parser};
 use std::time::Duration;
 
+/// TTL arithmetic: sums, differences, products and quotients, and the cap of a week.
 #[test]
 fn stays_within_32_bits(rt: HostRuntime) {
     let product = Ttl::from_secs(u32::MAX - 1).saturating_mul(2);
@@ -39,7 +40,7 @@ fn sums_up(rt: HostRuntime) {
         Ttl::checked_sum(&[Ttl::MAX, Ttl::SECOND]),
         Ttl::checked_sum(&[]),
     ];
-    assert_same(&rt, "checked sums", sums, [None, Some(Ttl::ZERO)]);
+    assert_same(&rt, "Checked sums", sums, [None, Some(Ttl::ZERO)]);
     let sum = Ttl::sum(&[Ttl::MINUTE, Ttl::HOUR]);
     assert_same(&rt, "a sum", sum.as_secs(), 3_660);
 }
@@ -64,14 +65,14 @@ fn reports_other_units(rt: HostRuntime) {
     let units = [most.as_days().into(), most.as_hours(), most.as_minutes()];
     assert_same(
         &rt,
-        "the greatest TTL",
+        "Largest TTL in other units",
         units,
         [49_710, 1_193_046, 71_582_788],
     );
     let days = Ttl::from_days(49_710).as_secs();
-    assert_same(&rt, "the most days", days, 4_294_944_000);
+    assert_same(&rt, "Most days", days, 4_294_944_000);
     let lossy = Ttl::from_duration_lossy(Duration::from_secs(4_294_967_301));
-    assert_same(&rt, "a duration past 32 bits", lossy.as_secs(), 5);
+    assert_same(&rt, "Duration past 32 bits", lossy.as_secs(), 5);
     assert_same(&rt, "hours", Ttl::from_hours(2).as_minutes(), 120);
     let hour = [Duration::from(Ttl::HOUR), Ttl::HOUR.into_duration()];
     assert_same(&rt, "an hour", hour, [Duration::from_secs(3_600); 2]);
