@@ -28,6 +28,7 @@ fn assert_canonical<T: Composer>(rt: &impl Abort, row: &str, mut target: T) {
     );
 }
 
+/// Canonical record: in lower case and without a pointer, on each empty target.
 #[test]
 fn composes_a_canonical_record(rt: HostRuntime) -> Result<(), Fail> {
     let alloc = rt.alloc();

@@ -35,15 +35,20 @@ fn address(rt: &impl Abort, owner: &'static [u8], ttl: Ttl) -> Record<SliceName,
 fn equality_leaves_out_ttl_and_case(rt: HostRuntime) {
     let record = address(&rt, b"\x07example\x03com\x00", Ttl::MINUTE);
     let same = address(&rt, b"\x07EXAMPLE\x03com\x00", Ttl::HOUR);
-    assert_alike(&rt, "another TTL and letter case", &record, &same);
+    assert_alike(&rt, "Equality leaves out TTL and case", &record, &same);
 }
 
 #[test]
 fn orders_questions_in_two_ways(rt: HostRuntime) {
     let short = Question::new_in(name_of(&rt, b"\x01b\x00"), Rtype::A);
     let long = Question::new_in(name_of(&rt, b"\x02aa\x00"), Rtype::A);
-    assert_less(&rt, "by labels", &long, &short);
-    assert_canonical_order(&rt, "by the length of a label", &short, &long);
+    assert_less(&rt, "Two orders of questions: by labels", &long, &short);
+    assert_canonical_order(
+        &rt,
+        "Two orders of questions: by the length of a label",
+        &short,
+        &long,
+    );
 }
 
 /// A record of 1.2.3.4 as opaque data.
@@ -56,8 +61,18 @@ fn record(rt: &impl Abort, owner: &'static [u8], class: Class) -> Record<SliceNa
 fn orders_records_in_two_ways(rt: HostRuntime) {
     let last_name = record(&rt, b"\x01z\x00", Class::IN);
     let last_class = record(&rt, b"\x01a\x00", Class::CH);
-    assert_less(&rt, "by owner", &last_class, &last_name);
-    assert_canonical_order(&rt, "by class", &last_name, &last_class);
+    assert_less(
+        &rt,
+        "Two orders of records: by owner",
+        &last_class,
+        &last_name,
+    );
+    assert_canonical_order(
+        &rt,
+        "Two orders of records: by class",
+        &last_name,
+        &last_class,
+    );
     let first_class = record(&rt, b"\x01A\x00", Class::IN);
     assert_less(&rt, "classes of one owner", &first_class, &last_class);
     let ending = record(&rt, b"\x01b\x00", Class::IN);

@@ -190,6 +190,7 @@ fn clones_data(rt: HostRuntime) {
     assert_cloned(&rt, "zone", Soa::new(mname, rname, 1, 2, 3, 4, 5));
 }
 
+/// Name conversions and clones: clones of a name, a question, a record header and a record.
 #[test]
 fn clones_items(rt: HostRuntime) {
     assert_name_cloned(&rt, "name", &vec_name(&rt, rt.alloc()));

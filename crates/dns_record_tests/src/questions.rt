@@ -19,15 +19,15 @@ struct Spelling {
 
 const SPELLINGS: &[Spelling] = &[
     Spelling {
-        name: "without a class",
+        name: "Question texts: without a class",
         text: "example.com A",
     },
     Spelling {
-        name: "the class before the type",
+        name: "Question texts: the class before the type",
         text: "example.com. IN a",
     },
     Spelling {
-        name: "the class after the type",
+        name: "Question texts: the class after the type",
         text: "example.com A IN",
     },
     Spelling {
@@ -50,7 +50,7 @@ struct Faulty {
 
 const FAULTY: &[Faulty] = &[
     Faulty {
-        name: "no words",
+        name: "Question texts: no words",
         text: "",
         kind: PresentationErrorEnum::MissingQname,
         printed: "missing qname",
@@ -62,19 +62,19 @@ const FAULTY: &[Faulty] = &[
         printed: "missing qname",
     },
     Faulty {
-        name: "a name alone",
+        name: "Question texts: a name alone",
         text: "a",
         kind: PresentationErrorEnum::MissingClassAndQtype,
         printed: "missing class and qtype",
     },
     Faulty {
-        name: "a class without a type",
+        name: "Question texts: a class without a type",
         text: "a IN",
         kind: PresentationErrorEnum::MissingQtype,
         printed: "missing qtype",
     },
     Faulty {
-        name: "an unknown word after the name",
+        name: "Question texts: an unknown word after the name",
         text: "a xx",
         kind: PresentationErrorEnum::BadQtype,
         printed: "invalid qtype",
@@ -98,7 +98,7 @@ const FAULTY: &[Faulty] = &[
         printed: "invalid qtype",
     },
     Faulty {
-        name: "an unknown word after the type",
+        name: "Question texts: an unknown word after the type",
         text: "a A xx",
         kind: PresentationErrorEnum::BadClass,
         printed: "invalid class",
@@ -110,7 +110,7 @@ const FAULTY: &[Faulty] = &[
         printed: "invalid class",
     },
     Faulty {
-        name: "a word after class and type",
+        name: "Question texts: a word after class and type",
         text: "a IN A b",
         kind: PresentationErrorEnum::TrailingData,
         printed: "trailing data",

@@ -23,7 +23,7 @@ fn adds_them_in_order(rt: HostRuntime) -> Result<(), Fail> {
     opt.tcp_keepalive(Some(300))?;
     assert_octets(
         &rt,
-        "several known options",
+        "Several known options",
         opt.option_octets(),
         b"\x00\x03\x00\x00\x00\x05\x00\x02\x08\x0D\x00\x09\x00\x00\x00\x0B\x00\x02\x01\x2C",
     );
@@ -41,21 +41,21 @@ struct Subnet {
 
 const SUBNETS: &[Subnet] = &[
     Subnet {
-        name: "a prefix that ends within an octet",
+        name: "Client subnets: a prefix that ends within an octet",
         source: 20,
         scope: 0,
         address: SubnetAddr::V4([192, 0, 255, 1]),
         option: b"\x00\x08\x00\x07\x00\x01\x14\x00\xC0\x00\xF0",
     },
     Subnet {
-        name: "prefixes of more than 32 bits",
+        name: "Client subnets: prefixes of more than 32 bits",
         source: 40,
         scope: 33,
         address: SubnetAddr::V4([192, 0, 2, 1]),
         option: b"\x00\x08\x00\x08\x00\x01\x20\x20\xC0\x00\x02\x01",
     },
     Subnet {
-        name: "no prefix",
+        name: "Client subnets: no prefix",
         source: 0,
         scope: 0,
         address: SubnetAddr::V4([192, 0, 2, 1]),
@@ -105,7 +105,7 @@ fn draws_cookies(rt: HostRuntime) -> Result<(), Fail> {
     opt.cookie(CLIENT, Some(&[0xFF; 8]))?;
     assert_octets(
         &rt,
-        "cookies",
+        "Cookies",
         opt.option_octets(),
         b"\x00\x0A\x00\x08\x01\x02\x03\x04\x05\x06\x07\x08\x00\x0A\x00\x10\x01\x02\x03\x04\x05\x06\x07\x08\xFF\xFF\xFF\xFF\xFF\xFF\xFF\xFF",
     );
@@ -120,7 +120,7 @@ fn draws_names_and_texts(rt: HostRuntime) -> Result<(), Fail> {
     opt.extended_error(18, Some("no"))?;
     assert_octets(
         &rt,
-        "CHAIN, key tag, extended error",
+        "Chain, key tag, extended error",
         opt.option_octets(),
         b"\x00\x0D\x00\x04\x02Ab\x00\x00\x0E\x00\x02\x4F\x66\x00\x0F\x00\x04\x00\x12no",
     );
@@ -133,12 +133,12 @@ fn pads_with_zeros_or_given_octets(rt: HostRuntime) -> Result<(), Fail> {
     // A refused option adds nothing.
     let refused = opt.padding(65_532);
     let is_refused = refused == Err(AppendError::ShortBuf);
-    assert_holds(&rt, "too many octets", is_refused);
+    assert_holds(&rt, "Paddings: too many octets", is_refused);
     opt.padding(3)?;
     opt.random_padding(b"\xAA\xBB")?;
     assert_octets(
         &rt,
-        "paddings",
+        "Paddings",
         opt.option_octets(),
         b"\x00\x0C\x00\x03\x00\x00\x00\x00\x0C\x00\x02\xAA\xBB",
     );
