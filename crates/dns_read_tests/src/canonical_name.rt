@@ -19,22 +19,22 @@ struct Case {
 
 const CASES: &[Case] = &[
     Case {
-        name: "no alias",
+        name: "Canonical names: no alias",
         answers: 0,
         canonical: Some(b"\x07example\x03com\x00"),
     },
     Case {
-        name: "three aliases in any order",
+        name: "Canonical names: three aliases in any order",
         answers: 3,
         canonical: Some(b"\x03baz\x07example\x03com\x00"),
     },
     Case {
-        name: "a loop of aliases",
+        name: "Canonical names: a loop of aliases",
         answers: 4,
         canonical: None,
     },
     Case {
-        name: "a loop of aliases, and an address",
+        name: "Canonical names: a loop of aliases, and an address",
         answers: 5,
         canonical: None,
     },
@@ -92,13 +92,18 @@ fn follows_aliases(rt: HostRuntime) {
         assert_canonical(&rt, case.name, &octets, case.canonical);
     }
     let expected = Some(b"\x01b\x00".as_slice());
-    assert_canonical(&rt, "an alias in class CH", IN_CLASS_CH, expected);
+    assert_canonical(&rt, "Canonical name in any class", IN_CLASS_CH, expected);
 }
 
 #[test]
 fn follows_nineteen_aliases(rt: HostRuntime) -> Result<(), Fail> {
     let longest = chain(b't')?;
-    assert_canonical(&rt, "nineteen aliases", &longest, Some(b"\x01t\x00"));
-    assert_canonical(&rt, "twenty aliases", &chain(b'u')?, None);
+    assert_canonical(
+        &rt,
+        "Canonical names: nineteen aliases",
+        &longest,
+        Some(b"\x01t\x00"),
+    );
+    assert_canonical(&rt, "Canonical names: twenty aliases", &chain(b'u')?, None);
     Ok(())
 }

@@ -18,10 +18,14 @@ fn is_short(octets: &[u8]) -> bool {
 fn takes_twelve_octets(rt: HostRuntime) -> Result<(), Fail> {
     for len in 0..12 {
         let is_short = is_short(&POSITIVE_RESPONSE[..len]);
-        assert!(rt; is_short, "cut in the header, {len} octets");
+        assert!(rt; is_short, "Cut in the header, {len} octets");
     }
-    assert_holds(&rt, "eleven octets", is_short(&[0; 11]));
-    assert_holds(&rt, "twelve octets", !is_short(&[0; 12]));
+    assert_holds(
+        &rt,
+        "Twelve octets are a message: eleven",
+        is_short(&[0; 11]),
+    );
+    assert_holds(&rt, "Twelve octets are a message", !is_short(&[0; 12]));
     let octets = Message::try_from_octets([1; 11]).err();
     assert_holds(&rt, "octets that are given back", octets == Some([1; 11]));
     let text = format!(in rt.alloc(); "{ShortMessage}")?;

@@ -23,37 +23,37 @@ struct Faulty {
 
 const FAULTY: &[Faulty] = &[
     Faulty {
-        name: "a label and a pointer to it",
+        name: "Compression loop",
         message: b"\x00\x00\x00\x00\x00\x01\x00\x00\x00\x00\x00\x00\x01\x61\xC0\x0C\x00\x01\x00\x01",
         fault: LONG_NAME,
         answers: Ok(20),
     },
     Faulty {
-        name: "a pointer to its own offset",
+        name: "Pointer to its own place",
         message: b"\x00\x00\x00\x00\x00\x01\x00\x00\x00\x00\x00\x00\xC0\x0C\x00\x01\x00\x01",
         fault: BAD_POINTER,
         answers: Ok(18),
     },
     Faulty {
-        name: "the reserved label type 01",
+        name: "Reserved label types: 01",
         message: b"\x00\x00\x00\x00\x00\x01\x00\x00\x00\x00\x00\x00\x40\x00\x00\x01\x00\x01",
         fault: BAD_LABEL,
         answers: Err(BAD_LABEL),
     },
     Faulty {
-        name: "the reserved label type 10",
+        name: "Reserved label types: 10",
         message: b"\x00\x00\x00\x00\x00\x01\x00\x00\x00\x00\x00\x00\x80\x00\x00\x01\x00\x01",
         fault: BAD_LABEL,
         answers: Err(BAD_LABEL),
     },
     Faulty {
-        name: "a missing question",
+        name: "Missing question",
         message: b"\x00\x00\x00\x00\x00\x01\x00\x00\x00\x00\x00\x00",
         fault: SHORT,
         answers: Err(SHORT),
     },
     Faulty {
-        name: "the greatest count without questions",
+        name: "Counts without entries",
         message: b"\x00\x00\x00\x00\xFF\xFF\x00\x00\x00\x00\x00\x00",
         fault: SHORT,
         answers: Err(SHORT),
@@ -96,14 +96,14 @@ fn ends_at_the_first_fault(rt: HostRuntime) {
 fn refuses_a_name_of_256_octets(rt: HostRuntime) {
     let octets = long_question(62);
     let fault = LONG_NAME;
-    assert_faulty(&rt, "one octet too long", &octets, fault, Err(fault));
+    assert_faulty(&rt, "One octet too long", &octets, fault, Err(fault));
 }
 
 #[test]
 fn refuses_a_question_that_is_cut(rt: HostRuntime) {
     for len in 12..29 {
         let octets = &POSITIVE_RESPONSE[..len];
-        assert_faulty(&rt, "cut in the question", octets, SHORT, Err(SHORT));
+        assert_faulty(&rt, "Cut in the question", octets, SHORT, Err(SHORT));
     }
 }
 
@@ -145,11 +145,11 @@ fn long_question(last: u8) -> [u8; 272] {
 fn reads_a_sole_question(rt: HostRuntime) {
     let message = message_of(&rt, POINTER_INTO_THE_HEADER);
     let is_read = has_sole(&message, b"\x00", 18);
-    assert_holds(&rt, "a pointer into the header", is_read);
+    assert_holds(&rt, "Pointer into the header", is_read);
     let octets = long_question(61);
     let message = message_of(&rt, &octets);
     let is_read = has_sole(&message, &octets[12..267], 271);
-    assert_holds(&rt, "the longest name", is_read);
+    assert_holds(&rt, "Longest name", is_read);
 }
 
 /// Questions for a. and b., and one that can't be read.

@@ -40,14 +40,14 @@ struct Case {
 
 const CASES: &[Case] = &[
     Case {
-        name: "an octet left over",
+        name: "A record with octets left over",
         message: b"\x00\x00\x00\x00\x00\x00\x00\x01\x00\x00\x00\x00\x00\x00\x01\x00\x01\x00\x00\x00\x00\x00\x05\x01\x02\x03\x04\x05",
         in_any_class: &[Err(LEFT_OVER)],
         in_class_in: &[Err(LEFT_OVER)],
         end: 28,
     },
     Case {
-        name: "an octet left over in class CH",
+        name: "Octets left over in class CH",
         message: b"\x00\x00\x00\x00\x00\x00\x00\x01\x00\x00\x00\x00\x00\x00\x01\x00\x03\x00\x00\x00\x00\x00\x05\x01\x02\x03\x04\x05",
         in_any_class: &[Err(LEFT_OVER)],
         in_class_in: &[],
@@ -68,7 +68,7 @@ const CASES: &[Case] = &[
         end: 51,
     },
     Case {
-        name: "two addresses",
+        name: "Static compressor over a stream: two addresses",
         message: ALL_SECTIONS,
         in_any_class: &[Ok(FIRST), Ok(SECOND)],
         in_class_in: &[Ok(FIRST), Ok(SECOND)],
@@ -163,7 +163,7 @@ fn gives_three(mut records: Opaque<'_>) -> bool {
 fn refuses_a_name_past_the_end_of_its_data(rt: HostRuntime) {
     let message = message_of(&rt, NAME_PAST_THE_END);
     let is_short = is_short(answers_of(&rt, &message));
-    assert_holds(&rt, "half a pointer", is_short);
+    assert_holds(&rt, "Name past the data's end", is_short);
 }
 
 #[test]

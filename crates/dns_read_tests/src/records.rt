@@ -24,19 +24,19 @@ struct Faulty {
 
 const FAULTY: &[Faulty] = &[
     Faulty {
-        name: "a record that can be skipped",
+        name: "Unreadable answer is passed over",
         message: b"\x00\x00\x00\x00\x00\x00\x00\x01\x00\x00\x00\x00\xC0\x0C\x00\x01\x00\x01\x00\x00\x00\x00\x00\x00",
         fault: BAD_POINTER,
         authority: Ok(24),
     },
     Faulty {
-        name: "RDATA that is cut off",
+        name: "Data cut off",
         message: b"\x00\x00\x00\x00\x00\x00\x00\x01\x00\x00\x00\x00\x00\x00\x01\x00\x01\x00\x00\x00\x00\x00\x05\x01\x02\x03\x04",
         fault: SHORT,
         authority: Err(SHORT),
     },
     Faulty {
-        name: "a missing record",
+        name: "Missing records in `iter`: an answer",
         message: b"\x00\x00\x00\x00\x00\x00\x00\x01\x00\x00\x00\x00",
         fault: SHORT,
         authority: Err(SHORT),
@@ -108,7 +108,7 @@ fn ends_at_an_answer_that_is_cut(rt: HostRuntime) {
         let message = message_of(&rt, &POSITIVE_RESPONSE[..len]);
         let is_cut = has_sole(&message, EXAMPLE_COM, 29)
             && is_faulty(&message, 29, SHORT, Err(SHORT));
-        assert!(rt; is_cut, "cut in the answer, {len} octets");
+        assert!(rt; is_cut, "Cut in the answer, {len} octets");
     }
 }
 
@@ -117,11 +117,15 @@ fn ends_at_an_additional_record_that_cant_be_read(rt: HostRuntime) -> Result<(),
     let message = message_of(&rt, UNREADABLE_ADDITIONAL);
     let fault = sole_fault(message.additional()?);
     let is_last = fault == Some((BAD_POINTER, Ok(None)));
-    assert_holds(&rt, "an owner that points to itself", is_last);
+    assert_holds(&rt, "Unreadable additional record", is_last);
     let message = message_of(&rt, &UNREADABLE_ADDITIONAL[..12]);
     let items = given(message.iter());
     let is_missing = items == [Some(Err(SHORT)), None, None];
-    assert_holds(&rt, "a missing record", is_missing);
+    assert_holds(
+        &rt,
+        "Missing records in `iter`: an additional record",
+        is_missing,
+    );
     Ok(())
 }
 
@@ -185,7 +189,7 @@ fn iterates_over_sections(rt: HostRuntime) {
         None,
     ];
     let is_given = given((&message).into_iter()) == sections;
-    assert_holds(&rt, "the records of two sections", is_given);
+    assert_holds(&rt, "Copy records: `iter` of the source", is_given);
     let is_alias = is_alias_of(&message, b"\x03baz\x07example\x03com\x00");
     assert_holds(&rt, "the RDATA of an alias", is_alias);
 }

@@ -15,12 +15,12 @@ struct Sole {
 
 const SOLE: &[Sole] = &[
     Sole {
-        name: "no question",
+        name: "Sole question: no question",
         message: b"\x00\x00\x00\x00\x00\x00\x00\x00\x00\x00\x00\x00",
         qtype: Err(ParseError::Form(FormError::NO_QUESTION)),
     },
     Sole {
-        name: "two questions",
+        name: "Sole question: two questions",
         message: b"\x00\x00\x00\x00\x00\x02\x00\x00\x00\x00\x00\x00\x00\x00\x01\x00\x01\x00\x00\x01\x00\x01",
         qtype: Err(ParseError::Form(FormError::MULTIPLE_QUESTIONS)),
     },
@@ -103,7 +103,7 @@ const PAIRS: &[Pair] = &[
         asks_the_same: true,
     },
     Pair {
-        name: "a question that can't be read",
+        name: "No answer over broken questions",
         message: BROKEN,
         other: BROKEN,
         is_answer: false,
@@ -133,13 +133,13 @@ struct OptRecord {
 
 const OPT_RECORDS: &[OptRecord] = &[
     OptRecord {
-        name: "one record",
+        name: "OPT found",
         message: b"\x00\x00\x00\x00\x00\x00\x00\x00\x00\x00\x00\x01\x00\x00\x29\x10\x00\x01\x00\x00\x00\x00\x00",
         size: Some(4096),
         rcode: 16,
     },
     OptRecord {
-        name: "an option that is cut",
+        name: "OPT with broken options",
         message: b"\x00\x00\x00\x00\x00\x00\x00\x00\x00\x00\x00\x01\x00\x00\x29\x10\x00\x01\x00\x00\x00\x00\x01\x00",
         size: None,
         rcode: 0,
@@ -180,7 +180,7 @@ const LAST_ADDITIONAL: [u8; 39] =
 fn a_faulty_answer_counts(rt: HostRuntime) {
     let message = message_of(&rt, FAULTY_ANSWER);
     let is_found = message.contains_answer::<A>();
-    assert_holds(&rt, "an answer that can't be read", is_found);
+    assert_holds(&rt, "A faulty answer counts", is_found);
     let message = message_of(&rt, ANSWER);
     let is_found = message.contains_answer::<A>();
     assert_holds(&rt, "an address", is_found);
@@ -211,10 +211,14 @@ fn has_a_last_additional(rt: HostRuntime) -> Result<(), Fail> {
     let found = last_address(&octets);
     assert_holds(&rt, "the last record", found == Some([1, 2, 3, 4]));
     let found = last_address(&LAST_ADDITIONAL);
-    assert_holds(&rt, "after a record that can't be read", found.is_none());
+    assert_holds(
+        &rt,
+        "Last additional record: after a record that can't be read",
+        found.is_none(),
+    );
     let octets = without_last(Message::from_octets(LAST_ADDITIONAL)?);
     let mut expected = LAST_ADDITIONAL;
     expected[11] = 1;
-    assert_octets(&rt, "without the last record", &octets, &expected);
+    assert_octets(&rt, "Last additional record: removed", &octets, &expected);
     Ok(())
 }
