@@ -78,17 +78,20 @@ fn assert_replaced<const N: usize>(
     Ok(())
 }
 
+/// OPT with one option: each octet is replaced in turn.
 #[test]
 fn reads_an_option_with_replaced_octets(rt: HostRuntime) -> Result<(), Fail> {
     assert_replaced(&rt, rt.alloc(), *OPT)
 }
 
+/// Name in data: each octet is replaced in turn.
 #[test]
 fn reads_a_name_in_data_with_replaced_octets(rt: HostRuntime) -> Result<(), Fail> {
     assert_replaced(&rt, rt.alloc(), *NAME_IN_DATA)
 }
 
-/// Cuts the message after each octet. Without a header section there is no message.
+/// Cut in the header, Cut in the question, Cut in the answer: the message is cut after each octet.
+/// Without a header section there is no message.
 #[test]
 fn reads_messages_that_are_cut(rt: HostRuntime) -> Result<(), Fail> {
     for len in 0..=45 {
@@ -104,7 +107,7 @@ fn reads_messages_that_are_cut(rt: HostRuntime) -> Result<(), Fail> {
     Ok(())
 }
 
-/// Names of at most 255 octets, and of more.
+/// Longest name, One octet too long: names of at most 255 octets, and of more.
 #[test]
 fn reads_long_questions(rt: HostRuntime) -> Result<(), Fail> {
     for last in 59..=63 {

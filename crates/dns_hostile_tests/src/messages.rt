@@ -26,35 +26,35 @@ pub(crate) struct Bound {
 
 pub(crate) const BOUNDS: &[Bound] = &[
     Bound {
-        name: "a question and its answer",
+        name: "Positive response",
         octets: POSITIVE_RESPONSE,
     },
     Bound {
-        name: "a name in RDATA",
+        name: "Name in data",
         octets: NAME_IN_DATA,
     },
     Bound {
-        name: "a label and a pointer to it",
+        name: "Compression loop",
         octets: b"\x00\x00\x00\x00\x00\x01\x00\x00\x00\x00\x00\x00\x01\x61\xC0\x0C\x00\x01\x00\x01",
     },
     Bound {
-        name: "a pointer to its own offset",
+        name: "Pointer to its own place",
         octets: b"\x00\x00\x00\x00\x00\x01\x00\x00\x00\x00\x00\x00\xC0\x0C\x00\x01\x00\x01",
     },
     Bound {
-        name: "a pointer into the header section",
+        name: "Pointer into the header",
         octets: b"\x00\x00\x00\x00\x00\x01\x00\x00\x00\x00\x00\x00\xC0\x04\x00\x01\x00\x01",
     },
     Bound {
-        name: "the reserved label type 01",
+        name: "Reserved label types: 01",
         octets: b"\x00\x00\x00\x00\x00\x01\x00\x00\x00\x00\x00\x00\x40\x00\x00\x01\x00\x01",
     },
     Bound {
-        name: "the reserved label type 10",
+        name: "Reserved label types: 10",
         octets: b"\x00\x00\x00\x00\x00\x01\x00\x00\x00\x00\x00\x00\x80\x00\x00\x01\x00\x01",
     },
     Bound {
-        name: "the greatest count without questions",
+        name: "Counts without entries",
         octets: b"\x00\x00\x00\x00\xFF\xFF\x00\x00\x00\x00\x00\x00",
     },
     Bound {
@@ -62,19 +62,19 @@ pub(crate) const BOUNDS: &[Bound] = &[
         octets: b"\x00\x00\x00\x00\x00\x00\x00\x00\x00\x01\x00\x01",
     },
     Bound {
-        name: "RDATA that is cut off",
+        name: "Data cut off",
         octets: b"\x00\x00\x00\x00\x00\x00\x00\x01\x00\x00\x00\x00\x00\x00\x01\x00\x01\x00\x00\x00\x00\x00\x05\x01\x02\x03\x04",
     },
     Bound {
-        name: "a name that runs past the end of its RDATA",
+        name: "Name past the data's end",
         octets: b"\x00\x00\x00\x00\x00\x00\x00\x01\x00\x00\x00\x00\x00\x00\x05\x00\x01\x00\x00\x00\x00\x00\x01\xC0\x0C",
     },
     Bound {
-        name: "an octet left over in RDATA of class CH",
+        name: "Octets left over in class CH",
         octets: b"\x00\x00\x00\x00\x00\x00\x00\x01\x00\x00\x00\x00\x00\x00\x01\x00\x03\x00\x00\x00\x00\x00\x05\x01\x02\x03\x04\x05",
     },
     Bound {
-        name: "an owner that can't be read, before a record that can be",
+        name: "Last additional record",
         octets: b"\x00\x00\x00\x00\x00\x00\x00\x00\x00\x00\x00\x02\xC0\x0C\x00\x01\x00\x01\x00\x00\x00\x00\x00\x00\x00\x00\x01\x00\x01\x00\x00\x00\x00\x00\x04\x01\x02\x03\x04",
     },
     // Aliases from a. to b. and from B. to c.
@@ -91,7 +91,7 @@ pub(crate) const BOUNDS: &[Bound] = &[
         octets: b"\x00\x00\x00\x00\x00\x00\x00\x00\x00\x01\x00\x00\x00\x00\x06\x00\x01\x00\x00\x00\x00\x00\x1C\x01a\x00\x01b\xC0\x17\x00\x00\x00\x01\x00\x00\x00\x02\x00\x00\x00\x03\x00\x00\x00\x04\x00\x00\x00\x05\x00",
     },
     Bound {
-        name: "an OPT record whose option is cut off",
+        name: "OPT with broken options",
         octets: b"\x00\x00\x00\x00\x00\x00\x00\x00\x00\x00\x00\x01\x00\x00\x29\x10\x00\x01\x00\x00\x00\x00\x00\x01\x00",
     },
 ];
