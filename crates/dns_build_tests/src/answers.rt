@@ -45,16 +45,21 @@ fn over<T: Composer>(rt: &impl Abort, target: T) -> MessageBuilder<T> {
 fn assert_answers<T: Composer>(rt: &impl Abort, first: T, second: T) {
     let message = Message::from_slice(&UNREADABLE).expect(rt, "a message");
     let given = over(rt, first).start_answer(&message, Rcode::REFUSED);
-    assert_builder(rt, "start_answer", given.ok(), &REFUSED);
+    assert_builder(rt, "Start an answer", given.ok(), &REFUSED);
     let given = over(rt, second).start_error(&message, Rcode::REFUSED);
-    assert_builder(rt, "start_error", Some(given), &REFUSED);
+    assert_builder(rt, "Start an answer: start_error", Some(given), &REFUSED);
 }
 
 /// Checks that `try_start_answer` pushes the readable questions.
 fn assert_tries<T: Composer>(rt: &impl Abort, target: T) {
     let message = Message::from_slice(&UNREADABLE).expect(rt, "a message");
     let given = over(rt, target).try_start_answer(&message, Rcode::REFUSED);
-    assert_builder(rt, "try_start_answer", given.ok(), &REFUSED);
+    assert_builder(
+        rt,
+        "Start an answer: try_start_answer",
+        given.ok(),
+        &REFUSED,
+    );
 }
 
 #[test]
@@ -69,17 +74,27 @@ fn answers_the_readable_questions(rt: HostRuntime) {
 fn assert_refuses<T: Composer>(rt: &impl Abort, first: T, second: T) {
     let message = Message::from_slice(&READABLE).expect(rt, "a message");
     let given = over(rt, first).try_start_answer(&message, Rcode::NOERROR);
-    assert_builder(rt, "try_start_answer", given.err(), &SERVFAIL);
+    assert_builder(
+        rt,
+        "Start an answer without room: try_start_answer",
+        given.err(),
+        &SERVFAIL,
+    );
     let given = over(rt, second).start_answer(&message, Rcode::NOERROR);
     let is_refused = matches!(given.err(), Some(PushError::ShortBuf));
-    assert_holds(rt, "start_answer", is_refused);
+    assert_holds(rt, "Start an answer without room: start_answer", is_refused);
 }
 
 /// Checks `start_error` on such a target.
 fn assert_reports<T: Composer>(rt: &impl Abort, target: T) {
     let message = Message::from_slice(&READABLE).expect(rt, "a message");
     let given = over(rt, target).start_error(&message, Rcode::NOERROR);
-    assert_builder(rt, "start_error", Some(given), &SERVFAIL);
+    assert_builder(
+        rt,
+        "Start an answer without room: start_error",
+        Some(given),
+        &SERVFAIL,
+    );
 }
 
 #[test]

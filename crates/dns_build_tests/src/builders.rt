@@ -24,6 +24,7 @@ fn assert_no_record(rt: &impl Abort, row: &str, section: Result<RecordSection<'_
     assert_holds(rt, row, records.next().is_none());
 }
 
+/// Empty message: twelve zero octets, and no item in any section.
 #[test]
 fn builds_an_empty_message(rt: HostRuntime) {
     let builder = MessageBuilder::new_vec(rt.alloc()).expect(&rt, "memory");
@@ -42,7 +43,7 @@ const PUSH: Ask = Ask::Question(ROOT);
 /// the count.
 static QUESTIONS: [Case; 3] = [
     Case {
-        name: "a limit is inclusive",
+        name: "Limit is inclusive",
         questions: &[
             (Ask::Limit(16), Done, 12, b""),
             (PUSH, LimitExceeded, 12, b""),
@@ -53,7 +54,7 @@ static QUESTIONS: [Case; 3] = [
         ..EMPTY
     },
     Case {
-        name: "a limit is inclusive, before any push",
+        name: "Limit is inclusive, before any push",
         questions: &[
             (Ask::Limit(18), Done, 12, b""),
             (PUSH, Done, 17, b""),
@@ -66,7 +67,7 @@ static QUESTIONS: [Case; 3] = [
         ..EMPTY
     },
     Case {
-        name: "a full question section, with and without a limit",
+        name: "Full question section; Limit before count",
         questions: &[
             (Ask::Roots(65_535), Done, 327_687, b""),
             (PUSH, CountOverflow, 327_687, b""),
@@ -91,7 +92,7 @@ fn refuses_questions(rt: HostRuntime) {
 
 /// A limit below the length of the content, and a full target of 100 octets.
 static ANSWERS: Case = Case {
-    name: "a limit below the content",
+    name: "Limit below the content",
     answers: &[
         (Call::Opaque(ROOT, 39), Done, 62, b""),
         (Call::Limit(25), Done, 62, b""),
@@ -284,6 +285,7 @@ fn assert_clones<T: CloneTarget>(rt: &impl Abort, row: &str, target: T, octets: 
     assert_each_stage(rt, row, builder);
 }
 
+/// Clones: over targets that don't compress.
 #[test]
 fn clones_over_plain_targets(rt: HostRuntime) {
     let alloc = rt.alloc();
@@ -297,6 +299,7 @@ fn clones_over_plain_targets(rt: HostRuntime) {
     assert_clones(&rt, "a stream target over an array vector", stream, &TWICE);
 }
 
+/// Clones: over each compressor.
 #[test]
 fn clones_over_compressors(rt: HostRuntime) {
     let alloc = rt.alloc();
@@ -310,6 +313,7 @@ fn clones_over_compressors(rt: HostRuntime) {
     assert_clones(&rt, "a fingerprint compressor", target, &COMPRESSED);
 }
 
+/// Clones: over compressors over other targets.
 #[test]
 fn clones_over_compressors_over_other_targets(rt: HostRuntime) {
     let alloc = rt.alloc();
@@ -330,6 +334,7 @@ fn clones_over_compressors_over_other_targets(rt: HostRuntime) {
     );
 }
 
+/// Clones: a message.
 #[test]
 fn clones_a_message(rt: HostRuntime) {
     let builder = MessageBuilder::new_vec(rt.alloc()).expect(&rt, "memory");

@@ -84,7 +84,7 @@ fn run_cases(rt: &impl Abort, alloc: Global, cases: &[(&[Target], Case)]) {
 
 /// A message with a question and an answer, both for example.com.
 const POSITIVE_RESPONSE: Case = Case {
-    name: "a positive response",
+    name: "Positive response",
     questions: &[
         (Ask::Header([0, 0, 0x81, 0xA0]), Done, 12, b""),
         (Ask::Question(EXAMPLE_COM), Done, 29, EXAMPLE_COM),
@@ -96,7 +96,7 @@ const POSITIVE_RESPONSE: Case = Case {
 
 /// The response that a name doesn't exist, with the SOA record of the zone above it.
 const NEGATIVE_RESPONSE: Case = Case {
-    name: "a negative response",
+    name: "Negative response",
     questions: &[
         (Ask::Header([0, 0, 0x81, 0x83]), Done, 12, b""),
         (Ask::Servers(b"\x07example\x00"), Done, 25, b""),
@@ -132,7 +132,7 @@ static NAMES: [(&[Target], Case); 3] = [
     (
         ANY,
         Case {
-            name: "names in different letter case",
+            name: "Letter case is kept",
             questions: &[(Ask::Question(b"\x07Example\x03COM\x00"), Done, 29, b"")],
             answers: &[(Call::Address(EXAMPLE_COM, ADDRESS), Done, 56, EXAMPLE_COM)],
             start: b"\x00\x00\x00\x00\x00\x01\x00\x01\x00\x00\x00\x00\x07Example\x03COM\x00",
@@ -142,7 +142,7 @@ static NAMES: [(&[Target], Case); 3] = [
     (
         ANY,
         Case {
-            name: "a label in different letter case",
+            name: "Letter case of one label",
             questions: &[(Ask::Question(b"\x07Example\x03com\x00"), Done, 29, b"")],
             answers: &[(
                 Call::Address(EXAMPLE_COM, ADDRESS),
@@ -157,7 +157,7 @@ static NAMES: [(&[Target], Case); 3] = [
     (
         ANY,
         Case {
-            name: "a name in RDATA",
+            name: "Name in data",
             questions: &[(Ask::Servers(EXAMPLE_COM), Done, 29, b"")],
             answers: &[(
                 Call::Server(EXAMPLE_COM, 60, b"\x02ns\x07example\x03com\x00"),
@@ -193,7 +193,7 @@ static SUFFIXES: [(&[Target], Case); 4] = [
     (
         ANY,
         Case {
-            name: "suffixes of suffixes",
+            name: "Suffixes of suffixes",
             questions: &[
                 (Ask::Question(A_B_C), Done, 23, A_B_C),
                 (Ask::Question(B_C), Done, 29, b"\xC0\x0E"),
@@ -207,7 +207,7 @@ static SUFFIXES: [(&[Target], Case); 4] = [
     (
         &[Target::Plain],
         Case {
-            name: "suffixes of suffixes, uncompressed",
+            name: "Suffixes of suffixes, uncompressed",
             questions: &[
                 (Ask::Question(A_B_C), Done, 23, A_B_C),
                 (Ask::Question(B_C), Done, 32, B_C),
@@ -221,7 +221,7 @@ static SUFFIXES: [(&[Target], Case); 4] = [
     (
         &[Target::Static],
         Case {
-            name: "the 25th suffix, which has no entry",
+            name: "The 25th suffix, which has no entry",
             questions: &[
                 (Ask::Letters, Done, 180, b""),
                 (Ask::Question(Y), Done, 187, Y),
@@ -234,7 +234,7 @@ static SUFFIXES: [(&[Target], Case); 4] = [
     (
         &[Target::Tree, Target::Hash, Target::Fingerprint],
         Case {
-            name: "the 25th suffix",
+            name: "The 25th suffix",
             questions: &[
                 (Ask::Letters, Done, 180, b""),
                 (Ask::Question(Y), Done, 187, Y),
@@ -256,7 +256,7 @@ static AT_THE_BOUND: [(&[Target], Case); 3] = [
     (
         ANY,
         Case {
-            name: "names past the bound",
+            name: "Names past the bound",
             answers: &[
                 (
                     Call::Opaque(b"\x03pad\x07example\x03com\x00", 16_400),
@@ -274,7 +274,7 @@ static AT_THE_BOUND: [(&[Target], Case); 3] = [
     (
         ANY,
         Case {
-            name: "the last offset below the bound",
+            name: "Last place below the bound",
             answers: &[
                 (Call::Opaque(ROOT, 16_360), Done, 16_383, b""),
                 (Call::Address(LETTER_A, ADDRESS), Done, 16_400, LETTER_A),
@@ -287,7 +287,7 @@ static AT_THE_BOUND: [(&[Target], Case); 3] = [
     (
         ANY,
         Case {
-            name: "the first offset at the bound",
+            name: "First place at the bound",
             answers: &[
                 (Call::Opaque(ROOT, 16_361), Done, 16_384, b""),
                 (Call::Address(LETTER_A, ADDRESS), Done, 16_401, LETTER_A),
@@ -310,7 +310,7 @@ static ACROSS_THE_BOUND: [(&[Target], Case); 4] = [
     (
         BY_SUFFIX,
         Case {
-            name: "the second label past the bound",
+            name: "Second label past the bound",
             answers: &[
                 (Call::Opaque(ROOT, 16_359), Done, 16_382, b""),
                 (Call::Address(A_B, [1, 2, 3, 4]), Done, 16_401, A_B),
@@ -323,7 +323,7 @@ static ACROSS_THE_BOUND: [(&[Target], Case); 4] = [
     (
         &[Target::Hash],
         Case {
-            name: "the second label past the bound, without an entry",
+            name: "Second label past the bound, without an entry",
             answers: &[
                 (Call::Opaque(ROOT, 16_359), Done, 16_382, b""),
                 (Call::Address(A_B, [1, 2, 3, 4]), Done, 16_401, A_B),
@@ -336,7 +336,7 @@ static ACROSS_THE_BOUND: [(&[Target], Case); 4] = [
     (
         BY_SUFFIX,
         Case {
-            name: "a suffix of the table past the bound",
+            name: "Known suffix past the bound",
             questions: &[(Ask::Question(C), Done, 19, b"")],
             answers: &[
                 (Call::Opaque(ROOT, 16_354), Done, 16_384, b""),
@@ -349,7 +349,7 @@ static ACROSS_THE_BOUND: [(&[Target], Case); 4] = [
     (
         &[Target::Hash],
         Case {
-            name: "a suffix of the table past the bound, compressed",
+            name: "Known suffix past the bound, compressed",
             questions: &[(Ask::Question(C), Done, 19, b"")],
             answers: &[
                 (Call::Opaque(ROOT, 16_354), Done, 16_384, b""),
@@ -378,7 +378,7 @@ static FORGOTTEN: [(&[Target], Case); 2] = [
     (
         ANY,
         Case {
-            name: "a rewind removes entries",
+            name: "Rewind forgets",
             answers: &[
                 (Call::Address(EXAMPLE_COM, ADDRESS), Done, 39, EXAMPLE_COM),
                 (Call::Rewind, Done, 12, b""),
@@ -392,7 +392,7 @@ static FORGOTTEN: [(&[Target], Case); 2] = [
     (
         ANY,
         Case {
-            name: "a rewind across the bound",
+            name: "Rewind across the bound",
             answers: &[(Call::Opaque(ROOT, 16_359), Done, 16_382, b"")],
             authorities: &[
                 (Call::Address(A_B, ADDRESS), Done, 16_401, A_B),
@@ -412,7 +412,7 @@ fn forgets_names(rt: HostRuntime) {
 }
 
 static REFUSED_RECORD: Case = Case {
-    name: "a refused record removes only its entries",
+    name: "A refused record forgets only itself",
     questions: &[(Ask::Question(EXAMPLE_COM), Done, 29, b"")],
     answers: &[
         (Call::Opaque(WWW, 30), ShortBuf, 29, b""),
@@ -428,16 +428,34 @@ fn forgets_a_refused_record(rt: HostRuntime) {
     let alloc = rt.alloc();
     let case = &REFUSED_RECORD;
     let target = StaticCompressor::new(ArrayVec::<u8, 60>::new());
-    run(&rt, alloc, "a static compressor", target, case);
+    run(
+        &rt,
+        alloc,
+        "A refused record forgets only itself, over a static compressor",
+        target,
+        case,
+    );
     let target = TreeCompressor::new(alloc, ArrayVec::<u8, 60>::new());
-    run(&rt, alloc, "a tree compressor", target, case);
+    run(
+        &rt,
+        alloc,
+        "A refused record forgets only itself, over a tree compressor",
+        target,
+        case,
+    );
     let target = HashCompressor::new(alloc, ArrayVec::<u8, 60>::new());
-    run(&rt, alloc, "a hash compressor", target, case);
+    run(
+        &rt,
+        alloc,
+        "A refused record forgets only itself, over a hash compressor",
+        target,
+        case,
+    );
 }
 
 /// The pushes of a positive response if the question doesn't fit.
 static NO_QUESTION: Case = Case {
-    name: "no capacity for the question",
+    name: "No room for the question",
     questions: &[(Ask::Question(EXAMPLE_COM), ShortBuf, 12, b"")],
     answers: &[(Call::Address(EXAMPLE_COM, ADDRESS), ShortBuf, 12, b"")],
     start: &[0; 12],
@@ -446,7 +464,7 @@ static NO_QUESTION: Case = Case {
 
 /// The pushes of a positive response if the answer doesn't fit.
 static NO_ANSWER: Case = Case {
-    name: "no capacity for the answer",
+    name: "No room for the answer",
     questions: &[(Ask::Question(EXAMPLE_COM), Done, 29, b"")],
     answers: &[(Call::Address(EXAMPLE_COM, ADDRESS), ShortBuf, 29, b"")],
     start: b"\x00\x00\x00\x00\x00\x01\x00\x00\x00\x00\x00\x00",
@@ -455,7 +473,7 @@ static NO_ANSWER: Case = Case {
 
 /// The pushes of a positive response if all fit.
 static CAPACITY_FOR_ALL: Case = Case {
-    name: "a capacity for all",
+    name: "Room for all",
     ..POSITIVE_RESPONSE
 };
 
@@ -467,14 +485,38 @@ fn over_array<const N: usize>() -> StaticCompressor<ArrayVec<u8, N>> {
 #[test]
 fn refuses_what_exceeds_the_capacity(rt: HostRuntime) {
     let alloc = rt.alloc();
-    run(&rt, alloc, "12 octets", over_array::<12>(), &NO_QUESTION);
-    run(&rt, alloc, "28 octets", over_array::<28>(), &NO_QUESTION);
-    run(&rt, alloc, "29 octets", over_array::<29>(), &NO_ANSWER);
-    run(&rt, alloc, "44 octets", over_array::<44>(), &NO_ANSWER);
     run(
         &rt,
         alloc,
-        "45 octets",
+        "No room for the question, 12 octets",
+        over_array::<12>(),
+        &NO_QUESTION,
+    );
+    run(
+        &rt,
+        alloc,
+        "No room for the question, 28 octets",
+        over_array::<28>(),
+        &NO_QUESTION,
+    );
+    run(
+        &rt,
+        alloc,
+        "No room for the answer, 29 octets",
+        over_array::<29>(),
+        &NO_ANSWER,
+    );
+    run(
+        &rt,
+        alloc,
+        "No room for the answer, 44 octets",
+        over_array::<44>(),
+        &NO_ANSWER,
+    );
+    run(
+        &rt,
+        alloc,
+        "Room for all, 45 octets",
         over_array::<45>(),
         &CAPACITY_FOR_ALL,
     );
@@ -488,11 +530,19 @@ fn assert_no_header<T: Composer>(rt: &impl Abort, row: &str, target: T) {
 
 #[test]
 fn has_no_capacity_for_the_header(rt: HostRuntime) {
-    assert_no_header(&rt, "no octet", over_array::<0>());
-    assert_no_header(&rt, "eleven octets", over_array::<11>());
+    assert_no_header(&rt, "No room for the header, no octet", over_array::<0>());
+    assert_no_header(
+        &rt,
+        "No room for the header, eleven octets",
+        over_array::<11>(),
+    );
     let target = StreamTarget::new(ArrayVec::<u8, 13>::new());
     let target = target.expect(&rt, "a capacity for the length");
-    assert_no_header(&rt, "eleven octets after the length", target);
+    assert_no_header(
+        &rt,
+        "No room for prefix or header: eleven octets after the length",
+        target,
+    );
 }
 
 /// Fails unless an empty message over the target is twelve zero octets.
@@ -536,7 +586,7 @@ fn assert_pushed_again<T: Composer>(rt: &impl Abort, alloc: Global, target: T) {
     let first = push_two_thousand(rt, alloc, &mut builder);
     builder.rewind();
     let second = push_two_thousand(rt, alloc, &mut builder);
-    assert_octets(rt, "the same octets", &second, &first);
+    assert_octets(rt, "Two thousand questions", &second, &first);
 }
 
 #[test]

@@ -59,9 +59,9 @@ fn answers<T: Composer>(rt: &impl Abort, target: T) -> AnswerBuilder<T> {
 fn assert_copies<T: Composer>(rt: &impl Abort, first: T, second: T) {
     let source = Message::from_slice(&SOURCE).expect(rt, "a message");
     let copied = copy_records(&source, answers(rt, first), keep_cname);
-    assert_copied(rt, "the CNAME records", copied, &ANSWER);
+    assert_copied(rt, "Copy records: the CNAME records", copied, &ANSWER);
     let copied = copy_records(&source, answers(rt, second), keep_any);
-    assert_copied(rt, "all records", copied, &SOURCE);
+    assert_copied(rt, "Copy records: all records", copied, &SOURCE);
 }
 
 #[test]

@@ -66,7 +66,7 @@ fn pushes_one_option(rt: HostRuntime) {
     assert_pushed(
         &rt,
         alloc,
-        "one raw option",
+        "OPT with one option, raw",
         Vec::new(alloc),
         gather,
         0,
@@ -86,7 +86,7 @@ fn pushes_one_typed_option(rt: HostRuntime) {
     assert_pushed(
         &rt,
         alloc,
-        "one typed option",
+        "OPT with one option, typed",
         Vec::new(alloc),
         gather,
         0,
@@ -101,13 +101,7 @@ fn returns_what_the_closure_returns(rt: HostRuntime) {
         opt.set_rcode(OptRcode::from(Rcode::NXDOMAIN));
         Err(AppendError::ShortBuf)
     };
-    assert_refused(
-        &rt,
-        alloc,
-        "a closure that returns an error",
-        Vec::new(alloc),
-        gather,
-    );
+    assert_refused(&rt, alloc, "Closure that errs", Vec::new(alloc), gather);
 }
 
 /// Adds an option, with which there are 65,535 octets of options, and ignores that one more is
@@ -135,6 +129,7 @@ fn assert_one_option<T: Composer>(rt: &impl Abort, builder: &AdditionalBuilder<T
     assert_holds(rt, "one option", is_one);
 }
 
+/// Most options: one of 65,531 octets, and none after it.
 #[test]
 fn pushes_the_most_options(rt: HostRuntime) {
     let octets = most_octets(&rt, rt.alloc());
@@ -146,7 +141,7 @@ fn pushes_the_most_options(rt: HostRuntime) {
 
 #[test]
 fn refuses_the_most_options_in_a_stream(rt: HostRuntime) {
-    let row = "the most options in a stream";
+    let row = "Most options on a stream";
     let alloc = rt.alloc();
     let octets = most_octets(&rt, alloc);
     let target = StreamTarget::new_vec(alloc).expect(&rt, "memory");
@@ -180,7 +175,7 @@ fn takes_the_fields_of_a_record(rt: HostRuntime) {
     assert_pushed(
         &rt,
         alloc,
-        "the fields of a record",
+        "Clone from a record",
         Vec::new(alloc),
         gather,
         0,
@@ -205,7 +200,7 @@ fn pushes_known_options(rt: HostRuntime) {
     assert_pushed(
         &rt,
         alloc,
-        "several known options",
+        "Several known options",
         Vec::new(alloc),
         gather,
         23,

@@ -77,7 +77,7 @@ pub(crate) struct Case {
 
 /// No call.
 pub(crate) const EMPTY: Case = Case {
-    name: "an empty message",
+    name: "Empty message",
     questions: &[],
     answers: &[],
     authorities: &[],

@@ -33,7 +33,7 @@ fn run_after<T: Composer>(
 
 /// Two questions for the root, of which one fits.
 static FULL_ARRAY: Case = Case {
-    name: "a full target of fixed size",
+    name: "Full stream target of fixed size",
     questions: &[
         (Ask::Question(ROOT), Done, 17, b""),
         (Ask::Question(ROOT), ShortBuf, 17, b""),
@@ -57,7 +57,7 @@ fn fills_an_array(rt: HostRuntime) {
 
 /// A record with which the message would have more than 65,535 octets.
 static TOO_LONG: Case = Case {
-    name: "a record that exceeds the most octets",
+    name: "Full stream message, a record that exceeds it",
     answers: &[(Call::Opaque(ROOT, 65_513), ShortBuf, 12, b"")],
     start: &[0; 12],
     ..EMPTY
@@ -65,7 +65,7 @@ static TOO_LONG: Case = Case {
 
 /// Like `TOO_LONG`, followed by a record with which the message has 65,535 octets.
 static FULL: Case = Case {
-    name: "the most octets",
+    name: "Full stream message",
     answers: &[
         (Call::Opaque(ROOT, 65_513), ShortBuf, 12, b""),
         (Call::Opaque(ROOT, 65_512), Done, 65_535, b""),
@@ -93,7 +93,7 @@ static MESSAGE: [u8; 91] =
 
 /// The calls that build `MESSAGE`.
 static CALLS: Case = Case {
-    name: "a static compressor over a stream",
+    name: "Static compressor over a stream",
     questions: &[
         (Ask::Header([0, 0, 1, 0]), Done, 12, b""),
         (Ask::Question(EXAMPLE_COM), Done, 29, EXAMPLE_COM),
@@ -191,6 +191,7 @@ fn assert_addresses(
     assert_holds(rt, row, records.next().is_none());
 }
 
+/// Static compressor over a stream: the addresses are read back.
 #[test]
 fn reads_the_addresses_back(rt: HostRuntime) {
     let message = Message::from_slice(&MESSAGE).expect(&rt, "a message");
@@ -217,12 +218,14 @@ fn assert_server(rt: &impl Abort, record: &Record<ParsedName<'_>, Ns<ParsedName<
     assert_holds(rt, "the TTL", record.ttl().as_secs() == 0);
 }
 
+/// Static compressor over a stream: the question is read back.
 #[test]
 fn reads_the_question_back(rt: HostRuntime) {
     let message = Message::from_slice(&MESSAGE).expect(&rt, "a message");
     assert_question(&rt, &message.first_question().expect(&rt, "a question"));
 }
 
+/// Static compressor over a stream: the server is read back.
 #[test]
 fn reads_the_server_back(rt: HostRuntime) {
     let message = Message::from_slice(&MESSAGE).expect(&rt, "a message");
