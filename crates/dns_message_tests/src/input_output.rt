@@ -24,7 +24,7 @@ const BAD_LINE: Run<'_> = Run {
 };
 
 const SHOW: Run<'_> = Run {
-    name: "a shown message",
+    name: "Show a missing question",
     words: "show",
     input: b"000000000002000000000000076578616d706c6503636f6d0000010001",
     printed: "header id=0 opcode=0 rcode=0 z=0 flags=\ncounts 2 0 0 0\nquestion example.com.\tA\tIN\nquestion error\nanswer missing\n",

@@ -8,35 +8,35 @@ use std::test::Fail;
 
 const RUNS: &[Run<'_>] = &[
     Run {
-        name: "first run",
+        name: "First run",
         words: "build plain",
         input: b"question\npush example.com. A\n",
         printed: "ok 12\nok 29\n000000000001000000000000076578616d706c6503636f6d0000010001\n",
         status: 0,
     },
     Run {
-        name: "root question",
+        name: "Root question",
         words: "build plain",
         input: b"question\npush . A\n",
         printed: "ok 12\nok 17\n0000000000010000000000000000010001\n",
         status: 0,
     },
     Run {
-        name: "one answer",
+        name: "One answer",
         words: "build plain",
         input: b"answer\npush example.com. 3600 IN A 203.0.113.1\n",
         printed: "ok 12\nok 39\n000000000000000100000000076578616d706c6503636f6d000001000100000e100004cb007101\n",
         status: 0,
     },
     Run {
-        name: "question and answer",
+        name: "Question and answer",
         words: "build plain",
         input: b"question\npush example.com. A\nanswer\npush example.com. 3600 IN A 203.0.113.1\n",
         printed: "ok 12\nok 29\nok 29\nok 56\n000000000001000100000000076578616d706c6503636f6d0000010001076578616d706c6503636f6d000001000100000e100004cb007101\n",
         status: 0,
     },
     Run {
-        name: "header fields",
+        name: "Header fields",
         words: "build plain",
         input: b"id 4660\nopcode 4\nflags QR AA\nrcode 3\n",
         printed: "ok 12\nok 12\nok 12\nok 12\n1234a4030000000000000000\n",
@@ -73,21 +73,21 @@ const RUNS: &[Run<'_>] = &[
         status: 0,
     },
     Run {
-        name: "an rcode out of range",
+        name: "Rcode out of range",
         words: "build plain",
         input: b"rcode 16",
         printed: "bad line 1\n",
         status: 1,
     },
     Run {
-        name: "a push before any section",
+        name: "A push before any section",
         words: "build plain",
         input: b"push . A",
         printed: "bad line 1\n",
         status: 1,
     },
     Run {
-        name: "all moves",
+        name: "All moves",
         words: "build plain",
         input: b"question\npush example.com. A\nanswer\npush example.com. 3600 IN A 203.0.113.1\nauthority\npush . 60 IN NS ns.example.com.\nrewind\nadditional\npush . 0 IN TXT \\# 0\nanswer\ntcrewind\nbuilder\n",
         printed: "ok 12\nok 29\nok 29\nok 56\nok 56\nok 83\nok 56\nok 56\nok 67\nok 56\nok 29\nok 12\n000002000000000000000000\n",
@@ -108,14 +108,14 @@ const RUNS: &[Run<'_>] = &[
         status: 0,
     },
     Run {
-        name: "a rewind before any section",
+        name: "Misplaced rewinds: before any section",
         words: "build plain",
         input: b"rewind",
         printed: "bad line 1\n",
         status: 1,
     },
     Run {
-        name: "a rewind with TC at the question section",
+        name: "Misplaced rewinds: with TC at the question section",
         words: "build plain",
         input: b"question\ntcrewind\n",
         printed: "ok 12\nbad line 2\n",
@@ -174,7 +174,7 @@ const RUNS: &[Run<'_>] = &[
         status: 0,
     },
     Run {
-        name: "rewind over a static compressor",
+        name: "Rewind over a static compressor",
         words: "build static",
         input: REWOUND,
         printed: COMPRESSED,
@@ -731,7 +731,7 @@ struct Long {
 
 const LONG: &[Long] = &[
     Long {
-        name: "full fixed target: the 100th push",
+        name: "Full fixed target: the 100th push",
         start: "question\n",
         repeated: "push . A\n",
         count: 101,
@@ -741,7 +741,7 @@ const LONG: &[Long] = &[
         status: 0,
     },
     Long {
-        name: "full fixed target: the last push",
+        name: "Full fixed target: the last push",
         start: "question\n",
         repeated: "push . A\n",
         count: 101,
@@ -751,7 +751,7 @@ const LONG: &[Long] = &[
         status: 0,
     },
     Long {
-        name: "a limit equal to the capacity: the 99th push",
+        name: "Limit equal to the room: the 99th push",
         start: "question\nlimit 512\n",
         repeated: "push . A\n",
         count: 101,
@@ -761,7 +761,7 @@ const LONG: &[Long] = &[
         status: 0,
     },
     Long {
-        name: "a limit equal to the capacity: the 100th push",
+        name: "Limit equal to the room: the 100th push",
         start: "question\nlimit 512\n",
         repeated: "push . A\n",
         count: 101,
@@ -771,7 +771,7 @@ const LONG: &[Long] = &[
         status: 0,
     },
     Long {
-        name: "a limit equal to the capacity: the last push",
+        name: "Limit equal to the room: the last push",
         start: "question\nlimit 512\n",
         repeated: "push . A\n",
         count: 101,

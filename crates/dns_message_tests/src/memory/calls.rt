@@ -158,7 +158,7 @@ pub(crate) fn assert_list<R: Abort + Print, T: Fresh>(
 ) -> Result<(), Fail> {
     let stage: Stage<T> = Stage::Builder(started(rt, alloc)?);
     let stage = make(rt, alloc, stage, &positive_calls()?)?;
-    assert_octets(rt, "a positive response", stage.as_slice(), expected);
+    assert_octets(rt, "Positive response", stage.as_slice(), expected);
     Ok(())
 }
 
@@ -175,6 +175,6 @@ pub(crate) fn assert_moves<R: Abort + Print, T: Fresh>(
     let stage = add_server(rt, alloc, stage, server)?;
     let stage = add_text(rt, alloc, stage, text)?;
     let expected = b"\x00\x00\x02\x00\x00\x00\x00\x00\x00\x00\x00\x00";
-    assert_octets(rt, "all moves", stage.as_slice(), expected);
+    assert_octets(rt, "All moves", stage.as_slice(), expected);
     Ok(())
 }

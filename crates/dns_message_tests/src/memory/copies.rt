@@ -46,6 +46,6 @@ pub(crate) fn assert_copies<R: Abort + Print, T: Fresh>(
         }
         answer => answer?,
     };
-    assert_octets(rt, "copied records", copied.as_slice(), expected);
+    assert_octets(rt, "Copy records", copied.as_slice(), expected);
     Ok(())
 }

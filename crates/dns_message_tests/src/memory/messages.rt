@@ -71,7 +71,7 @@ pub(crate) fn assert_positive<R: Abort + Print, T: Fresh>(
     let builder: AnswerBuilder<T> = asked(rt, alloc, header, EXAMPLE_COM, Rtype::A)?;
     let address = A::from_octets(203, 0, 113, 1);
     let record = (Name::from_octets(*EXAMPLE_COM)?, 3600, address);
-    assert_record(rt, "a positive response", builder, &record, expected)
+    assert_record(rt, "Positive response", builder, &record, expected)
 }
 
 /// The RDATA of the authority record of `NEGATIVE_RESPONSE`.
@@ -91,7 +91,7 @@ pub(crate) fn assert_negative<R: Abort + Print, T: Fresh>(
     let record = (Name::root_slice(), 86_390, soa()?);
     assert_record(
         rt,
-        "a negative response",
+        "Negative response",
         builder.authority(),
         &record,
         NEGATIVE_RESPONSE,
@@ -107,5 +107,5 @@ pub(crate) fn assert_name_in_data<R: Abort + Print, T: Fresh>(
     let builder: AnswerBuilder<T> = asked(rt, alloc, Header::new(), EXAMPLE_COM, Rtype::NS)?;
     let server = Ns::new(Name::from_octets(*NS_EXAMPLE_COM)?);
     let record = (Name::from_octets(*EXAMPLE_COM)?, 60, server);
-    assert_record(rt, "a name in RDATA", builder, &record, expected)
+    assert_record(rt, "Name in data", builder, &record, expected)
 }

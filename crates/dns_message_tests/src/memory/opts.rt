@@ -32,7 +32,7 @@ pub(crate) fn assert_option<R: Abort + Print, T: Fresh>(rt: &R, alloc: Global) -
         assert_unchanged(rt, &builder, &before);
         push_option(alloc, &mut builder)?;
     }
-    assert_octets(rt, "one option", builder.as_slice(), ONE_OPTION);
+    assert_octets(rt, "OPT with one option", builder.as_slice(), ONE_OPTION);
     Ok(())
 }
 
@@ -45,13 +45,8 @@ pub(crate) fn assert_error<R: Abort + Print, T: Fresh>(rt: &R, alloc: Global) ->
         Err(AppendError::ShortBuf)
     });
     let is_reported = matches!(answer, Err(PushError::ShortBuf));
-    assert_holds(rt, "the error of the closure", is_reported);
+    assert_holds(rt, "Closure that errs: its error", is_reported);
     assert_unchanged(rt, &builder, &before);
-    assert_octets(
-        rt,
-        "a closure that returns an error",
-        builder.as_slice(),
-        &[0; 12],
-    );
+    assert_octets(rt, "Closure that errs", builder.as_slice(), &[0; 12]);
     Ok(())
 }
