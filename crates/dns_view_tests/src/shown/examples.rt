@@ -4,7 +4,7 @@ use crate::shown::SHOW;
 
 pub(super) const EXAMPLES: &[Run<'_>] = &[
     Run {
-        name: "an empty message",
+        name: "Show an empty message",
         words: SHOW,
         input: b"000000000000000000000000",
         printed: "\
@@ -14,7 +14,7 @@ counts 0 0 0 0
         status: 0,
     },
     Run {
-        name: "a missing question",
+        name: "Show a missing question",
         words: SHOW,
         input: b"000000000002000000000000076578616d706c6503636f6d0000010001",
         printed: "\
@@ -42,7 +42,7 @@ authority missing
         status: 0,
     },
     Run {
-        name: "octets left over, as opaque data",
+        name: "Show octets left over as opaque",
         words: SHOW,
         input: b"000000000000000100000000 00 0001 0001 00000000 0005 0102030405",
         printed: "\
@@ -72,7 +72,7 @@ authority . 1 IN SOA a. . 1 2 3 4 4294967295
         status: 0,
     },
     Run {
-        name: "a message built over a static compressor",
+        name: "Build over a static compressor and show it: the build",
         words: "build static",
         input: b"flags QR RD RA AD\nquestion\npush example.com. A\nanswer\npush example.com. 3600 IN A 203.0.113.1\n",
         printed: "\
@@ -86,7 +86,7 @@ ok 45
         status: 0,
     },
     Run {
-        name: "the same message, shown",
+        name: "Build over a static compressor and show it: the show",
         words: SHOW,
         input: b"000081a00001000100000000076578616d706c6503636f6d0000010001c00c0001000100000e100004cb007101",
         printed: "\
