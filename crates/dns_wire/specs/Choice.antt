@@ -1,8 +1,8 @@
 -- How a name is compressed, by the indices of its labels. The recursion of `encode_name` agrees with it. RFC 1035 section 4.1.4.
-use Rattle.std.specs.Prelude.{◌≡◌, ℕ, zero, suc, ◌+◌, ◌<◌, ◌≤◌, nat_lt, Bool, true, false, Option, None, Some, List, [], ◌∷◌, ◌++◌, length, take, drop}
+use Rattle.std.specs.Prelude.{◌≡◌, ◌↔◌, ◌⊎◌, ⊤, ℕ, zero, suc, ◌+◌, ◌<◌, ◌≤◌, nat_lt, Bool, true, false, Option, None, Some, List, [], ◌∷◌, ◌++◌, length, take, drop, All, Any}
 use Rattle.std.specs.FinMap.{get, len}
 use Rattle.dns_name.specs.Names.{Labels, name_size, uncompressed}
-use Rattle.dns_wire.specs.Encoders.{CompressionTable, TableEntry, Suffix, add_suffixes, Rule, compresses, Encoded, pointer, may_enter, entering_suffixes, encode_name}
+use Rattle.dns_wire.specs.Encoders.{CompressionTable, TableEntry, Suffix, add_suffixes, Rule, Plain, Static, Tree, Hash, compresses, Encoded, pointer, may_enter, entering_suffixes, encode_name}
 
 -- The offset of label i, if the name is written at offset w without pointers.
 abbrev pub label_offset : ℕ → Labels → ℕ → ℕ
@@ -61,3 +61,19 @@ pub record EncodesByChoice (rule : Rule) (m : CompressionTable) (w : ℕ) (name 
 -- Each compressor encodes every name so.
 abbrev pub NamesByChoice : Type 0
 NamesByChoice = (rule : Rule) → compresses rule ≡ true → (m : CompressionTable) (w : ℕ) (name : Labels) → EncodesByChoice rule m w name (encode_name rule name m w)
+
+-- A suffix at this offset is kept out of the table, which has `entry_count` entries: a pointer can't hold the offset, or the static rule's table is full. Plain keeps all out; hash decides once the whole name is written.
+abbrev pub IsKeptOut : Rule → ℕ → ℕ → Type 0
+IsKeptOut Plain offset entry_count = ⊤
+IsKeptOut Static offset entry_count = (16384 ≤ offset) ⊎ (24 ≤ entry_count)
+IsKeptOut Tree offset entry_count = 16384 ≤ offset
+IsKeptOut Hash offset entry_count = ⊥
+
+-- `may_enter` is false for exactly the suffixes that are kept out.
+abbrev pub MayEnterUnlessKeptOut : Type 0
+MayEnterUnlessKeptOut = (rule : Rule) (offset entry_count : ℕ) → (may_enter rule offset entry_count ≡ false) ↔ IsKeptOut rule offset entry_count
+
+-- Under hash, all suffixes of a name enter the table if each is at an offset below 16,384. None enters if one isn't.
+pub record HashAddsAllOrNone : Type 0 where
+  pub all : (suffixes : List Suffix) → All (λ suffix. suffix.offset < 16384) suffixes → entering_suffixes Hash suffixes ≡ suffixes
+  pub none : (suffixes : List Suffix) → Any (λ suffix. 16384 ≤ suffix.offset) suffixes → entering_suffixes Hash suffixes ≡ []

@@ -1,6 +1,6 @@
 //! Theorems on targets and what is written to them. The functions do nothing: each contract is a
 //! theorem over all contents, names and parts.
-ghost use Rattle.dns_wire.specs.Choice.{NamesByChoice};
+ghost use Rattle.dns_wire.specs.Choice.{NamesByChoice, MayEnterUnlessKeptOut, HashAddsAllOrNone};
 ghost use Rattle.dns_wire.specs.Compression.{PartsAreShortest, PartsPointToLabels, ShortPartsAreInPointerRange};
 ghost use Rattle.dns_wire.specs.TargetLaws.{NamesAreWhereAgreed, NamesStayWithMore, NamesAreWithinAll, NamesOfWithin, NamesStayWhenOverwritten};
 ghost use Rattle.dns_wire.specs.TargetLaws.{EntriesAreNames, NamesAreAtOrAfter, NothingIsTarget, NameKeeps, OctetsKeep, CutKeeps, OverwriteKeeps};
@@ -43,9 +43,13 @@ pub fn names_and_parts_read_back()
 {}
 
 /// How each compressor writes a name, in terms of the longest suffix in the table and the first
-/// suffix that may not enter it.
+/// suffix that may not enter it: under static and tree one at or after offset 16,384, under static
+/// also any once the table has 24 entries. Hash adds all suffixes of a name, or none if one is at or
+/// after that offset.
 pub fn names_by_choice()
-    ensures { NamesByChoice }
+    ensures names { NamesByChoice }
+    ensures far { MayEnterUnlessKeptOut }
+    ensures hash { HashAddsAllOrNone }
 {}
 
 /// A name takes at most as many octets as it does uncompressed, under every rule.

@@ -1,10 +1,13 @@
 -- A name is encoded by its longest suffix in the table, and by how many of the suffixes before that may enter the table.
-use Rattle.std.proofs.Common.{◌≡◌, ◌≢◌, nat_lt, ℕ, zero, suc, ◌+◌, ◌<◌, ◌≤◌, Bool, true, false, Option, Some, None, List, [], ◌∷◌, ◌++◌, length, take, append_assoc, ap, sym, ◌∙◌, refl, subst, arith, below_more}
+use Rattle.std.proofs.Common.{◌≡◌, ◌≢◌, ◌⊎◌, inl, inr, ◌&&◌, nat_lt, if◌then◌else◌, slice_index_or, ℕ, zero, suc, ◌+◌, ◌<◌, ◌≤◌, Bool, true, false, Option, Some, None, List, [], ◌∷◌, ◌++◌, length, take, append_assoc, ap, sym, ◌∙◌, refl, subst, arith, below_more}
 use Rattle.std.proofs.lemmas.Bool.Decides.{nat_tests}
+use Rattle.std.proofs.lemmas.List.Folds.{list_all_at}
+use Rattle.std.proofs.lemmas.List.Sums.{list_all-from_AllPass}
+use Rattle.std.specs.List.{list_all}
 use Rattle.std.specs.FinMap.{get, len}
 use Rattle.dns_name.specs.Names.{Labels, framed, uncompressed, name_size}
-use Rattle.dns_wire.specs.Encoders.{CompressionTable, TableEntry, Suffix, add_suffixes, Rule, Plain, compresses, pointer, CompressedName, compress, compress_label, may_enter, entering_suffixes, encode_name}
-use Rattle.dns_wire.specs.Choice.{first_suffixes, label_offset, IsNew, IsThere, IsFound, Enters, found_octets, planned_octets, NamesByChoice}
+use Rattle.dns_wire.specs.Encoders.{CompressionTable, TableEntry, Suffix, add_suffixes, Rule, Plain, Static, Tree, Hash, compresses, pointer, CompressedName, compress, compress_label, may_enter, entering_suffixes, encode_name}
+use Rattle.dns_wire.specs.Choice.{first_suffixes, label_offset, IsNew, IsThere, IsFound, Enters, found_octets, planned_octets, NamesByChoice, MayEnterUnlessKeptOut, HashAddsAllOrNone}
 
 -- `may_enter` at equal offsets and counts.
 enters_same : (rule : Rule) (p p' h h' : ℕ) (b : Bool) → p ≡ p' → h ≡ h' → may_enter rule p h ≡ b → may_enter rule p' h' ≡ b
@@ -197,3 +200,40 @@ names_by_choice rule c m w name =
       octets = given.octets;
       table = given.table ∙ ap (λ (text : List ℕ). add_suffixes m (entering_suffixes rule (first_suffixes entering.0 name w)) (w + length text)) (sym given.octets);
     }
+
+-- The static rule's test fails only from offset 16,384 or from 24 entries on.
+static_kept_out : (in_range few : Bool) (offset entry_count : ℕ) → nat_lt offset 16384 ≡ in_range → nat_lt entry_count 24 ≡ few → in_range && few ≡ false → (16384 ≤ offset) ⊎ (24 ≤ entry_count)
+static_kept_out false few offset entry_count r f h = inl (grind (arith, nat_tests))
+static_kept_out true false offset entry_count r f h = inr (grind (arith, nat_tests))
+static_kept_out true true offset entry_count r f h = absurd (cc)
+
+-- It fails wherever one of the two holds.
+static_test_false : (in_range few : Bool) (offset entry_count : ℕ) → nat_lt offset 16384 ≡ in_range → nat_lt entry_count 24 ≡ few → (16384 ≤ offset) ⊎ (24 ≤ entry_count) → in_range && few ≡ false
+static_test_false false few offset entry_count r f h = refl
+static_test_false true false offset entry_count r f h = refl
+static_test_false true true offset entry_count r f (inl h) = absurd (grind (arith, nat_tests))
+static_test_false true true offset entry_count r f (inr h) = absurd (grind (arith, nat_tests))
+
+-- `may_enter` is false for exactly the suffixes that are kept out.
+pub may_enter_unless_kept_out : MayEnterUnlessKeptOut
+may_enter_unless_kept_out Plain offset entry_count = (λ h. tt, λ h. refl)
+may_enter_unless_kept_out Static offset entry_count =
+    (static_kept_out (nat_lt offset 16384) (nat_lt entry_count 24) offset entry_count refl refl, static_test_false (nat_lt offset 16384) (nat_lt entry_count 24) offset entry_count refl refl)
+may_enter_unless_kept_out Tree offset entry_count = (λ h. grind (arith, nat_tests), λ h. grind (arith, nat_tests))
+may_enter_unless_kept_out Hash offset entry_count = (λ h. absurd (cc), λ h. absurd h)
+
+-- Under hash, all suffixes of a name enter the table, or none.
+pub hash_adds_all_or_none : HashAddsAllOrNone
+hash_adds_all_or_none = record {
+  all = λ suffixes h. chosen suffixes true (list_all-from_AllPass in_range suffixes (λ k d l. let below = h k d l in grind (arith, nat_tests)));
+  none = λ suffixes h. chosen suffixes false (list_all_at in_range suffixes h.0 h.1 h.2 (far (slice_index_or suffixes h.0 h.1) h.1 h.3 h.4));
+}
+  where
+    in_range : Suffix → Bool
+    in_range suffix = nat_lt suffix.offset 16384
+
+    chosen : (suffixes : List Suffix) (b : Bool) → list_all in_range suffixes ≡ b → entering_suffixes Hash suffixes ≡ (if b then suffixes else [])
+    chosen suffixes b e = ap (λ (t : Bool). if t then suffixes else []) e
+
+    far : (s suffix : Suffix) → s ≡ suffix → 16384 ≤ suffix.offset → in_range s ≡ false
+    far s suffix e h = let same = ap (λ (x : Suffix). x.offset) e in grind (arith, nat_tests)
