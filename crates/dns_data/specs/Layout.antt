@@ -17,7 +17,7 @@ pub data Layout : Type 0 where
   Fixed : ℕ → Layout → Layout
   -- a character string, which is a length octet and that number of octets, and then the remaining fields
   CharacterString : Layout → Layout
-  -- a name, which may be compressed, and then the remaining fields
+  -- a name, perhaps with a pointer, and then the remaining fields
   DomainName : Layout → Layout
 
 -- the number of octets of a character string at offset p, its length octet included

@@ -44,7 +44,7 @@ pub trait ComposeRecordData: RecordData {
         ensures is_data { IsData (Self.parts self.now) };
 
     /// Appends the parts in canonical form: names lowercased and uncompressed (RFC 4034 section
-    /// 6.2). Errors are as for `compose_rdata`.
+    /// 6.2), other octets as they are. Errors are as for `compose_rdata`.
     fn compose_canonical_rdata<T: Composer>(&self, target: &mut T) -> Result<(), AppendError>
         ensures { Composes T.capacity T.grows
             (encode_parts T.rule (canonical (Self.parts self.now)))
@@ -56,7 +56,8 @@ pub trait ParseRecordData<'a>: RecordData + Sized {
     /// The layout of the RDATA of a record type, if the type is accepted.
     ghost layout: { ℕ → Option Layout };
 
-    /// Reads the RDATA of a record of this type, from the parser's offset to at most its end.
+    /// Reads the RDATA of a record of this type, from the parser's offset to at most the parser's
+    /// end.
     /// Returns `None` if the type isn't accepted.
     ///
     /// Octets may be left over. If the octets aren't such RDATA, it returns the first error in
