@@ -2,20 +2,24 @@
 //! expected values from outside this library, lists of calls that end with the same octets, and
 //! calls that allocate.
 //!
-//! Nothing is exported. `callers`, `tour` and `typed` have proved callers; `program`, `input_output`
-//! and `long_data` test `dnsmsg`, `script` lists of calls, and `memory` calls that allocate.
-//! `asserts` and `runs` have what many tests use. The rows of a table have names, which failures
-//! print.
+//! Nothing is exported. `callers`, `tour` and `typed` have proved callers. `program`, `bad_lines`,
+//! `long_scripts`, `input_output` and `long_data` test `dnsmsg`, `script` lists of calls, and
+//! `memory` calls that allocate. `asserts` and `runs` have what many tests use. The rows of a table
+//! have names, which failures print.
 #![tactic(auto)]
 
 #[cfg(test)]
 mod asserts;
+#[cfg(test)]
+mod bad_lines;
 #[cfg(test)]
 mod callers;
 #[cfg(test)]
 mod input_output;
 #[cfg(test)]
 mod long_data;
+#[cfg(test)]
+mod long_scripts;
 #[cfg(test)]
 mod memory;
 #[cfg(test)]
