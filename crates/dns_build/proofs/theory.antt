@@ -2,3 +2,4 @@
 pub mod Encodings
 pub mod EncodingReading
 pub mod Asking
+pub mod MessageSizes

@@ -32,6 +32,8 @@ pub use Rattle.dns_section.proofs.theory.ReadingLemmas.{readings_of_questions_en
 pub use Rattle.dns_build.proofs.theory.Asking.{accepted_within}
 -- The encoding of a state is a message with its items.
 pub use Rattle.dns_build.proofs.theory.EncodingReading.{encodings_are_messages}
+-- The octets of a state's message, and what lengthens it: encodings, questions and answers do, moving and rewinding with TC don't.
+pub use Rattle.dns_build.proofs.theory.MessageSizes.{longer_octets, one_more, octets_after, message_size, tc_rewound_is_shorter, moving_adds_nothing, longer_with_questions, longer_with_answers, items_are_few}
 -- What holds of each element of two lists holds of each of their concatenation.
 pub use Rattle.dns_build.proofs.theory.Encodings.{every_append}
 -- A text is appended after another.

@@ -1,4 +1,3 @@
 mod Asking
 mod Pushing
-mod Sizes
 mod Starting

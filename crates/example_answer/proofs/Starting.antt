@@ -18,7 +18,7 @@ use Rattle.dns_message.proofs.CallerLemmas.{questions_from_are_read, readings_of
 use Rattle.example_answer.specs.declared.answering.NoAnswer.TheVariants.{Refused}
 use Rattle.example_answer.specs.Answering.{HasNoAnswer, IsMessage, answer_to, asked_again, asked_records, format_error, payload_size, size, size_said, with_answers}
 use Rattle.example_answer.specs.Pushing.{AddsRecords, RefusesMore}
-use Rattle.example_answer.proofs.Sizes.{sized, size_moved, cut_within, longer_questions, items_within}
+use Rattle.dns_message.proofs.CallerLemmas.{message_size, moving_adds_nothing, tc_rewound_is_shorter, longer_with_questions, items_are_few}
 
 -- the state of a new builder, limited to what the client of a query accepts
 abbrev pub client : List ℕ → State
@@ -32,7 +32,7 @@ size_large (Some opt) = grind arith
 -- the first state of a reply is within the limit: it is a header section
 starts_within : (rcode : ℕ) (b : List ℕ) → size (answering rcode b (client b)) ≤ payload_size b
 starts_within rcode b =
-    let e = sized (answering rcode b (client b)) in
+    let e = message_size Plain (answering rcode b (client b)) in
     let l = size_large (opt_of b) in
     omega (arith, e, l)
 
@@ -46,7 +46,7 @@ module _ (b : List ℕ) where
   pub started_within : AreAccepted None true Plain (answering 0 b (client b)) (readable_questions b) → size (asked_again b) ≤ payload_size b
   started_within accepted =
       let l = accepted_within None true Plain (answering 0 b (client b)) (readable_questions b) accepted (starts_within 0 b) in
-      let e = size_moved (answering 0 b (client b)) (readable_questions b) in
+      let e = moving_adds_nothing Plain (answering 0 b (client b)) (readable_questions b) in
       omega (arith, e, l)
 
   -- the reply with these questions
@@ -61,14 +61,14 @@ module _ (b : List ℕ) where
       let s = answering 0 b (client b) in
       let p = gives.1 in
       let xs = gives.0 ++ p.next ∷ [] in
-      let l = longer_questions s xs p.others in
+      let l = longer_with_questions Plain s xs p.others in
       let all : xs ++ p.others ≡ readable_questions b = append_assoc gives.0 (p.next ∷ []) p.others ∙ sym p.all in
-      let e = size_moved s (readable_questions b) ∙ ap (λ (zs : List QuestionItem). size (asking zs)) (sym all) in
+      let e = moving_adds_nothing Plain s (readable_questions b) ∙ ap (λ (zs : List QuestionItem). size (asking zs)) (sym all) in
       let k = p.refused in
       omega (arith, e, k, l)
   not_started CountOverflow small gives =
       let p = gives.1 in
-      let k = items_within (asking (gives.0 ++ p.next ∷ [])) in
+      let k = items_are_few Plain (asking (gives.0 ++ p.next ∷ [])) in
       let n = length-append gives.0 (p.next ∷ []) in
       let q = p.refused in
       omega (arith, k, n, q)
@@ -84,12 +84,12 @@ module _ (b : List ℕ) where
   pub answer_within : (table : List RecordItem) (asked : QuestionItem) → size (asked_again b) ≤ payload_size b → size (answer_to b table asked) ≤ payload_size b
   answer_within table asked l =
       let all = with_answers (asked_records asked table) (asked_again b) in
-      either_within all (tc_rewound InAnswer (asked_again b)) (payload_size b) (let m = cut_within (asked_again b) in omega (arith, l, m))
+      either_within all (tc_rewound InAnswer (asked_again b)) (payload_size b) (let m = tc_rewound_is_shorter Plain (asked_again b) in omega (arith, l, m))
       (nat_le (size all) (payload_size b)) refl
 
   -- so is a FORMERR reply
   pub error_within : size (format_error b) ≤ payload_size b
-  error_within = let e = sized (format_error b) in let l = size_large (opt_of b) in omega (arith, e, l)
+  error_within = let e = message_size Plain (format_error b) in let l = size_large (opt_of b) in omega (arith, e, l)
 
   -- a started reply to which the matches are added is the answer
   pub answered : (table : List RecordItem) (asked : QuestionItem) (mid new : Built) → GivesAnswer None true Plain (answering 0 b (client b)) (readable_questions b) (Ok mid)
