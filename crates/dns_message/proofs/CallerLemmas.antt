@@ -40,3 +40,5 @@ pub use Rattle.dns_build.proofs.theory.Encodings.{every_append}
 pub use Rattle.dns_tool.proofs.theory.AppendedTexts.{appends_both}
 -- The empty text is appended if nothing changes.
 pub use Rattle.dns_tool.proofs.theory.AppendedTexts.{appends_none}
+-- Lines are printed one after another, one for each item of a list: first none, then that of the next item, at last all.
+pub use Rattle.dns_tool.proofs.theory.PrintedLines.{Printed, none_printed, more_printed, all_printed}

@@ -37,8 +37,8 @@ nothing_gathered header = record {
 }
 
 -- with another rcode: its lower four bits are in the header, the others in the record (RFC 6891 section 6.1.3)
-abbrev pub with_rcode : ℕ → Gathered → Gathered
-with_rcode rcode g = record g { header = record g.header { rcode = rcode % 16 }; fields = record g.fields { ext = rcode / 16 } }
+abbrev pub with_extended_rcode : ℕ → Gathered → Gathered
+with_extended_rcode rcode g = record g { header = record g.header { rcode = rcode % 16 }; fields = record g.fields { ext = rcode / 16 } }
 
 -- What can be collected: fields within their 4, 8, 8 and 15 bits, and options whose octets, at most 65,535, read back as these options.
 pub record IsGathered (g : Gathered) : Type 0 where

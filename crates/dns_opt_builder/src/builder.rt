@@ -34,7 +34,7 @@ impl OptBuilder {
     ghost use Rattle.dns_code.specs.Header.{fields as header_fields};
     ghost use Rattle.dns_opt.specs.OptHeader.{fields as opt_fields};
     ghost use Rattle.dns_opt.specs.OptionIter.{options_left};
-    ghost use Rattle.dns_opt_builder.specs.Gathered.{gathered, nothing_gathered, option_octets, with_rcode};
+    ghost use Rattle.dns_opt_builder.specs.Gathered.{gathered, nothing_gathered, option_octets, with_extended_rcode};
     ghost use Rattle.dns_opt_builder.specs.Additions.{Adds};
     ghost use Rattle.dns_item.specs.OptRecord.{opt_item};
 
@@ -97,7 +97,7 @@ impl OptBuilder {
 
     /// Sets the extended rcode, in the header and in the record.
     pub fn set_rcode(&mut self, rcode: OptRcode)
-        ensures { gathered self.new ≡ with_rcode rcode (gathered self.old) }
+        ensures { gathered self.new ≡ with_extended_rcode rcode (gathered self.old) }
     {
         self.header.set_rcode(rcode.rcode());
         self.opt_header.set_rcode(rcode);

@@ -5,14 +5,14 @@ use Rattle.dns_octets.specs.declared.error.AppendError.TheVariants.{ShortBuf, Ou
 use Rattle.dns_code.specs.Header.{HeaderFields}
 use Rattle.dns_opt.specs.OptData.{option_of}
 use Rattle.dns_opt.specs.Options.{OptionItem, encode_options}
-use Rattle.dns_opt_builder.specs.Gathered.{Gathered, gathered, nothing_gathered, with_rcode}
+use Rattle.dns_opt_builder.specs.Gathered.{Gathered, gathered, nothing_gathered, with_extended_rcode}
 use Rattle.dns_opt_builder.specs.declared.builder.OptBuilder.{OptBuilder}
 use Rattle.dns_script.specs.declared.opt_plan.OptPlan.{OptPlan}
 
 -- with this extended RCODE, if there is one
 abbrev pub with_any_rcode : Option ℕ → Gathered → Gathered
 with_any_rcode None g = g
-with_any_rcode (Some rcode) g = with_rcode rcode g
+with_any_rcode (Some rcode) g = with_extended_rcode rcode g
 
 -- with the fields of a plan
 abbrev pub with_fields : OptPlan → Gathered → Gathered

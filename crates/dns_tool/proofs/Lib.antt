@@ -2,7 +2,6 @@ pub mod theory
 mod HexLemmas
 mod KnownText
 mod OutputLemmas
-mod PrintedLines
 mod ShownHeader
 mod ShownRecords
 mod WalkLemmas

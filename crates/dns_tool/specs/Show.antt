@@ -90,8 +90,8 @@ abbrev pub text_with : EncodedRecord → Option (List Part) → List ℕ
 text_with x parts = record_fields_text (name_text x.entry.owner) x.entry.ttl x.entry.class x.entry.rtype (shown_data x parts)
 
 -- the text of a record: its RDATA by its fields if its type has a layout and the RDATA is well-formed, else as octets
-abbrev pub record_text : EncodedRecord → List ℕ
-record_text x = text_with x (known_parts x)
+abbrev pub shown_record : EncodedRecord → List ℕ
+shown_record x = text_with x (known_parts x)
 
 -- the word that begins each line of a section of records
 abbrev pub section_word : Section → List ℕ
@@ -109,7 +109,7 @@ HasShortData x = x.entry.rdata_end ≤ x.entry.rdata_start + 65535
 
 -- the line of an item of a section of records, after the section's word: a record, or an error
 abbrev pub record_line : List ℕ → Result EncodedRecord Fault → List ℕ
-record_line word (Ok x) = line (word ++ codes " " ++ record_text x)
+record_line word (Ok x) = line (word ++ codes " " ++ shown_record x)
 record_line word (Err f) = line (word ++ codes " error")
 
 -- what is printed from a section on: a line for each of its items, then `after`; if it has no start, a line that says it is missing, and nothing more

@@ -11,7 +11,8 @@ use Rattle.dns_message.proofs.CallerLemmas.{begins_reading}
 use Rattle.dns_message.proofs.CallerLemmas.{no_answers, start_found}
 use Rattle.dns_message.specs.Messages.{message_octets, records_of}
 use Rattle.example_addresses.specs.Addresses.{a_layout, address_line, addresses_text, lines_from}
-use Rattle.example_addresses.proofs.Printing.{all_printed, more_printed, regrouped}
+use Rattle.dns_message.proofs.CallerLemmas.{all_printed, more_printed}
+use Rattle.example_addresses.proofs.Printing.{regrouped}
 use Rattle.example_addresses.proofs.print_addresses.Goals as goal
 
 pub returns-in_default : goal.returns-in_default

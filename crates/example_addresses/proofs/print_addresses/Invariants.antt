@@ -1,6 +1,6 @@
 use Rattle.dns_message.specs.Sections.RecordIter.{typed_left}
 use Rattle.example_addresses.specs.Addresses.{a_layout, address_line}
-use Rattle.example_addresses.proofs.Printing.{Printed}
+use Rattle.dns_message.proofs.CallerLemmas.{Printed}
 use Rattle.example_addresses.proofs.print_addresses.Given as goal
 
 abbrev pub invariant-loop-item : goal.invariant-loop-item

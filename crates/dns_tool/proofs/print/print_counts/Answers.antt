@@ -1,5 +1,5 @@
 use Rattle.dns_code.specs.HeaderCounts.{counts}
-use Rattle.dns_tool.proofs.PrintedLines.{printed_as}
+use Rattle.dns_tool.proofs.theory.PrintedLines.{printed_as}
 use Rattle.dns_tool.proofs.ShownHeader.{printed_counts}
 use Rattle.dns_tool.proofs.print.print_counts.Goals as goal
 

@@ -1,7 +1,7 @@
 use Rattle.std.proofs.Common.{◌∙◌, ℕ, Bool, ap}
 use Rattle.std.specs.Prelude.{if◌then◌else◌}
 use Rattle.dns_code.specs.Header.{fields}
-use Rattle.dns_tool.proofs.PrintedLines.{printed_as}
+use Rattle.dns_tool.proofs.theory.PrintedLines.{printed_as}
 use Rattle.dns_tool.proofs.ShownHeader.{bit_number, printed_header}
 use Rattle.dns_tool.proofs.print.print_header.Goals as goal
 

@@ -9,7 +9,7 @@ use Rattle.dns_section.specs.QuestionSection.{BeginsQuestions}
 use Rattle.dns_section.specs.RecordSection.{BeginsSection}
 use Rattle.dns_section.specs.declared.section.Section.TheVariants.{Answer}
 use Rattle.dns_tool.specs.Show.{header_line, counts_line, question_line, counts_of, records_text}
-use Rattle.dns_tool.proofs.PrintedLines.{on_ok, printed_then}
+use Rattle.dns_tool.proofs.theory.PrintedLines.{on_ok, printed_then}
 use Rattle.dns_tool.proofs.ShownRecords.{sections_printed}
 use Rattle.dns_tool.proofs.WalkLemmas.{answers_begin, answers_stop}
 use Rattle.dns_tool.proofs.print.print_message.Goals as goal

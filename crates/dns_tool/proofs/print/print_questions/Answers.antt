@@ -1,4 +1,4 @@
-use Rattle.dns_tool.proofs.PrintedLines.{none_printed, more_printed, all_printed}
+use Rattle.dns_tool.proofs.theory.PrintedLines.{none_printed, more_printed, all_printed}
 use Rattle.dns_tool.proofs.WalkLemmas.{no_question_read, question_read}
 use Rattle.dns_tool.specs.Show.{question_line}
 use Rattle.dns_tool.proofs.print.print_questions.Goals as goal

@@ -1,7 +1,7 @@
 use Rattle.std.proofs.Common.{length}
 use Rattle.dns_section.specs.QuestionSection.{questions_left}
 use Rattle.dns_tool.specs.Show.{question_line}
-use Rattle.dns_tool.proofs.PrintedLines.{Printed}
+use Rattle.dns_tool.proofs.theory.PrintedLines.{Printed}
 use Rattle.dns_tool.proofs.WalkLemmas.{QuestionsRead}
 use Rattle.dns_tool.proofs.print.print_questions.Given as goal
 

@@ -1,6 +1,6 @@
 use Rattle.std.proofs.Common.{arith}
 use Rattle.dns_tool.specs.Show.{record_line, section_word}
-use Rattle.dns_tool.proofs.PrintedLines.{none_printed, more_printed, all_printed}
+use Rattle.dns_tool.proofs.theory.PrintedLines.{none_printed, more_printed, all_printed}
 use Rattle.dns_tool.proofs.ShownRecords.{given_read, given_short}
 use Rattle.dns_tool.proofs.WalkLemmas.{no_record_read, record_read}
 use Rattle.dns_tool.proofs.print.print_records.Goals as goal

@@ -1,7 +1,7 @@
 use Rattle.std.proofs.Common.{length}
 use Rattle.dns_section.specs.RecordSection.{records_left}
 use Rattle.dns_tool.specs.Show.{record_line, section_word}
-use Rattle.dns_tool.proofs.PrintedLines.{Printed}
+use Rattle.dns_tool.proofs.theory.PrintedLines.{Printed}
 use Rattle.dns_tool.proofs.WalkLemmas.{RecordsRead}
 use Rattle.dns_tool.proofs.print.print_records.Given as goal
 
