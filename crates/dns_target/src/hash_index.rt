@@ -12,8 +12,8 @@ use crate::suffix_map::{Key, SuffixMap};
 use crate::texts::{Found, reaches};
 use std::alloc::{AllocError, Global};
 
-/// The suffixes in the table, and the one that the last name ended with. Consecutive names often
-/// share it, so it is tried first.
+/// The suffixes in the table, and the longest suffix of the last name that was in it, or all of that
+/// name. Consecutive names often share it, so it is tried first.
 #[derive(Debug, Drop)]
 pub struct HashIndex {
     suffixes: SuffixMap,
@@ -77,7 +77,7 @@ fn in_range_count(labels: &LabelStarts<'_>, offset: usize, from: usize) -> usize
     }
 }
 
-/// The label at which the suffix begins that is tried first for the next name: the suffix that was
+/// The index of the first label of the suffix to try first for the next name: the suffix that was
 /// found, or else the whole name.
 fn shared_from(found: Found) -> usize
     ensures { result ≤ found.from }

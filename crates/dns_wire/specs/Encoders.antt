@@ -9,7 +9,7 @@ use Rattle.std.specs.Int.{to_be_bytes, w16}
 use Rattle.std.specs.List.{list_all}
 use Rattle.dns_name.specs.Names.{Labels, framed, uncompressed, pointer_end}
 
--- The compression table of a target: suffixes of names that were written, each with its offset. RFC 1035 section 4.1.4. Below, `m` is a table and `w` the length of a content, which is the offset of what is written next.
+-- The compression table of a target: suffixes of names that were written, each with its offset. RFC 1035 section 4.1.4. Below, `m` is a table and `w` the length of the octets so far, which is the offset of the next one.
 
 -- The order of the table's keys. Suffixes are looked up octet for octet, so suffixes that differ in case are different keys.
 abbrev pub suffix_cmp : Labels → Labels → Ordering
@@ -141,7 +141,7 @@ pub record CompressedName : Type 0 where
   pub octets : List ℕ
   pub suffixes : List Suffix
 
--- A suffix in the table: a pointer. Else, if the table may take it here: the label, then its parent encoded after it. Else: the whole name uncompressed.
+-- A suffix in the table: a pointer. Else, if the table may take it here: the label, then its parent encoded after it. Else: the rest of the name, uncompressed.
 abbrev pub compress_label : Option TableEntry → Bool → List ℕ → Suffix → CompressedName → CompressedName
 compress_label (Some entry) enters label suffix parent = record { octets = pointer entry.offset; suffixes = [] }
 compress_label None true label suffix parent = record { octets = framed label ++ parent.octets; suffixes = suffix ∷ parent.suffixes }
