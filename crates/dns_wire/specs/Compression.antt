@@ -1,8 +1,8 @@
 -- The ways to compress the names among parts by suffixes of earlier names, and the octets that each takes. Offsets and tables play no part. RFC 1035 section 4.1.4.
-use Rattle.std.specs.Prelude.{◌≡◌, ℕ, ◌+◌, ◌≤◌, ◌⊎◌, List, [], ◌∷◌, ◌++◌, length, ◌<◌}
+use Rattle.std.specs.Prelude.{◌≡◌, ℕ, ◌+◌, ◌≤◌, ◌⊎◌, Bool, List, [], ◌∷◌, ◌++◌, length, ◌<◌}
 use Rattle.std.specs.FinMap.{len}
-use Rattle.dns_name.specs.Names.{Labels, name_size, pointer_end}
-use Rattle.dns_wire.specs.Parts.{Part, Octets, CompressibleName, AreParts, encode_parts, PartsInPointerRange, PartsPointed}
+use Rattle.dns_name.specs.Names.{Labels, name_size, uncompressed, pointer_end}
+use Rattle.dns_wire.specs.Parts.{Part, Octets, CompressibleName, UncompressedName, AreParts, encode_parts, PartsInPointerRange, PartsPointed}
 use Rattle.dns_wire.specs.Encoders.{static_entries, nothing, Rule, Plain, Static, Tree, Hash}
 use Rattle.dns_wire.specs.Targets.{Written, IsTarget, append}
 
@@ -17,11 +17,13 @@ abbrev pub IsShared : List Labels → Labels → Type 0
 IsShared [] suffix = ⊥
 IsShared (name ∷ names) suffix = IsSuffix suffix name ⊎ IsShared names suffix
 
--- One way to write the parts after the `earlier` names (newest first), and its length in octets. Octets are written as they are. A name is written whole, as its labels and the zero octet, or as k ≥ 0 labels and a 2-octet pointer to a suffix of an earlier name.
+-- One way to write the parts after the `earlier` names (newest first), and its length in octets. Octets are written as they are, and so is a name that is never compressed: no later name shares its suffixes. A name that may be compressed is written whole, as its labels and the zero octet, or as k ≥ 0 labels and a 2-octet pointer to a suffix of an earlier such name.
 pub data Compression : List Labels → List Part → ℕ → Type 0 where
   none : {earlier : List Labels} → Compression earlier [] 0
   octets : {earlier : List Labels} {xs : List ℕ} {parts : List Part} {n : ℕ} → Compression earlier parts n
       → Compression earlier (Octets xs ∷ parts) (length xs + n)
+  uncompressed_name : {earlier : List Labels} {lowercased : Bool} {name : Labels} {parts : List Part} {n : ℕ} → Compression earlier parts n
+      → Compression earlier (UncompressedName lowercased name ∷ parts) (length (uncompressed name) + n)
   whole : {earlier : List Labels} {name : Labels} {parts : List Part} {n : ℕ} → Compression (name ∷ earlier) parts n
       → Compression earlier (CompressibleName name ∷ parts) (name_size name + 1 + n)
   shared : {earlier : List Labels} {name : Labels} {parts : List Part} {n : ℕ} (first rest : Labels) → name ≡ first ++ rest → IsShared earlier rest

@@ -9,7 +9,7 @@ use Rattle.std.specs.Ordering.{eq_by_cmp}
 use Rattle.dns_name.specs.Names.{Labels, IsName, name_size, max_size, uncompressed, framed}
 use Rattle.dns_name.proofs.theory.UncompressedNames.{name_tail}
 use Rattle.dns_wire.specs.Encoders.{TableEntry, CompressionTable, add_suffixes, Extends, IsGrowing, Rule, Plain, Static, Tree, Hash, Encoder, encode_octets, both, with_length, Suffix, CompressedName, compress_label, compress, entering_suffixes, pointer as encode_pointer, encode_name, IsWithin, suffix_cmp, suffix_total, may_enter}
-use Rattle.dns_wire.specs.Parts.{Part, Octets, CompressibleName, encode_part, encode_parts}
+use Rattle.dns_wire.specs.Parts.{Part, Octets, CompressibleName, UncompressedName, encode_part, encode_parts}
 use Rattle.dns_wire.specs.Targets.{At, Compressed, Labelled, IsTableEntry, IsTableOf}
 use Rattle.dns_wire.specs.Targets.Compressed.{root, label, pointer}
 use Rattle.dns_wire.proofs.theory.CompressionTables.{extends_refl, extends_wider, extends_join, inserted, gets, tied}
@@ -118,6 +118,7 @@ with_length_grows a g = record {
 pub encode_part_grows : (rule : Rule) (part : Part) → IsGrowing (encode_part rule part)
 encode_part_grows rule (Octets octets) = encode_octets_grows octets
 encode_part_grows rule (CompressibleName name) = encode_name_grows rule name
+encode_part_grows rule (UncompressedName lowercased name) = encode_octets_grows (uncompressed name)
 
 -- The encoding of parts is growing.
 pub encode_parts_grows : (rule : Rule) (parts : List Part) → IsGrowing (encode_parts rule parts)
@@ -131,7 +132,7 @@ Each P [] = Unit {0}
 Each P (s ∷ ss) = P s × Each P ss
 
 -- The uncompressed octets of a name encode it.
-compressed_full : (m : CompressionTable) (b : List ℕ) (q p : ℕ) (name : Labels) → IsName name → At b p (uncompressed name) → q ≡ p + length (uncompressed name) → Compressed m b q p name
+pub compressed_full : (m : CompressionTable) (b : List ℕ) (q p : ℕ) (name : Labels) → IsName name → At b p (uncompressed name) → q ≡ p + length (uncompressed name) → Compressed m b q p name
 compressed_full m b q p [] is h e = root h e
 compressed_full m b q p (first ∷ rest) is h e =
     let t = name_tail first rest is in

@@ -8,14 +8,14 @@ use Rattle.std.proofs.lemmas.List.{take-append-le}
 use Rattle.std.specs.FinMap.{get}
 use Rattle.dns_octets.specs.declared.error.AppendError.{AppendError}
 use Rattle.dns_octets.specs.declared.error.AppendError.TheVariants.{ShortBuf, OutOfMemory}
-use Rattle.dns_name.specs.Names.{Labels, IsName}
+use Rattle.dns_name.specs.Names.{Labels, IsName, uncompressed}
 use Rattle.dns_name.specs.Parsers.{number_at}
 use Rattle.dns_wire.specs.Encoders.{Rule, Encoder, IsGrowing, encode_octets, both, encode_name, CompressionTable, with_length, TableEntry, cut, ends_within}
-use Rattle.dns_wire.specs.Parts.{Part, Octets, CompressibleName, PartsAt, AreParts, encode_parts}
+use Rattle.dns_wire.specs.Parts.{Part, Octets, CompressibleName, UncompressedName, PartsAt, AreParts, encode_parts}
 use Rattle.dns_wire.specs.Targets.{At, Compressed, Written, IsTarget, append, cut_to, Fits, Exceeds, ComposeReturns, Composes}
 use Rattle.dns_wire.specs.TargetLaws.{CutUndoes, AppendsCompose, ComposesBoth, ComposesFirst}
 use Rattle.dns_wire.proofs.theory.CompressionTables.{cut-extends, cut-within, gets, get-cut, same_table}
-use Rattle.dns_wire.proofs.theory.EncodedNames.{encode_name_grows, encode_octets_grows, both_grows, with_length_grows, ends_within_content, encodes_compressed_name}
+use Rattle.dns_wire.proofs.theory.EncodedNames.{encode_name_grows, encode_octets_grows, both_grows, with_length_grows, ends_within_content, encodes_compressed_name, compressed_full}
 use Rattle.dns_wire.proofs.theory.CompressedNames.{at_append, at_end, compressed_long, compressed_more, kept_more, name_at_up_to, ends_within_octets}
 
 -- Targets with the same octets and the same table are the same.
@@ -106,12 +106,15 @@ abbrev pub HasParts : List Part → Written → ℕ → ℕ → Type 0
 HasParts [] t p q = p ≡ q
 HasParts (Octets xs ∷ parts) t p q = Consecutive (HasOctets xs) (HasParts parts) t p q
 HasParts (CompressibleName name ∷ parts) t p q = Consecutive (HasName name) (HasParts parts) t p q
+HasParts (UncompressedName lowercased name ∷ parts) t p q = Consecutive (HasOctets (uncompressed name)) (HasParts parts) t p q
 
 -- Encoded parts are stable.
 pub stable_parts : (parts : List Part) → IsStable (HasParts parts)
 stable_parts [] = record { stays = λ encoder t p q grows h. h }
 stable_parts (Octets xs ∷ parts) = stable_after (HasOctets xs) (HasParts parts) (stable_octets xs) (stable_parts parts)
 stable_parts (CompressibleName name ∷ parts) = stable_after (HasName name) (HasParts parts) (stable_name name) (stable_parts parts)
+stable_parts (UncompressedName lowercased name ∷ parts) =
+    stable_after (HasOctets (uncompressed name)) (HasParts parts) (stable_octets (uncompressed name)) (stable_parts parts)
 
 -- No parts are written.
 encodes_none : Encodes (encode_octets []) (HasParts [])
@@ -127,18 +130,23 @@ encodes_parts rule (Octets xs ∷ parts) is =
     encodes_both (encode_octets xs) (encode_parts rule parts) (HasOctets xs) (HasParts parts) (stable_octets xs) (encodes_octets xs) (encodes_parts rule parts is)
 encodes_parts rule (CompressibleName name ∷ parts) is =
     encodes_both (encode_name rule name) (encode_parts rule parts) (HasName name) (HasParts parts) (stable_name name) (encodes_name rule name is.0) (encodes_parts rule parts is.1)
+encodes_parts rule (UncompressedName lowercased name ∷ parts) is =
+    let xs = uncompressed name in
+    encodes_both (encode_octets xs) (encode_parts rule parts) (HasOctets xs) (HasParts parts) (stable_octets xs) (encodes_octets xs) (encodes_parts rule parts is.1)
 
 -- Parts end at or after their beginning.
 pub parts_rise : (parts : List Part) (t : Written) (p q : ℕ) → HasParts parts t p q → p ≤ q
 parts_rise [] t p q h = omega arith
 parts_rise (Octets xs ∷ parts) t p q h = let r = parts_rise parts t h.0 q h.2 in let e = h.1.1 in omega arith
 parts_rise (CompressibleName name ∷ parts) t p q h = let r = parts_rise parts t h.0 q h.2 in let w = compressed_long h.1 in omega arith
+parts_rise (UncompressedName lowercased name ∷ parts) t p q h = let r = parts_rise parts t h.0 q h.2 in let e = h.1.1 in omega arith
 
 -- Parts end within the content.
 pub parts_within : (parts : List Part) (t : Written) (p q : ℕ) → p ≤ length t.octets → HasParts parts t p q → q ≤ length t.octets
 parts_within [] t p q l h = omega arith
 parts_within (Octets xs ∷ parts) t p q l h = let w = h.1.0.within in let e = h.1.1 in parts_within parts t h.0 q (omega arith) h.2
 parts_within (CompressibleName name ∷ parts) t p q l h = let w = compressed_long h.1 in parts_within parts t h.0 q w.1 h.2
+parts_within (UncompressedName lowercased name ∷ parts) t p q l h = let w = h.1.0.within in let e = h.1.1 in parts_within parts t h.0 q (omega arith) h.2
 
 -- Parts encoded in a target satisfy `PartsAt`.
 pub parts_at : (parts : List Part) (t : Written) (p q : ℕ) → AreParts parts → IsTarget t → HasParts parts t p q → PartsAt t.octets q p parts
@@ -148,6 +156,10 @@ parts_at (Octets xs ∷ parts) t p q is good h =
 parts_at (CompressibleName name ∷ parts) t p q is good h =
     let l = parts_rise parts t h.0 q h.2 in
     (h.0, name_at_up_to q good l is.0.short h.1, ends_within_octets q good l is.0.short h.1, parts_at parts t h.0 q is.1 good h.2)
+parts_at (UncompressedName lowercased name ∷ parts) t p q is good h =
+    let l = parts_rise parts t h.0 q h.2 in
+    let s = compressed_full t.table t.octets h.0 p name is.0 h.1.0 h.1.1 in
+    (h.0, name_at_up_to q good l is.0.short s, ends_within_octets q good l is.0.short s, parts_at parts t h.0 q is.1 good h.2, h.1.1)
 
 -- Numbers at offsets, and encodings preceded by their length.
 

@@ -2,7 +2,7 @@
 use Rattle.std.proofs.Common.{ℕ, ◌+◌, ◌≤◌, List, [], ◌∷◌, length, length-append, arith}
 use Rattle.dns_name.specs.Names.{Labels, uncompressed}
 use Rattle.dns_wire.specs.Encoders.{CompressionTable, Suffix, Rule, Plain, Static, Tree, Hash, encode_name}
-use Rattle.dns_wire.specs.Parts.{Part, Octets, CompressibleName, encode_part, encode_parts, part_size, parts_size}
+use Rattle.dns_wire.specs.Parts.{Part, Octets, CompressibleName, UncompressedName, encode_part, encode_parts, part_size, parts_size}
 use Rattle.dns_wire.specs.TargetLaws.{NamesAreShort}
 use Rattle.dns_name.proofs.theory.LabelsLemmas.{length-uncompressed}
 use Rattle.dns_wire.proofs.theory.EncodedNames.{CompressesAs, compresses_as}
@@ -33,6 +33,7 @@ names_are_short Hash name m w = compress_short (compresses_as Hash m w _ name)
 part_short : (rule : Rule) (part : Part) (m : CompressionTable) (w : ℕ) → length (encode_part rule part m w).octets ≤ part_size part
 part_short rule (Octets octets) m w = omega arith
 part_short rule (CompressibleName name) m w = names_are_short rule name m w
+part_short rule (UncompressedName lowercased name) m w = omega arith
 
 -- Written parts take at most as many octets as they do uncompressed.
 pub parts_are_short : (rule : Rule) (parts : List Part) (m : CompressionTable) (w : ℕ) → length (encode_parts rule parts m w).octets ≤ parts_size parts

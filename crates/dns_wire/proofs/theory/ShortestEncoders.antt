@@ -1,14 +1,14 @@
 -- No compression of the names among parts is shorter than what is written.
-use Rattle.std.proofs.Common.{◌≡◌, ℕ, ◌+◌, ◌-◌, ◌≤◌, ◌⊎◌, inl, inr, List, [], ◌∷◌, ◌++◌, length, length-append, append_assoc, append-nil, arith, ap, sym, ◌∙◌, refl, subst}
+use Rattle.std.proofs.Common.{◌≡◌, ℕ, ◌+◌, ◌-◌, ◌≤◌, ◌⊎◌, inl, inr, Bool, List, [], ◌∷◌, ◌++◌, length, length-append, append_assoc, append-nil, arith, ap, sym, ◌∙◌, refl, subst}
 use Rattle.std.specs.Prelude.{Some, None}
 use Rattle.std.specs.Int.{to_be_bytes, w16}
 use Rattle.std.specs.FinMap.{get, len, get-empty}
-use Rattle.dns_name.specs.Names.{Labels, IsName, name_size, max_size, NameEndsAt}
+use Rattle.dns_name.specs.Names.{Labels, IsName, name_size, max_size, uncompressed, NameEndsAt}
 use Rattle.dns_wire.specs.Encoders.{CompressionTable, TableEntry, nothing, suffix_cmp, Suffix, add_suffixes, Rule, Plain, Static, Tree, Hash, Encoder, Encoded, encode_octets, both, with_length, compress, entering_suffixes, encode_name}
-use Rattle.dns_wire.specs.Parts.{Part, Octets, CompressibleName, AreParts, encode_parts, PartsInPointerRange}
+use Rattle.dns_wire.specs.Parts.{Part, Octets, CompressibleName, UncompressedName, AreParts, encode_parts, PartsInPointerRange}
 use Rattle.dns_wire.specs.Targets.{At, IsTableOf, Written, IsTarget, append}
 use Rattle.dns_wire.specs.Compression.{IsShared, Compression, SharesAll, AddsShortest, PartsAreShortest}
-use Rattle.dns_wire.specs.Compression.Compression.{none, octets, whole, shared}
+use Rattle.dns_wire.specs.Compression.Compression.{none, octets, uncompressed_name, whole, shared}
 use Rattle.dns_wire.proofs.theory.TargetTheorems.{in_range_end}
 use Rattle.dns_wire.proofs.theory.EncodedNames.{encode_name_grows, compresses_as}
 use Rattle.dns_wire.proofs.theory.EncoderLaws.{length_of, append-with_length, append-both, encodes_name, encodes_octets}
@@ -17,17 +17,19 @@ use Rattle.dns_wire.proofs.theory.CompressedNames.{at_append, at_end, compressed
 use Rattle.dns_wire.proofs.SharedSuffixes.{Knows, Best, KeepsInPointerRange, tree_keeps_in_range, static_keeps_in_range, hash_keeps_in_range, best, knows_more, in_range_kept, in_range_suffixes, few_less, shared_some, len_compress, len_add_suffixes}
 use Rattle.dns_name.proofs.theory.Steps.{name_size-append}
 
--- The names among these parts, before other names.
+-- The names that may be compressed among these parts, before other names.
 abbrev pub added : List Part → List Labels → List Labels
 added [] names = names
 added (Octets xs ∷ parts) names = added parts names
 added (CompressibleName name ∷ parts) names = added parts (name ∷ names)
+added (UncompressedName lowercased name ∷ parts) names = added parts names
 
--- The names among two lists of parts.
+-- The names that may be compressed among two lists of parts.
 added-append : (ps qs : List Part) (names : List Labels) → added qs (added ps names) ≡ added (ps ++ qs) names
 added-append [] qs names = refl
 added-append (Octets xs ∷ ps) qs names = added-append ps qs names
 added-append (CompressibleName name ∷ ps) qs names = added-append ps qs (name ∷ names)
+added-append (UncompressedName lowercased name ∷ ps) qs names = added-append ps qs names
 
 -- After the earlier `names`, the parts are written from p to q as short as possible, whichever parts `rest` follow them up to `end`. The table has exactly the suffixes of all these names.
 pub record Short (names : List Labels) (parts rest : List Part) (b : List ℕ) (p q end : ℕ) (m : CompressionTable) : Type 0 where
@@ -84,6 +86,29 @@ shortens_octets rule xs ys same t = record {
         least = λ n s. let o = octets_parts s in (o.0, o.1, omega (arith, o.2));
       };
 }
+
+-- A compression of a name that is never compressed and parts is its octets and a compression of the parts.
+uncompressed_parts : {names : List Labels} {lowercased : Bool} {name : Labels} {parts : List Part} {n : ℕ} → Compression names (UncompressedName lowercased name ∷ parts) n
+    → (k : ℕ) × Compression names parts k × (n ≡ length (uncompressed name) + k)
+uncompressed_parts (uncompressed_name {n = k} s) = (k, s, refl)
+
+-- The encoding of a name that is never compressed is as short as possible.
+pub shortens_uncompressed : (rule : Rule) (lowercased : Bool) (name : Labels) → Shortens rule (encode_octets (uncompressed name)) (UncompressedName lowercased name ∷ [])
+shortens_uncompressed rule lowercased name t =
+    let xs = uncompressed name in
+    record {
+      longer = omega arith;
+      keeps = (encodes_octets xs).keeps t;
+      short = λ c names rest end h knows in_range few.
+          let e : length (t.octets ++ xs) ≡ length t.octets + length xs = length-append t.octets xs in
+          record {
+            knows = knows;
+            in_range = subst (λ q. PartsInPointerRange ((t.octets ++ xs) ++ c) end q rest) (sym e) in_range;
+            rises = omega arith;
+            attains = λ n s. let o : Compression names (UncompressedName lowercased name ∷ rest) (length xs + n) = uncompressed_name s in subst (λ k. Compression names (UncompressedName lowercased name ∷ rest) k) (omega arith) o;
+            least = λ n s. let o = uncompressed_parts s in (o.0, o.1, omega (arith, o.2));
+          };
+    }
 
 -- Labels take at least one octet.
 size_some : (a : Labels) → 1 ≤ length a → 1 ≤ name_size a
@@ -252,6 +277,8 @@ unfolding encode_parts
 shortens_parts rule [] r is = shortens_none rule
 shortens_parts rule (Octets xs ∷ parts) r is = shortens_both rule (encode_octets xs) (encode_parts rule parts) (Octets xs ∷ []) parts (shortens_octets rule xs xs refl) (shortens_parts rule parts r is)
 shortens_parts rule (CompressibleName name ∷ parts) r is = shortens_both rule (encode_name rule name) (encode_parts rule parts) (CompressibleName name ∷ []) parts (shortens_name rule name r is.0) (shortens_parts rule parts r is.1)
+shortens_parts rule (UncompressedName lowercased name ∷ parts) r is =
+    shortens_both rule (encode_octets (uncompressed name)) (encode_parts rule parts) (UncompressedName lowercased name ∷ []) parts (shortens_uncompressed rule lowercased name) (shortens_parts rule parts r is.1)
 
 -- The encoding of parts preceded by their length is as short as possible.
 pub shortens_with_length : (rule : Rule) (a : Encoder) (parts : List Part) → Shortens rule a parts → Shortens rule (with_length a) (Octets (0 ∷ 0 ∷ []) ∷ parts)

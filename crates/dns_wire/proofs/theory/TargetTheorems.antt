@@ -4,7 +4,7 @@ use Rattle.std.specs.Prelude.{Ok}
 use Rattle.dns_name.specs.Names.{Labels, head_at, NameContinues}
 use Rattle.dns_name.specs.declared.head.Head.TheVariants.{Label, Root, Pointer}
 use Rattle.dns_wire.specs.Encoders.{CompressionTable, Rule}
-use Rattle.dns_wire.specs.Parts.{encode_parts, WellPointed, Part, Octets, CompressibleName, AreParts, PartsFill, LabelsInPointerRange}
+use Rattle.dns_wire.specs.Parts.{encode_parts, WellPointed, Part, Octets, CompressibleName, UncompressedName, AreParts, PartsFill, LabelsInPointerRange}
 use Rattle.dns_wire.specs.Targets.{Compressed, Labelled, IsTableOf, append, Written, IsTarget}
 use Rattle.dns_wire.specs.Targets.Compressed.{root, label, pointer}
 use Rattle.dns_wire.specs.TargetLaws.{EntriesAreNames, NothingIsTarget, EncodersStayAtOrAfter, NamesStayAtOrAfter, NamesReadBack, PartsReadBack}
@@ -83,6 +83,8 @@ parts_fill {IsWritten} t each [] rest p q end h more = subst (λ k. PartsFill Is
 parts_fill {IsWritten} t each (Octets xs ∷ parts) rest p q end h more =
     subst (λ k. PartsFill IsWritten end k (parts ++ rest)) h.1.1 (parts_fill t each parts rest h.0 q end h.2 more)
 parts_fill t each (CompressibleName name ∷ parts) rest p q end h more = (h.0, each p h.0 name h.1, parts_fill t each parts rest h.0 q end h.2 more)
+parts_fill {IsWritten} t each (UncompressedName lowercased name ∷ parts) rest p q end h more =
+    subst (λ k. PartsFill IsWritten end k (parts ++ rest)) h.1.1 (parts_fill t each parts rest h.0 q end h.2 more)
 
 -- Parts that are written at the end fill the octets there.
 encode_parts_fill : {IsWritten : ℕ → ℕ → Type 0} (rule : Rule) (t : Written) (parts : List Part) → AreParts parts → IsTarget t
