@@ -69,11 +69,11 @@ abbrev pub parts_of : State → List Part
 parts_of s =
     all_parts question_parts s.questions ++ (all_parts record_parts s.answers ++ (all_parts record_parts s.authorities ++ all_parts record_parts s.additionals))
 
--- In the octets of a message with these items, each pointer of a name leads to an earlier label below offset 16,384. Octets in RDATA aren't names.
+-- In the octets of a message with these items, each pointer of a name leads to an earlier label below offset 16,384. Octets in RDATA aren't names, and a name that is never compressed has no pointer.
 abbrev pub PointsToLabels : State → List ℕ → Type 0
 PointsToLabels s b = PartsPointed b (length b) header_size (parts_of s)
 
--- in these octets, each label of a name begins below offset 16,384
+-- in these octets, each label of a name that may be compressed begins below offset 16,384
 abbrev pub HasLabelsInPointerRange : State → List ℕ → Type 0
 HasLabelsInPointerRange s b = PartsInPointerRange b (length b) header_size (parts_of s)
 
@@ -81,7 +81,7 @@ HasLabelsInPointerRange s b = PartsInPointerRange b (length b) header_size (part
 abbrev pub IsShortestOf : State → List ℕ → Type 0
 IsShortestOf s b = (n : ℕ) × (length b ≡ header_size + n) × IsShortest (parts_of s) n
 
--- The octets are the encoding of the state and read back as it. Each pointer of a name leads to an earlier label below offset 16,384. While all labels begin below 16,384, as they do in at most 16,384 octets, no compression of the names is shorter: under the tree and the hash rule, and under the static rule while the table has fewer than 24 suffixes.
+-- The octets are the encoding of the state and read back as it. Each pointer of a name leads to an earlier label below offset 16,384. While all labels of names that may be compressed begin below 16,384, as they do in at most 16,384 octets, no compression of the names is shorter: under the tree and the hash rule, and under the static rule while the table has fewer than 24 suffixes.
 pub record IsMessageOf (rule : Rule) (s : State) (b : List ℕ) : Type 0 where
   pub octets : b ≡ (encode rule s).octets
   pub reads_back : ReadsBack s b

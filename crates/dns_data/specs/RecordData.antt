@@ -3,7 +3,7 @@ use Rattle.std.specs.Prelude.{◌≡◌, ℕ, ◌≤◌, ◌==◌, if◌then◌e
 use Rattle.dns_name.specs.Names.{fault_of, lowered, uncompressed}
 use Rattle.dns_name.specs.Parsers.{seen, offset, MovesTo}
 use Rattle.dns_wire.specs.Parts.{Part, AreParts, parts_size}
-use Rattle.dns_wire.specs.Parts.Part.{Octets, CompressibleName}
+use Rattle.dns_wire.specs.Parts.Part.{Octets, CompressibleName, UncompressedName}
 use Rattle.dns_octets.specs.declared.error.ParseError.{ParseError}
 use Rattle.dns_name.specs.declared.parser.Parser.{Parser}
 use Rattle.dns_data.specs.Layout.{Layout, DataAt, DataFaultAt}
@@ -13,10 +13,11 @@ pub record IsData (parts : List Part) : Type 0 where
   pub names : AreParts parts
   pub short : parts_size parts ≤ 65535
 
--- a part in canonical form: a name is lowercased and never compressed
+-- a part in canonical form: a name is uncompressed and lowercased, but one that is never compressed only if its flag says so
 abbrev pub canonical_part : Part → Part
 canonical_part (Octets octets) = Octets octets
 canonical_part (CompressibleName name) = Octets (uncompressed (lowered name))
+canonical_part (UncompressedName lowercased name) = Octets (uncompressed (if lowercased then lowered name else name))
 
 -- parts in canonical form
 abbrev pub canonical : List Part → List Part

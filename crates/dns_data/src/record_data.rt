@@ -34,7 +34,7 @@ pub trait ComposeRecordData: RecordData {
         None
     }
 
-    /// Appends the parts, each name by the target's compression rule.
+    /// Appends the parts, each name that may be compressed by the target's compression rule.
     ///
     /// On error the content still begins with the old content. A `truncate` to the old length
     /// restores the old target.
@@ -43,8 +43,9 @@ pub trait ComposeRecordData: RecordData {
             (T.written target.old) (T.written target.new) result }
         ensures is_data { IsData (Self.parts self.now) };
 
-    /// Appends the parts in canonical form: names lowercased and uncompressed (RFC 4034 section
-    /// 6.2), other octets as they are. Errors are as for `compose_rdata`.
+    /// Appends the parts in canonical form: names uncompressed and lowercased (RFC 4034 section
+    /// 6.2), except that some names that are never compressed keep their letter case, and other
+    /// octets as they are. Errors are as for `compose_rdata`.
     fn compose_canonical_rdata<T: Composer>(&self, target: &mut T) -> Result<(), AppendError>
         ensures { Composes T.capacity T.grows
             (encode_parts T.rule (canonical (Self.parts self.now)))

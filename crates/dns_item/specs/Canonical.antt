@@ -1,4 +1,4 @@
--- Records and record headers in canonical form: the owner and the names in the RDATA are lowercased and never compressed. RFC 4034 section 6.2.
+-- Records and record headers in canonical form: the owner is lowercased and uncompressed, and the RDATA is in canonical form. RFC 4034 section 6.2.
 use Rattle.dns_name.specs.Names.{Labels, lowered, uncompressed}
 use Rattle.dns_wire.specs.Encoders.{Rule, Encoder, encode_octets, both, with_length}
 use Rattle.dns_wire.specs.Parts.{encode_parts}

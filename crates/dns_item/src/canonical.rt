@@ -11,7 +11,8 @@ use dns_wire::{AppendError, Composer, ToName, ToNameExt};
 
 impl<N: ToName, D: ComposeRecordData> Record<N, D> {
     /// Appends the record in canonical form (RFC 4034 section 6.2): the owner and the names in the
-    /// RDATA are lowercased and uncompressed.
+    /// RDATA are uncompressed and lowercased, except that some names that are never compressed keep
+    /// their letter case.
     ///
     /// On error the content still begins with the old content. A `truncate` to the old length
     /// restores the old target.

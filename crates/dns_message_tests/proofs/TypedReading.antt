@@ -8,7 +8,7 @@ use Rattle.std.specs.Prelude.{map, IfErr, OnOk, OnErr, IsOk, IsSome, IsOkAnd, Is
 use Rattle.dns_message.specs.declared.wire.ParseError.{ParseError}
 use Rattle.dns_message.specs.Names.{Fault, Labels, fault_of, labels}
 use Rattle.dns_message.specs.declared.name.ParsedName.{ParsedName}
-use Rattle.dns_message.specs.Data.{Part, Octets, CompressibleName, Layout, DomainName, Fixed, End, only}
+use Rattle.dns_message.specs.Data.{Part, Octets, CompressibleName, UncompressedName, Layout, DomainName, Fixed, End, only}
 use Rattle.dns_message.specs.Targets.{Rule}
 use Rattle.dns_message.specs.Records.{RecordItem, encoded_record, record_item, typed_result}
 use Rattle.dns_message.specs.declared.record.ParsedRecord.{ParsedRecord}
@@ -94,11 +94,13 @@ abbrev pub name_first : List Part → Labels
 name_first [] = []
 name_first (Octets octets ∷ parts) = []
 name_first (CompressibleName name ∷ parts) = name
+name_first (UncompressedName lowercased name ∷ parts) = name
 
 abbrev pub octets_first : List Part → List ℕ
 octets_first [] = []
 octets_first (Octets octets ∷ parts) = octets
 octets_first (CompressibleName name ∷ parts) = []
+octets_first (UncompressedName lowercased name ∷ parts) = []
 
 -- an NS record and an address that were pushed as the only answers
 module _ (law : TypedRecordsReadBack) (b : List ℕ) (zone : Labels) (class ttl : ℕ) (server owner : Labels) (class2 ttl2 : ℕ) (octets : List ℕ) (four : length octets ≡ 4) where

@@ -4,7 +4,7 @@
 use Rattle.std.specs.Prelude.{ℕ, ◌+◌, ◌*◌, List, [], ◌∷◌, take, Option, Some, None, option_map, option_and_then, Result}
 use Rattle.dns_name.specs.Names.{Fault}
 use Rattle.dns_wire.specs.Parts.{Part}
-use Rattle.dns_wire.specs.Parts.Part.{Octets, CompressibleName}
+use Rattle.dns_wire.specs.Parts.Part.{Octets, CompressibleName, UncompressedName}
 use Rattle.dns_code.specs.Header.{fields_in}
 use Rattle.dns_data.specs.Opt.{opt_layout}
 use Rattle.dns_data.specs.RecordData.{only}
@@ -28,6 +28,7 @@ first_opt b = first_opt_in (records_of Additional b)
 abbrev pub only_octets : List Part → Option (List ℕ)
 only_octets [] = None
 only_octets (CompressibleName name ∷ parts) = None
+only_octets (UncompressedName lowercased name ∷ parts) = None
 only_octets (Octets octets ∷ []) = Some octets
 only_octets (Octets octets ∷ part ∷ parts) = None
 

@@ -7,7 +7,7 @@ use Rattle.std.specs.Result.{result_ok}
 use Rattle.dns_name.specs.Names.{Fault, Labels}
 use Rattle.dns_name.specs.NameOrders.{names_equal}
 use Rattle.dns_wire.specs.Parts.{Part}
-use Rattle.dns_wire.specs.Parts.Part.{Octets, CompressibleName}
+use Rattle.dns_wire.specs.Parts.Part.{Octets, CompressibleName, UncompressedName}
 use Rattle.dns_data.specs.Layout.{Layout}
 use Rattle.dns_data.specs.Layout.Layout.{DomainName, End}
 use Rattle.dns_data.specs.RecordData.{only}
@@ -52,6 +52,7 @@ only_name [] = None
 only_name (Octets octets ∷ parts) = None
 only_name (CompressibleName name ∷ []) = Some name
 only_name (CompressibleName name ∷ part ∷ parts) = None
+only_name (UncompressedName lowercased name ∷ parts) = None
 
 -- the name that `name` is an alias of: the one in the first record with this owner, ignoring ASCII case, in any class; faults are skipped
 abbrev pub alias_of : List (Result RecordItem Fault) → Labels → Option Labels

@@ -1,7 +1,6 @@
 -- The parts of naming authority pointers. RFC 3403 section 4.1.
 use Rattle.std.specs.Prelude.{ℕ, List, [], ◌∷◌}
 use Rattle.std.specs.Int.{to_be_bytes, w16}
-use Rattle.dns_message.specs.Names.{Labels, uncompressed}
 use Rattle.dns_message.specs.Data.{Part}
 use Rattle.dns_message.specs.Data.Part.{Octets}
 
@@ -9,7 +8,3 @@ use Rattle.dns_message.specs.Data.Part.{Octets}
 abbrev pub naptr_parts : ℕ → ℕ → List ℕ → List ℕ → List ℕ → Part → List Part
 naptr_parts order preference flags services regexp replacement =
     Octets (to_be_bytes w16 order) ∷ Octets (to_be_bytes w16 preference) ∷ Octets flags ∷ Octets services ∷ Octets regexp ∷ replacement ∷ []
-
--- a name that is never compressed
-abbrev pub verbatim : Labels → Part
-verbatim name = Octets (uncompressed name)

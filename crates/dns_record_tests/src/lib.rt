@@ -25,6 +25,8 @@ mod hinfo;
 #[cfg(test)]
 mod items;
 #[cfg(test)]
+mod lp;
+#[cfg(test)]
 mod mx;
 #[cfg(test)]
 mod naptr;

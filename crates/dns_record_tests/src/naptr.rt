@@ -1,31 +1,32 @@
 //! NAPTR: a data type of the test's own, proved against the contracts alone.
 ghost use Rattle.std.proofs.Common.{rules};
-ghost use Rattle.std.specs.Prelude.{◌≡◌, [], ◌∷◌, length};
+ghost use Rattle.std.specs.Prelude.{◌≡◌, [], ◌∷◌, true, length};
 ghost use Rattle.std.specs.Int.{to_be_bytes, w16};
-ghost use Rattle.dns_message.specs.Names.{name_labels, labels};
-ghost use Rattle.dns_message.specs.Data.{CompressibleName, Fixed, CharacterString, DomainName, End, only};
-ghost use Rattle.dns_record_tests.specs.Naptr.{naptr_parts, verbatim};
+ghost use Rattle.dns_message.specs.Targets.{Composes};
+ghost use Rattle.dns_message.specs.Data.{Octets, UncompressedName, Fixed, CharacterString, UncompressedDomainName, End, only, encode_parts};
+ghost use Rattle.dns_record_tests.specs.Naptr.{naptr_parts};
 
 use crate::asserts::{
     assert_answer, assert_holds, assert_numbers, assert_octets, first_data, message_of, name_of,
 };
 use crate::char_str::{CharStr, string};
 use crate::fields::compose_fields;
+use arrayvec::ArrayVec;
+use dns_message::builder::MessageBuilder;
 use dns_message::code::{Class, Rtype};
 use dns_message::data::laws::names_are_bounded;
-use dns_message::data::{ComposeRecordData, ParseRecordData, RecordData};
-use dns_message::name::{Name, ParsedName, ToName, ToNameExt};
+use dns_message::data::{ComposeRecordData, Ns, ParseRecordData, RecordData};
+use dns_message::name::{ParsedName, ToName, ToNameExt};
 use dns_message::record::{Record, Ttl};
-use dns_message::target::Composer;
-use dns_message::wire::{AppendError, Octets, ParseError, Parser};
+use dns_message::target::{Composer, TreeCompressor};
+use dns_message::wire::{AppendError, ParseError, Parser};
 use std::process::Abort;
 use std::test::Fail;
 
 /// A naming authority pointer (RFC 3403 section 4.1).
 ///
-/// The replacement is never compressed when it is written, but may be when it is read. So a value
-/// to write holds an uncompressed name, whose octets are a part like others, and a value that was
-/// read holds a parsed name.
+/// The replacement is never compressed when it is written, but may be when it is read (RFC 3597
+/// section 4). Its canonical form is lowercased (RFC 4034 section 6.2).
 #[derive(Drop)]
 pub struct Naptr<'a, N> {
     order: u16,
@@ -36,21 +37,18 @@ pub struct Naptr<'a, N> {
     replacement: N,
 }
 
-impl<Octs: Octets> RecordData for Naptr<'_, Name<Octs>> {
-    ghost rtype_of = { λ _. 35 };
-
-    ghost parts = { λ naptr. naptr_parts naptr.order naptr.preference naptr.flags.octets.now
-        naptr.services.octets.now naptr.regexp.octets.now (verbatim (name_labels naptr.replacement)) };
-
-    fn rtype(&self) -> Rtype {
-        Rtype::from_int(35)
-    }
-}
-
-impl<Octs: Octets> ComposeRecordData for Naptr<'_, Name<Octs>> {
-    fn compose_rdata<T: Composer>(&self, target: &mut T) -> Result<(), AppendError> {
-        names_are_bounded();
-        let replacement = self.replacement.as_parsed().uncompressed();
+impl<N: ToName> Naptr<'_, N> {
+    /// Appends the fields, the replacement as these octets.
+    fn compose_with<T: Composer>(
+        &self,
+        replacement: &[u8],
+        target: &mut T,
+    ) -> Result<(), AppendError>
+        ensures { Composes T.capacity T.grows (encode_parts T.rule
+            (naptr_parts self.now.order self.now.preference self.now.flags.octets.now
+            self.now.services.octets.now self.now.regexp.octets.now (Octets replacement.now)))
+            (T.written target.old) (T.written target.new) result }
+    {
         compose_fields(
             &self.order.to_be_bytes(),
             &[
@@ -58,26 +56,36 @@ impl<Octs: Octets> ComposeRecordData for Naptr<'_, Name<Octs>> {
                 self.flags.as_slice(),
                 self.services.as_slice(),
                 self.regexp.as_slice(),
-                replacement.as_slice(),
+                replacement,
             ],
             target,
         )
     }
-
-    /// The canonical form of octets is the octets, so the replacement keeps its letter case.
-    fn compose_canonical_rdata<T: Composer>(&self, target: &mut T) -> Result<(), AppendError> {
-        self.compose_rdata(target)
-    }
 }
 
-impl<'a> RecordData for Naptr<'a, ParsedName<'a>> {
+impl<N: ToName> RecordData for Naptr<'_, N> {
     ghost rtype_of = { λ _. 35 };
 
     ghost parts = { λ naptr. naptr_parts naptr.order naptr.preference naptr.flags.octets.now
-        naptr.services.octets.now naptr.regexp.octets.now (CompressibleName (labels naptr.replacement)) };
+        naptr.services.octets.now naptr.regexp.octets.now
+        (UncompressedName true (N.name naptr.replacement)) };
 
     fn rtype(&self) -> Rtype {
         Rtype::from_int(35)
+    }
+}
+
+impl<N: ToName> ComposeRecordData for Naptr<'_, N> {
+    #[tactic(auto, unfolding(dns_wire::specs::Parts::encode_parts))]
+    fn compose_rdata<T: Composer>(&self, target: &mut T) -> Result<(), AppendError> {
+        names_are_bounded();
+        let replacement = self.replacement.as_parsed().uncompressed();
+        self.compose_with(replacement.as_slice(), target)
+    }
+
+    fn compose_canonical_rdata<T: Composer>(&self, target: &mut T) -> Result<(), AppendError> {
+        let replacement = self.replacement.as_parsed().lowercased();
+        self.compose_with(replacement.as_slice(), target)
     }
 }
 
@@ -90,7 +98,7 @@ fn number_of(octets: &[u8]) -> u16
 }
 
 impl<'a> ParseRecordData<'a> for Naptr<'a, ParsedName<'a>> {
-    ghost layout = { only 35 (Fixed 2 (Fixed 2 (CharacterString (CharacterString (CharacterString (DomainName End)))))) };
+    ghost layout = { only 35 (Fixed 2 (Fixed 2 (CharacterString (CharacterString (CharacterString (UncompressedDomainName true true End)))))) };
 
     fn parse_rdata(rtype: Rtype, parser: &mut Parser<'a>) -> Result<Option<Self>, ParseError> {
         if rtype != Rtype::from_int(35) {
@@ -151,17 +159,58 @@ fn reads_a_compressed_replacement(rt: HostRuntime) {
     assert_pointer(&rt, &first_data(&rt, &message));
 }
 
-#[test]
-fn never_compresses_its_replacement(rt: HostRuntime) -> Result<(), Fail> {
-    let naptr = Naptr {
+/// The NAPTR data of the messages above.
+fn pointer_to<N>(rt: &impl Abort, replacement: N) -> Naptr<'static, N> {
+    Naptr {
         order: 100,
         preference: 50,
-        flags: string(&rt, b"\x01s"),
-        services: string(&rt, b"\x0Dz3950+N2L+N2C"),
-        regexp: string(&rt, b"\x00"),
-        replacement: Name::from_octets(*b"\x05z3950\x07example\x00")?,
-    };
-    let owner = Name::from_octets(*b"\x07example\x00")?;
+        flags: string(rt, b"\x01s"),
+        services: string(rt, b"\x0Dz3950+N2L+N2C"),
+        regexp: string(rt, b"\x00"),
+        replacement,
+    }
+}
+
+#[test]
+fn never_compresses_its_replacement(rt: HostRuntime) -> Result<(), Fail> {
+    let naptr = pointer_to(&rt, name_of(&rt, b"\x05z3950\x07example\x00"));
+    let owner = name_of(&rt, b"\x07example\x00");
     let record = Record::new(owner, Class::IN, Ttl::HOUR, naptr);
     assert_answer(&rt, rt.alloc(), "an answer", record, MESSAGE)
+}
+
+/// An owner and a name server after the replacement: both are equal to it, and share no more than
+/// the first owner with it.
+#[test]
+fn shares_no_suffix_of_its_replacement(rt: HostRuntime) -> Result<(), Fail> {
+    let alloc = rt.alloc();
+    let target = TreeCompressor::new(alloc, Vec::new(alloc));
+    let mut builder = MessageBuilder::from_target(target)?.answer();
+    let zone = name_of(&rt, b"\x07example\x00");
+    let host = name_of(&rt, b"\x05z3950\x07example\x00");
+    builder.push(Record::new(zone, Class::IN, Ttl::HOUR, pointer_to(&rt, host)))?;
+    builder.push(Record::new(host, Class::IN, Ttl::HOUR, Ns::new(host)))?;
+    assert_octets(
+        &rt,
+        "up to the second record",
+        &builder.as_slice()[12..67],
+        &MESSAGE[12..],
+    );
+    assert_octets(
+        &rt,
+        "the second record",
+        &builder.as_slice()[67..],
+        b"\x05z3950\xC0\x0C\x00\x02\x00\x01\x00\x00\x0E\x10\x00\x02\xC0\x43",
+    );
+    Ok(())
+}
+
+/// Only the name is lowercased.
+#[test]
+fn lowercases_its_replacement_in_canonical_form(rt: HostRuntime) {
+    let naptr = pointer_to(&rt, name_of(&rt, b"\x05Z3950\x07Example\x00"));
+    let mut target = ArrayVec::<u8, 64>::new();
+    let composed = naptr.compose_canonical_rdata(&mut target);
+    assert_holds(&rt, "composed", composed.is_ok());
+    assert_octets(&rt, "canonical form", target.as_slice(), &MESSAGE[31..]);
 }

@@ -2,7 +2,7 @@
 use Rattle.std.specs.Prelude.{ℕ, List, [], ◌∷◌, ◌++◌, slice_index, Option, Some, None, Result, Ok, Err, codes, decimal}
 use Rattle.std.specs.List.{flat_map}
 use Rattle.dns_message.specs.Names.{Fault, name_text}
-use Rattle.dns_message.specs.Data.{Part, Octets, CompressibleName, Layout, Fixed, End, only}
+use Rattle.dns_message.specs.Data.{Part, Octets, CompressibleName, UncompressedName, Layout, Fixed, End, only}
 use Rattle.dns_message.specs.Records.{RecordItem}
 use Rattle.dns_message.specs.Sections.{limited}
 use Rattle.dns_message.specs.declared.message.Section.TheVariants.{Answer}
@@ -16,6 +16,7 @@ a_layout = only 1 (Fixed 4 End)
 abbrev pub dotted : List Part → List ℕ
 dotted [] = []
 dotted (CompressibleName name ∷ parts) = []
+dotted (UncompressedName lowercased name ∷ parts) = []
 dotted (Octets octets ∷ parts) =
     let number = λ (k : ℕ). decimal (slice_index octets k) in number 0 ++ codes "." ++ number 1 ++ codes "." ++ number 2 ++ codes "." ++ number 3
 
