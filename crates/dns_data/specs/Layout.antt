@@ -4,7 +4,7 @@
 use Rattle.std.specs.Prelude.{◌≡◌, ◌⊎◌, ℕ, ◌+◌, ◌*◌, ◌<◌, ◌≤◌, ◌==◌, ◌||◌, Bool, true, false, IsTrue, List, [], ◌∷◌, length, drop, slice_index, slice_range}
 use Rattle.dns_name.specs.Names.{Fault, Labels, uncompressed, NameAt, FaultAt, NameEndsAt}
 use Rattle.dns_name.specs.Names.Fault.{ShortInput, Form}
-use Rattle.dns_wire.specs.Parts.{Part, PartsAt}
+use Rattle.dns_wire.specs.Parts.{Part, parts_size}
 use Rattle.dns_wire.specs.Parts.Part.{Octets, CompressibleName, UncompressedName}
 
 -- the fields of RDATA, in order
@@ -13,8 +13,8 @@ pub data Layout : Type 0 where
   End : Layout
   -- all remaining octets, if the test accepts them
   Rest : (List ℕ → Bool) → Layout
-  -- these fields, if at most n octets remain
-  Within : ℕ → Layout → Layout
+  -- these fields, if they take at most n octets uncompressed
+  AtMost : ℕ → Layout → Layout
   -- n octets, and then the remaining fields
   Fixed : ℕ → Layout → Layout
   -- a character string, which is a length octet and that number of octets, and then the remaining fields
@@ -38,15 +38,11 @@ octets_size b p = 2 + (slice_index b p * 256 + slice_index b (p + 1))
 abbrev pub may_be_encoded : Bool → Labels → ℕ → ℕ → Bool
 may_be_encoded pointers name p q = pointers || (q == (p + length (uncompressed name)))
 
--- the parts take at most n octets, however their names are encoded
-abbrev pub FitWithin : ℕ → List Part → Type 0
-FitWithin n parts = (b : List ℕ) (end p : ℕ) → PartsAt b end p parts → end ≤ p + n
-
 -- the parts have the layout: one part for each field
 abbrev pub IsLaidOut : Layout → List Part → Type 0
 IsLaidOut End parts = parts ≡ []
 IsLaidOut (Rest accepts) parts = (octets : List ℕ) × (parts ≡ Octets octets ∷ []) × IsTrue (accepts octets)
-IsLaidOut (Within n layout) parts = FitWithin n parts × IsLaidOut layout parts
+IsLaidOut (AtMost n layout) parts = (parts_size parts ≤ n) × IsLaidOut layout parts
 IsLaidOut (Fixed n layout) [] = ⊥
 IsLaidOut (Fixed n layout) (Octets octets ∷ parts) = (length octets ≡ n) × IsLaidOut layout parts
 IsLaidOut (Fixed n layout) (CompressibleName name ∷ parts) = ⊥
@@ -72,7 +68,7 @@ IsLaidOut (UncompressedDomainName pointers lowercased layout) (UncompressedName 
 abbrev pub DataAt : List ℕ → Layout → ℕ → ℕ → List Part → Type 0
 DataAt b End p q parts = (q ≡ p) × (parts ≡ [])
 DataAt b (Rest accepts) p q parts = (q ≡ length b) × (parts ≡ Octets (drop p b) ∷ []) × IsTrue (accepts (drop p b))
-DataAt b (Within n layout) p q parts = (length b ≤ p + n) × DataAt b layout p q parts
+DataAt b (AtMost n layout) p q parts = (parts_size parts ≤ n) × DataAt b layout p q parts
 DataAt b (Fixed n layout) p q [] = ⊥
 DataAt b (Fixed n layout) p q (Octets octets ∷ parts) =
     (length octets ≡ n) × (slice_range b p (p + n) ≡ octets) × DataAt b layout (p + n) q parts
@@ -99,11 +95,12 @@ DataAt b (UncompressedDomainName pointers lowercased layout) p q (CompressibleNa
 DataAt b (UncompressedDomainName pointers lowercased layout) p q (UncompressedName flag name ∷ parts) =
     (r : ℕ) × NameAt b p name × NameEndsAt b p r × DataAt b layout r q parts × (flag ≡ lowercased) × (may_be_encoded pointers name p r ≡ true)
 
--- why the fields aren't at offset p: too many octets remain; or the first field that isn't there lacks octets, or its name has a fault, or a pointer that it may not have
+-- why the fields aren't at offset p: the first field that isn't there lacks octets, or its name has a fault, or a pointer that it may not have; or they are there and take too many octets
 abbrev pub DataFaultAt : List ℕ → Layout → ℕ → Fault → Type 0
 DataFaultAt b End p f = ⊥
 DataFaultAt b (Rest accepts) p f = (f ≡ ShortInput) × (IsTrue (accepts (drop p b)) → ⊥)
-DataFaultAt b (Within n layout) p f = ((f ≡ ShortInput) × (p + n < length b)) ⊎ ((length b ≤ p + n) × DataFaultAt b layout p f)
+DataFaultAt b (AtMost n layout) p f =
+    DataFaultAt b layout p f ⊎ ((q : ℕ) × (parts : List Part) × DataAt b layout p q parts × (n < parts_size parts) × (f ≡ ShortInput))
 DataFaultAt b (Fixed n layout) p f = ((f ≡ ShortInput) × (length b < p + n)) ⊎ ((p + n ≤ length b) × DataFaultAt b layout (p + n) f)
 DataFaultAt b (CharacterString layout) p f =
     let n = string_size b p in ((f ≡ ShortInput) × (length b < p + n)) ⊎ ((p + n ≤ length b) × DataFaultAt b layout (p + n) f)

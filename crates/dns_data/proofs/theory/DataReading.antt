@@ -4,14 +4,14 @@ use Rattle.std.proofs.lemmas.Bool.{cases_Bool}
 use Rattle.std.proofs.lemmas.Bool.Decides.{leb_tells}
 use Rattle.dns_name.specs.Names.{Fault, Labels, NameAt, FaultAt}
 use Rattle.dns_name.specs.Names.Fault.{ShortInput, Form}
-use Rattle.dns_wire.specs.Parts.{Part}
+use Rattle.dns_wire.specs.Parts.{Part, parts_size}
 use Rattle.dns_wire.specs.Parts.Part.{Octets, CompressibleName, UncompressedName}
 use Rattle.dns_name.specs.Unique.{same_name, encoded_short}
 use Rattle.dns_name.proofs.theory.NameOrFaultLaws.{one_answer}
 use Rattle.dns_name.proofs.theory.NameOrFaultLaws as names
 use Rattle.dns_name.proofs.theory.ExtentLaws.{one_end, encoded_end, ends_in_octets}
 use Rattle.dns_data.specs.Layout.{Layout, string_size, octets_size, may_be_encoded, DataAt, DataFaultAt}
-use Rattle.dns_data.specs.Layout.Layout.{End, Rest, Within, Fixed, CharacterString, SizedOctets, DomainName, UncompressedDomainName}
+use Rattle.dns_data.specs.Layout.Layout.{End, Rest, AtMost, Fixed, CharacterString, SizedOctets, DomainName, UncompressedDomainName}
 use Rattle.dns_data.specs.Laws.{OneRdataOrFault}
 
 module _ (b : List ℕ) where
@@ -41,7 +41,7 @@ module _ (b : List ℕ) where
   pub data_within : (layout : Layout) (p q : ℕ) (parts : List Part) → p ≤ length b → DataAt b layout p q parts → q ≤ length b
   data_within End p q parts l h = let end = h.0 in omega arith
   data_within (Rest accepts) p q parts l h = let end = h.0 in omega arith
-  data_within (Within n layout) p q parts l h = data_within layout p q parts l h.1
+  data_within (AtMost n layout) p q parts l h = data_within layout p q parts l h.1
   data_within (Fixed n layout) p q [] l h = absurd h
   data_within (Fixed n layout) p q (CompressibleName x ∷ parts) l h = absurd h
   data_within (Fixed n layout) p q (UncompressedName a x ∷ parts) l h = absurd h
@@ -71,12 +71,12 @@ module _ (b : List ℕ) where
     | inl good ↦ inl (length b, Octets (drop p b) ∷ [], (refl, refl, good))
     | inr bad ↦ inr (ShortInput, (refl, λ good. cc (good, bad)))
   ]
-  rdata_or_fault (Within n layout) p = elim (leb_tells (length b) (p + n)) [
-    | inl l ↦ elim (rdata_or_fault layout p) [
-      | inl d ↦ inl (d.0, d.1, (l.1, d.2))
-      | inr f ↦ inr (f.0, inr (l.1, f.1))
+  rdata_or_fault (AtMost n layout) p = elim (rdata_or_fault layout p) [
+    | inl d ↦ elim (leb_tells (parts_size d.1) n) [
+      | inl l ↦ inl (d.0, d.1, (l.1, d.2))
+      | inr l ↦ inr (ShortInput, inr (d.0, d.1, d.2, l.1, refl))
     ]
-    | inr l ↦ inr (ShortInput, inl (refl, l.1))
+    | inr f ↦ inr (f.0, inl f.1)
   ]
   rdata_or_fault (Fixed n layout) p = elim (leb_tells (p + n) (length b)) [
     | inl l ↦ elim (rdata_or_fault layout (p + n)) [
@@ -128,7 +128,7 @@ module _ (b : List ℕ) where
   pub one_rdata : (layout : Layout) (p q r : ℕ) (xs ys : List Part) → DataAt b layout p q xs → DataAt b layout p r ys → (q ≡ r) × (xs ≡ ys)
   one_rdata End p q r xs ys h k = (h.0 ∙ sym k.0, h.1 ∙ sym k.1)
   one_rdata (Rest accepts) p q r xs ys h k = (h.0 ∙ sym k.0, h.1 ∙ sym k.1)
-  one_rdata (Within n layout) p q r xs ys h k = one_rdata layout p q r xs ys h.1 k.1
+  one_rdata (AtMost n layout) p q r xs ys h k = one_rdata layout p q r xs ys h.1 k.1
   one_rdata (Fixed n layout) p q r [] ys h k = absurd h
   one_rdata (Fixed n layout) p q r (CompressibleName x ∷ xs) ys h k = absurd h
   one_rdata (Fixed n layout) p q r (UncompressedName a x ∷ xs) ys h k = absurd h
@@ -186,8 +186,12 @@ module _ (b : List ℕ) where
   pub not_both : (layout : Layout) (p q : ℕ) (parts : List Part) (f : Fault) → p ≤ length b → DataAt b layout p q parts → DataFaultAt b layout p f → ⊥
   not_both End p q parts f l h k = k
   not_both (Rest accepts) p q parts f l h k = k.1 h.2
-  not_both (Within n layout) p q parts f l h (inl k) = let few = h.0 in let many = k.1 in omega arith
-  not_both (Within n layout) p q parts f l h (inr k) = not_both layout p q parts f l h.1 k.1
+  not_both (AtMost n layout) p q parts f l h (inl k) = not_both layout p q parts f l h.1 k
+  not_both (AtMost n layout) p q parts f l h (inr k) =
+      let same = ap parts_size (one_rdata layout p q k.0 parts k.1 h.1 k.2).1 in
+      let few = h.0 in
+      let many = k.3 in
+      omega arith
   not_both (Fixed n layout) p q [] f l h k = h
   not_both (Fixed n layout) p q (CompressibleName x ∷ parts) f l h k = h
   not_both (Fixed n layout) p q (UncompressedName a x ∷ parts) f l h k = h
@@ -228,49 +232,49 @@ module _ (b : List ℕ) where
       let end : k.1 ≡ h.0 = one_end b k.3 h.2 in
       not_both layout h.0 q parts f (ends_in_octets h.2) h.3 (subst (λ e. DataFaultAt b layout e f) end k.4)
 
-  one_fault : (layout : Layout) (p : ℕ) (f g : Fault) → DataFaultAt b layout p f → DataFaultAt b layout p g → f ≡ g
-  one_fault End p f g h k = absurd h
-  one_fault (Rest accepts) p f g h k = h.0 ∙ sym k.0
-  one_fault (Within n layout) p f g (inl h) (inl k) = h.0 ∙ sym k.0
-  one_fault (Within n layout) p f g (inl h) (inr k) = let many = h.1 in let few = k.0 in absurd (omega arith)
-  one_fault (Within n layout) p f g (inr h) (inl k) = let many = k.1 in let few = h.0 in absurd (omega arith)
-  one_fault (Within n layout) p f g (inr h) (inr k) = one_fault layout p f g h.1 k.1
-  one_fault (Fixed n layout) p f g (inl h) (inl k) = h.0 ∙ sym k.0
-  one_fault (Fixed n layout) p f g (inl h) (inr k) = let short = h.1 in let long = k.0 in absurd (omega arith)
-  one_fault (Fixed n layout) p f g (inr h) (inl k) = let short = k.1 in let long = h.0 in absurd (omega arith)
-  one_fault (Fixed n layout) p f g (inr h) (inr k) = one_fault layout (p + n) f g h.1 k.1
-  one_fault (CharacterString layout) p f g (inl h) (inl k) = h.0 ∙ sym k.0
-  one_fault (CharacterString layout) p f g (inl h) (inr k) = let short = h.1 in let long = k.0 in absurd (omega arith)
-  one_fault (CharacterString layout) p f g (inr h) (inl k) = let short = k.1 in let long = h.0 in absurd (omega arith)
-  one_fault (CharacterString layout) p f g (inr h) (inr k) = one_fault layout (p + string_size b p) f g h.1 k.1
-  one_fault (SizedOctets layout) p f g (inl h) (inl k) = h.0 ∙ sym k.0
-  one_fault (SizedOctets layout) p f g (inl h) (inr k) = let short = h.1 in let long = k.0 in absurd (omega arith)
-  one_fault (SizedOctets layout) p f g (inr h) (inl k) = let short = k.1 in let long = h.0 in absurd (omega arith)
-  one_fault (SizedOctets layout) p f g (inr h) (inr k) = one_fault layout (p + octets_size b p) f g h.1 k.1
-  one_fault (DomainName layout) p f g (inl h) (inl k) = names.one_fault b h k
-  one_fault (DomainName layout) p f g (inl h) (inr k) = absurd (name_or_fault k.2 h)
-  one_fault (DomainName layout) p f g (inr h) (inl k) = absurd (name_or_fault h.2 k)
-  one_fault (DomainName layout) p f g (inr h) (inr k) =
+  one_fault : (layout : Layout) (p : ℕ) (f g : Fault) → p ≤ length b → DataFaultAt b layout p f → DataFaultAt b layout p g → f ≡ g
+  one_fault End p f g l h k = absurd h
+  one_fault (Rest accepts) p f g l h k = h.0 ∙ sym k.0
+  one_fault (AtMost n layout) p f g l (inl h) (inl k) = one_fault layout p f g l h k
+  one_fault (AtMost n layout) p f g l (inl h) (inr k) = absurd (not_both layout p k.0 k.1 f l k.2 h)
+  one_fault (AtMost n layout) p f g l (inr h) (inl k) = absurd (not_both layout p h.0 h.1 g l h.2 k)
+  one_fault (AtMost n layout) p f g l (inr h) (inr k) = h.4 ∙ sym k.4
+  one_fault (Fixed n layout) p f g l (inl h) (inl k) = h.0 ∙ sym k.0
+  one_fault (Fixed n layout) p f g l (inl h) (inr k) = let short = h.1 in let long = k.0 in absurd (omega arith)
+  one_fault (Fixed n layout) p f g l (inr h) (inl k) = let short = k.1 in let long = h.0 in absurd (omega arith)
+  one_fault (Fixed n layout) p f g l (inr h) (inr k) = one_fault layout (p + n) f g h.0 h.1 k.1
+  one_fault (CharacterString layout) p f g l (inl h) (inl k) = h.0 ∙ sym k.0
+  one_fault (CharacterString layout) p f g l (inl h) (inr k) = let short = h.1 in let long = k.0 in absurd (omega arith)
+  one_fault (CharacterString layout) p f g l (inr h) (inl k) = let short = k.1 in let long = h.0 in absurd (omega arith)
+  one_fault (CharacterString layout) p f g l (inr h) (inr k) = one_fault layout (p + string_size b p) f g h.0 h.1 k.1
+  one_fault (SizedOctets layout) p f g l (inl h) (inl k) = h.0 ∙ sym k.0
+  one_fault (SizedOctets layout) p f g l (inl h) (inr k) = let short = h.1 in let long = k.0 in absurd (omega arith)
+  one_fault (SizedOctets layout) p f g l (inr h) (inl k) = let short = k.1 in let long = h.0 in absurd (omega arith)
+  one_fault (SizedOctets layout) p f g l (inr h) (inr k) = one_fault layout (p + octets_size b p) f g h.0 h.1 k.1
+  one_fault (DomainName layout) p f g l (inl h) (inl k) = names.one_fault b h k
+  one_fault (DomainName layout) p f g l (inl h) (inr k) = absurd (name_or_fault k.2 h)
+  one_fault (DomainName layout) p f g l (inr h) (inl k) = absurd (name_or_fault h.2 k)
+  one_fault (DomainName layout) p f g l (inr h) (inr k) =
       let end : k.1 ≡ h.1 = one_end b k.3 h.3 in
-      one_fault layout h.1 f g h.4 (subst (λ e. DataFaultAt b layout e g) end k.4)
-  one_fault (UncompressedDomainName pointers lowercased layout) p f g (inl h) (inl k) = names.one_fault b h k
-  one_fault (UncompressedDomainName pointers lowercased layout) p f g (inl h) (inr (inl k)) = absurd (name_or_fault k.2 h)
-  one_fault (UncompressedDomainName pointers lowercased layout) p f g (inl h) (inr (inr k)) = absurd (name_or_fault k.2 h)
-  one_fault (UncompressedDomainName pointers lowercased layout) p f g (inr (inl h)) (inl k) = absurd (name_or_fault h.2 k)
-  one_fault (UncompressedDomainName pointers lowercased layout) p f g (inr (inr h)) (inl k) = absurd (name_or_fault h.2 k)
-  one_fault (UncompressedDomainName pointers lowercased layout) p f g (inr (inl h)) (inr (inl k)) = h.5 ∙ sym k.5
-  one_fault (UncompressedDomainName pointers lowercased layout) p f g (inr (inl h)) (inr (inr k)) =
+      one_fault layout h.1 f g (ends_in_octets h.3) h.4 (subst (λ e. DataFaultAt b layout e g) end k.4)
+  one_fault (UncompressedDomainName pointers lowercased layout) p f g l (inl h) (inl k) = names.one_fault b h k
+  one_fault (UncompressedDomainName pointers lowercased layout) p f g l (inl h) (inr (inl k)) = absurd (name_or_fault k.2 h)
+  one_fault (UncompressedDomainName pointers lowercased layout) p f g l (inl h) (inr (inr k)) = absurd (name_or_fault k.2 h)
+  one_fault (UncompressedDomainName pointers lowercased layout) p f g l (inr (inl h)) (inl k) = absurd (name_or_fault h.2 k)
+  one_fault (UncompressedDomainName pointers lowercased layout) p f g l (inr (inr h)) (inl k) = absurd (name_or_fault h.2 k)
+  one_fault (UncompressedDomainName pointers lowercased layout) p f g l (inr (inl h)) (inr (inl k)) = h.5 ∙ sym k.5
+  one_fault (UncompressedDomainName pointers lowercased layout) p f g l (inr (inl h)) (inr (inr k)) =
       absurd (one_encoded pointers p h.0 k.0 h.1 k.1 (same_name b h.2 k.2) (one_end b h.3 k.3) h.4 k.5)
-  one_fault (UncompressedDomainName pointers lowercased layout) p f g (inr (inr h)) (inr (inl k)) =
+  one_fault (UncompressedDomainName pointers lowercased layout) p f g l (inr (inr h)) (inr (inl k)) =
       absurd (one_encoded pointers p k.0 h.0 k.1 h.1 (same_name b k.2 h.2) (one_end b k.3 h.3) k.4 h.5)
-  one_fault (UncompressedDomainName pointers lowercased layout) p f g (inr (inr h)) (inr (inr k)) =
+  one_fault (UncompressedDomainName pointers lowercased layout) p f g l (inr (inr h)) (inr (inr k)) =
       let end : k.1 ≡ h.1 = one_end b k.3 h.3 in
-      one_fault layout h.1 f g h.4 (subst (λ e. DataFaultAt b layout e g) end k.4)
+      one_fault layout h.1 f g (ends_in_octets h.3) h.4 (subst (λ e. DataFaultAt b layout e g) end k.4)
 
 pub one_rdata_or_fault : OneRdataOrFault
 one_rdata_or_fault b layout p l = record {
   some = rdata_or_fault b layout p;
   one = one_rdata b layout p;
   not_both = λ q parts f. not_both b layout p q parts f l;
-  one_fault = one_fault b layout p;
+  one_fault = λ f g. one_fault b layout p f g l;
 }

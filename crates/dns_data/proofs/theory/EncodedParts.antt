@@ -7,7 +7,7 @@ use Rattle.dns_wire.specs.Parts.Part.{Octets, CompressibleName, UncompressedName
 use Rattle.dns_name.proofs.theory.ExtentLaws.{ends_after}
 use Rattle.dns_name.specs.Names.{Labels, uncompressed}
 use Rattle.dns_data.specs.Layout.{string_size, octets_size, may_be_encoded, DataAt}
-use Rattle.dns_data.specs.Layout.Layout.{End, Rest, Within, Fixed, CharacterString, SizedOctets, DomainName, UncompressedDomainName}
+use Rattle.dns_data.specs.Layout.Layout.{End, Rest, AtMost, Fixed, CharacterString, SizedOctets, DomainName, UncompressedDomainName}
 use Rattle.dns_data.specs.Laws.{EncodedPartsRead}
 
 -- parts end at or after their offset
@@ -58,10 +58,7 @@ encoded_parts_read b end p (Rest accepts) parts l h (octets, is, good) =
     ap (λ e. drop p (take e b)) (sym encoded.1) ∙ drop-take p (length octets) b
     ∙ ap (λ n. take n (drop p b)) (let n : length octets ≡ p + length octets - p = omega arith in n) ∙ encoded.0 in
     (sym (length-take-le end b l), is ∙ ap (λ (xs : List ℕ). Octets xs ∷ []) (sym rest), subst (λ (xs : List ℕ). IsTrue (accepts xs)) (sym rest) good)
-encoded_parts_read b end p (Within n layout) parts l h is =
-    let size = length-take-le end b l in
-    let fits = is.0 b end p h in
-    (omega arith, encoded_parts_read b end p layout parts l h is.1)
+encoded_parts_read b end p (AtMost n layout) parts l h is = (is.0, encoded_parts_read b end p layout parts l h is.1)
 encoded_parts_read b end p (Fixed n layout) [] l h is = absurd is
 encoded_parts_read b end p (Fixed n layout) (CompressibleName name ∷ parts) l h is = absurd is
 encoded_parts_read b end p (Fixed n layout) (UncompressedName a name ∷ parts) l h is = absurd is
