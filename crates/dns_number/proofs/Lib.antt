@@ -1,3 +1,4 @@
 pub mod theory
 mod TableLemmas
 mod TextLemmas
+mod RegistryLemmas

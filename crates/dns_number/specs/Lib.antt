@@ -4,4 +4,5 @@ pub mod Types
 pub mod Classes
 pub mod Tables
 pub mod Rcodes
+pub mod Registry
 pub mod Laws

@@ -3,6 +3,8 @@ ghost use Rattle.std.specs.Prelude.{◌≡◌, ℕ, Some};
 ghost use Rattle.dns_number.specs.NumberTexts.{ReadsNumber};
 ghost use Rattle.dns_number.specs.Classes.{class_text, SpellsClass};
 
+mod registered;
+
 use crate::mnemonic::{self, Entry};
 use std::fmt;
 use std::marker::Model;
@@ -29,15 +31,6 @@ const MNEMONICS: [Entry; 3] = [
 ];
 
 impl Class {
-    /// The Internet, 1 (RFC 1035 section 3.2.4).
-    pub const IN: Class = Class(1);
-
-    /// Chaos, 3 (RFC 1035 section 3.2.4).
-    pub const CH: Class = Class(3);
-
-    /// Hesiod, 4 (RFC 1035 section 3.2.4).
-    pub const HS: Class = Class(4);
-
     /// The class with this number.
     pub fn from_int(number: u16) -> Self
         ensures { result ≡ number }

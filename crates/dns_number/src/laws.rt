@@ -1,8 +1,10 @@
 //! Theorems on numbers and their texts. Each contract is a theorem.
-ghost use Rattle.std.specs.Prelude.{◌≡◌, ◌∷◌, []};
+ghost use Rattle.std.specs.Prelude.{◌≡◌, ◌∷◌, [], ◌++◌, IsTrue};
+ghost use Rattle.std.specs.List.{range_with_len};
 ghost use Rattle.dns_number.specs.Laws.{TypesReadBack, ClassesReadBack};
 ghost use Rattle.dns_number.specs.Mnemonics.{type_mnemonics, class_mnemonics};
-ghost use Rattle.dns_number.specs.Tables.{table};
+ghost use Rattle.dns_number.specs.Registry.{numbers, type_numbers, registered_types, registered_classes, registered_opcodes, registered_rcodes, registered_opt_rcodes, registered_options};
+ghost use Rattle.dns_number.specs.Tables.{table, is_distinct};
 
 use crate::class::Class;
 use crate::opcode::Opcode;
@@ -60,3 +62,28 @@ pub fn named_classes() -> [(Class, &'static str); 3]
 {
     [(Class::IN, "IN"), (Class::CH, "CH"), (Class::HS, "HS")]
 }
+
+/// The numbers of the registered types, classes, opcodes, rcodes and options, in the order of
+/// their tables. As they rise, each occurs once.
+#[tactic(auto, unfolding(crate::specs::Registry::registered_types, crate::specs::Registry::registered_classes, crate::specs::Registry::registered_opcodes, crate::specs::Registry::registered_rcodes, crate::specs::Registry::registered_opt_rcodes, crate::specs::Registry::registered_options))]
+pub fn registered_numbers()
+    ensures types { numbers registered_types ≡ type_numbers }
+    ensures classes { numbers registered_classes ≡ 1 ∷ 3 ∷ 4 ∷ 254 ∷ 255 ∷ [] }
+    ensures opcodes { numbers registered_opcodes ≡ 0 ∷ 1 ∷ 2 ∷ 4 ∷ 5 ∷ 6 ∷ [] }
+    ensures rcodes { numbers registered_rcodes ≡ range_with_len 0 12 }
+    ensures opt_rcodes { numbers registered_opt_rcodes ≡
+        range_with_len 0 12 ++ range_with_len 16 8 }
+    ensures options { numbers registered_options ≡
+        (1 ∷ 2 ∷ 3 ∷ []) ++ range_with_len 5 15 ++ (20292 ∷ 26946 ∷ []) }
+{}
+
+/// No two registered names of a table are equal, ignoring ASCII case.
+#[tactic(auto, unfolding(crate::specs::Registry::registered_types, crate::specs::Registry::registered_classes, crate::specs::Registry::registered_opcodes, crate::specs::Registry::registered_rcodes, crate::specs::Registry::registered_opt_rcodes, crate::specs::Registry::registered_options))]
+pub fn registered_names_differ()
+    ensures types { IsTrue (is_distinct registered_types) }
+    ensures classes { IsTrue (is_distinct registered_classes) }
+    ensures opcodes { IsTrue (is_distinct registered_opcodes) }
+    ensures rcodes { IsTrue (is_distinct registered_rcodes) }
+    ensures opt_rcodes { IsTrue (is_distinct registered_opt_rcodes) }
+    ensures options { IsTrue (is_distinct registered_options) }
+{}

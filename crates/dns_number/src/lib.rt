@@ -11,6 +11,7 @@ mod mnemonic;
 mod opcode;
 mod option_code;
 mod rcode;
+mod registry;
 pub mod rtype;
 
 pub use class::Class;

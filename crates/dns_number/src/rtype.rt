@@ -3,6 +3,8 @@ ghost use Rattle.std.specs.Prelude.{◌≡◌, ℕ, Some};
 ghost use Rattle.dns_number.specs.NumberTexts.{ReadsNumber};
 ghost use Rattle.dns_number.specs.Types.{type_text, SpellsType};
 
+mod registered;
+
 use crate::mnemonic::{self, Entry};
 use std::fmt;
 use std::marker::Model;
@@ -38,42 +40,6 @@ const MNEMONICS: [Entry; 12] = [
 ];
 
 impl Rtype {
-    /// An IPv4 address, 1 (RFC 1035 section 3.4.1).
-    pub const A: Rtype = Rtype(1);
-
-    /// A name server of the zone, 2 (RFC 1035 section 3.3.11).
-    pub const NS: Rtype = Rtype(2);
-
-    /// The canonical name of an alias, 5 (RFC 1035 section 3.3.1).
-    pub const CNAME: Rtype = Rtype(5);
-
-    /// The start of a zone of authority, 6 (RFC 1035 section 3.3.13).
-    pub const SOA: Rtype = Rtype(6);
-
-    /// A pointer to another name, 12 (RFC 1035 section 3.3.12).
-    pub const PTR: Rtype = Rtype(12);
-
-    /// A mail exchange, 15 (RFC 1035 section 3.3.9).
-    pub const MX: Rtype = Rtype(15);
-
-    /// Text strings, 16 (RFC 1035 section 3.3.14).
-    pub const TXT: Rtype = Rtype(16);
-
-    /// An IPv6 address, 28 (RFC 3596 section 2.1).
-    pub const AAAA: Rtype = Rtype(28);
-
-    /// The EDNS options of a message, 41 (RFC 6891 section 6.1.1).
-    pub const OPT: Rtype = Rtype(41);
-
-    /// A request for an incremental zone transfer, 251 (RFC 1995).
-    pub const IXFR: Rtype = Rtype(251);
-
-    /// A request for a full zone transfer, 252 (RFC 1035 section 3.2.3).
-    pub const AXFR: Rtype = Rtype(252);
-
-    /// A request for all records, 255 (RFC 1035 section 3.2.3).
-    pub const ANY: Rtype = Rtype(255);
-
     /// The record type with this number.
     pub fn from_int(number: u16) -> Self
         ensures { result ≡ number }
