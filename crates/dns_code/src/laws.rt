@@ -2,7 +2,10 @@
 //! contract is a theorem over all octets, flags, numbers or texts.
 ghost use Rattle.dns_code.specs.Laws.{OctetsHaveFields, OctetsAreOfFields, FieldsAreAllBits, CountsAreAllOctets, SectionIsHeaderAndCounts, FlagsReadBack, FlagsTexts};
 
-pub use dns_number::laws::{code_numbers, named_classes, named_types, printed_numbers_read_back};
+pub use dns_number::laws::{
+    code_numbers, named_classes, named_types, printed_numbers_read_back, registered_names_differ,
+    registered_numbers,
+};
 
 /// The fields of a header and its octets determine each other: fields that fit have the octets
 /// `octets_of_fields`, and each four octets are those of their fields. So headers with equal fields
