@@ -1,0 +1,32 @@
+use Rattle.std.proofs.Common.{◌≡◌, List, [], ◌∷◌, ap, sym, ◌∙◌, refl, rules}
+use Rattle.dns_name.specs.Names.{fault_of}
+use Rattle.dns_fields.specs.EncodedFields.{part_of}
+use Rattle.dns_fields.specs.FieldParts.{NamedPart, named_parts, fields_left}
+use Rattle.dns_fields.proofs.Iterated.{none_left, never_faults, next_last, next_others, last_named, others_named}
+use Rattle.dns_fields.proofs.fields.FieldsIterator.next.Goals as goal
+use Rattle.dns_fields.proofs.fields.FieldsIterator.next.Goals.{in-Rest, in_default-shape}
+
+pub new-requires : goal.new-requires
+new-requires c =
+    let it = c.args.self.now in
+    (next_last it.left.now _ c.in-len1-up.len_at_least c.shape-shape.result c.shape-shape.ensures it.parser it.encoded c.read_field.new.parser (part_of c.in-Ok.encoded) c.in-Ok.ensures.0 c.in-Ok.ensures.1
+    c.in-Rest.is).there
+
+pub new-requires-in_default-shape : goal.new-requires-in_default-shape
+new-requires-in_default-shape c =
+    let it = c.args.self.now in
+    (next_others it.left.now _ c.in-len1-up.len_at_least c.shape-shape.result c.shape-shape.ensures it.parser it.encoded c.read_field.new.parser (part_of c.in-Ok.encoded) c.in-Ok.ensures.0 c.in-Ok.ensures.1
+    c.in_default-shape.not-Rest).there
+
+pub returns-clause-steps : goal.returns-clause-steps
+returns-clause-steps c =
+    let it = c.args.self.now in
+    let part = part_of c.in-Ok.encoded in
+    elim c.match-shape.branch [
+      | in-Rest w ↦
+          last_named it.left.now _ c.in-len1-up.len_at_least c.shape-shape.result c.shape-shape.ensures it.parser it.encoded c.read_field.new.parser part c.in-Ok.ensures.0 c.in-Ok.ensures.1 w.in-Rest.is
+          ∙ ap (λ (xs : List NamedPart). _ ∷ xs) (sym (ap fields_left w.self-is ∙ w.new.ensures))
+      | in_default-shape w ↦
+          others_named it.left.now _ c.in-len1-up.len_at_least c.shape-shape.result c.shape-shape.ensures it.parser it.encoded c.read_field.new.parser part c.in-Ok.ensures.0 c.in-Ok.ensures.1 w.in_default-shape.not-Rest
+          ∙ ap (λ (xs : List NamedPart). _ ∷ xs) (sym (ap fields_left w.self-is ∙ w.new-in_default-shape.ensures))
+    ]

@@ -1,0 +1,45 @@
+-- The fields of record types, by the table.
+use Rattle.std.specs.Prelude.{ℕ, List, [], ◌∷◌, map, ◌==◌, codes, if◌then◌else◌}
+use Rattle.std.specs.Borrow.{Bor}
+use Rattle.dns_fields.specs.declared.kind.Kind.{Kind}
+use Rattle.dns_fields.specs.declared.kind.Kind.TheVariants.{Opaque}
+use Rattle.dns_fields.specs.declared.table.TheConstants.{TABLE}
+
+-- a field of the table: its name and its kind
+abbrev pub Field : Type 0
+Field = Bor (List ℕ) × Kind
+
+-- a record type of the table: its number, its mnemonic and its fields
+abbrev pub Row : Type 0
+Row = ℕ × Bor (List ℕ) × Bor (List Field)
+
+-- the definition of a field: its name and its kind
+abbrev pub Definition : Type 0
+Definition = List ℕ × Kind
+
+abbrev pub definitions : List Field → List Definition
+definitions fields = map (λ f. (f.0.now, f.1)) fields
+
+abbrev pub kinds_in : List Definition → List Kind
+kinds_in ds = map (λ d. d.1) ds
+
+-- the kinds of these fields
+abbrev pub kinds : List Field → List Kind
+kinds fields = kinds_in (definitions fields)
+
+-- each record type with the definitions of its fields
+abbrev pub rows_of : List Row → List (ℕ × List Definition)
+rows_of rows = map (λ r. (r.0, definitions r.2.now)) rows
+
+-- the fields of this record type, by its first row; octets if it has none
+abbrev pub fields_in : List (ℕ × List Definition) → ℕ → List Definition
+fields_in [] rtype = (codes "data", Opaque) ∷ []
+fields_in (row ∷ rows) rtype = if row.0 == rtype then row.1 else fields_in rows rtype
+
+-- the fields of this record type
+unfoldable pub definitions_of : ℕ → List Definition
+definitions_of rtype = fields_in (map (λ r. (r.0, map (λ f. (f.0.now, f.1)) r.2.now)) TABLE.now) rtype
+
+-- the kinds of its fields
+abbrev pub kinds_of : ℕ → List Kind
+kinds_of rtype = kinds_in (definitions_of rtype)

@@ -1,0 +1,84 @@
+//! RDATA of any record type, as fields.
+ghost use Rattle.std.specs.Prelude.{◌≤◌};
+ghost use Rattle.dns_wire.specs.Parts.{parts_size};
+ghost use Rattle.dns_fields.specs.FieldData.{IsThere, parts_from, type_layout};
+ghost use Rattle.dns_fields.specs.Layouts.{most};
+
+use crate::compose::compose;
+use crate::fields::Fields;
+use crate::skip::skip;
+use crate::table::fields_of;
+use dns_code::Rtype;
+use dns_data::{ComposeRecordData, ParseAnyRecordData, RecordData};
+use dns_wire::{AppendError, Composer, ParseError, Parser};
+
+/// The maximum size of RDATA, in octets.
+const MOST: usize = 65535;
+
+/// RDATA of any record type, as a view of the message. Nothing is copied.
+#[derive(Clone, Copy, Debug)]
+pub struct FieldData<'a> {
+    rtype: u16,
+    parser: Parser<'a>,
+    ghost encoded: { IsThere rtype parser },
+    ghost short: { parts_size (parts_from rtype parser) ≤ most },
+}
+
+impl<'a> FieldData<'a> {
+    ghost use Rattle.std.specs.Prelude.{◌≡◌};
+    ghost use Rattle.dns_fields.specs.Data.{rtype_of, parts_of};
+    ghost use Rattle.dns_fields.specs.FieldParts.{named_parts, fields_left};
+    ghost use Rattle.dns_fields.specs.Table.{definitions_of};
+
+    /// The fields, in order, with the names and kinds of the record type.
+    pub fn fields(&self) -> Fields<'a>
+        ensures { fields_left result ≡ named_parts (definitions_of (rtype_of self.now))
+            (parts_of self.now) }
+    {
+        Fields::new(fields_of(self.rtype), self.parser)
+    }
+}
+
+impl RecordData for FieldData<'_> {
+    ghost use Rattle.dns_fields.specs.Data.{rtype_of, parts_of};
+
+    ghost rtype_of = { rtype_of };
+
+    ghost parts = { parts_of };
+
+    fn rtype(&self) -> Rtype {
+        Rtype::from_int(self.rtype)
+    }
+}
+
+impl ComposeRecordData for FieldData<'_> {
+    fn compose_rdata<T: Composer>(&self, target: &mut T) -> Result<(), AppendError> {
+        compose(fields_of(self.rtype), self.parser, false, target)
+    }
+
+    fn compose_canonical_rdata<T: Composer>(&self, target: &mut T) -> Result<(), AppendError> {
+        compose(fields_of(self.rtype), self.parser, true, target)
+    }
+}
+
+impl<'a> ParseAnyRecordData<'a> for FieldData<'a> {
+    ghost use Rattle.dns_fields.specs.Data.{any_laid_out};
+
+    ghost any_layout = { type_layout };
+
+    /// If the fields take more than 65,535 octets uncompressed, the error is `ShortInput`.
+    fn parse_any_rdata(rtype: Rtype, parser: &mut Parser<'a>) -> Result<Self, ParseError> {
+        let skipped = skip(fields_of(rtype.to_int()), *parser)?;
+        if skipped.size > MOST {
+            return Err(ParseError::ShortInput);
+        }
+        let data = FieldData {
+            rtype: rtype.to_int(),
+            parser: *parser,
+        };
+        *parser = skipped.parser;
+        Ok(data)
+    }
+
+    ghost any_laid_out = { any_laid_out };
+}

@@ -1,0 +1,35 @@
+//! Record types as a table: each type is a list of named fields, and one RDATA type reads and
+//! writes all of them.
+#![tactic(auto)]
+
+mod accepts;
+mod compose;
+mod encoded;
+#[cfg(test)]
+mod faults;
+mod field_data;
+mod fields;
+mod gateway;
+mod host_identity;
+mod items;
+mod kind;
+mod parameters;
+mod plain_names;
+mod prefixes;
+mod shape;
+mod skip;
+mod strings;
+mod table;
+#[cfg(test)]
+mod tests;
+mod type_map;
+mod value;
+
+pub use encoded::Encoded;
+pub use field_data::FieldData;
+pub use fields::{Field, Fields};
+pub use items::{AddressPrefix, AddressPrefixes, Parameter, Parameters, Strings};
+pub use kind::Kind;
+pub use shape::Shape;
+pub use table::{OPAQUE, TABLE, fields_of};
+pub use value::Value;

@@ -1,0 +1,46 @@
+//! Skipping of fields.
+ghost use Rattle.std.specs.Prelude.{◌≡◌};
+ghost use Rattle.dns_fields.specs.Layouts.{layout_of};
+ghost use Rattle.dns_fields.specs.Skipping.{Skips};
+ghost use Rattle.dns_fields.specs.Table.{kinds};
+
+use crate::encoded::read_field;
+use crate::kind::Kind;
+use crate::shape::Shape;
+use dns_wire::{ParseError, Parser};
+
+/// Where fields end, and the number of octets that they take uncompressed, at most `usize::MAX`.
+#[derive(Clone, Copy, Debug)]
+pub(crate) struct Skipped<'a> {
+    pub(crate) parser: Parser<'a>,
+    pub(crate) size: usize,
+}
+
+/// Skips the fields. Returns the first error in them if they aren't encoded there.
+pub(crate) fn skip<'a>(
+    fields: &[(&'static str, Kind)],
+    parser: Parser<'a>,
+) -> Result<Skipped<'a>, ParseError>
+    ensures { Skips (layout_of (kinds fields.now)) parser.entry result }
+{
+    let [field, after @ ..] = fields else {
+        return Ok(Skipped { parser, size: 0 });
+    };
+    let shape = field.1.shape();
+    let mut ahead = parser;
+    let encoded = read_field(field.1, shape, &mut ahead)?;
+    let size = encoded.size();
+    if let Shape::Rest = shape {
+        return Ok(Skipped {
+            parser: ahead,
+            size,
+        });
+    }
+    match skip(after, ahead) {
+        Ok(others) => Ok(Skipped {
+            parser: others.parser,
+            size: others.size.saturating_add(size),
+        }),
+        Err(error) => Err(error),
+    }
+}
