@@ -5,8 +5,6 @@
 mod accepts;
 mod compose;
 mod encoded;
-#[cfg(test)]
-mod faults;
 mod field_data;
 mod fields;
 mod gateway;
@@ -20,8 +18,6 @@ mod shape;
 mod skip;
 mod strings;
 mod table;
-#[cfg(test)]
-mod tests;
 mod type_map;
 mod value;
 
