@@ -20,6 +20,7 @@ use Rattle.dns_fields.specs.Accepts.{accepts}
 use Rattle.dns_fields.specs.Table.{Field, Definition, definitions, kinds}
 use Rattle.dns_fields.specs.Layouts.{field_layout, layout_of, HasPart, HasField, PartFaultAt, FieldFaultAt}
 use Rattle.dns_fields.specs.Skipping.{Skips}
+use Rattle.dns_fields.specs.Values.{HasSize}
 use Rattle.dns_fields.specs.declared.skip.Skipped.{Skipped}
 
 -- the layout of a first field and the others
@@ -90,6 +91,15 @@ module _ (b : List ℕ) where
         → DataFaultAt b (layout_of (kind ∷ ks)) p f
     faults_later p r part f h not d =
         subst (λ (x : Layout). DataFaultAt b x p f) (sym (layout_step kind ks s e)) (later_fault s (accepts kind) (layout_of ks) p r part f h not d)
+
+-- an encoded field has the size of its shape
+pub has_size : (b : List ℕ) (s : Shape) (test : List ℕ → Bool) (p r : ℕ) (part : Part) → HasPart b s test p r part → HasSize s part
+has_size b (Octets n) test p r part h = ap part_size h.1 ∙ length-range b p n h.0
+has_size b Counted test p r part h = refl
+has_size b Sized test p r part h = refl
+has_size b Name test p r part h = refl
+has_size b (UncompressedName pointers lowers) test p r part h = refl
+has_size b Rest test p r part h = refl
 
 -- No fields, and a first field before others.
 

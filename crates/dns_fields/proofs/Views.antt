@@ -1,5 +1,5 @@
 -- RDATA as a view.
-use Rattle.std.proofs.Common.{◌≡◌, ℕ, List, [], ◌∷◌, ap, sym, refl, subst}
+use Rattle.std.proofs.Common.{◌≡◌, ℕ, true, false, List, [], ◌∷◌, ap, sym, refl, subst}
 use Rattle.dns_name.specs.Parsers.{seen, offset}
 use Rattle.dns_wire.specs.Parts.{Part, Octets, CompressibleName, UncompressedName}
 use Rattle.dns_data.specs.Layout.{DataAt}

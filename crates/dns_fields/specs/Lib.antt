@@ -8,8 +8,6 @@ pub mod FieldsLeft
 pub mod Forms
 pub mod Gateways
 pub mod HostIdentities
-pub mod Items
-pub mod ItemsLeft
 pub mod LaidOut
 pub mod Layouts
 pub mod Parameters

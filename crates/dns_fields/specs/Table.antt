@@ -1,5 +1,5 @@
 -- The fields of record types, by the table.
-use Rattle.std.specs.Prelude.{ℕ, List, [], ◌∷◌, map, ◌==◌, codes, if◌then◌else◌}
+use Rattle.std.specs.Prelude.{ℕ, ◌+◌, List, [], ◌∷◌, map, ◌==◌, nat_le, ◌&&◌, Bool, true, codes, if◌then◌else◌}
 use Rattle.std.specs.Borrow.{Bor}
 use Rattle.dns_fields.specs.declared.kind.Kind.{Kind}
 use Rattle.dns_fields.specs.declared.kind.Kind.TheVariants.{Opaque}
@@ -30,6 +30,11 @@ kinds fields = kinds_in (definitions fields)
 -- each record type with the definitions of its fields
 abbrev pub rows_of : List Row → List (ℕ × List Definition)
 rows_of rows = map (λ r. (r.0, definitions r.2.now)) rows
+
+-- whether the numbers of the rows increase, and each is at least `least`
+abbrev pub are_above : ℕ → List Row → Bool
+are_above least [] = true
+are_above least (row ∷ rows) = nat_le least row.0 && are_above (row.0 + 1) rows
 
 -- the fields of this record type, by its first row; octets if it has none
 abbrev pub fields_in : List (ℕ × List Definition) → ℕ → List Definition

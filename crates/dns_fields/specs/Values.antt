@@ -62,7 +62,11 @@ value_shown (values.String octets) = String octets.now
 value_shown (values.Sized octets) = Sized octets.now
 value_shown (values.Octets octets) = Octets octets.now
 
+-- the size of a part of this shape: its fixed size, or else the size that it has
+abbrev pub fixed_size : Shape → ℕ → ℕ
+fixed_size (shapes.Octets n) size = n
+fixed_size _ size = size
+
 -- a part of a shape with a fixed size has that size
 abbrev pub HasSize : Shape → Part → Type 0
-HasSize (shapes.Octets n) part = part_size part ≡ n
-HasSize _ part = Unit {0}
+HasSize shape part = part_size part ≡ fixed_size shape (part_size part)

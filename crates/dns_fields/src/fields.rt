@@ -77,15 +77,16 @@ impl<'a> Iterator for Fields<'a> {
         let Ok(encoded) = read_field(field.1, shape, &mut ahead) else {
             return None;
         };
+        let item = Field {
+            name: field.0,
+            kind: field.1,
+            encoded,
+        };
         if let Shape::Rest = shape {
             *self = Fields::new(NONE, ahead);
         } else {
             *self = Fields::new(after, ahead);
         }
-        Some(Field {
-            name: field.0,
-            kind: field.1,
-            encoded,
-        })
+        Some(item)
     }
 }

@@ -1,6 +1,6 @@
 //! The table of record types.
-ghost use Rattle.std.specs.Prelude.{◌≡◌};
-ghost use Rattle.dns_fields.specs.Table.{definitions, definitions_of};
+ghost use Rattle.std.specs.Prelude.{◌≡◌, true};
+ghost use Rattle.dns_fields.specs.Table.{are_above, definitions, definitions_of, fields_in, rows_of};
 
 use crate::kind::Kind::{self, *};
 
@@ -434,8 +434,27 @@ pub const TABLE: &[(u16, &str, &[(&str, Kind)])] = &[
 pub fn fields_of(rtype: u16) -> &'static [(&'static str, Kind)]
     ensures { definitions result.now ≡ definitions_of rtype }
 {
-    match TABLE.binary_search_by_key(&rtype, |row| row.0) {
-        Ok(index) => TABLE[index].2,
-        Err(_) => OPAQUE,
+    fields_in(TABLE, rtype)
+}
+
+/// The fields of this record type by these rows of the table: a binary search.
+fn fields_in(
+    rows: &'static [(u16, &'static str, &'static [(&'static str, Kind)])],
+    rtype: u16,
+) -> &'static [(&'static str, Kind)]
+    requires { are_above 0 rows.now ≡ true }
+    ensures { definitions result.now ≡ fields_in (rows_of rows.now) rtype }
+{
+    if rows.is_empty() {
+        return OPAQUE;
+    }
+    let middle = rows.len() / 2;
+    let row = &rows[middle];
+    if row.0 == rtype {
+        row.2
+    } else if rtype < row.0 {
+        fields_in(&rows[..middle], rtype)
+    } else {
+        fields_in(&rows[middle + 1..], rtype)
     }
 }

@@ -27,8 +27,7 @@ pub enum Value<'a> {
     String(&'a [u8]),
     /// Octets without their length of 16 bits.
     Sized(&'a [u8]),
-    /// The octets of any other field. `Strings`, `Parameters` and `AddressPrefixes` iterate over
-    /// those of their kinds.
+    /// The octets of any other field.
     Octets(&'a [u8]),
 }
 

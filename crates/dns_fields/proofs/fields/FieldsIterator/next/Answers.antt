@@ -1,10 +1,22 @@
-use Rattle.std.proofs.Common.{◌≡◌, List, [], ◌∷◌, ap, sym, ◌∙◌, refl, rules}
+use Rattle.std.proofs.Common.{◌≡◌, List, [], ◌∷◌, ap, sym, ◌∙◌, refl, subst, rules}
 use Rattle.dns_name.specs.Names.{fault_of}
+use Rattle.dns_name.specs.Parsers.{seen, offset}
 use Rattle.dns_fields.specs.EncodedFields.{part_of}
 use Rattle.dns_fields.specs.FieldParts.{NamedPart, named_parts, fields_left}
+use Rattle.dns_fields.specs.declared.shape.Shape.{Shape}
+use Rattle.dns_fields.specs.Values.{HasSize}
+use Rattle.dns_fields.proofs.FieldLemmas.{has_size}
 use Rattle.dns_fields.proofs.Iterated.{none_left, never_faults, next_last, next_others, last_named, others_named}
 use Rattle.dns_fields.proofs.fields.FieldsIterator.next.Goals as goal
 use Rattle.dns_fields.proofs.fields.FieldsIterator.next.Goals.{in-Rest, in_default-shape}
+
+pub invariant_of-item : goal.invariant_of-item
+invariant_of-item c =
+    let it = c.args.self.now in
+    record {
+      sized = subst (λ (s : Shape). HasSize s (part_of c.in-Ok.encoded)) c.shape-shape.ensures
+          (has_size (seen it.parser) c.shape-shape.result _ (offset it.parser) (offset c.read_field.new.parser) (part_of c.in-Ok.encoded) c.in-Ok.ensures.0);
+    }
 
 pub new-requires : goal.new-requires
 new-requires c =
