@@ -63,17 +63,19 @@ module _ (fields : List Field) (other : Field) (some : 1 ≤ length fields) (s :
     item = record { name = (get_or fields 0 other).0.now; kind = (get_or fields 0 other).1; part = part }
 
     -- a field that takes all remaining octets is the last one
-    pub last_named : s ≡ Rest → named_parts (definitions fields) (parts_from fields old) ≡ item ∷ named_parts [] (parts_from [] mid)
-    last_named is =
+    pub last_named : s ≡ Rest → (rest : List NamedPart) → rest ≡ named_parts [] (parts_from [] mid) → named_parts (definitions fields) (parts_from fields old) ≡ item ∷ rest
+    last_named is rest e =
         let n = next_last is in
         let none = nothing_left mid in
         ap (named_parts (definitions fields)) (n.parts ∙ ap (λ (xs : List Part). part ∷ xs) none)
         ∙ ap (λ (ds : List Definition). named_parts ds (part ∷ [])) (first_definition fields other some)
-        ∙ ap (λ (xs : List NamedPart). item ∷ xs) (none_named (definitions (after fields)))
+        ∙ ap (λ (xs : List NamedPart). item ∷ xs) (none_named (definitions (after fields)) ∙ sym e)
 
     -- another field precedes the fields after it
-    pub others_named : (s ≡ Rest → ⊥) → named_parts (definitions fields) (parts_from fields old) ≡ item ∷ named_parts (definitions (after fields)) (parts_from (after fields) mid)
-    others_named not =
+    pub others_named : (s ≡ Rest → ⊥) → (rest : List NamedPart) → rest ≡ named_parts (definitions (after fields)) (parts_from (after fields) mid)
+        → named_parts (definitions fields) (parts_from fields old) ≡ item ∷ rest
+    others_named not rest e =
         let n = next_others not in
         ap (named_parts (definitions fields)) n.parts
         ∙ ap (λ (ds : List Definition). named_parts ds (part ∷ parts_from (after fields) mid)) (first_definition fields other some)
+        ∙ ap (λ (xs : List NamedPart). item ∷ xs) (sym e)

@@ -1,6 +1,7 @@
 -- A binary search of the table finds the fields of a record type.
-use Rattle.std.proofs.Common.{◌≡◌, ℕ, zero, suc, ◌+◌, ◌<◌, ◌≤◌, Bool, true, List, [], ◌∷◌, length, take, drop, get_or, ap, refl, arith}
+use Rattle.std.proofs.Common.{◌≡◌, ℕ, zero, suc, ◌+◌, ◌<◌, ◌≤◌, Bool, true, List, [], ◌∷◌, length, take, drop, get_or, length-drop, ◌-◌, ap, refl, arith}
 use Rattle.std.specs.Prelude.{◌&&◌, ◌==◌, nat_le, codes, if◌then◌else◌}
+use Rattle.std.proofs.lemmas.List.{take_all}
 use Rattle.std.proofs.lemmas.Bool.{leb-true, le-leb, and_parts, and_from, eq-eqb, ne_eqb}
 use Rattle.dns_fields.specs.declared.kind.Kind.TheVariants.{Opaque}
 use Rattle.dns_fields.specs.Table.{Row, Definition, definitions, rows_of, fields_in, are_above}
@@ -74,3 +75,7 @@ later (row ∷ rows) least (suc i) other rtype up l over =
     let both = and_parts (nat_le least row.0) (are_above (row.0 + 1) rows) up in
     let next = above rows (row.0 + 1) i other both.1 (omega arith) in
     rw (ne_eqb row.0 rtype (λ same. omega arith)) (later rows (row.0 + 1) i other rtype both.1 (omega arith) over)
+
+-- the rows after the first k
+pub rest_is : (rows : List Row) (k : ℕ) → take (length rows - k) (drop k rows) ≡ drop k rows
+rest_is rows k = take_all (length rows - k) (drop k rows) (omega (arith, length-drop k rows))

@@ -1,12 +1,12 @@
-use Rattle.std.proofs.Common.{◌≡◌, List, [], ◌∷◌, ap, sym, ◌∙◌, refl, subst, rules}
+use Rattle.std.proofs.Common.{length, ap, ◌∙◌, subst, arith, rules}
 use Rattle.dns_name.specs.Names.{fault_of}
 use Rattle.dns_name.specs.Parsers.{seen, offset}
 use Rattle.dns_fields.specs.EncodedFields.{part_of}
-use Rattle.dns_fields.specs.FieldParts.{NamedPart, named_parts, fields_left}
+use Rattle.dns_fields.specs.FieldParts.{fields_left}
 use Rattle.dns_fields.specs.declared.shape.Shape.{Shape}
 use Rattle.dns_fields.specs.Values.{HasSize}
 use Rattle.dns_fields.proofs.FieldLemmas.{has_size}
-use Rattle.dns_fields.proofs.Iterated.{none_left, never_faults, next_last, next_others, last_named, others_named}
+use Rattle.dns_fields.proofs.Iterated.{never_faults, next_last, next_others, last_named, others_named}
 use Rattle.dns_fields.proofs.fields.FieldsIterator.next.Goals as goal
 use Rattle.dns_fields.proofs.fields.FieldsIterator.next.Goals.{in-Rest, in_default-shape}
 
@@ -37,8 +37,18 @@ returns-clause-steps c =
     elim c.match-shape.branch [
       | in-Rest w ↦
           last_named it.left.now _ c.in-len1-up.len_at_least c.shape-shape.result c.shape-shape.ensures it.parser it.encoded c.read_field.new.parser part c.in-Ok.ensures.0 c.in-Ok.ensures.1 w.in-Rest.is
-          ∙ ap (λ (xs : List NamedPart). _ ∷ xs) (sym (ap fields_left w.self-is ∙ w.new.ensures))
+          _ (ap fields_left w.self-is ∙ w.new.ensures)
       | in_default-shape w ↦
           others_named it.left.now _ c.in-len1-up.len_at_least c.shape-shape.result c.shape-shape.ensures it.parser it.encoded c.read_field.new.parser part c.in-Ok.ensures.0 c.in-Ok.ensures.1 w.in_default-shape.not-Rest
-          ∙ ap (λ (xs : List NamedPart). _ ∷ xs) (sym (ap fields_left w.self-is ∙ w.new-in_default-shape.ensures))
+          _ (ap fields_left w.self-is ∙ w.new-in_default-shape.ensures)
     ]
+
+pub returns-in_default-read_field-clause-steps : goal.returns-in_default-read_field-clause-steps
+returns-in_default-read_field-clause-steps c =
+    let it = c.args.self.now in
+    absurd (never_faults it.left.now _ c.in-len1-up.len_at_least c.shape-shape.result c.shape-shape.ensures it.parser it.encoded (fault_of c.in_default-read_field.field-0) c.in_default-read_field.ensures)
+
+pub returns-clause-goes : goal.returns-clause-goes
+returns-clause-goes c =
+    let shorter = ap length (returns-clause-steps c) in
+    record { on = λ _. (tt, tt, search (rules, arith, shorter)); keeps = tt; rests = λ _. tt }
