@@ -1,11 +1,9 @@
 -- The fields after one that was read.
-use Rattle.std.proofs.Common.{◌≡◌, ℕ, ◌-◌, ◌<◌, ◌≤◌, List, [], ◌∷◌, length, get_or, ap, sym, ◌∙◌, refl, subst}
+use Rattle.std.proofs.Common.{◌≡◌, ◌<◌, ◌≤◌, List, [], ◌∷◌, length, get_or, ap, sym, ◌∙◌, refl}
 use Rattle.dns_name.specs.Names.{Fault}
 use Rattle.dns_name.specs.Parsers.{seen, offset, MovesTo}
 use Rattle.dns_name.specs.declared.parser.Parser.{Parser}
 use Rattle.dns_wire.specs.Parts.{Part}
-use Rattle.dns_data.specs.Layout.{DataAt}
-use Rattle.dns_fields.specs.declared.kind.Kind.{Kind}
 use Rattle.dns_fields.specs.declared.shape.Shape.{Shape}
 use Rattle.dns_fields.specs.declared.shape.Shape.TheVariants.{Rest}
 use Rattle.dns_fields.specs.FieldsLeft.{AreLeft, parts_from}

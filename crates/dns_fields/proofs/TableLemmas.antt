@@ -1,6 +1,6 @@
 -- A binary search of the table finds the fields of a record type.
-use Rattle.std.proofs.Common.{◌≡◌, ℕ, zero, suc, ◌+◌, ◌<◌, ◌≤◌, Bool, true, List, [], ◌∷◌, length, take, drop, get_or, length-drop, ◌-◌, ap, refl, arith}
-use Rattle.std.specs.Prelude.{◌&&◌, ◌==◌, nat_le, codes, if◌then◌else◌}
+use Rattle.std.proofs.Common.{◌≡◌, ℕ, zero, suc, ◌+◌, ◌<◌, ◌≤◌, true, List, [], ◌∷◌, length, take, drop, get_or, length-drop, ◌-◌, ap, refl, arith}
+use Rattle.std.specs.Prelude.{◌==◌, nat_le, codes, if◌then◌else◌}
 use Rattle.std.proofs.lemmas.List.{take_all}
 use Rattle.std.proofs.lemmas.Bool.{leb-true, le-leb, and_parts, and_from, eq-eqb, ne_eqb}
 use Rattle.dns_fields.specs.declared.kind.Kind.TheVariants.{Opaque}

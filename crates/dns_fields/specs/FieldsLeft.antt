@@ -1,5 +1,5 @@
 -- Fields that are encoded at a parser's offset.
-use Rattle.std.specs.Prelude.{◌≡◌, ℕ, List, true}
+use Rattle.std.specs.Prelude.{◌≡◌, List, true}
 use Rattle.dns_name.specs.Parsers.{seen, offset}
 use Rattle.dns_name.specs.declared.parser.Parser.{Parser}
 use Rattle.dns_wire.specs.Parts.{Part}

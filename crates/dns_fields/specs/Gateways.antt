@@ -1,5 +1,5 @@
 -- Gateways of IPSECKEY and relays of AMTRELAY. RFC 4025 section 2.5, RFC 8777 section 4.2.4.
-use Rattle.std.specs.Prelude.{ℕ, ◌%◌, ◌==◌, nat_le, nat_lt, ◌||◌, Bool, true, false, Option, Some, None, is_some, List, [], ◌∷◌, length, if◌then◌else◌}
+use Rattle.std.specs.Prelude.{ℕ, ◌%◌, ◌==◌, nat_le, nat_lt, ◌||◌, Bool, false, Option, Some, None, is_some, List, [], ◌∷◌, length, if◌then◌else◌}
 use Rattle.dns_fields.specs.PlainNames.{plain_name_size}
 
 -- this size, if there are that many octets

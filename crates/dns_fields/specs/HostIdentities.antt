@@ -1,5 +1,5 @@
 -- Host identities. RFC 8005 section 5.
-use Rattle.std.specs.Prelude.{ℕ, ◌+◌, ◌*◌, nat_le, ◌&&◌, Bool, false, List, [], ◌∷◌, length, drop}
+use Rattle.std.specs.Prelude.{ℕ, ◌+◌, ◌*◌, nat_le, ◌&&◌, Bool, false, List, ◌∷◌, length, drop}
 use Rattle.dns_fields.specs.PlainNames.{are_plain_names}
 
 -- the sizes of the tag and of the public key, with the algorithm between them; then the tag, the key, and the names of the servers

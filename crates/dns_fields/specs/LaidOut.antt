@@ -1,5 +1,5 @@
 -- The parts of RDATA that is encoded by a layout.
-use Rattle.std.proofs.Common.{◌≡◌, ℕ, ◌+◌, Bool, List, [], ◌∷◌, drop, sym, ◌∙◌, subst, arith}
+use Rattle.std.proofs.Common.{ℕ, ◌+◌, Bool, List, [], ◌∷◌, drop, sym, ◌∙◌, subst, arith}
 use Rattle.dns_name.specs.Unique.{encoded_name}
 use Rattle.dns_wire.specs.Parts.{Part, AreParts}
 use Rattle.dns_wire.specs.Parts.Part.{Octets as OctetsPart, CompressibleName, UncompressedName as UncompressedPart}

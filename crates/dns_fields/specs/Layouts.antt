@@ -4,7 +4,7 @@ use Rattle.dns_name.specs.Names.{Fault, Labels, NameAt, NameEndsAt, FaultAt}
 use Rattle.dns_name.specs.Names.Fault.{ShortInput, Form}
 use Rattle.dns_wire.specs.Parts.{Part}
 use Rattle.dns_wire.specs.Parts.Part.{Octets as OctetsPart, CompressibleName, UncompressedName as UncompressedPart}
-use Rattle.dns_data.specs.Layout.{Layout, string_size, octets_size, may_be_encoded, DataAt, DataFaultAt}
+use Rattle.dns_data.specs.Layout.{Layout, string_size, octets_size, may_be_encoded}
 use Rattle.dns_data.specs.Layout.Layout.{End, AtMost, Rest as RestLayout, Fixed, CharacterString, SizedOctets, DomainName, UncompressedDomainName}
 use Rattle.dns_fields.specs.declared.kind.Kind.{Kind}
 use Rattle.dns_fields.specs.declared.shape.Shape.{Shape}

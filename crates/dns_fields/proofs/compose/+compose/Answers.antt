@@ -4,10 +4,7 @@ use Rattle.dns_name.specs.Names.{fault_of}
 use Rattle.dns_name.specs.Parsers.{seen, offset}
 use Rattle.dns_wire.specs.Parts.{Part, encode_parts}
 use Rattle.dns_wire.specs.Targets.{Composes}
-use Rattle.dns_data.specs.Layout.{DataAt}
 use Rattle.dns_fields.specs.Forms.{form, formed}
-use Rattle.dns_fields.specs.Layouts.{layout_of}
-use Rattle.dns_fields.specs.Table.{kinds}
 use Rattle.dns_fields.specs.EncodedFields.{part_of}
 use Rattle.dns_fields.proofs.ComposedFields.{no_parts, front, no_fault}
 use Rattle.dns_fields.proofs.compose.+compose.Goals as goal
