@@ -65,6 +65,7 @@ pub fn named_classes() -> [(Class, &'static str); 3]
 
 /// The numbers of the registered types, classes, opcodes, rcodes and options, in the order of
 /// their tables. As they rise, each occurs once.
+#[tactic(auto, unfolding(crate::specs::Registry::registered_types, crate::specs::Registry::registered_classes, crate::specs::Registry::registered_opcodes, crate::specs::Registry::registered_rcodes, crate::specs::Registry::registered_opt_rcodes, crate::specs::Registry::registered_options))]
 pub fn registered_numbers()
     ensures types { numbers registered_types ≡ type_numbers }
     ensures classes { numbers registered_classes ≡ 1 ∷ 3 ∷ 4 ∷ 254 ∷ 255 ∷ [] }
@@ -77,6 +78,7 @@ pub fn registered_numbers()
 {}
 
 /// No two registered names of a table are equal, ignoring ASCII case.
+#[tactic(auto, unfolding(crate::specs::Registry::registered_types, crate::specs::Registry::registered_classes, crate::specs::Registry::registered_opcodes, crate::specs::Registry::registered_rcodes, crate::specs::Registry::registered_opt_rcodes, crate::specs::Registry::registered_options))]
 pub fn registered_names_differ()
     ensures types { IsTrue (is_distinct registered_types) }
     ensures classes { IsTrue (is_distinct registered_classes) }

@@ -1,9 +1,8 @@
 //! Numbers of DNS messages that IANA registers: record types, classes, opcodes, rcodes and option
 //! codes.
 //!
-//! Each registered number is a constant and has a registered name. Types and classes have texts: the
-//! printed text of a type or a class reads back as that number, and mnemonics are read ignoring ASCII
-//! case (RFC 3597 section 5).
+//! Types and classes have texts. The printed text of a type or a class reads back as that number,
+//! and mnemonics are read ignoring ASCII case (RFC 3597 section 5).
 #![tactic(auto)]
 
 pub mod class;
