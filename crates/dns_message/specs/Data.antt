@@ -1,7 +1,7 @@
 -- Record data (RDATA): the layouts that are read, the parts that are written, and the library's data types.
 -- `OptHeader` is a module, as its names are also those of records.
-pub use Rattle.dns_data.specs.Layout.{Layout, string_size, may_be_encoded, IsLaidOut, DataAt, DataFaultAt}
-pub use Rattle.dns_data.specs.Layout.Layout.{End, Rest, Fixed, CharacterString, DomainName, UncompressedDomainName}
+pub use Rattle.dns_data.specs.Layout.{Layout, string_size, octets_size, may_be_encoded, IsLaidOut, DataAt, DataFaultAt}
+pub use Rattle.dns_data.specs.Layout.Layout.{End, Rest, AtMost, Fixed, CharacterString, SizedOctets, DomainName, UncompressedDomainName}
 pub use Rattle.dns_data.specs.RecordData.{IsData, only, canonical, canonical_part, ParsesLaidOut, ParsesTaken}
 unfoldable pub use Rattle.dns_wire.specs.Parts.{encode_parts}
 pub use Rattle.dns_wire.specs.Parts.{Part, encode_part, part_size, parts_size}

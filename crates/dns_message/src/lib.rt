@@ -152,6 +152,35 @@ pub mod data {
     pub use dns_opt::laws as option_laws;
 }
 
+/// Record types as a table, and RDATA of every type as named fields.
+///
+/// The first name in RDATA, such as the exchange of MX or the target of SRV:
+///
+/// ```rust
+/// for field in data.fields() {
+///     if let Value::Name(name) = field.value() {
+///         return Some(name);
+///     }
+/// }
+/// None
+/// ```
+pub mod fields {
+    pub use dns_fields::{
+        Encoded, Field, FieldData, Fields, Kind, OPAQUE, Shape, TABLE, Value, fields_of,
+    };
+}
+
+/// Serial numbers of zones, compared and added by RFC 1982.
+///
+/// A secondary server transfers a zone if its own serial is less than the one that is offered:
+///
+/// ```rust
+/// held.serial_cmp(offered) == Some(Ordering::Less)
+/// ```
+pub mod serial {
+    pub use dns_serial::{Serial, laws};
+}
+
 /// Calls on the builders of a message, one or a list, and the replies to them.
 ///
 /// A list of calls on a new builder over a compressor:

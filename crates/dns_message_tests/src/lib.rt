@@ -2,7 +2,8 @@
 //! expected values from outside this library, lists of calls that end with the same octets, and
 //! calls that allocate.
 //!
-//! Nothing is exported. `callers`, `tour` and `typed` have proved callers. `program`, `bad_lines`,
+//! Nothing is exported. `callers`, `tour` and `typed` have proved callers, `ptr` and `fields` the
+//! examples of two modules. `program`, `bad_lines`,
 //! `long_scripts`, `input_output` and `long_data` test `dnsmsg`, `script` lists of calls, and
 //! `memory` calls that allocate. `asserts` and `runs` have what many tests use. The rows of a table
 //! have names, which failures print.
@@ -14,6 +15,8 @@ mod asserts;
 mod bad_lines;
 #[cfg(test)]
 mod callers;
+#[cfg(test)]
+mod fields;
 #[cfg(test)]
 mod input_output;
 #[cfg(test)]

@@ -43,7 +43,7 @@ impl Opcode {
     /// A notification that a zone changed, 4 (RFC 1996).
     pub const NOTIFY: Opcode = Opcode(4);
 
-    /// An update of a zone, 5 (RFC 2136).
+    /// An update of a zone, 5 (RFC 2136 section 2.2).
     pub const UPDATE: Opcode = Opcode(5);
 
     /// A message of a stateful session, 6 (RFC 8490).

@@ -27,7 +27,7 @@ impl Class {
     /// Hesiod, 4 (RFC 1035 section 3.2.4).
     pub const HS: Class = Class(4);
 
-    /// No class, 254, in updates (RFC 2136).
+    /// No class, 254, in updates (RFC 2136 section 2.4).
     pub const NONE: Class = Class(254);
 
     /// A request for every class, 255 (RFC 1035 section 3.2.5).

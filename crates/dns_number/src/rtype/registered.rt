@@ -305,10 +305,10 @@ impl Rtype {
     /// Where to send notifications about a child zone, 66 (RFC 9859).
     pub const DSYNC: Rtype = Rtype(66);
 
-    /// A hierarchical host identity tag, 67 (draft-ietf-drip-registries).
+    /// A hierarchical host identity tag, 67 (RFC 9886).
     pub const HHIT: Rtype = Rtype(67);
 
-    /// The broadcast identification of an aircraft, 68 (draft-ietf-drip-registries).
+    /// The broadcast identification of an aircraft, 68 (RFC 9886).
     pub const BRID: Rtype = Rtype(68);
 
     /// The hosts that may send mail, 99, obsolete (RFC 7208 section 3.1).

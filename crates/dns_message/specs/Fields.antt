@@ -1,0 +1,10 @@
+-- Record types as a table, and RDATA as named fields.
+pub use Rattle.dns_fields.specs.Table.{Definition, definitions, kinds_of}
+unfoldable pub use Rattle.dns_fields.specs.Table.{definitions_of}
+pub use Rattle.dns_fields.specs.FieldData.{type_layout}
+pub use Rattle.dns_fields.specs.Data.{rtype_of, parts_of}
+pub use Rattle.dns_fields.specs.FieldParts.{NamedPart, named_parts, named_part, fields_left}
+pub use Rattle.dns_fields.specs.EncodedFields.{part_of}
+pub use Rattle.dns_fields.specs.Values.{FieldValue, part_value, value_shown}
+pub use Rattle.dns_fields.specs.Shapes.{shape_of}
+pub use Rattle.dns_fields.specs.Accepts.{accepts}

@@ -1,0 +1,2 @@
+-- Serial numbers of zones. RFC 1982.
+pub use Rattle.dns_serial.specs.Serials.{serial_sum, IsLess, IsGreater}
