@@ -1,5 +1,6 @@
-//! RDATA of which all fields are octets.
-ghost use Rattle.std.specs.Prelude.{◌∷◌, map};
+//! Fields of RDATA: octets that are appended in order, and numbers that are read.
+ghost use Rattle.std.specs.Prelude.{◌≡◌, ◌∷◌, map, length};
+ghost use Rattle.std.specs.Int.{to_be_bytes, w16};
 ghost use Rattle.dns_message.specs.Targets.{Composes};
 ghost use Rattle.dns_message.specs.Data.{Octets, encode_parts};
 
@@ -25,4 +26,12 @@ pub fn compose_fields<T: Composer>(
             compose_fields(second, after, target)
         }
     }
+}
+
+/// The big-endian number in two octets.
+pub fn number_of(octets: &[u8]) -> u16
+    requires { length octets.now ≡ 2 }
+    ensures { to_be_bytes w16 result ≡ octets.now }
+{
+    u16::from_be_bytes([octets[0], octets[1]])
 }

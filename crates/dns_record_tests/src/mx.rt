@@ -1,12 +1,13 @@
 //! MX: a data type of the test's own, proved against the contracts alone.
 ghost use Rattle.std.proofs.Common.{rules};
-ghost use Rattle.std.specs.Prelude.{◌≡◌, [], ◌∷◌, length};
+ghost use Rattle.std.specs.Prelude.{[], ◌∷◌};
 ghost use Rattle.std.specs.Int.{to_be_bytes, w16};
 ghost use Rattle.dns_message.specs.Data.{Octets, CompressibleName, Fixed, DomainName, End, only};
 
 use crate::asserts::{
     assert_answer, assert_holds, assert_numbers, first_data, message_of, name_of,
 };
+use crate::fields::number_of;
 use dns_message::code::{Class, Rtype};
 use dns_message::data::laws::{names_are_bounded, parts_compose};
 use dns_message::data::{ComposeRecordData, ParseRecordData, RecordData};
@@ -47,14 +48,6 @@ impl<N: ToName> ComposeRecordData for Mx<N> {
         target.append_slice(&self.preference.to_be_bytes())?;
         self.exchange.compose_canonical(target)
     }
-}
-
-/// The big-endian number in two octets.
-fn number_of(octets: &[u8]) -> u16
-    requires { length octets.now ≡ 2 }
-    ensures { to_be_bytes w16 result ≡ octets.now }
-{
-    u16::from_be_bytes([octets[0], octets[1]])
 }
 
 impl<'a> ParseRecordData<'a> for Mx<ParsedName<'a>> {

@@ -1,7 +1,6 @@
 //! NAPTR: a data type of the test's own, proved against the contracts alone.
 ghost use Rattle.std.proofs.Common.{rules};
-ghost use Rattle.std.specs.Prelude.{◌≡◌, [], ◌∷◌, true, length};
-ghost use Rattle.std.specs.Int.{to_be_bytes, w16};
+ghost use Rattle.std.specs.Prelude.{[], ◌∷◌, true};
 ghost use Rattle.dns_message.specs.Targets.{Composes};
 ghost use Rattle.dns_message.specs.Data.{Octets, UncompressedName, Fixed, CharacterString, UncompressedDomainName, End, only, encode_parts};
 ghost use Rattle.dns_record_tests.specs.Naptr.{naptr_parts};
@@ -10,7 +9,7 @@ use crate::asserts::{
     assert_answer, assert_holds, assert_numbers, assert_octets, first_data, message_of, name_of,
 };
 use crate::char_str::{CharStr, string};
-use crate::fields::compose_fields;
+use crate::fields::{compose_fields, number_of};
 use arrayvec::ArrayVec;
 use dns_message::builder::MessageBuilder;
 use dns_message::code::{Class, Rtype};
@@ -87,14 +86,6 @@ impl<N: ToName> ComposeRecordData for Naptr<'_, N> {
         let replacement = self.replacement.as_parsed().lowercased();
         self.compose_with(replacement.as_slice(), target)
     }
-}
-
-/// The big-endian number in two octets.
-fn number_of(octets: &[u8]) -> u16
-    requires { length octets.now ≡ 2 }
-    ensures { to_be_bytes w16 result ≡ octets.now }
-{
-    u16::from_be_bytes([octets[0], octets[1]])
 }
 
 impl<'a> ParseRecordData<'a> for Naptr<'a, ParsedName<'a>> {
@@ -179,8 +170,11 @@ fn never_compresses_its_replacement(rt: HostRuntime) -> Result<(), Fail> {
     assert_answer(&rt, rt.alloc(), "an answer", record, MESSAGE)
 }
 
-/// An owner and a name server after the replacement: both are equal to it, and share no more than
-/// the first owner with it.
+/// The first message with a second answer: an NS record whose owner and server are the replacement.
+const SECOND: &[u8; 87] =
+    b"\x00\x00\x00\x00\x00\x00\x00\x02\x00\x00\x00\x00\x07example\x00\x00\x23\x00\x01\x00\x00\x0E\x10\x00\x24\x00\x64\x00\x32\x01s\x0Dz3950+N2L+N2C\x00\x05z3950\x07example\x00\x05z3950\xC0\x0C\x00\x02\x00\x01\x00\x00\x0E\x10\x00\x02\xC0\x43";
+
+/// The owner of the second answer shares a suffix with the first owner, not with the replacement.
 #[test]
 fn shares_no_suffix_of_its_replacement(rt: HostRuntime) -> Result<(), Fail> {
     let alloc = rt.alloc();
@@ -190,18 +184,7 @@ fn shares_no_suffix_of_its_replacement(rt: HostRuntime) -> Result<(), Fail> {
     let host = name_of(&rt, b"\x05z3950\x07example\x00");
     builder.push(Record::new(zone, Class::IN, Ttl::HOUR, pointer_to(&rt, host)))?;
     builder.push(Record::new(host, Class::IN, Ttl::HOUR, Ns::new(host)))?;
-    assert_octets(
-        &rt,
-        "up to the second record",
-        &builder.as_slice()[12..67],
-        &MESSAGE[12..],
-    );
-    assert_octets(
-        &rt,
-        "the second record",
-        &builder.as_slice()[67..],
-        b"\x05z3950\xC0\x0C\x00\x02\x00\x01\x00\x00\x0E\x10\x00\x02\xC0\x43",
-    );
+    assert_octets(&rt, "two answers", builder.as_slice(), SECOND);
     Ok(())
 }
 
@@ -212,5 +195,6 @@ fn lowercases_its_replacement_in_canonical_form(rt: HostRuntime) {
     let mut target = ArrayVec::<u8, 64>::new();
     let composed = naptr.compose_canonical_rdata(&mut target);
     assert_holds(&rt, "composed", composed.is_ok());
-    assert_octets(&rt, "canonical form", target.as_slice(), &MESSAGE[31..]);
+    let canonical = b"\x00\x64\x00\x32\x01s\x0Dz3950+N2L+N2C\x00\x05z3950\x07example\x00";
+    assert_octets(&rt, "canonical form", target.as_slice(), canonical);
 }
