@@ -1,11 +1,10 @@
 -- What is printed for an input, up to a flush, and odd numbers of digits.
-use Rattle.std.proofs.Common.{◌≡◌, ◌∙◌, ℕ, ◌<◌, ◌≤◌, ◌%◌, ◌-◌, ◌||◌, ◌&&◌, inl, inr, Bool, true, false, Option, Some, None, IfSome, Result, Err, OnOk, List, [], ◌∷◌, ◌++◌, length, get_or, map, ap, refl, sym, subst, arith, codes}
+use Rattle.std.proofs.Common.{◌≡◌, ◌∙◌, ℕ, ◌<◌, ◌≤◌, ◌%◌, ◌-◌, ◌||◌, ◌&&◌, inl, inr, Bool, true, false, Option, Some, None, IfSome, Result, Ok, Err, OnOk, IfOk, List, [], ◌∷◌, ◌++◌, length, ap, refl, sym, subst, arith, codes}
 use Rattle.std.specs.Prelude.{is_some, if◌then◌else◌, not, cond}
 use Rattle.std.specs.Char.{is_ascii_hexdigit, is_ascii_whitespace}
 use Rattle.std.specs.Io.KnownBytes.{Appends, Keeps}
 use Rattle.std.specs.Int.{is_in_range}
 use Rattle.std.specs.List.{list_all}
-use Rattle.std.proofs.lemmas.List.{length-map}
 use Rattle.std.proofs.lemmas.Bool.{cases_eq, or_cases}
 use Rattle.std.proofs.lemmas.List.Sums.{AllPass-from_list_all}
 use Rattle.hex.specs.Hex.{decode_of, is_hex_digit}
@@ -17,11 +16,14 @@ use Rattle.dns_view.proofs.Appended.{on_ok}
 use Rattle.dns_view.specs.Pages.{IsPage}
 use Rattle.dns_view.specs.Printed.{Prints, PrintsEach}
 use Rattle.dns_view.specs.Texts.{IsRowText}
-use Rattle.dns_view.specs.Viewing.{is_digits, words_of, AreRowsOf, AskNothing, IsOdd, IsPrinted, IsViewed, PrintsRows, Reports}
-use Rattle.dns_view.specs.Viewing.IsPrinted.{shown, bad_hex}
-use Rattle.dns_view.specs.Viewing.IsViewed.{asked, usage}
-use Rattle.dns_view.specs.declared.program.Form.{Form}
-use Rattle.dns_view.specs.declared.program.Form.TheVariants.{Text, Page}
+use Rattle.dns_view.specs.Requests.{asked, Words}
+use Rattle.dns_view.specs.Viewing.{is_digits, AreRowsOf, CanEnd, Gives, HasAsked, IsOdd, IsPrinted, IsViewed, PrintsRows, Reports}
+use Rattle.dns_view.specs.Viewing.IsPrinted.{shown, bad_hex, empty}
+use Rattle.dns_view.specs.Viewing.IsViewed.{help, version, wrong, view}
+use Rattle.dns_view.specs.declared.request.Form.{Form}
+use Rattle.dns_view.specs.declared.request.Form.TheVariants.{Text, Page}
+use Rattle.dns_view.specs.declared.request.Request.{Request}
+use Rattle.dns_view.specs.declared.request.Request.TheVariants.{Help, Version, View, Wrong}
 
 -- what was appended stays if nothing changes
 pub appends_kept : (a b c : Option (List ℕ)) (xs : List ℕ) → Appends a b xs → Keeps b c → Appends a c xs
@@ -30,13 +32,14 @@ appends_kept (Some front) None c xs h k = absurd h
 appends_kept (Some front) (Some bs) None xs h k = absurd k
 appends_kept (Some front) (Some bs) (Some cs) xs h k = k ∙ h
 
-rows_kept : (form : Form) (octets : List ℕ) (a b c : Option (List ℕ)) → PrintsRows form octets a b → Keeps b c → PrintsRows form octets a c
+pub rows_kept : (form : Form) (octets : List ℕ) (a b c : Option (List ℕ)) → PrintsRows form octets a b → Keeps b c → PrintsRows form octets a c
 rows_kept Text octets a b c p k = (p.0, p.1, (p.2.0, p.2.1, appends_kept a b c _ p.2.2 k))
 rows_kept Page octets a b c p k = (p.0, p.1, (p.2.0, p.2.1, appends_kept a b c _ p.2.2 k))
 
-printed_kept : {form : Form} {input : List ℕ} {a b : Option (List ℕ)} {status : ℕ} (c : Option (List ℕ)) → IsPrinted form input a b status → Keeps b c → IsPrinted form input a c status
-printed_kept {form = form} {a = a} {b = b} c (shown octets gives p) k = shown octets gives (rows_kept form octets a b c p k)
-printed_kept {a = a} {b = b} c (bad_hex odd p) k = bad_hex odd (appends_kept a b c _ p k)
+-- what isn't written to keeps its octets
+pub keeps_same : (a : Option (List ℕ)) → Keeps a a
+keeps_same None = tt
+keeps_same (Some xs) = refl
 
 module _ {X E : Type 0} (r : Result X E) (octets : List ℕ) {rows given : List Row} (a b : Option (List ℕ)) (are : AreRowsOf octets rows) (same : given ≡ rows) where
   -- rows are printed as text
@@ -49,41 +52,40 @@ module _ {X E : Type 0} (r : Result X E) (octets : List ℕ) {rows given : List 
   page_printed_of form is h =
       subst (λ (f : Form). OnOk r (PrintsRows f octets a b)) (sym is) (on_ok r (λ p. (rows, are, subst (λ (xs : List Row). Prints (IsPage octets xs) a b) same p)) h)
 
--- the exit status is 0 or 1
-pub status_low : {form : Form} {input : List ℕ} {a b : Option (List ℕ)} {status : ℕ} → IsPrinted form input a b status → status ≤ 1
-status_low (shown octets gives p) = omega arith
-status_low (bad_hex odd p) = omega arith
+-- the exit status of a view
+pub status_of : {form : Form} {input : List ℕ} {a b c d : Option (List ℕ)} {status : ℕ} → IsPrinted form input a b c d status → CanEnd (View form) status
+status_of (shown octets gives some p k) = inl (omega arith)
+status_of (bad_hex odd k p) = inl (omega arith)
+status_of (empty gives k p) = inr refl
 
--- the program knows at most one argument
-pub few_words : {X : Type 0} (f : X → List ℕ) (words : List X) (form : Form) → map f words ≡ words_of form → length words ≤ 1
-few_words f words Text is = let e : length (map f words) ≡ 0 = ap length is in let l = length-map words f in omega arith
-few_words f words Page is = let e : length (map f words) ≡ 1 = ap length is in let l = length-map words f in omega arith
-
--- a list of one word
-pub one_word : {X : Type 0} (f : X → List ℕ) (words : List X) (word : X) {text : List ℕ} → 1 ≤ length words → length words < 2 → word ≡ get_or words 0 word → f word ≡ text → map f words ≡ text ∷ []
-one_word f [] word low high at is = absurd (omega arith)
-one_word f (first ∷ []) word low high at is = ap (λ (t : List ℕ). t ∷ []) (ap f (sym at) ∙ is)
-one_word f (first ∷ second ∷ others) word low high at is = absurd (omega arith)
-
-module _ (remaining : Option (List ℕ)) (words : List (List ℕ)) (a b c : Option (List ℕ)) where
+module _ (remaining : Option (List ℕ)) (a b c d : Option (List ℕ)) where
   -- what is printed for the octets that a reader yielded
-  pub viewed_asked : (form : Form) (status : ℕ) (empty input : List ℕ) → words ≡ words_of form → empty ≡ [] → IfSome remaining (λ xs. input ≡ empty ++ xs)
-      → IsPrinted form input a b status → Keeps b c → IfSome remaining (λ xs. IsViewed words xs a c status)
-  viewed_asked form status empty input is none read p k =
-      elim remaining as (λ (o : Option (List ℕ)). IfSome o (λ xs. input ≡ empty ++ xs) → IfSome o (λ xs. IsViewed words xs a c status)) [
+  pub printed_read : (form : Form) (status : ℕ) (before input : List ℕ) → before ≡ [] → IfSome remaining (λ xs. input ≡ before ++ xs) → IsPrinted form input a b c d status → IfSome remaining (λ xs. IsPrinted form xs a b c d status)
+  printed_read form status before input none read p =
+      elim remaining as (λ (o : Option (List ℕ)). IfSome o (λ xs. input ≡ before ++ xs) → IfSome o (λ xs. IsPrinted form xs a b c d status)) [
         | None ↦ λ h. tt
-        | Some xs ↦ λ h.
-            let same : input ≡ xs = h ∙ ap (λ (l : List ℕ). l ++ xs) none in
-            asked form status is (subst (λ (l : List ℕ). IsPrinted form l a c status) same (printed_kept c p k))
+        | Some xs ↦ λ h. let same : input ≡ xs = h ∙ ap (λ (l : List ℕ). l ++ xs) none in subst (λ (l : List ℕ). IsPrinted form l a b c d status) same p
       ] read
 
-  -- the usage, whatever the reader holds
-  pub viewed_usage : AskNothing words → Appends a b (codes "usage: dnsview [--html]\n") → Keeps b c → IfSome remaining (λ xs. IsViewed words xs a c 2)
-  viewed_usage none p k =
-      elim remaining as (λ (o : Option (List ℕ)). IfSome o (λ xs. IsViewed words xs a c 2)) [
-        | None ↦ tt
-        | Some xs ↦ usage none (appends_kept a b c _ p k)
-      ]
+  module _ (words : Words) where
+    viewed_read : (form : Form) (status : ℕ) → asked words ≡ View form → IfSome remaining (λ xs. IsPrinted form xs a b c d status) → IfSome remaining (λ xs. IsViewed words xs a b c d status)
+    viewed_read form status is p =
+        elim remaining as (λ (o : Option (List ℕ)). IfSome o (λ xs. IsPrinted form xs a b c d status) → IfSome o (λ xs. IsViewed words xs a b c d status)) [ None ↦ λ h. tt | Some xs ↦ λ h. view form status is h ] p
+
+    -- a view was asked for
+    pub viewed_view : {E : Type 0} (r : Result ℕ E) (form : Form) → asked words ≡ View form → IfOk r (λ status. IfSome remaining (λ xs. IsPrinted form xs a b c d status)) → IfOk r (λ status. IfSome remaining (λ xs. IsViewed words xs a b c d status))
+    viewed_view (Ok status) form is p = viewed_read form status is p
+    viewed_view (Err e) form is p = tt
+
+    -- something else was asked for, whatever the reader holds
+    pub viewed_other : {E : Type 0} (r : Result ℕ E) (n : ℕ) → IfOk r (λ status. status ≡ n) → OnOk r ((xs : List ℕ) → IsViewed words xs a b c d n) → IfOk r (λ status. IfSome remaining (λ xs. IsViewed words xs a b c d status))
+    viewed_other (Ok status) n e v =
+        elim remaining as (λ (o : Option (List ℕ)). IfSome o (λ xs. IsViewed words xs a b c d status)) [ None ↦ tt | Some xs ↦ subst (λ (m : ℕ). IsViewed words xs a b c d m) (sym e) (v xs) ]
+    viewed_other (Err e) n h v = tt
+
+-- how a request can end, of an equal request
+pub can_end_of : {E : Type 0} (r : Result ℕ E) (request : Request) (words : Words) → asked words ≡ request → IfOk r (CanEnd request) → IfOk r (CanEnd (asked words))
+can_end_of r request words is h = subst (λ (q : Request). IfOk r (CanEnd q)) (sym is) h
 
 -- a digit has a value
 some_value : (a b d : Bool) (x y z : ℕ) → ((d || a) || b) ≡ true → is_some (if a then Some x else if b then Some y else if d then Some z else None) ≡ true
@@ -121,25 +123,61 @@ odd_digits input e digits faulty =
           let clash = sym faulty ∙ octets.1 in cc clash
     ]
 
--- what is printed determines what the exit status says
-status_reports : {words : List (List ℕ)} {input : List ℕ} {a b : Option (List ℕ)} {status : ℕ} → IsViewed words input a b status → Reports words input status
-status_reports (asked form status is (shown octets gives p)) =
-    record { asked = λ e. (form, is); shown = λ e. (octets, gives); bad_hex = λ e. absurd (let n : 0 ≡ 1 = e in omega arith); usage = λ e. absurd (let n : 0 ≡ 2 = e in omega arith) }
-status_reports (asked form status is (bad_hex odd p)) =
-    record { asked = λ e. (form, is); shown = λ e. absurd (let n : 1 ≡ 0 = e in omega arith); bad_hex = λ e. odd; usage = λ e. absurd (let n : 1 ≡ 2 = e in omega arith) }
-status_reports (usage none p) =
-    record { asked = λ e. absurd (let n : 2 ≤ 1 = e in omega arith); shown = λ e. absurd (let n : 2 ≡ 0 = e in omega arith); bad_hex = λ e. absurd (let n : 2 ≡ 1 = e in omega arith); usage = λ e. none }
+-- a message of some octets was asked for
+has_message : (words : Words) (form : Form) (input octets : List ℕ) → asked words ≡ View form → Gives input octets → 0 < length octets → HasAsked (asked words) input
+has_message words form input octets is gives some = subst (λ (q : Request). HasAsked q input) (sym is) (octets, gives, some)
 
-module _ (remaining : Option (List ℕ)) (words : List (List ℕ)) where
+-- what is printed determines what the exit status says
+printed_reports : {words : Words} {form : Form} {input : List ℕ} {a b c d : Option (List ℕ)} {status : ℕ} → asked words ≡ View form → IsPrinted form input a b c d status → Reports words input status
+printed_reports {words = words} {form = form} {input = input} is (shown octets gives some p k) = record {
+  shown = λ e. has_message words form input octets is gives some;
+  bad_hex = λ e. absurd (let n : 0 ≡ 1 = e in omega arith);
+  wrong = λ e. absurd (let n : 0 ≡ 2 = e in omega arith);
+  empty = λ e. absurd (let n : 0 ≡ 4 = e in omega arith);
+}
+printed_reports {form = form} is (bad_hex odd k p) = record {
+  shown = λ e. absurd (let n : 1 ≡ 0 = e in omega arith);
+  bad_hex = λ e. (form, is, odd);
+  wrong = λ e. absurd (let n : 1 ≡ 2 = e in omega arith);
+  empty = λ e. absurd (let n : 1 ≡ 4 = e in omega arith);
+}
+printed_reports {form = form} is (empty gives k p) = record {
+  shown = λ e. absurd (let n : 4 ≡ 0 = e in omega arith);
+  bad_hex = λ e. absurd (let n : 4 ≡ 1 = e in omega arith);
+  wrong = λ e. absurd (let n : 4 ≡ 2 = e in omega arith);
+  empty = λ e. (form, is, gives);
+}
+
+-- the status 0 of a request without a message
+zero_reports : (words : Words) (request : Request) (input : List ℕ) → asked words ≡ request → HasAsked request input → Reports words input 0
+zero_reports words request input is has = record {
+  shown = λ e. subst (λ (q : Request). HasAsked q input) (sym is) has;
+  bad_hex = λ e. absurd (let n : 0 ≡ 1 = e in omega arith);
+  wrong = λ e. absurd (let n : 0 ≡ 2 = e in omega arith);
+  empty = λ e. absurd (let n : 0 ≡ 4 = e in omega arith);
+}
+
+status_reports : {words : Words} {input : List ℕ} {a b c d : Option (List ℕ)} {status : ℕ} → IsViewed words input a b c d status → Reports words input status
+status_reports {words = words} {input = input} (help is p k) = zero_reports words Help input is tt
+status_reports {words = words} {input = input} (version is p k) = zero_reports words Version input is tt
+status_reports (wrong is k p) = record {
+  shown = λ e. absurd (let n : 2 ≡ 0 = e in omega arith);
+  bad_hex = λ e. absurd (let n : 2 ≡ 1 = e in omega arith);
+  wrong = λ e. is;
+  empty = λ e. absurd (let n : 2 ≡ 4 = e in omega arith);
+}
+status_reports (view form status is p) = printed_reports is p
+
+module _ (remaining : Option (List ℕ)) (words : Words) where
   -- the same if the reader's octets are known
-  pub viewed_reports : (a b : Option (List ℕ)) (status : ℕ) → IfSome remaining (λ xs. IsViewed words xs a b status) → IfSome remaining (λ xs. Reports words xs status)
-  viewed_reports a b status h =
-      elim remaining as (λ (o : Option (List ℕ)). IfSome o (λ xs. IsViewed words xs a b status) → IfSome o (λ xs. Reports words xs status)) [ None ↦ λ v. tt | Some xs ↦ λ v. status_reports v ] h
+  pub viewed_reports : (a b c d : Option (List ℕ)) (status : ℕ) → IfSome remaining (λ xs. IsViewed words xs a b c d status) → IfSome remaining (λ xs. Reports words xs status)
+  viewed_reports a b c d status h =
+      elim remaining as (λ (o : Option (List ℕ)). IfSome o (λ xs. IsViewed words xs a b c d status) → IfSome o (λ xs. Reports words xs status)) [ None ↦ λ v. tt | Some xs ↦ λ v. status_reports v ] h
 
   -- exit status 3 says nothing
   pub failure_reports : IfSome remaining (λ xs. Reports words xs 3)
   failure_reports =
       elim remaining as (λ (o : Option (List ℕ)). IfSome o (λ xs. Reports words xs 3)) [
         | None ↦ tt
-        | Some xs ↦ record { asked = λ e. absurd (let n : 3 ≤ 1 = e in omega arith); shown = λ e. absurd (let n : 3 ≡ 0 = e in omega arith); bad_hex = λ e. absurd (let n : 3 ≡ 1 = e in omega arith); usage = λ e. absurd (let n : 3 ≡ 2 = e in omega arith) }
+        | Some xs ↦ record { shown = λ e. absurd (let n : 3 ≡ 0 = e in omega arith); bad_hex = λ e. absurd (let n : 3 ≡ 1 = e in omega arith); wrong = λ e. absurd (let n : 3 ≡ 2 = e in omega arith); empty = λ e. absurd (let n : 3 ≡ 4 = e in omega arith) }
       ]

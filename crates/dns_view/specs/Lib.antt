@@ -1,5 +1,6 @@
 pub mod Digits
 pub mod Pages
 pub mod Printed
+pub mod Requests
 pub mod Texts
 pub mod Viewing

@@ -1,7 +1,7 @@
 -- What `dnsview` does with its arguments and its input.
-use Rattle.std.specs.Prelude.{◌≡◌, ◌≢◌, ℕ, ◌<◌, ◌≤◌, ◌%◌, ◌||◌, Bool, true, List, [], ◌∷◌, length, MatchBool, Option, Ok, codes}
+use Rattle.std.specs.Prelude.{◌≡◌, ℕ, ◌<◌, ◌≤◌, ◌%◌, ◌||◌, ◌⊎◌, ⊤, Bool, true, List, [], ◌∷◌, ◌++◌, length, MatchBool, Option, Some, None, Ok, codes, string_bytes}
 use Rattle.std.specs.Char.{is_ascii_hexdigit, is_ascii_whitespace}
-use Rattle.std.specs.Io.KnownBytes.{Appends}
+use Rattle.std.specs.Io.KnownBytes.{Appends, Keeps}
 use Rattle.std.specs.List.{list_all}
 use Rattle.hex.specs.Hex.{decode_of}
 use Rattle.dns_message.specs.Headers.{header_size}
@@ -12,17 +12,14 @@ use Rattle.dns_rows.specs.declared.row.Row.{Row}
 use Rattle.dns_view.specs.Pages.{IsPage}
 use Rattle.dns_view.specs.Printed.{Prints, PrintsEach}
 use Rattle.dns_view.specs.Texts.{IsRowText}
-use Rattle.dns_view.specs.declared.program.Form.{Form}
-use Rattle.dns_view.specs.declared.program.Form.TheVariants.{Text, Page}
-
--- the arguments that ask for text or a page
-abbrev pub words_of : Form → List (List ℕ)
-words_of Text = []
-words_of Page = codes "--html" ∷ []
-
--- arguments that the program doesn't know
-abbrev pub AskNothing : List (List ℕ) → Type 0
-AskNothing words = (form : Form) → words ≢ words_of form
+use Rattle.dns_view.specs.Requests.{asked, wrong_word, Words}
+use Rattle.dns_view.specs.declared.program.TheConstants.{USAGE, HELP, VERSION}
+use Rattle.dns_view.specs.declared.request.Form.{Form}
+use Rattle.dns_view.specs.declared.request.Form.TheVariants.{Text, Page}
+use Rattle.dns_view.specs.declared.request.Request.{Request}
+use Rattle.dns_view.specs.declared.request.Request.TheVariants.{Help, Version, View, Wrong}
+use Rattle.std.specs.declared.string.String.{String}
+use Rattle.std.specs.declared.alloc.Global.{Global}
 
 -- whether an input is hexadecimal digits and ASCII white space alone
 abbrev pub is_digits : List ℕ → Bool
@@ -47,20 +44,44 @@ abbrev pub PrintsRows : Form → List ℕ → Option (List ℕ) → Option (List
 PrintsRows Text octets old new = (rows : List Row) × AreRowsOf octets rows × PrintsEach (IsRowText octets) rows old new
 PrintsRows Page octets old new = (rows : List Row) × AreRowsOf octets rows × Prints (IsPage octets rows) old new
 
--- What is printed for an input, and the exit status: the rows of its message, or that the number of digits is odd.
-pub data IsPrinted (form : Form) (input : List ℕ) (old new : Option (List ℕ)) : ℕ → Type 0 where
-  shown : (octets : List ℕ) → Gives input octets → PrintsRows form octets old new → IsPrinted form input old new 0
-  bad_hex : IsOdd input → Appends old new (codes "bad hex\n") → IsPrinted form input old new 1
+-- What is printed for an input to standard output and to standard error, and the exit status: the rows of its message, or else that the number of digits is odd, or that there is no octet.
+pub data IsPrinted (form : Form) (input : List ℕ) (old new errors_old errors_new : Option (List ℕ)) : ℕ → Type 0 where
+  shown : (octets : List ℕ) → Gives input octets → 0 < length octets → PrintsRows form octets old new → Keeps errors_old errors_new → IsPrinted form input old new errors_old errors_new 0
+  bad_hex : IsOdd input → Keeps old new → Appends errors_old errors_new (codes "dnsview: the number of hexadecimal digits is odd\n") → IsPrinted form input old new errors_old errors_new 1
+  empty : Gives input [] → Keeps old new → Appends errors_old errors_new (codes "dnsview: the input is empty\n") → IsPrinted form input old new errors_old errors_new 4
 
--- What is printed for arguments and an input, and the exit status: what the arguments ask for, or the usage if the program doesn't know them.
-pub data IsViewed (words : List (List ℕ)) (input : List ℕ) (old new : Option (List ℕ)) : ℕ → Type 0 where
-  asked : (form : Form) (status : ℕ) → words ≡ words_of form → IsPrinted form input old new status → IsViewed words input old new status
-  usage : AskNothing words → Appends old new (codes "usage: dnsview [--html]\n") → IsViewed words input old new 2
+-- a line that names an argument
+abbrev pub named_text : Option (String Global) → List ℕ
+named_text None = []
+named_text (Some word) = codes "dnsview: unexpected argument '" ++ string_bytes word ++ codes "'\n"
 
--- What the exit status says of the arguments and the input. It is 0 or 1 only if the arguments ask for text or a page, and 2 only if the program doesn't know them.
--- It is 0 only if the input has a message, and 1 only if the number of its digits is odd.
-pub record Reports (words : List (List ℕ)) (input : List ℕ) (status : ℕ) : Type 0 where
-  pub asked : status ≤ 1 → (form : Form) × (words ≡ words_of form)
-  pub shown : status ≡ 0 → (octets : List ℕ) × Gives input octets
-  pub bad_hex : status ≡ 1 → IsOdd input
-  pub usage : status ≡ 2 → AskNothing words
+-- a line that names the wrong argument, and the usage
+abbrev pub wrong_text : Words → List ℕ
+wrong_text words = named_text (wrong_word words) ++ USAGE.now
+
+-- What is printed to standard output and to standard error, and the exit status: what the arguments ask for, or else which of them is wrong.
+pub data IsViewed (words : Words) (input : List ℕ) (old new errors_old errors_new : Option (List ℕ)) : ℕ → Type 0 where
+  help : asked words ≡ Help → Appends old new HELP.now → Keeps errors_old errors_new → IsViewed words input old new errors_old errors_new 0
+  version : asked words ≡ Version → Appends old new VERSION.now → Keeps errors_old errors_new → IsViewed words input old new errors_old errors_new 0
+  wrong : asked words ≡ Wrong → Keeps old new → Appends errors_old errors_new (wrong_text words) → IsViewed words input old new errors_old errors_new 2
+  view : (form : Form) (status : ℕ) → asked words ≡ View form → IsPrinted form input old new errors_old errors_new status → IsViewed words input old new errors_old errors_new status
+
+-- the exit statuses of what is asked for, if nothing fails
+abbrev pub CanEnd : Request → ℕ → Type 0
+CanEnd (View form) status = (status ≤ 1) ⊎ (status ≡ 4)
+CanEnd Wrong status = status ≡ 2
+CanEnd request status = status ≡ 0
+
+-- an input has what is asked for: a message of some octets if a view is
+abbrev pub HasAsked : Request → List ℕ → Type 0
+HasAsked (View form) input = (octets : List ℕ) × Gives input octets × (0 < length octets)
+HasAsked Wrong input = ⊥
+HasAsked request input = ⊤
+
+-- What the exit status says of the arguments and the input. It is 0 only if the input has what the arguments ask for, 1 only if a view is asked of an odd number of digits,
+-- 2 only if an argument is wrong, and 4 only if a view is asked of no octets.
+pub record Reports (words : Words) (input : List ℕ) (status : ℕ) : Type 0 where
+  pub shown : status ≡ 0 → HasAsked (asked words) input
+  pub bad_hex : status ≡ 1 → (form : Form) × (asked words ≡ View form) × IsOdd input
+  pub wrong : status ≡ 2 → asked words ≡ Wrong
+  pub empty : status ≡ 4 → (form : Form) × (asked words ≡ View form) × Gives input []

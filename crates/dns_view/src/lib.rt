@@ -13,9 +13,11 @@ mod meaning;
 mod option;
 mod program;
 mod quoted;
+mod request;
 mod text;
 
 pub use dns_rows::{Fault, Field, Kind, NameOf, Part, Row, ZoneNumber, rows};
 pub use html::print_page;
-pub use program::tool;
+pub use program::{USAGE, tool};
+pub use request::file_of;
 pub use text::print_text;

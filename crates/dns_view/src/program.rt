@@ -1,115 +1,207 @@
 //! The work of the program `dnsview`.
-ghost use Rattle.std.specs.Prelude.{◌≡◌, ◌≤◌, ◌||◌, IfOk, IfSome, MatchOption, OnOk, length, map, string_bytes};
+ghost use Rattle.std.specs.Prelude.{◌≡◌, ◌||◌, ◌⊎◌, IfOk, IfSome, MatchOption, OnOk};
 ghost use Rattle.std.specs.Char.{is_ascii_hexdigit, is_ascii_whitespace};
+ghost use Rattle.std.specs.Io.KnownBytes.{Appends};
 ghost use Rattle.dns_tool.specs.Hex.{unspaced};
-ghost use Rattle.dns_view.specs.Viewing.{is_digits, words_of, AskNothing, Gives, IsOdd, IsPrinted, IsViewed, PrintsRows, Reports};
+ghost use Rattle.dns_view.specs.Requests.{asked};
+ghost use Rattle.dns_view.specs.Viewing.{is_digits, wrong_text, CanEnd, Gives, IsOdd, IsPrinted, IsViewed, PrintsRows, Reports};
 
 use crate::html::print_page;
+use crate::request::{Form, Request, wrong_word};
 use crate::text::print_text;
 use dns_rows::rows;
 use std::alloc::{AllocError, Global};
-use std::io;
 use std::io::{Read, Write};
+use std::{fmt, io};
 
 /// The exit status if the input is an odd number of digits.
 const BAD_HEX: u8 = 1;
 
-/// The exit status for any other arguments.
-const USAGE: u8 = 2;
+/// The exit status if an argument is wrong.
+const USAGE_STATUS: u8 = 2;
 
 /// The exit status if reading, writing or an allocation fails.
 const FAILED: u8 = 3;
 
-/// What the program prints.
-#[derive(Clone, Copy)]
-enum Form {
-    Text,
-    Page,
+/// The exit status if the input has no octet.
+const EMPTY: u8 = 4;
+
+/// How the program is called.
+pub const USAGE: &str = "usage: dnsview [--html] [FILE]\n";
+
+/// What `--help` prints.
+const HELP: &str = "usage: dnsview [--html] [FILE]
+
+Prints a DNS message (RFC 1035) field by field: the offset, the octets and
+what they mean. Reads FILE, or standard input if there is none or it is -.
+The message is hexadecimal digits with any white space, or octets.
+
+      --html     print a page of HTML
+  -h, --help     print this text
+      --version  print the name and the version
+
+Example: dnsview --html answer.hex > answer.html
+
+Exit status: 0; 1 if the number of digits is odd; 2 for a wrong argument;
+3 if opening, reading or writing fails; 4 if the input is empty.
+";
+
+/// What `--version` prints.
+const VERSION: &str = "dnsview 1.0.0\n";
+
+/// Why the program fails.
+#[derive(Debug, Drop)]
+enum Failure {
+    Reading(io::Error),
+    Printing(io::Error),
 }
 
-impl Form {
-    /// What the arguments ask for. Returns `None` for arguments that the program doesn't know.
-    fn of_words(words: &[String]) -> Option<Self>
-        ensures { MatchOption result (AskNothing (map string_bytes words.now))
-            (λ form. map string_bytes words.now ≡ words_of form) }
-    {
-        match words {
-            [] => Some(Form::Text),
-            [word] if word.as_str() == "--html" => Some(Form::Page),
-            _ => None,
+impl fmt::Display for Failure {
+    fn fmt<W: fmt::Write>(&self, f: &mut fmt::Formatter<W>) -> fmt::Result {
+        match self {
+            Failure::Reading(error) => write!(f, "reading failed: {error}"),
+            Failure::Printing(error) => write!(f, "printing failed: {error}"),
         }
     }
 }
 
 /// Reads a message, as octets or in hexadecimal digits, prints it, and returns the exit status of
-/// the program.
+/// the program. Only what is wrong is printed to `errors`.
 ///
-/// Prints text without arguments, and a page with `--html`. If the input is hexadecimal digits and
-/// ASCII white space alone, it is read as digits. The exit status is 0; 1 if the number of digits
-/// is odd; 2 for any other arguments; and 3 if reading, writing or an allocation fails.
-pub fn tool<R: Read + Drop, W: Write + Drop>(
+/// Prints text, or with `--html` a page. `reader` is the file that `file_of` returns. If the input
+/// is hexadecimal digits and ASCII white space alone, it is read as digits. The exit status is 0;
+/// 1 if the number of digits is odd; 2 for a wrong argument; 3 if reading, writing or an
+/// allocation fails; and 4 if the input has no octets.
+pub fn tool<R: Read + Drop, W: Write + Drop, E: Write + Drop>(
     alloc: Global,
     args: &[String],
     reader: R,
     writer: W,
+    errors: E,
 ) -> u8
-    ensures status { result ≤ 3 }
-    ensures usage { 2 ≤ length args.now → 2 ≤ result }
-    ensures reports { IfSome (R.remaining reader)
-        (λ input. Reports (map string_bytes args.now) input result) }
+    ensures status { (result ≡ 3) ⊎ CanEnd (asked args.now) result }
+    ensures reports { IfSome (R.remaining reader) (λ input. Reports args.now input result) }
 {
     let mut reader = reader;
     let mut writer = writer;
-    match view(alloc, args, &mut reader, &mut writer) {
+    let mut errors = errors;
+    match view(alloc, args, &mut reader, &mut writer, &mut errors) {
         Ok(status) => status,
-        Err(_) => {
-            let _ = writer.write_all(b"failed\n");
+        Err(failure) => {
+            let _ = writeln!(errors, "dnsview: {failure}");
             FAILED
         }
     }
 }
 
-/// Reads the input, prints what the arguments ask for, and returns the exit status.
-fn view<R: Read, W: Write>(
+/// Does what the arguments ask for, and returns the exit status.
+fn view<R: Read, W: Write, E: Write>(
     alloc: Global,
     args: &[String],
     reader: &mut R,
     writer: &mut W,
-) -> io::Result<u8>
-    ensures status { IfOk result (λ status. status ≤ 3) }
-    ensures usage { 2 ≤ length args.now → IfOk result (λ status. status ≡ 2) }
+    errors: &mut E,
+) -> Result<u8, Failure>
+    ensures status { IfOk result (CanEnd (asked args.now)) }
     ensures views { IfOk result (λ status. IfSome (R.remaining reader.old)
-        (λ input. IsViewed (map string_bytes args.now) input
-        (W.contents writer.old) (W.contents writer.new) status)) }
+        (λ input. IsViewed args.now input (W.contents writer.old) (W.contents writer.new)
+        (E.contents errors.old) (E.contents errors.new) status)) }
 {
-    let Some(form) = Form::of_words(args) else {
-        writer.write_all(b"usage: dnsview [--html]\n")?;
-        writer.flush()?;
-        return Ok(USAGE);
-    };
+    match Request::of_words(args) {
+        Request::View(form) => view_input(alloc, form, reader, writer, errors),
+        Request::Help => answer(writer, HELP),
+        Request::Version => answer(writer, VERSION),
+        Request::Wrong => refuse(args, errors),
+    }
+}
+
+/// Prints a text, and returns the exit status.
+fn answer<W: Write>(writer: &mut W, text: &str) -> Result<u8, Failure>
+    ensures status { IfOk result (λ status. status ≡ 0) }
+    ensures text { OnOk result (Appends (W.contents writer.old) (W.contents writer.new) text.now) }
+{
+    match print_all(writer, text) {
+        Ok(()) => Ok(0),
+        Err(error) => Err(Failure::Printing(error)),
+    }
+}
+
+fn print_all<W: Write>(writer: &mut W, text: &str) -> io::Result<()>
+    ensures { OnOk result (Appends (W.contents writer.old) (W.contents writer.new) text.now) }
+{
+    writer.write_all(text.as_bytes())?;
+    writer.flush()
+}
+
+/// Says which argument is wrong, and returns the exit status.
+fn refuse<E: Write>(args: &[String], errors: &mut E) -> Result<u8, Failure>
+    ensures status { IfOk result (λ status. status ≡ 2) }
+    ensures text { OnOk result (Appends (E.contents errors.old) (E.contents errors.new)
+        (wrong_text args.now)) }
+{
+    match print_wrong(args, errors) {
+        Ok(()) => Ok(USAGE_STATUS),
+        Err(error) => Err(Failure::Printing(error)),
+    }
+}
+
+/// Says which argument is wrong, and how the program is called.
+fn print_wrong<E: Write>(args: &[String], errors: &mut E) -> io::Result<()>
+    ensures { OnOk result (Appends (E.contents errors.old) (E.contents errors.new)
+        (wrong_text args.now)) }
+{
+    if let Some(word) = wrong_word(args) {
+        writeln!(errors, "dnsview: unexpected argument '{word}'")?;
+    }
+    errors.write_all(USAGE.as_bytes())
+}
+
+/// Reads the input, prints its message, and returns the exit status.
+fn view_input<R: Read, W: Write, E: Write>(
+    alloc: Global,
+    form: Form,
+    reader: &mut R,
+    writer: &mut W,
+    errors: &mut E,
+) -> Result<u8, Failure>
+    ensures status { IfOk result (CanEnd (Request.View form)) }
+    ensures views { IfOk result (λ status. IfSome (R.remaining reader.old)
+        (λ input. IsPrinted form input (W.contents writer.old) (W.contents writer.new)
+        (E.contents errors.old) (E.contents errors.new) status)) }
+{
     let mut input = Vec::new(alloc);
-    reader.read_to_end(&mut input)?;
-    let status = print_input(alloc, form, input, writer)?;
-    writer.flush()?;
-    Ok(status)
+    match reader.read_to_end(&mut input) {
+        Ok(_) => {}
+        Err(error) => return Err(Failure::Reading(error)),
+    }
+    match print_input(alloc, form, input, writer, errors) {
+        Ok(status) => Ok(status),
+        Err(error) => Err(Failure::Printing(error)),
+    }
 }
 
 /// Prints the message of an input, which is octets or hexadecimal digits, and returns the exit
 /// status.
-fn print_input<W: Write>(
+fn print_input<W: Write, E: Write>(
     alloc: Global,
     form: Form,
     input: Vec<u8>,
     writer: &mut W,
+    errors: &mut E,
 ) -> io::Result<u8>
-    ensures { IfOk result (IsPrinted form input.items
-        (W.contents writer.old) (W.contents writer.new)) }
+    ensures { IfOk result (IsPrinted form input.items (W.contents writer.old)
+        (W.contents writer.new) (E.contents errors.old) (E.contents errors.new)) }
 {
     let Some(message) = message_of(alloc, input)? else {
-        writer.write_all(b"bad hex\n")?;
+        errors.write_all(b"dnsview: the number of hexadecimal digits is odd\n")?;
         return Ok(BAD_HEX);
     };
+    if message.is_empty() {
+        errors.write_all(b"dnsview: the input is empty\n")?;
+        return Ok(EMPTY);
+    }
     print_rows(alloc, form, &message, writer)?;
+    writer.flush()?;
     Ok(0)
 }
 

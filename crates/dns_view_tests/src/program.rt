@@ -1,15 +1,32 @@
 //! The program.
 use crate::asserts::{assert_holds, assert_status, assert_text};
-use crate::runs::{Run, words_of};
-use dns_view::tool;
+use crate::runs::words_of;
+use dns_view::{file_of, tool};
 use std::alloc::Global;
+use std::process::Abort;
 use std::test::Fail;
 
-/// Runs the program with arguments and an input. Returns its exit status and what it prints.
-fn run(alloc: Global, words: &str, input: &[u8]) -> Result<(u8, String), Fail> {
+/// What the program prints to standard output and to standard error, and its exit status.
+#[derive(Drop)]
+struct Ended {
+    status: u8,
+    printed: String,
+    errors: String,
+}
+
+/// Runs the program with arguments and an input.
+fn run(alloc: Global, words: &str, input: &[u8]) -> Result<Ended, Fail> {
     let mut output = Vec::new(alloc);
-    let status = tool(alloc, &words_of(alloc, words)?, input, &mut output);
-    Ok((status, String::from_utf8(output)?))
+    let mut errors = Vec::new(alloc);
+    let words = words_of(alloc, words)?;
+    let status = tool(alloc, &words, input, &mut output, &mut errors);
+    let printed = String::from_utf8(output)?;
+    let errors = String::from_utf8(errors)?;
+    Ok(Ended {
+        status,
+        printed,
+        errors,
+    })
 }
 
 /// A question for the root.
@@ -46,75 +63,202 @@ const END: &str =
 
 #[test]
 fn prints_the_same_for_octets_and_digits(rt: HostRuntime) -> Result<(), Fail> {
-    let (_, first) = run(rt.alloc(), "", OCTETS)?;
-    assert_holds(&rt, "the last rows", first.ends_with(END));
+    let first = run(rt.alloc(), "", OCTETS)?;
+    assert_holds(&rt, "the last rows", first.printed.ends_with(END));
     for case in QUESTIONS {
-        let (status, text) = run(rt.alloc(), "", case.input)?;
-        assert_status(&rt, case.name, status, 0);
-        assert_text(&rt, case.name, &text, &first);
+        let ended = run(rt.alloc(), "", case.input)?;
+        assert_status(&rt, case.name, ended.status, 0);
+        assert_text(&rt, case.name, &ended.printed, &first.printed);
+        assert_text(&rt, case.name, &ended.errors, "");
     }
     Ok(())
 }
 
-const RUNS: &[Run<'_>] = &[
-    Run {
-        name: "an odd number of digits",
-        words: "",
-        input: b"000",
-        printed: "bad hex\n",
-        status: 1,
-    },
-    Run {
-        name: "an odd number of digits for a page",
-        words: "--html",
-        input: b"0 0 0\n",
-        printed: "bad hex\n",
-        status: 1,
-    },
-    Run {
-        name: "another word",
-        words: "--text",
-        input: b"00",
-        printed: "usage: dnsview [--html]\n",
-        status: 2,
-    },
-    Run {
-        name: "two words",
-        words: "--html --html",
-        input: b"00",
-        printed: "usage: dnsview [--html]\n",
-        status: 2,
-    },
-    Run {
+/// A run of the program: the arguments, separated by spaces, the input, what is printed to standard output and
+/// to standard error, and the exit status.
+struct Case {
+    name: &'static str,
+    words: &'static str,
+    input: &'static [u8],
+    printed: &'static str,
+    errors: &'static str,
+    status: u8,
+}
+
+const SHORT: &str =
+    "     0  67                       too short for a header section of 12 octets\n";
+
+const ODD: &str = "dnsview: the number of hexadecimal digits is odd\n";
+
+const NO_INPUT: &str = "dnsview: the input is empty\n";
+
+const VERSION: &str = "dnsview 1.0.0\n";
+
+const RUNS: &[Case] = &[
+    Case {
         name: "an octet that is no digit",
         words: "",
         input: b"g",
-        printed: "     0  67                       too short for a header section of 12 octets\n",
+        printed: SHORT,
+        errors: "",
         status: 0,
     },
-    Run {
+    Case {
+        name: "a file",
+        words: "answer.bin",
+        input: b"g",
+        printed: SHORT,
+        errors: "",
+        status: 0,
+    },
+    Case {
+        name: "standard input by name",
+        words: "-",
+        input: b"g",
+        printed: SHORT,
+        errors: "",
+        status: 0,
+    },
+    Case {
+        name: "an odd number of digits",
+        words: "",
+        input: b"000",
+        printed: "",
+        errors: ODD,
+        status: 1,
+    },
+    Case {
+        name: "an odd number of digits for a page",
+        words: "--html",
+        input: b"0 0 0\n",
+        printed: "",
+        errors: ODD,
+        status: 1,
+    },
+    Case {
         name: "no octet",
         words: "",
+        input: b"",
+        printed: "",
+        errors: NO_INPUT,
+        status: 4,
+    },
+    Case {
+        name: "white space",
+        words: "",
         input: b" \n",
-        printed: "     0                           too short for a header section of 12 octets\n",
+        printed: "",
+        errors: NO_INPUT,
+        status: 4,
+    },
+    Case {
+        name: "no octet for a page of a file",
+        words: "--html answer.bin",
+        input: b"",
+        printed: "",
+        errors: NO_INPUT,
+        status: 4,
+    },
+    Case {
+        name: "the version",
+        words: "--version",
+        input: b"",
+        printed: VERSION,
+        errors: "",
         status: 0,
+    },
+    Case {
+        name: "the version, after other words",
+        words: "--html --text a b --version",
+        input: b"",
+        printed: VERSION,
+        errors: "",
+        status: 0,
+    },
+    Case {
+        name: "an unknown option",
+        words: "--text",
+        input: b"00",
+        printed: "",
+        errors: "dnsview: unexpected argument '--text'\nusage: dnsview [--html] [FILE]\n",
+        status: 2,
+    },
+    Case {
+        name: "an unknown option, after a second file",
+        words: "a b -x",
+        input: b"00",
+        printed: "",
+        errors: "dnsview: unexpected argument '-x'\nusage: dnsview [--html] [FILE]\n",
+        status: 2,
+    },
+    Case {
+        name: "two files",
+        words: "a --html b c",
+        input: b"00",
+        printed: "",
+        errors: "dnsview: unexpected argument 'b'\nusage: dnsview [--html] [FILE]\n",
+        status: 2,
     },
 ];
 
 #[test]
 fn prints_runs(rt: HostRuntime) -> Result<(), Fail> {
     for case in RUNS {
-        let (status, printed) = run(rt.alloc(), case.words, case.input)?;
-        assert_text(&rt, case.name, &printed, case.printed);
-        assert_status(&rt, case.name, status, case.status);
+        let ended = run(rt.alloc(), case.words, case.input)?;
+        assert_text(&rt, case.name, &ended.printed, case.printed);
+        assert_text(&rt, case.name, &ended.errors, case.errors);
+        assert_status(&rt, case.name, ended.status, case.status);
     }
     Ok(())
 }
 
+/// Arguments that ask for help.
+const HELPS: &[&str] = &["--help", "-h", "answer.bin -h", "--version --text --help"];
+
+#[test]
+fn prints_help(rt: HostRuntime) -> Result<(), Fail> {
+    for words in HELPS {
+        let ended = run(rt.alloc(), words, b"")?;
+        assert_status(&rt, words, ended.status, 0);
+        let is_usage = ended
+            .printed
+            .starts_with("usage: dnsview [--html] [FILE]\n\nPrints");
+        assert_holds(&rt, words, is_usage);
+        assert_holds(
+            &rt,
+            words,
+            ended.printed.contains("\nExample: dnsview --html "),
+        );
+        assert_text(&rt, words, &ended.errors, "");
+    }
+    Ok(())
+}
+
+/// Fails unless this is the file that a view is asked of.
+fn assert_file(rt: &impl Abort, alloc: Global, words: &str, file: &str) -> Result<(), Fail> {
+    let arguments = words_of(alloc, words)?;
+    let found = file_of(&arguments).map_or("", |file| file.as_str());
+    assert_text(rt, words, found, file);
+    Ok(())
+}
+
+#[test]
+fn finds_the_file(rt: HostRuntime) -> Result<(), Fail> {
+    assert_file(&rt, rt.alloc(), "", "")?;
+    assert_file(&rt, rt.alloc(), "--html", "")?;
+    assert_file(&rt, rt.alloc(), "answer.bin", "answer.bin")?;
+    assert_file(&rt, rt.alloc(), "answer.bin --html", "answer.bin")?;
+    assert_file(&rt, rt.alloc(), "--html -", "-")?;
+    // No view is asked for.
+    assert_file(&rt, rt.alloc(), "answer.bin --help", "")?;
+    assert_file(&rt, rt.alloc(), "answer.bin query.bin", "")
+}
+
 #[test]
 fn prints_a_page(rt: HostRuntime) -> Result<(), Fail> {
-    let (status, page) = run(rt.alloc(), "--html", b"000000000000000000000000")?;
-    assert_status(&rt, "a page", status, 0);
+    let ended = run(rt.alloc(), "--html", b"000000000000000000000000")?;
+    assert_status(&rt, "a page", ended.status, 0);
+    let page = ended.printed;
     let is_page = page.starts_with("<!DOCTYPE html>\n") && page.ends_with("</html>\n");
     assert_holds(&rt, "the first and the last line", is_page);
     Ok(())

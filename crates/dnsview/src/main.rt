@@ -1,44 +1,59 @@
-//! The program `dnsview` reads a message from standard input, as octets or in hexadecimal digits,
-//! and prints it row by row:
+//! The program `dnsview` reads a message from a file or from standard input, as octets or in
+//! hexadecimal digits, and prints it row by row:
 //!
-//!     dnsview [--html] < MESSAGE
+//!     dnsview [--html] [FILE]
 //!
 //! `dns_view::tool` does the work. It is proved to be safe and to terminate on every input.
 #![tactic(auto)]
 
-use dns_view::tool;
-use std::io::{BufWriter, ErrorKind};
+use dns_view::{USAGE, file_of, tool};
+use std::fs::File;
+use std::io::{BufWriter, ErrorKind, Read};
 use std::process::ExitCode;
 use std::{env, io};
 
-/// The exit status if reading, writing or an allocation fails.
+/// The exit status if an argument isn't text.
+const NO_TEXT: u8 = 2;
+
+/// The exit status if opening, reading, writing or an allocation fails.
 const FAILED: u8 = 3;
 
-/// The arguments after the program's name. If an argument isn't text, returns one word that the
-/// program doesn't know.
-fn words(rt: &HostRuntime) -> io::Result<Vec<String>> {
-    match env::args(rt) {
-        Ok(args) => Ok(args.skip(1).collect(rt.alloc())?),
-        Err(error) if error.kind() == ErrorKind::InvalidData => {
-            let mut words = Vec::new(rt.alloc());
-            words.push(String::from_str(rt.alloc(), "no text")?)?;
-            Ok(words)
+/// Prints what the arguments ask for of the reader's octets, and returns the exit status.
+fn view<R: Read + Drop>(rt: &HostRuntime, words: &[String], reader: R) -> io::Result<u8> {
+    let writer = BufWriter::new(rt.alloc(), rt.stdout())?;
+    Ok(tool(rt.alloc(), words, reader, writer, rt.stderr()))
+}
+
+fn view_file(rt: &HostRuntime, words: &[String], file: &str) -> io::Result<u8> {
+    match File::open(rt, file) {
+        Ok(reader) => view(rt, words, reader),
+        Err(error) => {
+            eprintln!(rt; "dnsview: can't open '{file}': {error}")?;
+            Ok(FAILED)
         }
-        Err(error) => Err(error),
     }
 }
 
 fn run(rt: &HostRuntime) -> io::Result<u8> {
-    let words = words(rt)?;
-    let writer = BufWriter::new(rt.alloc(), rt.stdout())?;
-    Ok(tool(rt.alloc(), &words, rt.stdin(), writer))
+    let words: Vec<String> = match env::args(rt) {
+        Ok(args) => args.skip(1).collect(rt.alloc())?,
+        Err(error) if error.kind() == ErrorKind::InvalidData => {
+            eprint!(rt; "dnsview: an argument is not UTF-8\n{USAGE}")?;
+            return Ok(NO_TEXT);
+        }
+        Err(error) => return Err(error),
+    };
+    match file_of(&words) {
+        Some(file) if file.as_str() != "-" => view_file(rt, &words, file.as_str()),
+        _ => view(rt, &words, rt.stdin()),
+    }
 }
 
 fn main(rt: HostRuntime) -> ExitCode {
     match run(&rt) {
         Ok(status) => ExitCode::from(status),
-        Err(_) => {
-            let _ = println!(rt; "failed");
+        Err(error) => {
+            let _ = eprintln!(rt; "dnsview: {error}");
             ExitCode::from(FAILED)
         }
     }
