@@ -1,12 +1,13 @@
-//! Rows printed as a page of HTML: the octets in a grid, coloured by field, with pointers drawn as
-//! arrows.
+//! Rows printed as a page of HTML: the octets in a grid, and the rows as a list. A field's cell and
+//! its row lead to each other, and each draws the arrow of a pointer where it is hovered.
 ghost use Rattle.std.specs.Prelude.{◌≡◌, ◌+◌, ◌^◌, ◌<◌, length, OnOk};
 ghost use Rattle.std.specs.Io.KnownBytes.{Appends};
 ghost use Rattle.std.specs.List.{flat_map};
-ghost use Rattle.dns_view.specs.Pages.{arrow_between, arrow_text, cell_digits, cell_text, class_text, escaped, escaped_octet, field_class, field_row_text, item_row_text, left_edge, octet_cells, opening_text, path_text, offset_label, rectangle_text, table_octets, upper_edge, IsCells, IsPage, IsTableRow};
+ghost use Rattle.dns_view.specs.Pages.{cell_text, class_text, digits, escaped, escaped_octet, field_class, field_row_text, heading_row_text, mark_text, octet_cells, opening_text, pointer_count, row_cells, separator, top_text, IsListRow, IsPage};
 ghost use Rattle.dns_view.specs.Printed.{Prints, PrintsEach};
 
 use crate::meaning::Meaning;
+use crate::summary::Summary;
 use crate::text::print_octet;
 use dns_rows::{Field, Kind, Row, octets_of, target_of};
 use std::alloc::Global;
@@ -16,60 +17,73 @@ use std::io::Write;
 /// The octets on a line of the grid.
 const OCTETS: usize = 16;
 
-/// The width of a cell of the grid, in pixels. `HEIGHT` is its height, and `MARGIN` the margin left
-/// of the grid.
-const WIDTH: usize = 36;
+/// A page with fewer pointers draws all their arrows.
+const FEW: usize = 20;
 
-const HEIGHT: u128 = 30;
-
-const MARGIN: usize = 60;
-
-/// The right edge of the offsets that are printed before the lines of the grid.
-const OFFSET_END: usize = 50;
-
-/// The text before the grid. The page needs no other file.
+/// The text before the title. The page needs no other file.
 const HEAD: &str = "<!DOCTYPE html>
 <html lang=\"en\">
 <head>
 <meta charset=\"utf-8\">
-<title>A DNS message</title>
+<meta name=\"viewport\" content=\"width=device-width\">
+<title>";
+
+/// The text between the title and the first line, which is the title again. The grid has 8 columns
+/// before the octets of a line, and 3 for each octet. `--f` is the offset of a pointer, and `--t`
+/// the offset where it leads.
+const STYLE: &str = "</title>
 <style>
-body { font-family: sans-serif; margin: 1.5em; }
-main { display: flex; flex-wrap: wrap; gap: 2em; align-items: flex-start; }
-svg text, td.octets, td.place { font-family: monospace; font-size: 14px; }
-svg text { text-anchor: middle; fill: black; }
-svg text.place { text-anchor: end; fill: #666; }
-rect { stroke: white; stroke-width: 2; }
-.header { fill: #c9d8f0; background: #c9d8f0; }
-.name { fill: #cfe8c6; background: #cfe8c6; }
-.pointer { fill: #8fce7a; background: #8fce7a; }
-.kind { fill: #f6e3a8; background: #f6e3a8; }
-.data { fill: #f3cbb0; background: #f3cbb0; }
-.option { fill: #dfcbee; background: #dfcbee; }
-.fault { fill: #ef8080; background: #ef8080; }
-.legend span { padding: 3px 10px; margin-right: 6px; }
-path { fill: none; stroke: #20601f; stroke-width: 2; opacity: 0.6; }
-path:hover { stroke-width: 4; opacity: 1; }
-table { border-collapse: collapse; }
-th { text-align: left; padding: 10px 10px 2px; }
-td { padding: 2px 10px; border-bottom: 2px solid white; vertical-align: top; }
-td.place { text-align: right; }
-td.octets { max-width: 24ch; }
+:root { color-scheme: light dark; --page: #fff; --text: #111; --dim: #5a6570; --arrow: #b3261e;
+--field: #f6e3a8; --header: #c9d8f0; --name: #cfe8c6; --pointer: #93d17e; --data: #f3cbb0;
+--option: #dfcbee; --fault: #f09a9a; --edge: #555; }
+@media (prefers-color-scheme: dark) {
+:root { --page: #15181c; --text: #eee; --dim: #9aa5b0; --arrow: #ff8a7a;
+--field: #57481a; --header: #2b4166; --name: #2c5224; --pointer: #2f7a1c; --data: #6b3f20;
+--option: #553a6e; --fault: #8c2b2b; --edge: #aaa; }
+}
+body { margin: 1em; background: var(--page); color: var(--text); font-family: sans-serif; }
+h1 { font-size: 1.1em; overflow-wrap: anywhere; }
+.legend { display: flex; flex-wrap: wrap; gap: 6px; }
+.legend span { padding: 2px 8px; }
+main { position: relative; display: flex; flex-wrap: wrap; gap: 1em 3ch; align-items: flex-start; }
+main, pre { font: 14px/24px monospace; }
+pre { margin: 0; }
+.list { flex: 1 1 60ch; min-width: 40ch; max-width: 120ch; white-space: normal; }
+.list a, .list b { display: block; white-space: pre-wrap; overflow-wrap: anywhere; tab-size: 19ch; }
+.list a { padding-left: 10ch; text-indent: -10ch; border-top: 1px solid var(--page); }
+.list b { margin-top: 8px; }
+.list a::before { content: attr(id); display: inline-block; width: 8ch; margin-right: 2ch;
+text-align: right; text-indent: 0; color: var(--dim); }
+.grid s { display: inline-block; width: 7ch; padding-right: 1ch; text-align: right;
+text-decoration: none; color: var(--dim); background: var(--page); }
+a, .k { color: inherit; text-decoration: none; background: var(--field); }
+.grid a, .list a, .legend span { box-shadow: -2px 0 var(--edge); }
+.h { background: var(--header); }
+.n { background: var(--name); }
+.grid .d, .list a.d, span.d { background: var(--data); }
+.o { background: var(--option); }
+.f { background: var(--fault); }
+a[style], .p { background: var(--pointer); }
+a { scroll-margin: 40vh 0; }
+a:hover, a:focus, a:target { outline: 2px solid var(--text); outline-offset: -2px; }
+a[style] { --x: calc((mod(var(--t), 16) - mod(var(--f), 16)) * 3ch);
+--y: calc((round(down, var(--t) / 16, 1) - round(down, var(--f) / 16, 1)) * 24px + 15px); }
+.few .grid a[style]::after, a[style]:hover::after, a[style]:focus::after, a[style]:target::after {
+content: ''; position: absolute; left: calc(mod(var(--f), 16) * 3ch + 9ch);
+top: calc(round(down, var(--f) / 16, 1) * 24px - 1px); width: hypot(var(--x), var(--y));
+height: 10px; background: var(--arrow); transform-origin: 0 50%; rotate: atan2(var(--y), var(--x));
+clip-path: polygon(0 4px, calc(100% - 12px) 4px, calc(100% - 12px) 0, 100% 5px,
+calc(100% - 12px) 10px, calc(100% - 12px) 6px, 0 6px); pointer-events: none; }
 </style>
 </head>
 <body>
-<h1>A DNS message</h1>
-<p class=\"legend\"><span class=\"header\">header</span><span class=\"name\">names</span>\
-<span class=\"pointer\">pointers</span><span class=\"kind\">types, classes, TTLs, lengths</span>\
-<span class=\"data\">data</span><span class=\"option\">EDNS</span>\
-<span class=\"fault\">faults, unread</span></p>
-<main>
-";
+<h1>";
 
-/// The tip of an arrow.
-const TIP: &str =
-    "<defs><marker id=\"tip\" markerWidth=\"8\" markerHeight=\"8\" refX=\"6\" refY=\"3\" \
-                   orient=\"auto\"><path d=\"M0,0 L6,3 L0,6\"/></marker></defs>
+/// The text between the first line and the grid.
+const LEGEND: &str = "</h1>
+<p class=\"legend\"><span class=\"h\">header</span><span class=\"n\">names</span>\
+<span class=\"p\">pointers</span><span class=\"k\">types, classes, TTLs, lengths</span>\
+<span class=\"d\">data</span><span class=\"o\">EDNS</span><span class=\"f\">faults, unread</span></p>
 ";
 
 /// Prints rows of a message as one page of HTML, which needs no network and no script.
@@ -84,47 +98,54 @@ pub fn print_page<W: Write>(
     ensures { OnOk result (Prints (IsPage message.now rows.now)
         (W.contents writer.old) (W.contents writer.new)) }
 {
-    writer.write_all(HEAD.as_bytes())?;
-    print_opening(writer, message.len())?;
-    writer.write_all(TIP.as_bytes())?;
-    print_cells(alloc, writer, message, rows)?;
-    print_arrows(writer, message, rows)?;
-    writer.write_all(b"</svg>\n<table>\n")?;
-    print_table(alloc, writer, message, rows)?;
-    writer.write_all(b"</table>\n</main>\n</body>\n</html>\n")
+    let summary = Summary { message, rows };
+    let words = format!(in alloc; "{summary}")?;
+    print_top(writer, words.as_bytes())?;
+    print_opening(writer, rows)?;
+    print_cells(writer, message, rows)?;
+    writer.write_all(b"\n</pre>\n<pre class=list>\n")?;
+    print_list(alloc, writer, message, rows)?;
+    writer.write_all(b"</pre>\n</main>\n</body>\n</html>\n")
 }
 
-/// Prints the start of the picture for `count` octets.
-fn print_opening<W: Write>(writer: &mut W, count: usize) -> io::Result<()>
+/// Prints all before the grid, with some words as the title and the first line.
+fn print_top<W: Write>(writer: &mut W, words: &[u8]) -> io::Result<()>
     ensures { OnOk result (Appends (W.contents writer.old) (W.contents writer.new)
-        (opening_text count)) }
+        (top_text words.now)) }
 {
-    let width = x_of(OCTETS - 1) + WIDTH * 2;
-    let height = y_of(count) + HEIGHT * 2;
-    writeln!(writer, "<svg width=\"{width}\" height=\"{height}\">")
+    writer.write_all(HEAD.as_bytes())?;
+    print_escaped(writer, words)?;
+    writer.write_all(STYLE.as_bytes())?;
+    print_escaped(writer, words)?;
+    writer.write_all(LEGEND.as_bytes())
 }
 
-/// The left edge of an octet's cell.
-fn x_of(offset: usize) -> usize
-    ensures { result ≡ left_edge offset }
+/// Prints the start of the grid, which draws all arrows if they are few.
+fn print_opening<W: Write>(writer: &mut W, rows: &[Row]) -> io::Result<()>
+    ensures { OnOk result (Appends (W.contents writer.old) (W.contents writer.new)
+        (opening_text rows.now)) }
 {
-    (offset % OCTETS) * WIDTH + MARGIN
+    writer.write_all(if pointer_count(rows) < FEW {
+        b"<main class=few>\n<pre class=grid><s>0</s>"
+    } else {
+        b"<main>\n<pre class=grid><s>0</s>"
+    })
 }
 
-/// The upper edge of an octet's cell, which may exceed 64 bits.
-fn y_of(offset: usize) -> u128
-    ensures { result ≡ upper_edge offset }
+/// The number of rows that are pointers.
+fn pointer_count(rows: &[Row]) -> usize
+    ensures { result ≡ pointer_count rows.now }
 {
-    (offset / OCTETS) as u128 * HEIGHT
+    rows.iter().filter(|row| row.kind.is_pointer()).count()
 }
 
-/// The class of a row in the page's style sheet.
+/// The attribute that gives a row its colour. Those of most rows have none.
 fn class_of(kind: Kind) -> &'static str
     ensures { result.now ≡ class_text kind }
 {
     match kind {
         Kind::Field(field) => field_class(field),
-        Kind::ShortHeader | Kind::Fault(_) | Kind::Unread => "fault",
+        Kind::ShortHeader | Kind::Fault(_) | Kind::Unread => " class=f",
     }
 }
 
@@ -132,14 +153,27 @@ fn field_class(field: Field) -> &'static str
     ensures { result.now ≡ field_class field }
 {
     match field {
-        Field::Id | Field::Flags | Field::Count(_) => "header",
-        Field::Label(_) | Field::Root(_, _) => "name",
-        Field::Pointer(_, _) => "pointer",
-        Field::Type | Field::Class | Field::Ttl | Field::RdLength => "kind",
-        Field::PayloadSize | Field::ExtendedRcode | Field::Version | Field::OptFlags => "option",
-        Field::OptionCode | Field::OptionLength(_) | Field::OptionData(_) => "option",
-        _ => "data",
+        Field::Id | Field::Flags | Field::Count(_) => " class=h",
+        Field::Label(_) | Field::Root(_, _) => " class=n",
+        Field::Type | Field::Class | Field::Ttl | Field::RdLength => "",
+        Field::PayloadSize | Field::ExtendedRcode | Field::Version | Field::OptFlags => " class=o",
+        Field::OptionCode | Field::OptionLength(_) | Field::OptionData(_) => " class=o",
+        _ => " class=d",
     }
+}
+
+/// Prints the attribute that says what a row is: of a pointer its offset and where it leads, of
+/// other rows the class.
+fn print_mark<W: Write>(writer: &mut W, message: &[u8], row: &Row) -> io::Result<()>
+    ensures { OnOk result (Appends (W.contents writer.old) (W.contents writer.new)
+        (mark_text message.now row.now)) }
+{
+    if !row.kind.is_pointer() {
+        return writer.write_all(class_of(row.kind).as_bytes());
+    }
+    let from = row.start;
+    let target = target_of(octets_of(message, row));
+    write!(writer, " style=--f:{from};--t:{target}")
 }
 
 /// Prints a text with its markup characters escaped.
@@ -167,39 +201,32 @@ fn print_escaped_octet<W: Write>(writer: &mut W, octet: u8) -> io::Result<()>
 }
 
 /// Prints the cells of rows.
-fn print_cells<W: Write>(
-    alloc: Global,
-    writer: &mut W,
-    message: &[u8],
-    rows: &[Row],
-) -> io::Result<()>
-    ensures { OnOk result (PrintsEach (IsCells message.now) rows.now
-        (W.contents writer.old) (W.contents writer.new)) }
+fn print_cells<W: Write>(writer: &mut W, message: &[u8], rows: &[Row]) -> io::Result<()>
+    ensures { OnOk result (Appends (W.contents writer.old) (W.contents writer.new)
+        (flat_map (row_cells message.now) rows.now)) }
 {
     for row in rows {
-        print_row_cells(alloc, writer, message, row)?;
+        print_row_cells(writer, message, row)?;
     }
     Ok(())
 }
 
-/// Prints the cells of a row's octets, with the row's meaning as their tooltip.
-fn print_row_cells<W: Write>(
-    alloc: Global,
-    writer: &mut W,
-    message: &[u8],
-    row: &Row,
-) -> io::Result<()>
-    ensures { OnOk result (Prints (IsCells message.now row.now)
-        (W.contents writer.old) (W.contents writer.new)) }
+/// Prints the cells of a row's octets, as a link to the row. Prints nothing for a row without
+/// octets.
+fn print_row_cells<W: Write>(writer: &mut W, message: &[u8], row: &Row) -> io::Result<()>
+    ensures { OnOk result (Appends (W.contents writer.old) (W.contents writer.new)
+        (row_cells message.now row.now)) }
 {
-    let class = class_of(row.kind);
-    let meaning = Meaning { message, row: *row };
-    let words = format!(in alloc; "{meaning}")?;
-    write!(writer, "<g class=\"{class}\"><title>")?;
-    print_escaped(writer, words.as_bytes())?;
-    writer.write_all(b"</title>\n")?;
-    print_octet_cells(writer, row.start, octets_of(message, row))?;
-    writer.write_all(b"</g>\n")
+    let octets = octets_of(message, row);
+    if octets.is_empty() {
+        return Ok(());
+    }
+    let start = row.start;
+    write!(writer, "<a id=c{start} href=#{start}")?;
+    print_mark(writer, message, row)?;
+    writer.write_all(b">")?;
+    print_octet_cells(writer, start, octets)?;
+    writer.write_all(b"</a>")
 }
 
 /// Prints the cells of consecutive octets, the first at offset `start`.
@@ -214,187 +241,103 @@ fn print_octet_cells<W: Write>(writer: &mut W, start: usize, octets: &[u8]) -> i
     Ok(())
 }
 
-/// Prints the cell of an octet, and before the first of a line its offset.
+/// Prints the cell of an octet, and what separates it from the next.
 fn print_cell<W: Write>(writer: &mut W, offset: usize, octet: u8) -> io::Result<()>
+    requires { offset + 1 < 2 ^ 64 }
     ensures { OnOk result (Appends (W.contents writer.old) (W.contents writer.new)
         (cell_text (offset, octet))) }
 {
-    print_offset(writer, offset)?;
-    print_rectangle(writer, offset)?;
-    print_cell_digits(writer, offset, octet)
-}
-
-/// Prints the rectangle of an octet's cell.
-fn print_rectangle<W: Write>(writer: &mut W, offset: usize) -> io::Result<()>
-    ensures { OnOk result (Appends (W.contents writer.old) (W.contents writer.new)
-        (rectangle_text offset)) }
-{
-    let x = x_of(offset);
-    let y = y_of(offset);
-    write!(
-        writer,
-        "<rect x=\"{x}\" y=\"{y}\" width=\"{WIDTH}\" height=\"{HEIGHT}\"/>"
-    )
-}
-
-/// Prints the digits of an octet into its cell, with an `id` made of the offset.
-fn print_cell_digits<W: Write>(writer: &mut W, offset: usize, octet: u8) -> io::Result<()>
-    ensures { OnOk result (Appends (W.contents writer.old) (W.contents writer.new)
-        (cell_digits offset octet)) }
-{
-    let middle = x_of(offset) + WIDTH / 2;
-    let base = y_of(offset) + 20;
-    write!(
-        writer,
-        "<text x=\"{middle}\" y=\"{base}\" id=\"o{offset}\">"
-    )?;
     print_octet(writer, octet)?;
-    writer.write_all(b"</text>\n")
+    print_separator(writer, offset + 1)
 }
 
-/// Prints the offset of an octet if it is the first on a line.
-fn print_offset<W: Write>(writer: &mut W, offset: usize) -> io::Result<()>
+/// Prints what precedes an octet: a new line with its offset if it is the first on a line, else a
+/// space.
+fn print_separator<W: Write>(writer: &mut W, offset: usize) -> io::Result<()>
     ensures { OnOk result (Appends (W.contents writer.old) (W.contents writer.new)
-        (offset_label offset)) }
+        (separator offset)) }
 {
     if offset % OCTETS != 0 {
-        return Ok(());
+        return writer.write_all(b" ");
     }
-    let base = y_of(offset) + 20;
-    writeln!(
-        writer,
-        "<text class=\"place\" x=\"{OFFSET_END}\" y=\"{base}\">{offset}</text>"
-    )
+    write!(writer, "\n<s>{offset}</s>")
 }
 
-/// Prints the arrows of the rows that are pointers.
-fn print_arrows<W: Write>(writer: &mut W, message: &[u8], rows: &[Row]) -> io::Result<()>
-    ensures { OnOk result (Appends (W.contents writer.old) (W.contents writer.new)
-        (flat_map (arrow_text message.now) rows.now)) }
-{
-    for row in rows {
-        print_row_arrow(writer, message, row)?;
-    }
-    Ok(())
-}
-
-/// Prints the arrow of a row that is a pointer, from the pointer's first octet to its target.
-/// Prints nothing for any other row.
-fn print_row_arrow<W: Write>(writer: &mut W, message: &[u8], row: &Row) -> io::Result<()>
-    ensures { OnOk result (Appends (W.contents writer.old) (W.contents writer.new)
-        (arrow_text message.now row.now)) }
-{
-    if !row.kind.is_pointer() {
-        return Ok(());
-    }
-    print_arrow(writer, row.start, target_of(octets_of(message, row)))
-}
-
-/// Prints an arrow from the cell of one octet to that of another.
-fn print_arrow<W: Write>(writer: &mut W, from: usize, target: usize) -> io::Result<()>
-    ensures { OnOk result (Appends (W.contents writer.old) (W.contents writer.new)
-        (arrow_between from target)) }
-{
-    let from_x = x_of(from) + WIDTH;
-    let to_x = x_of(target) + WIDTH / 2;
-    let bend_x = from_x.max(to_x) + WIDTH;
-    let from_y = y_of(from) + 6;
-    let to_y = y_of(target) + (HEIGHT - 4);
-    print_path(writer, from_x, from_y, bend_x, to_x, to_y)?;
-    writeln!(writer, "<title>{from} points to {target}</title></path>")
-}
-
-/// Prints a curve with a tip, from one point to another.
-fn print_path<W: Write>(
-    writer: &mut W,
-    from_x: usize,
-    from_y: u128,
-    bend_x: usize,
-    to_x: usize,
-    to_y: u128,
-) -> io::Result<()>
-    ensures { OnOk result (Appends (W.contents writer.old) (W.contents writer.new)
-        (path_text from_x from_y bend_x to_x to_y)) }
-{
-    write!(writer, "<path d=\"M{from_x},{from_y} Q{bend_x},{to_y} ")?;
-    write!(writer, "{to_x},{to_y}\" marker-end=\"url(#tip)\">")
-}
-
-/// Prints the rows of the table.
-fn print_table<W: Write>(
+/// Prints the rows of the list.
+fn print_list<W: Write>(
     alloc: Global,
     writer: &mut W,
     message: &[u8],
     rows: &[Row],
 ) -> io::Result<()>
-    ensures { OnOk result (PrintsEach (IsTableRow message.now) rows.now
+    ensures { OnOk result (PrintsEach (IsListRow message.now) rows.now
         (W.contents writer.old) (W.contents writer.new)) }
 {
     for row in rows {
-        print_table_row(alloc, writer, message, row)?;
+        print_list_row(alloc, writer, message, row)?;
     }
     Ok(())
 }
 
-/// Prints a row of the table.
-fn print_table_row<W: Write>(
+/// Prints a row of the list.
+fn print_list_row<W: Write>(
     alloc: Global,
     writer: &mut W,
     message: &[u8],
     row: &Row,
 ) -> io::Result<()>
-    ensures { OnOk result (Prints (IsTableRow message.now row.now)
+    ensures { OnOk result (Prints (IsListRow message.now row.now)
         (W.contents writer.old) (W.contents writer.new)) }
 {
     let meaning = Meaning { message, row: *row };
     let words = format!(in alloc; "{meaning}")?;
-    if row.kind.is_item() {
-        print_item_row(writer, words.as_bytes())
+    if octets_of(message, row).is_empty() {
+        print_heading_row(writer, row, words.as_bytes())
     } else {
-        print_field_row(writer, row, octets_of(message, row), words.as_bytes())
+        print_field_row(writer, message, row, words.as_bytes())
     }
 }
 
-/// Prints a row of the table where an item begins: the item's section and number.
-fn print_item_row<W: Write>(writer: &mut W, words: &[u8]) -> io::Result<()>
+/// Prints a row without octets: one where an item begins, or that of a fault.
+fn print_heading_row<W: Write>(writer: &mut W, row: &Row, words: &[u8]) -> io::Result<()>
     ensures { OnOk result (Appends (W.contents writer.old) (W.contents writer.new)
-        (item_row_text words.now)) }
+        (heading_row_text row.now words.now)) }
 {
-    writer.write_all(b"<tr><th colspan=\"3\">")?;
+    writer.write_all(b"<b")?;
+    writer.write_all(class_of(row.kind).as_bytes())?;
+    writer.write_all(b">")?;
     print_escaped(writer, words)?;
-    writer.write_all(b"</th></tr>\n")
+    writer.write_all(b"</b>\n")
 }
 
-/// Prints any other row of the table: its offset, its octets and what they mean.
+/// Prints any other row, as a link to its cells: its octets and what they mean. Its offset is its
+/// `id`, which the style shows.
 fn print_field_row<W: Write>(
     writer: &mut W,
+    message: &[u8],
     row: &Row,
-    octets: &[u8],
     words: &[u8],
 ) -> io::Result<()>
     ensures { OnOk result (Appends (W.contents writer.old) (W.contents writer.new)
-        (field_row_text row.now octets.now words.now)) }
+        (field_row_text message.now row.now words.now)) }
 {
-    let class = class_of(row.kind);
     let start = row.start;
-    write!(
-        writer,
-        "<tr class=\"{class}\"><td class=\"place\">{start}</td><td class=\"octets\">"
-    )?;
-    print_octets(writer, octets)?;
-    writer.write_all(b"</td><td>")?;
+    write!(writer, "<a id={start} href=#c{start}")?;
+    print_mark(writer, message, row)?;
+    writer.write_all(b">")?;
+    print_digits(writer, octets_of(message, row))?;
+    writer.write_all(b"\t")?;
     print_escaped(writer, words)?;
-    writer.write_all(b"</td></tr>\n")
+    writer.write_all(b"</a>\n")
 }
 
-/// Prints octets in hexadecimal digits, with a space after each octet.
-fn print_octets<W: Write>(writer: &mut W, octets: &[u8]) -> io::Result<()>
+/// Prints octets in hexadecimal digits.
+fn print_digits<W: Write>(writer: &mut W, octets: &[u8]) -> io::Result<()>
     ensures { OnOk result (Appends (W.contents writer.old) (W.contents writer.new)
-        (table_octets octets.now)) }
+        (digits octets.now)) }
 {
     for octet in octets {
         print_octet(writer, *octet)?;
-        writer.write_all(b" ")?;
     }
     Ok(())
 }

@@ -14,6 +14,7 @@ mod option;
 mod program;
 mod quoted;
 mod request;
+mod summary;
 mod text;
 
 pub use dns_rows::{Fault, Field, Kind, NameOf, Part, Row, ZoneNumber, rows};

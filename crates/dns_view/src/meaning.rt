@@ -24,7 +24,7 @@ pub(crate) struct Meaning<'a> {
 }
 
 /// The big-endian number in one, two or four octets; 0 for any other number of octets.
-fn number_of(octets: &[u8]) -> u32 {
+pub(crate) fn number_of(octets: &[u8]) -> u32 {
     match octets {
         [only] => u32::from(*only),
         [high, low] => u32::from(short_of(&[*high, *low])),
@@ -42,7 +42,7 @@ fn short_of(octets: &[u8]) -> u16 {
 }
 
 /// The word for an item of a section.
-pub(crate) fn word_of(part: Part) -> &'static str {
+fn word_of(part: Part) -> &'static str {
     match part {
         Part::Question => "question",
         Part::Answer => "answer",
@@ -70,7 +70,16 @@ impl fmt::Display for Meaning<'_> {
         match self.row.kind {
             Kind::ShortHeader => f.write_str("too short for a header section of 12 octets"),
             Kind::Field(field) => self.write_field(f, field),
-            Kind::Fault(fault) => self.write_fault(f, fault),
+            Kind::Fault(fault) => {
+                let message = self.message;
+                let offset = self.row.start;
+                let words = FaultWords {
+                    message,
+                    offset,
+                    fault,
+                };
+                write!(f, "FAULT: {words}")
+            }
             Kind::Unread => {
                 let count = octet_count(self.octets().len());
                 write!(f, "unread, {count}")
@@ -131,16 +140,26 @@ impl<'a> Meaning<'a> {
         f.write_str(", whole name ")?;
         write_name(f, self.message, start)
     }
+}
 
-    fn write_fault<W: fmt::Write>(&self, f: &mut fmt::Formatter<W>, fault: Fault) -> fmt::Result {
+/// What is wrong with the field at an offset, in words.
+#[derive(Clone, Copy)]
+pub(crate) struct FaultWords<'a> {
+    /// The octets of the message.
+    pub(crate) message: &'a [u8],
+    pub(crate) offset: usize,
+    pub(crate) fault: Fault,
+}
+
+impl fmt::Display for FaultWords<'_> {
+    fn fmt<W: fmt::Write>(&self, f: &mut fmt::Formatter<W>) -> fmt::Result {
         let mut parser = Parser::new(self.message);
-        let octets = match parser.seek(self.row.start) {
+        let octets = match parser.seek(self.offset) {
             Ok(()) => parser.peek(2).unwrap_or(&[]),
             Err(_) => &[],
         };
         let target = target_of(octets);
-        f.write_str("FAULT: ")?;
-        match fault {
+        match self.fault {
             Fault::Short(field) => {
                 let word = field_words(field);
                 write!(f, "the octets end before the {word} does")
@@ -186,7 +205,7 @@ fn field_words(field: Field) -> &'static str {
 }
 
 /// Prints the absolute name at an offset, or nothing if no name can be read there.
-fn write_name<W: fmt::Write>(
+pub(crate) fn write_name<W: fmt::Write>(
     f: &mut fmt::Formatter<W>,
     message: &[u8],
     offset: usize,

@@ -1,7 +1,7 @@
 //! The HTML page.
-use crate::asserts::assert_holds;
+use crate::asserts::{assert_holds, assert_text};
 use crate::printed::page;
-use std::alloc::{AllocError, Global};
+use std::alloc::Global;
 use std::process::Abort;
 use std::test::Fail;
 
@@ -24,9 +24,8 @@ struct Count {
 }
 
 const COUNTS: &[Count] = &[
-    // The page loads no other file, and has no script.
     Count {
-        name: "a link",
+        name: "a link to the web",
         text: "http",
         count: 0,
     },
@@ -41,13 +40,13 @@ const COUNTS: &[Count] = &[
         count: 0,
     },
     Count {
-        name: "a reference",
-        text: "href=",
+        name: "an import",
+        text: "@import",
         count: 0,
     },
     Count {
-        name: "an import",
-        text: "@import",
+        name: "a file of the style",
+        text: "url(",
         count: 0,
     },
     Count {
@@ -55,49 +54,65 @@ const COUNTS: &[Count] = &[
         text: "//",
         count: 0,
     },
-    // Each octet has one cell.
-    Count {
-        name: "a cell",
-        text: "<rect ",
-        count: MESSAGE.len(),
-    },
-    // Three pointers lead to 12, 18 and 37, and each has one arrow.
-    Count {
-        name: "an arrow",
-        text: "marker-end=",
-        count: 3,
-    },
-    Count {
-        name: "the pointer to 12",
-        text: "<title>25 points to 12</title>",
-        count: 1,
-    },
-    Count {
-        name: "the pointer to 18",
-        text: "<title>39 points to 18</title>",
-        count: 1,
-    },
-    Count {
-        name: "the pointer to 37",
-        text: "<title>41 points to 37</title>",
-        count: 1,
-    },
-    // Labels are text, and never markup.
     Count {
         name: "a label as markup",
         text: "<b>",
         count: 0,
     },
+    Count {
+        name: "a title",
+        text: "<title>response 1, a&lt;b&gt;&amp;.c. A, NOERROR, 2 answers</title>",
+        count: 1,
+    },
+    Count {
+        name: "a first line",
+        text: "<h1>response 1, a&lt;b&gt;&amp;.c. A, NOERROR, 2 answers</h1>",
+        count: 1,
+    },
+];
+
+/// The grid, with a link for each field: each octet once, sixteen on a line after the offset.
+const GRID: &str = "<main class=few>
+<pre class=grid><s>0</s>\
+<a id=c0 href=#0 class=h>00 01 </a><a id=c2 href=#2 class=h>84 00 </a>\
+<a id=c4 href=#4 class=h>00 01 </a><a id=c6 href=#6 class=h>00 02 </a>\
+<a id=c8 href=#8 class=h>00 00 </a><a id=c10 href=#10 class=h>00 00 </a>\
+<a id=c12 href=#12 class=n>05 61 3c 62
+<s>16</s>3e 26 </a><a id=c18 href=#18 class=n>01 63 </a><a id=c20 href=#20 class=n>00 </a>\
+<a id=c21 href=#21>00 01 </a><a id=c23 href=#23>00 01 </a>\
+<a id=c25 href=#25 style=--f:25;--t:12>c0 0c </a><a id=c27 href=#27>00 05 </a>\
+<a id=c29 href=#29>00 01 </a><a id=c31 href=#31>00
+<s>32</s>00 00 3c </a><a id=c35 href=#35>00 04 </a><a id=c37 href=#37 class=n>01 64 </a>\
+<a id=c39 href=#39 style=--f:39;--t:18>c0 12 </a>\
+<a id=c41 href=#41 style=--f:41;--t:37>c0 25 </a><a id=c43 href=#43>00 01 </a>\
+<a id=c45 href=#45>00 01 </a><a id=c47 href=#47>00
+<s>48</s>00 00 3c </a><a id=c51 href=#51>00 04 </a>\
+<a id=c53 href=#53 class=d>c0 00 02 01 </a><a id=c57 href=#57 class=f>ff </a>
+</pre>
+";
+
+/// Lines of the list: of a field, an item, names as text, pointers and unread octets.
+const LINES: &[&str] = &[
+    "<pre class=list>\n<a id=0 href=#c0 class=h>0001\tidentifier 1</a>\n",
+    "\n<b class=d>question 1</b>\n<a id=12 href=#c12 class=n>05613c623e26\t",
+    "\tname, label of 5 octets: \"a&lt;b&gt;&amp;\"</a>\n",
+    "\n<a id=21 href=#c21>0001\ttype A</a>\n",
+    "\n<a id=25 href=#c25 style=--f:25;--t:12>c00c\towner, pointer to 12: a&lt;b&gt;&amp;.c.</a>\n",
+    "\n<a id=53 href=#c53 class=d>c0000201\taddress 192.0.2.1</a>\n",
+    "\n<a id=57 href=#c57 class=f>ff\tunread, 1 octet</a>\n</pre>\n</main>\n</body>\n</html>\n",
 ];
 
 #[test]
 fn shows_a_message(rt: HostRuntime) -> Result<(), Fail> {
     let page = page(rt.alloc(), &MESSAGE)?;
+    assert_holds(&rt, "a page", page.starts_with("<!DOCTYPE html>\n"));
     for case in COUNTS {
         assert_count(&rt, case.name, &page, case.text, case.count);
     }
-    assert_cells(&rt, rt.alloc(), &page)?;
-    assert_whole(&rt, &page);
+    assert_count(&rt, "the grid", &page, GRID, 1);
+    for line in LINES {
+        assert_count(&rt, line, &page, line, 1);
+    }
     Ok(())
 }
 
@@ -106,22 +121,89 @@ fn assert_count(rt: &impl Abort, row: &str, page: &str, text: &str, count: usize
     assert_holds(rt, row, page.split(text).skip(1).count() == count);
 }
 
-/// Fails unless each octet has its digits at its offset, in a grid of sixteen columns.
-fn assert_cells(rt: &impl Abort, alloc: Global, page: &str) -> Result<(), Fail> {
-    for (offset, octet) in MESSAGE.iter().enumerate() {
-        let cell = cell(alloc, offset, *octet)?;
-        assert_count(rt, &cell, page, &cell, 1);
+/// The page of a question for the root, and of `count` questions whose names point to it.
+fn page_of_pointers(alloc: Global, count: u8) -> Result<String, Fail> {
+    let header = [0, 1, 0, 0, 0, count.saturating_add(1), 0, 0, 0, 0, 0, 0];
+    let mut octets = Vec::from_slice(alloc, &header)?;
+    octets.extend_from_slice(&[0, 0, 1, 0, 1])?;
+    for _ in 0..count {
+        octets.extend_from_slice(&[0xc0, 12, 0, 1, 0, 1])?;
     }
+    page(alloc, &octets)
+}
+
+#[test]
+fn draws_all_arrows_below_twenty(rt: HostRuntime) -> Result<(), Fail> {
+    let few = page_of_pointers(rt.alloc(), 19)?;
+    assert_count(&rt, "19 pointers", &few, "<main class=few>", 1);
+    let many = page_of_pointers(rt.alloc(), 20)?;
+    assert_count(&rt, "20 pointers", &many, "<main>", 1);
+    assert_count(&rt, "20 pointers", &many, ";--t:12>", 40);
     Ok(())
 }
 
-fn cell(alloc: Global, offset: usize, octet: u8) -> Result<String, AllocError> {
-    format!(in alloc; "id=\"o{offset}\">{octet:02x}</text>")
+/// A message, and the first line of its page.
+struct First {
+    name: &'static str,
+    octets: &'static [u8],
+    line: &'static str,
 }
 
-fn assert_whole(rt: &impl Abort, page: &str) {
-    let is_whole = page.starts_with("<!DOCTYPE html>") && page.trim_end().ends_with("</html>");
-    assert_holds(rt, "a whole page", is_whole);
-    let is_escaped = page.contains("name, root label: a&lt;b&gt;&amp;.c.");
-    assert_holds(rt, "a name as text", is_escaped);
+const FIRSTS: &[First] = &[
+    First {
+        name: "a query",
+        octets: b"\x01\x02\x01\0\0\x01\0\0\0\0\0\0\x07example\0\0\x0f\0\x01",
+        line: "query 258, example. MX",
+    },
+    First {
+        name: "a class",
+        octets: b"\0\x01\0\0\0\x01\0\0\0\0\0\0\0\0\x10\0\xfe",
+        line: "query 1, . CLASS254 TXT",
+    },
+    First {
+        name: "an opcode",
+        octets: b"\0\x01\x20\0\0\x01\0\0\0\0\0\0\0\0\x06\0\x01",
+        line: "query 1, NOTIFY, . SOA",
+    },
+    First {
+        name: "an rcode",
+        octets: b"\0\x01\x84\x03\0\x01\0\0\0\0\0\0\0\0\x01\0\x01",
+        line: "response 1, . A, NXDOMAIN, 0 answers",
+    },
+    First {
+        name: "an extended rcode",
+        octets: b"\0\x01\x80\0\0\x01\0\0\0\0\0\x01\0\0\x01\0\x01\0\0\x29\x04\xd0\x01\0\0\0\0\0",
+        line: "response 1, . A, RCODE16 (bad version), 0 answers",
+    },
+    First {
+        name: "no question",
+        octets: b"\0\x01\x80\x05\0\0\0\0\0\0\0\0",
+        line: "response 1, REFUSED, 0 answers",
+    },
+    First {
+        name: "a fault",
+        octets: b"\0\x01\0\0\0\x01\0\0\0\0\0\0\x40\0\0\x01\0\x01",
+        line: "query 1, fault at 12: no label begins with the high bits 01 or 10",
+    },
+    First {
+        name: "a fault after the type",
+        octets: b"\0\x01\0\0\0\x01\0\0\0\0\0\0\0\0\x01\0",
+        line: "query 1, . A, fault at 15: the octets end before the class does",
+    },
+    First {
+        name: "a short message",
+        octets: b"\0\x01\0\0\0\x01\0\0\0\0\0",
+        line: "11 octets, too short for a header section",
+    },
+];
+
+#[test]
+fn says_what_it_is(rt: HostRuntime) -> Result<(), Fail> {
+    for case in FIRSTS {
+        let page = page(rt.alloc(), case.octets)?;
+        let (_, body) = page.split_once("<h1>").ok_or("no first line")?;
+        let (line, _) = body.split_once("</h1>").ok_or("no end of the first line")?;
+        assert_text(&rt, case.name, line, case.line);
+    }
+    Ok(())
 }

@@ -1,7 +1,8 @@
 use Rattle.std.proofs.Common.{take}
-use Rattle.dns_view.specs.Pages.{IsCells}
-use Rattle.dns_view.specs.Printed.{PrintsEach}
+use Rattle.std.specs.Io.KnownBytes.{Appends}
+use Rattle.std.specs.List.{flat_map}
+use Rattle.dns_view.specs.Pages.{row_cells}
 use Rattle.dns_view.proofs.html.print_cells.Given as goal
 
 abbrev pub invariant-loop-row : goal.invariant-loop-row
-invariant-loop-row g l = PrintsEach (IsCells l.fn.message) (take l.row-index l.rows) (g.W.Write.contents l.fn.writer) (g.W.Write.contents l.writer)
+invariant-loop-row g l = Appends (g.W.Write.contents l.fn.writer) (g.W.Write.contents l.writer) (flat_map (row_cells l.fn.message) (take l.row-index l.rows))

@@ -1,6 +1,0 @@
-use Rattle.dns_view.proofs.Appended.{appended_more}
-use Rattle.dns_view.specs.Pages.{arrow_text}
-use Rattle.dns_view.proofs.html.print_arrows.Goals as goal
-
-pub loop-row-preserved : goal.loop-row-preserved
-loop-row-preserved g c = appended_more (arrow_text c.args.message.now) c.args.rows.now c.loop-row.row-index _ _ _ _ c.loop-row-test.true c.loop-row.invariant c.in_ok-print_row_arrow.ensures

@@ -1,0 +1,127 @@
+//! What a message is, in one line.
+use crate::codes::{OpcodeName, RcodeName};
+use crate::meaning::{FaultWords, number_of, write_name};
+use crate::quoted::octet_count;
+use dns_message::code::{Class, Opcode, OptRcode, Rtype};
+use dns_message::header::Header;
+use dns_rows::{Field, Kind, NameOf, Part, Row, octets_of};
+use std::fmt;
+
+/// The octets of a header section.
+const HEADER_SECTION_LEN: usize = 12;
+
+/// A message in one line, in ASCII: whether it is a query or a response, its ID, its first
+/// question, its RCODE, how many answers it counts, and its fault if it has one.
+#[derive(Clone, Copy)]
+pub(crate) struct Summary<'a> {
+    pub(crate) message: &'a [u8],
+    /// The rows of the message.
+    pub(crate) rows: &'a [Row],
+}
+
+impl fmt::Display for Summary<'_> {
+    fn fmt<W: fmt::Write>(&self, f: &mut fmt::Formatter<W>) -> fmt::Result {
+        if self.message.len() < HEADER_SECTION_LEN {
+            let count = octet_count(self.message.len());
+            return write!(f, "{count}, too short for a header section");
+        }
+        let header = Header::for_message_slice(self.message);
+        self.write_header(f, header)?;
+        self.write_question(f)?;
+        if header.qr() {
+            self.write_rcode(f, header)?;
+            self.write_answers(f)?;
+        }
+        self.write_fault(f)
+    }
+}
+
+impl<'a> Summary<'a> {
+    /// The octets of the first row of a field; empty if there is none.
+    fn octets_of_field(&self, field: Field) -> &'a [u8] {
+        match self.rows.iter().find(|row| row.kind == Kind::Field(field)) {
+            Some(row) => octets_of(self.message, row),
+            None => &[],
+        }
+    }
+
+    fn write_header<W: fmt::Write>(
+        &self,
+        f: &mut fmt::Formatter<W>,
+        header: Header,
+    ) -> fmt::Result {
+        let word = if header.qr() { "response" } else { "query" };
+        let id = header.id();
+        write!(f, "{word} {id}")?;
+        if header.opcode() != Opcode::QUERY {
+            let opcode = OpcodeName(header.opcode());
+            write!(f, ", {opcode}")?;
+        }
+        Ok(())
+    }
+
+    /// Prints the name, the class unless it is IN, and the type of the first question, as far as
+    /// it can be read.
+    fn write_question<W: fmt::Write>(&self, f: &mut fmt::Formatter<W>) -> fmt::Result {
+        let Some(start) = self.question_name() else {
+            return Ok(());
+        };
+        f.write_str(", ")?;
+        write_name(f, self.message, start)?;
+        let class = number_of(self.octets_of_field(Field::Class));
+        if class > 1 {
+            let class = Class::from_int(class as u16);
+            write!(f, " {class}")?;
+        }
+        if let [high, low] = self.octets_of_field(Field::Type) {
+            let rtype = Rtype::from_int(u16::from_be_bytes([*high, *low]));
+            write!(f, " {rtype}")?;
+        }
+        Ok(())
+    }
+
+    /// Where the name of the first question begins. Returns `None` if there is no question, or its
+    /// name can't be read.
+    fn question_name(&self) -> Option<usize> {
+        for row in self.rows {
+            match row.kind {
+                Kind::Field(Field::Root(NameOf::Question, start)) => return Some(start),
+                Kind::Field(Field::Pointer(NameOf::Question, start)) => return Some(start),
+                _ => {}
+            }
+        }
+        None
+    }
+
+    /// Prints the RCODE, extended by that of an OPT record.
+    fn write_rcode<W: fmt::Write>(&self, f: &mut fmt::Formatter<W>, header: Header) -> fmt::Result {
+        let rcode = match self.octets_of_field(Field::ExtendedRcode) {
+            [higher] => OptRcode::from_parts(header.rcode(), *higher).to_int(),
+            _ => u16::from(header.rcode().to_int()),
+        };
+        let rcode = RcodeName(rcode);
+        write!(f, ", {rcode}")
+    }
+
+    fn write_answers<W: fmt::Write>(&self, f: &mut fmt::Formatter<W>) -> fmt::Result {
+        let count = number_of(self.octets_of_field(Field::Count(Part::Answer)));
+        let ending = if count == 1 { "" } else { "s" };
+        write!(f, ", {count} answer{ending}")
+    }
+
+    fn write_fault<W: fmt::Write>(&self, f: &mut fmt::Formatter<W>) -> fmt::Result {
+        for row in self.rows {
+            if let Kind::Fault(fault) = row.kind {
+                let offset = row.start;
+                let message = self.message;
+                let words = FaultWords {
+                    message,
+                    offset,
+                    fault,
+                };
+                return write!(f, ", fault at {offset}: {words}");
+            }
+        }
+        Ok(())
+    }
+}
