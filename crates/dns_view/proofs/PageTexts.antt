@@ -1,5 +1,6 @@
 -- The parts of a page, put together from what is written in order.
-use Rattle.std.proofs.Common.{Option, Result, OnOk, ◌≡◌, ◌∙◌, ℕ, ◌+◌, ◌<◌, List, [], ◌∷◌, ◌++◌, length, take, get_or, ap, refl, sym, arith, codes, append-nil, length-take}
+use Rattle.std.proofs.Common.{Option, Result, OnOk, ◌≡◌, ◌∙◌, ℕ, ◌+◌, ◌<◌, List, [], ◌∷◌, ◌++◌, length, take, get_or, ap, refl, sym, arith, codes, append_assoc, append-nil, length-take}
+use Rattle.std.specs.Fmt.{decimal}
 use Rattle.std.specs.List.{enumerate_from, flat_map}
 use Rattle.std.proofs.lemmas.Grind.{flat_map-append}
 use Rattle.std.proofs.lemmas.List.{take_more}
@@ -7,7 +8,7 @@ use Rattle.std.specs.Io.KnownBytes.{Appends}
 use Rattle.dns_view.specs.Printed.{Prints, PrintsEach}
 use Rattle.dns_rows.specs.declared.row.Row.{Row}
 use Rattle.dns_view.proofs.Appended.{appends_both, on_ok}
-use Rattle.dns_view.specs.Pages.{cell_text, octet_cells, opening_text, row_cells, top_text, IsListRow, IsPage}
+use Rattle.dns_view.specs.Pages.{arrow_text, cell_text, octet_cells, opening_text, row_cells, top_text, IsListRow, IsPage}
 
 -- one element more, with its index
 enumerated_more : (start : ℕ) (xs : List ℕ) (x : ℕ) → enumerate_from start (xs ++ x ∷ []) ≡ enumerate_from start xs ++ (start + length xs, x) ∷ []
@@ -22,6 +23,13 @@ cells_more start octets i within =
     let offset : start + length (take i octets) ≡ start + i = omega (arith, length-take i octets) in
     sym (ap (octet_cells start) (take_more octets i 0 within) ∙ ap (flat_map cell_text) (enumerated_more start (take i octets) octet ∙ ap (λ n. before ++ (n, octet) ∷ []) offset)
     ∙ flat_map-append cell_text before ((start + i, octet) ∷ []) ∙ ap (λ l. flat_map cell_text before ++ l) (append-nil (cell_text (start + i, octet))))
+
+-- four texts that are appended from the last to the first, and from the first to the last
+four : (a b c d : List ℕ) → a ++ (b ++ (c ++ d)) ≡ a ++ b ++ c ++ d
+four a b c d = simp append_assoc
+
+pub arrow_pieces : (from target : ℕ) → codes " style=--f:" ++ (decimal from ++ (codes ";--t:" ++ decimal target)) ≡ arrow_text from target
+arrow_pieces from target = four (codes " style=--f:") (decimal from) (codes ";--t:") (decimal target)
 
 module _ {X E : Type 0} (r : Result X E) (a b c d e f g : Option (List ℕ)) where
   pub page_printed : (message : List ℕ) (rows : List Row) (title : List ℕ) → Appends a b (top_text title) → Appends b c (opening_text rows) → Appends c d (flat_map (row_cells message) rows)

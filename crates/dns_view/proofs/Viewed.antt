@@ -1,5 +1,5 @@
 -- What is printed for an input, up to a flush, and odd numbers of digits.
-use Rattle.std.proofs.Common.{◌≡◌, ◌∙◌, ℕ, ◌<◌, ◌≤◌, ◌%◌, ◌-◌, ◌||◌, ◌&&◌, inl, inr, Bool, true, false, Option, Some, None, IfSome, Result, Ok, Err, OnOk, IfOk, List, [], ◌∷◌, ◌++◌, length, ap, refl, sym, subst, arith, codes}
+use Rattle.std.proofs.Common.{◌≡◌, ◌∙◌, ℕ, ◌<◌, ◌≤◌, ◌%◌, ◌-◌, ◌||◌, ◌&&◌, inl, inr, Bool, true, false, Option, Some, None, IfSome, Result, Ok, Err, OnOk, IfOk, List, [], ◌∷◌, ◌++◌, length, ap, refl, sym, subst, arith, eqb-true, nat_eq}
 use Rattle.std.specs.Prelude.{is_some, if◌then◌else◌, not, cond}
 use Rattle.std.specs.Char.{is_ascii_hexdigit, is_ascii_whitespace}
 use Rattle.std.specs.Io.KnownBytes.{Appends, Keeps}
@@ -51,6 +51,16 @@ module _ {X E : Type 0} (r : Result X E) (octets : List ℕ) {rows given : List 
   pub page_printed_of : (form : Form) → form ≡ Page → OnOk r (Prints (IsPage octets given) a b) → OnOk r (PrintsRows form octets a b)
   page_printed_of form is h =
       subst (λ (f : Form). OnOk r (PrintsRows f octets a b)) (sym is) (on_ok r (λ p. (rows, are, subst (λ (xs : List Row). Prints (IsPage octets xs) a b) same p)) h)
+
+-- a message of no octets
+pub given_empty : (input octets : List ℕ) (n : ℕ) → n ≡ length octets → Gives input octets → nat_eq n 0 ≡ true → Gives input []
+given_empty input [] n is gives e = gives
+given_empty input (x ∷ octets) n is gives e = absurd (let zero : n ≡ 0 = eqb-true n 0 e in omega arith)
+
+-- a message of some octets
+pub given_some : (octets : List ℕ) (n : ℕ) → n ≡ length octets → nat_eq n 0 ≡ false → 0 < length octets
+given_some [] n is e = let clash : nat_eq 0 0 ≡ false = subst (λ (m : ℕ). nat_eq m 0 ≡ false) is e in absurd (cc clash)
+given_some (x ∷ octets) n is e = omega arith
 
 -- the exit status of a view
 pub status_of : {form : Form} {input : List ℕ} {a b c d : Option (List ℕ)} {status : ℕ} → IsPrinted form input a b c d status → CanEnd (View form) status

@@ -92,10 +92,13 @@ digits octets = flat_map octet_text octets
 abbrev pub heading_row_text : Row → List ℕ → List ℕ
 heading_row_text row words = codes "<b" ++ class_text row.kind ++ codes ">" ++ escaped words ++ codes "</b>\n"
 
--- any other row of the list, as a link to its cells: its offset, octets and words
+-- the start of a row's link to its cells, with its offset
+abbrev pub field_link_text : List ℕ → Row → List ℕ
+field_link_text message row = codes "<a id=" ++ decimal row.start ++ codes " href=#c" ++ decimal row.start ++ mark_text message row ++ codes ">"
+
+-- any other row of the list: the link, with its octets and words
 abbrev pub field_row_text : List ℕ → Row → List ℕ → List ℕ
-field_row_text message row words =
-    codes "<a id=" ++ decimal row.start ++ codes " href=#c" ++ decimal row.start ++ mark_text message row ++ codes ">" ++ digits (row_octets message row) ++ codes "\t" ++ escaped words ++ codes "</a>\n"
+field_row_text message row words = field_link_text message row ++ digits (row_octets message row) ++ codes "\t" ++ escaped words ++ codes "</a>\n"
 
 -- a row of the list, with some words
 abbrev pub IsListRow : List ℕ → Row → List ℕ → Type 0

@@ -3,7 +3,7 @@
 ghost use Rattle.std.specs.Prelude.{◌≡◌, ◌+◌, ◌^◌, ◌<◌, length, OnOk};
 ghost use Rattle.std.specs.Io.KnownBytes.{Appends};
 ghost use Rattle.std.specs.List.{flat_map};
-ghost use Rattle.dns_view.specs.Pages.{cell_text, class_text, digits, escaped, escaped_octet, field_class, field_row_text, heading_row_text, mark_text, octet_cells, opening_text, pointer_count, row_cells, separator, top_text, IsListRow, IsPage};
+ghost use Rattle.dns_view.specs.Pages.{arrow_text, cell_text, class_text, digits, escaped, escaped_octet, field_class, field_link_text, field_row_text, heading_row_text, mark_text, octet_cells, opening_text, pointer_count, row_cells, separator, top_text, IsListRow, IsPage};
 ghost use Rattle.dns_view.specs.Printed.{Prints, PrintsEach};
 
 use crate::meaning::Meaning;
@@ -168,11 +168,17 @@ fn print_mark<W: Write>(writer: &mut W, message: &[u8], row: &Row) -> io::Result
     ensures { OnOk result (Appends (W.contents writer.old) (W.contents writer.new)
         (mark_text message.now row.now)) }
 {
-    if !row.kind.is_pointer() {
-        return writer.write_all(class_of(row.kind).as_bytes());
+    if row.kind.is_pointer() {
+        return print_arrow(writer, row.start, target_of(octets_of(message, row)));
     }
-    let from = row.start;
-    let target = target_of(octets_of(message, row));
+    writer.write_all(class_of(row.kind).as_bytes())
+}
+
+/// Prints the attribute of a pointer.
+fn print_arrow<W: Write>(writer: &mut W, from: usize, target: usize) -> io::Result<()>
+    ensures { OnOk result (Appends (W.contents writer.old) (W.contents writer.new)
+        (arrow_text from target)) }
+{
     write!(writer, " style=--f:{from};--t:{target}")
 }
 
@@ -321,14 +327,22 @@ fn print_field_row<W: Write>(
     ensures { OnOk result (Appends (W.contents writer.old) (W.contents writer.new)
         (field_row_text message.now row.now words.now)) }
 {
-    let start = row.start;
-    write!(writer, "<a id={start} href=#c{start}")?;
-    print_mark(writer, message, row)?;
-    writer.write_all(b">")?;
+    print_field_link(writer, message, row)?;
     print_digits(writer, octets_of(message, row))?;
     writer.write_all(b"\t")?;
     print_escaped(writer, words)?;
     writer.write_all(b"</a>\n")
+}
+
+/// Prints the start of a row's link to its cells.
+fn print_field_link<W: Write>(writer: &mut W, message: &[u8], row: &Row) -> io::Result<()>
+    ensures { OnOk result (Appends (W.contents writer.old) (W.contents writer.new)
+        (field_link_text message.now row.now)) }
+{
+    let start = row.start;
+    write!(writer, "<a id={start} href=#c{start}")?;
+    print_mark(writer, message, row)?;
+    writer.write_all(b">")
 }
 
 /// Prints octets in hexadecimal digits.

@@ -68,10 +68,11 @@ impl<'a> Summary<'a> {
         };
         f.write_str(", ")?;
         write_name(f, self.message, start)?;
-        let class = number_of(self.octets_of_field(Field::Class));
-        if class > 1 {
-            let class = Class::from_int(class as u16);
-            write!(f, " {class}")?;
+        if let [high, low] = self.octets_of_field(Field::Class) {
+            let class = Class::from_int(u16::from_be_bytes([*high, *low]));
+            if class != Class::IN {
+                write!(f, " {class}")?;
+            }
         }
         if let [high, low] = self.octets_of_field(Field::Type) {
             let rtype = Rtype::from_int(u16::from_be_bytes([*high, *low]));
