@@ -1,5 +1,5 @@
-// Each call of dns.h once, from C++: a query, a response to it, the same response by dns_build, and its items.
-#include "dns.h"
+// Each call of dnsm.h once, from C++: a query, a response to it, the same response by dnsm_build, and its items.
+#include "dnsm.h"
 
 #undef NDEBUG
 #include <cassert>
@@ -22,42 +22,58 @@ int main()
 {
     const std::string name = "www.example.com.";
     const uint8_t address[4] = {192, 0, 2, 1};
-    std::vector<uint8_t> query(DNS_MADE), response(DNS_MADE), built(DNS_MADE), out(DNS_NAME_OCTETS);
-    std::vector<char> text(DNS_NAME_TEXT);
+    std::vector<uint8_t> query(DNSM_MADE), response(DNSM_MADE), built(DNSM_MADE), out(DNSM_NAME_OCTETS);
+    std::vector<char> text(DNSM_NAME_TEXT);
     size_t query_len, response_len, len;
 
-    assert(dns_query(0x1234, true, name.data(), name.size(), 1, 1, query.data(), query.size(), &query_len) == DNS_OK);
+    assert(dnsm_query(0x1234, true, name.data(), name.size(), 1, 1, query.data(), query.size(), &query_len) == DNSM_OK);
     assert(octets(query, query_len) == query_expected);
-    assert(dns_respond_a(query.data(), query_len, true, 3600, address, response.data(), response.size(),
-                         &response_len) == DNS_OK);
+    assert(dnsm_respond_a(query.data(), query_len, true, 3600, address, response.data(), response.size(),
+                         &response_len) == DNSM_OK);
     assert(octets(response, response_len) == response_expected);
 
-    const dns_new_item items[] = {
-        {name.data(), name.size(), nullptr, 0, 0, 1, 1, DNS_QUESTION},
-        {name.data(), name.size(), address, sizeof address, 3600, 1, 1, DNS_ANSWER},
+    const dnsm_new_item items[] = {
+        {name.data(), name.size(), nullptr, 0, 0, 1, 1, DNSM_QUESTION},
+        {name.data(), name.size(), address, sizeof address, 3600, 1, 1, DNSM_ANSWER},
     };
-    assert(dns_build(0x1234, 0x8500, items, 2, built.data(), built.size(), &len) == DNS_OK);
+    assert(dnsm_build(0x1234, 0x8500, items, 2, built.data(), built.size(), &len) == DNSM_OK);
     assert(octets(built, len) == response_expected);
 
-    dns_header header;
-    dns_cursor cursor;
-    dns_item item;
-    const uint8_t *message = response.data();
-    assert(dns_open(message, response_len, &header, &cursor) == DNS_OK);
-    assert(header.id == 0x1234 && header.flags == 0x8500 && header.counts[0] == 1 && header.counts[1] == 1);
-    assert(dns_next(message, response_len, &cursor, &item) == DNS_OK && item.section == DNS_QUESTION);
-    assert(item.place == 12 && item.type == 1 && item.class_ == 1);
-    assert(dns_next(message, response_len, &cursor, &item) == DNS_OK && item.section == DNS_ANSWER);
-    assert(item.place == 33 && item.ttl == 3600 && item.data == 45 && item.data_len == 4);
-    assert(dns_name_text(message, response_len, item.place, text.data(), text.size(), &len) == DNS_OK);
-    assert(name == text.data() && len == name.size());
-    assert(dns_name_octets(message, response_len, item.place, out.data(), out.size(), &len) == DNS_OK);
+    assert(dnsm_name_from_text(name.data(), name.size(), out.data(), out.size(), &len) == DNSM_OK);
     assert(octets(out, len) == question.substr(0, 17));
-    assert(dns_data_text(message, response_len, &item, text.data(), text.size(), &len) == DNS_OK);
+    assert(dnsm_status_text(DNSM_OK, text.data(), text.size(), &len) == DNSM_OK && std::strcmp(text.data(), "success") == 0);
+
+    dnsm_opt opt = {1232, DNSM_DO, 0, 0};
+    assert(dnsm_opt_ttl(&opt) == DNSM_DO);
+    assert(dnsm_option_octets(12, nullptr, 0, out.data(), out.size(), &len) == DNSM_OK);
+    assert(octets(out, len) == std::string("\0\14\0\0", 4));
+    dnsm_item opt_item = {0, 0, DNSM_DO, DNSM_TYPE_OPT, 512, 4, DNSM_ADDITIONAL};
+    assert(dnsm_opt_fields(&opt_item, &opt) == DNSM_OK && opt.udp_size == 512);
+    dnsm_opt_option option;
+    size_t place = 0;
+    assert(dnsm_data_name(out.data(), len, &opt_item, 0, &place) == DNSM_NO_NAME);
+    assert(dnsm_next_option(out.data(), len, &opt_item, &place, &option) == DNSM_OK && option.code == 12 && place == 4);
+
+    dnsm_header header;
+    dnsm_cursor cursor;
+    dnsm_item item;
+    const uint8_t *message = response.data();
+    assert(dnsm_open(message, response_len, &header, &cursor) == DNSM_OK);
+    assert(header.id == 0x1234 && header.flags == 0x8500 && header.counts[0] == 1 && header.counts[1] == 1);
+    assert(dnsm_next(message, response_len, &cursor, &item) == DNSM_OK && item.section == DNSM_QUESTION);
+    assert(item.place == 12 && item.type == 1 && item.class_ == 1);
+    assert(dnsm_next(message, response_len, &cursor, &item) == DNSM_OK && item.section == DNSM_ANSWER);
+    assert(item.place == 33 && item.ttl == 3600 && item.data == 45 && item.data_len == 4);
+    assert(dnsm_name_text(message, response_len, item.place, text.data(), text.size(), &len) == DNSM_OK);
+    assert(name == text.data() && len == name.size());
+    assert(dnsm_name_end(message, response_len, item.place, &place) == DNSM_OK && place == item.place + 2);
+    assert(dnsm_name_octets(message, response_len, item.place, out.data(), out.size(), &len) == DNSM_OK);
+    assert(octets(out, len) == question.substr(0, 17));
+    assert(dnsm_data_text(message, response_len, &item, text.data(), text.size(), &len) == DNSM_OK);
     assert(std::strcmp(text.data(), "192.0.2.1") == 0);
-    assert(dns_type_text(item.type, text.data(), text.size(), &len) == DNS_OK && text[0] == 'A' && len == 1);
-    assert(dns_class_text(item.class_, text.data(), text.size(), &len) == DNS_OK && std::strcmp(text.data(), "IN") == 0);
-    assert(dns_next(message, response_len, &cursor, &item) == DNS_END);
-    assert(dns_next(message, response_len, &cursor, &item) == DNS_END);
+    assert(dnsm_type_text(item.type, text.data(), text.size(), &len) == DNSM_OK && text[0] == 'A' && len == 1);
+    assert(dnsm_class_text(item.class_, text.data(), text.size(), &len) == DNSM_OK && std::strcmp(text.data(), "IN") == 0);
+    assert(dnsm_next(message, response_len, &cursor, &item) == DNSM_END);
+    assert(dnsm_next(message, response_len, &cursor, &item) == DNSM_END);
     std::puts("ok");
 }

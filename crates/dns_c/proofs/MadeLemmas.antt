@@ -1,5 +1,5 @@
 -- Queries and responses: how long they are, and that building them never fails.
-use Rattle.std.proofs.Common.{◌≡◌, ◌∙◌, ℕ, ◌+◌, ◌<◌, ◌≤◌, Some, None, true, false, Bool, List, [], ◌∷◌, ◌++◌, length, length-append, ap, sym, subst, refl, arith}
+use Rattle.std.proofs.Common.{◌≡◌, ◌∙◌, ℕ, ◌+◌, ◌<◌, ◌≤◌, Some, None, true, false, Bool, List, [], ◌∷◌, ◌++◌, length, length-append, ap, sym, subst, arith}
 use Rattle.std.specs.Prelude.{Option, Err, IsTrue}
 use Rattle.std.specs.FinMap.{get, len, get-empty, len-empty}
 use Rattle.dns_wire.proofs.theory.CompressionTables.{get-insert_same}

@@ -1,4 +1,4 @@
--- What `dns_build` writes for the items that C passes, and why it fails. RFC 1035 section 4.1.
+-- What `dnsm_build` writes for the items that C passes, and why it fails. RFC 1035 section 4.1.
 use Rattle.std.specs.Prelude.{◌≡◌, ◌<◌, ◌≤◌, ◌⊎◌, ◌++◌, ℕ, Bool, List, [], ◌∷◌, length, Option, Some, None, Result, Err}
 use Rattle.std.specs.Int.{to_be_bytes, w16}
 use Rattle.std.specs.List.{filter_map}

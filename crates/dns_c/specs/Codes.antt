@@ -1,4 +1,4 @@
--- The numbers by which C sees errors, as in dns.h.
+-- The numbers by which C sees errors, as in dnsm.h.
 use Rattle.std.specs.Prelude.{◌≡◌, ℕ, ◌≤◌, Bool, true, false, Result, Ok, Err}
 use Rattle.dns_octets.specs.declared.error.AppendError.{AppendError}
 use Rattle.dns_octets.specs.declared.error.AppendError.TheVariants as appending
@@ -27,6 +27,9 @@ number_of faults.IsResponse = 14
 number_of faults.OtherOpcode = 15
 number_of faults.OtherClass = 16
 number_of faults.OtherType = 17
+number_of faults.NotOpt = 18
+number_of faults.BadOption = 19
+number_of faults.NoName = 20
 
 -- the status of a call: 0 if there is an item, 1 at the end, otherwise the number of the fault
 abbrev pub code_of : Result Bool Fault → ℕ

@@ -24,9 +24,9 @@ SpellsNoName text = (name : Labels) → SpellsName text name → ⊥
 abbrev pub LacksName : List ℕ → ℕ → ℕ → Type 0
 LacksName b p n = (f : Fault) × FaultAt b p f × ReportsAt b p f n
 
--- some octets with this property are more than `capacity`
-abbrev pub IsLonger : (List ℕ → Type 0) → ℕ → Type 0
-IsLonger P capacity = (octets : List ℕ) × P octets × (capacity < length octets)
+-- some octets with this property are n, more than `capacity`
+abbrev pub IsLonger : (List ℕ → Type 0) → ℕ → ℕ → Type 0
+IsLonger P capacity n = (octets : List ℕ) × P octets × (capacity < length octets) × (n ≡ length octets)
 
 -- the state with a header and one question
 abbrev pub asking : HeaderFields → QuestionItem → State

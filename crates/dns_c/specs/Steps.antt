@@ -1,4 +1,4 @@
--- What a call of `dns_next` returns, and where it leaves the cursor. RFC 1035 section 4.1.
+-- What a call of `dnsm_next` returns, and where it leaves the cursor. RFC 1035 section 4.1.
 --
 -- `b` are the octets of the message.
 use Rattle.std.specs.Prelude.{◌≡◌, ℕ, suc, ◌+◌, ◌≤◌, List, [], ◌∷◌, length, take, Bool, true, false, Result, Ok, Err}
@@ -36,7 +36,7 @@ pub record IsHeader (b : List ℕ) (header : Header) : Type 0 where
   pub opcode : header.opcode ≡ (fields_in (take 4 b)).opcode
   pub rcode : header.rcode ≡ (fields_in (take 4 b)).rcode
 
--- what `dns_open` returns: the header, and a cursor before the first question, with all entries still to come
+-- what `dnsm_open` returns: the header, and a cursor before the first question, with all entries still to come
 pub record Opens (b : List ℕ) (header : Header) (cursor : Cursor) : Type 0 where
   pub fields : IsHeader b header
   pub is_open : IsOpen b cursor
@@ -98,6 +98,6 @@ Steps b old new item (Ok false) = (left_from b old ≡ []) × (left_from b new �
 Steps b old new item (Err fault) =
     (f : Fault) × (left_from b old ≡ Err f ∷ []) × ReportsAt b old.place f (number_of fault) × (new.status ≡ number_of fault)
 
--- what C gets from a call of `dns_next`, as a number
+-- what C gets from a call of `dnsm_next`, as a number
 abbrev pub GivesNext : List ℕ → Cursor → Cursor → Item → ℕ → Type 0
 GivesNext b old new item code = (answer : Result Bool FaultGiven) × (code ≡ code_of answer) × Steps b old new item answer

@@ -1,5 +1,5 @@
 -- Text in a caller's buffer, and the text of RDATA. RFC 1035 section 5.1, RFC 3597 section 5.
-use Rattle.std.specs.Prelude.{◌≡◌, ℕ, ◌<◌, ◌≤◌, List, [], ◌∷◌, ◌++◌, drop, length, take, Option, Some, None}
+use Rattle.std.specs.Prelude.{◌≡◌, ℕ, ◌≤◌, ◌-◌, ◌^◌, List, [], ◌∷◌, ◌++◌, drop, length, take, min}
 use Rattle.std.specs.List.{flat_map}
 use Rattle.dns_name.specs.Names.{Fault, Labels}
 use Rattle.dns_name.specs.NameTexts.{dot, name_text}
@@ -10,10 +10,10 @@ use Rattle.dns_item.specs.RecordReading.{up_to_rdata_end}
 use Rattle.dns_tool.specs.Show.{shown_data, known_parts}
 use Rattle.dns_c.specs.NameFaults.{ReportsAt}
 
--- the buffer holds a text from its beginning up to this end; the end is None if the buffer is too short for the text
-abbrev pub Holds : List ℕ → List ℕ → Option ℕ → Type 0
-Holds out text (Some end) = (end ≤ length out) × (take end out ≡ text)
-Holds out text None = length out < length text
+-- `end` is the length of the text, at most 2^64 - 1, and the buffer begins with the text if it is long enough
+pub record Holds (out text : List ℕ) (end : ℕ) : Type 0 where
+  pub counted : end ≡ min (length text) (2 ^ 64 - 1)
+  pub held : length text ≤ length out → take (length text) out ≡ text
 
 -- the text of a name with its final dot
 abbrev pub absolute_name : Labels → List ℕ

@@ -15,7 +15,7 @@ ghost use Rattle.dns_c.specs.Texts.{Holds, NoRecordAt, RecordAt, data_octets, da
 use crate::code::Fault;
 use crate::name_fault::fault_at;
 use crate::pieces::{
-    End, START, append_after, append_hex, append_name, append_number, append_octets,
+    End, START, append_after, append_hex, append_name, append_number, append_octets, write_name,
 };
 use crate::walk::{Item, parser_at};
 use dns_data::{A, Cname, Ns, ParseRecordData, Soa};
@@ -101,10 +101,10 @@ fn append_data(found: &ParsedRecord<'_>, opaque: &[u8], out: &mut [u8]) -> End
         return append_address(&address, out);
     }
     if let Some(server) = data_as::<Ns<ParsedName<'_>>>(found) {
-        return append_name(server.nsdname(), out, START);
+        return write_name(server.nsdname(), out);
     }
     if let Some(alias) = data_as::<Cname<ParsedName<'_>>>(found) {
-        return append_name(alias.cname(), out, START);
+        return write_name(alias.cname(), out);
     }
     if let Some(zone) = data_as::<Soa<ParsedName<'_>>>(found) {
         return append_zone(&zone, out);

@@ -1,43 +1,50 @@
-//! C functions that read and write DNS messages. `dns.h` has their prototypes.
+//! C functions that read and write DNS messages. `dnsm.h` has their prototypes.
 //!
 //! Nothing is kept between two calls: the caller owns the message, the cursor and each buffer. Each
-//! function returns for all arguments, and reports errors as numbers. Only `dns_build` allocates.
+//! function returns for all arguments, and reports errors as numbers. Only `dnsm_build` allocates.
 #![tactic(auto)]
 
 mod build;
 mod code;
+mod data_name;
 mod data_text;
 mod make;
 mod name_fault;
+mod opts;
 mod pieces;
 mod text;
 mod walk;
 mod words;
 
-ghost use Rattle.std.specs.Prelude.{◌≡◌, ◌≢◌, ◌<◌, ◌≤◌, ◌+◌, ◌++◌, ◌∷◌, [], length, take, get_or, None, true};
-ghost use Rattle.dns_name.specs.NameTexts.{name_text};
-ghost use Rattle.dns_name.specs.Names.{Labels, NameAt, uncompressed};
+ghost use Rattle.std.specs.Prelude.{◌≡◌, ◌≢◌, ◌<◌, ◌≤◌, ◌+◌, ◌-◌, ◌^◌, ◌++◌, ◌∷◌, [], length, take, min, get_or, None, true};
+ghost use Rattle.dns_name.specs.NameTexts.{SpellsName, name_text};
+ghost use Rattle.dns_name.specs.Names.{Labels, NameAt, NameEndsAt, uncompressed};
 ghost use Rattle.dns_wire.specs.Encoders.{Tree};
 ghost use Rattle.dns_code.specs.Header.{fields_in};
 ghost use Rattle.dns_code.specs.HeaderSection.{header_size};
 ghost use Rattle.dns_number.specs.Classes.{class_text};
 ghost use Rattle.dns_number.specs.Types.{type_text};
+ghost use Rattle.dns_opt.specs.Options.{OptionBegins, encode_option};
 ghost use Rattle.dns_question.specs.Questions.{QuestionItem};
 ghost use Rattle.dns_item.specs.Items.{RecordEntry};
 ghost use Rattle.dns_c.specs.Built.{HasTooMany, IsBuilt, IsUnbuilt, header_of};
 ghost use Rattle.dns_c.specs.Codes.{number_of};
+ghost use Rattle.dns_c.specs.DataNames.{IsDataName, LacksDataName};
 ghost use Rattle.dns_c.specs.Made.{AsksNothing, AsksOne, HoldsQuery, IsLonger, IsQuery, IsResponse, LacksName, SpellsNoName};
+ghost use Rattle.dns_c.specs.Opts.{HasFields, IsOpt, LacksOption, data_from, option_at};
+ghost use Rattle.dns_c.specs.Statuses.{status_text};
 ghost use Rattle.dns_c.specs.Steps.{IsOpen, Opens, Spans, GivesNext};
 ghost use Rattle.dns_c.specs.Texts.{NoRecordAt, RecordAt, data_text};
 
 use build::NewItem;
 use code::Fault;
+use opts::{Opt, OptOption};
 use std::alloc::Global;
 use walk::{Cursor, Header, Item};
 
 /// Reads the header, and sets the cursor before the first question.
 #[unsafe(no_mangle)]
-pub extern "C" fn dns_open(message: &[u8], header: &mut Header, cursor: &mut Cursor) -> u8
+pub extern "C" fn dnsm_open(message: &[u8], header: &mut Header, cursor: &mut Cursor) -> u32
     ensures opens { header_size ≤ length message.now → (result ≡ 0)
         × Opens message.now header.new cursor.new }
     ensures short { length message.now < header_size → (result ≡ number_of Fault.ShortInput)
@@ -49,7 +56,7 @@ pub extern "C" fn dns_open(message: &[u8], header: &mut Header, cursor: &mut Cur
 /// Reads the next question or record. Returns 0 with an item, 1 past the last one, otherwise the
 /// number of the error; later calls return the same error again.
 #[unsafe(no_mangle)]
-pub extern "C" fn dns_next(message: &[u8], cursor: &mut Cursor, item: &mut Item) -> u8
+pub extern "C" fn dnsm_next(message: &[u8], cursor: &mut Cursor, item: &mut Item) -> u32
     ensures gives { IsOpen message.now cursor.old
         → GivesNext message.now cursor.old cursor.new item.new result }
     ensures within { result ≡ 0 → item.new.«data» + item.new.data_len ≤ length message.now }
@@ -72,14 +79,20 @@ pub extern "C" fn dns_next(message: &[u8], cursor: &mut Cursor, item: &mut Item)
 
 /// Writes the name at offset `place` as text, with a dot after each label, and a zero octet.
 #[unsafe(no_mangle)]
-pub extern "C" fn dns_name_text(message: &[u8], place: usize, out: &mut [u8], len: &mut usize) -> u8
+pub extern "C" fn dnsm_name_text(
+    message: &[u8],
+    place: usize,
+    out: &mut [u8],
+    len: &mut usize,
+) -> u32
     ensures length { length out.new ≡ length out.old }
     ensures within { result ≡ 0 → len.new < length out.new }
-    ensures empty { result ≢ 0 → len.new ≡ 0 }
+    ensures empty { result ≢ 0 → result ≢ number_of Fault.NoRoom → len.new ≡ 0 }
     ensures text { result ≡ 0 → (name : Labels) × NameAt message.now place name
         × (take (len.new + 1) out.new ≡ name_text name ++ 46 ∷ 0 ∷ []) }
     ensures no_room { result ≡ number_of Fault.NoRoom → (name : Labels)
-        × NameAt message.now place name × (length out.old < length (name_text name) + 2) }
+        × NameAt message.now place name × (length out.old < length (name_text name) + 2)
+        × (len.new ≡ length (name_text name) + 1) }
     ensures short { result ≡ number_of Fault.NoRoom → length out.old < 1005 }
     ensures no_name { result ≢ 0 → result ≢ number_of Fault.NoRoom
         → LacksName message.now place result }
@@ -92,19 +105,20 @@ pub extern "C" fn dns_name_text(message: &[u8], place: usize, out: &mut [u8], le
 
 /// Writes the name at offset `place` uncompressed: at most 255 octets.
 #[unsafe(no_mangle)]
-pub extern "C" fn dns_name_octets(
+pub extern "C" fn dnsm_name_octets(
     message: &[u8],
     place: usize,
     out: &mut [u8],
     len: &mut usize,
-) -> u8
+) -> u32
     ensures length { length out.new ≡ length out.old }
-    ensures within { len.new ≤ length out.new }
-    ensures empty { result ≢ 0 → len.new ≡ 0 }
+    ensures within { result ≡ 0 → len.new ≤ length out.new }
+    ensures empty { result ≢ 0 → result ≢ number_of Fault.NoRoom → len.new ≡ 0 }
     ensures name { result ≡ 0 → (name : Labels) × NameAt message.now place name
         × (take len.new out.new ≡ uncompressed name) }
     ensures no_room { result ≡ number_of Fault.NoRoom → (name : Labels)
-        × NameAt message.now place name × (length out.old < length (uncompressed name)) }
+        × NameAt message.now place name × (length out.old < length (uncompressed name))
+        × (len.new ≡ length (uncompressed name)) }
     ensures no_name { result ≢ 0 → result ≢ number_of Fault.NoRoom
         → LacksName message.now place result }
 {
@@ -117,15 +131,21 @@ pub extern "C" fn dns_name_octets(
 /// Writes the RDATA of a record as text, and a zero octet: A, NS, CNAME and SOA by their fields,
 /// all else in the form of RFC 3597 section 5.
 #[unsafe(no_mangle)]
-pub extern "C" fn dns_data_text(message: &[u8], item: &Item, out: &mut [u8], len: &mut usize) -> u8
+pub extern "C" fn dnsm_data_text(
+    message: &[u8],
+    item: &Item,
+    out: &mut [u8],
+    len: &mut usize,
+) -> u32
     ensures length { length out.new ≡ length out.old }
-    ensures empty { result ≢ 0 → len.new ≡ 0 }
+    ensures empty { result ≢ 0 → result ≢ number_of Fault.NoRoom → len.new ≡ 0 }
     ensures ended { result ≡ 0 → (len.new < length out.new) × (get_or out.new len.new 1 ≡ 0) }
     ensures text { result ≡ 0 → (x : RecordEntry) × RecordAt message.now item.now.place x
         × (take (len.new + 1) out.new ≡ data_text message.now x ++ 0 ∷ []) }
     ensures no_room { result ≡ number_of Fault.NoRoom → (x : RecordEntry)
         × RecordAt message.now item.now.place x
-        × (length out.old < length (data_text message.now x) + 1) }
+        × (length out.old < length (data_text message.now x) + 1)
+        × (len.new ≡ min (length (data_text message.now x)) (2 ^ 64 - 1)) }
     ensures question { item.now.section ≡ 0 → result ≡ number_of Fault.BadSection }
     ensures no_record { item.now.section ≢ 0 → result ≢ 0 → result ≢ number_of Fault.NoRoom
         → NoRecordAt message.now item.now.place result }
@@ -137,15 +157,74 @@ pub extern "C" fn dns_data_text(message: &[u8], item: &Item, out: &mut [u8], len
     }
 }
 
+/// Sets `end` to the offset after the name at offset `place`.
+#[unsafe(no_mangle)]
+pub extern "C" fn dnsm_name_end(message: &[u8], place: usize, end: &mut usize) -> u32
+    ensures end { result ≡ 0 → NameEndsAt message.now place end.new }
+    ensures name { result ≡ 0 → (name : Labels) × NameAt message.now place name }
+    ensures no_name { result ≢ 0 → LacksName message.now place result }
+    ensures unchanged { result ≢ 0 → end.new ≡ end.old }
+{
+    match walk::name_end(message, place) {
+        Ok(after) => {
+            *end = after;
+            0
+        }
+        Err(fault) => code::of_fault(fault),
+    }
+}
+
+/// Sets `place` to the offset of the name with this index in the RDATA of a record.
+#[unsafe(no_mangle)]
+pub extern "C" fn dnsm_data_name(
+    message: &[u8],
+    item: &Item,
+    index: usize,
+    place: &mut usize,
+) -> u32
+    ensures name { result ≡ 0 → IsDataName message.now item.now index place.new }
+    ensures within { result ≡ 0 → place.new < item.now.«data» + item.now.data_len }
+    ensures none { result ≢ 0 → LacksDataName message.now item.now index result }
+    ensures unchanged { result ≢ 0 → place.new ≡ place.old }
+{
+    match data_name::data_name(message, item, index) {
+        Ok(found) => {
+            *place = found;
+            0
+        }
+        Err(fault) => code::of_fault(fault),
+    }
+}
+
+/// Writes the octets of the name that a text spells, uncompressed: at most 255 octets.
+#[unsafe(no_mangle)]
+pub extern "C" fn dnsm_name_from_text(text: &[u8], out: &mut [u8], len: &mut usize) -> u32
+    ensures length { length out.new ≡ length out.old }
+    ensures within { result ≡ 0 → len.new ≤ length out.new }
+    ensures empty { result ≢ 0 → result ≢ number_of Fault.NoRoom → len.new ≡ 0 }
+    ensures name { result ≡ 0 → (name : Labels) × SpellsName text.now name
+        × (take len.new out.new ≡ uncompressed name) }
+    ensures no_room { result ≡ number_of Fault.NoRoom → (name : Labels)
+        × SpellsName text.now name × (length out.old < length (uncompressed name))
+        × (len.new ≡ length (uncompressed name)) }
+    ensures no_name { result ≢ 0 → result ≢ number_of Fault.NoRoom
+        → (result ≡ number_of Fault.BadText) × SpellsNoName text.now }
+{
+    match make::name_of(text) {
+        Ok(name) => make::hand_out(name.as_slice(), out, len),
+        Err(fault) => make::refuse(fault, len),
+    }
+}
+
 /// Writes the mnemonic of a record type, or `TYPE` and its number, and a zero octet.
 #[unsafe(no_mangle)]
-pub extern "C" fn dns_type_text(rtype: u16, out: &mut [u8], len: &mut usize) -> u8
+pub extern "C" fn dnsm_type_text(rtype: u16, out: &mut [u8], len: &mut usize) -> u32
     ensures length { length out.new ≡ length out.old }
     ensures within { result ≡ 0 → len.new < length out.new }
-    ensures empty { result ≢ 0 → len.new ≡ 0 }
     ensures text { result ≡ 0 → take (len.new + 1) out.new ≡ type_text rtype ++ 0 ∷ [] }
     ensures no_room { result ≢ 0 → (result ≡ number_of Fault.NoRoom)
-        × (length out.old < length (type_text rtype) + 1) }
+        × (length out.old < length (type_text rtype) + 1)
+        × (len.new ≡ min (length (type_text rtype)) (2 ^ 64 - 1)) }
 {
     let end = words::rtype(rtype, out);
     text::finish(end, out, len)
@@ -153,21 +232,97 @@ pub extern "C" fn dns_type_text(rtype: u16, out: &mut [u8], len: &mut usize) -> 
 
 /// Writes the mnemonic of a class, or `CLASS` and its number, and a zero octet.
 #[unsafe(no_mangle)]
-pub extern "C" fn dns_class_text(class: u16, out: &mut [u8], len: &mut usize) -> u8
+pub extern "C" fn dnsm_class_text(class: u16, out: &mut [u8], len: &mut usize) -> u32
     ensures length { length out.new ≡ length out.old }
     ensures within { result ≡ 0 → len.new < length out.new }
-    ensures empty { result ≢ 0 → len.new ≡ 0 }
     ensures text { result ≡ 0 → take (len.new + 1) out.new ≡ class_text class ++ 0 ∷ [] }
     ensures no_room { result ≢ 0 → (result ≡ number_of Fault.NoRoom)
-        × (length out.old < length (class_text class) + 1) }
+        × (length out.old < length (class_text class) + 1)
+        × (len.new ≡ min (length (class_text class)) (2 ^ 64 - 1)) }
 {
     let end = words::class(class, out);
     text::finish(end, out, len)
 }
 
+/// Writes what a status means, and a zero octet.
+#[unsafe(no_mangle)]
+pub extern "C" fn dnsm_status_text(status: u32, out: &mut [u8], len: &mut usize) -> u32
+    ensures length { length out.new ≡ length out.old }
+    ensures within { result ≡ 0 → len.new < length out.new }
+    ensures text { result ≡ 0 → take (len.new + 1) out.new ≡ status_text status ++ 0 ∷ [] }
+    ensures no_room { result ≢ 0 → (result ≡ number_of Fault.NoRoom)
+        × (length out.old < length (status_text status) + 1)
+        × (len.new ≡ min (length (status_text status)) (2 ^ 64 - 1)) }
+{
+    let end = words::status(status, out);
+    text::finish(end, out, len)
+}
+
+/// Reads the fields of an OPT record that are in its class and its TTL.
+#[unsafe(no_mangle)]
+pub extern "C" fn dnsm_opt_fields(item: &Item, opt: &mut Opt) -> u32
+    ensures fields { result ≡ 0
+        → IsOpt item.now × HasFields item.now.class item.now.ttl opt.new }
+    ensures not_opt { result ≢ 0 → (result ≡ number_of Fault.NotOpt) × (IsOpt item.now → ⊥) }
+    ensures unchanged { result ≢ 0 → opt.new ≡ opt.old }
+{
+    match opts::fields(item) {
+        Ok(fields) => {
+            *opt = fields;
+            0
+        }
+        Err(fault) => code::of_fault(fault),
+    }
+}
+
+/// The TTL of an OPT record with these fields.
+#[unsafe(no_mangle)]
+pub extern "C" fn dnsm_opt_ttl(opt: &Opt) -> u32
+    ensures { HasFields opt.now.udp_size result opt.now }
+{
+    opts::ttl(opt)
+}
+
+/// Reads the option at offset `place` of an OPT record's RDATA, and moves `place` past it. Returns 0
+/// with an option, 1 at the end of the RDATA, otherwise the number of the error.
+#[unsafe(no_mangle)]
+pub extern "C" fn dnsm_next_option(
+    message: &[u8],
+    item: &Item,
+    place: &mut usize,
+    option: &mut OptOption,
+) -> u32
+    ensures option { result ≡ 0 → OptionBegins (option_at message.now option.new)
+        (data_from message.now item.now place.old) (data_from message.now item.now place.new) }
+    ensures end { result ≡ 1 → data_from message.now item.now place.old ≡ [] }
+    ensures none { result ≢ 0 → result ≢ 1 → LacksOption message.now item.now place.old result }
+    ensures unchanged { result ≢ 0 → (place.new ≡ place.old) × (option.new ≡ option.old) }
+{
+    code::of(opts::next_option(message, item, place, option))
+}
+
+/// Writes an option: its code, the length of its octets, and the octets.
+#[unsafe(no_mangle)]
+pub extern "C" fn dnsm_option_octets(code: u16, data: &[u8], out: &mut [u8], len: &mut usize) -> u32
+    ensures length { length out.new ≡ length out.old }
+    ensures within { result ≡ 0 → len.new ≤ length out.new }
+    ensures empty { result ≢ 0 → result ≢ number_of Fault.NoRoom → len.new ≡ 0 }
+    ensures option { result ≡ 0 → take len.new out.new
+        ≡ encode_option (record { code = code; octets = «data».now }) }
+    ensures no_room { result ≡ number_of Fault.NoRoom → (length out.old < length «data».now + 4)
+        × (len.new ≡ length «data».now + 4) }
+    ensures long { result ≢ 0 → result ≢ number_of Fault.NoRoom
+        → (result ≡ number_of Fault.LongData) × (65535 < length «data».now) }
+{
+    match opts::option(code, data, out) {
+        Ok(end) => text::finish_octets(end, out, len),
+        Err(fault) => make::refuse(fault, len),
+    }
+}
+
 /// Writes a query with one question for `name`.
 #[unsafe(no_mangle)]
-pub extern "C" fn dns_query(
+pub extern "C" fn dnsm_query(
     id: u16,
     recursion: bool,
     name: &[u8],
@@ -175,14 +330,14 @@ pub extern "C" fn dns_query(
     qclass: u16,
     out: &mut [u8],
     len: &mut usize,
-) -> u8
+) -> u32
     ensures length { length out.new ≡ length out.old }
-    ensures within { len.new ≤ length out.new }
-    ensures empty { result ≢ 0 → len.new ≡ 0 }
+    ensures within { result ≡ 0 → len.new ≤ length out.new }
+    ensures empty { result ≢ 0 → result ≢ number_of Fault.NoRoom → len.new ≡ 0 }
     ensures query { result ≡ 0
         → IsQuery id recursion name.now qtype qclass (take len.new out.new) }
     ensures no_room { result ≡ number_of Fault.NoRoom
-        → IsLonger (IsQuery id recursion name.now qtype qclass) (length out.old) }
+        → IsLonger (IsQuery id recursion name.now qtype qclass) (length out.old) len.new }
     ensures short { result ≡ number_of Fault.NoRoom → length out.old < 512 }
     ensures no_name { result ≢ 0 → result ≢ number_of Fault.NoRoom
         → (result ≡ number_of Fault.BadText) × SpellsNoName name.now }
@@ -195,21 +350,21 @@ pub extern "C" fn dns_query(
 
 /// Writes the response to a query for IPv4 addresses: the header, the question and one A record.
 #[unsafe(no_mangle)]
-pub extern "C" fn dns_respond_a(
+pub extern "C" fn dnsm_respond_a(
     query: &[u8],
     authoritative: bool,
     ttl: u32,
     address: &[u8; 4],
     out: &mut [u8],
     len: &mut usize,
-) -> u8
+) -> u32
     ensures length { length out.new ≡ length out.old }
-    ensures within { len.new ≤ length out.new }
-    ensures empty { result ≢ 0 → len.new ≡ 0 }
+    ensures within { result ≡ 0 → len.new ≤ length out.new }
+    ensures empty { result ≢ 0 → result ≢ number_of Fault.NoRoom → len.new ≡ 0 }
     ensures response { result ≡ 0
         → IsResponse query.now authoritative ttl address.now (take len.new out.new) }
     ensures no_room { result ≡ number_of Fault.NoRoom
-        → IsLonger (IsResponse query.now authoritative ttl address.now) (length out.old) }
+        → IsLonger (IsResponse query.now authoritative ttl address.now) (length out.old) len.new }
     ensures short { result ≡ number_of Fault.NoRoom → length out.old < 512 }
     ensures no_question { result ≢ 0 → result ≢ number_of Fault.NoRoom
         → AsksNothing query.now result }
@@ -231,20 +386,20 @@ pub extern "C" fn dns_respond_a(
 /// Writes a message with the header and the items, each in its section, with compressed names.
 /// Allocates.
 #[unsafe(no_mangle)]
-pub extern "C" fn dns_build(
+pub extern "C" fn dnsm_build(
     alloc: Global,
     id: u16,
     flags: u16,
     items: &[NewItem<'_>],
     out: &mut [u8],
     len: &mut usize,
-) -> u8
+) -> u32
     ensures length { length out.new ≡ length out.old }
-    ensures within { len.new ≤ length out.new }
-    ensures empty { result ≢ 0 → len.new ≡ 0 }
+    ensures within { result ≡ 0 → len.new ≤ length out.new }
+    ensures empty { result ≢ 0 → result ≢ number_of Fault.NoRoom → len.new ≡ 0 }
     ensures built { result ≡ 0 → IsBuilt Tree id flags items.now (take len.new out.new) }
     ensures no_room { result ≡ number_of Fault.NoRoom
-        → IsLonger (IsBuilt Tree id flags items.now) (length out.old) }
+        → IsLonger (IsBuilt Tree id flags items.now) (length out.old) len.new }
     ensures unbuilt { result ≢ 0 → result ≢ number_of Fault.NoRoom
         → IsUnbuilt None true Tree (header_of id flags) items.now result }
     ensures too_many { result ≡ number_of Fault.TooMany → HasTooMany items.now }

@@ -10,26 +10,23 @@ ghost use Rattle.dns_c.specs.Texts.{Holds, absolute_name, hex_octets};
 use dns_name::ParsedName;
 use itoa::Buffer;
 
-/// Where the text in a buffer ends; `None` if the buffer is too short for it.
-pub(crate) type End = Option<usize>;
+/// The length of a text, also if the buffer is too short for the text. At most `usize::MAX`.
+pub(crate) type End = usize;
 
-/// The end of the empty text.
-pub(crate) const START: End = Some(0);
+/// The length of the empty text.
+pub(crate) const START: End = 0;
 
 /// Appends octets to the text in `out`.
 pub(crate) fn append_octets(octets: &[u8], out: &mut [u8], end: End) -> End
     ensures { (text : List ℕ) → Holds out.old text end
         → Holds out.new (text ++ octets.now) result }
 {
-    let Some(start) = end else {
-        return None;
-    };
-    if start > out.len() || octets.len() > out.len() - start {
-        return None;
+    if end > out.len() || octets.len() > out.len() - end {
+        return end.saturating_add(octets.len());
     }
-    let after = start + octets.len();
-    out[start..after].copy_from_slice(octets);
-    Some(after)
+    let after = end + octets.len();
+    out[end..after].copy_from_slice(octets);
+    after
 }
 
 /// Appends a number in decimal.
@@ -94,6 +91,13 @@ pub(crate) fn append_name(name: &ParsedName<'_>, out: &mut [u8], end: End) -> En
         }
     }
     end
+}
+
+/// Writes a name with a dot after each label, at the beginning of `out`.
+pub(crate) fn write_name(name: &ParsedName<'_>, out: &mut [u8]) -> End
+    ensures { Holds out.new (absolute_name (labels name.now)) result }
+{
+    append_name(name, out, START)
 }
 
 /// The lower-case hexadecimal digit of a number below 16.

@@ -1,5 +1,5 @@
 //! Text that is returned to the caller.
-ghost use Rattle.std.specs.Prelude.{◌≡◌, ◌≢◌, ◌<◌, ◌+◌, ◌++◌, ◌∷◌, ℕ, List, [], length, get_or, take, IfOk, IfErr};
+ghost use Rattle.std.specs.Prelude.{◌≡◌, ◌≢◌, ◌<◌, ◌≤◌, ◌+◌, ◌-◌, ◌^◌, ◌++◌, ◌∷◌, ℕ, List, [], length, get_or, take, min, IfOk, IfErr};
 ghost use Rattle.dns_name.specs.Names.{Labels, NameAt};
 ghost use Rattle.dns_c.specs.Codes.{number_of};
 ghost use Rattle.dns_c.specs.Made.{LacksName};
@@ -7,7 +7,7 @@ ghost use Rattle.dns_c.specs.Texts.{Holds, absolute_name};
 
 use crate::code;
 use crate::code::Fault;
-use crate::pieces::{End, START, append_name};
+use crate::pieces::{End, write_name};
 use crate::walk::name_at;
 
 /// Writes the name at offset `place`, with a dot after each label.
@@ -17,27 +17,43 @@ pub(crate) fn name(octets: &[u8], place: usize, out: &mut [u8]) -> Result<End, F
     ensures none { IfErr result (λ fault. LacksName octets.now place (number_of fault)) }
 {
     let name = name_at(octets, place)?;
-    Ok(append_name(&name, out, START))
+    Ok(write_name(&name, out))
 }
 
 /// Terminates a text with a zero octet, sets `len` to its length, and returns the status.
-pub(crate) fn finish(end: End, out: &mut [u8], len: &mut usize) -> u8
+pub(crate) fn finish(end: End, out: &mut [u8], len: &mut usize) -> u32
     ensures length { length out.new ≡ length out.old }
     ensures ended { result ≡ 0 → (len.new < length out.new) × (get_or out.new len.new 1 ≡ 0) }
-    ensures empty { result ≢ 0 → len.new ≡ 0 }
     ensures fault { result ≢ 0 → result ≡ number_of Fault.NoRoom }
     ensures text { (text : List ℕ) → Holds out.old text end → result ≡ 0
         → take (len.new + 1) out.new ≡ text ++ 0 ∷ [] }
     ensures capacity { (text : List ℕ) → Holds out.old text end → result ≢ 0
         → length out.old < length text + 1 }
+    ensures counted { (text : List ℕ) → Holds out.old text end
+        → len.new ≡ min (length text) (2 ^ 64 - 1) }
 {
-    *len = 0;
-    match end {
-        Some(end) if end < out.len() => {
-            out[end] = 0;
-            *len = end;
-            0
-        }
-        _ => code::of_fault(Fault::NoRoom),
+    *len = end;
+    if end >= out.len() {
+        return code::of_fault(Fault::NoRoom);
     }
+    out[end] = 0;
+    0
+}
+
+/// Sets `len` to the length of octets that were written, and returns the status.
+pub(crate) fn finish_octets(size: End, out: &[u8], len: &mut usize) -> u32
+    ensures within { result ≡ 0 → len.new ≤ length out.now }
+    ensures octets { (octets : List ℕ) → Holds out.now octets size → length octets < 2 ^ 63
+        → result ≡ 0 → take len.new out.now ≡ octets }
+    ensures fault { result ≢ 0 → result ≡ number_of Fault.NoRoom }
+    ensures capacity { (octets : List ℕ) → Holds out.now octets size → result ≢ 0
+        → length out.now < length octets }
+    ensures counted { (octets : List ℕ) → Holds out.now octets size → length octets < 2 ^ 63
+        → len.new ≡ length octets }
+{
+    *len = size;
+    if size > out.len() {
+        return code::of_fault(Fault::NoRoom);
+    }
+    0
 }

@@ -1,6 +1,6 @@
 //! Iterates over a message with a cursor that the caller owns.
 ghost use Rattle.std.specs.Prelude.{◌≡◌, ◌≢◌, ◌+◌, ◌<◌, ◌≤◌, length, true, Ok, Err, IfOk, IfErr};
-ghost use Rattle.dns_name.specs.Names.{FaultAt, NameAt, fault_of};
+ghost use Rattle.dns_name.specs.Names.{FaultAt, Labels, NameAt, NameEndsAt, fault_of};
 ghost use Rattle.dns_name.specs.Names.Fault.{Form};
 ghost use Rattle.dns_name.specs.ParsedName.{labels};
 ghost use Rattle.dns_name.specs.Parsers as Parsers;
@@ -45,7 +45,7 @@ pub struct Cursor {
     /// 0 is the question section; 1, 2 and 3 are answer, authority and additional.
     pub section: u8,
     /// 0, or the number of the error that ended the iteration.
-    pub status: u8,
+    pub status: u32,
 }
 
 /// A question or a record.
@@ -99,7 +99,7 @@ fn header_of(message: &Message<&[u8]>) -> Header
 }
 
 /// Reads the header, and sets the cursor before the first question.
-pub(crate) fn open(octets: &[u8], header: &mut Header, cursor: &mut Cursor) -> u8
+pub(crate) fn open(octets: &[u8], header: &mut Header, cursor: &mut Cursor) -> u32
     ensures opens { header_size ≤ length octets.now → (result ≡ 0)
         × Opens octets.now header.new cursor.new }
     ensures short { length octets.now < header_size → (result ≡ number_of Fault.ShortInput)
@@ -248,13 +248,15 @@ pub(crate) fn next(octets: &[u8], cursor: &mut Cursor, item: &mut Item) -> Resul
     }
 }
 
-/// Parses the name at offset `place`.
-fn parse_name(octets: &[u8], place: usize) -> Result<ParsedName<'_>, ParseError>
-    ensures name { IfOk result (λ name. NameAt octets.now place (labels name)) }
+/// Parses the name at offset `place`. Also returns the offset after it.
+fn parse_name(octets: &[u8], place: usize) -> Result<(ParsedName<'_>, usize), ParseError>
+    ensures name { IfOk result (λ found. NameAt octets.now place (labels found.0)) }
+    ensures end { IfOk result (λ found. NameEndsAt octets.now place found.1) }
     ensures none { IfErr result (λ error. FaultAt octets.now place (fault_of error)) }
 {
     let mut parser = parser_at(octets, place)?;
-    ParsedName::parse(&mut parser)
+    let name = ParsedName::parse(&mut parser)?;
+    Ok((name, parser.pos()))
 }
 
 /// The name at offset `place`.
@@ -263,7 +265,19 @@ pub(crate) fn name_at(octets: &[u8], place: usize) -> Result<ParsedName<'_>, Fau
     ensures none { IfErr result (λ fault. LacksName octets.now place (number_of fault)) }
 {
     match parse_name(octets, place) {
-        Ok(name) => Ok(name),
+        Ok((name, _)) => Ok(name),
+        Err(error) => Err(fault_at(octets, place, error)),
+    }
+}
+
+/// The offset after the name at offset `place`.
+pub(crate) fn name_end(octets: &[u8], place: usize) -> Result<usize, Fault>
+    ensures end { IfOk result (λ end. NameEndsAt octets.now place end) }
+    ensures name { IfOk result (λ end. (name : Labels) × NameAt octets.now place name) }
+    ensures none { IfErr result (λ fault. LacksName octets.now place (number_of fault)) }
+{
+    match parse_name(octets, place) {
+        Ok((_, end)) => Ok(end),
         Err(error) => Err(fault_at(octets, place, error)),
     }
 }

@@ -1,10 +1,11 @@
-//! The text of record types and classes.
+//! The text of record types, classes and statuses.
 ghost use Rattle.std.specs.Prelude.{◌≡◌, ◌++◌, ℕ, List, [], ◌∷◌, decimal, option_map, unwrap_or};
 ghost use Rattle.dns_number.specs.Classes.{class_text};
 ghost use Rattle.dns_number.specs.Mnemonics.{mnemonic, type_mnemonics, class_mnemonics};
 ghost use Rattle.dns_number.specs.NumberTexts.{number_text};
 ghost use Rattle.dns_number.specs.Tables.{table};
 ghost use Rattle.dns_number.specs.Types.{type_text};
+ghost use Rattle.dns_c.specs.Statuses.{status_sentences, status_text};
 ghost use Rattle.dns_c.specs.Texts.{Holds};
 
 use crate::pieces::{End, START, append_number, append_octets};
@@ -45,8 +46,8 @@ fn class_word(class: Class) -> Option<&'static str>
     }
 }
 
-/// Writes the mnemonic `word`, or `other` followed by the number if there is none.
-fn append_word(word: Option<&str>, other: &[u8], number: u16, out: &mut [u8]) -> End
+/// Writes `word`, or `other` followed by the number if there is none.
+fn append_word(word: Option<&str>, other: &[u8], number: u32, out: &mut [u8]) -> End
     ensures { Holds out.new (unwrap_or (option_map (λ word. word.now) word.entry)
         (other.now ++ decimal number)) result }
 {
@@ -63,12 +64,52 @@ fn append_word(word: Option<&str>, other: &[u8], number: u16, out: &mut [u8]) ->
 pub(crate) fn rtype(number: u16, out: &mut [u8]) -> End
     ensures { Holds out.new (type_text number) result }
 {
-    append_word(type_word(Rtype::from_int(number)), b"TYPE", number, out)
+    let word = type_word(Rtype::from_int(number));
+    append_word(word, b"TYPE", u32::from(number), out)
 }
 
 /// Writes a class.
 pub(crate) fn class(number: u16, out: &mut [u8]) -> End
     ensures { Holds out.new (class_text number) result }
 {
-    append_word(class_word(Class::from_int(number)), b"CLASS", number, out)
+    let word = class_word(Class::from_int(number));
+    append_word(word, b"CLASS", u32::from(number), out)
+}
+
+/// The sentence that says what a status means, if there is such a status.
+#[tactic(auto, unfolding(std::specs::Prelude::find, crate::specs::Statuses::status_sentences))]
+fn sentence(status: u32) -> Option<&'static str>
+    ensures { option_map (λ sentence. sentence.now) result ≡ mnemonic status_sentences status }
+{
+    match status {
+        0 => Some("success"),
+        1 => Some("no more items"),
+        2 => Some("an octet that is needed is past the end of the message"),
+        3 => Some("a length octet has the high bits 01 or 10"),
+        4 => Some("a compression pointer doesn't lead to an offset before its own"),
+        5 => Some("a name has more than 255 octets"),
+        6 => Some("malformed octets"),
+        7 => Some("the output buffer is too short"),
+        8 => Some("the text is no valid name"),
+        9 => Some("the query doesn't have exactly one question"),
+        10 => Some("a section number exceeds 3, or the item is a question, which has no RDATA"),
+        11 => Some("an allocation failed"),
+        12 => Some("RDATA or an option has more than 65,535 octets"),
+        13 => Some("a section has more than 65,535 items"),
+        14 => Some("the message is a response"),
+        15 => Some("the opcode isn't QUERY"),
+        16 => Some("the class of the question isn't IN"),
+        17 => Some("the type of the question is neither A nor ANY"),
+        18 => Some("the item is no OPT record"),
+        19 => Some("an option is not whole within the RDATA"),
+        20 => Some("the RDATA has no such name"),
+        _ => None,
+    }
+}
+
+/// Writes what a status means.
+pub(crate) fn status(number: u32, out: &mut [u8]) -> End
+    ensures { Holds out.new (status_text number) result }
+{
+    append_word(sentence(number), b"unknown status ", number, out)
 }

@@ -1,5 +1,4 @@
-use Rattle.std.proofs.Common.{◌∙◌, ◌+◌, ap, drop, refl, subst, sym}
-use Rattle.std.specs.Prelude.{Err}
+use Rattle.std.proofs.Common.{◌∙◌, ◌+◌, drop, refl, subst, sym}
 use Rattle.std.proofs.lemmas.Result.{err_from_is_err_and}
 use Rattle.dns_build.specs.BuilderStates.{Built}
 use Rattle.dns_c.proofs.BuildLemmas.{Stating, at_depth, next_item, no_items, not_at_depth, stating_begins, stating_ends, stating_named, stating_skips, stating_refused, stating_takes}

@@ -1,7 +1,7 @@
-use Rattle.std.proofs.Common.{◌≡◌, ◌∙◌, ◌++◌, List, ℕ, [], ap, refl, arith, codes, decimal, get_or}
+use Rattle.std.proofs.Common.{◌≡◌, ◌∙◌, ◌++◌, List, ℕ, [], ap, codes, decimal, get_or}
 use Rattle.std.specs.Prelude.{slice_index}
 use Rattle.dns_data.specs.A.{address_of}
-use Rattle.dns_c.proofs.PieceLemmas.{holds_as}
+use Rattle.dns_c.proofs.PieceLemmas.{empty_held, holds_as}
 use Rattle.dns_c.proofs.data_text.append_address.Goals as goal
 
 pub returns : goal.returns
@@ -12,4 +12,4 @@ returns c =
     let third : c.from-3.result ≡ slice_index octets 2 = c.from-3.ensures ∙ ap (λ (o : List ℕ). get_or o 2 0) c.octets.ensures in
     let fourth : c.from-4.result ≡ slice_index octets 3 = c.from-4.ensures ∙ ap (λ (o : List ℕ). get_or o 3 0) c.octets.ensures in
     holds_as _ _ _ _ (λ i. decimal (first i) ++ codes "." ++ decimal (second i) ++ codes "." ++ decimal (third i) ++ codes "." ++ decimal (fourth i))
-    (c.append_after.ensures _ (c.append_after-end-2.ensures _ (c.append_after-end.ensures _ (c.append_number-end.ensures [] (omega arith, refl)))))
+    (c.append_after.ensures _ (c.append_after-end-2.ensures _ (c.append_after-end.ensures _ (c.append_number-end.ensures [] (empty_held _)))))

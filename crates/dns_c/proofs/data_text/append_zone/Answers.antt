@@ -1,8 +1,8 @@
-use Rattle.std.proofs.Common.{◌≡◌, ◌∙◌, ◌++◌, [], refl, arith, codes, decimal}
+use Rattle.std.proofs.Common.{◌≡◌, ◌∙◌, ◌++◌, [], arith, codes, decimal}
 use Rattle.dns_name.specs.ParsedName.{labels}
 use Rattle.dns_data.specs.Soa.{mname_of, rname_of, serial_of, refresh_of, retry_of, expire_of, minimum_of}
 use Rattle.dns_c.specs.Texts.{absolute_name}
-use Rattle.dns_c.proofs.PieceLemmas.{holds_as}
+use Rattle.dns_c.proofs.PieceLemmas.{empty_held, holds_as}
 use Rattle.dns_c.proofs.DataTextLemmas.{NumbersFit, zone_text}
 use Rattle.dns_c.proofs.data_text.append_zone.Goals as goal
 
@@ -24,4 +24,4 @@ returns c =
     holds_as _ _ _ _
     ((λ i. absolute_name (labels (c.mname.ensures i)) ++ codes " " ++ absolute_name (labels (c.rname.ensures i)) ++ codes " " ++ decimal (serial i) ++ codes " " ++ decimal (refresh i) ++ codes " " ++ decimal (retry i) ++ codes " " ++ decimal (expire i) ++ codes " " ++ decimal (minimum i))
     ∙ zone_text (labels (mname_of zone)) (labels (rname_of zone)) zone fit)
-    (c.append_after.ensures _ (c.append_after-end-4.ensures _ (c.append_after-end-3.ensures _ (c.append_after-end-2.ensures _ (c.append_after-end.ensures _ (c.append_name-end-2.ensures _ (c.append_octets-end.ensures _ (c.append_name-end.ensures [] (omega arith, refl)))))))))
+    (c.append_after.ensures _ (c.append_after-end-4.ensures _ (c.append_after-end-3.ensures _ (c.append_after-end-2.ensures _ (c.append_after-end.ensures _ (c.append_name-end-2.ensures _ (c.append_octets-end.ensures _ (c.append_name-end.ensures [] (empty_held _)))))))))

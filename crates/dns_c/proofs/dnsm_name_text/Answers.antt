@@ -2,7 +2,7 @@ use Rattle.std.proofs.Common.{◌∙◌, ◌∷◌, [], append_assoc, arith, len
 use Rattle.dns_name.specs.Unique.{encoded_name}
 use Rattle.dns_name.specs.NameTexts.{name_text}
 use Rattle.dns_c.proofs.TextSizes.{name_text_short}
-use Rattle.dns_c.proofs.dns_name_text.Goals as goal
+use Rattle.dns_c.proofs.dnsm_name_text.Goals as goal
 
 pub returns-in-Ok-clause-text : goal.returns-in-Ok-clause-text
 returns-in-Ok-clause-text c =
@@ -17,3 +17,13 @@ returns-in-Ok-clause-short c =
     let short = name_text_short name.0 (encoded_name name.1) in
     let both = length-append (name_text name.0) (46 ∷ []) in
     omega (arith, c.finish.ensures.capacity _ name.2 (λ written. let none = sym written ∙ capacity in omega arith))
+
+pub returns-in-Ok-clause-no_room : goal.returns-in-Ok-clause-no_room
+returns-in-Ok-clause-no_room c =
+    λ full.
+    let name = c.in-Ok.ensures.text in
+    let short = name_text_short name.0 (encoded_name name.1) in
+    let both = length-append (name_text name.0) (46 ∷ []) in
+    let counted = c.finish.ensures.counted _ name.2 in
+    let capacity = c.finish.ensures.capacity _ name.2 (λ written. let none = sym written ∙ full in omega arith) in
+    (name.0, name.1, omega (arith, capacity, both), omega (arith, counted, both))

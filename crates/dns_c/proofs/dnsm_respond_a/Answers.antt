@@ -1,6 +1,6 @@
 use Rattle.std.proofs.Common.{◌∙◌}
 use Rattle.dns_c.proofs.AskedLemmas.{response_reported, response_unasked, opcode_reported, opcode_unasked, class_reported, class_unasked, type_reported, type_unasked}
-use Rattle.dns_c.proofs.dns_respond_a.Goals as goal
+use Rattle.dns_c.proofs.dnsm_respond_a.Goals as goal
 
 pub returns-in-Ok-clause-is_response : goal.returns-in-Ok-clause-is_response
 returns-in-Ok-clause-is_response c = λ long is. absurd (response_unasked c.args.query.now long is c.in-Ok.ensures.made.asked c.in-Ok.ensures.made.asks)

@@ -2,7 +2,7 @@ use Rattle.std.proofs.Common.{◌∙◌, ℕ, None, subst, sym, true}
 use Rattle.dns_wire.specs.Encoders.{Tree}
 use Rattle.dns_c.specs.Built.{IsUnbuilt, header_of}
 use Rattle.dns_c.proofs.BuildLemmas.{unbuilt_full, unbuilt_otherwise}
-use Rattle.dns_c.proofs.dns_build.Goals as goal
+use Rattle.dns_c.proofs.dnsm_build.Goals as goal
 
 pub returns-in-Err-clause-no_room : goal.returns-in-Err-clause-no_room
 returns-in-Err-clause-no_room c =

@@ -1,0 +1,274 @@
+/* Functions that read and write DNS messages, by proved code.
+ *
+ * Calls. Each but dnsm_opt_ttl returns a status: DNSM_OK, or the reason why there is no result. No call prints, blocks, or ends
+ * the process.
+ *
+ * Threads. No call keeps state, so any thread may make any call at any time, if no other thread changes what the call uses.
+ * Only dnsm_build allocates, by malloc, realloc and free. Don't call it from a signal handler, nor in the forked child of a
+ * process with threads. All other calls may be made in both.
+ *
+ * Lifetimes. No call keeps a pointer that it was passed, and none returns memory that the caller has to free. Items, options and
+ * cursors contain offsets into a message, no pointers: they stay valid as long as the message does, also if it is moved. An
+ * offset counts octets from the start of the message.
+ *
+ * Pointers. One that comes with a length may be null if the length is 0. Each other pointer has to be valid, and aligned. What a
+ * call writes may not overlap anything else that is passed to it. It needn't be initialised, except where a call says so.
+ *
+ * Results in a buffer. A call with `out`, `out_len` and `len` writes its result into the `out_len` octets at `out`, and sets
+ * `*len` to its length. A text is followed by a zero octet, which `*len` doesn't count. If the buffer is too short, the call
+ * returns DNSM_NO_ROOM, sets `*len` to the length that the result would have, and leaves anything in the buffer: octets need a
+ * buffer of `*len` octets, and a text one of `*len` + 1. So a call with a null `out` and length 0 gives the length. On each
+ * other error `*len` is 0.
+ *
+ * Names as text. The text of a name is its labels, separated by dots (RFC 1035 section 5.1). A final dot may be left out, and
+ * changes nothing: each name is absolute. The root is a single dot. In a label, each graphic ASCII character but the dot and the
+ * backslash (0x21 to 0x7e) represents itself. A backslash and a graphic character that is no digit represent that character, as
+ * `\.` a dot within a label. A backslash and three decimal digits represent the octet with that number, 0 to 255, as `\032` a
+ * space. A label has 1 to 63 octets, and a name at most 255, with a length octet for each label and one for the root. No other
+ * text is a name: not the empty text, nor one with two dots in a row, spaces, control characters, or octets above 0x7e. There is
+ * no origin, `@` is an ordinary character, and names of other scripts have to be in ASCII already (IDNA). A text that is passed
+ * comes with its length, and needs no zero octet. */
+#ifndef DNSM_H
+#define DNSM_H
+
+#include <stdbool.h>
+#include <stddef.h>
+#include <stdint.h>
+
+/* The version of this header and its library, as text and as a number: 10000 * major + 100 * minor + patch. */
+#define DNSM_VERSION "1.0.0"
+#define DNSM_VERSION_NUMBER 10000
+
+#ifdef __cplusplus
+extern "C" {
+#endif
+
+/* What a call returns. dnsm_status_text writes it as a sentence. */
+typedef enum dnsm_status {
+    DNSM_OK = 0,
+    DNSM_END = 1,           /* no more items */
+    DNSM_SHORT_INPUT = 2,   /* an octet that is needed is past the end of the message */
+    DNSM_BAD_LABEL = 3,     /* a length octet has the high bits 01 or 10 */
+    DNSM_BAD_POINTER = 4,   /* a compression pointer doesn't lead to an offset before its own */
+    DNSM_LONG_NAME = 5,     /* a name has more than 255 octets */
+    DNSM_FORM = 6,          /* returned only if the caller gave the cursor this status */
+    DNSM_NO_ROOM = 7,       /* the output buffer is too short */
+    DNSM_BAD_TEXT = 8,      /* a text is no valid name */
+    DNSM_NO_QUESTION = 9,   /* the query doesn't have exactly one question */
+    DNSM_BAD_SECTION = 10,  /* a section number exceeds 3, or the RDATA of a question is asked for */
+    DNSM_NO_MEMORY = 11,    /* an allocation failed */
+    DNSM_LONG_DATA = 12,    /* RDATA or an option of more than 65,535 octets */
+    DNSM_TOO_MANY = 13,     /* more than 65,535 items for a section */
+    DNSM_IS_RESPONSE = 14,  /* QR is set, so this is a response, and answering it could start an endless exchange */
+    DNSM_OTHER_OPCODE = 15, /* the opcode isn't QUERY */
+    DNSM_OTHER_CLASS = 16,  /* the class of the question isn't IN */
+    DNSM_OTHER_TYPE = 17,   /* the type of the question is neither A nor ANY */
+    DNSM_NOT_OPT = 18,      /* the item is no OPT record */
+    DNSM_BAD_OPTION = 19,   /* an option isn't whole within the RDATA */
+    DNSM_NO_NAME = 20,      /* the RDATA has no such name */
+    DNSM_WIDEST = 0x7fffffff /* returned by no call; with it the type has 32 bits, whatever the compiler's options */
+} dnsm_status;
+
+/* The numbers of the sections. */
+enum { DNSM_QUESTION = 0, DNSM_ANSWER = 1, DNSM_AUTHORITY = 2, DNSM_ADDITIONAL = 3 };
+
+/* Lengths of output buffers that are always enough: DNSM_NAME_TEXT for dnsm_name_text, DNSM_NAME_OCTETS for dnsm_name_octets
+ * and dnsm_name_from_text, and DNSM_MADE for dnsm_query and dnsm_respond_a. */
+enum { DNSM_NAME_TEXT = 1005, DNSM_NAME_OCTETS = 255, DNSM_MADE = 512 };
+
+/* The flags of a header, which are bits of its third and fourth octets (RFC 1035 section 4.1.1, RFC 4035 section 3). A server
+ * that leaves out records because the message would be too long sets DNSM_TC; then the client asks again over TCP. */
+enum {
+    DNSM_QR = 0x8000,
+    DNSM_AA = 0x400,
+    DNSM_TC = 0x200,
+    DNSM_RD = 0x100,
+    DNSM_RA = 0x80,
+    DNSM_AD = 0x20,
+    DNSM_CD = 0x10
+};
+
+typedef struct dnsm_header {
+    uint16_t id;
+    uint16_t flags;     /* the third and fourth octets: the flags above, and opcode and rcode */
+    uint16_t counts[4]; /* indexed by section */
+    uint8_t opcode;
+    uint8_t rcode;
+} dnsm_header;
+
+/* A position in a message. The caller owns it, and may copy it to return to the position later. */
+typedef struct dnsm_cursor {
+    size_t place;       /* offset at which the next item begins */
+    uint16_t left;      /* items still to come in the section, by its count */
+    uint8_t section;
+    dnsm_status status; /* DNSM_OK, or the error that ended the iteration */
+} dnsm_cursor;
+
+/* A question or a record. */
+typedef struct dnsm_item {
+    size_t place;      /* offset of the name, for dnsm_name_text and dnsm_name_octets */
+    size_t data;       /* offset of the RDATA, whose data_len octets all lie within the message; of a question its end */
+    uint32_t ttl;      /* in seconds; 0 for a question */
+    uint16_t type;
+    uint16_t class_;
+    uint16_t data_len; /* 0 for a question */
+    uint8_t section;
+} dnsm_item;
+
+/* Reads the header, and sets the cursor before the first question. It needn't be initialised, nor the header.
+ *
+ * Errors: DNSM_SHORT_INPUT if the message has fewer than 12 octets. Then the cursor keeps this error, and the header isn't
+ * written. */
+dnsm_status dnsm_open(const uint8_t *message, size_t message_len, dnsm_header *header, dnsm_cursor *cursor);
+
+/* Reads the next item, in the order of the message, and moves the cursor past it. The cursor is one that dnsm_open has set, for
+ * the same octets. With another cursor, or over other octets, the call is safe, but its results mean nothing.
+ *
+ * Returns DNSM_OK with an item, or DNSM_END after the last one. Without an item, `*item` isn't written.
+ *
+ * Errors: DNSM_SHORT_INPUT, DNSM_BAD_LABEL, DNSM_BAD_POINTER or DNSM_LONG_NAME if the next item can't be read. The cursor keeps
+ * the error, and each later call returns it again. DNSM_BAD_SECTION for a cursor that keeps no error and whose section
+ * exceeds 3. */
+dnsm_status dnsm_next(const uint8_t *message, size_t message_len, dnsm_cursor *cursor, dnsm_item *item);
+
+/* Writes the name at offset `place` as text, with a dot after each label. dnsm_name_from_text reads it back as the same name.
+ *
+ * Errors: DNSM_NO_ROOM, and DNSM_SHORT_INPUT, DNSM_BAD_LABEL, DNSM_BAD_POINTER or DNSM_LONG_NAME if no name can be read there. */
+dnsm_status dnsm_name_text(const uint8_t *message, size_t message_len, size_t place, char *out, size_t out_len, size_t *len);
+
+/* Writes the octets of the name at offset `place`, without compression pointers.
+ *
+ * Errors: those of dnsm_name_text. */
+dnsm_status dnsm_name_octets(const uint8_t *message, size_t message_len, size_t place, uint8_t *out, size_t out_len,
+                             size_t *len);
+
+/* Sets `*end` to the offset after the name at offset `place`. A compression pointer ends a name and isn't followed for that.
+ *
+ * Errors: those of dnsm_name_text but DNSM_NO_ROOM. Then `*end` isn't written. */
+dnsm_status dnsm_name_end(const uint8_t *message, size_t message_len, size_t place, size_t *end);
+
+/* Sets `*place` to the offset of a name in the RDATA of a record, for dnsm_name_text and dnsm_name_octets: of the first name if
+ * `index` is 0, and of the second name of SOA if it is 1. The types are NS, CNAME, SOA, PTR, MX, SRV and DNAME. It isn't checked
+ * that a name can be read there.
+ *
+ * Errors: DNSM_NO_NAME if RDATA of this type has no name with this index, or ends before it. DNSM_SHORT_INPUT if the name would
+ * be past the end of the message. For the second name of SOA, the error of reading the first one. On an error `*place` isn't
+ * written. */
+dnsm_status dnsm_data_name(const uint8_t *message, size_t message_len, const dnsm_item *item, size_t index, size_t *place);
+
+/* Writes the octets of the name that the text represents (see "Names as text"), as in the RDATA of a dnsm_new_item.
+ *
+ * Errors: DNSM_NO_ROOM, and DNSM_BAD_TEXT if the text is no name. */
+dnsm_status dnsm_name_from_text(const char *text, size_t text_len, uint8_t *out, size_t out_len, size_t *len);
+
+/* Writes the RDATA of a record as `dnsmsg show` prints it: that of A, NS, CNAME and SOA by its fields, and all other RDATA
+ * as `\#`, its length and its octets in hexadecimal (RFC 3597 section 5). Malformed RDATA of these four types is written in
+ * the second form too. The call reads the record at the item's `place`.
+ *
+ * Errors: DNSM_NO_ROOM, DNSM_BAD_SECTION for a question, which has no RDATA, and those of dnsm_name_text if no record can be read
+ * there, which happens only for an item that dnsm_next didn't write for these octets. */
+dnsm_status dnsm_data_text(const uint8_t *message, size_t message_len, const dnsm_item *item, char *out, size_t out_len,
+                           size_t *len);
+
+/* Writes a record type: its mnemonic, or TYPE with its number (RFC 3597 section 5). 16 octets are always enough.
+ *
+ * Errors: DNSM_NO_ROOM. */
+dnsm_status dnsm_type_text(uint16_t type, char *out, size_t out_len, size_t *len);
+
+/* Writes a class: its mnemonic, or CLASS with its number (RFC 3597 section 5). 16 octets are always enough.
+ *
+ * Errors: DNSM_NO_ROOM. */
+dnsm_status dnsm_class_text(uint16_t class_, char *out, size_t out_len, size_t *len);
+
+/* Writes what a status means, in English, as "the output buffer is too short", or "unknown status" with the number if there is no
+ * such status. 100 octets are always enough.
+ *
+ * Errors: DNSM_NO_ROOM. */
+dnsm_status dnsm_status_text(dnsm_status status, char *out, size_t out_len, size_t *len);
+
+/* The fields of an OPT record (RFC 6891 section 6.1.3). */
+typedef struct dnsm_opt {
+    uint16_t udp_size;  /* the most octets of a UDP payload that the sender can receive */
+    uint16_t flags;     /* DNSM_DO, and 15 bits that have to be zero */
+    uint8_t rcode_high; /* the upper eight bits of the extended rcode; the lower four are the rcode of the header */
+    uint8_t version;
+} dnsm_opt;
+
+/* The type of an OPT record, and the flag that asks for DNSSEC records. */
+enum { DNSM_TYPE_OPT = 41, DNSM_DO = 0x8000 };
+
+/* Reads the fields of an OPT record. That is an item of type 41 in the additional section; its name isn't looked at.
+ *
+ * Errors: DNSM_NOT_OPT. Then `*opt` isn't written. */
+dnsm_status dnsm_opt_fields(const dnsm_item *item, dnsm_opt *opt);
+
+/* The TTL of an OPT record with these fields. To write one with dnsm_build, pass an item with the name ".", this TTL, the class
+ * `udp_size`, the type DNSM_TYPE_OPT, the section DNSM_ADDITIONAL, and as data what dnsm_option_octets wrote for each option, one
+ * after the other, or nothing. */
+uint32_t dnsm_opt_ttl(const dnsm_opt *opt);
+
+/* An option of an OPT record (RFC 6891 section 6.1.2). */
+typedef struct dnsm_opt_option {
+    size_t data;       /* offset of its octets, which lie within the RDATA */
+    uint16_t code;
+    uint16_t data_len;
+} dnsm_opt_option;
+
+/* Reads the option at offset `*place` of the RDATA of an OPT record, and sets `*place` to the offset after it. Set `place` to the
+ * item's `data` before the first call. The option needn't be initialised.
+ *
+ * Returns DNSM_OK with an option, or DNSM_END at the end of the RDATA. Without an option, nothing is written.
+ *
+ * Errors: DNSM_NOT_OPT; DNSM_BAD_OPTION if no whole option begins there; DNSM_SHORT_INPUT if the RDATA isn't within the message,
+ * which happens only for an item that dnsm_next didn't write for these octets. */
+dnsm_status dnsm_next_option(const uint8_t *message, size_t message_len, const dnsm_item *item, size_t *place,
+                             dnsm_opt_option *option);
+
+/* Writes an option: its code, the length of its data, and its data.
+ *
+ * Errors: DNSM_NO_ROOM, and DNSM_LONG_DATA for more than 65,535 octets of data. */
+dnsm_status dnsm_option_octets(uint16_t code, const uint8_t *data, size_t data_len, uint8_t *out, size_t out_len, size_t *len);
+
+/* Writes a query: a header with `id`, RD as `recursion` says, and no other bit set, and one question.
+ *
+ * Errors: DNSM_NO_ROOM, and DNSM_BAD_TEXT if `name` is no name (see "Names as text"). */
+dnsm_status dnsm_query(uint16_t id, bool recursion, const char *name, size_t name_len, uint16_t type, uint16_t class_,
+                       uint8_t *out, size_t out_len, size_t *len);
+
+/* Writes the response to a standard query of class IN with one question, for type A or ANY: a header, the question, and one A
+ * record with `ttl`, in seconds, and `address`. The header has ID, opcode, RD and CD of the query, QR, AA as `authoritative`
+ * says, and no other bit set.
+ *
+ * Errors: for octets that are no such query, the first that applies of DNSM_SHORT_INPUT, DNSM_IS_RESPONSE, DNSM_OTHER_OPCODE,
+ * DNSM_NO_QUESTION, the error of reading the question, DNSM_OTHER_CLASS and DNSM_OTHER_TYPE. For all others, DNSM_NO_ROOM. */
+dnsm_status dnsm_respond_a(const uint8_t *query, size_t query_len, bool authoritative, uint32_t ttl, const uint8_t address[4],
+                           uint8_t *out, size_t out_len, size_t *len);
+
+/* A question or a record to write. The name is text (see "Names as text"). The data is RDATA in wire format, in which names have
+ * to be uncompressed; that isn't checked. The TTL is in seconds. TTL and data of a question are ignored. */
+typedef struct dnsm_new_item {
+    const char *name;
+    size_t name_len;
+    const uint8_t *data;
+    size_t data_len;
+    uint32_t ttl;
+    uint16_t type;
+    uint16_t class_;
+    uint8_t section;
+} dnsm_new_item;
+
+/* Writes a message: a header of `id` and `flags` (as in dnsm_header), and the items, each in its section, in order. The counts
+ * are those of the items. Names of questions and owners are compressed. The message may have more than 65,535 octets, which no
+ * transport carries: check `*len`. The call allocates, and frees all that it allocated.
+ *
+ * Errors: DNSM_BAD_SECTION, DNSM_BAD_TEXT or DNSM_LONG_DATA for an item that can't be written, the first one if there are
+ * several; nothing is allocated before that. DNSM_TOO_MANY only if a section has more than 65,535 items, DNSM_NO_MEMORY if an
+ * allocation failed, and DNSM_NO_ROOM. */
+dnsm_status dnsm_build(uint16_t id, uint16_t flags, const dnsm_new_item *items, size_t items_len,
+                       uint8_t *out, size_t out_len, size_t *len);
+
+#ifdef __cplusplus
+}
+#endif
+
+#endif
