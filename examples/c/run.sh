@@ -1,7 +1,8 @@
 #!/usr/bin/env bash
-# Proves and builds crates/dns_c (library), compares dns.h with its exports (header.sh), and compiles and runs the examples
-# in C, C++ and Rust. Those in C and C++ are compiled by gcc and by clang, as far as these are installed, with the address and
-# undefined behaviour sanitizers if the compiler has them. The packages of Debian are gcc, g++ and clang.
+# Proves and builds crates/dns_c (library), compares dnsm.h with its exports (header.sh), and compiles and runs the examples
+# in C and C++. These are compiled by gcc and by clang, as far as these are installed, with the address and undefined
+# behaviour sanitizers if the compiler has them. Then it installs the library in a new folder (install.sh), and runs an example
+# in C, Python and Rust with that alone. The packages of Debian are gcc, g++, clang, binutils, pkg-config and rustc.
 # Prints 'test c::NAME ... ok' or 'test c::NAME ... FAILED' for each step, and fails if one does.
 set -u
 here=$(cd "$(dirname "$0")" && pwd)
@@ -74,9 +75,22 @@ examples_of_cpp() {
   compile "$1" c++17 each.cpp && "$build/each"
 }
 
+# Builds an example by what pkg-config says alone, and one with the static library, and runs both.
+installed() {
+  "$here/install.sh" "$build/prefix" || return
+  cc "$here/ask.c" $(PKG_CONFIG_PATH=$build/prefix/lib/pkgconfig pkg-config --cflags --libs dnsm) -o "$build/shared" &&
+    cc "-I$build/prefix/include" "$here/ask.c" "$build/prefix/lib/libdnsm.a" -o "$build/static" &&
+    "$build/ask" >"$build/asked" && "$build/shared" | diff "$build/asked" - && "$build/static" | diff "$build/asked" -
+}
+
+examples_of_python() {
+  python3 "$here/dnsm.py" "$build/prefix/lib/libdnsm.so" <"$build/messages" | diff "$build/expected" -
+}
+
 examples_of_rust() {
-  rustc --edition 2024 -O "$here/show.rs" -L "native=$crate/out" -L "native=$kit/c" -l static=dns_c -l static=libc_c \
-    -o "$build/show_rs" && "$build/show_rs" <"$build/messages"
+  local native="-L native=$build/prefix/lib -l static=dnsm"
+  rustc --edition 2024 --test "$here/dnsm.rs" $native -o "$build/dnsm_rs" && "$build/dnsm_rs" &&
+    rustc --edition 2024 -O "$here/show.rs" $native -o "$build/show_rs" && "$build/show_rs" <"$build/messages"
 }
 
 outcome library "$here/library"
@@ -88,5 +102,12 @@ done
 for compiler in g++ clang++; do
   command -v $compiler >/dev/null && outcome $compiler examples_of_cpp $compiler
 done
-[ -e "$build/messages" ] && command -v rustc >/dev/null && outcome rustc examples_of_rust
+command -v cc pkg-config ld objcopy >"$build/tools"
+if [ "$(wc -l <"$build/tools")" = 4 ] && [ -e "$build/messages" ]; then
+  outcome install installed
+  command -v python3 >/dev/null && outcome python3 examples_of_python
+  command -v rustc >/dev/null && outcome rustc examples_of_rust
+else
+  echo 'no cc, pkg-config or binutils: the library is not installed, and the examples in Python and Rust are not run'
+fi
 exit $failed
