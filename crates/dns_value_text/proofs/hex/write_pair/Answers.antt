@@ -1,0 +1,15 @@
+use Rattle.std.proofs.Common.{◌≡◌, [], Some, false, true, ap, ◌∙◌, arith, subst, ℕ, List}
+use Rattle.std.proofs.lemmas.Fmt.{hex_byte}
+use Rattle.std.specs.Fmt.{DisplaysOnOk, format_spec, padded_integral, styled_digits_output}
+use Rattle.std.specs.Prelude.{Option, option_map}
+use Rattle.dns_value_text.specs.Hex.{hex_pair}
+use Rattle.dns_value_text.proofs.hex.write_pair.Goals as goal
+
+pub returns : goal.returns
+returns g c =
+    let spec = format_spec 32 0 4 2 18446744073709551615 in
+    let text : styled_digits_output c.in_radix.result c.laid_out.result ≡ Some (hex_pair c.args.octet) =
+    ap (styled_digits_output c.in_radix.result) c.laid_out.ensures
+    ∙ ap (option_map (padded_integral spec false [])) c.in_radix.ensures
+    ∙ ap Some (hex_byte true c.args.octet (omega arith)) in
+    subst (λ (o : Option (List ℕ)). DisplaysOnOk g.W.Write.write_str_gives c.args.f.now c.write.result o c.write.new.self) text c.write.ensures.writes

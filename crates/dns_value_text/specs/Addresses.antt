@@ -1,0 +1,23 @@
+-- EUI-48 and EUI-64 addresses (RFC 7043), and 64-bit locators (RFC 6742 section 2.1.2).
+use Rattle.std.specs.Prelude.{ℕ, ◌/◌, ◌%◌, false, List, [], ◌∷◌, ◌++◌, codes}
+use Rattle.std.specs.Fmt.{digit_glyph}
+use Rattle.std.specs.List.{flat_map}
+
+-- an octet as two lowercase hexadecimal digits
+abbrev pub low_pair : ℕ → List ℕ
+low_pair octet = digit_glyph false (octet / 16) ∷ digit_glyph false (octet % 16) ∷ []
+
+-- a hyphen and an octet
+abbrev pub hyphen_pair : ℕ → List ℕ
+hyphen_pair octet = codes "-" ++ low_pair octet
+
+-- octets, separated by hyphens
+abbrev pub eui_text : List ℕ → List ℕ
+eui_text [] = []
+eui_text (first ∷ after) = low_pair first ++ flat_map hyphen_pair after
+
+-- numbers of two octets, separated by colons
+abbrev pub locator_text : List ℕ → List ℕ
+locator_text (a ∷ b ∷ []) = low_pair a ++ low_pair b
+locator_text (a ∷ b ∷ octets) = (low_pair a ++ low_pair b) ++ codes ":" ++ locator_text octets
+locator_text _ = []

@@ -1,0 +1,4 @@
+pub mod Addresses
+pub mod Hex
+pub mod String
+pub mod Tags

@@ -1,0 +1,113 @@
+//! Character strings and tags (RFC 1035 section 5.1; tags: RFC 8659 section 4.1).
+ghost use Rattle.std.specs.Prelude.{Some, ◌≡◌, true};
+ghost use Rattle.std.specs.Char.{is_ascii_alphanumeric};
+ghost use Rattle.std.specs.Fmt.{WritesOnOk};
+ghost use Rattle.std.specs.List.{flat_map, list_all};
+ghost use Rattle.dns_value_text.specs.String.{decimal_text, is_tag, quoted, string_octet};
+
+use std::fmt;
+
+/// Octets that print in quotes. A backslash precedes a quote or a backslash. An octet that is neither
+/// a graphic ASCII character nor a space is printed as a backslash and three decimal digits.
+#[derive(Clone, Copy, Debug)]
+pub struct Quoted<'a>(pub &'a [u8]);
+
+/// Prints a backslash and the three decimal digits of an octet.
+fn write_decimal<W: fmt::Write>(f: &mut fmt::Formatter<W>, octet: u8) -> fmt::Result
+    ensures { WritesOnOk W.write_str_gives f.old result (decimal_text octet) f.new }
+{
+    f.write_char('\\')?;
+    f.write_char(char::from(b'0' + octet / 100))?;
+    f.write_char(char::from(b'0' + octet / 10 % 10))?;
+    f.write_char(char::from(b'0' + octet % 10))
+}
+
+/// Prints an octet of a quoted string.
+fn write_octet<W: fmt::Write>(f: &mut fmt::Formatter<W>, octet: u8) -> fmt::Result
+    ensures { WritesOnOk W.write_str_gives f.old result (string_octet octet) f.new }
+{
+    match octet {
+        b'"' | b'\\' => {
+            f.write_char('\\')?;
+            f.write_char(char::from(octet))
+        }
+        0x20..=0x7e => f.write_char(char::from(octet)),
+        _ => write_decimal(f, octet),
+    }
+}
+
+/// Prints octets as they stand between quotes.
+fn write_octets<W: fmt::Write>(f: &mut fmt::Formatter<W>, octets: &[u8]) -> fmt::Result
+    ensures { WritesOnOk W.write_str_gives f.old result (flat_map string_octet octets.now) f.new }
+{
+    for octet in octets {
+        write_octet(f, *octet)?;
+    }
+    Ok(())
+}
+
+impl fmt::Display for Quoted<'_> {
+    ghost output = { λ string. Some (quoted string.0.now) };
+
+    fn fmt<W: fmt::Write>(&self, f: &mut fmt::Formatter<W>) -> fmt::Result {
+        f.write_char('"')?;
+        write_octets(f, self.0)?;
+        f.write_char('"')
+    }
+}
+
+/// Letters and digits, which print as they are.
+#[derive(Clone, Copy, Debug)]
+pub struct Tag<'a> {
+    octets: &'a [u8],
+    ghost alphanumeric: { is_tag octets.now ≡ true },
+}
+
+/// Whether all octets are letters and digits.
+fn are_alphanumeric(octets: &[u8]) -> bool
+    ensures { result ≡ list_all is_ascii_alphanumeric octets.now }
+{
+    for octet in octets {
+        if !octet.is_ascii_alphanumeric() {
+            return false;
+        }
+    }
+    true
+}
+
+/// Whether the octets are letters and digits, one at least.
+fn is_tag(octets: &[u8]) -> bool
+    ensures { result ≡ is_tag octets.now }
+{
+    !octets.is_empty() && are_alphanumeric(octets)
+}
+
+impl<'a> Tag<'a> {
+    ghost use Rattle.std.specs.Prelude.{IfSome, is_some};
+    ghost use Rattle.dns_value_text.specs.Tags.{tag_octets};
+
+    /// The tag that is these octets. `None` if they aren't letters and digits, one at least.
+    pub fn from_octets(octets: &'a [u8]) -> Option<Self>
+        ensures found { is_some result ≡ is_tag octets.now }
+        ensures octets { IfSome result (λ tag. tag_octets tag ≡ octets.now) }
+    {
+        if is_tag(octets) {
+            Some(Tag { octets })
+        } else {
+            None
+        }
+    }
+}
+
+impl fmt::Display for Tag<'_> {
+    ghost use Rattle.dns_value_text.specs.Tags.{tag_octets};
+
+    ghost output = { λ tag. Some (tag_octets tag) };
+
+    fn fmt<W: fmt::Write>(&self, f: &mut fmt::Formatter<W>) -> fmt::Result {
+        for octet in self.octets {
+            f.write_char(char::from(*octet))?;
+        }
+        Ok(())
+    }
+}
