@@ -1,4 +1,9 @@
 pub mod Addresses
+pub mod Base32
 pub mod Hex
+pub mod LocationItems
+pub mod Locations
+pub mod Number
 pub mod String
 pub mod Tags
+pub mod Time

@@ -1,0 +1,2 @@
+mod Base32Lemmas
+mod TimeLemmas

@@ -1,0 +1,72 @@
+//! Octets in base32 with the extended hexadecimal alphabet and without padding (RFC 4648 section 7,
+//! RFC 5155 section 3.3).
+ghost use Rattle.std.specs.Prelude.{◌≡◌, ◌<◌, Some, length, true};
+ghost use Rattle.std.specs.Fmt.{WritesOnOk, digit_glyph};
+ghost use Rattle.dns_value_text.specs.Base32.{base32_digits, base32_text};
+
+use crate::number::number_of;
+use std::fmt;
+
+/// Octets that print in base32: digits 0 to 9 and A to V, without padding.
+#[derive(Clone, Copy, Debug)]
+pub struct Base32<'a>(pub &'a [u8]);
+
+/// The digit of a number: 0 to 9, and A to V.
+fn digit(number: u8) -> char
+    requires { number < 32 }
+    ensures glyph { result ≡ digit_glyph true number }
+    ensures ascii { result < 128 }
+{
+    char::from(if number < 10 {
+        b'0' + number
+    } else {
+        b'A' + (number - 10)
+    })
+}
+
+/// Prints the last `count` digits of a number.
+#[tactic(auto, using(crate::proofs::Base32Lemmas::digits_none, crate::proofs::Base32Lemmas::digits_more))]
+fn write_digits<W: fmt::Write>(f: &mut fmt::Formatter<W>, count: u8, number: u64) -> fmt::Result
+    ensures { WritesOnOk W.write_str_gives f.old result (base32_digits count number) f.new }
+{
+    if count == 0 {
+        return Ok(());
+    }
+    write_digits(f, count - 1, number / 32)?;
+    f.write_char(digit((number % 32) as u8))
+}
+
+/// Prints at most four octets in base32.
+fn write_last<W: fmt::Write>(f: &mut fmt::Formatter<W>, octets: &[u8]) -> fmt::Result
+    requires { length octets.now < 5 }
+    ensures { WritesOnOk W.write_str_gives f.old result (base32_text octets.now) f.new }
+{
+    match octets {
+        [] => Ok(()),
+        [a] => write_digits(f, 2, number_of(&[*a]) * 4),
+        [a, b] => write_digits(f, 4, number_of(&[*a, *b]) * 16),
+        [a, b, c] => write_digits(f, 5, number_of(&[*a, *b, *c]) * 2),
+        [a, b, c, d] => write_digits(f, 7, number_of(&[*a, *b, *c, *d]) * 8),
+        _ => Ok(()),
+    }
+}
+
+/// Prints octets in base32.
+fn write_octets<W: fmt::Write>(f: &mut fmt::Formatter<W>, octets: &[u8]) -> fmt::Result
+    ensures { WritesOnOk W.write_str_gives f.old result (base32_text octets.now) f.new }
+{
+    if octets.len() < 5 {
+        return write_last(f, octets);
+    }
+    let (group, after) = octets.split_at(5);
+    write_digits(f, 8, number_of(group))?;
+    write_octets(f, after)
+}
+
+impl fmt::Display for Base32<'_> {
+    ghost output = { λ base32. Some (base32_text base32.0.now) };
+
+    fn fmt<W: fmt::Write>(&self, f: &mut fmt::Formatter<W>) -> fmt::Result {
+        write_octets(f, self.0)
+    }
+}
