@@ -1,2 +1,3 @@
 mod Base32Lemmas
+mod HexTexts
 mod TimeLemmas

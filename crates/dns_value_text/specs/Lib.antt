@@ -1,9 +1,12 @@
 pub mod Addresses
 pub mod Base32
 pub mod Hex
+pub mod Laws
 pub mod LocationItems
 pub mod Locations
 pub mod Number
+pub mod Octets
+pub mod Reading
 pub mod String
 pub mod Tags
 pub mod Time

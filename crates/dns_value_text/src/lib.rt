@@ -1,20 +1,28 @@
-//! Values of record data in presentation format: each is printed by its `Display`.
+//! Values of record data in presentation format: each is printed by its `Display`, without allocating
+//! memory, and numbers and octets are read from a word. What is printed is a definition of specs/.
 //!
-//! Printing allocates no memory. What is printed is a definition of specs/. Addresses of IPv4 and
-//! IPv6 are std's, base64 is that of the crate `base64`, and names are those of `dns_name`.
+//! Addresses of IPv4 and IPv6 are std's, base64 is that of the crate `base64`, and names are those of
+//! `dns_name`.
 #![tactic(auto)]
 
 mod address;
 mod base32;
 mod hex;
+pub mod laws;
 mod location;
 mod number;
+mod number_word;
+mod octets_word;
 mod string;
+mod text_error;
 mod time;
 
 pub use address::{Eui, Locator64};
 pub use base32::Base32;
 pub use hex::Hex;
 pub use location::Location;
+pub use number_word::read_number;
+pub use octets_word::{read_base64, read_hex};
 pub use string::{Quoted, Tag};
+pub use text_error::TextError;
 pub use time::Timestamp;
