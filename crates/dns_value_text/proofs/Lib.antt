@@ -1,3 +1,4 @@
 mod Base32Lemmas
 mod HexTexts
+mod StringSteps
 mod TimeLemmas

@@ -8,5 +8,6 @@ pub mod Number
 pub mod Octets
 pub mod Reading
 pub mod String
+pub mod Strings
 pub mod Tags
 pub mod Time

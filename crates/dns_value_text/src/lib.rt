@@ -1,5 +1,5 @@
 //! Values of record data in presentation format: each is printed by its `Display`, without allocating
-//! memory, and numbers and octets are read from a word. What is printed is a definition of specs/.
+//! memory. What is printed is a definition of specs/. Numbers, octets and strings are read from a word.
 //!
 //! Addresses of IPv4 and IPv6 are std's, base64 is that of the crate `base64`, and names are those of
 //! `dns_name`.
@@ -14,6 +14,7 @@ mod number;
 mod number_word;
 mod octets_word;
 mod string;
+mod string_word;
 mod text_error;
 mod time;
 
@@ -24,5 +25,6 @@ pub use location::Location;
 pub use number_word::read_number;
 pub use octets_word::{read_base64, read_hex};
 pub use string::{Quoted, Tag};
+pub use string_word::read_string;
 pub use text_error::TextError;
 pub use time::Timestamp;
