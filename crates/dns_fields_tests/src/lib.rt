@@ -1,15 +1,12 @@
 //! Tests of RDATA as fields. The rows are examples of the RFCs, or have their form; the expected
 //! values come from outside this library.
 //!
-//! Nothing is exported. `hosts`, `security` and `services` have three rows or more for each record
-//! type, `row` compares a row with what is read, and `malformed` has octets that aren't RDATA. A
-//! failure prints the row.
+//! Nothing is exported. `rows` has well-formed RDATA, `row` compares a row with what is read, and
+//! `malformed` has octets that aren't RDATA. A failure prints the row.
 #![tactic(auto)]
 
 #[cfg(test)]
 mod canonical;
-#[cfg(test)]
-mod hosts;
 #[cfg(test)]
 mod long;
 #[cfg(test)]
@@ -20,7 +17,3 @@ mod pointers;
 mod row;
 #[cfg(test)]
 mod rows;
-#[cfg(test)]
-mod security;
-#[cfg(test)]
-mod services;
