@@ -7,7 +7,7 @@
 
 mod address;
 mod base32;
-mod hex;
+mod hexadecimal;
 pub mod laws;
 mod location;
 mod number;
@@ -20,7 +20,7 @@ mod time;
 
 pub use address::{Eui, Locator64};
 pub use base32::Base32;
-pub use hex::Hex;
+pub use hexadecimal::Hex;
 pub use location::Location;
 pub use number_word::read_number;
 pub use octets_word::{read_base64, read_hex};

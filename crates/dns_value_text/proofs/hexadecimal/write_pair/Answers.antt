@@ -3,7 +3,7 @@ use Rattle.std.proofs.lemmas.Fmt.{hex_byte}
 use Rattle.std.specs.Fmt.{DisplaysOnOk, format_spec, padded_integral, styled_digits_output}
 use Rattle.std.specs.Prelude.{Option, option_map}
 use Rattle.dns_value_text.specs.Hex.{hex_pair}
-use Rattle.dns_value_text.proofs.hex.write_pair.Goals as goal
+use Rattle.dns_value_text.proofs.hexadecimal.write_pair.Goals as goal
 
 pub returns : goal.returns
 returns g c =
