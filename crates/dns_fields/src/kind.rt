@@ -34,12 +34,13 @@ pub enum Kind {
     PointedName,
     /// A name that is never compressed. Its canonical form is lowercased (RFC 4034 section 6.2).
     LowercasedName,
-    /// A name that is never compressed. Its canonical form keeps the letter case (RFC 6840 section
-    /// 5.1).
+    /// A name that is never compressed. Its canonical form keeps the letter case (RFC 3597 section 7;
+    /// of NSEC RFC 6840 section 5.1).
     PlainName,
     /// A character string, printed in quotes (RFC 1035 sections 3.3 and 5.1).
     CharacterString,
-    /// A character string of letters and digits, printed without quotes (RFC 8659 section 4.1).
+    /// A character string, printed without quotes (RFC 8659 section 4.1.1). That it has letters and
+    /// digits alone isn't tested.
     Tag,
     /// A length octet and that number of octets, printed in hexadecimal, or as `-` if there are none
     /// (RFC 5155 section 3.3).

@@ -152,7 +152,7 @@ pub const TABLE: &[(u16, &str, &[(&str, Kind)])] = &[
             ("replacement", PointedName),
         ],
     ),
-    // RFC 2230
+    // RFC 2230 section 3.1
     (
         36,
         "KX",
@@ -424,7 +424,7 @@ pub const TABLE: &[(u16, &str, &[(&str, Kind)])] = &[
         "AMTRELAY",
         &[("precedence", Number8), ("relay", Relay)],
     ),
-    // RFC 9606 section 5
+    // RFC 9606 section 4
     (261, "RESINFO", &[("txt-data", Strings)]),
     // the template of the IANA registry
     (262, "WALLET", &[("txt-data", Strings)]),
