@@ -3,7 +3,8 @@ use crate::record::Record;
 use dns_data::RecordData;
 use std::fmt;
 
-/// The owner, a dot, the TTL in seconds, the class, the type and the RDATA, separated by one space.
+/// The owner with a final dot, the TTL in seconds, the class, the type and the RDATA, separated by one
+/// space.
 impl<N: fmt::Display, D: RecordData + fmt::Display> fmt::Display for Record<N, D> {
     ghost use Rattle.dns_item.specs.RecordPrinting.{record_text};
 

@@ -12,8 +12,9 @@ use crate::suffix_map::{Key, SuffixMap};
 use crate::texts::{Found, reaches};
 use std::alloc::{AllocError, Global};
 
-/// The suffixes in the table, and the longest suffix of the last name that was in it, or all of that
-/// name. Consecutive names often share it, so it is tried first.
+/// The suffixes in the table, and a recent one, which is tried first as consecutive names often share
+/// it: the longest suffix of the last name that the table had already, or the whole name if it had
+/// none.
 #[derive(Debug, Drop)]
 pub struct HashIndex {
     suffixes: SuffixMap,

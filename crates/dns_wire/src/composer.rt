@@ -47,7 +47,7 @@ pub trait Composer: Drop {
         ensures { result ≡ compresses rule };
 
     /// Truncates the content to `len` octets, if it has more. Removes the table entries of names
-    /// that end after them.
+    /// that end past `len`.
     fn truncate(&mut self, len: usize)
         ensures cut { written self.new ≡ cut_to len (written self.old) }
         ensures is_target { IsTarget (written self.new) };
