@@ -13,8 +13,8 @@ use crate::texts::{Found, reaches};
 use std::alloc::{AllocError, Global};
 
 /// The suffixes in the table, and a recent one, which is tried first as consecutive names often share
-/// it: the longest suffix of the last name that the table had already, or the whole name if it had
-/// none.
+/// it: of the last name the longest suffix that was in the table before, or the whole name if there
+/// was none and it entered.
 #[derive(Debug, Drop)]
 pub struct HashIndex {
     suffixes: SuffixMap,

@@ -129,7 +129,7 @@ pointer offset = (192 + offset / 256) ∷ offset % 256 ∷ []
 abbrev pub static_entries : ℕ
 static_entries = 24
 
--- Whether a suffix at this offset may enter the table, which has `entry_count` entries. Under the hash rule each may here: `entering_suffixes` decides afterwards, over the whole name.
+-- Whether a suffix at this offset may enter the table, which has `entry_count` entries. Under the hash rule this is always true: `entering_suffixes` decides later, for the whole name at once.
 abbrev pub may_enter : Rule → ℕ → ℕ → Bool
 may_enter Plain offset entry_count = false
 may_enter Static offset entry_count = nat_lt offset pointer_end && nat_lt entry_count static_entries
