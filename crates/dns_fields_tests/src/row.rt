@@ -4,40 +4,32 @@ use dns_data::ParseAnyRecordData;
 use dns_fields::{FieldData, Value};
 use dns_wire::{ParseError, Parser};
 
-/// RDATA: where it comes from, its type, its octets, and the values of its fields.
+/// RDATA: where it comes from, its type, its octets, and its fields.
 pub(crate) type Row = (&'static str, u16, &'static [u8], &'static [Expected]);
 
-/// The value of a field. A name is its uncompressed octets.
-#[derive(Clone, Copy, Debug)]
-pub(crate) enum Expected {
-    Number(u64),
-    RecordType(u16),
-    Ipv4(&'static [u8]),
-    Ipv6(&'static [u8]),
-    Name(&'static [u8]),
-    String(&'static [u8]),
-    Sized(&'static [u8]),
-    Octets(&'static [u8]),
+/// The name of a field; its number, 0 if it is none; and its octets, none if it is a number. Those of
+/// a name are uncompressed.
+pub(crate) type Expected = (&'static str, u64, &'static [u8]);
+
+/// Whether the value is the number, or no number if that is 0.
+pub(crate) fn has_number(value: Value<'_>, number: u64) -> bool {
+    match value {
+        Value::Number(is) => is == number,
+        Value::RecordType(is) => u64::from(is.to_int()) == number,
+        _ => number == 0,
+    }
 }
 
-impl Expected {
-    /// Whether the value is the expected one.
-    pub(crate) fn is(self, value: Value<'_>) -> bool {
-        match value {
-            Value::Number(number) => matches!(self, Expected::Number(is) if is == number),
-            Value::RecordType(rtype) => {
-                matches!(self, Expected::RecordType(is) if is == rtype.to_int())
-            }
-            Value::Ipv4(octets) => matches!(self, Expected::Ipv4(is) if is == octets),
-            Value::Ipv6(octets) => matches!(self, Expected::Ipv6(is) if is == octets),
-            Value::Name(name) => {
-                let octets = name.uncompressed();
-                matches!(self, Expected::Name(is) if is == octets.as_slice())
-            }
-            Value::String(octets) => matches!(self, Expected::String(is) if is == octets),
-            Value::Sized(octets) => matches!(self, Expected::Sized(is) if is == octets),
-            Value::Octets(octets) => matches!(self, Expected::Octets(is) if is == octets),
-        }
+/// Whether the value has the octets, or is a number if there are none.
+pub(crate) fn has_octets(value: Value<'_>, octets: &[u8]) -> bool {
+    match value {
+        Value::Number(_) | Value::RecordType(_) => octets.is_empty(),
+        Value::Name(name) => name.uncompressed().as_slice() == octets,
+        Value::Ipv4(is) => is == octets,
+        Value::Ipv6(is) => is == octets,
+        Value::String(is) => is == octets,
+        Value::Sized(is) => is == octets,
+        Value::Octets(is) => is == octets,
     }
 }
 
