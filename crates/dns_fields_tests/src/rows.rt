@@ -180,7 +180,7 @@ fn read_rows(rt: &impl Abort, rows: &[Row]) -> Result<(), Fail> {
             let Some(value) = expected.next() else {
                 panic!(rt; "one value more in {row:?}")
             };
-            let is_value = has_number(field.value(), value.1) && has_octets(field.value(), value.2);
+            let is_value = has_number(&field, value.1) && has_octets(&field, value.2);
             assert!(rt; is_value, "{} in {row:?}", field.name);
             assert_eq!(rt; field.name, value.0);
         }
