@@ -81,7 +81,7 @@ HasLabelsInPointerRange s b = PartsInPointerRange b (length b) header_size (part
 abbrev pub IsShortestOf : State → List ℕ → Type 0
 IsShortestOf s b = (n : ℕ) × (length b ≡ header_size + n) × IsShortest (parts_of s) n
 
--- The octets are the encoding of the state and read back as it. Each pointer of a name leads to an earlier label below offset 16,384. While all labels of names that may be compressed begin below 16,384, as they do in at most 16,384 octets, no compression of the names is shorter: under the tree and the hash rule, and under the static rule while the table has fewer than 24 suffixes.
+-- The octets are the encoding of the state and read back as it. Each pointer of a name leads to an earlier label below offset 16,384. No compression of the names is shorter, while all labels of names that may be compressed begin below 16,384. This holds under the tree and the hash rule, and under the static rule while the table has fewer than 24 suffixes.
 pub record IsMessageOf (rule : Rule) (s : State) (b : List ℕ) : Type 0 where
   pub octets : b ≡ (encode rule s).octets
   pub reads_back : ReadsBack s b

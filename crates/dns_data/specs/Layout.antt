@@ -23,7 +23,7 @@ pub data Layout : Type 0 where
   SizedOctets : Layout → Layout
   -- a name, perhaps with a pointer, and then the remaining fields
   DomainName : Layout → Layout
-  -- a name that is never compressed when it is written (RFC 3597 section 4), and then the remaining fields. The first flag says whether it may have a pointer when it is read, as section 4 asks for SRV and NAPTR; the second, whether its canonical form is lowercased (RFC 4034 section 6.2), as for SRV but not NSEC (RFC 6840 section 5.1)
+  -- a name that is never compressed when it is written (RFC 3597 section 4), and then the remaining fields. If the first flag is set, the name may have a pointer when it is read, as section 4 asks for SRV and NAPTR. If the second is set, its canonical form is lowercased (RFC 4034 section 6.2), as that of SRV is, but not that of NSEC (RFC 6840 section 5.1).
   UncompressedDomainName : Bool → Bool → Layout → Layout
 
 -- the number of octets of a character string at offset p, its length octet included
@@ -95,7 +95,7 @@ DataAt b (UncompressedDomainName pointers lowercased layout) p q (CompressibleNa
 DataAt b (UncompressedDomainName pointers lowercased layout) p q (UncompressedName flag name ∷ parts) =
     (r : ℕ) × NameAt b p name × NameEndsAt b p r × DataAt b layout r q parts × (flag ≡ lowercased) × (may_be_encoded pointers name p r ≡ true)
 
--- why the fields aren't at offset p: the first field that isn't there lacks octets, or its name has a fault, or a pointer that it may not have; or they are there and take too many octets
+-- Why the fields aren't at offset p. The first field that isn't there lacks octets, or its name has a fault, or a pointer that it may not have. Or all fields are there, and take too many octets.
 abbrev pub DataFaultAt : List ℕ → Layout → ℕ → Fault → Type 0
 DataFaultAt b End p f = ⊥
 DataFaultAt b (Rest accepts) p f = (f ≡ ShortInput) × (IsTrue (accepts (drop p b)) → ⊥)

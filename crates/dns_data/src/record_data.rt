@@ -43,9 +43,9 @@ pub trait ComposeRecordData: RecordData {
             (T.written target.old) (T.written target.new) result }
         ensures is_data { IsData (Self.parts self.now) };
 
-    /// Appends the parts in canonical form: names uncompressed and lowercased (RFC 4034 section
-    /// 6.2), except that some names that are never compressed keep their letter case, and other
-    /// octets as they are. Errors are as for `compose_rdata`.
+    /// Appends the parts in canonical form (RFC 4034 section 6.2): names are uncompressed and
+    /// lowercased, other octets as they are. Some names keep their letter case, as that of NSEC
+    /// does. Errors are as for `compose_rdata`.
     fn compose_canonical_rdata<T: Composer>(&self, target: &mut T) -> Result<(), AppendError>
         ensures { Composes T.capacity T.grows
             (encode_parts T.rule (canonical (Self.parts self.now)))

@@ -10,9 +10,9 @@ use dns_data::{ComposeRecordData, compose_canonical_len_rdata};
 use dns_wire::{AppendError, Composer, ToName, ToNameExt};
 
 impl<N: ToName, D: ComposeRecordData> Record<N, D> {
-    /// Appends the record in canonical form (RFC 4034 section 6.2): the owner and the names in the
-    /// RDATA are uncompressed and lowercased, except that some names that are never compressed keep
-    /// their letter case.
+    /// Appends the record in canonical form (RFC 4034 section 6.2). The owner and the names in the
+    /// RDATA are uncompressed and lowercased. Some names in RDATA keep their letter case, as that of
+    /// NSEC does.
     ///
     /// On error the content still begins with the old content. A `truncate` to the old length
     /// restores the old target.

@@ -31,8 +31,8 @@ impl<Octs: Octets> Message<Octs> {
     }
 
     /// The last additional record, with RDATA parsed. Returns `None` if the additional section has
-    /// no start or no records, if one of its records can't be read, if `D` doesn't accept the type
-    /// of the last, or if the RDATA of the last is malformed.
+    /// no start, no records, or a malformed record. Also returns `None` if `D` doesn't accept the
+    /// type of the last record, or its RDATA is malformed.
     pub fn get_last_additional<'a, D: ParseRecordData<'a> + Drop>(
         &'a self,
     ) -> Option<Record<ParsedName<'a>, D>>

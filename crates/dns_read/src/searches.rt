@@ -43,8 +43,8 @@ impl<Octs: Octets> Message<Octs> {
         }
     }
 
-    /// Whether this message is a response to `query`: QR is set, the IDs and QDCOUNTs are equal
-    /// (RFC 1035 section 4.1.1), and the questions are the same, in order and all readable.
+    /// Whether this message is a response to `query`: QR is set, and the IDs and QDCOUNTs are equal
+    /// (RFC 1035 section 4.1.1). All questions must be well-formed, equal, and in the same order.
     pub fn is_answer<Other: Octets>(&self, query: &Message<Other>) -> bool
         ensures { result ≡ answers_query (message_octets self.now) (message_octets query.now) }
     {

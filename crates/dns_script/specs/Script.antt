@@ -159,7 +159,7 @@ module _ (capacity : Option ℕ) (grows : Bool) where
     abbrev pub Stays : state.Stage → Built → Call Q R → Reply → Built → Type 0
     Stays at old call reply new = (s : State) → Represents at rule s old → IsReply s call reply × Represents at rule (after question item s call reply) new
 
-    -- The headline. From a state, through a list of calls: each call has its reply, the new stage represents the state after them, and its octets are those of a message with that state's header and items.
+    -- A list of calls on a builder that represents the state `s`. Each call has its reply. The new stage represents the state after the calls. Its octets are a message with the header and items of that state.
     pub record Runs {T : Type 0} (s : State) (calls : List (Call Q R)) (replies : List Reply) (new : Stage T) : Type 0 where
       pub replied : AreReplies s calls replies
       pub represents : StageRepresents rule (after_all question item s calls replies) new

@@ -12,13 +12,13 @@ use crate::suffix_map::{Key, SuffixMap};
 use crate::texts::{Found, reaches};
 use std::alloc::{AllocError, Global};
 
-/// The suffixes in the table, and a recent one, which is tried first as consecutive names often share
-/// it: of the last name the longest suffix that was in the table before, or the whole name if there
-/// was none and it entered.
+/// The suffixes in the table, and a recent one. The next name is first compared with the recent
+/// suffix, as consecutive names often share one. It is the longest suffix of the last name that was
+/// in the table before that name. If there was none, it is the whole name, if that entered.
 #[derive(Debug, Drop)]
 pub struct HashIndex {
     suffixes: SuffixMap,
-    /// The offset of that suffix, if there is one.
+    /// The offset of the recent suffix, if there is one.
     recent: Option<u16>,
     /// The number of its labels.
     recent_labels: usize,

@@ -74,9 +74,10 @@ impl Command {
 /// `build TARGET` reads a script, builds a message on the target, and prints the replies and the
 /// octets. `show` reads a message in hexadecimal digits, and prints its header, counts and items.
 ///
-/// The exit status is 0; 1 if a line of a script is malformed or its call misplaced, or if the
-/// digits are malformed or fewer than 12 octets; 2 for any other arguments; and 3 if reading,
-/// writing or an allocation fails. A push that fails is reported as its reply, whatever the reason.
+/// The exit status is 0; 1 if a line of a script can't be read or its call can't be made there, or
+/// if the digits are malformed or fewer than 12 octets; 2 for any other arguments; and 3 if reading,
+/// writing or an allocation fails. The reply to a push that fails is the reason, and the status is
+/// 0.
 pub fn tool<R: Read + Drop, W: Write + Drop>(
     alloc: Global,
     args: &[String],

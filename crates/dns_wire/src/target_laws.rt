@@ -42,10 +42,10 @@ pub fn names_and_parts_read_back()
     ensures parts { PartsReadBack }
 {}
 
-/// How each compressor writes a name, in terms of the longest suffix in the table and the first
-/// suffix that may not enter it: under static and tree one at or after offset 16,384, under static
-/// also any once the table has 24 entries. Hash adds all suffixes of a name, or none if one is at
-/// or after that offset.
+/// How each compressor writes a name: by its longest suffix in the table, and the first of its
+/// suffixes that may not enter the table. Under static and tree these are suffixes at or after
+/// offset 16,384. Under static no suffix may enter a table of 24 entries. Hash adds all suffixes of
+/// a name, or none if one is at or after that offset.
 pub fn names_by_choice()
     ensures names { NamesByChoice }
     ensures far { MayEnterUnlessKeptOut }
