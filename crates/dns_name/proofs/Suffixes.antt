@@ -35,16 +35,16 @@ among_suffixes [] base = (to, from)
     to : IsAmong (suffixes []) base → NameEndsWith [] base
     to (inl e) = ([], e)
     to (inr none) = absurd none
+
     from : NameEndsWith [] base → IsAmong (suffixes []) base
     from ([], e) = inl e
     from (label ∷ before, e) = cc e
-among_suffixes (label ∷ name) base = (to, from)
+among_suffixes (label ∷ name) base = let others = among_suffixes name base in (to others.0, from others.1)
   where
-    others : IsAmong (suffixes name) base ↔ NameEndsWith name base
-    others = among_suffixes name base
-    to : IsAmong (suffixes (label ∷ name)) base → NameEndsWith (label ∷ name) base
-    to (inl e) = ([], e)
-    to (inr h) = let e = others.0 h in (lowered_label label ∷ e.0, ap (λ (n : Labels). lowered_label label ∷ n) e.1)
-    from : NameEndsWith (label ∷ name) base → IsAmong (suffixes (label ∷ name)) base
-    from ([], e) = inl e
-    from (first ∷ before, e) = inr (others.1 (before, cc e))
+    to : (IsAmong (suffixes name) base → NameEndsWith name base) → IsAmong (suffixes (label ∷ name)) base → NameEndsWith (label ∷ name) base
+    to parent (inl e) = ([], e)
+    to parent (inr h) = let e = parent h in (lowered_label label ∷ e.0, ap (λ (n : Labels). lowered_label label ∷ n) e.1)
+
+    from : (NameEndsWith name base → IsAmong (suffixes name) base) → NameEndsWith (label ∷ name) base → IsAmong (suffixes (label ∷ name)) base
+    from parent ([], e) = inl e
+    from parent (first ∷ before, e) = inr (parent (before, cc e))
