@@ -1,5 +1,5 @@
 -- Names that start or end with the labels of another.
-use Rattle.std.proofs.Common.{◌≡◌, ◌↔◌, ℕ, List, [], ◌∷◌, ◌++◌, arith, ap, refl, inl, inr}
+use Rattle.std.proofs.Common.{◌≡◌, ◌↔◌, List, [], ◌∷◌, arith, ap, refl, inl, inr}
 use Rattle.std.specs.Prelude.{All, ◌⊎◌, ⊤}
 use Rattle.std.proofs.lemmas.List.Elements.{All-head, All-tail}
 use Rattle.dns_name.specs.Names.{Labels, IsLabel, lowered_label, lowered, with_root}

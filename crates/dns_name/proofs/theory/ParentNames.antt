@@ -1,6 +1,6 @@
 -- The parent of an encoded name.
 use Rattle.std.proofs.Common.{◌≡◌, ℕ, ◌+◌, ◌-◌, ◌≤◌, List, [], ◌∷◌, length, drop, arith, ap, refl}
-use Rattle.dns_name.specs.Names.{Labels, name_size, NameAt}
+use Rattle.dns_name.specs.Names.{Labels, name_size}
 use Rattle.dns_name.specs.Unique.{NameOfSizeAndCount}
 use Rattle.dns_name.specs.ParsedName.{label_octets, IsFirst}
 use Rattle.dns_name.specs.declared.label.Label.{Label}
