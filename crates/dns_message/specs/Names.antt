@@ -8,9 +8,11 @@ pub use Rattle.dns_name.specs.Names.Faulty.{head, long, cut, ahead, label, point
 pub use Rattle.dns_name.specs.Unique.{EncodedName, encoded_name, label_of}
 -- parsed names, and names in octets of their own
 pub use Rattle.dns_name.specs.ParsedName.{labels, labels_left, label_octets, IsFlat, IsFirst, ParsesName, SkipsName, ReadsEncoded}
+pub use Rattle.dns_name.specs.Suffixes.{suffixes, suffixes_left, NameStartsWith, NameEndsWith}
 pub use Rattle.dns_name.specs.Uncompressed.{IsUncompressed, NotUncompressed, WholeName}
 -- texts
-pub use Rattle.dns_name.specs.NameTexts.{name_text, label_text, SpellsName, NameTextFault}
+pub use Rattle.dns_name.specs.NameTexts.{name_text, dotted_text, label_text, SpellsName, NameTextFault}
+pub use Rattle.dns_name.specs.DottedNames.{dotted_labels}
 pub use Rattle.dns_name.specs.NameReading.{name_labels, name_buffer, ReadsName, SpellsSomeName}
 -- comparisons
 pub use Rattle.dns_name.specs.NameOrders.{names_equal, label_order, name_order, composed_order, label_hash_input, name_hash_input}

@@ -79,7 +79,9 @@ pub mod message {
 /// ```
 pub mod name {
     pub use dns_wire::name::{FromStrError, PresentationError};
-    pub use dns_wire::{Label, LabelIter, Name, ParsedName, ToName, ToNameExt};
+    pub use dns_wire::{
+        DisplayWithDot, Label, LabelIter, Name, ParsedName, SuffixIter, ToName, ToNameExt,
+    };
 }
 
 /// Records and their parts, and theorems on how questions and records are encoded and read.

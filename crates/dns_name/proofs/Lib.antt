@@ -8,3 +8,4 @@ mod OctetTexts
 mod NameTextReading
 mod PrintedNames
 mod FlatNames
+mod Suffixes

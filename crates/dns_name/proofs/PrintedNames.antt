@@ -1,10 +1,10 @@
 -- The printed text of a name represents it.
-use Rattle.std.proofs.Common.{◌≡◌, ℕ, ◌<◌, ◌+◌, ◌/◌, ◌%◌, Bool, true, false, List, [], ◌∷◌, subst, arith, refl, inr}
+use Rattle.std.proofs.Common.{◌≡◌, ℕ, ◌<◌, ◌+◌, ◌/◌, ◌%◌, Bool, true, false, List, [], ◌∷◌, subst, sym, append_assoc, arith, refl, inl, inr}
 use Rattle.std.specs.Prelude.{All, not, if◌then◌else◌}
 use Rattle.std.proofs.lemmas.Bool.Decides.{nat_tests}
 use Rattle.std.proofs.lemmas.List.Elements.{All-head, All-tail}
 use Rattle.dns_name.specs.Names.{Labels}
-use Rattle.dns_name.specs.NameTexts.{zero_digit, backslash, is_special, is_graphic, is_digit, is_plain, decimal_value, decimal_text, octet_text, label_text, name_text, SpellsOctet, SpellsLabel, SpellsLabels, PrintedNamesSpell}
+use Rattle.dns_name.specs.NameTexts.{dot, zero_digit, backslash, is_special, is_graphic, is_digit, is_plain, decimal_value, decimal_text, octet_text, label_text, name_text, dotted_text, SpellsOctet, SpellsLabel, SpellsLabels, PrintedNamesSpell, DottedNamesSpell}
 
 special_graphic : (o : ℕ) → is_special o ≡ true → is_graphic o ≡ true
 special_graphic o h = grind (arith, nat_tests)
@@ -52,3 +52,14 @@ labels_spelled label (next ∷ name) h =
 pub printed_names_spell : PrintedNamesSpell
 printed_names_spell [] n h some = absurd (some refl)
 printed_names_spell (label ∷ name) n h some = inr (labels_spelled label name h, n)
+
+dotted_spelled : (label : List ℕ) (name : Labels) → All OfOctets (label ∷ name) → SpellsLabels (dotted_text (label ∷ name)) (label ∷ name)
+dotted_spelled label [] h = SpellsLabels.closed (label_spelled label (All-head OfOctets label [] h))
+dotted_spelled label (next ∷ name) h =
+    subst (λ t. SpellsLabels t (label ∷ next ∷ name)) (sym (append_assoc (label_text label) (dot ∷ name_text (next ∷ name)) (dot ∷ [])))
+    (SpellsLabels.more (label_spelled label (All-head OfOctets label (next ∷ name) h)) (dotted_spelled next name (All-tail OfOctets label (next ∷ name) h)))
+
+-- The printed text with a final dot represents the name.
+pub dotted_names_spell : DottedNamesSpell
+dotted_names_spell [] n h = inl (refl, refl)
+dotted_names_spell (label ∷ name) n h = inr (dotted_spelled label name h, n)

@@ -9,3 +9,4 @@ pub mod Steps
 pub mod NameLemmas
 pub mod NameTextFaults
 pub mod Names
+pub mod ParentNames

@@ -4,6 +4,8 @@ pub mod CachedNames
 pub mod Laws
 pub mod Parsers
 pub mod ParsedName
+pub mod Suffixes
+pub mod DottedNames
 pub mod Uncompressed
 pub mod NameOrders
 pub mod NameTexts

@@ -50,6 +50,10 @@ label_text label = flat_map octet_text label
 abbrev pub name_text : Labels → List ℕ
 name_text name = join_with_byte dot (map label_text name)
 
+-- How a name is printed with a final dot. The root is a single dot.
+abbrev pub dotted_text : Labels → List ℕ
+dotted_text name = name_text name ++ dot ∷ []
+
 -- The number that three decimal digits represent.
 abbrev pub decimal_value : ℕ → ℕ → ℕ → ℕ
 decimal_value a b c = (a - zero_digit) * 100 + (b - zero_digit) * 10 + (c - zero_digit)
@@ -122,3 +126,7 @@ OneTextName = (text : List ℕ) (m n : Labels) → SpellsName text m → SpellsN
 -- The printed text of a name represents that name, except for the root.
 abbrev pub PrintedNamesSpell : Type 0
 PrintedNamesSpell = (name : Labels) → IsName name → All (λ label. All (λ o. o < 256) label) name → (name ≡ [] → ⊥) → SpellsName (name_text name) name
+
+-- The printed text of a name with a final dot represents that name.
+abbrev pub DottedNamesSpell : Type 0
+DottedNamesSpell = (name : Labels) → IsName name → All (λ label. All (λ o. o < 256) label) name → SpellsName (dotted_text name) name

@@ -3,9 +3,11 @@ ghost use Rattle.std.specs.Prelude.{◌≡◌, ◌↔◌, IsTrue, fold, length, 
 ghost use Rattle.dns_name.specs.Names.{lowered, with_root};
 ghost use Rattle.dns_name.specs.NameOrders.{name_order, composed_order, name_hash_input};
 ghost use Rattle.dns_name.specs.ParsedName.{labels, labels_left};
+ghost use Rattle.dns_name.specs.Suffixes.{NameStartsWith, NameEndsWith};
 
 use crate::label_iter::LabelIter;
 use crate::parsed_name::ParsedName;
+use crate::to_name::ToName;
 use std::cmp::Ordering;
 use std::hash::{Hash, Hasher};
 
@@ -46,6 +48,61 @@ pub fn same_octets(name: &ParsedName<'_>, other: &ParsedName<'_>) -> bool
         }
     }
     rest.next().is_none()
+}
+
+/// Returns whether the first labels of `name` are those of `base`, ignoring ASCII case. The root
+/// labels don't count.
+fn has_first_labels(name: &ParsedName<'_>, base: &ParsedName<'_>) -> bool
+    ensures { IsTrue result ↔ NameStartsWith (labels name.now) (labels base.now) }
+{
+    let mut rest = name.iter_labels();
+    for base_label in base.iter_labels() {
+        if base_label.is_root() {
+            return true;
+        }
+        let Some(label) = rest.next() else {
+            return false;
+        };
+        if !label.is_same(&base_label) {
+            return false;
+        }
+    }
+    true
+}
+
+/// Returns whether the last labels of `name` are those of `base`, ignoring ASCII case.
+fn has_last_labels(name: &ParsedName<'_>, base: &ParsedName<'_>) -> bool
+    ensures { IsTrue result ↔ NameEndsWith (labels name.now) (labels base.now) }
+{
+    for suffix in name.iter_suffixes() {
+        if same_labels(&suffix, base) {
+            return true;
+        }
+    }
+    false
+}
+
+impl ParsedName<'_> {
+    /// Returns whether the first labels of this name are those of `base`, ignoring ASCII case.
+    ///
+    /// The root label of `base` doesn't count: `www.example.com` starts with `www.example`, and each
+    /// name starts with the root.
+    pub fn starts_with<N: ToName>(&self, base: &N) -> bool
+        ensures { IsTrue result ↔ NameStartsWith (labels self.now) (N.name base.now) }
+    {
+        has_first_labels(self, &base.as_parsed())
+    }
+
+    /// Returns whether this name is `base` or a subdomain of it, ignoring ASCII case (RFC 1034
+    /// section 3.1).
+    ///
+    /// Whole labels count: `www.example.com` ends with `example.com`, but `anexample.com` doesn't.
+    /// Each name ends with the root.
+    pub fn ends_with<N: ToName>(&self, base: &N) -> bool
+        ensures { IsTrue result ↔ NameEndsWith (labels self.now) (N.name base.now) }
+    {
+        has_last_labels(self, &base.as_parsed())
+    }
 }
 
 /// Compares the labels from the root leftwards, ignoring ASCII case (RFC 4034 section 6.1).

@@ -2,7 +2,7 @@
 //! over all octets and offsets, or over all texts.
 ghost use Rattle.dns_name.specs.Laws.{NameOrFault, NameOrFaultNotBoth, OneName, OneFault, EncodedNamesAreNames, EndOrSkipFault, EndOrSkipFaultNotBoth, OneEnd, EncodedNamesEnd, SkipFaultsAreFaults, SkippingEndsAlike, SkippingFailsAlike};
 ghost use Rattle.dns_name.specs.Laws.{NameOrderIsTotal, ComposedOrderIsTotal, NameOrderAgrees, ComposedOrderAgrees, EqualNamesHashAlike};
-ghost use Rattle.dns_name.specs.NameTexts.{OneTextFault, OneTextName, PrintedNamesSpell, TextNameOrFault, TextNameOrFaultNotBoth};
+ghost use Rattle.dns_name.specs.NameTexts.{DottedNamesSpell, OneTextFault, OneTextName, PrintedNamesSpell, TextNameOrFault, TextNameOrFaultNotBoth};
 
 /// At each offset either exactly one name is encoded, or reading fails with exactly one fault,
 /// never both.
@@ -46,11 +46,12 @@ pub fn name_orders()
 {}
 
 /// A text represents one name or has one leftmost fault, never both. A printed name, except the
-/// root, represents that name.
+/// root, represents that name; with a final dot, each does.
 pub fn names_as_texts()
     ensures some { TextNameOrFault }
     ensures not_both { TextNameOrFaultNotBoth }
     ensures one_name { OneTextName }
     ensures one_fault { OneTextFault }
     ensures printed { PrintedNamesSpell }
+    ensures dotted { DottedNamesSpell }
 {}

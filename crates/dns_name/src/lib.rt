@@ -20,6 +20,7 @@ mod name_print;
 mod name_text;
 mod parsed_name;
 mod parser;
+mod suffix_iter;
 mod to_name;
 
 pub use cached_name::CachedName;
@@ -29,6 +30,8 @@ pub use head::Head;
 pub use label::Label;
 pub use label_iter::LabelIter;
 pub use name::Name;
+pub use name_print::DisplayWithDot;
 pub use parsed_name::ParsedName;
 pub use parser::Parser;
+pub use suffix_iter::SuffixIter;
 pub use to_name::ToName;

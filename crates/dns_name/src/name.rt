@@ -4,7 +4,9 @@ ghost use Rattle.dns_name.specs.Uncompressed.{WholeName, WholeName-prop};
 use crate::compare::hash_name;
 use crate::head::Head;
 pub use crate::name_error::{FromStrError, PresentationError};
+use crate::name_print::DisplayWithDot;
 use crate::parsed_name::ParsedName;
+use crate::suffix_iter::SuffixIter;
 use crate::to_name::ToName;
 use dns_octets::{FormError, Octets, ParseError};
 use std::alloc::AllocError;
@@ -30,8 +32,12 @@ impl Name<&'static [u8]> {
 }
 
 impl<Octs: Octets> Name<Octs> {
-    ghost use Rattle.dns_name.specs.Names.{fault_of, uncompressed};
+    ghost use Rattle.std.specs.Prelude.{◌↔◌, IsTrue, IfSome, None, drop};
+    ghost use Rattle.dns_name.specs.Names.{fault_of, uncompressed, with_root};
     ghost use Rattle.dns_name.specs.NameReading.{name_labels};
+    ghost use Rattle.dns_name.specs.DottedNames.{dotted_labels};
+    ghost use Rattle.dns_name.specs.ParsedName.{labels};
+    ghost use Rattle.dns_name.specs.Suffixes.{suffixes, suffixes_left, NameStartsWith, NameEndsWith};
     ghost use Rattle.dns_name.specs.Uncompressed.{IsUncompressed, NotUncompressed};
 
     /// Creates a name from `octets`, which must be exactly one uncompressed name.
@@ -60,6 +66,58 @@ impl<Octs: Octets> Name<Octs> {
         ensures { result.now ≡ uncompressed (name_labels self.now) }
     {
         self.octets.octets()
+    }
+
+    /// Returns the number of labels, with the root label: 1 to 128.
+    pub fn label_count(&self) -> usize
+        ensures { result ≡ length (with_root (name_labels self.now)) }
+    {
+        self.as_parsed().label_count()
+    }
+
+    /// Returns the name without its first label, or `None` for the root.
+    pub fn parent(&self) -> Option<ParsedName<'_>>
+        ensures root { (result ≡ None) ↔ (name_labels self.now ≡ []) }
+        ensures parent { IfSome result (λ parent.
+            labels parent ≡ drop 1 (name_labels self.now)) }
+    {
+        self.as_parsed().parent()
+    }
+
+    /// Iterates over the suffixes of the name: the name itself, its parent, and so on. The root is
+    /// the last.
+    pub fn iter_suffixes(&self) -> SuffixIter<'_>
+        ensures { suffixes_left result ≡ suffixes (name_labels self.now) }
+    {
+        self.as_parsed().iter_suffixes()
+    }
+
+    /// Returns whether the first labels of this name are those of `base`, ignoring ASCII case.
+    ///
+    /// The root label of `base` doesn't count: `www.example.com` starts with `www.example`, and each
+    /// name starts with the root.
+    pub fn starts_with<N: ToName>(&self, base: &N) -> bool
+        ensures { IsTrue result ↔ NameStartsWith (name_labels self.now) (N.name base.now) }
+    {
+        self.as_parsed().starts_with(base)
+    }
+
+    /// Returns whether this name is `base` or a subdomain of it, ignoring ASCII case (RFC 1034
+    /// section 3.1).
+    ///
+    /// Whole labels count: `www.example.com` ends with `example.com`, but `anexample.com` doesn't.
+    /// Each name ends with the root.
+    pub fn ends_with<N: ToName>(&self, base: &N) -> bool
+        ensures { IsTrue result ↔ NameEndsWith (name_labels self.now) (N.name base.now) }
+    {
+        self.as_parsed().ends_with(base)
+    }
+
+    /// Returns a value that displays the name with a final dot. The root is a single dot.
+    pub fn fmt_with_dot(&self) -> DisplayWithDot<'_>
+        ensures { dotted_labels result ≡ name_labels self.now }
+    {
+        self.as_parsed().fmt_with_dot()
     }
 }
 

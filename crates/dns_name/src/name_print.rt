@@ -3,7 +3,8 @@ ghost use Rattle.std.specs.Prelude.{◌≡◌, Some, ℕ};
 ghost use Rattle.std.specs.Fmt.{WritesOnOk};
 ghost use Rattle.dns_name.specs.ParsedName.{label_octets, labels};
 ghost use Rattle.dns_name.specs.NameReading.{name_labels};
-ghost use Rattle.dns_name.specs.NameTexts.{decimal_text, label_text, name_text, octet_text};
+ghost use Rattle.dns_name.specs.DottedNames.{dotted_labels};
+ghost use Rattle.dns_name.specs.NameTexts.{decimal_text, dotted_text, label_text, name_text, octet_text};
 
 use crate::label::Label;
 use crate::name::Name;
@@ -78,5 +79,30 @@ impl fmt::Display for ParsedName<'_> {
 
     fn fmt<W: fmt::Write>(&self, f: &mut fmt::Formatter<W>) -> fmt::Result {
         write_labels(f, self)
+    }
+}
+
+/// A name that is printed with a final dot. The root is a single dot.
+#[derive(Clone, Copy, Debug)]
+pub struct DisplayWithDot<'a> {
+    name: ParsedName<'a>,
+}
+
+/// Prints the text of the name and a dot.
+impl fmt::Display for DisplayWithDot<'_> {
+    ghost output = { λ it. Some (dotted_text (dotted_labels it)) };
+
+    fn fmt<W: fmt::Write>(&self, f: &mut fmt::Formatter<W>) -> fmt::Result {
+        write_labels(f, &self.name)?;
+        f.write_char('.')
+    }
+}
+
+impl<'a> ParsedName<'a> {
+    /// Returns a value that displays the name with a final dot. The root is a single dot.
+    pub fn fmt_with_dot(&self) -> DisplayWithDot<'a>
+        ensures { dotted_labels result ≡ labels self.now }
+    {
+        DisplayWithDot { name: *self }
     }
 }

@@ -156,8 +156,8 @@ fn read_name(text: &[u8]) -> Result<ArrayVec<u8, 255>, PresentationError>
 /// Reads a name: labels separated by dots, with an optional final dot. A single dot is the root.
 ///
 /// A backslash followed by three digits, up to 255, is one octet. A backslash followed by another
-/// graphic ASCII character is that character. A malformed text is `Presentation` with its leftmost
-/// error. Nothing is allocated.
+/// graphic ASCII character is that character: `\.` is a dot within a label, and `\\` a backslash. A
+/// malformed text is `Presentation` with its leftmost error. Nothing is allocated.
 impl FromStr for Name<ArrayVec<u8, 255>> {
     type Err = FromStrError;
 
@@ -172,7 +172,8 @@ impl FromStr for Name<ArrayVec<u8, 255>> {
 }
 
 impl Name<Vec<u8>> {
-    /// Reads a name into a `Vec` allocated from `alloc`.
+    /// Reads a name into a `Vec` allocated from `alloc`. The text has labels separated by dots, with
+    /// a final dot or none; `\.`, `\\` and `\DDD` are escapes, as in `FromStr`.
     ///
     /// Errors: `Presentation` if the text is malformed; `OutOfMemory` if it represents a name and
     /// the allocation fails.

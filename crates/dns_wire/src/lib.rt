@@ -13,7 +13,10 @@ mod to_name;
 
 pub use canonical_ord::CanonicalOrd;
 pub use composer::{CloneTarget, Composer, FreezeBuilder};
-pub use dns_name::{FlattenInto, Label, LabelIter, Name, ParsedName, Parser, ToName, laws, name};
+pub use dns_name::{
+    DisplayWithDot, FlattenInto, Label, LabelIter, Name, ParsedName, Parser, SuffixIter, ToName,
+    laws, name,
+};
 pub use dns_octets::{
     AppendError, BufferFrom, FormError, Octets, OctetsFrom, OctetsMut, ParseError, ShortBuf,
 };

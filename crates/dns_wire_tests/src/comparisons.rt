@@ -119,6 +119,78 @@ fn ignores_letter_case_but_for_octets_eq(rt: HostRuntime) {
     }
 }
 
+/// A name, and whether www.dE. starts and ends with it.
+struct Base {
+    name: &'static str,
+    octets: &'static [u8],
+    starts: bool,
+    ends: bool,
+}
+
+const BASES: &[Base] = &[
+    Base {
+        name: "the root",
+        octets: b"\x00",
+        starts: true,
+        ends: true,
+    },
+    Base {
+        name: "the name in other letter case",
+        octets: b"\x03wWw\x02DE\x00",
+        starts: true,
+        ends: true,
+    },
+    Base {
+        name: "the first label",
+        octets: b"\x03Www\x00",
+        starts: true,
+        ends: false,
+    },
+    Base {
+        name: "the parent",
+        octets: b"\x02De\x00",
+        starts: false,
+        ends: true,
+    },
+    Base {
+        name: "a subdomain",
+        octets: b"\x01a\x03www\x02de\x00",
+        starts: false,
+        ends: false,
+    },
+    Base {
+        name: "a name with one more label before the root",
+        octets: b"\x03www\x02de\x02de\x00",
+        starts: false,
+        ends: false,
+    },
+    Base {
+        name: "the first octets of the first label",
+        octets: b"\x02ww\x00",
+        starts: false,
+        ends: false,
+    },
+    Base {
+        name: "the last octet of the last label",
+        octets: b"\x01e\x00",
+        starts: false,
+        ends: false,
+    },
+];
+
+#[test]
+fn starts_and_ends_by_whole_labels(rt: HostRuntime) {
+    let pointer = name_at(&rt, NAMES, 8);
+    let own = name_of(&rt, b"\x03www\x02dE\x00");
+    for case in BASES {
+        let base = name_of(&rt, case.octets);
+        let starts = [pointer.starts_with(&base), own.starts_with(&&base)];
+        assert_same(&rt, case.name, starts, [case.starts; 2]);
+        let ends = [pointer.ends_with(&base), own.ends_with(&base.as_parsed())];
+        assert_same(&rt, case.name, ends, [case.ends; 2]);
+    }
+}
+
 /// The name in an array of octets.
 fn held_name(rt: &impl Abort, octets: [u8; 3]) -> Name<[u8; 3]> {
     Name::from_octets(octets).expect(rt, "a name")

@@ -1,5 +1,5 @@
 //! Names in presentation format, read and printed.
-use crate::asserts::{assert_prints, assert_same, name_at};
+use crate::asserts::{assert_prints, assert_same, name_at, name_of};
 use arrayvec::ArrayVec;
 use dns_wire::name::{FromStrError, PresentationError};
 use dns_wire::{Name, ToName};
@@ -140,6 +140,15 @@ fn reads_and_prints(rt: HostRuntime) {
 fn prints_a_parsed_name(rt: HostRuntime) {
     let name = name_at(&rt, b"\x03com\x00\x07ex.mple\xC0\x00", 5);
     assert_prints(&rt, rt.alloc(), "a parsed name", &name, "ex\\.mple.com");
+}
+
+#[test]
+fn prints_a_final_dot(rt: HostRuntime) {
+    let alloc = rt.alloc();
+    let name = name_of(&rt, b"\x02a.\x03COM\x00");
+    assert_prints(&rt, alloc, "a name", &name.fmt_with_dot(), "a\\..COM.");
+    let root = Name::root_slice();
+    assert_prints(&rt, alloc, "the root", &root.fmt_with_dot(), ".");
 }
 
 /// An error, and its text.

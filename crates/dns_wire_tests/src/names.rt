@@ -1,6 +1,6 @@
 //! Names in wire format: parsed, skipped, iterated over from both ends, and stored in octets of
 //! their own.
-use crate::asserts::{assert_octets, assert_same, name_at, name_of, parser_at};
+use crate::asserts::{assert_octets, assert_prints, assert_same, name_at, name_of, parser_at};
 use dns_wire::{
     Composer, FormError, Label, LabelIter, Name, ParseError, ParsedName, Parser, ToName, ToNameExt,
 };
@@ -273,6 +273,43 @@ fn goes_over_labels_from_both_ends(rt: HostRuntime) {
     assert_label(&rt, "the last label but one", labels.next_back(), b"com");
     assert_label(&rt, "the label between", labels.next(), b"example");
     assert_no_label(&rt, &mut labels);
+}
+
+/// The suffixes of a.example.com., each with its number of labels.
+const SUFFIXES: &[(&str, usize)] = &[
+    ("a.example.com.", 4),
+    ("example.com.", 3),
+    ("com.", 2),
+    (".", 1),
+];
+
+#[test]
+fn goes_over_suffixes(rt: HostRuntime) {
+    let name = name_at(&rt, EXAMPLE, 15);
+    let mut suffixes = name.iter_suffixes();
+    let mut ancestor = Some(name);
+    for &(text, count) in SUFFIXES {
+        let suffix = suffixes.next().expect(&rt, text);
+        assert_prints(&rt, rt.alloc(), text, &suffix.fmt_with_dot(), text);
+        assert_same(&rt, text, suffix.label_count(), count);
+        assert_same(&rt, text, ancestor, Some(suffix));
+        ancestor = suffix.parent();
+    }
+    assert_same(&rt, "the parent of the root", ancestor, None);
+    assert_same(&rt, "after the root", suffixes.next(), None);
+}
+
+#[test]
+fn goes_over_suffixes_of_own_octets(rt: HostRuntime) {
+    let name = name_of(&rt, b"\x03WwW\x02De\x00");
+    let counts = (name.label_count(), name.iter_suffixes().count());
+    assert_same(&rt, "the labels", counts, (3, 3));
+    let parent = name.parent().expect(&rt, "a parent");
+    assert_prints(&rt, rt.alloc(), "the parent", &parent.fmt_with_dot(), "De.");
+    let root = Name::root_slice();
+    let counts = (root.label_count(), root.iter_suffixes().count());
+    assert_same(&rt, "the root label", counts, (1, 1));
+    assert_same(&rt, "the parent of the root", root.parent(), None);
 }
 
 /// Octets, and the error for which they are no uncompressed name.

@@ -1,5 +1,5 @@
 use Rattle.dns_name.proofs.theory.NameTextFaults.{one_text_fault, text_name_or_fault_not_both, one_text_name, text_name_or_fault}
-use Rattle.dns_name.proofs.PrintedNames.{printed_names_spell}
+use Rattle.dns_name.proofs.PrintedNames.{printed_names_spell, dotted_names_spell}
 use Rattle.dns_name.proofs.laws.names_as_texts.Goals as goal
 
 pub returns-clause-some : goal.returns-clause-some
@@ -16,3 +16,6 @@ returns-clause-one_fault c = one_text_fault
 
 pub returns-clause-printed : goal.returns-clause-printed
 returns-clause-printed c = printed_names_spell
+
+pub returns-clause-dotted : goal.returns-clause-dotted
+returns-clause-dotted c = dotted_names_spell
