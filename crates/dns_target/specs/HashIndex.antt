@@ -99,7 +99,7 @@ keyed_again b c (s ∷ ss) e h =
     let n = h.0.0 in
     ((n, subst (λ (m : CompressionTable). ParentIsName m s.parent n) (ap (λ (ps : List (Labels × TableEntry)). from_entries {R = suffix_cmp} ps) (sym parts.1)) h.0.1, parts.0 ∙ h.0.2), keyed_again b c ss parts.1 h.1)
 
--- and an offset stays that of a suffix
+-- if the names at the offsets stay, an offset stays that of a suffix
 pub parent_again : (b c : List ℕ) (ss : List KeyedSuffix) (offset : Option ℕ) → named c (table_entries_in ss) ≡ named b (table_entries_in ss) → IsParent b ss offset → IsParent c ss offset
 parent_again b c ss offset e h = (h.0, subst (λ (m : CompressionTable). ParentIsName m offset h.0) (ap (λ (ps : List (Labels × TableEntry)). from_entries {R = suffix_cmp} ps) (sym e)) h.1)
 
