@@ -10,9 +10,11 @@ pub mod Gateways
 pub mod HostIdentities
 pub mod LaidOut
 pub mod Layouts
+pub mod NamesOfTypes
 pub mod Parameters
 pub mod PlainNames
 pub mod Prefixes
+pub mod RecordTypes
 pub mod Shapes
 pub mod Skipping
 pub mod Strings

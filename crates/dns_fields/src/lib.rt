@@ -10,6 +10,7 @@ mod fields;
 mod gateway;
 mod host_identity;
 mod kind;
+pub mod laws;
 mod parameters;
 mod plain_names;
 mod prefixes;
