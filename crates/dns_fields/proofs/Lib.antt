@@ -1,8 +1,11 @@
+mod CanonicalOrders
 mod ComposedFields
 mod FieldLemmas
 mod ItemSteps
 mod Iterated
+mod NamedFields
 mod NameSteps
+mod OrderedData
 mod Skipped
 mod TableLemmas
 mod Views

@@ -1,8 +1,10 @@
 pub mod Accepts
 pub mod Data
+pub mod DataOrders
 pub mod EncodedData
 pub mod EncodedFields
 pub mod FieldData
+pub mod FieldOrders
 pub mod FieldParts
 pub mod FieldsLeft
 pub mod Forms
@@ -11,6 +13,7 @@ pub mod HostIdentities
 pub mod LaidOut
 pub mod Layouts
 pub mod NamesOfTypes
+pub mod OrderLaws
 pub mod Parameters
 pub mod PlainNames
 pub mod Prefixes

@@ -1,6 +1,8 @@
 //! Theorems on the record types. Each contract is a theorem.
-ghost use Rattle.std.specs.Prelude.{◌≡◌, [], ◌∷◌, ◌++◌};
+ghost use Rattle.std.specs.Prelude.{◌≡◌, Some, [], ◌∷◌, ◌++◌, map};
 ghost use Rattle.std.specs.List.{range_with_len};
+ghost use Rattle.dns_number.specs.Mnemonics.{mnemonic};
+ghost use Rattle.dns_number.specs.Registry.{registered_types};
 ghost use Rattle.dns_fields.specs.NamesOfTypes.{types_with, may_be_compressed, may_have_pointer, is_lowercased};
 ghost use Rattle.dns_fields.specs.RecordTypes.{record_types};
 ghost use Rattle.dns_fields.specs.Table.{table_types};
@@ -9,6 +11,13 @@ ghost use Rattle.dns_fields.specs.Table.{table_types};
 #[tactic(auto, unfolding(crate::specs::Table::table_types, crate::specs::RecordTypes::record_types))]
 pub fn table_is_specified()
     ensures { table_types ≡ record_types }
+{}
+
+/// Each mnemonic is the registered name of the type's number, as `Rtype` prints it.
+#[tactic(auto, unfolding(crate::specs::RecordTypes::record_types, dns_number::specs::Registry::registered_types))]
+pub fn mnemonics_are_registered()
+    ensures { map (λ type. mnemonic registered_types type.number) record_types
+        ≡ map (λ type. Some type.mnemonic) record_types }
 {}
 
 /// The record types with a name that may be compressed (RFC 1035 section 3.3); those with a name

@@ -4,8 +4,10 @@
 
 mod accepts;
 mod compose;
+mod data_order;
 mod encoded;
 mod field_data;
+mod field_order;
 mod fields;
 mod gateway;
 mod host_identity;
