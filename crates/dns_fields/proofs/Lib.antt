@@ -6,6 +6,7 @@ mod Iterated
 mod NamedFields
 mod NameSteps
 mod OrderedData
+mod OwnedCopies
 mod Skipped
 mod TableLemmas
 mod Views

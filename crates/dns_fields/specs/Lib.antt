@@ -14,6 +14,8 @@ pub mod LaidOut
 pub mod Layouts
 pub mod NamesOfTypes
 pub mod OrderLaws
+pub mod OwnedData
+pub mod OwnedFields
 pub mod Parameters
 pub mod PlainNames
 pub mod Prefixes
