@@ -1,8 +1,12 @@
+mod CanonicalOrders
 mod ComposedFields
 mod FieldLemmas
 mod ItemSteps
 mod Iterated
+mod NamedFields
 mod NameSteps
+mod OrderedData
+mod OwnedCopies
 mod Skipped
 mod TableLemmas
 mod Views

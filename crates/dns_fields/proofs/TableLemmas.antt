@@ -4,7 +4,7 @@ use Rattle.std.specs.Prelude.{◌==◌, nat_le, codes, if◌then◌else◌}
 use Rattle.std.proofs.lemmas.List.{take_all}
 use Rattle.std.proofs.lemmas.Bool.{leb-true, le-leb, and_parts, and_from, eq-eqb, ne_eqb}
 use Rattle.dns_fields.specs.declared.kind.Kind.TheVariants.{Opaque}
-use Rattle.dns_fields.specs.Table.{Row, Definition, definitions, rows_of, fields_in, are_above}
+use Rattle.dns_fields.specs.Table.{Row, Definition, definitions, types_in, fields_in, are_above}
 
 above : (rows : List Row) (least i : ℕ) (other : Row) → are_above least rows ≡ true → i < length rows → least ≤ (get_or rows i other).0
 above [] least i other up l = absurd (omega arith)
@@ -39,7 +39,7 @@ drop_above (row ∷ rows) least (suc n) up =
 
 -- the row with this number has its fields
 pub found : (rows : List Row) (least i : ℕ) (other : Row) (rtype : ℕ) → are_above least rows ≡ true → i < length rows → (get_or rows i other).0 ≡ rtype
-    → fields_in (rows_of rows) rtype ≡ definitions (get_or rows i other).2.now
+    → fields_in (types_in rows) rtype ≡ definitions (get_or rows i other).2.now
 found [] least i other rtype up l e = absurd (omega arith)
 found (row ∷ rows) least zero other rtype up l e = rw (eq-eqb row.0 rtype e) refl
 found (row ∷ rows) least (suc i) other rtype up l e =
@@ -48,7 +48,7 @@ found (row ∷ rows) least (suc i) other rtype up l e =
     rw (ne_eqb row.0 rtype (λ same. omega arith)) (found rows (row.0 + 1) i other rtype both.1 (omega arith) e)
 
 -- a type below all rows has none
-absent : (rows : List Row) (least rtype : ℕ) → are_above least rows ≡ true → rtype < least → fields_in (rows_of rows) rtype ≡ (codes "data", Opaque) ∷ []
+absent : (rows : List Row) (least rtype : ℕ) → are_above least rows ≡ true → rtype < least → fields_in (types_in rows) rtype ≡ (codes "data", Opaque) ∷ []
 absent [] least rtype up l = refl
 absent (row ∷ rows) least rtype up l =
     let both = and_parts (nat_le least row.0) (are_above (row.0 + 1) rows) up in
@@ -57,7 +57,7 @@ absent (row ∷ rows) least rtype up l =
 
 -- a type below a row has its row before that row
 pub before : (rows : List Row) (least i : ℕ) (other : Row) (rtype : ℕ) → are_above least rows ≡ true → i < length rows → rtype < (get_or rows i other).0
-    → fields_in (rows_of rows) rtype ≡ fields_in (rows_of (take i rows)) rtype
+    → fields_in (types_in rows) rtype ≡ fields_in (types_in (take i rows)) rtype
 before [] least i other rtype up l below = absurd (omega arith)
 before (row ∷ rows) least zero other rtype up l below =
     let both = and_parts (nat_le least row.0) (are_above (row.0 + 1) rows) up in
@@ -68,7 +68,7 @@ before (row ∷ rows) least (suc i) other rtype up l below =
 
 -- a type above a row has its row after that row
 pub later : (rows : List Row) (least i : ℕ) (other : Row) (rtype : ℕ) → are_above least rows ≡ true → i < length rows → (get_or rows i other).0 < rtype
-    → fields_in (rows_of rows) rtype ≡ fields_in (rows_of (drop (suc i) rows)) rtype
+    → fields_in (types_in rows) rtype ≡ fields_in (types_in (drop (suc i) rows)) rtype
 later [] least i other rtype up l over = absurd (omega arith)
 later (row ∷ rows) least zero other rtype up l over = rw (ne_eqb row.0 rtype (λ same. omega arith)) refl
 later (row ∷ rows) least (suc i) other rtype up l over =

@@ -1,8 +1,10 @@
 pub mod Accepts
 pub mod Data
+pub mod DataOrders
 pub mod EncodedData
 pub mod EncodedFields
 pub mod FieldData
+pub mod FieldOrders
 pub mod FieldParts
 pub mod FieldsLeft
 pub mod Forms
@@ -10,9 +12,14 @@ pub mod Gateways
 pub mod HostIdentities
 pub mod LaidOut
 pub mod Layouts
+pub mod NamesOfTypes
+pub mod OrderLaws
+pub mod OwnedData
+pub mod OwnedFields
 pub mod Parameters
 pub mod PlainNames
 pub mod Prefixes
+pub mod RecordTypes
 pub mod Shapes
 pub mod Skipping
 pub mod Strings

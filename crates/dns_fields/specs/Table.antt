@@ -1,6 +1,8 @@
--- The fields of record types, by the table.
+-- The fields of record types, and the table as the code stores it.
+pub use Rattle.dns_fields.specs.RecordTypes.{Definition}
 use Rattle.std.specs.Prelude.{ℕ, ◌+◌, List, [], ◌∷◌, map, ◌==◌, nat_le, ◌&&◌, Bool, true, codes, if◌then◌else◌}
 use Rattle.std.specs.Borrow.{Bor}
+use Rattle.dns_fields.specs.RecordTypes.{TypeDefinition, record_types}
 use Rattle.dns_fields.specs.declared.kind.Kind.{Kind}
 use Rattle.dns_fields.specs.declared.kind.Kind.TheVariants.{Opaque}
 use Rattle.dns_fields.specs.declared.table.TheConstants.{TABLE}
@@ -13,10 +15,6 @@ Field = Bor (List ℕ) × Kind
 abbrev pub Row : Type 0
 Row = ℕ × Bor (List ℕ) × Bor (List Field)
 
--- the definition of a field: its name and its kind
-abbrev pub Definition : Type 0
-Definition = List ℕ × Kind
-
 abbrev pub definitions : List Field → List Definition
 definitions fields = map (λ f. (f.0.now, f.1)) fields
 
@@ -27,23 +25,27 @@ kinds_in ds = map (λ d. d.1) ds
 abbrev pub kinds : List Field → List Kind
 kinds fields = kinds_in (definitions fields)
 
--- each record type with the definitions of its fields
-abbrev pub rows_of : List Row → List (ℕ × List Definition)
-rows_of rows = map (λ r. (r.0, definitions r.2.now)) rows
+-- the definitions of these record types
+abbrev pub types_in : List Row → List TypeDefinition
+types_in rows = map (λ row. record { number = row.0; mnemonic = row.1.now; fields = definitions row.2.now }) rows
+
+-- the definitions of the record types in `TABLE`
+unfoldable pub table_types : List TypeDefinition
+table_types = map (λ row. record { number = row.0; mnemonic = row.1.now; fields = map (λ f. (f.0.now, f.1)) row.2.now }) TABLE.now
 
 -- whether the numbers of the rows increase, and each is at least `least`
 abbrev pub are_above : ℕ → List Row → Bool
 are_above least [] = true
 are_above least (row ∷ rows) = nat_le least row.0 && are_above (row.0 + 1) rows
 
--- the fields of this record type, by its first row; octets if it has none
-abbrev pub fields_in : List (ℕ × List Definition) → ℕ → List Definition
+-- the fields of this record type, by its first definition; octets if it has none
+abbrev pub fields_in : List TypeDefinition → ℕ → List Definition
 fields_in [] rtype = (codes "data", Opaque) ∷ []
-fields_in (row ∷ rows) rtype = if row.0 == rtype then row.1 else fields_in rows rtype
+fields_in (type ∷ types) rtype = if type.number == rtype then type.fields else fields_in types rtype
 
 -- the fields of this record type
 unfoldable pub definitions_of : ℕ → List Definition
-definitions_of rtype = fields_in (map (λ r. (r.0, map (λ f. (f.0.now, f.1)) r.2.now)) TABLE.now) rtype
+definitions_of rtype = fields_in record_types rtype
 
 -- the kinds of its fields
 abbrev pub kinds_of : ℕ → List Kind

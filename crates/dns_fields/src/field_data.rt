@@ -37,6 +37,16 @@ impl<'a> FieldData<'a> {
     {
         Fields::new(fields_of(self.rtype), self.parser)
     }
+
+    /// RDATA of this type, whose fields are known to be encoded at the parser's offset.
+    pub(crate) fn of_encoded(rtype: u16, parser: Parser<'a>) -> Self
+        requires encoded { IsThere rtype parser }
+        requires short { parts_size (parts_from rtype parser) ≤ most }
+        ensures rtype { rtype_of result ≡ rtype }
+        ensures parts { parts_of result ≡ parts_from rtype parser.entry }
+    {
+        FieldData { rtype, parser }
+    }
 }
 
 impl RecordData for FieldData<'_> {

@@ -4,12 +4,16 @@
 
 mod accepts;
 mod compose;
+mod data_order;
 mod encoded;
 mod field_data;
+mod field_order;
 mod fields;
 mod gateway;
 mod host_identity;
 mod kind;
+pub mod laws;
+mod owned;
 mod parameters;
 mod plain_names;
 mod prefixes;
@@ -24,6 +28,7 @@ pub use encoded::Encoded;
 pub use field_data::FieldData;
 pub use fields::{Field, Fields};
 pub use kind::Kind;
+pub use owned::OwnedFieldData;
 pub use shape::Shape;
 pub use table::{OPAQUE, TABLE, fields_of};
 pub use value::Value;

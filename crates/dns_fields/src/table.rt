@@ -1,8 +1,9 @@
 //! The table of record types.
 ghost use Rattle.std.specs.Prelude.{◌≡◌, true};
-ghost use Rattle.dns_fields.specs.Table.{are_above, definitions, definitions_of, fields_in, rows_of};
+ghost use Rattle.dns_fields.specs.Table.{are_above, definitions, definitions_of, fields_in, types_in};
 
 use crate::kind::Kind::{self, *};
+use crate::laws::table_is_specified;
 
 /// The fields of a type that isn't in the table: its RDATA as octets.
 pub const OPAQUE: &[(&str, Kind)] = &[("data", Opaque)];
@@ -434,6 +435,7 @@ pub const TABLE: &[(u16, &str, &[(&str, Kind)])] = &[
 pub fn fields_of(rtype: u16) -> &'static [(&'static str, Kind)]
     ensures { definitions result.now ≡ definitions_of rtype }
 {
+    table_is_specified();
     fields_in(TABLE, rtype)
 }
 
@@ -443,7 +445,7 @@ fn fields_in(
     rtype: u16,
 ) -> &'static [(&'static str, Kind)]
     requires { are_above 0 rows.now ≡ true }
-    ensures { definitions result.now ≡ fields_in (rows_of rows.now) rtype }
+    ensures { definitions result.now ≡ fields_in (types_in rows.now) rtype }
 {
     if rows.is_empty() {
         return OPAQUE;

@@ -12,6 +12,10 @@ mod long;
 #[cfg(test)]
 mod malformed;
 #[cfg(test)]
+mod orders;
+#[cfg(test)]
+mod owned;
+#[cfg(test)]
 mod pointers;
 #[cfg(test)]
 mod row;

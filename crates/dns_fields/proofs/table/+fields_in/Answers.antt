@@ -1,6 +1,6 @@
 use Rattle.std.proofs.Common.{◌+◌, ◌-◌, ◌/◌, List, [], length, drop, length-take, length-drop, add-one, ap, sym, ◌∙◌, arith}
 use Rattle.std.proofs.lemmas.Bool.{eqb-false}
-use Rattle.dns_fields.specs.Table.{Row, fields_in, rows_of}
+use Rattle.dns_fields.specs.Table.{Row, fields_in, types_in}
 use Rattle.dns_fields.proofs.TableLemmas.{take_above, drop_above, found, before, later, rest_is}
 use Rattle.dns_fields.proofs.table.+fields_in.Goals as goal
 
@@ -37,6 +37,6 @@ returns-else-rtype-row t c =
     let rows = c.args.rows.now in
     let middle = length rows / 2 in
     let some = eqb-false (length rows) 0 (sym c.if-is_empty.ensures) in
-    c.fields_in-else-rtype-row.ensures ∙ ap (λ (xs : List Row). fields_in (rows_of xs) c.args.rtype) (rest_is rows (middle + 1))
-    ∙ ap (λ k. fields_in (rows_of (drop k rows)) c.args.rtype) (add-one middle)
+    c.fields_in-else-rtype-row.ensures ∙ ap (λ (xs : List Row). fields_in (types_in xs) c.args.rtype) (rest_is rows (middle + 1))
+    ∙ ap (λ k. fields_in (types_in (drop k rows)) c.args.rtype) (add-one middle)
     ∙ sym (later rows 0 middle (0, record { ref_ptr = (0, 0); now = [] }, record { ref_ptr = (0, 0); now = [] }) c.args.rtype c.requires (omega arith) (omega arith))

@@ -1,0 +1,34 @@
+//! Theorems on the record types. Each contract is a theorem.
+ghost use Rattle.std.specs.Prelude.{◌≡◌, Some, [], ◌∷◌, ◌++◌, map};
+ghost use Rattle.std.specs.List.{range_with_len};
+ghost use Rattle.dns_number.specs.Mnemonics.{mnemonic};
+ghost use Rattle.dns_number.specs.Registry.{registered_types};
+ghost use Rattle.dns_fields.specs.NamesOfTypes.{types_with, may_be_compressed, may_have_pointer, is_lowercased};
+ghost use Rattle.dns_fields.specs.RecordTypes.{record_types};
+ghost use Rattle.dns_fields.specs.Table.{table_types};
+
+/// `TABLE` has the record types of `specs/RecordTypes.antt`: their numbers, mnemonics and fields.
+#[tactic(auto, unfolding(crate::specs::Table::table_types, crate::specs::RecordTypes::record_types))]
+pub fn table_is_specified()
+    ensures { table_types ≡ record_types }
+{}
+
+/// Each mnemonic is the registered name of the type's number, as `Rtype` prints it.
+#[tactic(auto, unfolding(crate::specs::RecordTypes::record_types, dns_number::specs::Registry::registered_types))]
+pub fn mnemonics_are_registered()
+    ensures { map (λ type. mnemonic registered_types type.number) record_types
+        ≡ map (λ type. Some type.mnemonic) record_types }
+{}
+
+/// The record types with a name that may be compressed (RFC 1035 section 3.3); those with a name
+/// that may have a pointer when it is read (RFC 3597 section 4 adds eight types); and those with a
+/// name that is lowercased in canonical form (RFC 4034 section 6.2, RFC 6840 section 5.1).
+#[tactic(auto, unfolding(crate::specs::RecordTypes::record_types))]
+pub fn names_of_types()
+    ensures compressed { types_with may_be_compressed ≡
+        range_with_len 2 8 ++ (12 ∷ 14 ∷ 15 ∷ []) }
+    ensures pointed { types_with may_have_pointer ≡ range_with_len 2 8 ++ (12 ∷ 14 ∷ 15 ∷ [])
+        ++ (17 ∷ 18 ∷ 21 ∷ 24 ∷ 26 ∷ 30 ∷ 33 ∷ 35 ∷ []) }
+    ensures lowercased { types_with is_lowercased ≡ range_with_len 2 8 ++ (12 ∷ 14 ∷ 15 ∷ [])
+        ++ (17 ∷ 18 ∷ 21 ∷ 24 ∷ 26 ∷ 30 ∷ 33 ∷ 35 ∷ []) ++ (36 ∷ 39 ∷ 46 ∷ []) }
+{}
