@@ -1,4 +1,4 @@
--- Fields in presentation format, and record data as a line. RFC 1035 section 5.1; data without a presentation format: RFC 3597 section 5.
+-- Fields in presentation format. RFC 1035 section 5.1.
 use Rattle.std.specs.Prelude.{ℕ, ◌==◌, ◌^◌, nat_lt, Bool, true, false, if◌then◌else◌, Option, Some, None, option_map, List, [], ◌∷◌, ◌++◌, map, length, codes, decimal}
 use Rattle.std.specs.List.{flat_map}
 use Rattle.std.specs.Option.{option_and_then}
@@ -10,7 +10,6 @@ use Rattle.dns_name.specs.Names.{uncompressed}
 use Rattle.dns_name.specs.NameTexts.{name_text}
 use Rattle.dns_wire.specs.Parts.{Part}
 use Rattle.dns_wire.specs.Parts.Part.{Octets as OctetsPart, CompressibleName, UncompressedName}
-use Rattle.dns_data.specs.Printing.{opaque_text}
 use Rattle.dns_fields.specs.FieldParts.{NamedPart}
 use Rattle.dns_fields_text.specs.ParameterItems.{parameters_of}
 use Rattle.dns_fields_text.specs.PrefixItems.{prefixes_of}
@@ -138,11 +137,6 @@ part_octets (OctetsPart octets) = octets
 part_octets (CompressibleName name) = uncompressed name
 part_octets (UncompressedName lowercased name) = uncompressed name
 
--- the text, else the octets of all parts as of an unknown type
-abbrev pub line_of : Option (List ℕ) → List Part → List ℕ
-line_of (Some text) parts = text
-line_of None parts = opaque_text (flat_map part_octets parts)
-
--- record data in presentation format
-abbrev pub data_line : List NamedPart → List ℕ
-data_line fields = line_of (fields_text [] fields) (map (λ field. field.part) fields)
+-- the octets of fields
+abbrev pub fields_octets : List NamedPart → List ℕ
+fields_octets fields = flat_map (λ field. part_octets field.part) fields

@@ -25,4 +25,4 @@ pub use prefixes::{AddressPrefix, AddressPrefixes};
 pub use record_text::RecordText;
 pub use strings::Strings;
 pub use type_map::{SmallTypeMap, TypeMap};
-pub use type_name::{TypeName, type_named};
+pub use type_name::TypeName;

@@ -33,16 +33,6 @@ fn mnemonic_of(rtype: u16) -> Option<&'static str>
     mnemonic_in(TABLE, rtype)
 }
 
-/// The record type of the table with this mnemonic, ignoring ASCII case.
-pub fn type_named(word: &str) -> Option<Rtype> {
-    for (number, mnemonic, _) in TABLE {
-        if mnemonic.eq_ignore_ascii_case(word) {
-            return Some(Rtype::from_int(*number));
-        }
-    }
-    None
-}
-
 impl fmt::Display for TypeName {
     ghost output = { λ name. Some (type_word name.0) };
 
