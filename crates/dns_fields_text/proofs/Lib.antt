@@ -1,1 +1,4 @@
+mod ItemKinds
 mod ItemLemmas
+mod PrefixLemmas
+mod WordSteps
