@@ -6,6 +6,7 @@ use Rattle.std.proofs.lemmas.List.{take_all, take_min, drop_min}
 use Rattle.dns_fields_text.specs.Groups.{group_at, groups}
 use Rattle.dns_fields_text.specs.ParameterItems.{ParameterItem, parameter_at, parameters_of}
 use Rattle.dns_fields_text.specs.PrefixItems.{PrefixItem, prefix_at, prefixes_of}
+use Rattle.dns_fields_text.specs.Strings.{string_at, strings_of}
 use Rattle.dns_fields_text.proofs.ItemLemmas.{IsShrinking, items_of_first, items_of_none}
 
 some_same : {A : Type 0} (x y : A) → Some x ≡ Some y → x ≡ y
@@ -61,6 +62,24 @@ cut_at k octets size n value left e front back =
       value_is = front ∙ ap (λ (m : ℕ). take m rest) e ∙ take_min size rest ∙ ap (take size) (after_is k octets);
       left_is = back ∙ ap (λ (m : ℕ). drop m rest) e ∙ drop_min size rest ∙ ap (drop size) (after_is k octets);
     }
+
+-- Character strings.
+
+string_shrinks : IsShrinking string_at
+string_shrinks [] after item e = absurd (cc)
+string_shrinks (size ∷ octets) after item e =
+    let is : drop size octets ≡ after = same_after (take size octets, drop size octets) (item, after) (string_at (size ∷ octets)) refl e in
+    omega (arith, ap length is, length-drop size octets)
+
+string_first : (octets : List ℕ) (size : ℕ) → 1 ≤ length octets → size ≡ get_or octets 0 0 → string_at octets ≡ Some (take size (drop 1 octets), drop size (drop 1 octets))
+string_first [] size some e = absurd (omega arith)
+string_first (x ∷ octets) size some e = rw e refl
+
+pub strings_first : (octets value left : List ℕ) (size : ℕ) → 1 ≤ length octets → size ≡ get_or octets 0 0 → Cut 1 octets size value left
+    → strings_of octets ≡ value ∷ strings_of left
+strings_first octets value left size some e cut =
+    rw (cut.value_is, cut.left_is)
+    (items_of_first string_at string_shrinks octets (drop size (drop 1 octets)) (take size (drop 1 octets)) (string_first octets size some e))
 
 -- Parameters.
 

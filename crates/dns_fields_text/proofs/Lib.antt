@@ -1,4 +1,5 @@
 mod ItemKinds
 mod ItemLemmas
 mod PrefixLemmas
+mod ProtocolLemmas
 mod WordSteps

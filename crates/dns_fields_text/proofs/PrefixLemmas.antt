@@ -1,5 +1,5 @@
 -- The last octet of an address, and zeros after its octets.
-use Rattle.std.proofs.Common.{◌≡◌, ◌∙◌, ℕ, zero, suc, ◌-◌, ◌<◌, ◌≤◌, List, [], ◌∷◌, ◌++◌, length, get_or, take, drop, replicate, refl, sym, ap, arith, nat_eq}
+use Rattle.std.proofs.Common.{◌≡◌, ◌∙◌, ℕ, zero, suc, ◌-◌, ◌<◌, ◌≤◌, List, [], ◌∷◌, ◌++◌, length, get_or, take, drop, replicate, append_assoc, refl, sym, ap, arith, nat_eq}
 use Rattle.std.specs.Prelude.{not}
 use Rattle.std.proofs.lemmas.List.{take-replicate}
 use Rattle.dns_fields_text.specs.Prefixes.{is_trimmed, padded}
@@ -23,3 +23,7 @@ front (suc n) k (x ∷ octets) h l = ap (λ (xs : List ℕ). x ∷ xs) (front n 
 -- octets and the zeros after them
 pub padded_is : (n : ℕ) (octets : List ℕ) → length octets ≤ n → octets ++ drop (length octets) (replicate n 0) ≡ padded n octets
 padded_is n octets h = sym (front n n octets h (omega arith))
+
+-- the parts of a text, however they are joined
+pub six_parts : (a b c d e f : List ℕ) → a ++ ((b ++ c) ++ (d ++ (e ++ f))) ≡ a ++ b ++ c ++ d ++ e ++ f
+six_parts a b c d e f = simp append_assoc

@@ -24,9 +24,16 @@ module _ {W : Type 0} (took : W → List ℕ → W → Type 0) (start : Formatte
     is = append_assoc p.printed (first ++ word) (separated others others words) ∙ p.is;
   }
 
+  -- the first of these words is printed
+  pub first_printed : (first word : List ℕ) (all words : List (List ℕ)) (f g h : Formatter W) → all ≡ word ∷ words → Prints first all f
+      → HasWritten took f first g → HasWritten took g word h → Prints others words h
+  first_printed first word all words f g h e p a b = word_printed first word words f g h (subst (λ (ws : List (List ℕ)). Prints first ws f) e p) a b
+
   -- no word is left
-  pub all_printed : (first : List ℕ) (f : Formatter W) → Prints first [] f → HasWritten took start whole f
-  all_printed first f p = subst (λ (text : List ℕ). HasWritten took start text f) (sym (append-nil p.printed) ∙ p.is) p.wrote
+  pub all_printed : (first : List ℕ) (words : List (List ℕ)) (f : Formatter W) → words ≡ [] → Prints first words f → HasWritten took start whole f
+  all_printed first words f e p =
+      let nothing : separated first others words ≡ [] = ap (separated first others) e in
+      subst (λ (text : List ℕ). HasWritten took start text f) (sym (ap (λ (t : List ℕ). p.printed ++ t) nothing ∙ append-nil p.printed) ∙ p.is) p.wrote
 
   -- the word of one group of octets more is printed
   pub group_printed : (size : ℕ) (word : List ℕ → List ℕ) (first text left group after : List ℕ) (f g h : Formatter W) → 0 < size
@@ -40,5 +47,4 @@ module _ {W : Type 0} (took : W → List ℕ → W → Type 0) (start : Formatte
   -- no group is left
   pub groups_printed : (size : ℕ) (word : List ℕ → List ℕ) (first left : List ℕ) (f : Formatter W) → length left < size
       → Prints first (map word (groups size left)) f → HasWritten took start whole f
-  groups_printed size word first left f few p =
-      all_printed first f (subst (λ (ws : List (List ℕ)). Prints first ws f) (ap (map word) (groups_none size left few)) p)
+  groups_printed size word first left f few p = all_printed first (map word (groups size left)) f (ap (map word) (groups_none size left few)) p

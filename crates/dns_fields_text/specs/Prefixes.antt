@@ -27,10 +27,13 @@ address_text item =
 abbrev pub has_word : PrefixItem → Bool
 has_word item = if item.family == 1 then fits 4 item else if item.family == 2 then fits 16 item else false
 
--- an exclamation mark if the prefix is negated, the family, a colon, the address, a slash and the size
+-- an exclamation mark if the prefix is negated
+abbrev pub sign : PrefixItem → List ℕ
+sign item = if item.negated then codes "!" else []
+
+-- the sign, the family, a colon, the address, a slash and the size
 abbrev pub prefix_text : PrefixItem → List ℕ
-prefix_text item =
-    (if item.negated then codes "!" else []) ++ decimal item.family ++ codes ":" ++ address_text item ++ codes "/" ++ decimal item.size
+prefix_text item = sign item ++ decimal item.family ++ codes ":" ++ address_text item ++ codes "/" ++ decimal item.size
 
 -- the prefix as a word
 abbrev pub prefix_word : PrefixItem → Option (List ℕ)

@@ -1,7 +1,7 @@
 //! Address prefixes in presentation format (RFC 3123 section 5).
 ghost use Rattle.std.specs.Prelude.{◌≡◌, ◌≤◌, length, true};
 ghost use Rattle.std.specs.Fmt.{WritesOnOk};
-ghost use Rattle.dns_fields_text.specs.Prefixes.{address_text, fits, has_word, is_trimmed, padded, prefix_text};
+ghost use Rattle.dns_fields_text.specs.Prefixes.{address_text, fits, has_word, is_trimmed, padded, prefix_text, sign};
 ghost use Rattle.dns_fields_text.specs.ItemsLeft.{prefix_item};
 
 use crate::prefixes::AddressPrefix;
@@ -77,6 +77,13 @@ fn write_address<W: fmt::Write>(
     }
 }
 
+/// An exclamation mark if the prefix is negated.
+fn sign(prefix: &AddressPrefix<'_>) -> &'static str
+    ensures { result.now ≡ sign (prefix_item prefix.now) }
+{
+    if prefix.negated { "!" } else { "" }
+}
+
 /// Prints a prefix that has a presentation format.
 fn write_prefix<W: fmt::Write>(
     f: &mut fmt::Formatter<W>,
@@ -86,7 +93,7 @@ fn write_prefix<W: fmt::Write>(
     ensures { WritesOnOk W.write_str_gives f.old result (prefix_text (prefix_item prefix.now))
         f.new }
 {
-    f.write_str(if prefix.negated { "!" } else { "" })?;
+    f.write_str(sign(prefix))?;
     write!(f, "{}:", prefix.family)?;
     write_address(f, prefix)?;
     write!(f, "/{}", prefix.size)
