@@ -6,10 +6,9 @@ ghost use Rattle.std.specs.List.{list_all};
 ghost use Rattle.dns_fields_text.specs.Parameters.{are_protocols, has_named_value, ipv4_hints, ipv6_hints, is_bare, key_name, key_word, keys_text, named_value, other_value, parameter_word, port_text, protocols};
 ghost use Rattle.dns_fields_text.specs.ItemsLeft.{parameter_item};
 
+use crate::base64_text::write_base64;
 use crate::parameters::Parameter;
 use crate::strings::Strings;
-use base64::display::Base64Display;
-use base64::engine::general_purpose::STANDARD;
 use dns_value_text::Quoted;
 use std::fmt;
 use std::net::{Ipv4Addr, Ipv6Addr};
@@ -179,7 +178,7 @@ fn write_named_value<W: fmt::Write>(
         1 => write_alpn(f, value),
         3 => write_port(f, value),
         4 => write_ipv4_hints(f, value),
-        5 => write!(f, "{}", Base64Display::new(value, &STANDARD)),
+        5 => write_base64(f, value),
         6 => write_ipv6_hints(f, value),
         _ => write!(f, "{}", Quoted(value)),
     }
