@@ -11,8 +11,6 @@ mod prefix;
 mod prefixes;
 mod record_text;
 mod strings;
-#[cfg(test)]
-mod tests;
 mod type_map;
 mod type_name;
 mod unknown;
