@@ -4,6 +4,7 @@ ghost use Rattle.std.specs.Fmt.{DisplaysOnOk, WritesOnOk};
 ghost use Rattle.dns_fields.specs.Values.{value_shown};
 ghost use Rattle.dns_fields_text.specs.FieldTexts.{begins_with_space, ipv4_of, ipv6_of, number_text, octets_text, parameters_text, prefixes_text, salt_text, sized_text, string_text, strings_text, value_text};
 
+use crate::base64_text::write_base64;
 use crate::gateway::{GatewayAndKey, HostIdentity, Relay};
 use crate::parameter::ParameterText;
 use crate::parameters::Parameters;
@@ -12,8 +13,6 @@ use crate::prefixes::AddressPrefixes;
 use crate::strings::Strings;
 use crate::type_map::{SmallTypeMap, TypeMap};
 use crate::type_name::TypeName;
-use base64::display::Base64Display;
-use base64::engine::general_purpose::STANDARD;
 use dns_fields::{Kind, Value};
 use dns_value_text::{Base32, Eui, Hex, Location, Locator64, Quoted, Tag, Timestamp};
 use std::fmt;
@@ -139,7 +138,8 @@ fn write_sized<W: fmt::Write>(f: &mut fmt::Formatter<W>, octets: &[u8]) -> fmt::
     if octets.is_empty() {
         return Ok(());
     }
-    write!(f, " {}", Base64Display::new(octets, &STANDARD))
+    f.write_char(' ')?;
+    write_base64(f, octets)
 }
 
 /// Prints a string by the kind of its field.
@@ -182,7 +182,7 @@ fn write_octets<W: fmt::Write>(f: &mut fmt::Formatter<W>, kind: Kind, octets: &[
         Kind::Strings => write_strings(f, octets),
         Kind::Text => write!(f, "{}", Quoted(octets)),
         Kind::Hexadecimal => write!(f, "{}", Hex(octets)),
-        Kind::Base64 => write!(f, "{}", Base64Display::new(octets, &STANDARD)),
+        Kind::Base64 => write_base64(f, octets),
         Kind::TypeBitMap => write!(f, "{}", TypeMap(octets)),
         Kind::SmallTypeBitMap => write_known(f, SmallTypeMap::from_octets(octets)),
         Kind::ServiceParameters => write_parameters(f, octets),
