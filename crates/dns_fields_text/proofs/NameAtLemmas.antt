@@ -1,11 +1,13 @@
 -- The uncompressed name at the start of octets.
-use Rattle.std.proofs.Common.{◌≡◌, ◌∙◌, ℕ, zero, suc, ◌+◌, ◌-◌, ◌*◌, ◌<◌, ◌≤◌, Bool, true, false, cond, List, [], ◌∷◌, ◌++◌, length, length-append, length-drop, take, drop, append_assoc, refl, sym, ap, subst, arith, nat_eq}
+use Rattle.std.proofs.Common.{◌≡◌, ◌∙◌, ℕ, zero, suc, ◌+◌, ◌-◌, ◌*◌, ◌<◌, ◌≤◌, Bool, true, false, cond, List, [], ◌∷◌, ◌++◌, length, length-append, length-drop, take, drop, get_or, append_assoc, refl, sym, ap, subst, arith, nat_eq}
 use Rattle.std.specs.Prelude.{All, Option, Some, None, option_map, nat_le, ◌&&◌, ◌==◌, slice_get}
 use Rattle.std.proofs.lemmas.Bool.{le-leb, leb-true, and_parts, and_from, eqb-true, eqb-false, ne_eqb}
 use Rattle.std.proofs.lemmas.List.{take_at, drop_at, length-take-le, take-append-drop, drop-drop}
 use Rattle.std.proofs.lemmas.List.Elements.{All-head, All-tail}
 use Rattle.std.proofs.lemmas.Option.{slice_get_within}
-use Rattle.dns_name.specs.Names.{Labels, IsLabel, IsName, name_size, max_size, uncompressed, NameContinues, NameEndsAt}
+use Rattle.dns_name.specs.Names.{Labels, IsLabel, IsName, name_size, max_size, uncompressed, Fault, NameContinues, NameEndsAt, SkipFaultAt}
+use Rattle.dns_name.specs.Uncompressed.{IsUncompressed}
+use Rattle.dns_name.proofs.theory.ExtentLaws.{end_or_fault, one_end}
 use Rattle.dns_name.proofs.theory.HeadLemmas.{root_begins, label_begins}
 use Rattle.dns_name.proofs.theory.LabelsLemmas.{length-uncompressed}
 use Rattle.dns_name.proofs.theory.UncompressedNames.{get_drop, name_tail}
@@ -61,6 +63,13 @@ record Found (size : ℕ) (octets after : List ℕ) (name : Labels) : Type 0 whe
   octets_are : octets ≡ uncompressed name ++ after
   labels : All IsLabel name
   short : size + name_size name ≤ 254
+
+all_none : {X : Type 0} (P : X → Type 0) → (k : ℕ) (d : X) → k < 0 → P (get_or [] k d)
+all_none P k d h = absurd (omega arith)
+
+all_more : {X : Type 0} (P : X → Type 0) (x : X) (xs : List X) → P x → All P xs → (k : ℕ) (d : X) → k < length (x ∷ xs) → P (get_or (x ∷ xs) k d)
+all_more P x xs here others zero d h = here
+all_more P x xs here others (suc k) d h = others k d (omega arith)
 
 some_same : {A : Type 0} (x y : A) → Some x ≡ Some y → x ≡ y
 some_same x y e = cc
@@ -154,3 +163,31 @@ pub name_ends : (octets after : List ℕ) (name : Labels) → IsName name → oc
 name_ends octets after name is e =
     let zero_more : 0 + (name_size name + 1) ≡ name_size name + 1 = omega arith in
     subst (λ q. NameContinues octets 0 0 q) zero_more (ends_from octets 0 0 name after is.labels (omega (arith, is.short)) e)
+
+-- No name is found.
+none_from : (octets : List ℕ) (o : Option (Labels × List ℕ)) → name_at octets ≡ o → ((name : Labels) (after : List ℕ) → octets ≡ uncompressed name ++ after → IsName name → ⊥) → o ≡ None
+none_from octets None e never = refl
+none_from octets (Some (name, after)) e never = let found = name_is_found octets after name e in absurd (never name after found.0 found.1)
+
+none_unless : (octets : List ℕ) → ((name : Labels) (after : List ℕ) → octets ≡ uncompressed name ++ after → IsName name → ⊥) → name_at octets ≡ None
+none_unless octets never = none_from octets (name_at octets) refl never
+
+-- skipping fails
+pub none_at_fault : (octets : List ℕ) (f : Fault) → SkipFaultAt octets 0 f → name_at octets ≡ None
+none_at_fault octets f fault = none_unless octets (λ name after e is. end_or_fault octets (name_ends octets after name is e) fault)
+
+-- the encoding of a name has a pointer
+pub none_if_compressed : (octets : List ℕ) (q : ℕ) → NameEndsAt octets 0 q → (IsUncompressed (take q octets) → ⊥) → name_at octets ≡ None
+none_if_compressed octets q ends never =
+    none_unless octets
+    (λ name after e is.
+        let end : q ≡ name_size name + 1 = one_end octets ends (name_ends octets after name is e) in
+        let front : take q octets ≡ uncompressed name = ap (take q) e ∙ take_at (uncompressed name) after q (length-uncompressed name ∙ sym end) in
+        never (name, is, sym front))
+
+-- the name that the first q octets are
+pub name_at_front : (octets front after : List ℕ) (q : ℕ) (name : Labels) → IsName name → front ≡ take q octets → after ≡ drop q octets → uncompressed name ≡ front → name_at octets ≡ Some (name, after)
+name_at_front octets front after q name is front_is after_is e =
+    let whole : octets ≡ uncompressed name ++ after =
+        sym (take-append-drop q octets) ∙ ap (λ (xs : List ℕ). xs ++ drop q octets) (sym (e ∙ front_is)) ∙ ap (λ (xs : List ℕ). uncompressed name ++ xs) (sym after_is) in
+    name_found name octets after is whole

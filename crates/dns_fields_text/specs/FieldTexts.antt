@@ -24,7 +24,8 @@ use Rattle.dns_value_text.specs.Hex.{hex_text}
 use Rattle.dns_value_text.specs.LocationItems.{location_of, location_text}
 use Rattle.dns_value_text.specs.String.{is_tag, quoted}
 use Rattle.dns_value_text.specs.Time.{time_text}
-use Rattle.dns_fields_text.specs.GatewayTexts.{gateway_text, relay_text, identity_text}
+use Rattle.dns_fields_text.specs.GatewayTexts.{gateway_text, relay_text}
+use Rattle.dns_fields_text.specs.HostIdentities.{identity_text}
 use Rattle.dns_fields_text.specs.Parameters.{parameter_word}
 use Rattle.dns_fields_text.specs.Prefixes.{prefix_word}
 use Rattle.dns_fields_text.specs.Separated.{spaced, spaced_if_all}

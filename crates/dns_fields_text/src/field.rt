@@ -4,7 +4,8 @@ ghost use Rattle.std.specs.Fmt.{DisplaysOnOk, WritesOnOk};
 ghost use Rattle.dns_fields.specs.Values.{value_shown};
 ghost use Rattle.dns_fields_text.specs.FieldTexts.{begins_with_space, ipv4_of, ipv6_of, number_text, octets_text, parameters_text, prefixes_text, salt_text, sized_text, string_text, strings_text, value_text};
 
-use crate::gateway::{GatewayAndKey, HostIdentity, Relay};
+use crate::gateway::{GatewayAndKey, Relay};
+use crate::host_identity::HostIdentity;
 use crate::parameter::ParameterText;
 use crate::parameters::Parameters;
 use crate::prefix::PrefixText;
