@@ -1,6 +1,7 @@
 mod FieldsLemmas
 mod ItemKinds
 mod ItemLemmas
+mod NameAtLemmas
 mod OctetLemmas
 mod PrefixLemmas
 mod Printing

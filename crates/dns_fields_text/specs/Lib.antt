@@ -2,7 +2,10 @@ pub mod Blocks
 pub mod DataTexts
 pub mod FieldTexts
 pub mod GatewayTexts
+pub mod GatewayValues
 pub mod Groups
+pub mod HostIdentities
+pub mod IdentityValues
 pub mod Items
 pub mod ItemsLeft
 pub mod ParameterItems

@@ -6,6 +6,7 @@ mod base64_text;
 mod data_text;
 mod field;
 mod gateway;
+mod host_identity;
 mod parameter;
 mod parameters;
 mod prefix;
