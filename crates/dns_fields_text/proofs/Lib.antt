@@ -7,7 +7,5 @@ mod OctetLemmas
 mod PrefixLemmas
 mod Printing
 mod ProtocolLemmas
-mod Splits
-mod StringLemmas
 mod TypeMapLemmas
 mod WordSteps

@@ -89,7 +89,7 @@ found_label size n octets left others some short enough found =
     let label : List ℕ = take n octets in
     let size_is : length label ≡ n = length-take-le n octets enough in
     let whole : octets ≡ (label ++ uncompressed others) ++ left =
-        sym (take-append-drop n octets) ∙ ap (λ (xs : List ℕ). label ++ xs) found.octets_are ∙ sym (append_assoc label (uncompressed others) left) in
+    sym (take-append-drop n octets) ∙ ap (λ (xs : List ℕ). label ++ xs) found.octets_are ∙ sym (append_assoc label (uncompressed others) left) in
     record {
       octets_are = ap (λ k. k ∷ octets) (sym size_is) ∙ ap (λ (xs : List ℕ). length label ∷ xs) whole;
       labels = all_more IsLabel label others (record { some = omega (arith, size_is); short = omega (arith, size_is) }) found.labels;
@@ -181,13 +181,13 @@ pub none_if_compressed : (octets : List ℕ) (q : ℕ) → NameEndsAt octets 0 q
 none_if_compressed octets q ends never =
     none_unless octets
     (λ name after e is.
-        let end : q ≡ name_size name + 1 = one_end octets ends (name_ends octets after name is e) in
-        let front : take q octets ≡ uncompressed name = ap (take q) e ∙ take_at (uncompressed name) after q (length-uncompressed name ∙ sym end) in
-        never (name, is, sym front))
+    let end : q ≡ name_size name + 1 = one_end octets ends (name_ends octets after name is e) in
+    let front : take q octets ≡ uncompressed name = ap (take q) e ∙ take_at (uncompressed name) after q (length-uncompressed name ∙ sym end) in
+    never (name, is, sym front))
 
 -- the name that the first q octets are
 pub name_at_front : (octets front after : List ℕ) (q : ℕ) (name : Labels) → IsName name → front ≡ take q octets → after ≡ drop q octets → uncompressed name ≡ front → name_at octets ≡ Some (name, after)
 name_at_front octets front after q name is front_is after_is e =
     let whole : octets ≡ uncompressed name ++ after =
-        sym (take-append-drop q octets) ∙ ap (λ (xs : List ℕ). xs ++ drop q octets) (sym (e ∙ front_is)) ∙ ap (λ (xs : List ℕ). uncompressed name ++ xs) (sym after_is) in
+    sym (take-append-drop q octets) ∙ ap (λ (xs : List ℕ). xs ++ drop q octets) (sym (e ∙ front_is)) ∙ ap (λ (xs : List ℕ). uncompressed name ++ xs) (sym after_is) in
     name_found name octets after is whole

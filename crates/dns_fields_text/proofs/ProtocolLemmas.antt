@@ -26,7 +26,7 @@ names_bare (suc n) (size ∷ octets) h e =
     let parts = and_parts (not (size == 0)) (are_protocols_from size octets) e in
     let name = name_bare size octets parts.1 in
     let first : strings_of (size ∷ octets) ≡ take size octets ∷ strings_of (drop size octets) =
-        strings_first (size ∷ octets) (take size octets) (drop size octets) size (omega arith) refl (record { value_is = refl; left_is = refl }) in
+    strings_first (size ∷ octets) (take size octets) (drop size octets) size (omega arith) refl (record { value_is = refl; left_is = refl }) in
     ap are_bare first
     ∙ and_from (list_all is_bare (take size octets)) (are_bare (strings_of (drop size octets))) name.0
     (names_bare n (drop size octets) (omega (arith, length-drop size octets)) name.1)

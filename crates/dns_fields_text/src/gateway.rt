@@ -123,7 +123,7 @@ impl<'a> GatewayAndKey<'a> {
 }
 
 /// Prints a public key in base64 after a space; nothing if there are no octets.
-fn write_key<W: fmt::Write>(f: &mut fmt::Formatter<W>, key: &[u8]) -> fmt::Result
+pub(crate) fn write_key<W: fmt::Write>(f: &mut fmt::Formatter<W>, key: &[u8]) -> fmt::Result
     ensures { WritesOnOk W.write_str_gives f.old result (key_text key.now) f.new }
 {
     if key.is_empty() {
