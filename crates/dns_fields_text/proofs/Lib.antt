@@ -1,4 +1,5 @@
 mod FieldsLemmas
+mod HostLemmas
 mod ItemKinds
 mod ItemLemmas
 mod NameAtLemmas

@@ -1,7 +1,7 @@
 //! Host identities (RFC 8005 section 6).
 ghost use Rattle.std.specs.Prelude.{◌≡◌, IfSome, Some, is_some};
-ghost use Rattle.std.specs.Fmt.{DisplaysOnOk};
-ghost use Rattle.dns_fields_text.specs.HostIdentities.{identity_text, servers_text};
+ghost use Rattle.std.specs.Fmt.{DisplaysOnOk, WritesOnOk};
+ghost use Rattle.dns_fields_text.specs.HostIdentities.{identity_text, identity_words, servers_text};
 ghost use Rattle.dns_fields_text.specs.IdentityValues.{identity_shown};
 
 use crate::base64_text::write_base64;
@@ -61,6 +61,20 @@ impl<'a> HostIdentity<'a> {
     }
 }
 
+/// Prints an algorithm, a tag and a public key, separated by spaces.
+fn write_words<W: fmt::Write>(
+    f: &mut fmt::Formatter<W>,
+    algorithm: u8,
+    tag: &[u8],
+    key: &[u8],
+) -> fmt::Result
+    ensures { WritesOnOk W.write_str_gives f.old result (identity_words algorithm tag.now key.now)
+        f.new }
+{
+    write!(f, "{algorithm} {} ", Hex(tag))?;
+    write_base64(f, key)
+}
+
 /// Prints consecutive names, each after a space.
 fn write_servers<W: fmt::Write>(f: &mut fmt::Formatter<W>, octets: &[u8]) -> fmt::Result
     ensures { DisplaysOnOk W.write_str_gives f.old result (servers_text octets.now) f.new }
@@ -81,8 +95,7 @@ impl fmt::Display for HostIdentity<'_> {
     ghost output = { λ value. identity_shown value };
 
     fn fmt<W: fmt::Write>(&self, f: &mut fmt::Formatter<W>) -> fmt::Result {
-        write!(f, "{} {} ", self.algorithm, Hex(self.tag))?;
-        write_base64(f, self.key)?;
+        write_words(f, self.algorithm, self.tag, self.key)?;
         write_servers(f, self.servers)
     }
 }
