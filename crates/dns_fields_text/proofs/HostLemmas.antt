@@ -1,5 +1,5 @@
 -- Host identities, and the names of servers.
-use Rattle.std.proofs.Common.{◌≡◌, ◌∙◌, ℕ, zero, suc, ◌+◌, ◌*◌, ◌-◌, ◌<◌, ◌≤◌, List, [], ◌∷◌, ◌++◌, length, length-append, length-drop, get_or, take, drop, append_assoc, append-nil, refl, sym, ap, subst, arith}
+use Rattle.std.proofs.Common.{◌≡◌, ◌∙◌, ℕ, zero, suc, ◌<◌, ◌≤◌, List, [], ◌∷◌, ◌++◌, length, length-append, refl, ap, arith}
 use Rattle.std.specs.Prelude.{codes, Option, Some, None, Result, is_some}
 use Rattle.std.specs.Option.{option_and_then}
 use Rattle.std.specs.Fmt.{DisplaysOnOk, ◌++?◌}
