@@ -9,4 +9,5 @@ mod PrefixLemmas
 mod Printing
 mod ProtocolLemmas
 mod TypeMapLemmas
+mod RecordLines
 mod WordSteps
