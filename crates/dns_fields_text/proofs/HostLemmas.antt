@@ -1,5 +1,5 @@
 -- Host identities, and the names of servers.
-use Rattle.std.proofs.Common.{◌≡◌, ◌∙◌, ℕ, zero, suc, ◌+◌, ◌*◌, ◌-◌, ◌<◌, ◌≤◌, List, [], ◌∷◌, ◌++◌, length, length-append, length-drop, get_or, take, drop, append_assoc, append-nil, refl, sym, ap, subst, arith}
+use Rattle.std.proofs.Common.{◌≡◌, ◌∙◌, ℕ, zero, suc, ◌<◌, ◌≤◌, List, [], ◌∷◌, ◌++◌, length, length-append, refl, ap, arith}
 use Rattle.std.specs.Prelude.{codes, Option, Some, None, Result, is_some}
 use Rattle.std.specs.Option.{option_and_then}
 use Rattle.std.specs.Fmt.{DisplaysOnOk, ◌++?◌}
@@ -49,16 +49,6 @@ server_first (x ∷ xs) after name e =
     let s = after_name (x ∷ xs) after name e in
     ap (by_server (length xs)) e
     ∙ ap (λ (others : Option (List ℕ)). Some (server name) ++? others) (more_count (length xs) (length after) after (omega arith) (omega arith))
-
--- octets that don't begin with a name
-pub server_missing : (octets : List ℕ) → 0 < length octets → name_at octets ≡ None → servers_text octets ≡ None
-server_missing [] some e = absurd (omega arith)
-server_missing (x ∷ xs) some e = ap (by_server (length xs)) e
-
--- no octets
-pub no_servers : (octets : List ℕ) → length octets ≡ 0 → servers_text octets ≡ Some []
-no_servers [] e = refl
-no_servers (x ∷ xs) e = absurd (omega arith)
 
 -- a text before others is there if they are
 pub some_after : (text : List ℕ) (others : Option (List ℕ)) → is_some (Some text ++? others) ≡ is_some others

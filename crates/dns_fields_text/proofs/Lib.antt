@@ -2,6 +2,7 @@ mod FieldsLemmas
 mod HostLemmas
 mod ItemKinds
 mod ItemLemmas
+mod KeyLemmas
 mod NameAtLemmas
 mod OctetLemmas
 mod PrefixLemmas

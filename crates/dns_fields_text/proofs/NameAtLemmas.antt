@@ -1,6 +1,6 @@
 -- The uncompressed name at the start of octets.
-use Rattle.std.proofs.Common.{◌≡◌, ◌∙◌, ℕ, zero, suc, ◌+◌, ◌-◌, ◌*◌, ◌<◌, ◌≤◌, Bool, true, false, cond, List, [], ◌∷◌, ◌++◌, length, length-append, length-drop, take, drop, get_or, append_assoc, refl, sym, ap, subst, arith, nat_eq}
-use Rattle.std.specs.Prelude.{All, Option, Some, None, option_map, nat_le, ◌&&◌, ◌==◌, slice_get}
+use Rattle.std.proofs.Common.{◌≡◌, ◌∙◌, ℕ, zero, suc, ◌+◌, ◌<◌, ◌≤◌, Bool, true, false, cond, List, [], ◌∷◌, ◌++◌, length, length-append, length-drop, take, drop, get_or, append_assoc, refl, sym, ap, subst, arith, nat_eq}
+use Rattle.std.specs.Prelude.{All, Option, Some, None, option_map, nat_le, ◌&&◌, slice_get}
 use Rattle.std.proofs.lemmas.Bool.{le-leb, leb-true, and_parts, and_from, eqb-true, eqb-false, ne_eqb}
 use Rattle.std.proofs.lemmas.List.{take_at, drop_at, length-take-le, take-append-drop, drop-drop}
 use Rattle.std.proofs.lemmas.List.Elements.{All-head, All-tail}
@@ -10,7 +10,7 @@ use Rattle.dns_name.specs.Uncompressed.{IsUncompressed}
 use Rattle.dns_name.proofs.theory.ExtentLaws.{end_or_fault, one_end}
 use Rattle.dns_name.proofs.theory.HeadLemmas.{root_begins, label_begins}
 use Rattle.dns_name.proofs.theory.LabelsLemmas.{length-uncompressed}
-use Rattle.dns_name.proofs.theory.UncompressedNames.{get_drop, name_tail}
+use Rattle.dns_name.proofs.theory.UncompressedNames.{get_drop}
 use Rattle.dns_fields.specs.PlainNames.{can_follow}
 use Rattle.dns_fields_text.specs.GatewayTexts.{labels_at, name_at}
 

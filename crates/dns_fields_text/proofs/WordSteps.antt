@@ -1,5 +1,5 @@
 -- Words are printed one by one, with separators.
-use Rattle.std.proofs.Common.{◌≡◌, ◌+◌, ◌<◌, length, take, drop, List, ℕ, [], ◌∷◌, ◌++◌, ap, subst}
+use Rattle.std.proofs.Common.{◌≡◌, ◌+◌, ◌<◌, length, take, drop, List, ℕ, [], ◌∷◌, ap, subst}
 use Rattle.std.specs.Prelude.{map}
 use Rattle.std.specs.Fmt.{HasWritten}
 use Rattle.std.specs.declared.fmt.Formatter.{Formatter}

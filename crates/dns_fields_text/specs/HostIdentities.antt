@@ -1,5 +1,5 @@
 -- Host identities as words. RFC 8005 section 6.
-use Rattle.std.specs.Prelude.{ℕ, zero, suc, ◌+◌, ◌*◌, nat_le, if◌then◌else◌, List, [], ◌∷◌, ◌++◌, take, drop, length, codes, decimal, Option, Some, None, option_map}
+use Rattle.std.specs.Prelude.{ℕ, zero, suc, ◌+◌, ◌*◌, nat_le, if◌then◌else◌, List, [], ◌∷◌, ◌++◌, take, drop, length, codes, decimal, Option, Some, None}
 use Rattle.std.specs.Fmt.{◌++?◌}
 use Rattle.std.specs.Option.{option_and_then}
 use Rattle.base64.specs.Engines.{standard}
