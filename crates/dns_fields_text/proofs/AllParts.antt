@@ -1,10 +1,10 @@
 -- The fields of record data have all its parts.
-use Rattle.std.proofs.Common.{◌≡◌, ◌∙◌, ℕ, Bool, List, [], ◌∷◌, ◌++◌, ap, refl, sym, subst}
+use Rattle.std.proofs.Common.{◌≡◌, ℕ, Bool, List, [], ◌∷◌, ◌++◌, ap, refl, sym, subst}
 use Rattle.std.specs.List.{flat_map}
 use Rattle.dns_data.specs.Layout.{Layout, IsLaidOut}
 use Rattle.dns_fields.specs.Accepts.{accepts}
 use Rattle.dns_fields.specs.Data.{any_laid_out, parts_of, rtype_of}
-use Rattle.dns_fields.specs.FieldParts.{NamedPart, named_parts}
+use Rattle.dns_fields.specs.FieldParts.{named_parts}
 use Rattle.dns_fields.specs.Layouts.{field_layout, layout_of}
 use Rattle.dns_fields.specs.Shapes.{shape_of}
 use Rattle.dns_fields.specs.Table.{Definition, definitions_of, kinds_in}
